@@ -1,0 +1,118 @@
+-- What a field of a row's text is: the bits of its runs, joined.
+use Rattle.std.proofs.Common.{◌≡◌, ℕ, zero, suc, ◌+◌, ◌*◌, ◌/◌, ◌%◌, ◌^◌, Bool, true, false, ◌==◌, if◌then◌else◌, List, [], ◌∷◌, length, refl, ap, ◌∙◌, arith, div-one}
+use Rattle.std.proofs.lemmas.Bool.{eqb-true}
+use Rattle.std.proofs.lemmas.Nat.{shr-shr, mod-pow-add, pow-add}
+use Rattle.reference.specs.Words.{bit_at}
+use Rattle.reference.specs.Patterns.{joined, field}
+
+-- places of one letter, side by side: how many places stand below them, and how many they are
+pub record Run : Type 0 where
+  pub low : ℕ
+  pub width : ℕ
+
+-- the runs with one more place above them, if it is one of the letter's
+abbrev pub with_place : Bool → ℕ → List Run → List Run
+with_place false at runs = runs
+with_place true at [] = record { low = at; width = 1 } ∷ []
+with_place true at (run ∷ runs) =
+    if at == run.low + run.width
+    then record run { width = 1 + run.width } ∷ runs
+    else record { low = at; width = 1 } ∷ (run ∷ runs)
+
+-- the runs of a letter in a text, from the highest
+abbrev pub runs_of : ℕ → List ℕ → List Run
+runs_of letter [] = []
+runs_of letter (place ∷ places) = with_place (place == letter) (length places) (runs_of letter places)
+
+-- how many places the runs have
+abbrev pub width_of : List Run → ℕ
+width_of [] = 0
+width_of (run ∷ runs) = run.width + width_of runs
+
+-- the bits of the runs, joined
+abbrev pub joined_bits : List Run → ℕ → ℕ
+joined_bits [] x = 0
+joined_bits (run ∷ runs) x = x / 2 ^ run.low % 2 ^ run.width * 2 ^ width_of runs + joined_bits runs x
+
+-- ---- one more place
+
+-- a run that grows: the bit above it joins it
+grown : (x low width rest before more : ℕ)
+    → (before * 2 + bit_at x (low + width)) * 2 ^ (width + rest) + (x / 2 ^ low % 2 ^ width * 2 ^ rest + more)
+    ≡ before * 2 ^ (1 + width + rest) + (x / 2 ^ low % 2 ^ (1 + width) * 2 ^ rest + more)
+grown x low width rest before more =
+    let split : x / 2 ^ low % 2 ^ (1 + width) ≡ x / 2 ^ low / 2 ^ width % 2 * 2 ^ width + x / 2 ^ low % 2 ^ width =
+    mod-pow-add (x / 2 ^ low) 1 width in
+    let bit : x / 2 ^ low / 2 ^ width ≡ x / 2 ^ (low + width) = shr-shr x low width in
+    let parts : 2 ^ (width + rest) ≡ 2 ^ width * 2 ^ rest = pow-add 2 width rest in
+    let more_parts : 2 ^ (1 + width + rest) ≡ 2 ^ (1 + width) * 2 ^ rest = pow-add 2 (1 + width) rest in
+    let twice : 2 ^ (1 + width) ≡ 2 * 2 ^ width = pow-add 2 1 width in
+    rw (split, bit, parts, more_parts, twice) (omega arith)
+
+-- a run that begins
+begun : (x at rest before more : ℕ)
+    → (before * 2 + bit_at x at) * 2 ^ rest + more ≡ before * 2 ^ (1 + rest) + (x / 2 ^ at % 2 ^ 1 * 2 ^ rest + more)
+begun x at rest before more =
+    let twice : 2 ^ (1 + rest) ≡ 2 * 2 ^ rest = pow-add 2 1 rest in
+    rw twice (omega arith)
+
+placed_above : (b : Bool) (x at before : ℕ) (run : Run) (runs : List Run)
+    → (b ≡ true → at ≡ run.low + run.width)
+    → let grown_or_begun : List Run =
+    if b
+    then record run { width = 1 + run.width } ∷ runs
+    else record { low = at; width = 1 } ∷ (run ∷ runs) in
+    (before * 2 + bit_at x at) * 2 ^ width_of (run ∷ runs) + joined_bits (run ∷ runs) x
+    ≡ before * 2 ^ width_of grown_or_begun + joined_bits grown_or_begun x
+placed_above true x at before run runs h =
+    rw (h refl) (grown x run.low run.width (width_of runs) before (joined_bits runs x))
+placed_above false x at before run runs h = begun x at (width_of (run ∷ runs)) before (joined_bits (run ∷ runs) x)
+
+placed : (b : Bool) (x at before : ℕ) (runs : List Run)
+    → (if b then before * 2 + bit_at x at else before) * 2 ^ width_of runs + joined_bits runs x
+    ≡ before * 2 ^ width_of (with_place b at runs) + joined_bits (with_place b at runs) x
+placed false x at before runs = refl
+placed true x at before [] = begun x at 0 before 0
+placed true x at before (run ∷ runs) =
+    placed_above (at == run.low + run.width) x at before run runs (eqb-true at (run.low + run.width))
+
+-- a field is the bits of its letter's runs, behind those that stood before
+pub joined_runs : (letter : ℕ) (places : List ℕ) (x before : ℕ)
+    → joined letter places x before ≡ before * 2 ^ width_of (runs_of letter places) + joined_bits (runs_of letter places) x
+unfolding joined
+joined_runs letter [] x before = omega arith
+joined_runs letter (place ∷ places) x before =
+    joined_runs letter places x (if place == letter then before * 2 + bit_at x (length places) else before)
+    ∙ placed (place == letter) x (length places) before (runs_of letter places)
+
+-- ---- the same, as code writes it
+
+-- the bits of a run
+abbrev pub bits_at : ℕ → ℕ → ℕ → ℕ
+bits_at x zero width = x % 2 ^ width
+bits_at x (suc low) width = x / 2 ^ suc low % 2 ^ width
+
+abbrev pub value_of : List Run → ℕ → ℕ
+value_of [] x = 0
+value_of (run ∷ []) x = bits_at x run.low run.width
+value_of (run ∷ (next ∷ runs)) x = bits_at x run.low run.width * 2 ^ width_of (next ∷ runs) + value_of (next ∷ runs) x
+
+bits_at_is : (x low width : ℕ) → x / 2 ^ low % 2 ^ width ≡ bits_at x low width
+bits_at_is x zero width = ap (λ n. n % 2 ^ width) (div-one x)
+bits_at_is x (suc low) width = refl
+
+value_is : (runs : List Run) (x : ℕ) → joined_bits runs x ≡ value_of runs x
+value_is [] x = refl
+value_is (run ∷ []) x = omega (arith, bits_at_is x run.low run.width)
+value_is (run ∷ (next ∷ runs)) x = rw (bits_at_is x run.low run.width, value_is (next ∷ runs) x) refl
+
+-- the field of a letter, read off the text
+abbrev pub value_at : List ℕ → ℕ → ℕ → ℕ
+value_at places x letter = value_of (runs_of letter places) x
+
+pub field_is : (places : List ℕ) (x letter : ℕ) → field places x letter ≡ value_at places x letter
+field_is places x letter =
+    let all : joined letter places x 0
+    ≡ 0 * 2 ^ width_of (runs_of letter places) + joined_bits (runs_of letter places) x =
+    joined_runs letter places x 0 in
+    all ∙ omega (arith, value_is (runs_of letter places) x)

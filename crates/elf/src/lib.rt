@@ -1,0 +1,105 @@
+//! The loader of ELF files (TIS ELF 1.2, "Object Files"): which bytes a file brings, and where they
+//! stand before the first step. README.md says what is proved.
+#![tactic(auto)]
+
+ghost use Rattle.std.specs.Prelude.{◌≡◌, ◌≤◌, length};
+ghost use Rattle.reference.specs.Images.{has_magic, image_of, is_32_bit_little, table_of};
+
+mod image;
+mod number;
+mod program_header;
+#[cfg(test)]
+mod tests;
+
+pub use image::{Image, MOST_SEGMENTS, Segment};
+use number::{halfword, word};
+use program_header::{PROGRAM_HEADER_SIZE, image_of_headers};
+pub use reference::fault::LoadFault;
+
+// "ELF Header": its size, then the places of its fields.
+const ELF_HEADER_SIZE: usize = 52;
+
+const EI_CLASS: usize = 4;
+
+const EI_DATA: usize = 5;
+
+const E_TYPE: usize = 16;
+
+const E_MACHINE: usize = 18;
+
+const E_PHOFF: usize = 28;
+
+const E_PHENTSIZE: usize = 42;
+
+const E_PHNUM: usize = 44;
+
+// "ELF Header": what the fields have to be.
+const ELFCLASS32: u8 = 1;
+
+const ELFDATA2LSB: u8 = 1;
+
+const ET_EXEC: u16 = 2;
+
+const EM_ARM: u16 = 40;
+
+/// The image that an ELF file holds, or why the machine doesn't take the file: the first refusal in
+/// the order in which the file is looked at.
+#[tactic(auto, unfolding(reference::specs::Images::image_of))]
+pub fn load(bytes: &[u8]) -> Result<Image<'_>, LoadFault>
+    ensures { result ≡ image_of bytes.now }
+{
+    if bytes.len() < ELF_HEADER_SIZE {
+        return Err(LoadFault::Truncated);
+    }
+    if !has_magic(bytes) {
+        return Err(LoadFault::NotElf);
+    }
+    if !is_32_bit_little(bytes) {
+        return Err(LoadFault::NotElf32Little);
+    }
+    if halfword(bytes, E_TYPE) != ET_EXEC {
+        return Err(LoadFault::NotExecutable);
+    }
+    if halfword(bytes, E_MACHINE) != EM_ARM {
+        return Err(LoadFault::NotArm);
+    }
+    image_of_table(bytes)
+}
+
+// "ELF Identification": the magic number.
+fn has_magic(file: &[u8]) -> bool
+    ensures { result ≡ has_magic file.now }
+{
+    matches!(file, [0x7F, b'E', b'L', b'F', ..])
+}
+
+// "ELF Identification": the class and the data encoding.
+fn is_32_bit_little(file: &[u8]) -> bool
+    requires { ELF_HEADER_SIZE ≤ length file.now }
+    ensures { result ≡ is_32_bit_little file.now }
+{
+    file[EI_CLASS] == ELFCLASS32 && file[EI_DATA] == ELFDATA2LSB
+}
+
+// What the program header table brings. A file that has none isn't asked for the size of a program
+// header.
+fn image_of_table(file: &[u8]) -> Result<Image<'_>, LoadFault>
+    requires { ELF_HEADER_SIZE ≤ length file.now }
+    ensures { result ≡ table_of file.now }
+{
+    let count = halfword(file, E_PHNUM) as usize;
+    if count > MOST_SEGMENTS {
+        return Err(LoadFault::TooManySegments);
+    }
+    if count == 0 {
+        return Ok(Image::empty());
+    }
+    if halfword(file, E_PHENTSIZE) as usize != PROGRAM_HEADER_SIZE {
+        return Err(LoadFault::HeaderSize);
+    }
+    let table = word(file, E_PHOFF) as usize;
+    if table + PROGRAM_HEADER_SIZE * count > file.len() {
+        return Err(LoadFault::Truncated);
+    }
+    image_of_headers(file, table, count)
+}

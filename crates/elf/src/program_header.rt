@@ -1,0 +1,66 @@
+//! "Program Header": the segments that a file's program headers describe.
+
+ghost use Rattle.std.specs.Prelude.{◌≡◌, ◌+◌, ◌*◌, ◌≤◌, length};
+ghost use Rattle.reference.specs.Images.{is_segment, segments_of};
+ghost use Rattle.elf.specs.Segment.{Gives, segment_in, segment_of};
+
+use crate::image::{Image, MOST_SEGMENTS, Segment};
+use crate::number::word;
+use arrayvec::ArrayVec;
+use reference::fault::LoadFault;
+
+// A program header's size, and the places of its fields.
+pub const PROGRAM_HEADER_SIZE: usize = 32;
+
+const P_TYPE: usize = 0;
+
+const P_OFFSET: usize = 4;
+
+const P_PADDR: usize = 12;
+
+const P_FILESZ: usize = 16;
+
+// The type of a segment that is to be loaded.
+const PT_LOAD: u32 = 1;
+
+// The segments of `count` program headers from `table` on.
+#[tactic(auto, using(crate::proofs::Headers::refused))]
+pub fn image_of_headers(file: &[u8], table: usize, count: usize) -> Result<Image<'_>, LoadFault>
+    requires few { count ≤ MOST_SEGMENTS }
+    requires within { table + PROGRAM_HEADER_SIZE * count ≤ length file.now }
+    ensures { result ≡ segments_of file.now table count }
+{
+    let mut segments = ArrayVec::new();
+    'headers: for index in 0..count {
+        let at = table + PROGRAM_HEADER_SIZE * index;
+        if is_segment(file, at) {
+            segments.push(segment_of_header(file, at)?);
+        }
+    }
+    Ok(Image::new(segments))
+}
+
+// Whether the program header at a place of the file is of a segment: it is to be loaded, and has
+// bytes.
+fn is_segment(file: &[u8], at: usize) -> bool
+    requires { at + PROGRAM_HEADER_SIZE ≤ length file.now }
+    ensures { result ≡ is_segment file.now at }
+{
+    word(file, at + P_TYPE) == PT_LOAD && word(file, at + P_FILESZ) != 0
+}
+
+// The segment of the program header at a place of the file, where its bytes lie in the file.
+fn segment_of_header(file: &[u8], at: usize) -> Result<Segment<'_>, LoadFault>
+    requires { at + PROGRAM_HEADER_SIZE ≤ length file.now }
+    ensures { Gives segment_of result (segment_in file.now at) }
+{
+    let offset = word(file, at + P_OFFSET) as usize;
+    let end = offset + word(file, at + P_FILESZ) as usize;
+    if end > file.len() {
+        return Err(LoadFault::SegmentOutsideFile);
+    }
+    Ok(Segment {
+        address: word(file, at + P_PADDR),
+        bytes: &file[offset..end],
+    })
+}

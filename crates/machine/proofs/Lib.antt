@@ -1,0 +1,4 @@
+mod Blocks
+mod Loading
+mod Running
+mod Sending

@@ -1,0 +1,137 @@
+-- Runs of the reference machine: one step more, and no more steps behind a stop.
+use Rattle.std.proofs.Common.{◌≡◌, ◌⊎◌, inl, inr, ℕ, zero, suc, ◌+◌, ◌-◌, ◌<◌, ◌≤◌, List, [], ◌∷◌, ◌++◌, Option, Some, None, IsSome, refl, sym, ◌∙◌, ap, append_assoc, add-one, add-zero, arith, unwrap_or, is_some, false, below_more}
+use Rattle.std.proofs.lemmas.List.{append-nil}
+use Rattle.std.specs.Io.KnownBytes.{Appends}
+use Rattle.std.proofs.KnownBytes.{Appends-trans}
+use Rattle.reference.specs.declared.event.Event.{Event}
+use Rattle.reference.specs.declared.stop.Stop.{Stop}
+use Rattle.reference.specs.declared.stop.Stop.TheVariants.{StepLimit}
+use Rattle.reference.specs.Run.{after, events_of, ending_of, trace}
+use Rattle.reference.specs.State.{State}
+use Rattle.reference.specs.Step.{step, unless_stopped}
+use Rattle.reference.specs.Text.{lines, line, stop_line}
+use Rattle.machine.specs.Output.{IsCutAfter, IsCutShort}
+use Rattle.machine.specs.Runs.{Leaves}
+
+-- a stopped machine makes no step
+step_stopped : (s : State) (why : Stop) → s.stop ≡ Some why → step s ≡ record { state = s; events = [] }
+unfolding step
+step_stopped s why e = ap (unless_stopped s) e
+
+stays_by : (s : State) (o : Option Stop) → s.stop ≡ o → IsSome o → step s ≡ record { state = s; events = [] }
+stays_by s None e some = absurd cc
+stays_by s (Some why) e some = step_stopped s why e
+
+pub stays : (s : State) → IsSome s.stop → step s ≡ record { state = s; events = [] }
+stays s some = stays_by s s.stop refl some
+
+-- one step more
+pub after_more : (n : ℕ) (s : State) → after (n + 1) s ≡ (step (after n s)).state
+unfolding after
+after_more n s = rw add-one refl
+
+pub events_more : (n : ℕ) (s : State) → events_of (n + 1) s ≡ events_of n s ++ (step (after n s)).events
+unfolding events_of
+events_more n s = rw add-one refl
+
+pub none_made : (s : State) → after 0 s ≡ s
+unfolding after
+none_made s = refl
+
+pub none_told : (s : State) → lines (events_of 0 s) ≡ []
+unfolding events_of lines
+none_told s = refl
+
+-- the lines of more events stand behind those of the first
+pub lines-append : (xs ys : List Event) → lines (xs ++ ys) ≡ lines xs ++ lines ys
+unfolding lines
+lines-append [] ys = refl
+lines-append (x ∷ xs) ys = rw (lines-append xs ys, append_assoc) refl
+
+pub told_more : (n : ℕ) (s : State) → lines (events_of (n + 1) s) ≡ lines (events_of n s) ++ lines (step (after n s)).events
+told_more n s = rw (events_more n s) (lines-append (events_of n s) (step (after n s)).events)
+
+-- behind a stop nothing changes any more
+pub after_stop : (m k : ℕ) (s : State) → IsSome (after m s).stop → (after (m + k) s ≡ after m s) × (events_of (m + k) s ≡ events_of m s)
+after_stop m zero s some = (rw add-zero refl, rw add-zero refl)
+after_stop m (suc k) s some =
+    let e : m + suc k ≡ (m + k) + 1 = omega arith in
+    let before = after_stop m k s some in
+    let quiet = stays (after m s) some in (
+      rw (e, after_more (m + k) s, before.0, quiet) refl,
+      rw (e, events_more (m + k) s, before.1, before.0, quiet) (append-nil (events_of m s)),
+    )
+
+-- a run is over where all its steps were made, or the machine has stopped
+pub over : (made limit : ℕ) (s : State) → made ≤ limit → (made ≡ limit) ⊎ IsSome (after made s).stop → (after limit s ≡ after made s) × (events_of limit s ≡ events_of made s)
+over made limit s few (inl e) = rw (← e) (refl, refl)
+over made limit s few (inr some) = let e : made + (limit - made) ≡ limit = omega arith in rw e at (after_stop made (limit - made) s some)
+
+-- the lines of one step more went out
+pub told_on : (old mid new : Option (List ℕ)) (n : ℕ) (s core : State) (shown : List Event) → Appends old mid (lines (events_of n s)) → Appends mid new (lines shown) → shown ≡ (step core).events → core ≡ after n s → Appends old new (lines (events_of (n + 1) s))
+told_on old mid new n s core shown told more same now =
+    rw (told_more n s, ← now, ← same) (Appends-trans old mid new (lines (events_of n s)) (lines shown) told more)
+
+pub not_some : (o : Option Stop) → is_some o ≡ false → o ≡ None
+not_some None e = refl
+not_some (Some why) e = absurd cc
+
+-- one step more was made
+pub made_on : (n : ℕ) (s core : State) → ((k : ℕ) → k < n → (after k s).stop ≡ None) → core ≡ after n s → core.stop ≡ None → (k : ℕ) → k < n + 1 → (after k s).stop ≡ None
+made_on n s core made now going = below_more _ _ made (rw (← now) going)
+
+-- what went out before a text that was cut short
+pub cut_after : (old mid new : Option (List ℕ)) (before text : List ℕ) → Appends old mid before → IsCutShort mid new text → IsCutAfter old new before text
+cut_after old mid new before text went cut = record {
+  front = cut.front;
+  byte = cut.byte;
+  behind = cut.behind;
+  whole = cut.whole;
+  went = Appends-trans old mid new before cut.front went cut.went;
+}
+
+-- a step's lines were cut short
+pub cut_in_step : (old mid new : Option (List ℕ)) (limit n : ℕ) (s core last : State) (shown : List Event) → n < limit → ((k : ℕ) → k < n + 1 → (after k s).stop ≡ None) → last ≡ after (n + 1) s → Appends old mid (lines (events_of n s)) → IsCutShort mid new (lines shown) → shown ≡ (step core).events → core ≡ after n s → Leaves limit s (n + 1) old new last
+cut_in_step old mid new limit n s core last shown few made state told cut same now =
+    let back : n + 1 - 1 ≡ n = omega arith in
+    let whole : IsCutAfter old new (lines (events_of n s)) (lines (step (after n s)).events) = rw (← now, ← same) (cut_after old mid new (lines (events_of n s)) (lines shown) told cut) in
+    record {
+      few = omega arith;
+      made = made;
+      state = state;
+      cut = inl (omega arith, rw back whole);
+    }
+
+-- the line of the stop was cut short
+pub cut_in_stop : (old mid new : Option (List ℕ)) (limit n : ℕ) (s core : State) (shown : Stop) → n ≤ limit → ((k : ℕ) → k < n → (after k s).stop ≡ None) → core ≡ after n s → Appends old mid (lines (events_of n s)) → IsCutShort mid new (stop_line shown) → shown ≡ unwrap_or core.stop StepLimit → (n ≡ limit) ⊎ IsSome core.stop → Leaves limit s n old new core
+cut_in_stop old mid new limit n s core shown few made now told cut same ends =
+    let ends' : (n ≡ limit) ⊎ IsSome (after n s).stop = rw (← now) ends in
+    let done = over n limit s few ends' in
+    let whole : IsCutAfter old new (lines (events_of limit s)) (stop_line (ending_of limit s)) =
+    rw (done.1, done.0, ← now, ← same) (cut_after old mid new (lines (events_of n s)) (stop_line shown) told cut) in
+    record { few = few; made = made; state = now; cut = inr (ends', whole) }
+
+-- the whole trace went out
+pub all_told : (old mid new : Option (List ℕ)) (limit n : ℕ) (s core : State) (shown : Stop) → n ≤ limit → core ≡ after n s → Appends old mid (lines (events_of n s)) → Appends mid new (stop_line shown) → shown ≡ unwrap_or core.stop StepLimit → (n ≡ limit) ⊎ IsSome core.stop → Appends old new (trace limit s)
+unfolding trace
+all_told old mid new limit n s core shown few now told more same ends =
+    let ends' : (n ≡ limit) ⊎ IsSome (after n s).stop = rw (← now) ends in
+    let done = over n limit s few ends' in
+    rw (done.1, done.0, ← now, ← same) (Appends-trans old mid new (lines (events_of n s)) (stop_line shown) told more)
+
+-- the machine stands behind all steps
+pub all_made : (limit n : ℕ) (s core : State) → n ≤ limit → core ≡ after n s → (n ≡ limit) ⊎ IsSome core.stop → core ≡ after limit s
+all_made limit n s core few now ends =
+    let ends' : (n ≡ limit) ⊎ IsSome (after n s).stop = rw (← now) ends in now ∙ sym (over n limit s few ends').0
+
+-- a page that was cleared holds just what was put on it
+pub alone : (text page cleared line : List ℕ) → text ≡ page → page ≡ cleared ++ line → cleared ≡ [] → text ≡ line
+alone text page cleared line t p e = t ∙ rw e at p
+
+-- the state behind one step more
+pub after_on : (n : ℕ) (s core : State) → core ≡ after n s → (step core).state ≡ after (n + 1) s
+after_on n s core now = rw (now, after_more n s) refl
+
+-- the stop that is told is that of the whole run
+pub ends_so : (limit : ℕ) (s core : State) (shown : Stop) → shown ≡ unwrap_or core.stop StepLimit → core ≡ after limit s → shown ≡ ending_of limit s
+ends_so limit s core shown same now = rw (← now) same

@@ -1,0 +1,31 @@
+-- What a writer tells of the bytes that it was given.
+use Rattle.std.specs.Prelude.{◌≡◌, ℕ, ◌+◌, ◌≤◌, Bool, not, ◌&&◌, ◌==◌, List, [], ◌∷◌, ◌++◌, length, take, Option, Result, Ok, Err, if◌then◌else◌}
+use Rattle.std.specs.Io.KnownBytes.{Appends, Keeps}
+
+-- known bytes grow by what stands before a text, and by a beginning of the text that isn't all of it
+pub record IsCutAfter (old new : Option (List ℕ)) (before text : List ℕ) : Type 0 where
+  pub front : List ℕ
+  pub byte : ℕ
+  pub behind : List ℕ
+  pub whole : text ≡ front ++ byte ∷ behind
+  pub went : Appends old new (before ++ front)
+
+-- the same with nothing before it
+abbrev pub IsCutShort : Option (List ℕ) → Option (List ℕ) → List ℕ → Type 0
+IsCutShort old new text = IsCutAfter old new [] text
+
+-- whether a call took none of a piece that isn't empty
+abbrev pub took_none : List ℕ → ℕ → Bool
+took_none bytes taken = (taken == 0) && not (length bytes == 0)
+
+-- one call: the bytes that it took went out, and it counts where it failed or took none
+abbrev pub Took : {E : Type 0} → Option (List ℕ) → Option (List ℕ) → ℕ → ℕ → List ℕ → Result ℕ E → Type 0
+Took old new before now bytes (Ok taken) =
+    (taken ≤ length bytes) × Appends old new (take taken bytes)
+    × (now ≡ (if took_none bytes taken then before + 1 else before))
+Took old new before now bytes (Err fault) = Keeps old new × (now ≡ before + 1)
+
+-- a whole text: it went out and no call failed, or a beginning of it did and one call failed
+abbrev pub Put : {E : Type 0} → Option (List ℕ) → Option (List ℕ) → ℕ → ℕ → List ℕ → Result (Unit {0}) E → Type 0
+Put old new before now text (Ok done) = Appends old new text × (now ≡ before)
+Put old new before now text (Err fault) = IsCutShort old new text × (now ≡ before + 1)

@@ -1,0 +1,35 @@
+-- What a run that a writer cut short leaves.
+use Rattle.std.specs.Prelude.{◌≡◌, ◌⊎◌, ℕ, ◌+◌, ◌-◌, ◌<◌, ◌≤◌, true, List, Option, None, IsSome}
+use Rattle.std.specs.Io.KnownBytes.{Keeps}
+use Rattle.machine.specs.declared.whole.RunFault.{RunFault}
+use Rattle.machine.specs.declared.whole.RunFault.TheVariants.{Write, Broken}
+use Rattle.machine.specs.Output.{IsCutAfter}
+use Rattle.machine.specs.Whole.{Whole}
+use Rattle.reference.specs.Run.{after, events_of, ending_of}
+use Rattle.reference.specs.State.{State}
+use Rattle.reference.specs.Step.{step}
+use Rattle.reference.specs.Text.{lines, stop_line}
+
+-- the lines of all steps but the last one went out, and a beginning of that one's lines
+abbrev pub CutInStep : State → ℕ → Option (List ℕ) → Option (List ℕ) → Type 0
+CutInStep s steps old new =
+    (0 < steps) × IsCutAfter old new (lines (events_of (steps - 1) s)) (lines (step (after (steps - 1) s)).events)
+
+-- the lines of all steps went out, and a beginning of the stop's line
+abbrev pub CutInStop : ℕ → State → ℕ → Option (List ℕ) → Option (List ℕ) → Type 0
+CutInStop n s steps old new =
+    ((steps ≡ n) ⊎ IsSome (after steps s).stop) × IsCutAfter old new (lines (events_of n s)) (stop_line (ending_of n s))
+
+-- a run of at most n steps from a state was cut short after so many of them: each of them was made, the machine stands
+-- behind them, and what went out is a beginning of the trace
+pub record Leaves (n : ℕ) (s : State) (steps : ℕ) (old new : Option (List ℕ)) (last : State) : Type 0 where
+  pub few : steps ≤ n
+  pub made : (k : ℕ) → k < steps → (after k s).stop ≡ None
+  pub state : last ≡ after steps s
+  pub cut : CutInStep s steps old new ⊎ CutInStop n s steps old new
+
+-- a run that failed: the writer counted a fault in it, or it was broken before and nothing was done
+abbrev pub Fails : ℕ → Whole → Whole → Option (List ℕ) → Option (List ℕ) → ℕ → ℕ → RunFault → Type 0
+Fails n old new written written' faults faults' (Write steps) =
+    Leaves n old.state steps written written' new.state × (new.broken ≡ true) × (faults' ≡ faults + 1)
+Fails n old new written written' faults faults' Broken = (new ≡ old) × Keeps written written' × (faults' ≡ faults)

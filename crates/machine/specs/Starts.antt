@@ -1,0 +1,30 @@
+-- How a machine that was started, or into which a value was placed, stands to the definition.
+use Rattle.std.specs.Prelude.{◌≡◌, false, Result, Ok, Err, IsOk}
+use Rattle.machine.specs.Whole.{Whole}
+use Rattle.reference.specs.declared.fault.PlaceFault.{PlaceFault}
+use Rattle.reference.specs.declared.fault.StartFault.{StartFault}
+use Rattle.reference.specs.declared.fault.StartFault.TheVariants.{SegmentOutsideMemory, NoMemory}
+use Rattle.reference.specs.State.{State}
+
+-- a core stands in the start state; an image is refused where the definition refuses it; and memory was wanting only
+-- where it refuses nothing
+abbrev pub StartsAt : Result State StartFault → Result State StartFault → Type 0
+StartsAt read (Ok s) = read ≡ Ok s
+StartsAt read (Err SegmentOutsideMemory) = read ≡ Err SegmentOutsideMemory
+StartsAt read (Err NoMemory) = IsOk read
+
+-- the same of a machine, whose writer hasn't failed
+abbrev pub Starts : Result State StartFault → Result Whole StartFault → Type 0
+Starts read (Ok m) = (read ≡ Ok m.state) × (m.broken ≡ false)
+Starts read (Err SegmentOutsideMemory) = read ≡ Err SegmentOutsideMemory
+Starts read (Err NoMemory) = IsOk read
+
+-- a value was placed as the definition says; a refusal is its, and changes nothing
+abbrev pub PlacesAt : Result State PlaceFault → State → State → Result (Unit {0}) PlaceFault → Type 0
+PlacesAt read old new (Ok done) = read ≡ Ok new
+PlacesAt read old new (Err fault) = (read ≡ Err fault) × (new ≡ old)
+
+-- the same of a machine
+abbrev pub Places : Result State PlaceFault → Whole → Whole → Result (Unit {0}) PlaceFault → Type 0
+Places read old new (Ok done) = (read ≡ Ok new.state) × (new.broken ≡ old.broken)
+Places read old new (Err fault) = (read ≡ Err fault) × (new ≡ old)

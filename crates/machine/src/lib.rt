@@ -1,0 +1,25 @@
+//! The machine: steps, runs and their traces.
+#![tactic(auto)]
+
+mod bus;
+mod decide;
+mod operations;
+pub mod output;
+mod placing;
+pub mod readers;
+mod run;
+mod space;
+mod start;
+mod stepping;
+mod whole;
+
+pub use output::{IoFault, Out, Over};
+pub use readers::RegValues;
+pub use reference::board::{Board, SMALL_BOARD};
+pub use reference::event::Event;
+pub use reference::fault::{PlaceFault, StartFault};
+pub use reference::place::Place;
+pub use reference::stop::Stop;
+pub use stepping::{Events, MOST_EVENTS};
+pub use trace::lines::{Text, event_line, stop_line};
+pub use whole::{Machine, RunFault};

@@ -1,0 +1,53 @@
+//! What a debugger reads of a machine.
+
+ghost use Rattle.std.specs.Prelude.{◌≡◌};
+ghost use Rattle.reference.specs.Memory.{byte_at};
+
+use crate::stepping::Core;
+
+/// The values of the core registers, each as a word.
+#[derive(Clone, Copy)]
+pub struct RegValues {
+    /// R0 to R12.
+    pub general: [u32; 13],
+    pub msp: u32,
+    pub psp: u32,
+    pub lr: u32,
+    /// The address of the next instruction.
+    pub pc: u32,
+    pub xpsr: u32,
+    pub control: u32,
+    pub primask: u32,
+    pub faultmask: u32,
+    pub basepri: u32,
+}
+
+impl Core {
+    ghost use Rattle.machine.specs.Values.{values_of};
+
+    /// The values of the core registers.
+    pub fn regs(&self) -> RegValues
+        ensures { result ≡ values_of self.now.registers }
+    {
+        let regs = self.registers();
+        RegValues {
+            general: regs.general(),
+            msp: regs.main_stack(),
+            psp: regs.process_stack(),
+            lr: regs.link(),
+            pc: regs.pc(),
+            xpsr: regs.xpsr(),
+            control: regs.control(),
+            primask: 0,
+            faultmask: 0,
+            basepri: 0,
+        }
+    }
+
+    /// The byte of flash or RAM at an address, if there is one.
+    pub fn byte(&self, address: u32) -> Option<u8>
+        ensures { result ≡ byte_at self.now.bus.memory address }
+    {
+        self.bus().space().byte(address)
+    }
+}

@@ -1,0 +1,69 @@
+//! The start of a core (ARM DDI 0403, TakeReset()).
+
+ghost use Rattle.std.specs.Prelude.{◌≡◌, ◌*◌, ◌+◌, true, map};
+ghost use Rattle.machine.specs.Starts.{StartsAt};
+ghost use Rattle.reference.specs.Memory.{Memory};
+ghost use Rattle.reference.specs.Start.{start, blank, are_placed, is_placed, loaded, vector};
+ghost use Rattle.elf.specs.Segment.{segment_of};
+
+use crate::bus::Bus;
+use crate::space::{RAM_BASE, Space, is_within};
+use crate::stepping::Core;
+use elf::{Image, Segment};
+use reference::access::Size;
+use reference::board::Board;
+use reference::fault::StartFault;
+use regs::Regs;
+use std::alloc::Global;
+
+/// The core of a board, with an image in its memory, before the first step. The segments are looked
+/// at before any memory is taken.
+#[tactic(auto, unfolding(reference::specs::Start::start))]
+pub fn start_core(alloc: Global, image: &Image<'_>, board: &Board) -> Result<Core, StartFault>
+    ensures { StartsAt (start board.now image.now) result }
+{
+    if !are_placed(board, image.segments()) {
+        return Err(StartFault::SegmentOutsideMemory);
+    }
+    let Ok(mut space) = Space::blank(alloc, board) else {
+        return Err(StartFault::NoMemory);
+    };
+    load_segments(&mut space, image.segments());
+    let regs = Regs::reset(space.vector(0), space.vector(1));
+    Ok(Core::new(regs, Bus::new(space)))
+}
+
+/// Whether each segment lies wholly in flash or wholly in RAM.
+fn are_placed(board: &Board, segments: &[Segment<'_>]) -> bool
+    ensures { result ≡ are_placed (blank board.now) (map segment_of segments.now) }
+{
+    'segments: for segment in segments {
+        if !is_placed(board, segment) {
+            return false;
+        }
+    }
+    true
+}
+
+/// Whether a segment lies wholly in flash or wholly in RAM.
+fn is_placed(board: &Board, segment: &Segment<'_>) -> bool
+    ensures { result ≡ is_placed (blank board.now) (segment_of segment.now) }
+{
+    let length = segment.bytes.len();
+    is_within(
+        board.flash_base,
+        board.flash_size as usize,
+        segment.address,
+        length,
+    ) || is_within(RAM_BASE, board.ram_size as usize, segment.address, length)
+}
+
+/// Puts the segments into memory, in their order.
+fn load_segments(space: &mut Space, segments: &[Segment<'_>])
+    requires { are_placed space.old (map segment_of segments.now) ≡ true }
+    ensures { space.new ≡ loaded space.old (map segment_of segments.now) }
+{
+    'segments: for segment in segments {
+        space.overwrite(segment.address, segment.bytes);
+    }
+}

@@ -1,0 +1,127 @@
+//! The machine that a user has: a core, and whether its trace is still whole.
+
+ghost use Rattle.std.specs.Prelude.{◌≡◌, ◌↔◌, ◌^◌, ◌≤◌, false, true, Ok, Err, IfOk, IfErr, OnOk};
+ghost use Rattle.machine.specs.Runs.{Fails};
+ghost use Rattle.machine.specs.Starts.{Starts, Places};
+ghost use Rattle.reference.specs.Memory.{byte_at};
+ghost use Rattle.reference.specs.Places.{place};
+ghost use Rattle.reference.specs.Run.{after, ending_of, trace};
+ghost use Rattle.reference.specs.Start.{start};
+ghost use Rattle.reference.specs.Step.{step};
+ghost use Rattle.std.specs.Io.KnownBytes.{Appends};
+
+use crate::output::Out;
+use crate::readers::RegValues;
+use crate::run::run_core;
+use crate::start::start_core;
+use crate::stepping::{Core, Events};
+use elf::Image;
+use reference::board::Board;
+use reference::fault::{PlaceFault, StartFault};
+use reference::place::Place;
+use reference::stop::Stop;
+use std::alloc::Global;
+use std::marker::Model;
+
+/// Why a run didn't end.
+#[derive(Clone, Copy)]
+pub enum RunFault {
+    /// The writer failed. So many steps of this call were made.
+    Write { steps: u64 },
+    /// The writer failed in an earlier run.
+    Broken,
+}
+
+/// A machine.
+#[derive(Drop)]
+pub struct Machine {
+    core: Core,
+    broken: bool,
+}
+
+impl Model for Machine {
+    ghost use Rattle.machine.specs.Whole.{Whole};
+
+    ghost Value = { Whole };
+
+    ghost view = { λ m. record { state = m.core; broken = m.broken } };
+}
+
+impl Machine {
+    ghost use Rattle.machine.specs.Values.{values_of};
+
+    /// The machine of a board, with an image in its memory, before the first step.
+    pub fn new(alloc: Global, image: &Image<'_>, board: &Board) -> Result<Self, StartFault>
+        ensures { Starts (start board.now image.now) result }
+    {
+        let core = start_core(alloc, image, board)?;
+        Ok(Machine {
+            core,
+            broken: false,
+        })
+    }
+
+    /// One step. `events` becomes what it tells. Answers why the machine has stopped, if it has.
+    pub fn step(&mut self, events: &mut Events) -> Option<Stop>
+        ensures state { self.new ≡ record self.old { state = (step self.old.state).state } }
+        ensures events { events.new.items ≡ (step self.old.state).events }
+        ensures stop { result ≡ self.new.state.stop }
+    {
+        self.core.step(events);
+        self.core.stop()
+    }
+
+    /// Makes at most `limit` steps, up to the first stop, and writes their trace.
+    pub fn run<W: Out>(&mut self, limit: u64, out: &mut W) -> Result<Stop, RunFault>
+        requires { limit ≤ 2 ^ 32 }
+
+        // The whole trace of the reference machine went out, and the machine is in its state.
+        ensures written { OnOk result (Appends (W.written out.old) (W.written out.new) (trace limit self.old.state)) }
+        ensures state { OnOk result (self.new ≡ record self.old { state = after limit self.old.state }) }
+        ensures stop { IfOk result (λ stop. stop ≡ ending_of limit self.old.state) }
+        ensures quiet { OnOk result (W.faults out.new ≡ W.faults out.old) }
+
+        // Otherwise the writer failed in this run, or in an earlier one.
+        ensures fault { IfErr result (Fails limit self.old self.new (W.written out.old) (W.written out.new) (W.faults out.old) (W.faults out.new)) }
+        ensures broken { (result ≡ Err RunFault.Broken) ↔ (self.old.broken ≡ true) }
+    {
+        if self.broken {
+            return Err(RunFault::Broken);
+        }
+        match run_core(&mut self.core, limit, out) {
+            Ok(stop) => Ok(stop),
+            Err(steps) => {
+                self.broken = true;
+                Err(RunFault::Write { steps })
+            }
+        }
+    }
+
+    /// Whether a writer failed in an earlier run, so that what went out is no whole trace.
+    pub fn broken(&self) -> bool
+        ensures { result ≡ self.now.broken }
+    {
+        self.broken
+    }
+
+    /// Puts a value into a register or a word, without a tick and without a line.
+    pub fn place(&mut self, value: Place) -> Result<(), PlaceFault>
+        ensures { Places (place self.old.state value) self.old self.new result }
+    {
+        self.core.place(value)
+    }
+
+    /// The values of the core registers.
+    pub fn regs(&self) -> RegValues
+        ensures { result ≡ values_of self.now.state.registers }
+    {
+        self.core.regs()
+    }
+
+    /// The byte of flash or RAM at an address, if there is one.
+    pub fn byte(&self, address: u32) -> Option<u8>
+        ensures { result ≡ byte_at self.now.state.bus.memory address }
+    {
+        self.core.byte(address)
+    }
+}

@@ -1,0 +1,118 @@
+-- What an ELF file brings (TIS ELF 1.2, "ELF Header" and "Program Header"). The order in which a file is refused is the
+-- profile's.
+use Rattle.std.specs.Prelude.{ℕ, zero, suc, ◌+◌, ◌*◌, Bool, ◌&&◌, not, nat_lt, ◌==◌, if◌then◌else◌, List, [], ◌∷◌, length, slice_index, slice_range, Result, Ok, Err}
+use Rattle.reference.specs.declared.fault.LoadFault.{LoadFault}
+pub use Rattle.reference.specs.Memory.{number_in}
+use Rattle.reference.specs.declared.fault.LoadFault.TheVariants.{Truncated, NotElf, NotElf32Little, NotExecutable, NotArm, HeaderSize, SegmentOutsideFile, TooManySegments}
+
+-- bytes that stand at an address before the first step
+pub record Segment : Type 0 where
+  pub address : ℕ
+  pub bytes : List ℕ
+
+abbrev pub elf_header_size : ℕ
+elf_header_size = 52
+
+abbrev pub program_header_size : ℕ
+program_header_size = 32
+
+-- how many program headers a file may have: one, until images of several segments are built
+abbrev pub most_program_headers : ℕ
+most_program_headers = 1
+
+-- e_ident begins with 7F and "ELF"
+abbrev pub has_magic : List ℕ → Bool
+has_magic file =
+    (((slice_index file 0 == 0x7F) && (slice_index file 1 == 0x45)) && (slice_index file 2 == 0x4C))
+    && (slice_index file 3 == 0x46)
+
+-- e_ident[EI_CLASS] is ELFCLASS32, and e_ident[EI_DATA] is ELFDATA2LSB
+abbrev pub is_32_bit_little : List ℕ → Bool
+is_32_bit_little file = (slice_index file 4 == 1) && (slice_index file 5 == 1)
+
+abbrev pub e_type : List ℕ → ℕ
+e_type file = number_in file 16 2
+
+abbrev pub e_machine : List ℕ → ℕ
+e_machine file = number_in file 18 2
+
+abbrev pub e_phoff : List ℕ → ℕ
+e_phoff file = number_in file 28 4
+
+abbrev pub e_phentsize : List ℕ → ℕ
+e_phentsize file = number_in file 42 2
+
+abbrev pub e_phnum : List ℕ → ℕ
+e_phnum file = number_in file 44 2
+
+-- ET_EXEC and EM_ARM
+abbrev pub executable_type : ℕ
+executable_type = 2
+
+abbrev pub arm_machine : ℕ
+arm_machine = 40
+
+-- PT_LOAD
+abbrev pub load_type : ℕ
+load_type = 1
+
+-- the fields of the program header that stands at a place of the file
+abbrev pub p_type : List ℕ → ℕ → ℕ
+p_type file at = number_in file at 4
+
+abbrev pub p_offset : List ℕ → ℕ → ℕ
+p_offset file at = number_in file (at + 4) 4
+
+abbrev pub p_paddr : List ℕ → ℕ → ℕ
+p_paddr file at = number_in file (at + 12) 4
+
+abbrev pub p_filesz : List ℕ → ℕ → ℕ
+p_filesz file at = number_in file (at + 16) 4
+
+-- a program header is of a segment where it is to be loaded and has bytes
+abbrev pub is_segment : List ℕ → ℕ → Bool
+is_segment file at = (p_type file at == load_type) && not (p_filesz file at == 0)
+
+-- p_offset + p_filesz, in whole numbers
+abbrev pub segment_end : List ℕ → ℕ → ℕ
+segment_end file at = p_offset file at + p_filesz file at
+
+-- the segment's bytes go to p_paddr
+abbrev pub segment_at : List ℕ → ℕ → Segment
+segment_at file at = record {
+  address = p_paddr file at;
+  bytes = slice_range file (p_offset file at) (segment_end file at);
+}
+
+-- one segment more, in front of those behind it
+abbrev pub in_front : Segment → Result (List Segment) LoadFault → Result (List Segment) LoadFault
+in_front segment (Ok segments) = Ok (segment ∷ segments)
+in_front segment (Err fault) = Err fault
+
+-- the segments of n program headers from a place of the file on, in their order
+abbrev pub segments_of : List ℕ → ℕ → ℕ → Result (List Segment) LoadFault
+segments_of file at zero = Ok []
+segments_of file at (suc n) =
+    let rest = segments_of file (at + program_header_size) n in
+    if not (is_segment file at) then rest
+    else if nat_lt (length file) (segment_end file at) then Err SegmentOutsideFile
+    else in_front (segment_at file at) rest
+
+-- the program header table is looked at where there is one
+abbrev pub table_of : List ℕ → Result (List Segment) LoadFault
+table_of file =
+    if nat_lt most_program_headers (e_phnum file) then Err TooManySegments
+    else if e_phnum file == 0 then Ok []
+    else if not (e_phentsize file == program_header_size) then Err HeaderSize
+    else if nat_lt (length file) (e_phoff file + program_header_size * e_phnum file) then Err Truncated
+    else segments_of file (e_phoff file) (e_phnum file)
+
+-- the image that a file holds, or the first refusal
+unfoldable pub image_of : List ℕ → Result (List Segment) LoadFault
+image_of file =
+    if nat_lt (length file) elf_header_size then Err Truncated
+    else if not (has_magic file) then Err NotElf
+    else if not (is_32_bit_little file) then Err NotElf32Little
+    else if not (e_type file == executable_type) then Err NotExecutable
+    else if not (e_machine file == arm_machine) then Err NotArm
+    else table_of file

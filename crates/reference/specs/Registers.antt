@@ -1,0 +1,100 @@
+-- The core registers (ARM DDI 0403, "Registers" of the programmers' model, and the pseudocode of R[]).
+use Rattle.std.specs.Prelude.{ℕ, ◌+◌, ◌*◌, ◌/◌, ◌%◌, ◌^◌, Bool, false, not, ◌&&◌, ◌||◌, ◌==◌, if◌then◌else◌, List, slice_index, slice_set, replicate}
+use Rattle.reference.specs.declared.registers.Flags.{Flags}
+use Rattle.reference.specs.Words.{word_sum, is_bit}
+
+pub record Registers : Type 0 where
+  -- R0 to R12
+  pub general : List ℕ
+  -- the two stack pointers, main and process
+  pub msp : ℕ
+  pub psp : ℕ
+  pub lr : ℕ
+  -- the address of the next instruction
+  pub pc : ℕ
+  -- the flags of APSR
+  pub flags : Flags
+  -- the eight bits of EPSR.IT, and EPSR.T
+  pub it : ℕ
+  pub thumb : Bool
+  -- IPSR: the number of the exception whose handler runs, 0 in Thread mode
+  pub exception : ℕ
+  -- CONTROL.nPRIV and CONTROL.SPSEL
+  pub unprivileged : Bool
+  pub process_stack : Bool
+
+-- Handler mode is where an exception's number stands in IPSR
+abbrev pub is_handler : Registers → Bool
+is_handler r = not (r.exception == 0)
+
+-- CurrentModeIsPrivileged()
+abbrev pub is_privileged : Registers → Bool
+is_privileged r = is_handler r || not r.unprivileged
+
+-- whether SP is PSP: LookUpSP()
+abbrev pub uses_psp : Registers → Bool
+uses_psp r = not (is_handler r) && r.process_stack
+
+-- SP, the stack pointer in use
+abbrev pub sp : Registers → ℕ
+sp r = if uses_psp r then r.psp else r.msp
+
+-- R[n], where PC reads as the address of the instruction and 4 more
+abbrev pub register : Registers → ℕ → ℕ
+register r n =
+    if n == 13 then sp r
+    else if n == 14 then r.lr
+    else if n == 15 then word_sum r.pc 4
+    else slice_index r.general n
+
+-- SP is given a value, whose bits 1:0 are cleared
+abbrev pub with_sp : Registers → ℕ → Registers
+with_sp r v = if uses_psp r then record r { psp = v / 4 * 4 } else record r { msp = v / 4 * 4 }
+
+-- BranchWritePC(v)
+abbrev pub with_pc : Registers → ℕ → Registers
+with_pc r v = record r { pc = v / 2 * 2 }
+
+-- R[n] = v, where a write to PC branches
+abbrev pub with_register : Registers → ℕ → ℕ → Registers
+with_register r n v =
+    if n == 13 then with_sp r v
+    else if n == 14 then record r { lr = v }
+    else if n == 15 then with_pc r v
+    else record r { general = slice_set r.general n v }
+
+-- N and Z of a result
+abbrev pub with_result : Flags → ℕ → Flags
+with_result f v = record f { negative = is_bit v 31; zero = v == 0 }
+
+-- 1 for a set bit of that weight
+abbrev pub weighed : Bool → ℕ → ℕ
+weighed b weight = if b then weight else 0
+
+-- xPSR: N, Z, C, V, Q, IT[1:0], T, IT[7:2] and the exception's number
+abbrev pub xpsr : Registers → ℕ
+xpsr r =
+    weighed r.flags.negative (2 ^ 31) + weighed r.flags.zero (2 ^ 30) + weighed r.flags.carry (2 ^ 29)
+    + weighed r.flags.overflow (2 ^ 28) + weighed r.flags.saturated (2 ^ 27) + r.it % 4 * 2 ^ 25
+    + weighed r.thumb (2 ^ 24) + r.it / 4 * 2 ^ 10 + r.exception
+
+-- CONTROL: nPRIV and SPSEL
+abbrev pub control : Registers → ℕ
+control r = weighed r.unprivileged 1 + weighed r.process_stack 2
+
+-- the registers after a reset, from the first two entries of the vector table: MSP, and PC with T as its bit 0; those
+-- that TakeReset() leaves UNKNOWN are 0 (profile)
+abbrev pub reset_registers : ℕ → ℕ → Registers
+reset_registers stack entry = record {
+  general = replicate 13 0;
+  msp = stack / 4 * 4;
+  psp = 0;
+  lr = 0xFFFF_FFFF;
+  pc = entry / 2 * 2;
+  flags = record { negative = false; zero = false; carry = false; overflow = false; saturated = false };
+  it = 0;
+  thumb = is_bit entry 0;
+  exception = 0;
+  unprivileged = false;
+  process_stack = false;
+}

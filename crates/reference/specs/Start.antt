@@ -1,0 +1,48 @@
+-- The state in which a machine starts (ARM DDI 0403, TakeReset()). What flash and RAM hold where no segment goes, and the
+-- registers that TakeReset() leaves UNKNOWN, are the profile's.
+use Rattle.std.specs.Prelude.{ℕ, ◌+◌, ◌*◌, Bool, true, ◌&&◌, ◌||◌, if◌then◌else◌, List, [], ◌∷◌, length, replicate, None, Result, Ok, Err, unwrap_or}
+use Rattle.reference.specs.declared.board.Board.{Board}
+use Rattle.reference.specs.declared.fault.StartFault.{StartFault}
+use Rattle.reference.specs.declared.fault.StartFault.TheVariants.{SegmentOutsideMemory}
+use Rattle.reference.specs.Images.{Segment}
+use Rattle.reference.specs.Memory.{Memory, is_in_flash, is_in_ram, overwritten, number_at}
+use Rattle.reference.specs.Registers.{reset_registers}
+use Rattle.reference.specs.State.{State}
+
+-- flash is 0xFF and RAM is 0 where nothing was loaded
+abbrev pub blank : Board → Memory
+blank board = record {
+  flash_base = board.flash_base;
+  flash = replicate board.flash_size 0xFF;
+  ram = replicate board.ram_size 0;
+}
+
+-- whether a segment lies wholly in flash or wholly in RAM
+abbrev pub is_placed : Memory → Segment → Bool
+is_placed m s = is_in_flash m s.address (length s.bytes) || is_in_ram m s.address (length s.bytes)
+
+-- memory with the segments in it, in their order
+abbrev pub loaded : Memory → List Segment → Memory
+loaded m [] = m
+loaded m (s ∷ segments) = loaded (overwritten m s.address s.bytes) segments
+
+abbrev pub are_placed : Memory → List Segment → Bool
+are_placed m [] = true
+are_placed m (s ∷ segments) = is_placed m s && are_placed m segments
+
+-- an entry of the vector table, which stands at the beginning of flash
+abbrev pub vector : Memory → ℕ → ℕ
+vector m number = unwrap_or (number_at m (m.flash_base + 4 * number) 4) 0
+
+-- the first entry is the main stack pointer, the second is where the first instruction stands
+abbrev pub reset : Memory → State
+reset m = record {
+  registers = reset_registers (vector m 0) (vector m 1);
+  bus = record { memory = m; clock = record { ticks = 0 } };
+  stop = None;
+}
+
+-- the state before the first step, or the refusal of the image
+unfoldable pub start : Board → List Segment → Result State StartFault
+start board image =
+    if are_placed (blank board) image then Ok (reset (loaded (blank board) image)) else Err SegmentOutsideMemory

@@ -1,0 +1,130 @@
+-- The text of the trace (profile): one line for each event, and one for the stop. Each line ends with a line feed. Ticks
+-- and the numbers of exceptions and breakpoints are decimal, all other numbers hexadecimal, in upper case.
+use Rattle.std.specs.Prelude.{ℕ, ◌+◌, ◌/◌, ◌%◌, nat_lt, Bool, true, false, if◌then◌else◌, List, [], ◌∷◌, ◌++◌, codes, decimal}
+use Rattle.reference.specs.declared.access.Access.{Access}
+use Rattle.reference.specs.declared.access.Kind.{Kind}
+use Rattle.reference.specs.declared.access.Kind.TheVariants.{Fetch, Load, Store, Push, Pop, Vector}
+use Rattle.reference.specs.declared.access.Outcome.{Outcome}
+use Rattle.reference.specs.declared.access.Outcome.TheVariants.{Done, RefusedByMpu, RefusedByBus}
+use Rattle.reference.specs.declared.access.Rule.{Rule}
+use Rattle.reference.specs.declared.access.Rule.TheVariants.{NeverExecute, VectorRead, PrivatePeripheralBus, MpuOff, NegativePriority, Region, Background, NoRegion}
+use Rattle.reference.specs.declared.event.Event.{Event}
+use Rattle.reference.specs.declared.event.Happening.{Happening}
+use Rattle.reference.specs.declared.event.Happening.TheVariants.{Accessed, ConsoleByte, ReturnBegan, HandlerEntered, FaultRecorded}
+use Rattle.reference.specs.declared.event.RecordedFault.{RecordedFault}
+use Rattle.reference.specs.declared.stop.LeftOut.{LeftOut}
+use Rattle.reference.specs.declared.stop.LeftOut.TheVariants.{Unbuilt, Exclusive, ExclusiveDevice, UnalignedDevice, RegisterWidth, ActiveBit, IgnoredBusFaults, SleepOnExit, ResetControl, ClockEnd}
+use Rattle.reference.specs.declared.stop.Stop.{Stop}
+use Rattle.reference.specs.declared.stop.Stop.TheVariants.{StepLimit, Breakpoint, Lockup, Unpredictable, OutOfProfile, ResetRequested}
+use Rattle.reference.specs.declared.stop.UnpredictableCase.{UnpredictableCase}
+use Rattle.reference.specs.declared.stop.UnpredictableCase.TheVariants.{Encoding, ItBlock, EmptyList, Registers, StoredBase, Immediate, BitField, SpecialRegister, LoadPc, LiteralPc, MpuRegion, MpuControl, Icsr, ExceptionReturn, PoppedPc}
+use Rattle.reference.specs.Accesses.{bytes_in}
+
+-- the digit of a number below 16
+abbrev pub hex_digit : ℕ → ℕ
+hex_digit n = if nat_lt n 10 then 48 + n else 55 + n
+
+-- two digits
+abbrev pub hex_byte : ℕ → List ℕ
+hex_byte n = hex_digit (n / 16) ∷ hex_digit (n % 16) ∷ []
+
+-- eight digits
+abbrev pub hex_word : ℕ → List ℕ
+hex_word n = ((hex_byte (n / 0x100_0000) ++ hex_byte (n / 0x1_0000 % 256)) ++ hex_byte (n / 0x100 % 256)) ++ hex_byte (n % 256)
+
+abbrev pub line_feed : List ℕ
+line_feed = 10 ∷ []
+
+abbrev pub kind_text : Kind → List ℕ
+kind_text Fetch = codes "F"
+kind_text Load = codes "L"
+kind_text Store = codes "S"
+kind_text Push = codes "K"
+kind_text Pop = codes "U"
+kind_text Vector = codes "V"
+
+abbrev pub privilege_text : Bool → List ℕ
+privilege_text true = codes "p"
+privilege_text false = codes "u"
+
+abbrev pub outcome_text : Outcome → List ℕ
+outcome_text Done = codes "ok"
+outcome_text RefusedByMpu = codes "mpu"
+outcome_text RefusedByBus = codes "bus"
+
+abbrev pub rule_text : Rule → List ℕ
+rule_text NeverExecute = codes "xn"
+rule_text VectorRead = codes "vec"
+rule_text PrivatePeripheralBus = codes "ppb"
+rule_text MpuOff = codes "off"
+rule_text NegativePriority = codes "neg"
+rule_text (Region number) = codes "r" ++ decimal number
+rule_text Background = codes "bg"
+rule_text NoRegion = codes "none"
+
+-- kind, address, size, privilege, outcome and rule
+abbrev pub access_text : Access → List ℕ
+access_text a =
+    (((((((((kind_text a.kind ++ codes " ") ++ hex_word a.address) ++ codes " ") ++ decimal (bytes_in a.size)) ++ codes " ")
+    ++ privilege_text a.privileged) ++ codes " ") ++ outcome_text a.outcome) ++ codes " ") ++ rule_text a.rule
+
+-- the exception, CFSR and HFSR
+abbrev pub fault_text : RecordedFault → List ℕ
+fault_text f = (((decimal f.exception ++ codes " ") ++ hex_word f.cfsr) ++ codes " ") ++ hex_word f.hfsr
+
+abbrev pub happening_text : Happening → List ℕ
+happening_text (Accessed a) = access_text a
+happening_text (ConsoleByte byte) = codes "O " ++ hex_byte byte
+happening_text (ReturnBegan exc_return) = codes "R " ++ hex_word exc_return
+happening_text (HandlerEntered exception) = codes "X " ++ decimal exception
+happening_text (FaultRecorded f) = codes "! " ++ fault_text f
+
+-- the line of an event
+unfoldable pub line : Event → List ℕ
+line e = ((decimal e.tick ++ codes " ") ++ happening_text e.what) ++ line_feed
+
+-- the lines of events, one after another
+unfoldable pub lines : List Event → List ℕ
+lines [] = []
+lines (e ∷ es) = line e ++ lines es
+
+abbrev pub unpredictable_text : UnpredictableCase → List ℕ
+unpredictable_text Encoding = codes "encoding"
+unpredictable_text ItBlock = codes "it-block"
+unpredictable_text EmptyList = codes "empty-list"
+unpredictable_text Registers = codes "registers"
+unpredictable_text StoredBase = codes "stored-base"
+unpredictable_text Immediate = codes "immediate"
+unpredictable_text BitField = codes "bit-field"
+unpredictable_text SpecialRegister = codes "special-register"
+unpredictable_text LoadPc = codes "load-pc"
+unpredictable_text LiteralPc = codes "literal-pc"
+unpredictable_text MpuRegion = codes "mpu-region"
+unpredictable_text MpuControl = codes "mpu-ctrl"
+unpredictable_text Icsr = codes "icsr"
+unpredictable_text ExceptionReturn = codes "exc-return"
+unpredictable_text PoppedPc = codes "popped-pc"
+
+abbrev pub left_out_text : LeftOut → List ℕ
+left_out_text Unbuilt = codes "unbuilt"
+left_out_text Exclusive = codes "exclusive"
+left_out_text ExclusiveDevice = codes "exclusive-device"
+left_out_text UnalignedDevice = codes "unaligned-device"
+left_out_text RegisterWidth = codes "register-width"
+left_out_text ActiveBit = codes "active-bit"
+left_out_text IgnoredBusFaults = codes "bfhfnmign"
+left_out_text SleepOnExit = codes "sleeponexit"
+left_out_text ResetControl = codes "aircr"
+left_out_text ClockEnd = codes "clock-end"
+
+abbrev pub stop_text : Stop → List ℕ
+stop_text StepLimit = codes "steps"
+stop_text (Breakpoint number) = codes "breakpoint " ++ decimal number
+stop_text Lockup = codes "lockup"
+stop_text (Unpredictable why) = codes "unpredictable " ++ unpredictable_text why
+stop_text (OutOfProfile why) = codes "outofprofile " ++ left_out_text why
+stop_text ResetRequested = codes "reset"
+
+-- the line of a stop
+unfoldable pub stop_line : Stop → List ℕ
+stop_line s = (codes "stop " ++ stop_text s) ++ line_feed

@@ -1,0 +1,18 @@
+-- Words of 32 bits, as whole numbers (ARM DDI 0403, "Pseudocode definition": "Bitstrings" and "Integers").
+use Rattle.std.specs.Prelude.{ℕ, ◌+◌, ◌-◌, ◌/◌, ◌%◌, ◌^◌, Bool, nat_lt, ◌==◌, if◌then◌else◌}
+
+-- the sum of two words, whose bits above the thirty-second are lost
+abbrev pub word_sum : ℕ → ℕ → ℕ
+word_sum x y = (x + y) % 2 ^ 32
+
+-- bit k of x, as a number: x<k>
+abbrev pub bit_at : ℕ → ℕ → ℕ
+bit_at x k = x / 2 ^ k % 2
+
+-- whether bit k of x is 1
+abbrev pub is_bit : ℕ → ℕ → Bool
+is_bit x k = bit_at x k == 1
+
+-- the number of that many bits, read as signed, as a word: SignExtend(x, 32)
+abbrev pub sign_extended : ℕ → ℕ → ℕ
+sign_extended bits x = if nat_lt x (2 ^ (bits - 1)) then x else x + (2 ^ 32 - 2 ^ bits)

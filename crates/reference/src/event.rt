@@ -1,0 +1,47 @@
+//! What a step tells: the lines of the trace as data.
+
+use crate::access::Access;
+
+/// One line of the trace.
+#[derive(Clone, Copy)]
+pub struct Event {
+    /// The tick of the step, from 1.
+    pub tick: u64,
+    pub what: Happening,
+}
+
+/// What a line tells.
+#[derive(Clone, Copy)]
+pub enum Happening {
+    /// An access was decided.
+    Accessed(Access),
+    /// A byte went out to the console.
+    ConsoleByte(u8),
+    /// An exception return began, with this EXC_RETURN value.
+    ReturnBegan(u32),
+    /// The handler of the exception of this number was entered.
+    HandlerEntered(u16),
+    /// A fault was recorded.
+    FaultRecorded(RecordedFault),
+}
+
+/// A fault that was recorded, and the status registers after it.
+#[derive(Clone, Copy)]
+pub struct RecordedFault {
+    /// The Configurable Fault Status Register.
+    pub cfsr: u32,
+    /// The HardFault Status Register.
+    pub hfsr: u32,
+    /// The exception that became pending, or 0 for lockup.
+    pub exception: u16,
+}
+
+// A list of a fixed capacity is made of blank events.
+impl Default for Event {
+    fn default() -> Self {
+        Event {
+            tick: 0,
+            what: Happening::ConsoleByte(0),
+        }
+    }
+}

@@ -1,0 +1,49 @@
+//! The refusals of files and of placed values. A refusal's number is its place in its list.
+
+use crate::stop::Stop;
+use thiserror::Error;
+
+/// Why a file isn't an image that this machine takes, in the order in which a file is looked at.
+#[derive(Clone, Copy, Debug, Error)]
+pub enum LoadFault {
+    #[error("the file ends within the ELF header or the program headers")]
+    Truncated = 1,
+    #[error("the file doesn't begin with the ELF magic number")]
+    NotElf,
+    #[error("the file isn't of 32 bits, little endian")]
+    NotElf32Little,
+    #[error("the file isn't an executable")]
+    NotExecutable,
+    #[error("the file isn't for ARM")]
+    NotArm,
+    #[error("a program header doesn't have 32 bytes")]
+    HeaderSize,
+    #[error("a segment reaches past the end of the file")]
+    SegmentOutsideFile,
+    #[error("two segments share an address")]
+    SegmentOverlap,
+    #[error("there are too many program headers")]
+    TooManySegments,
+}
+
+/// Why a machine doesn't start.
+#[derive(Clone, Copy, Debug, Error)]
+pub enum StartFault {
+    #[error("a segment is neither wholly in flash nor wholly in RAM")]
+    SegmentOutsideMemory = 10,
+    #[error("no memory was found for the machine")]
+    NoMemory,
+}
+
+/// Why a value isn't placed.
+#[derive(Clone, Copy)]
+pub enum PlaceFault {
+    /// The address of a word isn't a multiple of 4.
+    NotAligned,
+    /// There is no such register or address.
+    NoSuchPlace,
+    /// The machine has stopped, or is in Handler mode.
+    Stopped,
+    /// The machine would stop so if it were placed.
+    Refused(Stop),
+}

@@ -1,0 +1,12 @@
+//! The words that the definitions and the code share. The definitions of the reference machine
+//! stand in `specs/`, one file a chapter; docs/REFERENCE.md says in which order to read them.
+#![tactic(auto)]
+
+pub mod access;
+pub mod board;
+pub mod event;
+pub mod fault;
+pub mod instruction;
+pub mod place;
+pub mod registers;
+pub mod stop;

@@ -1,0 +1,59 @@
+//! The words for the core registers.
+
+ghost use Rattle.std.specs.Prelude.{◌≡◌, ◌<◌};
+
+use std::marker::Model;
+
+/// The number of a core register, from 0 to 15: 13 is SP, 14 is LR, 15 is PC.
+#[derive(Clone, Copy)]
+pub struct Register {
+    number: u8,
+}
+
+impl Model for Register {
+    ghost use Rattle.std.specs.Prelude.{ℕ, ◌<◌};
+
+    ghost Value = { ℕ };
+
+    ghost view = { λ r. r.number };
+
+    ghost invariant = { λ r. r.number < 16 };
+
+    ghost inverse = { λ n. record { number = n } };
+}
+
+impl Register {
+    /// The program counter.
+    pub const PC: Register = Register { number: 15 };
+
+    /// The register of this number.
+    pub const fn new(number: u8) -> Self
+        requires { number < 16 }
+        ensures { result ≡ number }
+    {
+        Register { number }
+    }
+
+    /// Its number, from 0 to 15.
+    pub fn number(self) -> u8
+        ensures value { result ≡ self }
+        ensures small { result < 16 }
+    {
+        self.number
+    }
+}
+
+/// The flags of the Application Program Status Register.
+#[derive(Clone, Copy)]
+pub struct Flags {
+    /// N: the result, read as signed, is negative.
+    pub negative: bool,
+    /// Z: the result is 0.
+    pub zero: bool,
+    /// C: the sum isn't the unsigned result, or the bit that was shifted out last.
+    pub carry: bool,
+    /// V: the sum isn't the signed result.
+    pub overflow: bool,
+    /// Q: a saturating instruction changed its value.
+    pub saturated: bool,
+}

@@ -1,0 +1,282 @@
+//! The core registers (ARM DDI 0403, "Registers" of the programmers' model): R0 to R12, the two
+//! stack pointers, LR, PC, and what xPSR and CONTROL hold.
+#![tactic(auto)]
+
+ghost use Rattle.std.specs.Prelude.{◌≡◌};
+ghost use Rattle.reference.specs.Registers.{register as register_of, with_register, with_pc, with_result, sp as sp_of, is_handler as is_handler_of, is_privileged as is_privileged_of, xpsr as xpsr_of, control as control_of, weighed as weighed_of, uses_psp as uses_psp_of, with_sp, reset_registers};
+ghost use Rattle.reference.specs.Words.{word_sum};
+
+pub use reference::registers::{Flags, Register};
+use std::marker::Model;
+
+#[cfg(test)]
+mod tests;
+
+/// The number of the stack pointer.
+const SP: u8 = 13;
+
+/// The number of the link register.
+const LR: u8 = 14;
+
+/// The core registers. A contract sees them as the reference's `Registers`.
+#[derive(Drop)]
+pub struct Regs {
+    general: [u32; 13],
+    msp: u32,
+    psp: u32,
+    lr: u32,
+    pc: u32,
+    flags: Flags,
+    it: u8,
+    thumb: bool,
+    exception: u16,
+    unprivileged: bool,
+    process_stack: bool,
+}
+
+impl Model for Regs {
+    ghost use Rattle.std.specs.Prelude.{◌<◌};
+    ghost use Rattle.reference.specs.Registers.{Registers};
+
+    ghost Value = { Registers };
+
+    ghost view = { λ r. record {
+      general = r.general;
+      msp = r.msp;
+      psp = r.psp;
+      lr = r.lr;
+      pc = r.pc;
+      flags = r.flags;
+      it = r.it;
+      thumb = r.thumb;
+      exception = r.exception;
+      unprivileged = r.unprivileged;
+      process_stack = r.process_stack;
+    } };
+
+    ghost invariant = { λ r. r.exception < 512 };
+}
+
+impl Regs {
+    /// The registers after `TakeReset()`, from the first two entries of the vector table.
+    pub fn reset(stack: u32, entry: u32) -> Self
+        ensures { result ≡ reset_registers stack entry }
+    {
+        Regs {
+            general: [0; 13],
+            msp: stack & !3,
+            psp: 0,
+            lr: 0xFFFF_FFFF,
+            pc: entry & !1,
+            flags: Flags {
+                negative: false,
+                zero: false,
+                carry: false,
+                overflow: false,
+                saturated: false,
+            },
+            it: 0,
+            thumb: entry & 1 == 1,
+            exception: 0,
+            unprivileged: false,
+            process_stack: false,
+        }
+    }
+
+    /// `R[n]`, where PC reads as the address of the instruction and 4 more.
+    #[inline]
+    pub fn get(&self, register: Register) -> u32
+        ensures { result ≡ register_of self.now register }
+    {
+        let number = register.number();
+        if number < SP {
+            self.general[number as usize]
+        } else if number == SP {
+            self.sp()
+        } else if number == LR {
+            self.lr
+        } else {
+            self.pc.wrapping_add(4)
+        }
+    }
+
+    /// `R[n] = value`, where a write to SP clears its bits 1:0, and one to PC branches.
+    #[inline]
+    pub fn set(&mut self, register: Register, value: u32)
+        ensures { self.new ≡ with_register self.old register value }
+    {
+        let number = register.number();
+        if number < SP {
+            self.general[number as usize] = value;
+        } else if number == SP {
+            self.set_sp(value);
+        } else if number == LR {
+            self.lr = value;
+        } else {
+            self.branch(value);
+        }
+    }
+
+    /// The stack pointer in use.
+    #[inline]
+    pub fn sp(&self) -> u32
+        ensures { result ≡ sp_of self.now }
+    {
+        if self.uses_psp() { self.psp } else { self.msp }
+    }
+
+    /// The stack pointer in use is given a value, whose bits 1:0 are cleared.
+    #[inline]
+    fn set_sp(&mut self, value: u32)
+        ensures { self.new ≡ with_sp self.old value }
+    {
+        if self.uses_psp() {
+            self.psp = value & !3;
+        } else {
+            self.msp = value & !3;
+        }
+    }
+
+    /// Whether SP is PSP: `LookUpSP()`.
+    #[inline]
+    fn uses_psp(&self) -> bool
+        ensures { result ≡ uses_psp_of self.now }
+    {
+        !self.is_handler() && self.process_stack
+    }
+
+    /// R0 to R12.
+    pub fn general(&self) -> [u32; 13]
+        ensures { result ≡ self.now.general }
+    {
+        self.general
+    }
+
+    /// The address of the next instruction.
+    #[inline]
+    pub fn pc(&self) -> u32
+        ensures { result ≡ self.now.pc }
+    {
+        self.pc
+    }
+
+    /// `BranchWritePC(address)`.
+    #[inline]
+    pub fn branch(&mut self, address: u32)
+        ensures { self.new ≡ with_pc self.old address }
+    {
+        self.pc = address & !1;
+    }
+
+    /// Goes on to the instruction behind one of this length.
+    #[inline]
+    pub fn go_on(&mut self, length: u32)
+        ensures { self.new ≡ record self.old { pc = word_sum self.old.pc length } }
+    {
+        self.pc = self.pc.wrapping_add(length);
+    }
+
+    /// The flags of APSR.
+    #[inline]
+    pub fn flags(&self) -> Flags
+        ensures { result ≡ self.now.flags }
+    {
+        self.flags
+    }
+
+    /// N and Z are set by a result.
+    #[inline]
+    pub fn set_result(&mut self, value: u32)
+        ensures { self.new ≡ record self.old { flags = with_result self.old.flags value } }
+    {
+        self.flags.negative = value >> 31 == 1;
+        self.flags.zero = value == 0;
+    }
+
+    /// Whether a handler runs: Handler mode.
+    #[inline]
+    pub fn is_handler(&self) -> bool
+        ensures { result ≡ is_handler_of self.now }
+    {
+        self.exception != 0
+    }
+
+    /// `CurrentModeIsPrivileged()`.
+    #[inline]
+    pub fn is_privileged(&self) -> bool
+        ensures { result ≡ is_privileged_of self.now }
+    {
+        self.is_handler() || !self.unprivileged
+    }
+
+    /// EPSR.T.
+    #[inline]
+    pub fn is_thumb(&self) -> bool
+        ensures { result ≡ self.now.thumb }
+    {
+        self.thumb
+    }
+
+    /// EPSR.IT.
+    #[inline]
+    pub fn it(&self) -> u8
+        ensures { result ≡ self.now.it }
+    {
+        self.it
+    }
+
+    /// MSP, the main stack pointer.
+    #[inline]
+    pub fn main_stack(&self) -> u32
+        ensures { result ≡ self.now.msp }
+    {
+        self.msp
+    }
+
+    /// PSP, the process stack pointer.
+    #[inline]
+    pub fn process_stack(&self) -> u32
+        ensures { result ≡ self.now.psp }
+    {
+        self.psp
+    }
+
+    /// LR, the link register.
+    #[inline]
+    pub fn link(&self) -> u32
+        ensures { result ≡ self.now.lr }
+    {
+        self.lr
+    }
+
+    /// xPSR: APSR, EPSR and IPSR in one word.
+    pub fn xpsr(&self) -> u32
+        ensures { result ≡ xpsr_of self.now }
+    {
+        let conditions = weighed(self.flags.negative, 1 << 31)
+            + weighed(self.flags.zero, 1 << 30)
+            + weighed(self.flags.carry, 1 << 29)
+            + weighed(self.flags.overflow, 1 << 28)
+            + weighed(self.flags.saturated, 1 << 27);
+        let it = self.it as u32;
+        conditions
+            + (it % 4 << 25)
+            + weighed(self.thumb, 1 << 24)
+            + (it / 4 << 10)
+            + self.exception as u32
+    }
+
+    /// CONTROL: nPRIV and SPSEL.
+    pub fn control(&self) -> u32
+        ensures { result ≡ control_of self.now }
+    {
+        weighed(self.unprivileged, 1) + weighed(self.process_stack, 2)
+    }
+}
+
+/// What a bit of this weight adds to a word.
+fn weighed(bit: bool, weight: u32) -> u32
+    ensures { result ≡ weighed_of bit weight }
+{
+    if bit { weight } else { 0 }
+}

@@ -1,0 +1,4 @@
+pub mod Pairs
+pub mod Parts
+pub mod Lists
+pub mod Ticks

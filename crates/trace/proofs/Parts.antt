@@ -1,0 +1,32 @@
+-- The parts of a line, put together.
+use Rattle.std.proofs.Common.{◌≡◌, ℕ, ◌+◌, ◌<◌, ◌≤◌, List, ◌++◌, length, drop, get_or, append_assoc, add-one, drop-cons}
+use Rattle.std.proofs.lemmas.List.{drop_all, append-nil}
+use Rattle.std.specs.Fmt.{decimal}
+use Rattle.std.specs.Prelude.{codes}
+use Rattle.reference.specs.declared.access.Access.{Access}
+use Rattle.reference.specs.declared.event.Event.{Event}
+use Rattle.reference.specs.declared.event.Happening.TheVariants.{Accessed}
+use Rattle.reference.specs.Text.{line, lines, line_feed, outcome_text, rule_text}
+use Rattle.trace.specs.Tails.{access_head, tail}
+
+-- a line is its tick and its tail
+pub tick_and_tail : (page : List ℕ) (e : Event) → (page ++ decimal e.tick) ++ tail e.what ≡ page ++ line e
+unfolding line tail
+tick_and_tail page e = simp append_assoc
+
+-- the tail of an access is its head, its outcome and its rule
+pub head_and_rule : (page : List ℕ) (a : Access) →
+    ((page ++ access_head a) ++ (outcome_text a.outcome ++ codes " ")) ++ (rule_text a.rule ++ line_feed) ≡ page ++ tail (Accessed a)
+unfolding access_head tail
+head_and_rule page a = simp append_assoc
+
+-- one more line is on the page, and one fewer is to come
+pub one_line : (page : List ℕ) (events : List Event) (i : ℕ) (d : Event) → i < length events →
+    (page ++ line (get_or events i d)) ++ lines (drop (i + 1) events) ≡ page ++ lines (drop i events)
+unfolding lines
+one_line page events i d h = rw (add-one, drop-cons events i d, append_assoc)
+
+-- past the last event no line is to come
+pub no_line : (page : List ℕ) (events : List Event) (i : ℕ) → length events ≤ i → page ++ lines (drop i events) ≡ page
+unfolding lines
+no_line page events i h = rw (drop_all i events h, append-nil)

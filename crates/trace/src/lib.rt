@@ -1,0 +1,10 @@
+//! The text of the trace: the lines of events and of stops, appended to a page.
+#![tactic(auto)]
+
+mod hex;
+pub mod lines;
+pub mod page;
+#[cfg(test)]
+mod tests;
+pub mod tick;
+mod words;

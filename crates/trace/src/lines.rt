@@ -1,0 +1,256 @@
+//! The lines of events and of stops.
+
+ghost use Rattle.std.specs.Prelude.{◌≡◌, ◌+◌, ◌*◌, ◌≤◌, ◌++◌, length, codes, decimal};
+ghost use Rattle.reference.specs.declared.event.Happening.TheVariants.{Accessed, ConsoleByte, ReturnBegan, HandlerEntered, FaultRecorded};
+ghost use Rattle.reference.specs.Text.{line, lines, stop_line as line_of_stop, stop_text, outcome_text, rule_text, line_feed};
+ghost use Rattle.trace.specs.Tails.{access_head, tail};
+
+use crate::hex;
+use crate::page::Page;
+use crate::tick::Tick;
+use crate::words::{kind_letter, left_out_word, privilege_letter, size_digit, unpredictable_word};
+use reference::access::{Access, Outcome, Rule};
+use reference::event::{Event, Happening, RecordedFault};
+use reference::stop::Stop;
+
+/// The most bytes behind the tick of a line. A tick takes 21 bytes at most, so a line takes 64.
+const TAIL_ROOM: usize = 43;
+
+/// The most bytes of a rule and the line feed behind it.
+const RULE_ROOM: usize = 22;
+
+/// The most bytes between `stop ` and the line feed.
+const STOP_ROOM: usize = 40;
+
+/// The text of one line, at most 64 bytes.
+pub type Text = Page<64>;
+
+/// The line of an event.
+pub fn event_line(event: &Event) -> Text
+    ensures { result ≡ line event.now }
+{
+    let mut text = Page::new();
+    text.put_event(&mut Tick::new(), event);
+    text
+}
+
+/// The line of a stop.
+pub fn stop_line(stop: &Stop) -> Text
+    ensures { result ≡ line_of_stop stop.now }
+{
+    let mut text = Page::new();
+    text.put_stop(stop);
+    text
+}
+
+impl<const ROOM: usize> Page<ROOM> {
+    /// Appends the lines of events, one after another.
+    #[inline(always)]
+    #[tactic(auto, using(crate::proofs::Parts::one_line, crate::proofs::Parts::no_line))]
+    pub fn put_events(&mut self, tick: &mut Tick, events: &[Event])
+        requires { length self.old + 64 * length events.now ≤ ROOM }
+        ensures text { self.new ≡ self.old ++ lines events.now }
+        ensures short { length self.new ≤ length self.old + 64 * length events.now }
+    {
+        for event in events {
+            self.put_event(tick, event);
+        }
+    }
+
+    /// Appends the line of an event. The digits of its tick are counted on from those in `tick`.
+    #[inline(always)]
+    #[tactic(auto, using(crate::proofs::Parts::tick_and_tail))]
+    pub fn put_event(&mut self, tick: &mut Tick, event: &Event)
+        requires { length self.old + 64 ≤ ROOM }
+        ensures text { self.new ≡ self.old ++ line event.now }
+        ensures short { length self.new ≤ length self.old + 64 }
+    {
+        tick.set(event.tick);
+        tick.put_on(self);
+        self.put_tail(&event.what);
+    }
+
+    /// Appends the line of a stop.
+    #[tactic(auto, unfolding(reference::specs::Text::stop_line))]
+    pub fn put_stop(&mut self, stop: &Stop)
+        requires { length self.old + 64 ≤ ROOM }
+        ensures text { self.new ≡ self.old ++ line_of_stop stop.now }
+        ensures short { length self.new ≤ length self.old + 64 }
+    {
+        self.put(b"stop ");
+        self.put_stop_text(stop);
+        self.put(b"\n");
+    }
+
+    /// Appends what a stop's line says of it.
+    fn put_stop_text(&mut self, stop: &Stop)
+        requires { length self.old + STOP_ROOM ≤ ROOM }
+        ensures text { self.new ≡ self.old ++ stop_text stop.now }
+        ensures short { length self.new ≤ length self.old + STOP_ROOM }
+    {
+        match stop {
+            Stop::StepLimit => self.put(b"steps"),
+            Stop::Breakpoint(number) => {
+                self.put(b"breakpoint ");
+                self.put_decimal(*number as u64);
+            }
+            Stop::Lockup => self.put(b"lockup"),
+            Stop::Unpredictable(case) => {
+                self.put(b"unpredictable ");
+                self.put_slice(unpredictable_word(*case));
+            }
+            Stop::OutOfProfile(case) => {
+                self.put(b"outofprofile ");
+                self.put_slice(left_out_word(*case));
+            }
+            Stop::ResetRequested => self.put(b"reset"),
+        }
+    }
+
+    /// Appends all of a line but its tick.
+    #[inline(always)]
+    fn put_tail(&mut self, what: &Happening)
+        requires { length self.old + TAIL_ROOM ≤ ROOM }
+        ensures text { self.new ≡ self.old ++ tail what.now }
+        ensures short { length self.new ≤ length self.old + TAIL_ROOM }
+    {
+        match what {
+            Happening::Accessed(access) => self.put_access(access),
+            Happening::ConsoleByte(byte) => self.put_console_byte(*byte),
+            Happening::ReturnBegan(exc_return) => self.put_return(*exc_return),
+            Happening::HandlerEntered(exception) => self.put_handler(*exception),
+            Happening::FaultRecorded(fault) => self.put_fault(fault),
+        }
+    }
+
+    /// Appends the line of an access but for its tick. Most lines are of this kind.
+    #[inline(always)]
+    #[tactic(auto, using(crate::proofs::Parts::head_and_rule))]
+    fn put_access(&mut self, access: &Access)
+        requires { length self.old + TAIL_ROOM ≤ ROOM }
+        ensures text { self.new ≡ self.old ++ tail (Accessed access.now) }
+        ensures short { length self.new ≤ length self.old + TAIL_ROOM }
+    {
+        self.put(&head_of(access));
+        self.put_outcome(access.outcome);
+        self.put_rule(access.rule);
+    }
+
+    /// Appends an outcome and a space.
+    #[inline(always)]
+    fn put_outcome(&mut self, outcome: Outcome)
+        requires { length self.old + 4 ≤ ROOM }
+        ensures text { self.new ≡ self.old ++ (outcome_text outcome ++ codes " ") }
+        ensures short { length self.new ≤ length self.old + 4 }
+    {
+        match outcome {
+            Outcome::Done => self.put(b"ok "),
+            Outcome::RefusedByMpu => self.put(b"mpu "),
+            Outcome::RefusedByBus => self.put(b"bus "),
+        }
+    }
+
+    /// Appends a rule and a line feed.
+    #[inline(always)]
+    fn put_rule(&mut self, rule: Rule)
+        requires { length self.old + RULE_ROOM ≤ ROOM }
+        ensures text { self.new ≡ self.old ++ (rule_text rule ++ line_feed) }
+        ensures short { length self.new ≤ length self.old + RULE_ROOM }
+    {
+        match rule {
+            Rule::NeverExecute => self.put(b"xn\n"),
+            Rule::VectorRead => self.put(b"vec\n"),
+            Rule::PrivatePeripheralBus => self.put(b"ppb\n"),
+            Rule::MpuOff => self.put(b"off\n"),
+            Rule::NegativePriority => self.put(b"neg\n"),
+            Rule::Region(number) => self.put_region(number),
+            Rule::Background => self.put(b"bg\n"),
+            Rule::NoRegion => self.put(b"none\n"),
+        }
+    }
+
+    /// Appends a region's number and a line feed.
+    #[inline(always)]
+    #[tactic(auto, using(std::proofs::lemmas::Fmt::decimal_digit))]
+    fn put_region(&mut self, number: u8)
+        requires { length self.old + RULE_ROOM ≤ ROOM }
+        ensures text { self.new ≡ self.old ++ ((codes "r" ++ decimal number) ++ line_feed) }
+        ensures short { length self.new ≤ length self.old + RULE_ROOM }
+    {
+        if number < 10 {
+            self.put(&[b'r', b'0' + number, b'\n']);
+        } else {
+            self.put(b"r");
+            self.put_decimal(number as u64);
+            self.put(b"\n");
+        }
+    }
+
+    /// Appends the line of a byte that went out, but for its tick.
+    #[tactic(auto, unfolding(crate::specs::Tails::tail))]
+    fn put_console_byte(&mut self, byte: u8)
+        requires { length self.old + TAIL_ROOM ≤ ROOM }
+        ensures text { self.new ≡ self.old ++ tail (ConsoleByte byte) }
+        ensures short { length self.new ≤ length self.old + TAIL_ROOM }
+    {
+        self.put(b" O ");
+        self.put(&hex::pair(byte));
+        self.put(b"\n");
+    }
+
+    /// Appends the line of an exception return, but for its tick.
+    #[tactic(auto, unfolding(crate::specs::Tails::tail))]
+    fn put_return(&mut self, exc_return: u32)
+        requires { length self.old + TAIL_ROOM ≤ ROOM }
+        ensures text { self.new ≡ self.old ++ tail (ReturnBegan exc_return) }
+        ensures short { length self.new ≤ length self.old + TAIL_ROOM }
+    {
+        self.put(b" R ");
+        self.put(&hex::word(exc_return));
+        self.put(b"\n");
+    }
+
+    /// Appends the line of a handler's entry, but for its tick.
+    #[tactic(auto, unfolding(crate::specs::Tails::tail))]
+    fn put_handler(&mut self, exception: u16)
+        requires { length self.old + TAIL_ROOM ≤ ROOM }
+        ensures text { self.new ≡ self.old ++ tail (HandlerEntered exception) }
+        ensures short { length self.new ≤ length self.old + TAIL_ROOM }
+    {
+        self.put(b" X ");
+        self.put_decimal(exception as u64);
+        self.put(b"\n");
+    }
+
+    /// Appends the line of a recorded fault, but for its tick.
+    #[tactic(auto, unfolding(crate::specs::Tails::tail))]
+    fn put_fault(&mut self, fault: &RecordedFault)
+        requires { length self.old + TAIL_ROOM ≤ ROOM }
+        ensures text { self.new ≡ self.old ++ tail (FaultRecorded fault.now) }
+        ensures short { length self.new ≤ length self.old + TAIL_ROOM }
+    {
+        self.put(b" ! ");
+        self.put_decimal(fault.exception as u64);
+        self.put(b" ");
+        self.put(&hex::word(fault.cfsr));
+        self.put(b" ");
+        self.put(&hex::word(fault.hfsr));
+        self.put(b"\n");
+    }
+}
+
+/// What has the same length in the line of each access, from the space behind the tick to the one
+/// before the outcome.
+#[inline(always)]
+fn head_of(access: &Access) -> [u8; 16]
+    ensures { result ≡ access_head access.now }
+{
+    let kind = kind_letter(access.kind);
+    let a = hex::word(access.address);
+    let size = size_digit(access.size);
+    let privilege = privilege_letter(access.privileged);
+    [
+        b' ', kind, b' ', a[0], a[1], a[2], a[3], a[4], a[5], a[6], a[7], b' ', size, b' ',
+        privilege, b' ',
+    ]
+}

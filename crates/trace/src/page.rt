@@ -1,0 +1,119 @@
+//! A page: text of a bounded length, to which lines are appended.
+
+ghost use Rattle.std.specs.Prelude.{◌≡◌, ◌+◌, ◌≤◌, ◌↔◌, [], ◌++◌, length, take, IsTrue};
+ghost use Rattle.std.specs.Fmt.{decimal};
+
+use itoa::Buffer;
+use std::marker::Model;
+
+/// Text of at most `ROOM` bytes. It is kept in place, so to clear it and fill it again costs no
+/// memory.
+#[derive(Drop)]
+pub struct Page<const ROOM: usize> {
+    bytes: [u8; ROOM],
+    /// How many of the bytes are text, at most `ROOM`.
+    len: usize,
+}
+
+impl<const ROOM: usize> Model for Page<ROOM> {
+    ghost use Rattle.std.specs.Prelude.{ℕ, ◌≤◌, List, take};
+
+    ghost Value = { List ℕ };
+
+    ghost view = { λ p. take p.len p.bytes };
+
+    ghost invariant = { λ p. p.len ≤ ROOM };
+}
+
+impl<const ROOM: usize> Page<ROOM> {
+    /// A page with no text.
+    pub fn new() -> Self
+        ensures { result ≡ [] }
+    {
+        Page {
+            bytes: [0; ROOM],
+            len: 0,
+        }
+    }
+
+    /// Takes all text off the page.
+    #[inline(always)]
+    pub fn clear(&mut self)
+        ensures { self.new ≡ [] }
+    {
+        self.len = 0;
+    }
+
+    /// How many bytes of text there are.
+    #[inline(always)]
+    pub fn len(&self) -> usize
+        ensures count { result ≡ length self.now }
+        ensures within { result ≤ ROOM }
+    {
+        self.len
+    }
+
+    /// Whether there is no text.
+    #[inline(always)]
+    pub fn is_empty(&self) -> bool
+        ensures { IsTrue result ↔ self.now ≡ [] }
+    {
+        self.len == 0
+    }
+
+    /// The text.
+    #[inline(always)]
+    pub fn as_slice(&self) -> &[u8]
+        ensures { result.now ≡ self.now }
+    {
+        &self.bytes[..self.len]
+    }
+
+    /// Appends bytes whose number is known when the program is built, so that a few stores do it.
+    #[inline(always)]
+    pub(crate) fn put<const COUNT: usize>(&mut self, text: &[u8; COUNT])
+        requires { length self.old + COUNT ≤ ROOM }
+        ensures { self.new ≡ self.old ++ text.now }
+    {
+        let at = self.len;
+        let bytes = &mut self.bytes[..];
+        bytes[at..at + COUNT].copy_from_slice(text);
+        self.len = at + COUNT;
+    }
+
+    /// Appends the first `count` of these bytes. All of them are copied, since a copy of a length
+    /// that is known when the program is built is the faster one; so all of them need room.
+    #[inline(always)]
+    #[tactic(auto, using(crate::proofs::Lists::put_some))]
+    pub(crate) fn put_some<const COUNT: usize>(&mut self, text: &[u8; COUNT], count: usize)
+        requires within { count ≤ COUNT }
+        requires room { length self.old + COUNT ≤ ROOM }
+        ensures { self.new ≡ self.old ++ take count text.now }
+    {
+        let at = self.len;
+        let bytes = &mut self.bytes[..];
+        bytes[at..at + COUNT].copy_from_slice(text);
+        self.len = at + count;
+    }
+
+    /// Appends bytes.
+    pub(crate) fn put_slice(&mut self, text: &[u8])
+        requires { length self.old + length text.now ≤ ROOM }
+        ensures { self.new ≡ self.old ++ text.now }
+    {
+        let at = self.len;
+        let bytes = &mut self.bytes[..];
+        bytes[at..at + text.len()].copy_from_slice(text);
+        self.len = at + text.len();
+    }
+
+    /// Appends a number in decimal.
+    pub(crate) fn put_decimal(&mut self, number: u64)
+        requires { length self.old + 20 ≤ ROOM }
+        ensures text { self.new ≡ self.old ++ decimal number }
+        ensures short { length self.new ≤ length self.old + 20 }
+    {
+        let mut buffer = Buffer::new();
+        self.put_slice(buffer.format(number).as_bytes());
+    }
+}
