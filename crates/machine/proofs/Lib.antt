@@ -1,4 +1,5 @@
 mod Blocks
+mod Gathering
 mod Loading
 mod Running
 mod Sending

@@ -5,6 +5,7 @@ mod bus;
 mod decide;
 mod operations;
 pub mod output;
+pub mod paged;
 mod placing;
 pub mod readers;
 mod run;
@@ -14,6 +15,7 @@ mod stepping;
 mod whole;
 
 pub use output::{IoFault, Out, Over};
+pub use paged::Paged;
 pub use readers::RegValues;
 pub use reference::board::{Board, SMALL_BOARD};
 pub use reference::event::Event;

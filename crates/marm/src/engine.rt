@@ -1,0 +1,47 @@
+//! A run from the bytes of an image to the bytes of a trace.
+
+ghost use Rattle.std.specs.Prelude.{◌≡◌, ◌^◌, ◌≤◌};
+ghost use Rattle.marm.specs.Statuses.{IsSmall, GoesTo, Executes};
+ghost use Rattle.reference.specs.declared.board.Board.{Board};
+ghost use Rattle.reference.specs.Images.{image_of};
+
+use crate::fault::{Fault, stop_status, tell};
+use elf::load;
+use machine::{Board, Machine, Out, Over, Paged, SMALL_BOARD, Stop};
+use std::alloc::Global;
+use std::io::Write;
+use std::marker::Brand;
+use std::sync::ledger::{Blank, Ledger};
+
+/// Runs an image for at most `steps` steps (at most 2^32) and writes its trace to `out`, or why there
+/// is none to `err`. Answers the exit status: 0 where the steps were made or a breakpoint was met, 3
+/// for a refused image, 4 for another stop, 5 where `out` failed.
+pub fn go<W: Write + Drop, E: Write>(alloc: Global, image: &[u8], steps: u64, out: W, err: &mut E) -> u8
+    requires { steps ≤ 2 ^ 32 }
+    ensures { (board : Board) → IsSmall board → GoesTo board (image_of image.now) steps result }
+{
+    match execute::<W, Brand>(alloc, image, &SMALL_BOARD, steps, out, Blank::new(1)) {
+        Ok(stop) => stop_status(stop),
+        Err(fault) => tell(fault, err),
+    }
+}
+
+/// Runs an image and writes its trace. `blank` counts the calls of `out` that fail.
+fn execute<W: Write + Drop, K: Ledger>(alloc: Global, image: &[u8], board: &Board, steps: u64, out: W, blank: Blank) -> Result<Stop, Fault>
+    requires few { steps ≤ 2 ^ 32 }
+    requires name { blank.name ≡ K.name }
+    requires parts { blank.parts ≡ K.parts }
+    requires some { blank.parts ≡ 1 }
+    ensures { Executes board.now (image_of image.now) steps result }
+{
+    let image = load(image).map_err(Fault::Load)?;
+    let mut machine = Machine::new(alloc, &image, board).map_err(Fault::Start)?;
+    let mut out: Paged<Over<W, K>> = Paged::new(Over::new(out, blank));
+    match machine.run(steps, &mut out) {
+        Ok(stop) => match out.flush() {
+            Ok(()) => Ok(stop),
+            Err(_) => Err(Fault::Io),
+        },
+        Err(_) => Err(Fault::Io),
+    }
+}

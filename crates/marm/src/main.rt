@@ -1,0 +1,31 @@
+//! The program `marm`: it runs an image and writes the trace to standard output.
+#![tactic(auto)]
+
+pub mod engine;
+mod fault;
+mod files;
+mod words;
+#[cfg(test)]
+mod tests;
+
+use engine::go;
+use fault::{Fault, tell};
+use std::io;
+use std::process::ExitCode;
+use words::{Request, read_words};
+
+fn main(rt: HostRuntime) -> ExitCode {
+    let status = match run(&rt) {
+        Ok(status) => status,
+        Err(fault) => tell(fault, &mut rt.stderr()),
+    };
+    ExitCode::from(status)
+}
+
+/// Reads the words and the image file, and runs the image.
+fn run(rt: &HostRuntime) -> Result<u8, Fault> {
+    let words = files::words(rt)?;
+    let Request { steps, image } = read_words(rt.alloc(), words.as_slice())?;
+    let bytes = files::read_image(rt, image)?;
+    Ok(go(rt.alloc(), bytes.as_slice(), steps, io::writer(rt), &mut rt.stderr()))
+}
