@@ -70,7 +70,7 @@ impl Bus {
     }
 
     /// One access: the rule decides, then memory answers.
-    #[inline]
+    #[inline(always)]
     #[tactic(auto, unfolding(reference::specs::Accesses::perform))]
     pub fn perform(&mut self, request: &Request) -> Performed
         ensures bus { self.new ≡ (perform self.old request.now).bus }
