@@ -12,6 +12,8 @@ mod run;
 mod space;
 mod start;
 mod stepping;
+#[cfg(test)]
+mod tests;
 mod whole;
 
 pub use output::{IoFault, Out, Over};

@@ -1,8 +1,8 @@
 -- How a run's status follows from its end.
-use Rattle.std.proofs.Common.{◌≡◌, ◌⊎◌, inl, inr, ℕ, List, Result, Ok, Err, refl, ◌∙◌, ap}
+use Rattle.std.proofs.Common.{◌≡◌, inl, inr, ℕ, List, Result, Ok, Err, refl, ◌∙◌, ap}
 use Rattle.marm.specs.declared.fault.Fault.{Fault}
 use Rattle.marm.specs.declared.fault.Fault.TheVariants.{Load, Start}
-use Rattle.marm.specs.Statuses.{GoesTo, Executes, Ends, EndsWith, IsSmall, stop_status, fault_status}
+use Rattle.marm.specs.Statuses.{GoesTo, Executes, Ends, EndsWith, stop_status, fault_status}
 use Rattle.reference.specs.declared.board.Board.{Board}
 use Rattle.reference.specs.declared.fault.LoadFault.{LoadFault}
 use Rattle.reference.specs.declared.fault.StartFault.{StartFault}

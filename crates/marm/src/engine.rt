@@ -16,7 +16,13 @@ use std::sync::ledger::{Blank, Ledger};
 /// Runs an image for at most `steps` steps (at most 2^32) and writes its trace to `out`, or why there
 /// is none to `err`. Answers the exit status: 0 where the steps were made or a breakpoint was met, 3
 /// for a refused image, 4 for another stop, 5 where `out` failed.
-pub fn go<W: Write + Drop, E: Write>(alloc: Global, image: &[u8], steps: u64, out: W, err: &mut E) -> u8
+pub fn go<W: Write + Drop, E: Write>(
+    alloc: Global,
+    image: &[u8],
+    steps: u64,
+    out: W,
+    err: &mut E,
+) -> u8
     requires { steps ≤ 2 ^ 32 }
     ensures { (board : Board) → IsSmall board → GoesTo board (image_of image.now) steps result }
 {
@@ -27,7 +33,14 @@ pub fn go<W: Write + Drop, E: Write>(alloc: Global, image: &[u8], steps: u64, ou
 }
 
 /// Runs an image and writes its trace. `blank` counts the calls of `out` that fail.
-fn execute<W: Write + Drop, K: Ledger>(alloc: Global, image: &[u8], board: &Board, steps: u64, out: W, blank: Blank) -> Result<Stop, Fault>
+fn execute<W: Write + Drop, K: Ledger>(
+    alloc: Global,
+    image: &[u8],
+    board: &Board,
+    steps: u64,
+    out: W,
+    blank: Blank,
+) -> Result<Stop, Fault>
     requires few { steps ≤ 2 ^ 32 }
     requires name { blank.name ≡ K.name }
     requires parts { blank.parts ≡ K.parts }

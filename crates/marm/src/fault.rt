@@ -3,8 +3,8 @@
 ghost use Rattle.std.specs.Prelude.{◌≡◌};
 ghost use Rattle.marm.specs.Statuses.{fault_status, stop_status};
 
-use machine::{StartFault, Stop};
 use elf::LoadFault;
+use machine::{StartFault, Stop};
 use std::io::Write;
 
 /// Why the program doesn't end with a stop.

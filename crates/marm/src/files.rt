@@ -1,10 +1,11 @@
 //! The words after the program's name, and the files that they name.
 
+ghost use Rattle.std.specs.Prelude.{◌≤◌, IfOk, vec_len};
+
 use crate::fault::Fault;
-use std::env;
-use std::fs;
 use std::io::Read;
 use std::rt::{Env, Files};
+use std::{env, fs};
 
 /// How many bytes a file may have: 16 MiB.
 const LIMIT: u64 = 0x100_0000;
@@ -24,7 +25,9 @@ pub fn words<R: Env + AllocGlobal>(rt: &R) -> Result<Vec<String>, Fault> {
 }
 
 /// The bytes of an image file, of which there are at most 16 MiB.
-pub fn read_image<R: Files + AllocGlobal>(rt: &R, path: &str) -> Result<Vec<u8>, Fault> {
+pub fn read_image<R: Files + AllocGlobal>(rt: &R, path: &str) -> Result<Vec<u8>, Fault>
+    ensures { IfOk result (λ bytes. vec_len bytes ≤ 0x100_0000) }
+{
     let mut bytes = Vec::new(rt.alloc());
     let Ok(file) = fs::open(rt, path) else {
         return Err(Fault::Io);

@@ -4,9 +4,9 @@
 pub mod engine;
 mod fault;
 mod files;
-mod words;
 #[cfg(test)]
 mod tests;
+mod words;
 
 use engine::go;
 use fault::{Fault, tell};
@@ -27,5 +27,11 @@ fn run(rt: &HostRuntime) -> Result<u8, Fault> {
     let words = files::words(rt)?;
     let Request { steps, image } = read_words(rt.alloc(), words.as_slice())?;
     let bytes = files::read_image(rt, image)?;
-    Ok(go(rt.alloc(), bytes.as_slice(), steps, io::writer(rt), &mut rt.stderr()))
+    Ok(go(
+        rt.alloc(),
+        bytes.as_slice(),
+        steps,
+        io::writer(rt),
+        &mut rt.stderr(),
+    ))
 }

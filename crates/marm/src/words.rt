@@ -54,7 +54,9 @@ fn fault_of(error: &Error) -> Fault {
 fn marm<'a>(alloc: Global) -> Result<Command<'a>, AllocError> {
     let run = Command::new(alloc, "run").arg(steps(alloc))?;
     let run = run.arg(image(alloc))?;
-    Command::new(alloc, "marm").subcommand_required(true).subcommand(run)
+    Command::new(alloc, "marm")
+        .subcommand_required(true)
+        .subcommand(run)
 }
 
 /// `--steps N`, from 0 to 4294967296.
