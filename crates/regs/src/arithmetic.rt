@@ -1,9 +1,10 @@
 //! Sums, shifts and modified immediates (ARM DDI 0403: `AddWithCarry()`, `Shift_C()`,
 //! `DecodeImmShift()` and `ThumbExpandImm_C()`).
 
-ghost use Rattle.std.specs.Prelude.{◌≡◌, ◌<◌, ◌&&◌, not};
-ghost use Rattle.reference.specs.Arithmetic.{add_with_carry as sum_of, shift_c as shift_of, lsl_c as lsl_of, lsr_c as lsr_of, asr_c as asr_of, ror_c as ror_of, rrx_c as rrx_of, turned as turned_of, decode_imm_shift as decoded_shift, replicated as replicated_of, expand_imm as expanded, same};
+ghost use Rattle.std.specs.Prelude.{◌≡◌, ◌<◌, not};
+ghost use Rattle.reference.specs.Arithmetic.{add_with_carry as sum_of, unsigned_sum as unsigned_sum_of, sum_result, signed_sum, signed, shift_c as shift_of, lsl_c as lsl_of, lsr_c as lsr_of, asr_c as asr_of, ror_c as ror_of, rrx_c as rrx_of, turned as turned_of, decode_imm_shift as decoded_shift, replicated as replicated_of, expand_imm as expanded};
 ghost use Rattle.reference.specs.Words.{is_bit};
+ghost use Rattle.std.specs.Ordering.{int_eq};
 
 pub use reference::shift::{Shift, ShiftType};
 
@@ -11,22 +12,30 @@ pub use reference::shift::{Shift, ShiftType};
 /// result (the carry out), and whether the signed sum isn't the result read as signed (the
 /// overflow).
 #[inline]
-#[tactic(auto, using(crate::proofs::Sums::signs_of_sum))]
 pub fn add_with_carry(x: u32, y: u32, carry: bool) -> (u32, bool, bool)
     ensures { result ≡ sum_of x y carry }
 {
-    let sum = x as u64 + y as u64 + if carry { 1 } else { 0 };
+    let sum = unsigned_sum(x, y, carry);
     let result = (sum & 0xFFFF_FFFF) as u32;
-    let overflow = is_overflow(is_negative(x), is_negative(y), is_negative(result));
-    (result, sum >> 32 != 0, overflow)
+    (result, sum >> 32 != 0, is_overflow(x, y, carry, result))
 }
 
-/// Whether both operands of a sum have one sign and its result has the other.
+/// The whole sum of two words and a carry.
 #[inline]
-fn is_overflow(x: bool, y: bool, sum: bool) -> bool
-    ensures { result ≡ (same x y && not (same x sum)) }
+fn unsigned_sum(x: u32, y: u32, carry: bool) -> u64
+    ensures { result ≡ unsigned_sum_of x y carry }
 {
-    x == y && x != sum
+    x as u64 + y as u64 + if carry { 1 } else { 0 }
+}
+
+/// Whether the signed sum isn't the result: both words have one sign, and the result has the other.
+#[inline]
+#[tactic(auto, using(crate::proofs::Sums::signs_of_sum))]
+fn is_overflow(x: u32, y: u32, carry: bool, sum: u32) -> bool
+    requires { sum ≡ sum_result x y carry }
+    ensures { result ≡ not (int_eq (signed_sum x y carry) (signed sum)) }
+{
+    is_negative(x) == is_negative(y) && is_negative(x) != is_negative(sum)
 }
 
 /// Bit 31 of a word.
