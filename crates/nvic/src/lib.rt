@@ -2,6 +2,7 @@
 //! priority the machine runs (ARM DDI 0403, "Exception priorities and preemption").
 #![tactic(auto)]
 
+pub mod laws;
 mod levels;
 mod numbers;
 mod plain;
