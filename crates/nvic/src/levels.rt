@@ -1,7 +1,7 @@
 //! What the machine asks of its exceptions, however they are kept.
 
 ghost use Rattle.std.specs.Prelude.{◌≡◌, true, false, slice_index};
-ghost use Rattle.reference.specs.Priorities.{Nvic, is_in, is_enabled as is_enabled_of, best as best_of, execution_priority as execution_priority_of, candidate as candidate_of, candidate_after as candidate_after_of, escalation, with_pending, with_active, with_enabled, with_priority, with_group, with_primask, with_faultmask, with_basepri, with_due, reset_nvic};
+ghost use Rattle.reference.specs.Priorities.{Nvic, is_in, is_enabled as is_enabled_of, best as best_of, is_interrupt_pending as is_interrupt_pending_of, is_other_active as is_other_active_of, execution_priority as execution_priority_of, candidate as candidate_of, candidate_after as candidate_after_of, escalation, with_pending, with_active, with_enabled, with_priority, with_group, with_primask, with_faultmask, with_basepri, with_due, reset_nvic};
 
 use reference::exception::{Escalation, Masks, Priority};
 
@@ -97,6 +97,14 @@ pub trait Levels: Drop {
     /// How many of the top bits of a priority byte the board keeps.
     fn priority_bits(&self) -> u8
         ensures { result ≡ (content self.now).priority_bits };
+
+    /// Whether an interrupt is pending, enabled or not: ICSR.ISRPENDING.
+    fn is_interrupt_pending(&self) -> bool
+        ensures { result ≡ is_interrupt_pending_of (content self.now) };
+
+    /// Whether an exception is active that hasn't this number.
+    fn is_other_active(&self, number: u16) -> bool
+        ensures { result ≡ is_other_active_of (content self.now) number };
 
     /// `ExecutionPriority()`.
     fn execution_priority(&self) -> Priority

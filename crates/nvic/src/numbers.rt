@@ -1,7 +1,7 @@
 //! Which numbers exceptions have, and what can be done with each.
 
 ghost use Rattle.std.specs.Prelude.{◌≡◌, ◌+◌, ◌<◌, ◌≤◌, true};
-ghost use Rattle.reference.specs.Priorities.{is_fixed as is_fixed_of, is_always_enabled as is_always_enabled_of, is_switched as is_switched_of, is_exception as is_exception_of, has_byte as has_byte_of, is_due as is_due_of};
+ghost use Rattle.reference.specs.Priorities.{is_fixed as is_fixed_of, is_always_enabled as is_always_enabled_of, is_interrupt as is_interrupt_of, is_switched as is_switched_of, is_exception as is_exception_of, has_byte as has_byte_of, is_due as is_due_of};
 
 use reference::exception::{
     FIRST_LINE, HARD_FAULT, MEM_MANAGE, NMI, PEND_SV, SV_CALL, SYS_TICK, USAGE_FAULT,
@@ -21,12 +21,18 @@ pub fn is_always_enabled(number: u16) -> bool
     is_fixed(number) || matches!(number, SV_CALL | PEND_SV | SYS_TICK)
 }
 
-/// MemManage, BusFault, UsageFault and the lines of the board.
+/// The external interrupts, one for each line of the board.
+pub fn is_interrupt(lines: u8, number: u16) -> bool
+    ensures { result ≡ is_interrupt_of lines number }
+{
+    number >= FIRST_LINE && number - FIRST_LINE < lines as u16
+}
+
+/// MemManage, BusFault, UsageFault and the interrupts of the board.
 pub fn is_switched(lines: u8, number: u16) -> bool
     ensures { result ≡ is_switched_of lines number }
 {
-    matches!(number, MEM_MANAGE..=USAGE_FAULT)
-        || (number >= FIRST_LINE && number - FIRST_LINE < lines as u16)
+    matches!(number, MEM_MANAGE..=USAGE_FAULT) || is_interrupt(lines, number)
 }
 
 /// Whether an exception of the board has that number.

@@ -4,7 +4,9 @@ ghost use Rattle.std.specs.Prelude.{◌≡◌, ◌<◌, nat_lt};
 ghost use Rattle.reference.specs.Priorities.{priority_of as priority_of_number, group_priority as group_priority_of, is_ready as is_ready_of, least_active as least_active_of, execution_priority as execution_priority_of, better_of as better_of_both, with_ready as with_ready_of, with_due_at};
 
 use crate::levels::Levels;
-use crate::numbers::{has_byte, is_always_enabled, is_due, is_exception, is_switched};
+use crate::numbers::{
+    has_byte, is_always_enabled, is_due, is_exception, is_interrupt, is_switched,
+};
 use crate::priorities::{boosted, fixed_or, grouped, kept};
 use reference::exception::{EXCEPTIONS, Escalation, MOST_LINES, Masks, Priority};
 use std::marker::Model;
@@ -162,6 +164,26 @@ impl Levels for PlainLevels {
 
     fn priority_bits(&self) -> u8 {
         self.priority_bits
+    }
+
+    #[tactic(auto, unfolding(reference::specs::Priorities::is_interrupt_pending))]
+    fn is_interrupt_pending(&self) -> bool {
+        let mut found = false;
+        #[tactic(auto, unfolding(reference::specs::Priorities::some_below))]
+        'each: for number in 0..EXCEPTIONS {
+            found = found || (is_interrupt(self.lines, number) && self.pending[number as usize]);
+        }
+        found
+    }
+
+    #[tactic(auto, unfolding(reference::specs::Priorities::is_other_active))]
+    fn is_other_active(&self, number: u16) -> bool {
+        let mut found = false;
+        #[tactic(auto, unfolding(reference::specs::Priorities::some_below))]
+        'each: for other in 0..EXCEPTIONS {
+            found = found || (other != number && self.active[other as usize]);
+        }
+        found
     }
 
     #[tactic(auto, unfolding(reference::specs::Priorities::execution_priority))]

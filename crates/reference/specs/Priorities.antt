@@ -34,9 +34,13 @@ is_fixed x = (x == NMI) || (x == HARD_FAULT)
 abbrev pub is_always_enabled : ℕ → Bool
 is_always_enabled x = is_fixed x || (x == SV_CALL) || (x == PEND_SV) || (x == SYS_TICK)
 
--- these can: MemManage, BusFault and UsageFault by SHCSR, the lines of the board by ISER and ICER
+-- the external interrupts, one for each line of the board
+abbrev pub is_interrupt : ℕ → ℕ → Bool
+is_interrupt lines x = nat_le FIRST_LINE x && nat_lt x (FIRST_LINE + lines)
+
+-- these can: MemManage, BusFault and UsageFault by SHCSR, the interrupts by ISER and ICER
 abbrev pub is_switched : ℕ → ℕ → Bool
-is_switched lines x = (nat_le MEM_MANAGE x && nat_le x USAGE_FAULT) || (nat_le FIRST_LINE x && nat_lt x (FIRST_LINE + lines))
+is_switched lines x = (nat_le MEM_MANAGE x && nat_le x USAGE_FAULT) || is_interrupt lines x
 
 -- whether an exception of the board has that number
 abbrev pub is_exception : ℕ → ℕ → Bool
@@ -136,6 +140,19 @@ escalation n x =
     if is_enabled n x && nat_lt (group_priority n x) (execution_priority n) then Itself
     else if nat_le (of_byte 0) (execution_priority n) then HardFault
     else Lockup
+
+-- whether a test holds of one of the exceptions below x
+unfoldable pub some_below : (ℕ → Bool) → ℕ → Bool
+some_below test zero = false
+some_below test (suc x) = some_below test x || test x
+
+-- an interrupt is pending, enabled or not: ICSR.ISRPENDING
+unfoldable pub is_interrupt_pending : Nvic → Bool
+is_interrupt_pending n = some_below (λ x. is_interrupt n.lines x && is_in n.pending x) EXCEPTIONS
+
+-- an exception is active that isn't x: what ICSR.RETTOBASE and ExceptionReturn() ask
+unfoldable pub is_other_active : Nvic → ℕ → Bool
+is_other_active n x = some_below (λ y. not (y == x) && is_in n.active y) EXCEPTIONS
 
 -- a set after x is put into it or taken out: a number that no exception of the board has is left
 abbrev pub with_member : ℕ → List Bool → ℕ → Bool → List Bool
