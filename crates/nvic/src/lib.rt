@@ -7,6 +7,8 @@ mod levels;
 mod numbers;
 mod plain;
 mod priorities;
+#[cfg(test)]
+mod tests;
 
 pub use levels::Levels;
 pub use plain::PlainLevels;
