@@ -276,8 +276,8 @@ impl PlainLevels {
     fn preempts(&self, number: u16) -> bool
         ensures { result ≡ nat_lt (group_priority_of self.now number) (execution_priority_of self.now) }
     {
-        self.group_priority(number)
-            .is_below(self.execution_priority())
+        let limit = self.execution_priority();
+        self.group_priority(number).is_below(limit)
     }
 
     /// The better of one exception, if there is one, and another with a higher number, where that
