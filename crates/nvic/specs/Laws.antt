@@ -1,8 +1,8 @@
 -- What the laws of priorities say, as facts about all exceptions at once. The definitions that they are about stand in
 -- the crate `reference`.
-use Rattle.std.specs.Prelude.{◌≡◌, ℕ, ◌<◌, ◌≤◌, ◌⊎◌, true, Option, Some, None}
-use Rattle.reference.specs.declared.exception.TheConstants.{EXCEPTIONS}
-use Rattle.reference.specs.Priorities.{Nvic, is_in, is_ready, priority_of, group_priority, execution_priority, of_byte, grouped, lowest}
+use Rattle.std.specs.Prelude.{◌≡◌, ℕ, ◌<◌, ◌≤◌, ◌⊎◌, Bool, true, ◌&&◌, ◌||◌, List, length, slice_index, Option, Some, None}
+use Rattle.reference.specs.declared.exception.TheConstants.{EXCEPTIONS, MOST_LINES}
+use Rattle.reference.specs.Priorities.{Nvic, is_exception, is_switched, kept, is_in, is_due, is_ready, priority_of, group_priority, execution_priority, of_byte, grouped, lowest}
 
 -- exception x is pending and enabled
 pub record IsReady (n : Nvic) (x : ℕ) : Type 0 where
@@ -36,3 +36,29 @@ pub data Holds (n : Nvic) (p : ℕ) : Type 0 where
 pub record IsLeast (n : Nvic) (p : ℕ) : Type 0 where
   pub holds : Holds n p
   pub least : (q : ℕ) → Holds n q → p ≤ q
+
+-- a set has a place for each number, and only these numbers are in it
+pub record IsSetOf (test : ℕ → Bool) (set : List Bool) : Type 0 where
+  pub places : length set ≡ EXCEPTIONS
+  pub members : (x : ℕ) → is_in set x ≡ true → test x ≡ true
+
+-- there's a byte for each number, and each has only bits that are kept
+pub record AreKept (bits : ℕ) (bytes : List ℕ) : Type 0 where
+  pub places : length bytes ≡ EXCEPTIONS
+  pub keep : (x : ℕ) → kept bits (slice_index bytes x) ≡ slice_index bytes x
+
+-- what is always so: the sets hold exceptions of the board only, and the priority bytes and BASEPRI have only bits that
+-- the board keeps
+pub record IsOfBoard (n : Nvic) : Type 0 where
+  pub pending : IsSetOf (is_exception n.lines) n.pending
+  pub enabled : IsSetOf (is_switched n.lines) n.enabled
+  pub active : IsSetOf (is_exception n.lines) n.active
+  pub priorities : AreKept n.priority_bits n.priorities
+  pub basepri : kept n.priority_bits n.masks.basepri ≡ n.masks.basepri
+  pub group : n.group < 8
+  pub lines : n.lines ≤ MOST_LINES
+
+-- beside the exceptions that were pending those of the board are that are due, and nothing else has changed
+pub record AddsDue (n : Nvic) (due : List ℕ) (m : Nvic) : Type 0 where
+  pub pending : (x : ℕ) → x < EXCEPTIONS → is_in m.pending x ≡ (is_in n.pending x || (is_due due x && is_exception n.lines x))
+  pub rest : m ≡ record n { pending = m.pending }

@@ -451,4 +451,6 @@ fn the_laws_are_called() {
     laws::execution_priority_is_the_least();
     laws::best_comes_before_all();
     laws::candidate_is_the_best_that_preempts();
+    laws::changes_stay_on_the_board();
+    laws::what_is_due_is_added();
 }
