@@ -8,6 +8,7 @@ use reference::exception::{
 };
 
 /// NMI and HardFault, whose priorities are fixed.
+#[inline]
 fn is_fixed(number: u16) -> bool
     ensures { result ≡ is_fixed_of number }
 {
@@ -15,6 +16,7 @@ fn is_fixed(number: u16) -> bool
 }
 
 /// NMI, HardFault, SVCall, PendSV and SysTick, which can't be disabled.
+#[inline]
 pub fn is_always_enabled(number: u16) -> bool
     ensures { result ≡ is_always_enabled_of number }
 {
@@ -22,6 +24,7 @@ pub fn is_always_enabled(number: u16) -> bool
 }
 
 /// The external interrupts, one for each line of the board.
+#[inline]
 pub fn is_interrupt(lines: u8, number: u16) -> bool
     ensures { result ≡ is_interrupt_of lines number }
 {
@@ -29,6 +32,7 @@ pub fn is_interrupt(lines: u8, number: u16) -> bool
 }
 
 /// MemManage, BusFault, UsageFault and the interrupts of the board.
+#[inline]
 pub fn is_switched(lines: u8, number: u16) -> bool
     ensures { result ≡ is_switched_of lines number }
 {
@@ -36,6 +40,7 @@ pub fn is_switched(lines: u8, number: u16) -> bool
 }
 
 /// Whether an exception of the board has that number.
+#[inline]
 pub fn is_exception(lines: u8, number: u16) -> bool
     ensures { result ≡ is_exception_of lines number }
 {
@@ -43,6 +48,7 @@ pub fn is_exception(lines: u8, number: u16) -> bool
 }
 
 /// Whether it has a priority byte.
+#[inline]
 pub fn has_byte(lines: u8, number: u16) -> bool
     ensures { result ≡ has_byte_of lines number }
 {
@@ -50,6 +56,7 @@ pub fn has_byte(lines: u8, number: u16) -> bool
 }
 
 /// Whether a set of bits has a number: bit n mod 32 of word n / 32.
+#[inline]
 pub fn is_due(due: &[u32; 8], number: u16) -> bool
     requires { number < 256 }
     ensures { result ≡ is_due_of due.now number }

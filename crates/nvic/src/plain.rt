@@ -64,6 +64,7 @@ impl Levels for PlainLevels {
         }
     }
 
+    #[inline]
     fn pend(&mut self, number: u16) {
         if is_exception(self.lines, number) {
             self.pending[number as usize] = true;
@@ -130,10 +131,12 @@ impl Levels for PlainLevels {
         self.masks.basepri = kept(self.priority_bits, byte);
     }
 
+    #[inline]
     fn is_pending(&self, number: u16) -> bool {
         number < EXCEPTIONS && self.pending[number as usize]
     }
 
+    #[inline]
     fn is_enabled(&self, number: u16) -> bool {
         is_always_enabled(number) || (number < EXCEPTIONS && self.enabled[number as usize])
     }
@@ -142,6 +145,7 @@ impl Levels for PlainLevels {
         number < EXCEPTIONS && self.active[number as usize]
     }
 
+    #[inline]
     fn priority(&self, number: u16) -> u8 {
         if number < EXCEPTIONS {
             self.priorities[number as usize]
@@ -252,6 +256,7 @@ impl PlainLevels {
     }
 
     /// The priority of an exception.
+    #[inline]
     fn priority_of(&self, number: u16) -> Priority
         ensures { result ≡ priority_of_number self.now number }
     {
@@ -259,6 +264,7 @@ impl PlainLevels {
     }
 
     /// The group priority of an exception.
+    #[inline]
     fn group_priority(&self, number: u16) -> Priority
         ensures { result ≡ group_priority_of self.now number }
     {
@@ -266,6 +272,7 @@ impl PlainLevels {
     }
 
     /// Whether the exception is pending and enabled.
+    #[inline]
     fn is_ready(&self, number: u16) -> bool
         ensures { result ≡ is_ready_of self.now number }
     {
@@ -283,6 +290,7 @@ impl PlainLevels {
     /// The better of one exception, if there is one, and another with a higher number, where that
     /// is pending and enabled.
     #[tactic(auto, unfolding(reference::specs::Priorities::with_ready))]
+    #[inline]
     fn with_ready(&self, before: Option<u16>, number: u16) -> Option<u16>
         ensures { result ≡ with_ready_of self.now number before }
     {
@@ -294,6 +302,7 @@ impl PlainLevels {
     }
 
     /// The better of one exception, if there is one, and another with a higher number.
+    #[inline]
     fn better_of(&self, before: Option<u16>, number: u16) -> Option<u16>
         ensures { result ≡ better_of_both self.now before number }
     {
@@ -305,6 +314,7 @@ impl PlainLevels {
 
     /// The exception becomes pending where it's due.
     #[tactic(auto, unfolding(reference::specs::Priorities::with_due_at))]
+    #[inline]
     fn pend_if_due(&mut self, due: &[u32; 8], number: u16)
         requires { number < 256 }
         ensures { self.new ≡ with_due_at self.old due.now number }

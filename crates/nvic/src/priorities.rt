@@ -9,6 +9,7 @@ use reference::exception::{HARD_FAULT, Masks, NMI, Priority};
 const BYTE_BITS: u8 = 8;
 
 /// The top bits of a priority byte that a board keeps.
+#[inline]
 pub fn kept(priority_bits: u8, byte: u8) -> u8
     ensures { result ≡ kept_of priority_bits byte }
 {
@@ -17,6 +18,7 @@ pub fn kept(priority_bits: u8, byte: u8) -> u8
 }
 
 /// A priority byte rounded down to a multiple of 2^(PRIGROUP + 1).
+#[inline]
 pub fn grouped(group: u8, byte: u8) -> u8
     requires { group < 8 }
     ensures { result ≡ grouped_of group byte }
@@ -25,6 +27,7 @@ pub fn grouped(group: u8, byte: u8) -> u8
 }
 
 /// The fixed priority of NMI or HardFault, and otherwise that of this byte.
+#[inline]
 pub fn fixed_or(number: u16, byte: u8) -> Priority
     ensures { result ≡ fixed_or_of number (of_byte byte) }
 {
@@ -37,6 +40,7 @@ pub fn fixed_or(number: u16, byte: u8) -> Priority
 
 /// The priority to which the masks raise: -1 under FAULTMASK, 0 under PRIMASK, BASEPRI's group
 /// where it isn't 0, and otherwise the lowest.
+#[inline]
 pub fn boosted(group: u8, masks: Masks) -> Priority
     requires { group < 8 }
     ensures { result ≡ boosted_of group masks }

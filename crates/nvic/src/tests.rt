@@ -84,191 +84,53 @@ fn groups_of_a_priority(rt: HostRuntime) {
     }
 }
 
+/// Nothing.
+const NO: [(u16, u8); 2] = [NONE, NONE];
+
 #[test]
 fn candidates(rt: HostRuntime) {
-    // what it shows, PRIGROUP, what is active, what is pending, the masks, the candidate
+    // PRIGROUP, what is active, what is pending, the candidate
     let table = [
-        ("nothing is pending", 0, NONE, [NONE, NONE], UNMASKED, None),
-        (
-            "a tie goes to the lower number",
-            0,
-            NONE,
-            [(18, 0x40), (17, 0x40)],
-            UNMASKED,
-            Some(17),
-        ),
-        (
-            "the lower priority number",
-            0,
-            NONE,
-            [(17, 0x80), (18, 0x40)],
-            UNMASKED,
-            Some(18),
-        ),
-        (
-            "NMI is above a line",
-            0,
-            NONE,
-            [(16, 0), (2, 0)],
-            UNMASKED,
-            Some(2),
-        ),
-        (
-            "NMI is above HardFault",
-            0,
-            NONE,
-            [(3, 0), (2, 0)],
-            UNMASKED,
-            Some(2),
-        ),
-        (
-            "HardFault is above MemManage",
-            0,
-            NONE,
-            [(3, 0), (4, 0)],
-            UNMASKED,
-            Some(3),
-        ),
-        (
-            "HardFault preempts priority 0",
-            0,
-            (16, 0),
-            [(3, 0), NONE],
-            UNMASKED,
-            Some(3),
-        ),
-        (
-            "HardFault doesn't preempt NMI",
-            0,
-            (2, 0),
-            [(3, 0), NONE],
-            UNMASKED,
-            None,
-        ),
-        (
-            "the same group doesn't preempt",
-            0,
-            (16, 0x40),
-            [(17, 0x40), NONE],
-            UNMASKED,
-            None,
-        ),
-        (
-            "a lower group preempts",
-            0,
-            (17, 0x30),
-            [(16, 0x20), NONE],
-            UNMASKED,
-            Some(16),
-        ),
-        (
-            "a subpriority doesn't preempt",
-            5,
-            (17, 0x30),
-            [(16, 0x20), NONE],
-            UNMASKED,
-            None,
-        ),
-        (
-            "a subpriority decides",
-            5,
-            NONE,
-            [(16, 0x30), (17, 0x20)],
-            UNMASKED,
-            Some(17),
-        ),
-        (
-            "BASEPRI 0 masks nothing",
-            0,
-            NONE,
-            [(16, 0xF0), NONE],
-            basepri(0),
-            Some(16),
-        ),
-        (
-            "BASEPRI at the priority",
-            0,
-            NONE,
-            [(16, 0x40), NONE],
-            basepri(0x40),
-            None,
-        ),
-        (
-            "BASEPRI below the priority",
-            0,
-            NONE,
-            [(16, 0x50), NONE],
-            basepri(0x40),
-            None,
-        ),
-        (
-            "BASEPRI above the priority",
-            0,
-            NONE,
-            [(16, 0x30), NONE],
-            basepri(0x40),
-            Some(16),
-        ),
-        (
-            "BASEPRI in the same group",
-            5,
-            NONE,
-            [(16, 0x50), NONE],
-            basepri(0x60),
-            None,
-        ),
-        (
-            "BASEPRI in the group behind",
-            5,
-            NONE,
-            [(16, 0x30), NONE],
-            basepri(0x60),
-            Some(16),
-        ),
-        (
-            "BASEPRI whose bits aren't kept",
-            0,
-            NONE,
-            [(16, 0xF0), NONE],
-            basepri(0x0F),
-            Some(16),
-        ),
-        (
-            "PRIMASK masks priority 0",
-            0,
-            NONE,
-            [(16, 0), (11, 0)],
-            PRIMASK,
-            None,
-        ),
-        (
-            "PRIMASK leaves HardFault",
-            0,
-            NONE,
-            [(16, 0), (3, 0)],
-            PRIMASK,
-            Some(3),
-        ),
-        (
-            "FAULTMASK masks HardFault",
-            0,
-            NONE,
-            [(16, 0), (3, 0)],
-            FAULTMASK,
-            None,
-        ),
-        (
-            "FAULTMASK leaves NMI",
-            0,
-            NONE,
-            [(3, 0), (2, 0)],
-            FAULTMASK,
-            Some(2),
-        ),
+        (0, NONE, NO, None), // nothing is pending
+        (0, NONE, [(18, 0x40), (17, 0x40)], Some(17)), // a tie goes to the lower number
+        (0, NONE, [(17, 0x80), (18, 0x40)], Some(18)), // the lower priority number
+        (0, NONE, [(16, 0), (2, 0)], Some(2)), // NMI is above a line
+        (0, NONE, [(3, 0), (2, 0)], Some(2)), // NMI is above HardFault
+        (0, NONE, [(3, 0), (4, 0)], Some(3)), // HardFault is above MemManage
+        (0, (16, 0), [(3, 0), NONE], Some(3)), // HardFault preempts priority 0
+        (0, (2, 0), [(3, 0), NONE], None), // HardFault doesn't preempt NMI
+        (0, (16, 0x40), [(17, 0x40), NONE], None), // nor a priority itself
+        (0, (17, 0x30), [(16, 0x20), NONE], Some(16)), // a lower group preempts
+        (5, (17, 0x30), [(16, 0x20), NONE], None), // a lower subpriority doesn't
+        (5, NONE, [(16, 0x30), (17, 0x20)], Some(17)), // but it decides between two
     ];
-    for (what, group, active, pending, masks, want) in table {
-        let levels: PlainLevels = levels(group, active, pending, masks);
-        assert_eq!(rt; levels.candidate(), want, "{what}");
+    for (group, active, pending, want) in table {
+        let levels: PlainLevels = levels(group, active, pending, UNMASKED);
+        let [(first, _), (second, _)] = pending;
+        assert_eq!(rt; levels.candidate(), want, "{first} and {second}");
+    }
+}
+
+#[test]
+fn candidates_under_masks(rt: HostRuntime) {
+    // PRIGROUP, what is pending, the masks, the candidate
+    let table = [
+        (0, [(16, 0xF0), NONE], basepri(0), Some(16)), // BASEPRI 0 masks nothing
+        (0, [(16, 0xF0), NONE], basepri(0x0F), Some(16)), // nor do bits that aren't kept
+        (0, [(16, 0x40), NONE], basepri(0x40), None), // a priority masks itself
+        (0, [(16, 0x50), NONE], basepri(0x40), None), // and what is behind it
+        (0, [(16, 0x30), NONE], basepri(0x40), Some(16)), // and not what is above it
+        (5, [(16, 0x50), NONE], basepri(0x60), None), // a group masks itself
+        (5, [(16, 0x30), NONE], basepri(0x60), Some(16)), // and not the one above
+        (0, [(16, 0), (11, 0)], PRIMASK, None), // PRIMASK masks priority 0
+        (0, [(16, 0), (3, 0)], PRIMASK, Some(3)), // and not HardFault
+        (0, [(16, 0), (3, 0)], FAULTMASK, None), // FAULTMASK masks HardFault
+        (0, [(3, 0), (2, 0)], FAULTMASK, Some(2)), // and not NMI
+    ];
+    for (group, pending, masks, want) in table {
+        let levels: PlainLevels = levels(group, NONE, pending, masks);
+        let [(first, byte), _] = pending;
+        assert_eq!(rt; levels.candidate(), want, "{first} of priority {byte}");
     }
 }
 
@@ -281,6 +143,8 @@ fn execution_priorities(rt: HostRuntime) {
         (0, (3, 0), UNMASKED, -1),
         (0, (16, 0xFF), UNMASKED, 0xF0),
         (0, NONE, basepri(0x80), 0x80),
+        (5, (16, 0x70), UNMASKED, 0x40),
+        (5, NONE, basepri(0x70), 0x40),
         (0, (16, 0x40), basepri(0x80), 0x40),
         (0, (16, 0xC0), basepri(0x80), 0x80),
         (0, NONE, PRIMASK, 0),
