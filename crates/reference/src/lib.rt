@@ -5,6 +5,7 @@
 pub mod access;
 pub mod board;
 pub mod event;
+pub mod exception;
 pub mod fault;
 pub mod instruction;
 pub mod place;

@@ -1,0 +1,4 @@
+pub mod Best
+pub mod Least
+pub mod Boards
+pub mod Due

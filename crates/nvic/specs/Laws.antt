@@ -1,0 +1,64 @@
+-- What the laws of priorities say, as facts about all exceptions at once. The definitions that they are about stand in
+-- the crate `reference`.
+use Rattle.std.specs.Prelude.{◌≡◌, ℕ, ◌<◌, ◌≤◌, ◌⊎◌, Bool, true, ◌&&◌, ◌||◌, List, length, slice_index, Option, Some, None}
+use Rattle.reference.specs.declared.exception.TheConstants.{EXCEPTIONS, MOST_LINES}
+use Rattle.reference.specs.Priorities.{Nvic, is_exception, is_switched, kept, is_in, is_due, is_ready, priority_of, group_priority, execution_priority, of_byte, grouped, lowest}
+
+-- exception x is pending and enabled
+pub record IsReady (n : Nvic) (x : ℕ) : Type 0 where
+  pub in_range : x < EXCEPTIONS
+  pub ready : is_ready n x ≡ true
+
+-- x has a lower priority number than y, or the same one and isn't behind y in the order of exception numbers
+abbrev pub ComesFirst : Nvic → ℕ → ℕ → Type 0
+ComesFirst n x y = (priority_of n x < priority_of n y) ⊎ ((priority_of n x ≡ priority_of n y) × (x ≤ y))
+
+-- the best exception comes before each other one that is pending and enabled
+abbrev pub IsBest : Nvic → Option ℕ → Type 0
+IsBest n (Some x) = IsReady n x × ((y : ℕ) → IsReady n y → ComesFirst n x y)
+IsBest n None = (y : ℕ) → IsReady n y → ⊥
+
+-- the candidate is the best, and preempts; where there is none, no exception at all that is pending and enabled does
+abbrev pub IsCandidate : Nvic → Option ℕ → Type 0
+IsCandidate n (Some x) = IsBest n (Some x) × (group_priority n x < execution_priority n)
+IsCandidate n None = (y : ℕ) → IsReady n y → execution_priority n ≤ group_priority n y
+
+-- the priorities at which something holds the machine: the lowest, always; the group priority of each active exception;
+-- BASEPRI's group where BASEPRI isn't 0; 0 under PRIMASK; -1 under FAULTMASK
+pub data Holds (n : Nvic) (p : ℕ) : Type 0 where
+  nothing : p ≡ lowest → Holds n p
+  handler : (x : ℕ) → x < EXCEPTIONS → is_in n.active x ≡ true → p ≡ group_priority n x → Holds n p
+  basepri : (n.masks.basepri ≡ 0 → ⊥) → p ≡ of_byte (grouped n.group n.masks.basepri) → Holds n p
+  primask : n.masks.primask ≡ true → p ≡ of_byte 0 → Holds n p
+  faultmask : n.masks.faultmask ≡ true → p ≡ 1 → Holds n p
+
+-- the least of them
+pub record IsLeast (n : Nvic) (p : ℕ) : Type 0 where
+  pub holds : Holds n p
+  pub least : (q : ℕ) → Holds n q → p ≤ q
+
+-- a set has a place for each number, and only these numbers are in it
+pub record IsSetOf (test : ℕ → Bool) (set : List Bool) : Type 0 where
+  pub places : length set ≡ EXCEPTIONS
+  pub members : (x : ℕ) → is_in set x ≡ true → test x ≡ true
+
+-- there's a byte for each number, and each has only bits that are kept
+pub record AreKept (bits : ℕ) (bytes : List ℕ) : Type 0 where
+  pub places : length bytes ≡ EXCEPTIONS
+  pub keep : (x : ℕ) → kept bits (slice_index bytes x) ≡ slice_index bytes x
+
+-- what is always so: the sets hold exceptions of the board only, and the priority bytes and BASEPRI have only bits that
+-- the board keeps
+pub record IsOfBoard (n : Nvic) : Type 0 where
+  pub pending : IsSetOf (is_exception n.lines) n.pending
+  pub enabled : IsSetOf (is_switched n.lines) n.enabled
+  pub active : IsSetOf (is_exception n.lines) n.active
+  pub priorities : AreKept n.priority_bits n.priorities
+  pub basepri : kept n.priority_bits n.masks.basepri ≡ n.masks.basepri
+  pub group : n.group < 8
+  pub lines : n.lines ≤ MOST_LINES
+
+-- beside the exceptions that were pending those of the board are that are due, and nothing else has changed
+pub record AddsDue (n : Nvic) (due : List ℕ) (m : Nvic) : Type 0 where
+  pub pending : (x : ℕ) → x < EXCEPTIONS → is_in m.pending x ≡ (is_in n.pending x || (is_due due x && is_exception n.lines x))
+  pub rest : m ≡ record n { pending = m.pending }

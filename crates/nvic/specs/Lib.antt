@@ -1,0 +1,3 @@
+-- What the laws of priorities say. The definitions stand in the crate `reference`.
+pub use Rattle.reference.specs.Priorities
+pub mod Laws

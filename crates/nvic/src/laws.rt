@@ -1,0 +1,46 @@
+//! What holds of priorities, whatever is pending, enabled, active and masked: each is the theorem
+//! of a function that does nothing.
+
+ghost use Rattle.std.specs.Prelude.{◌≡◌, ◌↔◌, ℕ, Bool, List, Option, length};
+ghost use Rattle.reference.specs.Priorities.{Nvic, execution_priority, best, candidate, with_pending, with_active, with_enabled, with_priority, with_group, with_primask, with_faultmask, with_basepri, with_due, reset_nvic};
+ghost use Rattle.nvic.specs.Laws.{IsBest, IsCandidate, IsLeast, IsOfBoard, AddsDue};
+
+/// The execution priority, and nothing else, is the least priority at which something holds the
+/// machine.
+pub fn execution_priority_is_the_least()
+    ensures { (n : Nvic) (p : ℕ) → IsLeast n p ↔ (p ≡ execution_priority n) }
+{}
+
+/// The best exception, and nothing else, is pending and enabled and comes before each other one
+/// that is.
+#[tactic(auto, using(crate::proofs::Best::best_exactly))]
+pub fn best_comes_before_all()
+    ensures { (n : Nvic) (o : Option ℕ) → IsBest n o ↔ (o ≡ best n) }
+{}
+
+/// The candidate, and nothing else, is the best exception where that preempts, and none where no
+/// exception that is pending and enabled does.
+#[tactic(auto, using(crate::proofs::Best::candidate_exactly))]
+pub fn candidate_is_the_best_that_preempts()
+    ensures { (n : Nvic) (o : Option ℕ) → IsCandidate n o ↔ (o ≡ candidate n) }
+{}
+
+/// After a reset and after each change the sets hold exceptions of the board only, and each priority
+/// byte and BASEPRI have only bits that it keeps.
+pub fn changes_stay_on_the_board()
+    ensures reset { (lines bits : ℕ) → IsOfBoard (reset_nvic lines bits) }
+    ensures pending { (n : Nvic) (x : ℕ) (on : Bool) → IsOfBoard n → IsOfBoard (with_pending n x on) }
+    ensures enabled { (n : Nvic) (x : ℕ) (on : Bool) → IsOfBoard n → IsOfBoard (with_enabled n x on) }
+    ensures active { (n : Nvic) (x : ℕ) (on : Bool) → IsOfBoard n → IsOfBoard (with_active n x on) }
+    ensures priority { (n : Nvic) (x b : ℕ) → IsOfBoard n → IsOfBoard (with_priority n x b) }
+    ensures group { (n : Nvic) (g : ℕ) → IsOfBoard n → IsOfBoard (with_group n g) }
+    ensures primask { (n : Nvic) (on : Bool) → IsOfBoard n → IsOfBoard (with_primask n on) }
+    ensures faultmask { (n : Nvic) (on : Bool) → IsOfBoard n → IsOfBoard (with_faultmask n on) }
+    ensures basepri { (n : Nvic) (b : ℕ) → IsOfBoard n → IsOfBoard (with_basepri n b) }
+    ensures due { (n : Nvic) (due : List ℕ) → IsOfBoard n → IsOfBoard (with_due n due) }
+{}
+
+/// After a tick exactly the exceptions of the board are pending that were or that are due.
+pub fn what_is_due_is_added()
+    ensures { (n : Nvic) (due : List ℕ) → length n.pending ≡ 256 → AddsDue n due (with_due n due) }
+{}

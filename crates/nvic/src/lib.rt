@@ -1,0 +1,15 @@
+//! Which exceptions are pending, enabled and active, which of them is taken next, and at what
+//! priority the machine runs (ARM DDI 0403, "Exception priorities and preemption").
+#![tactic(auto)]
+
+pub mod laws;
+mod levels;
+mod numbers;
+mod plain;
+mod priorities;
+#[cfg(test)]
+mod tests;
+
+pub use levels::Levels;
+pub use plain::PlainLevels;
+pub use reference::exception::{Escalation, Masks, Priority};

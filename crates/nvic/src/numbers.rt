@@ -1,0 +1,65 @@
+//! Which numbers exceptions have, and what can be done with each.
+
+ghost use Rattle.std.specs.Prelude.{◌≡◌, ◌+◌, ◌<◌, ◌≤◌, true};
+ghost use Rattle.reference.specs.Priorities.{is_fixed as is_fixed_of, is_always_enabled as is_always_enabled_of, is_interrupt as is_interrupt_of, is_switched as is_switched_of, is_exception as is_exception_of, has_byte as has_byte_of, is_due as is_due_of};
+
+use reference::exception::{
+    FIRST_LINE, HARD_FAULT, MEM_MANAGE, NMI, PEND_SV, SV_CALL, SYS_TICK, USAGE_FAULT,
+};
+
+/// NMI and HardFault, whose priorities are fixed.
+#[inline]
+fn is_fixed(number: u16) -> bool
+    ensures { result ≡ is_fixed_of number }
+{
+    matches!(number, NMI | HARD_FAULT)
+}
+
+/// NMI, HardFault, SVCall, PendSV and SysTick, which can't be disabled.
+#[inline]
+pub fn is_always_enabled(number: u16) -> bool
+    ensures { result ≡ is_always_enabled_of number }
+{
+    is_fixed(number) || matches!(number, SV_CALL | PEND_SV | SYS_TICK)
+}
+
+/// The external interrupts, one for each line of the board.
+#[inline]
+pub fn is_interrupt(lines: u8, number: u16) -> bool
+    ensures { result ≡ is_interrupt_of lines number }
+{
+    number >= FIRST_LINE && number - FIRST_LINE < lines as u16
+}
+
+/// MemManage, BusFault, UsageFault and the interrupts of the board.
+#[inline]
+pub fn is_switched(lines: u8, number: u16) -> bool
+    ensures { result ≡ is_switched_of lines number }
+{
+    matches!(number, MEM_MANAGE..=USAGE_FAULT) || is_interrupt(lines, number)
+}
+
+/// Whether an exception of the board has that number.
+#[inline]
+pub fn is_exception(lines: u8, number: u16) -> bool
+    ensures { result ≡ is_exception_of lines number }
+{
+    is_always_enabled(number) || is_switched(lines, number)
+}
+
+/// Whether it has a priority byte.
+#[inline]
+pub fn has_byte(lines: u8, number: u16) -> bool
+    ensures { result ≡ has_byte_of lines number }
+{
+    is_exception(lines, number) && !is_fixed(number)
+}
+
+/// Whether a set of bits has a number: bit n mod 32 of word n / 32.
+#[inline]
+pub fn is_due(due: &[u32; 8], number: u16) -> bool
+    requires { number < 256 }
+    ensures { result ≡ is_due_of due.now number }
+{
+    due[(number / 32) as usize] >> (number % 32) & 1 == 1
+}

@@ -1,0 +1,342 @@
+//! The exceptions as plain sets: each question looks at all of them.
+
+ghost use Rattle.std.specs.Prelude.{◌≡◌, ◌<◌, nat_lt};
+ghost use Rattle.reference.specs.Priorities.{priority_of as priority_of_number, group_priority as group_priority_of, is_ready as is_ready_of, least_active as least_active_of, execution_priority as execution_priority_of, better_of as better_of_both, with_ready as with_ready_of, with_due_at};
+
+use crate::levels::Levels;
+use crate::numbers::{
+    has_byte, is_always_enabled, is_due, is_exception, is_interrupt, is_switched,
+};
+use crate::priorities::{boosted, fixed_or, grouped, kept};
+use reference::exception::{EXCEPTIONS, Escalation, MOST_LINES, Masks, Priority};
+use std::marker::Model;
+
+/// The exceptions as plain sets. A contract sees them as the reference's `Nvic`.
+#[derive(Drop)]
+pub struct PlainLevels {
+    pending: [bool; EXCEPTIONS as usize],
+    enabled: [bool; EXCEPTIONS as usize],
+    active: [bool; EXCEPTIONS as usize],
+    priorities: [u8; EXCEPTIONS as usize],
+    group: u8,
+    masks: Masks,
+    lines: u8,
+    priority_bits: u8,
+}
+
+impl Model for PlainLevels {
+    ghost use Rattle.std.specs.Prelude.{◌<◌, ◌≤◌};
+    ghost use Rattle.reference.specs.Priorities.{Nvic};
+
+    ghost Value = { Nvic };
+
+    ghost view = { λ l. record {
+      pending = l.pending;
+      enabled = l.enabled;
+      active = l.active;
+      priorities = l.priorities;
+      group = l.group;
+      masks = l.masks;
+      lines = l.lines;
+      priority_bits = l.priority_bits;
+    } };
+
+    ghost invariant = { λ l. (l.group < 8) × (l.lines ≤ 240) };
+}
+
+impl Levels for PlainLevels {
+    ghost content = { λ l. l };
+
+    fn fresh(lines: u8, priority_bits: u8) -> Self {
+        PlainLevels {
+            pending: [false; EXCEPTIONS as usize],
+            enabled: [false; EXCEPTIONS as usize],
+            active: [false; EXCEPTIONS as usize],
+            priorities: [0; EXCEPTIONS as usize],
+            group: 0,
+            masks: Masks {
+                primask: false,
+                faultmask: false,
+                basepri: 0,
+            },
+            lines: lines.min(MOST_LINES),
+            priority_bits,
+        }
+    }
+
+    #[inline]
+    fn pend(&mut self, number: u16) {
+        if is_exception(self.lines, number) {
+            self.pending[number as usize] = true;
+        }
+    }
+
+    fn clear(&mut self, number: u16) {
+        if is_exception(self.lines, number) {
+            self.pending[number as usize] = false;
+        }
+    }
+
+    #[tactic(auto, unfolding(reference::specs::Priorities::with_due))]
+    fn pend_due(&mut self, due: &[u32; 8]) {
+        #[tactic(auto, unfolding(reference::specs::Priorities::with_due_below))]
+        'each: for number in 0..EXCEPTIONS {
+            self.pend_if_due(due, number);
+        }
+    }
+
+    fn enable(&mut self, number: u16) {
+        if is_switched(self.lines, number) {
+            self.enabled[number as usize] = true;
+        }
+    }
+
+    fn disable(&mut self, number: u16) {
+        if is_switched(self.lines, number) {
+            self.enabled[number as usize] = false;
+        }
+    }
+
+    fn set_priority(&mut self, number: u16, byte: u8) {
+        if has_byte(self.lines, number) {
+            self.priorities[number as usize] = kept(self.priority_bits, byte);
+        }
+    }
+
+    fn activate(&mut self, number: u16) {
+        if is_exception(self.lines, number) {
+            self.active[number as usize] = true;
+        }
+    }
+
+    fn deactivate(&mut self, number: u16) {
+        if is_exception(self.lines, number) {
+            self.active[number as usize] = false;
+        }
+    }
+
+    fn set_group(&mut self, group: u8) {
+        self.group = group % 8;
+    }
+
+    fn set_primask(&mut self, on: bool) {
+        self.masks.primask = on;
+    }
+
+    fn set_faultmask(&mut self, on: bool) {
+        self.masks.faultmask = on;
+    }
+
+    fn set_basepri(&mut self, byte: u8) {
+        self.masks.basepri = kept(self.priority_bits, byte);
+    }
+
+    #[inline]
+    fn is_pending(&self, number: u16) -> bool {
+        number < EXCEPTIONS && self.pending[number as usize]
+    }
+
+    #[inline]
+    fn is_enabled(&self, number: u16) -> bool {
+        is_always_enabled(number) || (number < EXCEPTIONS && self.enabled[number as usize])
+    }
+
+    fn is_active(&self, number: u16) -> bool {
+        number < EXCEPTIONS && self.active[number as usize]
+    }
+
+    #[inline]
+    fn priority(&self, number: u16) -> u8 {
+        if number < EXCEPTIONS {
+            self.priorities[number as usize]
+        } else {
+            0
+        }
+    }
+
+    fn group(&self) -> u8 {
+        self.group
+    }
+
+    fn masks(&self) -> Masks {
+        self.masks
+    }
+
+    fn lines(&self) -> u8 {
+        self.lines
+    }
+
+    fn priority_bits(&self) -> u8 {
+        self.priority_bits
+    }
+
+    #[tactic(auto, unfolding(reference::specs::Priorities::is_interrupt_pending))]
+    fn is_interrupt_pending(&self) -> bool {
+        let mut found = false;
+        #[tactic(auto, unfolding(reference::specs::Priorities::some_below))]
+        'each: for number in 0..EXCEPTIONS {
+            found = found || (is_interrupt(self.lines, number) && self.pending[number as usize]);
+        }
+        found
+    }
+
+    #[tactic(auto, unfolding(reference::specs::Priorities::is_other_active))]
+    fn is_other_active(&self, number: u16) -> bool {
+        let mut found = false;
+        #[tactic(auto, unfolding(reference::specs::Priorities::some_below))]
+        'each: for other in 0..EXCEPTIONS {
+            found = found || (other != number && self.active[other as usize]);
+        }
+        found
+    }
+
+    #[tactic(auto, unfolding(reference::specs::Priorities::execution_priority))]
+    fn execution_priority(&self) -> Priority {
+        let held = self.least_active();
+        let masked = boosted(self.group, self.masks);
+        if masked.is_below(held) { masked } else { held }
+    }
+
+    #[tactic(auto, unfolding(reference::specs::Priorities::best))]
+    fn best(&self) -> Option<u16> {
+        let mut best: Option<u16> = None;
+        #[tactic(auto, unfolding(reference::specs::Priorities::best_below))]
+        'each: for number in 0..EXCEPTIONS {
+            best = self.with_ready(best, number);
+        }
+        best
+    }
+
+    #[tactic(auto, unfolding(reference::specs::Priorities::candidate))]
+    fn candidate(&self) -> Option<u16> {
+        let best = self.best()?;
+        if self.preempts(best) {
+            Some(best)
+        } else {
+            None
+        }
+    }
+
+    #[tactic(auto, unfolding(reference::specs::Priorities::candidate_after))]
+    fn candidate_after(&self, due: &[u32; 8], primask: bool) -> Option<u16> {
+        let mut after = self.copied();
+        after.pend_due(due);
+        after.set_primask(primask);
+        after.candidate()
+    }
+
+    #[tactic(auto, unfolding(reference::specs::Priorities::escalation))]
+    fn escalate(&self, number: u16) -> Escalation {
+        if self.is_enabled(number) && self.preempts(number) {
+            Escalation::Itself
+        } else if self.execution_priority().is_below(Priority::of_byte(0)) {
+            Escalation::Lockup
+        } else {
+            Escalation::HardFault
+        }
+    }
+}
+
+impl PlainLevels {
+    /// The least group priority of the active exceptions.
+    fn least_active(&self) -> Priority
+        ensures { result ≡ least_active_of self.now 256 }
+    {
+        let mut least = Priority::LOWEST;
+        #[tactic(auto, unfolding(reference::specs::Priorities::least_active))]
+        'each: for number in 0..EXCEPTIONS {
+            if self.active[number as usize] {
+                let priority = self.group_priority(number);
+                if priority.is_below(least) {
+                    least = priority;
+                }
+            }
+        }
+        least
+    }
+
+    /// The priority of an exception.
+    #[inline]
+    fn priority_of(&self, number: u16) -> Priority
+        ensures { result ≡ priority_of_number self.now number }
+    {
+        fixed_or(number, self.priority(number))
+    }
+
+    /// The group priority of an exception.
+    #[inline]
+    fn group_priority(&self, number: u16) -> Priority
+        ensures { result ≡ group_priority_of self.now number }
+    {
+        fixed_or(number, grouped(self.group, self.priority(number)))
+    }
+
+    /// Whether the exception is pending and enabled.
+    #[inline]
+    fn is_ready(&self, number: u16) -> bool
+        ensures { result ≡ is_ready_of self.now number }
+    {
+        self.is_pending(number) && self.is_enabled(number)
+    }
+
+    /// Whether the group priority of the exception is below the execution priority.
+    fn preempts(&self, number: u16) -> bool
+        ensures { result ≡ nat_lt (group_priority_of self.now number) (execution_priority_of self.now) }
+    {
+        let limit = self.execution_priority();
+        self.group_priority(number).is_below(limit)
+    }
+
+    /// The better of one exception, if there is one, and another with a higher number, where that
+    /// is pending and enabled.
+    #[tactic(auto, unfolding(reference::specs::Priorities::with_ready))]
+    #[inline]
+    fn with_ready(&self, before: Option<u16>, number: u16) -> Option<u16>
+        ensures { result ≡ with_ready_of self.now number before }
+    {
+        if self.is_ready(number) {
+            self.better_of(before, number)
+        } else {
+            before
+        }
+    }
+
+    /// The better of one exception, if there is one, and another with a higher number.
+    #[inline]
+    fn better_of(&self, before: Option<u16>, number: u16) -> Option<u16>
+        ensures { result ≡ better_of_both self.now before number }
+    {
+        match before {
+            Some(first) if !self.priority_of(number).is_below(self.priority_of(first)) => before,
+            _ => Some(number),
+        }
+    }
+
+    /// The exception becomes pending where it's due.
+    #[tactic(auto, unfolding(reference::specs::Priorities::with_due_at))]
+    #[inline]
+    fn pend_if_due(&mut self, due: &[u32; 8], number: u16)
+        requires { number < 256 }
+        ensures { self.new ≡ with_due_at self.old due.now number }
+    {
+        if is_due(due, number) {
+            self.pend(number);
+        }
+    }
+
+    /// A copy.
+    fn copied(&self) -> Self
+        ensures { result ≡ self.now }
+    {
+        PlainLevels {
+            pending: self.pending,
+            enabled: self.enabled,
+            active: self.active,
+            priorities: self.priorities,
+            group: self.group,
+            masks: self.masks,
+            lines: self.lines,
+            priority_bits: self.priority_bits,
+        }
+    }
+}

@@ -1,0 +1,57 @@
+//! Priority bytes, and the priorities that they stand for.
+
+ghost use Rattle.std.specs.Prelude.{◌≡◌, ◌<◌};
+ghost use Rattle.reference.specs.Priorities.{kept as kept_of, grouped as grouped_of, fixed_or as fixed_or_of, of_byte, boosted as boosted_of};
+
+use reference::exception::{HARD_FAULT, Masks, NMI, Priority};
+
+/// How many bits a priority byte has.
+const BYTE_BITS: u8 = 8;
+
+/// The top bits of a priority byte that a board keeps.
+#[inline]
+pub fn kept(priority_bits: u8, byte: u8) -> u8
+    ensures { result ≡ kept_of priority_bits byte }
+{
+    let dropped = BYTE_BITS.saturating_sub(priority_bits);
+    (byte as u16 >> dropped << dropped) as u8
+}
+
+/// A priority byte rounded down to a multiple of 2^(PRIGROUP + 1).
+#[inline]
+pub fn grouped(group: u8, byte: u8) -> u8
+    requires { group < 8 }
+    ensures { result ≡ grouped_of group byte }
+{
+    (byte as u16 >> (group + 1) << (group + 1)) as u8
+}
+
+/// The fixed priority of NMI or HardFault, and otherwise that of this byte.
+#[inline]
+pub fn fixed_or(number: u16, byte: u8) -> Priority
+    ensures { result ≡ fixed_or_of number (of_byte byte) }
+{
+    match number {
+        NMI => Priority::NMI,
+        HARD_FAULT => Priority::HARD_FAULT,
+        _ => Priority::of_byte(byte),
+    }
+}
+
+/// The priority to which the masks raise: -1 under FAULTMASK, 0 under PRIMASK, BASEPRI's group
+/// where it isn't 0, and otherwise the lowest.
+#[inline]
+pub fn boosted(group: u8, masks: Masks) -> Priority
+    requires { group < 8 }
+    ensures { result ≡ boosted_of group masks }
+{
+    if masks.faultmask {
+        Priority::HARD_FAULT
+    } else if masks.primask {
+        Priority::of_byte(0)
+    } else if masks.basepri == 0 {
+        Priority::LOWEST
+    } else {
+        Priority::of_byte(grouped(group, masks.basepri))
+    }
+}

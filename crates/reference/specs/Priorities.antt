@@ -1,0 +1,226 @@
+-- Which exceptions are pending, enabled and active, which of them is taken next, and at what priority the machine runs
+-- (ARM DDI 0403, "Exception number definition", "Exception priorities and preemption", "Priority escalation", and the
+-- pseudocode of ExecutionPriority()).
+--
+-- A priority stands here 2 higher than in the manual, so that it's a whole number: 0 for the manual's -2, 1 for its -1,
+-- b + 2 for the byte b, and 258 for its 256.
+use Rattle.std.specs.Prelude.{ℕ, zero, suc, ◌+◌, ◌-◌, ◌*◌, ◌/◌, ◌%◌, ◌^◌, min, Bool, true, false, not, ◌&&◌, ◌||◌, ◌==◌, nat_lt, nat_le, if◌then◌else◌, List, slice_index, slice_index_or, slice_set, replicate, Option, Some, None}
+use Rattle.reference.specs.declared.exception.Escalation.{Escalation}
+use Rattle.reference.specs.declared.exception.Escalation.TheVariants.{Itself, HardFault, Lockup}
+use Rattle.reference.specs.declared.exception.Masks.{Masks}
+use Rattle.reference.specs.declared.exception.TheConstants.{NMI, HARD_FAULT, MEM_MANAGE, USAGE_FAULT, SV_CALL, PEND_SV, SYS_TICK, FIRST_LINE, MOST_LINES, EXCEPTIONS}
+use Rattle.reference.specs.Words.{is_bit}
+
+-- each set and the priorities have a place for each number below EXCEPTIONS, also for one that no exception has
+pub record Nvic : Type 0 where
+  pub pending : List Bool
+  -- which are enabled, of those that can be disabled
+  pub enabled : List Bool
+  pub active : List Bool
+  -- the priority byte of each, where it has one
+  pub priorities : List ℕ
+  -- AIRCR.PRIGROUP
+  pub group : ℕ
+  pub masks : Masks
+  -- the board's: how many lines there are, and how many of the top bits of a priority byte are kept
+  pub lines : ℕ
+  pub priority_bits : ℕ
+
+-- NMI and HardFault have fixed priorities
+abbrev pub is_fixed : ℕ → Bool
+is_fixed x = (x == NMI) || (x == HARD_FAULT)
+
+-- these can't be disabled: NMI, HardFault, SVCall, PendSV and SysTick
+abbrev pub is_always_enabled : ℕ → Bool
+is_always_enabled x = is_fixed x || (x == SV_CALL) || (x == PEND_SV) || (x == SYS_TICK)
+
+-- the external interrupts, one for each line of the board
+abbrev pub is_interrupt : ℕ → ℕ → Bool
+is_interrupt lines x = nat_le FIRST_LINE x && nat_lt x (FIRST_LINE + lines)
+
+-- these can: MemManage, BusFault and UsageFault by SHCSR, the interrupts by ISER and ICER
+abbrev pub is_switched : ℕ → ℕ → Bool
+is_switched lines x = (nat_le MEM_MANAGE x && nat_le x USAGE_FAULT) || is_interrupt lines x
+
+-- whether an exception of the board has that number
+abbrev pub is_exception : ℕ → ℕ → Bool
+is_exception lines x = is_always_enabled x || is_switched lines x
+
+-- whether it has a priority byte
+abbrev pub has_byte : ℕ → ℕ → Bool
+has_byte lines x = is_exception lines x && not (is_fixed x)
+
+-- whether x is in a set
+abbrev pub is_in : List Bool → ℕ → Bool
+is_in set x = slice_index_or set x false
+
+abbrev pub is_enabled : Nvic → ℕ → Bool
+is_enabled n x = is_always_enabled x || is_in n.enabled x
+
+-- the priority of a byte
+abbrev pub of_byte : ℕ → ℕ
+of_byte b = b + 2
+
+-- the manual's 256: nothing is active and nothing is masked
+abbrev pub lowest : ℕ
+lowest = 258
+
+-- exception x has one of the fixed priorities, -2 and -1, or this one
+abbrev pub fixed_or : ℕ → ℕ → ℕ
+fixed_or x other = if x == NMI then 0 else if x == HARD_FAULT then 1 else other
+
+-- the priority of exception x
+abbrev pub priority_of : Nvic → ℕ → ℕ
+priority_of n x = fixed_or x (of_byte (slice_index n.priorities x))
+
+-- a priority byte rounded down to a multiple of 2^(PRIGROUP + 1)
+abbrev pub grouped : ℕ → ℕ → ℕ
+grouped group b = b / 2 ^ (group + 1) * 2 ^ (group + 1)
+
+-- the group priority of exception x
+abbrev pub group_priority : Nvic → ℕ → ℕ
+group_priority n x = fixed_or x (of_byte (grouped n.group (slice_index n.priorities x)))
+
+-- the less of p and the group priority of exception x, where that is active
+abbrev pub lessened : Nvic → ℕ → ℕ → ℕ
+lessened n x p = if is_in n.active x then min (group_priority n x) p else p
+
+-- the least group priority of the active exceptions below x
+unfoldable pub least_active : Nvic → ℕ → ℕ
+least_active n zero = lowest
+least_active n (suc x) = lessened n x (least_active n x)
+
+-- the priority to which the masks raise: -1 under FAULTMASK, 0 under PRIMASK, BASEPRI's group where it isn't 0
+abbrev pub boosted : ℕ → Masks → ℕ
+boosted group m =
+    if m.faultmask then 1
+    else if m.primask then of_byte 0
+    else if m.basepri == 0 then lowest
+    else of_byte (grouped group m.basepri)
+
+-- ExecutionPriority()
+unfoldable pub execution_priority : Nvic → ℕ
+execution_priority n = min (least_active n EXCEPTIONS) (boosted n.group n.masks)
+
+-- an exception that could be taken
+abbrev pub is_ready : Nvic → ℕ → Bool
+is_ready n x = is_in n.pending x && is_enabled n x
+
+-- x where its priority is less than that of the one before it, which has a lower number
+abbrev pub better_of : Nvic → Option ℕ → ℕ → Option ℕ
+better_of n None x = Some x
+better_of n (Some before) x = if nat_lt (priority_of n x) (priority_of n before) then Some x else Some before
+
+-- the better of one exception, if there is one, and x, where that is pending and enabled
+unfoldable pub with_ready : Nvic → ℕ → Option ℕ → Option ℕ
+with_ready n x before = if is_ready n x then better_of n before x else before
+
+-- the one with the least priority of the exceptions below x that are pending and enabled, and of several the first
+unfoldable pub best_below : Nvic → ℕ → Option ℕ
+best_below n zero = None
+best_below n (suc x) = with_ready n x (best_below n x)
+
+-- the best of all, whatever is active or masked: ICSR.VECTPENDING
+unfoldable pub best : Nvic → Option ℕ
+best n = best_below n EXCEPTIONS
+
+-- an exception preempts where its group priority is below the execution priority
+abbrev pub if_preempts : Nvic → Option ℕ → Option ℕ
+if_preempts n None = None
+if_preempts n (Some x) = if nat_lt (group_priority n x) (execution_priority n) then Some x else None
+
+-- the exception that is taken next, if any
+unfoldable pub candidate : Nvic → Option ℕ
+candidate n = if_preempts n (best n)
+
+-- what becomes of a fault or of SVC whose exception is x: its own exception where that is enabled and preempts,
+-- otherwise HardFault where the execution priority is 0 or above, and otherwise lockup
+unfoldable pub escalation : Nvic → ℕ → Escalation
+escalation n x =
+    if is_enabled n x && nat_lt (group_priority n x) (execution_priority n) then Itself
+    else if nat_le (of_byte 0) (execution_priority n) then HardFault
+    else Lockup
+
+-- whether a test holds of one of the exceptions below x
+unfoldable pub some_below : (ℕ → Bool) → ℕ → Bool
+some_below test zero = false
+some_below test (suc x) = some_below test x || test x
+
+-- an interrupt is pending, enabled or not: ICSR.ISRPENDING
+unfoldable pub is_interrupt_pending : Nvic → Bool
+is_interrupt_pending n = some_below (λ x. is_interrupt n.lines x && is_in n.pending x) EXCEPTIONS
+
+-- an exception is active that isn't x: what ICSR.RETTOBASE and ExceptionReturn() ask
+unfoldable pub is_other_active : Nvic → ℕ → Bool
+is_other_active n x = some_below (λ y. not (y == x) && is_in n.active y) EXCEPTIONS
+
+-- a set after x is put into it or taken out: a number that no exception of the board has is left
+abbrev pub with_member : ℕ → List Bool → ℕ → Bool → List Bool
+with_member lines set x on = if is_exception lines x then slice_set set x on else set
+
+abbrev pub with_pending : Nvic → ℕ → Bool → Nvic
+with_pending n x on = record n { pending = with_member n.lines n.pending x on }
+
+abbrev pub with_active : Nvic → ℕ → Bool → Nvic
+with_active n x on = record n { active = with_member n.lines n.active x on }
+
+-- an exception that can't be disabled is left
+abbrev pub with_enabled : Nvic → ℕ → Bool → Nvic
+with_enabled n x on = if is_switched n.lines x then record n { enabled = slice_set n.enabled x on } else n
+
+-- the top bits of a priority byte that the board keeps
+abbrev pub kept : ℕ → ℕ → ℕ
+kept bits b = b / 2 ^ (8 - bits) * 2 ^ (8 - bits)
+
+-- an exception that has no priority byte is left
+abbrev pub with_priority : Nvic → ℕ → ℕ → Nvic
+with_priority n x b =
+    if has_byte n.lines x then record n { priorities = slice_set n.priorities x (kept n.priority_bits b) } else n
+
+-- PRIGROUP has three bits
+abbrev pub with_group : Nvic → ℕ → Nvic
+with_group n g = record n { group = g % 8 }
+
+abbrev pub with_primask : Nvic → Bool → Nvic
+with_primask n on = record n { masks = record n.masks { primask = on } }
+
+abbrev pub with_faultmask : Nvic → Bool → Nvic
+with_faultmask n on = record n { masks = record n.masks { faultmask = on } }
+
+-- BASEPRI keeps the bits that a priority byte keeps
+abbrev pub with_basepri : Nvic → ℕ → Nvic
+with_basepri n b = record n { masks = record n.masks { basepri = kept n.priority_bits b } }
+
+-- whether a set of bits has x: bit x mod 32 of word x / 32
+abbrev pub is_due : List ℕ → ℕ → Bool
+is_due due x = is_bit (slice_index due (x / 32)) (x % 32)
+
+-- x becomes pending where it's due
+unfoldable pub with_due_at : Nvic → List ℕ → ℕ → Nvic
+with_due_at n due x = if is_due due x then with_pending n x true else n
+
+-- those of the exceptions below x become pending that are due
+unfoldable pub with_due_below : Nvic → List ℕ → ℕ → Nvic
+with_due_below n due zero = n
+with_due_below n due (suc x) = with_due_at (with_due_below n due x) due x
+
+-- all that are due become pending
+unfoldable pub with_due : Nvic → List ℕ → Nvic
+with_due n due = with_due_below n due EXCEPTIONS
+
+-- the candidate with these pending too, and PRIMASK as given
+unfoldable pub candidate_after : Nvic → List ℕ → Bool → Option ℕ
+candidate_after n due primask = candidate (with_primask (with_due n due) primask)
+
+-- after a reset: nothing is pending, enabled or active, no priority is raised, and nothing is masked
+abbrev pub reset_nvic : ℕ → ℕ → Nvic
+reset_nvic lines bits = record {
+  pending = replicate EXCEPTIONS false;
+  enabled = replicate EXCEPTIONS false;
+  active = replicate EXCEPTIONS false;
+  priorities = replicate EXCEPTIONS 0;
+  group = 0;
+  masks = record { primask = false; faultmask = false; basepri = 0 };
+  lines = min lines MOST_LINES;
+  priority_bits = bits;
+}
