@@ -14,3 +14,4 @@ pub mod Text
 pub mod Images
 pub mod Start
 pub mod Places
+pub mod Time
