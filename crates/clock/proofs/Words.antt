@@ -1,9 +1,8 @@
 -- Sets of exceptions, written as words.
-use Rattle.std.specs.Prelude.{ℕ, ◌+◌, ◌*◌, ◌/◌, ◌%◌, ◌^◌, ◌<◌, ◌≡◌, ◌≢◌, ◌⊎◌, Bool, true, false, ◌||◌, ◌==◌, bit_or, List, length, slice_index, slice_set, refl}
-use Rattle.std.proofs.Common.{arith, ap, ◌∙◌, sym, inl, inr, w32}
+use Rattle.std.specs.Prelude.{ℕ, ◌*◌, ◌/◌, ◌%◌, ◌^◌, ◌<◌, ◌≡◌, ◌≢◌, true, ◌||◌, ◌==◌, bit_or, List, length, slice_index, slice_set}
+use Rattle.std.proofs.Common.{arith, ap, w32}
 use Rattle.std.proofs.lemmas.Bool.{eq-eqb}
 use Rattle.std.proofs.lemmas.Grind.{common_steps}
-use Rattle.std.proofs.lemmas.List.{get_or-set_same, get_or-set_other}
 use Rattle.std.proofs.lemmas.Nat.Bits.{bit_at_set_same, bit_at_set_other}
 use Rattle.reference.specs.Time.{is_in}
 use Rattle.reference.specs.Words.{is_bit}

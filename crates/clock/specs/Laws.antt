@@ -1,5 +1,5 @@
 -- What the laws of time say.
-use Rattle.std.specs.Prelude.{ℕ, zero, suc, ◌+◌, ◌-◌, ◌<◌, ◌≤◌, ◌≡◌, ◌⊎◌, Bool, true, false, ◌==◌, List, [], ◌∷◌}
+use Rattle.std.specs.Prelude.{ℕ, zero, suc, ◌+◌, ◌-◌, ◌<◌, ◌≤◌, ◌≡◌, ◌⊎◌, true, false, ◌==◌, List, [], ◌∷◌}
 use Rattle.std.specs.List.{filter}
 use Rattle.reference.specs.declared.script.ScriptedEvent.{ScriptedEvent}
 use Rattle.reference.specs.Time.{Time, SysTick, ticked, tick_pends, passed, counted, reaches_zero, due_of, due_count, events_of, events_after, last_tick}
@@ -22,11 +22,10 @@ IsSortedFrom tick [] = Unit {0}
 IsSortedFrom tick (e ∷ events) = (tick ≤ e.at) × IsSortedFrom e.at events
 
 -- of a sorted script with no event in the past, a tick applies the events that name it and leaves the later ones
-abbrev pub AppliesThoseOfTheTick : Time → Type 0
-AppliesThoseOfTheTick t =
-    IsSortedFrom (t.ticks + 1) t.script →
-    (events_of (t.ticks + 1) t.script ≡ filter (λ e. e.at == t.ticks + 1) t.script)
-    × IsSortedFrom (t.ticks + 2) (events_after (t.ticks + 1) t.script)
+abbrev pub AppliesThoseOfTheTick : ℕ → List ScriptedEvent → Type 0
+AppliesThoseOfTheTick tick script =
+    IsSortedFrom tick script →
+    (events_of tick script ≡ filter (λ e. e.at == tick) script) × IsSortedFrom (tick + 1) (events_after tick script)
 
 -- SysTick after so many counts
 abbrev pub counts : ℕ → SysTick → SysTick

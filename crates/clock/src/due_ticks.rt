@@ -1,8 +1,8 @@
 //! How a clock counts: on each tick, or only where something is due.
 
-ghost use Rattle.std.specs.Prelude.{◌≡◌, ℕ, ◌+◌, ◌≤◌, min, Option, None, true, IfSome};
+ghost use Rattle.std.specs.Prelude.{◌≡◌, ℕ, ◌+◌, ◌≤◌, Option, None, true, IfSome};
 ghost use Rattle.clock.specs.Kept.{is_before};
-ghost use Rattle.reference.specs.Time.{SysTick as Timer, next_current, never, timer_due, reset_systick};
+ghost use Rattle.reference.specs.Time.{SysTick as Timer, next_current, next_due, reset_systick};
 
 use crate::timer::SysTick;
 use std::marker::Model;
@@ -25,7 +25,7 @@ pub trait DueTicks: Drop {
     fn fresh(next_event: u64) -> Self
         ensures systick { systick_at result 0 ≡ reset_systick }
         ensures since { since result ≡ 0 }
-        ensures due { IfSome (due result) (λ tick. tick ≡ min never (min (timer_due 0 reset_systick) next_event)) };
+        ensures due { IfSome (due result) (λ tick. tick ≡ next_due 0 reset_systick next_event) };
 
     /// Whether nothing is due at the tick after this one, as far as is kept.
     fn is_quiet_after(&self, now: u64) -> bool
@@ -42,7 +42,7 @@ pub trait DueTicks: Drop {
     fn set(&mut self, now: u64, systick: SysTick, next_event: u64)
         ensures systick { systick_at self.new now ≡ systick }
         ensures since { since self.new ≤ now }
-        ensures due { IfSome (due self.new) (λ tick. tick ≡ min never (min (timer_due now systick) next_event)) };
+        ensures due { IfSome (due self.new) (λ tick. tick ≡ next_due now systick next_event) };
 }
 
 /// Counts on each tick, and keeps none.

@@ -1,24 +1,25 @@
-//! Time: the clock, SysTick, the external lines and the script of events.
+//! Time: the clock, SysTick, the external lines and the script of events (ARM DDI 0403, "System
+//! timer, SysTick"; the rest is this project's profile).
 #![tactic(auto)]
 
-ghost use Rattle.std.specs.Prelude.{◌≡◌, ◌^◌, ◌<◌, ◌+◌, ℕ, false, ◌&&◌, ◌||◌, ◌==◌};
-ghost use Rattle.clock.specs.Kept.{Kept, IsRight, IsQuiet};
-ghost use Rattle.reference.specs.Time.{Time as TheTime, ticked, tick_pends, passed, is_high, start_time, csr, after_csr_read, with_csr, with_rvr, with_cvr_cleared, IsSetOf};
+ghost use Rattle.std.specs.Prelude.{◌≡◌, ◌^◌, ◌<◌, false};
+ghost use Rattle.clock.specs.Kept.{IsRight, IsQuiet};
+ghost use Rattle.reference.specs.Time.{ticked, tick_pends, passed, is_high, start_time, csr, after_csr_read, with_csr, with_rvr, with_cvr_cleared, IsSetOf};
 
 mod due_ticks;
 pub mod laws;
 mod lines;
+mod script;
 mod sets;
 mod timer;
 
 pub use due_ticks::{Counting, DueTicks};
+use lines::Levels;
 pub use reference::script::{InterruptLine, ScriptedEvent, Signal};
 pub use sets::Due;
-pub use timer::SysTick;
-
-use lines::Levels;
 use sets::NOTHING;
 use std::marker::Model;
+pub use timer::SysTick;
 
 #[cfg(test)]
 mod tests;
@@ -62,7 +63,7 @@ impl<U: DueTicks> Clock<U> {
     {
         Clock {
             ticks: 0,
-            timer: U::fresh(sets::script_due(script.as_slice())),
+            timer: U::fresh(script::script_due(script.as_slice())),
             high: [false; lines::LINES],
             script,
             done: 0,
@@ -108,7 +109,7 @@ impl<U: DueTicks> Clock<U> {
     {
         let mut due = NOTHING;
         let script = &self.script[self.done..];
-        let count = sets::due_count(self.ticks + 1, script);
+        let count = script::due_count(self.ticks + 1, script);
         sets::put_events(&mut due, &script[..count]);
         sets::put_timer(&mut due, &self.systick());
         due
@@ -144,10 +145,10 @@ impl<U: DueTicks> Clock<U> {
         let mut systick = self.systick();
         systick.count();
         self.ticks += 1;
-        let count = sets::due_count(self.ticks, &self.script[self.done..]);
+        let count = script::due_count(self.ticks, &self.script[self.done..]);
         lines::take_events(&mut self.high, &self.script[self.done..self.done + count]);
         self.done += count;
-        self.timer.set(self.ticks, systick, sets::script_due(&self.script[self.done..]));
+        self.set_systick(systick);
     }
 
     /// A read of SYST_CSR, SysTick's Control and Status Register. It clears COUNTFLAG.
@@ -219,7 +220,7 @@ impl<U: DueTicks> Clock<U> {
         ensures time { self.new.time ≡ record self.old.time { systick = systick } }
         ensures right { IsRight self.new }
     {
-        let next_event = sets::script_due(&self.script[self.done..]);
+        let next_event = script::script_due(&self.script[self.done..]);
         self.timer.set(self.ticks, systick, next_event);
     }
 }

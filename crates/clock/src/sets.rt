@@ -1,9 +1,8 @@
-//! The exceptions that a tick pends, and what the script has to do with them.
+//! Sets of exceptions, and what a tick puts into one.
 
-ghost use Rattle.std.specs.Prelude.{◌≡◌, ◌==◌, ◌||◌, ◌&&◌, ◌<◌, ◌≤◌, ℕ, false, Bool, length};
+ghost use Rattle.std.specs.Prelude.{◌≡◌, ◌==◌, ◌||◌, ◌&&◌, ◌<◌, ℕ};
 ghost use Rattle.std.specs.List.{list_any};
-ghost use Rattle.reference.specs.Time.{is_in, pends, line_exception, systick_exception, reaches_zero, due_count, script_due};
-ghost use Rattle.reference.specs.declared.script.Signal.{Signal as TheSignal};
+ghost use Rattle.reference.specs.Time.{is_in, pends, line_exception, systick_exception, reaches_zero};
 
 use crate::timer::SysTick;
 use reference::script::{InterruptLine, ScriptedEvent, Signal};
@@ -18,18 +17,15 @@ pub const NOTHING: Due = [0; 8];
 const NMI: u8 = 2;
 
 /// The number of SysTick's exception.
-pub const SYSTICK: u8 = 15;
+const SYSTICK: u8 = 15;
 
 /// The number of line 0's exception.
 const FIRST_LINE: u8 = 16;
 
-/// A tick that a clock never reaches.
-pub const NEVER: u64 = (1 << 48) + 1;
-
 /// Puts an exception into a set.
 #[inline]
 #[tactic(auto, using(crate::proofs::Words::put_in))]
-pub fn put(due: &mut Due, number: u8)
+fn put(due: &mut Due, number: u8)
     ensures { (n : ℕ) → n < 256 → is_in due.new n ≡ ((n == number) || is_in due.old n) }
 {
     let word = (number / 32) as usize;
@@ -38,7 +34,7 @@ pub fn put(due: &mut Due, number: u8)
 
 /// Puts the exception that a signal pends into a set, if there is one.
 #[inline]
-pub fn put_signal(due: &mut Due, signal: Signal)
+fn put_signal(due: &mut Due, signal: Signal)
     ensures { (n : ℕ) → n < 256 → is_in due.new n ≡ (pends signal n || is_in due.old n) }
 {
     match signal {
@@ -70,30 +66,5 @@ pub fn put_timer(due: &mut Due, timer: &SysTick)
 {
     if timer.will_pend() {
         put(due, SYSTICK);
-    }
-}
-
-/// How many of the first events aren't later than a tick.
-#[inline]
-pub fn due_count(tick: u64, script: &[ScriptedEvent]) -> usize
-    ensures value { result ≡ due_count tick script.now }
-    ensures within { result ≤ length script.now }
-{
-    for (count, event) in script.iter().enumerate() {
-        if event.at > tick {
-            return count;
-        }
-    }
-    script.len()
-}
-
-/// The tick at which a script goes on.
-#[inline]
-pub fn script_due(script: &[ScriptedEvent]) -> u64
-    ensures { result ≡ script_due script.now }
-{
-    match script.first() {
-        Some(event) => event.at,
-        None => NEVER,
     }
 }

@@ -92,7 +92,10 @@ impl SysTick {
     pub(crate) fn csr(&self) -> u32
         ensures { result ≡ csr_of self.now }
     {
-        weighed(self.enable, 1) + weighed(self.tickint, 1 << 1) + (1 << 2) + weighed(self.countflag, 1 << 16)
+        weighed(self.enable, 1)
+            + weighed(self.tickint, 1 << 1)
+            + (1 << 2)
+            + weighed(self.countflag, 1 << 16)
     }
 
     /// What a read of SYST_CSR leaves: COUNTFLAG is cleared.
@@ -136,7 +139,7 @@ impl SysTick {
         ensures { self.new ≡ with_cvr_cleared self.old }
     {
         self.current = 0;
-        self.countflag = false;
+        self.clear_countflag();
     }
 }
 

@@ -1,7 +1,7 @@
 -- Time: the clock, SysTick (ARM DDI 0403, "System timer, SysTick"), the lines of the external interrupts and the script
 -- of events. That each tick is one count of SysTick is this project's choice, and so is all that is said of the clock, of
 -- lines and of scripts (profile).
-use Rattle.std.specs.Prelude.{ℕ, ◌+◌, ◌-◌, ◌*◌, ◌/◌, ◌%◌, ◌^◌, ◌<◌, min, Bool, true, false, ◌&&◌, ◌||◌, nat_le, ◌==◌, ◌≡◌, if◌then◌else◌, List, [], ◌∷◌, take, drop, slice_set, slice_index, slice_index_or, replicate}
+use Rattle.std.specs.Prelude.{ℕ, ◌+◌, ◌-◌, ◌/◌, ◌%◌, ◌^◌, ◌<◌, min, Bool, true, false, ◌&&◌, ◌||◌, nat_le, ◌==◌, ◌≡◌, if◌then◌else◌, List, [], ◌∷◌, take, drop, slice_set, slice_index, slice_index_or, replicate}
 use Rattle.std.specs.List.{prefix_len, list_any}
 use Rattle.reference.specs.declared.script.ScriptedEvent.{ScriptedEvent}
 use Rattle.reference.specs.declared.script.Signal.{Signal}
@@ -164,9 +164,13 @@ abbrev pub script_due : List ScriptedEvent → ℕ
 script_due [] = never
 script_due (e ∷ events) = e.at
 
+-- the first of both, where the script goes on at a given tick
+abbrev pub next_due : ℕ → SysTick → ℕ → ℕ
+next_due ticks t event = min never (min (timer_due ticks t) event)
+
 -- the next tick at which SysTick reaches 0 or an event applies
 abbrev pub due_of : Time → ℕ
-due_of t = min never (min (timer_due t.ticks t.systick) (script_due t.script))
+due_of t = next_due t.ticks t.systick (script_due t.script)
 
 -- time after a tick at which nothing is due: the clock goes on, SYST_CVR counts, and nothing else changes
 abbrev pub passed : Time → Time
