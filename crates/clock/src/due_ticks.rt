@@ -1,6 +1,6 @@
 //! How a clock counts: on each tick, or only where something is due.
 
-ghost use Rattle.std.specs.Prelude.{◌≡◌, ℕ, ◌+◌, ◌≤◌, Option, None, true, IfSome};
+ghost use Rattle.std.specs.Prelude.{◌≡◌, ℕ, ◌+◌, ◌^◌, ◌≤◌, Option, None, true, IfSome};
 ghost use Rattle.clock.specs.Kept.{is_before};
 ghost use Rattle.reference.specs.Time.{SysTick as Timer, next_current, next_due, reset_systick};
 
@@ -29,17 +29,20 @@ pub trait DueTicks: Drop {
 
     /// Whether nothing is due at the tick after this one, as far as is kept.
     fn is_quiet_after(&self, now: u64) -> bool
-        requires { since self.now ≤ now }
+        requires known { since self.now ≤ now }
+        requires bounded { now ≤ 2 ^ 48 }
         ensures answer { result ≡ is_before (now + 1) (due self.now) }
         ensures passes { result ≡ true → systick_at self.now (now + 1) ≡ record (systick_at self.now now) { current = next_current (systick_at self.now now) } };
 
     /// SysTick at a tick.
     fn systick(&self, now: u64) -> SysTick
-        requires { since self.now ≤ now }
+        requires known { since self.now ≤ now }
+        requires bounded { now ≤ 2 ^ 48 }
         ensures { result ≡ systick_at self.now now };
 
     /// SysTick is what is given at a tick, and the script goes on at another.
     fn set(&mut self, now: u64, systick: SysTick, next_event: u64)
+        requires { now ≤ 2 ^ 48 }
         ensures systick { systick_at self.new now ≡ systick }
         ensures since { since self.new ≤ now }
         ensures due { IfSome (due self.new) (λ tick. tick ≡ next_due now systick next_event) };

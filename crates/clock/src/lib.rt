@@ -2,7 +2,7 @@
 //! timer, SysTick"; the rest is this project's profile).
 #![tactic(auto)]
 
-ghost use Rattle.std.specs.Prelude.{◌≡◌, ◌^◌, ◌<◌, false};
+ghost use Rattle.std.specs.Prelude.{◌≡◌, ◌^◌, ◌<◌, ◌≤◌, false};
 ghost use Rattle.clock.specs.Kept.{IsRight, IsQuiet};
 ghost use Rattle.reference.specs.Time.{ticked, tick_pends, passed, is_high, start_time, csr, after_csr_read, with_csr, with_rvr, with_cvr_cleared, IsSetOf};
 
@@ -37,7 +37,7 @@ pub struct Clock<U: DueTicks> {
 }
 
 impl<U: DueTicks> Model for Clock<U> {
-    ghost use Rattle.std.specs.Prelude.{◌≤◌, length, drop};
+    ghost use Rattle.std.specs.Prelude.{◌≤◌, ◌^◌, length, drop};
     ghost use Rattle.clock.specs.Kept.{Kept};
 
     ghost Value = { Kept };
@@ -52,7 +52,7 @@ impl<U: DueTicks> Model for Clock<U> {
       due = U.due c.timer;
     } };
 
-    ghost invariant = { λ c. (U.since c.timer ≤ c.ticks) × (c.done ≤ length c.script.items) };
+    ghost invariant = { λ c. (U.since c.timer ≤ c.ticks) × (c.ticks ≤ 2 ^ 48) × (c.done ≤ length c.script.items) };
 }
 
 impl<U: DueTicks> Clock<U> {
@@ -70,11 +70,11 @@ impl<U: DueTicks> Clock<U> {
         }
     }
 
-    /// How many ticks have gone by.
+    /// How many ticks have gone by, at most 2^48.
     #[inline]
     pub fn now(&self) -> u64
         ensures value { result ≡ self.now.time.ticks }
-        ensures small { result < 2 ^ 64 }
+        ensures small { result ≤ 2 ^ 48 }
     {
         self.ticks
     }
@@ -86,7 +86,7 @@ impl<U: DueTicks> Clock<U> {
         lines::is_high(&self.high, line)
     }
 
-    /// What the next tick would pend.
+    /// What the next tick would pend. It is asked of a clock that isn't at its end, as is `tick`.
     #[inline]
     #[tactic(auto, using(crate::proofs::Quiet::right_pends))]
     pub fn peek(&self) -> Due

@@ -139,12 +139,12 @@ abbrev pub start_time : List ScriptedEvent → Time
 start_time script = record { ticks = 0; systick = reset_systick; high = replicate 240 false; script = script }
 
 -- A set of exceptions as eight words: bit n mod 32 of word n / 32 says whether n is in it.
-abbrev pub is_in : List ℕ → ℕ → Bool
-is_in words n = is_bit (slice_index words (n / 32)) (n % 32)
+abbrev pub is_due : List ℕ → ℕ → Bool
+is_due words n = is_bit (slice_index words (n / 32)) (n % 32)
 
 -- the words are those of the set with this test
 abbrev pub IsSetOf : List ℕ → (ℕ → Bool) → Type 0
-IsSetOf words test = (n : ℕ) → n < 256 → is_in words n ≡ test n
+IsSetOf words test = (n : ℕ) → n < 256 → is_due words n ≡ test n
 
 -- When something is due
 
