@@ -6,7 +6,7 @@ use Rattle.std.proofs.Math.Nat.{eq-or-lt_of_le}
 use Rattle.std.proofs.lemmas.Grind.{common_steps}
 use Rattle.clock.specs.Laws.{IsSortedFrom, AppliesThoseOfTheTick}
 use Rattle.reference.specs.declared.script.ScriptedEvent.{ScriptedEvent}
-use Rattle.reference.specs.Time.{events_of, events_after}
+use Rattle.reference.specs.Time.{events_at, events_after}
 
 -- the events that name a tick
 abbrev named : ℕ → List ScriptedEvent → List ScriptedEvent
@@ -21,14 +21,14 @@ none tick from (e ∷ events) h s =
 
 -- an event of the tick, and one behind it
 those_now : (tick : ℕ) (e : ScriptedEvent) (events : List ScriptedEvent) → tick ≡ e.at →
-    events_of tick events ≡ named tick events → events_of tick (e ∷ events) ≡ named tick (e ∷ events)
+    events_at tick events ≡ named tick events → events_at tick (e ∷ events) ≡ named tick (e ∷ events)
 those_now tick e events q rest = grind (arith, common_steps)
 
 those_later : (tick : ℕ) (e : ScriptedEvent) (events : List ScriptedEvent) → tick < e.at →
-    named tick events ≡ [] → events_of tick (e ∷ events) ≡ named tick (e ∷ events)
+    named tick events ≡ [] → events_at tick (e ∷ events) ≡ named tick (e ∷ events)
 those_later tick e events h rest = grind (arith, common_steps)
 
-those : (tick : ℕ) (script : List ScriptedEvent) → IsSortedFrom tick script → events_of tick script ≡ named tick script
+those : (tick : ℕ) (script : List ScriptedEvent) → IsSortedFrom tick script → events_at tick script ≡ named tick script
 those tick [] s = refl
 those tick (e ∷ events) s =
     elim (eq-or-lt_of_le s.0) [

@@ -2,13 +2,13 @@
 use Rattle.std.specs.Prelude.{ℕ, zero, suc, ◌+◌, ◌-◌, ◌<◌, ◌≤◌, ◌≡◌, ◌⊎◌, true, false, ◌==◌, List, [], ◌∷◌}
 use Rattle.std.specs.List.{filter}
 use Rattle.reference.specs.declared.script.ScriptedEvent.{ScriptedEvent}
-use Rattle.reference.specs.Time.{Time, SysTick, ticked, tick_pends, passed, counted, reaches_zero, due_of, due_count, events_of, events_after, last_tick}
+use Rattle.reference.specs.Time.{Time, SysTick, after_tick, tick_pends, passed, counted, reaches_zero, due_of, due_count, events_at, events_after, last_tick}
 
 -- a tick before what is due changes the clock and the counter alone and pends nothing, and what is due stays so
 abbrev pub QuietBeforeDue : Time → Type 0
 QuietBeforeDue t =
     t.ticks + 1 < due_of t →
-    (ticked t ≡ passed t) × ((n : ℕ) → tick_pends t n ≡ false) × (due_of (passed t) ≡ due_of t)
+    (after_tick t ≡ passed t) × ((n : ℕ) → tick_pends t n ≡ false) × (due_of (passed t) ≡ due_of t)
 
 -- in the tick that is due SysTick goes from 1 to 0, or an event applies
 abbrev pub HappensWhenDue : Time → Type 0
@@ -25,7 +25,7 @@ IsSortedFrom tick (e ∷ events) = (tick ≤ e.at) × IsSortedFrom e.at events
 abbrev pub AppliesThoseOfTheTick : ℕ → List ScriptedEvent → Type 0
 AppliesThoseOfTheTick tick script =
     IsSortedFrom tick script →
-    (events_of tick script ≡ filter (λ e. e.at == tick) script) × IsSortedFrom (tick + 1) (events_after tick script)
+    (events_at tick script ≡ filter (λ e. e.at == tick) script) × IsSortedFrom (tick + 1) (events_after tick script)
 
 -- SysTick after so many counts
 abbrev pub counts : ℕ → SysTick → SysTick

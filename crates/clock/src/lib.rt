@@ -4,7 +4,7 @@
 
 ghost use Rattle.std.specs.Prelude.{◌≡◌, ◌^◌, ◌<◌, ◌≤◌, false};
 ghost use Rattle.clock.specs.Kept.{IsRight, IsQuiet};
-ghost use Rattle.reference.specs.Time.{ticked, tick_pends, passed, is_high, start_time, csr, after_csr_read, with_csr, with_rvr, with_cvr_cleared, IsSetOf};
+ghost use Rattle.reference.specs.Time.{after_tick, tick_pends, passed, is_high, start_time, csr, after_csr_read, with_csr, with_rvr, with_cvr_cleared, IsSetOf};
 
 mod due_ticks;
 pub mod laws;
@@ -120,7 +120,7 @@ impl<U: DueTicks> Clock<U> {
     #[tactic(auto, using(crate::proofs::Quiet::right_tick, crate::proofs::Quiet::right_pends, crate::proofs::Quiet::right_stays))]
     pub fn tick(&mut self) -> Due
         requires { self.old.time.ticks < 2 ^ 48 }
-        ensures time { IsRight self.old → self.new.time ≡ ticked self.old.time }
+        ensures time { IsRight self.old → self.new.time ≡ after_tick self.old.time }
         ensures due { IsRight self.old → IsSetOf result (tick_pends self.old.time) }
         ensures right { IsRight self.old → IsRight self.new }
         ensures passes { IsQuiet self.old → self.new ≡ record self.old { time = passed self.old.time } }
@@ -136,10 +136,10 @@ impl<U: DueTicks> Clock<U> {
     }
 
     /// A tick that isn't passed over.
-    #[tactic(auto, unfolding(reference::specs::Time::ticked))]
+    #[tactic(auto, unfolding(reference::specs::Time::after_tick))]
     fn count(&mut self)
         requires { self.old.time.ticks < 2 ^ 48 }
-        ensures time { self.new.time ≡ ticked self.old.time }
+        ensures time { self.new.time ≡ after_tick self.old.time }
         ensures right { IsRight self.new }
     {
         let mut systick = self.systick();

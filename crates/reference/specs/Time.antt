@@ -88,8 +88,8 @@ abbrev pub due_count : ℕ → List ScriptedEvent → ℕ
 due_count tick script = prefix_len (λ e. nat_le e.at tick) script
 
 -- the events that apply in a tick, and those that are left after it
-abbrev pub events_of : ℕ → List ScriptedEvent → List ScriptedEvent
-events_of tick script = take (due_count tick script) script
+abbrev pub events_at : ℕ → List ScriptedEvent → List ScriptedEvent
+events_at tick script = take (due_count tick script) script
 
 abbrev pub events_after : ℕ → List ScriptedEvent → List ScriptedEvent
 events_after tick script = drop (due_count tick script) script
@@ -120,11 +120,11 @@ is_high t line = slice_index_or t.high line false
 -- A tick
 
 -- time after the next tick: the clock goes on by one, SysTick counts, and then the tick's events apply in file order
-unfoldable pub ticked : Time → Time
-ticked t = record {
+unfoldable pub after_tick : Time → Time
+after_tick t = record {
   ticks = t.ticks + 1;
   systick = counted t.systick;
-  high = with_events t.high (events_of (t.ticks + 1) t.script);
+  high = with_events t.high (events_at (t.ticks + 1) t.script);
   script = events_after (t.ticks + 1) t.script;
 }
 
@@ -132,7 +132,7 @@ ticked t = record {
 unfoldable pub tick_pends : Time → ℕ → Bool
 tick_pends t n =
     (reaches_zero t.systick && t.systick.tickint && (n == systick_exception))
-    || list_any (λ e. pends e.what n) (events_of (t.ticks + 1) t.script)
+    || list_any (λ e. pends e.what n) (events_at (t.ticks + 1) t.script)
 
 -- time at the start
 abbrev pub start_time : List ScriptedEvent → Time
