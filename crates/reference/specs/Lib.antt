@@ -16,3 +16,4 @@ pub mod Images
 pub mod Start
 pub mod Places
 pub mod Priorities
+pub mod Time

@@ -11,4 +11,5 @@ pub mod instruction;
 pub mod place;
 pub mod registers;
 pub mod shift;
+pub mod script;
 pub mod stop;

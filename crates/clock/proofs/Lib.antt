@@ -1,0 +1,4 @@
+pub mod Periods
+pub mod Quiet
+pub mod Scripts
+pub mod Words

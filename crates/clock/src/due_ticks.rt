@@ -1,0 +1,84 @@
+//! How a clock counts: on each tick, or only where something is due.
+
+ghost use Rattle.std.specs.Prelude.{◌≡◌, ℕ, ◌+◌, ◌^◌, ◌≤◌, Option, None, true, IfSome};
+ghost use Rattle.clock.specs.Kept.{is_before};
+ghost use Rattle.reference.specs.Time.{SysTick as Timer, next_current, next_due, reset_systick};
+
+use crate::timer::SysTick;
+use std::marker::Model;
+
+/// SysTick as a clock keeps it, and the next tick at which something is due, if that is kept.
+pub trait DueTicks: Drop {
+    ghost use Rattle.std.specs.Prelude.{ℕ, Option};
+    ghost use Rattle.reference.specs.Time.{SysTick as Timer};
+
+    /// SysTick after this many ticks, while no register is written and nothing is due.
+    ghost systick_at: { Self → ℕ → Timer };
+
+    /// The tick from which on that is known.
+    ghost since: { Self → ℕ };
+
+    /// The tick that is kept as the next one at which something is due, if one is kept.
+    ghost due: { Self → Option ℕ };
+
+    /// SysTick after a reset, where the script goes on at a tick.
+    fn fresh(next_event: u64) -> Self
+        ensures systick { systick_at result 0 ≡ reset_systick }
+        ensures since { since result ≡ 0 }
+        ensures due { IfSome (due result) (λ tick. tick ≡ next_due 0 reset_systick next_event) };
+
+    /// Whether nothing is due at the tick after this one, as far as is kept.
+    fn is_quiet_after(&self, now: u64) -> bool
+        requires known { since self.now ≤ now }
+        requires bounded { now ≤ 2 ^ 48 }
+        ensures answer { result ≡ is_before (now + 1) (due self.now) }
+        ensures passes { result ≡ true → systick_at self.now (now + 1) ≡ record (systick_at self.now now) { current = next_current (systick_at self.now now) } };
+
+    /// SysTick at a tick.
+    fn systick(&self, now: u64) -> SysTick
+        requires known { since self.now ≤ now }
+        requires bounded { now ≤ 2 ^ 48 }
+        ensures { result ≡ systick_at self.now now };
+
+    /// SysTick is what is given at a tick, and the script goes on at another.
+    fn set(&mut self, now: u64, systick: SysTick, next_event: u64)
+        requires { now ≤ 2 ^ 48 }
+        ensures systick { systick_at self.new now ≡ systick }
+        ensures since { since self.new ≤ now }
+        ensures due { IfSome (due self.new) (λ tick. tick ≡ next_due now systick next_event) };
+}
+
+/// Counts on each tick, and keeps none.
+#[derive(Drop)]
+pub struct Counting {
+    systick: SysTick,
+}
+
+impl DueTicks for Counting {
+    ghost systick_at = { λ c _. c.systick };
+
+    ghost since = { λ _. 0 };
+
+    ghost due = { λ _. None };
+
+    fn fresh(_next_event: u64) -> Self {
+        Counting {
+            systick: SysTick::reset(),
+        }
+    }
+
+    #[inline]
+    fn is_quiet_after(&self, _now: u64) -> bool {
+        false
+    }
+
+    #[inline]
+    fn systick(&self, _now: u64) -> SysTick {
+        self.systick
+    }
+
+    #[inline]
+    fn set(&mut self, _now: u64, systick: SysTick, _next_event: u64) {
+        self.systick = systick;
+    }
+}

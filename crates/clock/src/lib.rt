@@ -1,0 +1,226 @@
+//! Time: the clock, SysTick, the external lines and the script of events (ARM DDI 0403, "System
+//! timer, SysTick"; the rest is this project's profile).
+#![tactic(auto)]
+
+ghost use Rattle.std.specs.Prelude.{◌≡◌, ◌^◌, ◌<◌, ◌≤◌, false};
+ghost use Rattle.clock.specs.Kept.{IsRight, IsQuiet};
+ghost use Rattle.reference.specs.Time.{after_tick, tick_pends, passed, is_high, start_time, csr, after_csr_read, with_csr, with_rvr, with_cvr_cleared, IsSetOf};
+
+mod due_ticks;
+pub mod laws;
+mod lines;
+mod script;
+mod sets;
+mod timer;
+
+pub use due_ticks::{Counting, DueTicks};
+use lines::Levels;
+pub use reference::script::{InterruptLine, ScriptedEvent, Signal};
+pub use sets::Due;
+use sets::NOTHING;
+use std::marker::Model;
+pub use timer::SysTick;
+
+#[cfg(test)]
+mod tests;
+
+/// Time. A contract sees it as the reference's `Time`, and beside it the tick that it keeps as the
+/// next one at which something is due.
+#[derive(Drop)]
+pub struct Clock<U: DueTicks> {
+    ticks: u64,
+    timer: U,
+    high: Levels,
+    script: Vec<ScriptedEvent>,
+    /// How many events of the script have applied.
+    done: usize,
+}
+
+impl<U: DueTicks> Model for Clock<U> {
+    ghost use Rattle.std.specs.Prelude.{◌≤◌, ◌^◌, length, drop};
+    ghost use Rattle.clock.specs.Kept.{Kept};
+
+    ghost Value = { Kept };
+
+    ghost view = { λ c. record {
+      time = record {
+        ticks = c.ticks;
+        systick = U.systick_at c.timer c.ticks;
+        high = c.high;
+        script = drop c.done c.script.items;
+      };
+      due = U.due c.timer;
+    } };
+
+    ghost invariant = { λ c. (U.since c.timer ≤ c.ticks) × (c.ticks ≤ 2 ^ 48) × (c.done ≤ length c.script.items) };
+}
+
+impl<U: DueTicks> Clock<U> {
+    /// A clock before its first tick, with a script.
+    pub fn new(script: Vec<ScriptedEvent>) -> Self
+        ensures time { result.time ≡ start_time script.items }
+        ensures right { IsRight result }
+    {
+        Clock {
+            ticks: 0,
+            timer: U::fresh(script::script_due(script.as_slice())),
+            high: [false; lines::LINES],
+            script,
+            done: 0,
+        }
+    }
+
+    /// How many ticks have gone by, at most 2^48.
+    #[inline]
+    pub fn now(&self) -> u64
+        ensures value { result ≡ self.now.time.ticks }
+        ensures small { result ≤ 2 ^ 48 }
+    {
+        self.ticks
+    }
+
+    /// Whether a line is high.
+    pub fn high(&self, line: u8) -> bool
+        ensures { result ≡ is_high self.now.time line }
+    {
+        lines::is_high(&self.high, line)
+    }
+
+    /// What the next tick would pend. It is asked of a clock that isn't at its end, as is `tick`.
+    #[inline]
+    #[tactic(auto, using(crate::proofs::Quiet::right_pends))]
+    pub fn peek(&self) -> Due
+        requires { self.now.time.ticks < 2 ^ 48 }
+        ensures due { IsRight self.now → IsSetOf result (tick_pends self.now.time) }
+        ensures quiet { IsQuiet self.now → IsSetOf result (λ _. false) }
+    {
+        if self.timer.is_quiet_after(self.ticks) {
+            NOTHING
+        } else {
+            self.due_next()
+        }
+    }
+
+    /// What the next tick pends, where it isn't passed over.
+    #[tactic(auto, unfolding(reference::specs::Time::tick_pends))]
+    fn due_next(&self) -> Due
+        requires { self.now.time.ticks < 2 ^ 48 }
+        ensures { IsSetOf result (tick_pends self.now.time) }
+    {
+        let mut due = NOTHING;
+        let script = &self.script[self.done..];
+        let count = script::due_count(self.ticks + 1, script);
+        sets::put_events(&mut due, &script[..count]);
+        sets::put_timer(&mut due, &self.systick());
+        due
+    }
+
+    /// The next tick. Gives the exceptions that it pends.
+    #[inline]
+    #[tactic(auto, using(crate::proofs::Quiet::right_tick, crate::proofs::Quiet::right_pends, crate::proofs::Quiet::right_stays))]
+    pub fn tick(&mut self) -> Due
+        requires { self.old.time.ticks < 2 ^ 48 }
+        ensures time { IsRight self.old → self.new.time ≡ after_tick self.old.time }
+        ensures due { IsRight self.old → IsSetOf result (tick_pends self.old.time) }
+        ensures right { IsRight self.old → IsRight self.new }
+        ensures passes { IsQuiet self.old → self.new ≡ record self.old { time = passed self.old.time } }
+        ensures quiet { IsQuiet self.old → IsSetOf result (λ _. false) }
+    {
+        if self.timer.is_quiet_after(self.ticks) {
+            self.ticks += 1;
+            return NOTHING;
+        }
+        let due = self.due_next();
+        self.count();
+        due
+    }
+
+    /// A tick that isn't passed over.
+    #[tactic(auto, unfolding(reference::specs::Time::after_tick))]
+    fn count(&mut self)
+        requires { self.old.time.ticks < 2 ^ 48 }
+        ensures time { self.new.time ≡ after_tick self.old.time }
+        ensures right { IsRight self.new }
+    {
+        let mut systick = self.systick();
+        systick.count();
+        self.ticks += 1;
+        let count = script::due_count(self.ticks, &self.script[self.done..]);
+        lines::take_events(&mut self.high, &self.script[self.done..self.done + count]);
+        self.done += count;
+        self.set_systick(systick);
+    }
+
+    /// A read of SYST_CSR, SysTick's Control and Status Register. It clears COUNTFLAG.
+    pub fn read_csr(&mut self) -> u32
+        ensures value { result ≡ csr self.old.time.systick }
+        ensures time { self.new.time ≡ record self.old.time { systick = after_csr_read self.old.time.systick } }
+        ensures right { IsRight self.new }
+    {
+        let mut systick = self.systick();
+        let value = systick.csr();
+        systick.clear_countflag();
+        self.set_systick(systick);
+        value
+    }
+
+    /// A write to SYST_CSR.
+    pub fn write_csr(&mut self, value: u32)
+        ensures time { self.new.time ≡ record self.old.time { systick = with_csr self.old.time.systick value } }
+        ensures right { IsRight self.new }
+    {
+        let mut systick = self.systick();
+        systick.write_csr(value);
+        self.set_systick(systick);
+    }
+
+    /// A read of SYST_RVR, SysTick's Reload Value Register.
+    pub fn read_rvr(&self) -> u32
+        ensures { result ≡ self.now.time.systick.reload }
+    {
+        self.systick().rvr()
+    }
+
+    /// A write to SYST_RVR, of which 24 bits are kept.
+    pub fn write_rvr(&mut self, value: u32)
+        ensures time { self.new.time ≡ record self.old.time { systick = with_rvr self.old.time.systick value } }
+        ensures right { IsRight self.new }
+    {
+        let mut systick = self.systick();
+        systick.write_rvr(value);
+        self.set_systick(systick);
+    }
+
+    /// A read of SYST_CVR, SysTick's Current Value Register.
+    pub fn read_cvr(&self) -> u32
+        ensures { result ≡ self.now.time.systick.current }
+    {
+        self.systick().cvr()
+    }
+
+    /// A write to SYST_CVR: any value clears it, and COUNTFLAG.
+    pub fn write_cvr(&mut self)
+        ensures time { self.new.time ≡ record self.old.time { systick = with_cvr_cleared self.old.time.systick } }
+        ensures right { IsRight self.new }
+    {
+        let mut systick = self.systick();
+        systick.clear_cvr();
+        self.set_systick(systick);
+    }
+
+    /// SysTick as it stands.
+    fn systick(&self) -> SysTick
+        ensures { result ≡ self.now.time.systick }
+    {
+        self.timer.systick(self.ticks)
+    }
+
+    /// SysTick is given new values.
+    fn set_systick(&mut self, systick: SysTick)
+        ensures time { self.new.time ≡ record self.old.time { systick = systick } }
+        ensures right { IsRight self.new }
+    {
+        let next_event = script::script_due(&self.script[self.done..]);
+        self.timer.set(self.ticks, systick, next_event);
+    }
+}

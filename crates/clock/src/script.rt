@@ -1,0 +1,34 @@
+//! How a script goes on.
+
+ghost use Rattle.std.specs.Prelude.{◌≡◌, ◌≤◌, length};
+ghost use Rattle.reference.specs.Time.{due_count, script_due};
+
+use reference::script::ScriptedEvent;
+
+/// A tick that a clock never reaches.
+pub const NEVER: u64 = (1 << 48) + 1;
+
+/// How many of the first events aren't later than a tick.
+#[inline]
+pub fn due_count(tick: u64, script: &[ScriptedEvent]) -> usize
+    ensures value { result ≡ due_count tick script.now }
+    ensures within { result ≤ length script.now }
+{
+    for (count, event) in script.iter().enumerate() {
+        if event.at > tick {
+            return count;
+        }
+    }
+    script.len()
+}
+
+/// The tick at which a script goes on.
+#[inline]
+pub fn script_due(script: &[ScriptedEvent]) -> u64
+    ensures { result ≡ script_due script.now }
+{
+    match script.first() {
+        Some(event) => event.at,
+        None => NEVER,
+    }
+}

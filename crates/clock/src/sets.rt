@@ -1,0 +1,70 @@
+//! Sets of exceptions, and what a tick puts into one.
+
+ghost use Rattle.std.specs.Prelude.{◌≡◌, ◌==◌, ◌||◌, ◌&&◌, ◌<◌, ℕ};
+ghost use Rattle.std.specs.List.{list_any};
+ghost use Rattle.reference.specs.Time.{is_due, pends, line_exception, systick_exception, reaches_zero};
+
+use crate::timer::SysTick;
+use reference::script::{InterruptLine, ScriptedEvent, Signal};
+
+/// A set of exceptions: bit n mod 32 of word n / 32 says whether exception n is in it.
+pub type Due = [u32; 8];
+
+/// The empty set.
+pub const NOTHING: Due = [0; 8];
+
+/// The number of the exception NMI.
+const NMI: u8 = 2;
+
+/// The number of SysTick's exception.
+const SYSTICK: u8 = 15;
+
+/// The number of line 0's exception.
+const FIRST_LINE: u8 = 16;
+
+/// Puts an exception into a set.
+#[inline]
+#[tactic(auto, using(crate::proofs::Words::put_in))]
+fn put(due: &mut Due, number: u8)
+    ensures { (n : ℕ) → n < 256 → is_due due.new n ≡ ((n == number) || is_due due.old n) }
+{
+    let word = (number / 32) as usize;
+    due[word] |= 1 << (number % 32);
+}
+
+/// Puts the exception that a signal pends into a set, if there is one.
+#[inline]
+fn put_signal(due: &mut Due, signal: Signal)
+    ensures { (n : ℕ) → n < 256 → is_due due.new n ≡ (pends signal n || is_due due.old n) }
+{
+    match signal {
+        Signal::Rise(line) | Signal::Pulse(line) => put(due, exception_of(line)),
+        Signal::Fall(_) => {}
+        Signal::Nmi => put(due, NMI),
+    }
+}
+
+fn exception_of(line: InterruptLine) -> u8
+    ensures { result ≡ line_exception line }
+{
+    FIRST_LINE + line.number()
+}
+
+/// Puts the exceptions that events pend into a set.
+pub fn put_events(due: &mut Due, events: &[ScriptedEvent])
+    ensures { (n : ℕ) → n < 256 → is_due due.new n ≡ (list_any (λ e. pends e.what n) events.now || is_due due.old n) }
+{
+    for event in events {
+        put_signal(due, event.what);
+    }
+}
+
+/// Puts SysTick's exception into a set, where its next count pends it.
+#[inline]
+pub fn put_timer(due: &mut Due, timer: &SysTick)
+    ensures { (n : ℕ) → n < 256 → is_due due.new n ≡ ((reaches_zero timer.now && timer.now.tickint && (n == systick_exception)) || is_due due.old n) }
+{
+    if timer.will_pend() {
+        put(due, SYSTICK);
+    }
+}

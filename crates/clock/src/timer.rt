@@ -1,0 +1,151 @@
+//! SysTick (ARM DDI 0403, "System timer, SysTick"): its registers, and how it counts.
+
+ghost use Rattle.std.specs.Prelude.{◌≡◌, ◌&&◌, ◌^◌, ◌<◌};
+ghost use Rattle.reference.specs.Registers.{weighed as weighed_of};
+ghost use Rattle.reference.specs.Time.{counted, next_current, reaches_zero, csr as csr_of, after_csr_read, with_csr, with_rvr, with_cvr_cleared, reset_systick};
+
+use std::marker::Model;
+
+/// The bits that RVR and CVR have.
+const COUNTER_MASK: u32 = 0x00FF_FFFF;
+
+/// SysTick. A contract sees it as the reference's `SysTick`.
+#[derive(Clone, Copy)]
+pub struct SysTick {
+    enable: bool,
+    tickint: bool,
+    countflag: bool,
+    reload: u32,
+    current: u32,
+}
+
+impl Model for SysTick {
+    ghost use Rattle.std.specs.Prelude.{◌<◌, ◌^◌};
+    ghost use Rattle.reference.specs.Time.{SysTick as Timer};
+
+    ghost Value = { Timer };
+
+    ghost view = { λ t. record { enable = t.enable; tickint = t.tickint; countflag = t.countflag; reload = t.reload; current = t.current } };
+
+    ghost invariant = { λ t. (t.reload < 2 ^ 24) × (t.current < 2 ^ 24) };
+
+    ghost inverse = { λ t. record { enable = t.enable; tickint = t.tickint; countflag = t.countflag; reload = t.reload; current = t.current } };
+}
+
+impl SysTick {
+    /// SysTick after a reset.
+    pub(crate) const fn reset() -> Self
+        ensures { result ≡ reset_systick }
+    {
+        SysTick {
+            enable: false,
+            tickint: false,
+            countflag: false,
+            reload: 0,
+            current: 0,
+        }
+    }
+
+    /// Whether the next count goes from 1 to 0.
+    #[inline]
+    pub(crate) fn reaches_zero(&self) -> bool
+        ensures { result ≡ reaches_zero self.now }
+    {
+        self.enable && self.current == 1
+    }
+
+    /// Whether the next count pends SysTick's exception.
+    #[inline]
+    pub(crate) fn will_pend(&self) -> bool
+        ensures { result ≡ (reaches_zero self.now && self.now.tickint) }
+    {
+        self.reaches_zero() && self.tickint
+    }
+
+    /// One count.
+    #[inline]
+    pub(crate) fn count(&mut self)
+        ensures { self.new ≡ counted self.old }
+    {
+        if self.reaches_zero() {
+            self.countflag = true;
+        }
+        self.current = self.next_current();
+    }
+
+    /// CVR after the next count.
+    #[inline]
+    fn next_current(&self) -> u32
+        ensures value { result ≡ next_current self.now }
+        ensures small { result < 2 ^ 24 }
+    {
+        if !self.enable {
+            self.current
+        } else if self.current == 0 {
+            self.reload
+        } else {
+            self.current - 1
+        }
+    }
+
+    /// SYST_CSR, as a read finds it.
+    pub(crate) fn csr(&self) -> u32
+        ensures { result ≡ csr_of self.now }
+    {
+        weighed(self.enable, 1)
+            + weighed(self.tickint, 1 << 1)
+            + (1 << 2)
+            + weighed(self.countflag, 1 << 16)
+    }
+
+    /// What a read of SYST_CSR leaves: COUNTFLAG is cleared.
+    pub(crate) fn clear_countflag(&mut self)
+        ensures { self.new ≡ after_csr_read self.old }
+    {
+        self.countflag = false;
+    }
+
+    /// A write to SYST_CSR.
+    pub(crate) fn write_csr(&mut self, value: u32)
+        ensures { self.new ≡ with_csr self.old value }
+    {
+        self.enable = value % 2 == 1;
+        self.tickint = value / 2 % 2 == 1;
+    }
+
+    /// SYST_RVR.
+    pub(crate) fn rvr(&self) -> u32
+        ensures { result ≡ self.now.reload }
+    {
+        self.reload
+    }
+
+    /// A write to SYST_RVR.
+    pub(crate) fn write_rvr(&mut self, value: u32)
+        ensures { self.new ≡ with_rvr self.old value }
+    {
+        self.reload = value & COUNTER_MASK;
+    }
+
+    /// SYST_CVR.
+    pub(crate) fn cvr(&self) -> u32
+        ensures { result ≡ self.now.current }
+    {
+        self.current
+    }
+
+    /// A write to SYST_CVR, of any value.
+    pub(crate) fn clear_cvr(&mut self)
+        ensures { self.new ≡ with_cvr_cleared self.old }
+    {
+        self.current = 0;
+        self.clear_countflag();
+    }
+}
+
+/// What a bit of this weight adds to a word.
+fn weighed(bit: bool, weight: u32) -> u32
+    ensures { result ≡ weighed_of bit weight }
+{
+    if bit { weight } else { 0 }
+}
