@@ -9,4 +9,5 @@ pub mod fault;
 pub mod instruction;
 pub mod place;
 pub mod registers;
+pub mod script;
 pub mod stop;
