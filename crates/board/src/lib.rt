@@ -12,6 +12,8 @@ ghost use Rattle.board.specs.Seen.{Answers, described};
 mod events;
 mod keys;
 mod layout;
+#[cfg(test)]
+mod tests;
 mod values;
 mod whole;
 
