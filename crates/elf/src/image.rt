@@ -7,7 +7,7 @@ use arrayvec::ArrayVec;
 use std::marker::Model;
 
 /// How many segments an image has at most, and how many program headers a file.
-pub const MOST_SEGMENTS: usize = 1;
+pub const MOST_SEGMENTS: usize = 64;
 
 /// Bytes of the file that stand at an address before the first step.
 #[derive(Clone, Copy)]

@@ -2,17 +2,19 @@
 //! stand before the first step. README.md says what is proved.
 #![tactic(auto)]
 
-ghost use Rattle.std.specs.Prelude.{◌≡◌, ◌≤◌, length};
-ghost use Rattle.reference.specs.Images.{has_magic, image_of, is_32_bit_little, table_of};
+ghost use Rattle.std.specs.Prelude.{◌≡◌, ◌≤◌, length, IfOk};
+ghost use Rattle.reference.specs.Images.{AreAllApart, has_magic, image_of, is_32_bit_little, table_of};
 
 mod image;
 mod number;
+mod overlap;
 mod program_header;
 #[cfg(test)]
 mod tests;
 
 pub use image::{Image, MOST_SEGMENTS, Segment};
 use number::{halfword, word};
+use overlap::have_overlap;
 use program_header::{PROGRAM_HEADER_SIZE, image_of_headers};
 pub use reference::fault::LoadFault;
 
@@ -46,7 +48,8 @@ const EM_ARM: u16 = 40;
 /// the order in which the file is looked at.
 #[tactic(auto, unfolding(reference::specs::Images::image_of))]
 pub fn load(bytes: &[u8]) -> Result<Image<'_>, LoadFault>
-    ensures { result ≡ image_of bytes.now }
+    ensures image { result ≡ image_of bytes.now }
+    ensures apart { IfOk result (λ image. AreAllApart image) }
 {
     if bytes.len() < ELF_HEADER_SIZE {
         return Err(LoadFault::Truncated);
@@ -83,9 +86,11 @@ fn is_32_bit_little(file: &[u8]) -> bool
 
 // What the program header table brings. A file that has none isn't asked for the size of a program
 // header.
+#[tactic(auto, using(crate::proofs::Overlaps::none_apart))]
 fn image_of_table(file: &[u8]) -> Result<Image<'_>, LoadFault>
     requires { ELF_HEADER_SIZE ≤ length file.now }
-    ensures { result ≡ table_of file.now }
+    ensures image { result ≡ table_of file.now }
+    ensures apart { IfOk result (λ image. AreAllApart image) }
 {
     let count = halfword(file, E_PHNUM) as usize;
     if count > MOST_SEGMENTS {
@@ -101,5 +106,9 @@ fn image_of_table(file: &[u8]) -> Result<Image<'_>, LoadFault>
     if table + PROGRAM_HEADER_SIZE * count > file.len() {
         return Err(LoadFault::Truncated);
     }
-    image_of_headers(file, table, count)
+    let image = image_of_headers(file, table, count)?;
+    if have_overlap(image.segments()) {
+        return Err(LoadFault::SegmentOverlap);
+    }
+    Ok(image)
 }

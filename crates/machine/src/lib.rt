@@ -19,7 +19,7 @@ mod whole;
 pub use output::{IoFault, Out, Over};
 pub use paged::Paged;
 pub use readers::RegValues;
-pub use reference::board::{Board, SMALL_BOARD};
+pub use reference::board::{Layout, SMALL_BOARD};
 pub use reference::event::Event;
 pub use reference::fault::{PlaceFault, StartFault};
 pub use reference::place::Place;

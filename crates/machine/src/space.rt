@@ -6,7 +6,7 @@ ghost use Rattle.reference.specs.Memory.{byte_at, number_at, is_in_flash, is_in_
 ghost use Rattle.reference.specs.Start.{blank, vector};
 
 use reference::access::Size;
-use reference::board::Board;
+use reference::board::Layout;
 use std::alloc::{AllocError, Global};
 use std::marker::Model;
 
@@ -37,7 +37,7 @@ impl Model for Space {
 
 impl Space {
     /// The memory of a board before anything is loaded: flash is 0xFF and RAM is 0.
-    pub fn blank(alloc: Global, board: &Board) -> Result<Self, AllocError>
+    pub fn blank(alloc: Global, board: &Layout) -> Result<Self, AllocError>
         ensures { IfOk result (λ s. s ≡ blank board.now) }
     {
         let flash = vec![in alloc; ERASED; board.flash_size as usize]?;

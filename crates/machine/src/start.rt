@@ -11,7 +11,7 @@ use crate::space::{RAM_BASE, Space, is_within};
 use crate::stepping::Core;
 use elf::{Image, Segment};
 use reference::access::Size;
-use reference::board::Board;
+use reference::board::Layout;
 use reference::fault::StartFault;
 use regs::Regs;
 use std::alloc::Global;
@@ -19,7 +19,7 @@ use std::alloc::Global;
 /// The core of a board, with an image in its memory, before the first step. The segments are looked
 /// at before any memory is taken.
 #[tactic(auto, unfolding(reference::specs::Start::start))]
-pub fn start_core(alloc: Global, image: &Image<'_>, board: &Board) -> Result<Core, StartFault>
+pub fn start_core(alloc: Global, image: &Image<'_>, board: &Layout) -> Result<Core, StartFault>
     ensures { StartsAt (start board.now image.now) result }
 {
     if !are_placed(board, image.segments()) {
@@ -34,7 +34,7 @@ pub fn start_core(alloc: Global, image: &Image<'_>, board: &Board) -> Result<Cor
 }
 
 /// Whether each segment lies wholly in flash or wholly in RAM.
-fn are_placed(board: &Board, segments: &[Segment<'_>]) -> bool
+fn are_placed(board: &Layout, segments: &[Segment<'_>]) -> bool
     ensures { result ≡ are_placed (blank board.now) (map segment_of segments.now) }
 {
     'segments: for segment in segments {
@@ -46,7 +46,7 @@ fn are_placed(board: &Board, segments: &[Segment<'_>]) -> bool
 }
 
 /// Whether a segment lies wholly in flash or wholly in RAM.
-fn is_placed(board: &Board, segment: &Segment<'_>) -> bool
+fn is_placed(board: &Layout, segment: &Segment<'_>) -> bool
     ensures { result ≡ is_placed (blank board.now) (segment_of segment.now) }
 {
     let length = segment.bytes.len();

@@ -16,7 +16,7 @@ use crate::run::run_core;
 use crate::start::start_core;
 use crate::stepping::{Core, Events};
 use elf::Image;
-use reference::board::Board;
+use reference::board::Layout;
 use reference::fault::{PlaceFault, StartFault};
 use reference::place::Place;
 use reference::stop::Stop;
@@ -51,7 +51,7 @@ impl Machine {
     ghost use Rattle.machine.specs.Values.{values_of};
 
     /// The machine of a board, with an image in its memory, before the first step.
-    pub fn new(alloc: Global, image: &Image<'_>, board: &Board) -> Result<Self, StartFault>
+    pub fn new(alloc: Global, image: &Image<'_>, board: &Layout) -> Result<Self, StartFault>
         ensures { Starts (start board.now image.now) result }
     {
         let core = start_core(alloc, image, board)?;

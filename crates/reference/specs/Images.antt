@@ -1,9 +1,10 @@
 -- What an ELF file brings (TIS ELF 1.2, "ELF Header" and "Program Header"). The order in which a file is refused is the
 -- profile's.
-use Rattle.std.specs.Prelude.{ℕ, zero, suc, ◌+◌, ◌*◌, Bool, ◌&&◌, not, nat_lt, ◌==◌, if◌then◌else◌, List, [], ◌∷◌, length, slice_index, slice_range, Result, Ok, Err}
+use Rattle.std.specs.Prelude.{ℕ, zero, suc, ◌+◌, ◌*◌, ◌<◌, ◌≤◌, max, min, Bool, false, ◌&&◌, ◌||◌, not, nat_lt, ◌==◌, if◌then◌else◌, List, [], ◌∷◌, length, slice_index, slice_range, Result, Ok, Err}
+use Rattle.std.specs.List.{AllPairs, list_any}
 use Rattle.reference.specs.declared.fault.LoadFault.{LoadFault}
 pub use Rattle.reference.specs.Memory.{number_in}
-use Rattle.reference.specs.declared.fault.LoadFault.TheVariants.{Truncated, NotElf, NotElf32Little, NotExecutable, NotArm, HeaderSize, SegmentOutsideFile, TooManySegments}
+use Rattle.reference.specs.declared.fault.LoadFault.TheVariants.{Truncated, NotElf, NotElf32Little, NotExecutable, NotArm, HeaderSize, SegmentOutsideFile, SegmentOverlap, TooManySegments}
 
 -- bytes that stand at an address before the first step
 pub record Segment : Type 0 where
@@ -16,9 +17,9 @@ elf_header_size = 52
 abbrev pub program_header_size : ℕ
 program_header_size = 32
 
--- how many program headers a file may have: one, until images of several segments are built
+-- how many program headers a file may have (profile)
 abbrev pub most_program_headers : ℕ
-most_program_headers = 1
+most_program_headers = 64
 
 -- e_ident begins with 7F and "ELF"
 abbrev pub has_magic : List ℕ → Bool
@@ -98,6 +99,37 @@ segments_of file at (suc n) =
     else if nat_lt (length file) (segment_end file at) then Err SegmentOutsideFile
     else in_front (segment_at file at) rest
 
+-- a segment's addresses end before this one, in whole numbers: they don't go round past FFFFFFFF
+abbrev pub target_end : Segment → ℕ
+target_end segment = segment.address + length segment.bytes
+
+-- two segments share an address: the later of their beginnings comes before the earlier of their ends
+abbrev pub share_an_address : Segment → Segment → Bool
+share_an_address one other =
+    nat_lt (max one.address other.address) (min (target_end one) (target_end other))
+
+-- some segment of the list shares an address with a later one
+abbrev pub have_overlap : List Segment → Bool
+have_overlap [] = false
+have_overlap (segment ∷ others) = list_any (share_an_address segment) others || have_overlap others
+
+-- an address to which a byte of the segment goes
+abbrev pub IsTarget : ℕ → Segment → Type 0
+IsTarget address segment = (segment.address ≤ address) × (address < target_end segment)
+
+-- no address is a target of both
+abbrev pub AreApart : Segment → Segment → Type 0
+AreApart one other = (address : ℕ) → IsTarget address one → IsTarget address other → ⊥
+
+-- each segment of a list is apart from each later one: it is proved that `have_overlap` is false just where this holds
+unfoldable pub AreAllApart : List Segment → Type 0
+AreAllApart segments = AllPairs AreApart segments
+
+-- segments of which two share an address are refused
+abbrev pub without_overlap : Result (List Segment) LoadFault → Result (List Segment) LoadFault
+without_overlap (Ok segments) = if have_overlap segments then Err SegmentOverlap else Ok segments
+without_overlap (Err fault) = Err fault
+
 -- the program header table is looked at where there is one
 abbrev pub table_of : List ℕ → Result (List Segment) LoadFault
 table_of file =
@@ -105,7 +137,7 @@ table_of file =
     else if e_phnum file == 0 then Ok []
     else if not (e_phentsize file == program_header_size) then Err HeaderSize
     else if nat_lt (length file) (e_phoff file + program_header_size * e_phnum file) then Err Truncated
-    else segments_of file (e_phoff file) (e_phnum file)
+    else without_overlap (segments_of file (e_phoff file) (e_phnum file))
 
 -- the image that a file holds, or the first refusal
 unfoldable pub image_of : List ℕ → Result (List Segment) LoadFault

@@ -13,6 +13,7 @@ pub mod Step
 pub mod Run
 pub mod Text
 pub mod Images
+pub mod Boards
 pub mod Start
 pub mod Places
 pub mod Priorities

@@ -1,7 +1,7 @@
 -- The state in which a machine starts (ARM DDI 0403, TakeReset()). What flash and RAM hold where no segment goes, and the
 -- registers that TakeReset() leaves UNKNOWN, are the profile's.
 use Rattle.std.specs.Prelude.{ℕ, ◌+◌, ◌*◌, Bool, true, ◌&&◌, ◌||◌, if◌then◌else◌, List, [], ◌∷◌, length, replicate, None, Result, Ok, Err, unwrap_or}
-use Rattle.reference.specs.declared.board.Board.{Board}
+use Rattle.reference.specs.declared.board.Layout.{Layout}
 use Rattle.reference.specs.declared.fault.StartFault.{StartFault}
 use Rattle.reference.specs.declared.fault.StartFault.TheVariants.{SegmentOutsideMemory}
 use Rattle.reference.specs.Images.{Segment}
@@ -10,7 +10,7 @@ use Rattle.reference.specs.Registers.{reset_registers}
 use Rattle.reference.specs.State.{State}
 
 -- flash is 0xFF and RAM is 0 where nothing was loaded
-abbrev pub blank : Board → Memory
+abbrev pub blank : Layout → Memory
 blank board = record {
   flash_base = board.flash_base;
   flash = replicate board.flash_size 0xFF;
@@ -43,6 +43,6 @@ reset m = record {
 }
 
 -- the state before the first step, or the refusal of the image
-unfoldable pub start : Board → List Segment → Result State StartFault
+unfoldable pub start : Layout → List Segment → Result State StartFault
 start board image =
     if are_placed (blank board) image then Ok (reset (loaded (blank board) image)) else Err SegmentOutsideMemory

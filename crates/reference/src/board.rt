@@ -1,28 +1,38 @@
-//! What a board brings to the machine.
+//! What a board brings to the machine, its script aside.
 
-ghost use Rattle.std.specs.Prelude.{◌+◌, ◌≤◌};
+ghost use Rattle.std.specs.Prelude.{◌≡◌, ◌+◌, ◌%◌, ◌≤◌};
 
-/// The sizes and numbers that differ from one board to the next.
+/// The sizes and numbers that differ from one board to the next (profile).
 #[derive(Clone, Copy)]
-pub struct Board {
+pub struct Layout {
     /// The address of the first byte of flash, a multiple of 1,024. The vector table stands there.
     pub flash_base: u32,
-    /// The bytes of flash, a multiple of 1,024.
+    /// The bytes of flash, a multiple of 1,024 from 1,024 to 1,048,576.
     pub flash_size: u32,
-    /// The bytes of RAM, which begins at 0x20000000, a multiple of 1,024.
+    /// The bytes of RAM, which begins at 0x20000000, a multiple of 1,024 from 1,024 to 1,048,576.
     pub ram_size: u32,
     /// How many of the top bits of a priority byte are kept, 3 to 8.
     pub priority_bits: u8,
-    /// How many external interrupt lines there are.
+    /// How many external interrupt lines there are, 0 to 32.
     pub lines: u8,
 
-    // Flash ends where RAM begins, or before. RAM has at most a mebibyte.
+    // Flash ends where RAM begins, or before.
     pub ghost apart: { flash_base + flash_size ≤ 0x2000_0000 },
+    // Flash and RAM have from 1,024 bytes to a mebibyte, in blocks of 1,024.
+    pub ghost base_is_whole: { flash_base % 1024 ≡ 0 },
+    pub ghost flash_is_whole: { flash_size % 1024 ≡ 0 },
+    pub ghost flash_is_there: { 1024 ≤ flash_size },
+    pub ghost flash_is_small: { flash_size ≤ 0x10_0000 },
+    pub ghost ram_is_whole: { ram_size % 1024 ≡ 0 },
+    pub ghost ram_is_there: { 1024 ≤ ram_size },
     pub ghost small: { ram_size ≤ 0x10_0000 },
+    pub ghost bits_are_enough: { 3 ≤ priority_bits },
+    pub ghost bits_are_few: { priority_bits ≤ 8 },
+    pub ghost lines_are_few: { lines ≤ 32 },
 }
 
-/// The board that is taken where no other is named: 4 KiB of flash at 0 and 8 KiB of RAM.
-pub const SMALL_BOARD: Board = Board {
+/// The layout of the small board: 4 KiB of flash at 0 and 8 KiB of RAM.
+pub const SMALL_BOARD: Layout = Layout {
     flash_base: 0,
     flash_size: 4096,
     ram_size: 8192,

@@ -26,6 +26,26 @@ pub enum LoadFault {
     TooManySegments,
 }
 
+/// Why a text isn't a board that this machine takes. The order in which a text is looked at is that
+/// of its keys; README.md of the crate `board` has it.
+#[derive(Clone, Copy, Debug, Error)]
+pub enum BoardFault {
+    #[error("the text isn't TOML")]
+    NotToml = 1,
+    #[error("a key is missing")]
+    MissingKey,
+    #[error("a value isn't of the kind that its key takes")]
+    WrongKind,
+    #[error("a value is out of its range")]
+    OutOfRange,
+    #[error("an event comes before the one that stands ahead of it")]
+    EventsOutOfOrder,
+    #[error("a key isn't known")]
+    UnknownKey,
+    #[error("no memory was found for the board")]
+    OutOfMemory,
+}
+
 /// Why a machine doesn't start.
 #[derive(Clone, Copy, Debug, Error)]
 pub enum StartFault {

@@ -1,0 +1,185 @@
+-- What the text of a board means (profile), over the `toml` crate's meaning of a document (TOML 1.1). A step is taken
+-- only where the ones ahead of it were, so the first refusal stands.
+use Rattle.std.specs.Prelude.{ℕ, suc, ℤ, pos, negsuc, Bool, true, false, ◌&&◌, not, nat_lt, if◌then◌else◌, List, [], ◌∷◌, codes, bytes_eq, Option, Some, None, Result, Ok, Err}
+use Rattle.std.specs.List.{list_any}
+use Rattle.toml.specs.Data.{Data, Items, no_items, item, Members, no_members, member, get_member, as_integer, as_str, as_bool, as_array, as_table}
+use Rattle.toml.specs.Parse.{parse_document}
+use Rattle.reference.specs.declared.fault.BoardFault.{BoardFault}
+use Rattle.reference.specs.declared.fault.BoardFault.TheVariants.{NotToml, MissingKey, WrongKind, OutOfRange, EventsOutOfOrder, UnknownKey}
+use Rattle.reference.specs.declared.script.ScriptedEvent.{ScriptedEvent}
+use Rattle.reference.specs.declared.script.Signal.{Signal}
+use Rattle.reference.specs.declared.script.Signal.TheVariants.{Rise, Fall, Pulse, Nmi}
+use Rattle.reference.specs.Boards.{Numbers, Described, is_whole, is_size, is_flash, is_priority_bits, is_line_count, is_tick, first_tick, most_events}
+
+-- one step, and then another with what it gave
+infixl 10 ◌>>=◌
+abbrev pub ◌>>=◌ : {A B : Type 0} → Result A BoardFault → (A → Result B BoardFault) → Result B BoardFault
+(Ok given) >>= next = next given
+(Err fault) >>= next = Err fault
+
+-- a value of the kind that is asked for
+abbrev pub of_kind : {A : Type 0} → Option A → Result A BoardFault
+of_kind None = Err WrongKind
+of_kind (Some value) = Ok value
+
+-- an integer that isn't negative
+abbrev pub whole : Option ℤ → Result ℕ BoardFault
+whole None = Err WrongKind
+whole (Some (pos n)) = Ok n
+whole (Some (negsuc n)) = Err OutOfRange
+
+-- what stands at a key is a whole number
+abbrev pub number : Option Data → Result ℕ BoardFault
+number None = Err MissingKey
+number (Some value) = whole (as_integer value)
+
+-- what stands at a key is a word
+abbrev pub word : Option Data → Result (List ℕ) BoardFault
+word None = Err MissingKey
+word (Some value) = of_kind (as_str value)
+
+-- a number in its range
+abbrev pub where_ok : (ℕ → Bool) → Result ℕ BoardFault → Result ℕ BoardFault
+where_ok ok (Ok n) = if ok n then Ok n else Err OutOfRange
+where_ok ok (Err fault) = Err fault
+
+-- each key is one of those that are known
+abbrev pub has_only : List (List ℕ) → Members → Bool
+has_only known no_members = true
+has_only known (member key value others) = list_any (bytes_eq key) known && has_only known others
+
+abbrev pub only : List (List ℕ) → Members → Result Members BoardFault
+only known fields = if has_only known fields then Ok fields else Err UnknownKey
+
+abbrev pub board_keys : List (List ℕ)
+board_keys =
+    codes "flash_base" ∷ codes "flash_size" ∷ codes "ram_size" ∷ codes "priority_bits" ∷ codes "lines" ∷ codes "event" ∷ []
+
+abbrev pub line_keys : List (List ℕ)
+line_keys = codes "at" ∷ codes "line" ∷ codes "what" ∷ []
+
+abbrev pub nmi_keys : List (List ℕ)
+nmi_keys = codes "at" ∷ codes "nmi" ∷ []
+
+-- the five numbers, one after another
+unfoldable pub numbers_in : Members → Result Numbers BoardFault
+numbers_in document = do
+  flash_base ← where_ok is_whole (number (get_member (codes "flash_base") document))
+  flash_size ← where_ok (is_flash flash_base) (number (get_member (codes "flash_size") document))
+  ram_size ← where_ok is_size (number (get_member (codes "ram_size") document))
+  priority_bits ← where_ok is_priority_bits (number (get_member (codes "priority_bits") document))
+  lines ← where_ok is_line_count (number (get_member (codes "lines") document))
+  Ok (record {
+    flash_base = flash_base;
+    flash_size = flash_size;
+    ram_size = ram_size;
+    priority_bits = priority_bits;
+    lines = lines;
+  })
+
+-- the signal on a line that a word names
+abbrev pub change : ℕ → List ℕ → Result Signal BoardFault
+change line name =
+    if bytes_eq name (codes "rise") then Ok (Rise line)
+    else if bytes_eq name (codes "fall") then Ok (Fall line)
+    else if bytes_eq name (codes "pulse") then Ok (Pulse line)
+    else Err OutOfRange
+
+-- `nmi` is true
+abbrev pub nmi : Option Bool → Result Signal BoardFault
+nmi None = Err WrongKind
+nmi (Some false) = Err OutOfRange
+nmi (Some true) = Ok Nmi
+
+-- the signal of an event that names a line of the board
+unfoldable pub line_signal : ℕ → Members → Result Signal BoardFault
+line_signal lines event = do
+  line ← where_ok (λ n. nat_lt n lines) (number (get_member (codes "line") event))
+  name ← word (get_member (codes "what") event)
+  signal ← change line name
+  known ← only line_keys event
+  Ok signal
+
+-- the signal of an event with `nmi`
+unfoldable pub nmi_signal : Data → Members → Result Signal BoardFault
+nmi_signal value event = do
+  signal ← nmi (as_bool value)
+  known ← only nmi_keys event
+  Ok signal
+
+-- the signal of an event, by whether it has `nmi`
+abbrev pub signal_in : ℕ → Members → Option Data → Result Signal BoardFault
+signal_in lines event None = line_signal lines event
+signal_in lines event (Some value) = nmi_signal value event
+
+-- one event, on a board of so many lines
+unfoldable pub event_in : ℕ → Members → Result ScriptedEvent BoardFault
+event_in lines event = do
+  at ← where_ok is_tick (number (get_member (codes "at") event))
+  what ← signal_in lines event (get_member (codes "nmi") event)
+  Ok (record { at = at; what = what })
+
+-- one event more, in front of those behind it
+abbrev pub in_front : ScriptedEvent → Result (List ScriptedEvent) BoardFault → Result (List ScriptedEvent) BoardFault
+in_front event (Ok events) = Ok (event ∷ events)
+in_front event (Err fault) = Err fault
+
+-- an event that is no earlier than a tick
+unfoldable pub timely_event : ℕ → ℕ → Data → Result ScriptedEvent BoardFault
+timely_event lines before value = do
+  fields ← of_kind (as_table value)
+  event ← event_in lines fields
+  if nat_lt event.at before then Err EventsOutOfOrder else Ok event
+
+-- the events of a list, the first of them no earlier than a tick
+unfoldable pub script_in : ℕ → ℕ → Items → Result (List ScriptedEvent) BoardFault
+script_in lines before no_items = Ok []
+script_in lines before (item value others) = do
+  event ← timely_event lines before value
+  in_front event (script_in lines event.at others)
+
+-- how many items a list has
+abbrev pub count : Items → ℕ
+count no_items = 0
+count (item value others) = suc (count others)
+
+-- the value is a table
+abbrev pub is_table : Option Members → Bool
+is_table None = false
+is_table (Some fields) = true
+
+-- each item is a table
+abbrev pub are_tables : Items → Bool
+are_tables no_items = true
+are_tables (item value others) = is_table (as_table value) && are_tables others
+
+-- a list of tables, not too many
+abbrev pub tables : Option Items → Result Items BoardFault
+tables None = Err WrongKind
+tables (Some items) =
+    if not (are_tables items) then Err WrongKind
+    else if nat_lt most_events (count items) then Err OutOfRange
+    else Ok items
+
+-- the events of a board, which needn't have any
+abbrev pub events : Option Data → Result Items BoardFault
+events None = Ok no_items
+events (Some value) = tables (as_array value)
+
+-- the board that a document describes, or the first refusal
+unfoldable pub board_in : Members → Result Described BoardFault
+board_in document = do
+  numbers ← numbers_in document
+  known ← only board_keys document
+  items ← events (get_member (codes "event") document)
+  script ← script_in numbers.lines first_tick items
+  Ok (record { numbers = numbers; script = script })
+
+-- the board of what was parsed
+abbrev pub board_of_document : Option Members → Result Described BoardFault
+board_of_document None = Err NotToml
+board_of_document (Some document) = board_in document
+
+-- the board that a text describes, or the first refusal
+unfoldable pub board_of : List ℕ → Result Described BoardFault
+board_of text = board_of_document (parse_document text)

@@ -1,0 +1,187 @@
+//! The script of a board: its events, in the order of the text.
+
+ghost use Rattle.std.specs.Prelude.{◌≡◌, ◌≤◌, ◌<◌, ◌++◌, ◌∷◌, [], true, false, option_map, IfOk, IsOk, length};
+ghost use Rattle.toml.specs.Data.{get_member, as_table};
+ghost use Rattle.toml.specs.View.{table_view, view, items_view};
+ghost use Rattle.reference.specs.Boards.{IsScript, IsScriptFrom};
+ghost use Rattle.board.specs.Seen.{Answers, Gives};
+ghost use Rattle.board.specs.Texts.{are_tables, change, event_in, events, is_table, line_signal, nmi, nmi_signal, script_in, signal_in, timely_event};
+
+use crate::keys::{LINE_KEYS, NMI_KEYS, has_only};
+use crate::values::{find, number, word};
+use reference::fault::BoardFault;
+use reference::script::{InterruptLine, ScriptedEvent, Signal};
+use std::alloc::Global;
+use toml::{Table, Value};
+
+const MOST_EVENTS: usize = 65_536;
+
+// The tick of the first event, and the last tick of the clock.
+const FIRST_TICK: u64 = 1;
+
+const LAST_TICK: u64 = 1 << 48;
+
+// The events of a board, which needn't have any: a list of tables, not too many.
+#[tactic(auto, using(crate::proofs::Scripts::count_is))]
+pub fn events(value: Option<&Value>) -> Result<&[Value], BoardFault>
+    ensures { Gives (λ values. items_view values.now) result (events (option_map (λ v. view v.now) value.entry)) }
+{
+    let Some(value) = value else {
+        return Ok(&[]);
+    };
+    let Some(values) = value.as_array() else {
+        return Err(BoardFault::WrongKind);
+    };
+    if !are_tables(values.as_slice()) {
+        return Err(BoardFault::WrongKind);
+    }
+    if values.len() > MOST_EVENTS {
+        return Err(BoardFault::OutOfRange);
+    }
+    Ok(values.as_slice())
+}
+
+// Whether each value is a table.
+fn are_tables(values: &[Value]) -> bool
+    ensures { result ≡ are_tables (items_view values.now) }
+{
+    'values: for value in values {
+        if value.as_table().is_none() {
+            return false;
+        }
+    }
+    true
+}
+
+// The events of a list of tables, on a board of so many lines. What is refused is told before the
+// want of memory: where an event has no room, those behind it are looked at all the same.
+pub fn script_of(
+    alloc: Global,
+    lines: u8,
+    values: &[Value],
+) -> Result<Vec<ScriptedEvent>, BoardFault>
+    requires { lines ≤ 32 }
+    ensures { Answers (λ events. events.items) result (script_in lines FIRST_TICK (items_view values.now)) }
+{
+    let mut events = Vec::new(alloc);
+    let mut is_complete = true;
+    let mut before = FIRST_TICK;
+    'values: for value in values {
+        let ScriptedEvent { at, what } = timely_event(lines, before, value)?;
+        before = at;
+        is_complete = gather(&mut events, is_complete, ScriptedEvent { at, what });
+    }
+    if !is_complete {
+        return Err(BoardFault::OutOfMemory);
+    }
+    Ok(events)
+}
+
+// Puts an event behind those that were gathered, if none is missing there; whether none is missing
+// then.
+fn gather(events: &mut Vec<ScriptedEvent>, is_complete: bool, event: ScriptedEvent) -> bool
+    ensures { result ≡ true → (is_complete ≡ true) × (events.new.items ≡ events.old.items ++ event ∷ []) }
+{
+    if !is_complete {
+        return false;
+    }
+    let ScriptedEvent { at, what } = event;
+    match events.push(ScriptedEvent { at, what }) {
+        Ok(()) => true,
+        Err(_) => false,
+    }
+}
+
+// An event that is no earlier than a tick.
+#[tactic(auto, unfolding(crate::specs::Texts::timely_event))]
+fn timely_event(lines: u8, before: u64, value: &Value) -> Result<ScriptedEvent, BoardFault>
+    requires { lines ≤ 32 }
+    ensures { result ≡ timely_event lines before (view value.now) }
+{
+    let Some(fields) = value.as_table() else {
+        return Err(BoardFault::WrongKind);
+    };
+    let event = event_of(lines, fields)?;
+    if event.at < before {
+        return Err(BoardFault::EventsOutOfOrder);
+    }
+    Ok(event)
+}
+
+// One event.
+#[tactic(auto, unfolding(crate::specs::Texts::event_in))]
+fn event_of(lines: u8, event: &Table) -> Result<ScriptedEvent, BoardFault>
+    requires { lines ≤ 32 }
+    ensures { result ≡ event_in lines (table_view event.now) }
+{
+    let at = number(find(event, "at"))?;
+    if !(FIRST_TICK..=LAST_TICK).contains(&at) {
+        return Err(BoardFault::OutOfRange);
+    }
+    let what = signal_of(lines, event, find(event, "nmi"))?;
+    Ok(ScriptedEvent { at, what })
+}
+
+// The signal of an event, by whether it has `nmi`.
+fn signal_of(lines: u8, event: &Table, value: Option<&Value>) -> Result<Signal, BoardFault>
+    requires { lines ≤ 32 }
+    ensures { result ≡ signal_in lines (table_view event.now) (option_map (λ v. view v.now) value.entry) }
+{
+    match value {
+        None => line_signal(lines, event),
+        Some(value) => nmi_signal(value, event),
+    }
+}
+
+// The signal of an event that names a line of the board.
+#[tactic(auto, unfolding(crate::specs::Texts::line_signal))]
+fn line_signal(lines: u8, event: &Table) -> Result<Signal, BoardFault>
+    requires { lines ≤ 32 }
+    ensures { result ≡ line_signal lines (table_view event.now) }
+{
+    let line = number(find(event, "line"))?;
+    if line >= u64::from(lines) {
+        return Err(BoardFault::OutOfRange);
+    }
+    let name = word(find(event, "what"))?;
+    let signal = change(InterruptLine::new(line as u8), name)?;
+    if !has_only(&LINE_KEYS, event) {
+        return Err(BoardFault::UnknownKey);
+    }
+    Ok(signal)
+}
+
+// The signal on a line that a word names.
+fn change(line: InterruptLine, name: &str) -> Result<Signal, BoardFault>
+    ensures { result ≡ change line name.now }
+{
+    match name {
+        "rise" => Ok(Signal::Rise(line)),
+        "fall" => Ok(Signal::Fall(line)),
+        "pulse" => Ok(Signal::Pulse(line)),
+        _ => Err(BoardFault::OutOfRange),
+    }
+}
+
+// The signal of an event with `nmi`.
+#[tactic(auto, unfolding(crate::specs::Texts::nmi_signal))]
+fn nmi_signal(value: &Value, event: &Table) -> Result<Signal, BoardFault>
+    ensures { result ≡ nmi_signal (view value.now) (table_view event.now) }
+{
+    let signal = nmi(value.as_bool())?;
+    if !has_only(&NMI_KEYS, event) {
+        return Err(BoardFault::UnknownKey);
+    }
+    Ok(signal)
+}
+
+// `nmi` is true.
+fn nmi(value: Option<bool>) -> Result<Signal, BoardFault>
+    ensures { result ≡ nmi value }
+{
+    match value {
+        None => Err(BoardFault::WrongKind),
+        Some(false) => Err(BoardFault::OutOfRange),
+        Some(true) => Ok(Signal::Nmi),
+    }
+}

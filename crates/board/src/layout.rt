@@ -1,0 +1,78 @@
+//! The numbers of a board.
+
+ghost use Rattle.std.specs.Prelude.{◌≡◌, ◌<◌, ◌+◌, ◌^◌};
+ghost use Rattle.toml.specs.View.{table_view};
+ghost use Rattle.reference.specs.Boards.{is_whole, is_size, is_flash};
+ghost use Rattle.board.specs.Seen.{Gives, numbers_of};
+ghost use Rattle.board.specs.Texts.{numbers_in};
+
+use crate::values::{find, number};
+use reference::board::Layout;
+use reference::fault::BoardFault;
+use toml::Table;
+
+// Flash and RAM come in blocks of this many bytes, and have a mebibyte at most.
+const BLOCK: u64 = 1024;
+
+const MOST_BYTES: u64 = 0x10_0000;
+
+// Where RAM begins.
+const RAM_BEGIN: u64 = 0x2000_0000;
+
+const MOST_LINES: u64 = 32;
+
+// The five numbers, one after another.
+#[tactic(auto, unfolding(crate::specs::Texts::numbers_in))]
+pub fn layout_of(document: &Table) -> Result<Layout, BoardFault>
+    ensures { Gives numbers_of result (numbers_in (table_view document.now)) }
+{
+    let flash_base = number(find(document, "flash_base"))?;
+    if !is_whole(flash_base) {
+        return Err(BoardFault::OutOfRange);
+    }
+    let flash_size = number(find(document, "flash_size"))?;
+    if !is_flash(flash_base, flash_size) {
+        return Err(BoardFault::OutOfRange);
+    }
+    let ram_size = number(find(document, "ram_size"))?;
+    if !is_size(ram_size) {
+        return Err(BoardFault::OutOfRange);
+    }
+    let priority_bits = number(find(document, "priority_bits"))?;
+    if !(3..=8).contains(&priority_bits) {
+        return Err(BoardFault::OutOfRange);
+    }
+    let lines = number(find(document, "lines"))?;
+    if lines > MOST_LINES {
+        return Err(BoardFault::OutOfRange);
+    }
+    Ok(Layout {
+        flash_base: flash_base as u32,
+        flash_size: flash_size as u32,
+        ram_size: ram_size as u32,
+        priority_bits: priority_bits as u8,
+        lines: lines as u8,
+    })
+}
+
+// Whether a number of bytes is one of whole blocks.
+fn is_whole(bytes: u64) -> bool
+    ensures { result ≡ is_whole bytes }
+{
+    bytes % BLOCK == 0
+}
+
+// Whether flash or RAM can have this many bytes.
+fn is_size(bytes: u64) -> bool
+    ensures { result ≡ is_size bytes }
+{
+    is_whole(bytes) && BLOCK <= bytes && bytes <= MOST_BYTES
+}
+
+// Whether flash can have this many bytes at a base.
+fn is_flash(base: u64, bytes: u64) -> bool
+    requires { base < 2 ^ 63 }
+    ensures { result ≡ is_flash base bytes }
+{
+    is_size(bytes) && base + bytes <= RAM_BEGIN
+}

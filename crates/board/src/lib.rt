@@ -1,0 +1,61 @@
+//! The reader of board files: the numbers of a board and the script of what happens on its lines,
+//! in TOML. README.md says what is proved.
+#![tactic(auto)]
+
+ghost use Rattle.std.specs.Prelude.{◌≡◌, ◌⊎◌, Err, IfOk};
+ghost use Rattle.toml.specs.View.{table_view};
+ghost use Rattle.reference.specs.Boards.{IsScript};
+ghost use Rattle.reference.specs.declared.fault.BoardFault.TheVariants.{OutOfMemory as Wanting};
+ghost use Rattle.board.specs.Texts.{board_in, board_of};
+ghost use Rattle.board.specs.Seen.{Answers, described};
+
+mod events;
+mod keys;
+mod layout;
+#[cfg(test)]
+mod tests;
+mod values;
+mod whole;
+
+use events::{events, script_of};
+use keys::{BOARD_KEYS, has_only};
+use layout::layout_of;
+pub use reference::board::Layout;
+pub use reference::fault::BoardFault;
+pub use reference::script::{InterruptLine, ScriptedEvent, Signal};
+use std::alloc::Global;
+use toml::Table;
+use values::find;
+pub use whole::Board;
+
+/// The board that a text describes, or why the machine doesn't take the text: the first refusal in
+/// the order in which a text is looked at. Want of memory may be answered in place of any answer
+/// while the text is parsed, and after that only where nothing else is refused: see `board_of_table`.
+#[tactic(auto, unfolding(crate::specs::Texts::board_of))]
+pub fn read_board(alloc: Global, text: &str) -> Result<Board, BoardFault>
+    ensures answer { Answers described result (board_of text.now) ⊎ (result ≡ Err Wanting) }
+    ensures script { IfOk result (λ board. IsScript board.layout.lines board.events.items) }
+{
+    let document = match toml::table_from_str(alloc, text) {
+        Ok(document) => document,
+        Err(error) if error.is_memory() => return Err(BoardFault::OutOfMemory),
+        Err(_) => return Err(BoardFault::NotToml),
+    };
+    board_of_table(alloc, &document)
+}
+
+/// The board that a parsed document describes, or the first refusal. Want of memory is answered only
+/// where nothing is refused.
+#[tactic(auto, using(crate::proofs::Ordered::script_is), unfolding(crate::specs::Texts::board_in))]
+pub fn board_of_table(alloc: Global, document: &Table) -> Result<Board, BoardFault>
+    ensures answer { Answers described result (board_in (table_view document.now)) }
+    ensures script { IfOk result (λ board. IsScript board.layout.lines board.events.items) }
+{
+    let layout = layout_of(document)?;
+    if !has_only(&BOARD_KEYS, document) {
+        return Err(BoardFault::UnknownKey);
+    }
+    let values = events(find(document, "event"))?;
+    let events = script_of(alloc, layout.lines, values)?;
+    Ok(Board { layout, events })
+}

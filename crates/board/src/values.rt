@@ -1,0 +1,53 @@
+//! The values of a document, each with the kind that its key takes.
+
+ghost use Rattle.std.specs.Prelude.{◌≡◌, ◌<◌, ◌^◌, option_map, IfOk};
+ghost use Rattle.toml.specs.Data.{get_member};
+ghost use Rattle.toml.specs.View.{table_view, view};
+ghost use Rattle.board.specs.Seen.{Gives};
+ghost use Rattle.board.specs.Texts.{number, whole, word};
+
+use reference::fault::BoardFault;
+use toml::{Table, Value};
+
+// The value at a key, if it is there.
+pub fn find<'a>(table: &'a Table, key: &str) -> Option<&'a Value>
+    ensures { option_map (λ v. view v.now) result ≡ get_member key.now (table_view table.now) }
+{
+    table.get(key)
+}
+
+// The whole number that a key has to have.
+pub fn number(value: Option<&Value>) -> Result<u64, BoardFault>
+    ensures number { result ≡ number (option_map (λ v. view v.now) value.entry) }
+    ensures small { IfOk result (λ n. n < 2 ^ 63) }
+{
+    match value {
+        None => Err(BoardFault::MissingKey),
+        Some(value) => whole(value.as_integer()),
+    }
+}
+
+// An integer that isn't negative.
+fn whole(integer: Option<i64>) -> Result<u64, BoardFault>
+    ensures number { result ≡ whole integer }
+    ensures small { IfOk result (λ n. n < 2 ^ 63) }
+{
+    match integer {
+        None => Err(BoardFault::WrongKind),
+        Some(integer) if integer < 0 => Err(BoardFault::OutOfRange),
+        Some(integer) => Ok(integer as u64),
+    }
+}
+
+// The word that a key has to have.
+pub fn word(value: Option<&Value>) -> Result<&str, BoardFault>
+    ensures { Gives (λ name. name.now) result (word (option_map (λ v. view v.now) value.entry)) }
+{
+    match value {
+        None => Err(BoardFault::MissingKey),
+        Some(value) => match value.as_str() {
+            None => Err(BoardFault::WrongKind),
+            Some(name) => Ok(name),
+        },
+    }
+}

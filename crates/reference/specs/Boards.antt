@@ -1,0 +1,85 @@
+-- What a board is (profile): its numbers, each with its range, and the script of what happens on its lines. What the
+-- text of a board means stands in the crate `board`, over the `toml` crate's meaning of a document.
+use Rattle.std.specs.Prelude.{ℕ, ◌+◌, ◌%◌, ◌^◌, ◌<◌, ◌≤◌, Bool, ◌&&◌, nat_le, ◌==◌, List, [], ◌∷◌}
+use Rattle.reference.specs.declared.script.ScriptedEvent.{ScriptedEvent}
+use Rattle.reference.specs.declared.script.Signal.{Signal}
+use Rattle.reference.specs.declared.script.Signal.TheVariants.{Rise, Fall, Pulse, Nmi}
+
+-- the numbers of a board
+pub record Numbers : Type 0 where
+  pub flash_base : ℕ
+  pub flash_size : ℕ
+  pub ram_size : ℕ
+  pub priority_bits : ℕ
+  pub lines : ℕ
+
+-- a board: its numbers, and its script in the order of the text
+pub record Described : Type 0 where
+  pub numbers : Numbers
+  pub script : List ScriptedEvent
+
+-- flash and RAM come in blocks of 1,024 bytes
+abbrev pub block : ℕ
+block = 1024
+
+-- flash and RAM have a mebibyte at most
+abbrev pub most_bytes : ℕ
+most_bytes = 0x10_0000
+
+-- RAM begins here
+abbrev pub ram_begin : ℕ
+ram_begin = 0x2000_0000
+
+abbrev pub most_lines : ℕ
+most_lines = 32
+
+abbrev pub most_events : ℕ
+most_events = 65536
+
+-- the tick of the first event, and the last tick of the clock
+abbrev pub first_tick : ℕ
+first_tick = 1
+
+abbrev pub last_tick : ℕ
+last_tick = 2 ^ 48
+
+-- a number of whole blocks
+abbrev pub is_whole : ℕ → Bool
+is_whole bytes = bytes % block == 0
+
+-- a size of flash or RAM
+abbrev pub is_size : ℕ → Bool
+is_size bytes = (is_whole bytes && nat_le block bytes) && nat_le bytes most_bytes
+
+-- flash of a size at a base, which ends where RAM begins, or before
+abbrev pub is_flash : ℕ → ℕ → Bool
+is_flash base bytes = is_size bytes && nat_le (base + bytes) ram_begin
+
+-- how many bits of a priority are kept
+abbrev pub is_priority_bits : ℕ → Bool
+is_priority_bits bits = nat_le 3 bits && nat_le bits 8
+
+-- a number of lines
+abbrev pub is_line_count : ℕ → Bool
+is_line_count lines = nat_le lines most_lines
+
+-- a tick in which an event can apply
+abbrev pub is_tick : ℕ → Bool
+is_tick tick = nat_le first_tick tick && nat_le tick last_tick
+
+-- a signal is on a line that the board has, or it is NMI
+abbrev pub IsOfBoard : ℕ → Signal → Type 0
+IsOfBoard lines (Rise line) = line < lines
+IsOfBoard lines (Fall line) = line < lines
+IsOfBoard lines (Pulse line) = line < lines
+IsOfBoard lines Nmi = Unit {0}
+
+-- the events of a script, the first of them no earlier than a tick: none is earlier than the one ahead of it or later
+-- than the clock's last tick, and each is on a line that the board has
+abbrev pub IsScriptFrom : ℕ → ℕ → List ScriptedEvent → Type 0
+IsScriptFrom lines before [] = Unit {0}
+IsScriptFrom lines before (event ∷ events) =
+    (before ≤ event.at) × (event.at ≤ last_tick) × IsOfBoard lines event.what × IsScriptFrom lines event.at events
+
+abbrev pub IsScript : ℕ → List ScriptedEvent → Type 0
+IsScript lines events = IsScriptFrom lines first_tick events
