@@ -2,7 +2,7 @@
 use Rattle.std.specs.Prelude.{◌≡◌, ◌⊎◌, ℕ, List, Result, Ok, Err}
 use Rattle.marm.specs.declared.fault.Fault.{Fault}
 use Rattle.marm.specs.declared.fault.Fault.TheVariants.{Usage, Load, Start, Size, Io}
-use Rattle.reference.specs.declared.board.Board.{Board}
+use Rattle.reference.specs.declared.board.Layout.{Layout}
 use Rattle.reference.specs.declared.fault.LoadFault.{LoadFault}
 use Rattle.reference.specs.declared.fault.StartFault.{StartFault}
 use Rattle.reference.specs.declared.fault.StartFault.TheVariants.{NoMemory}
@@ -29,7 +29,7 @@ stop_status (stop.OutOfProfile why) = 4
 stop_status stop.ResetRequested = 4
 
 -- the board that is taken where no other is named: 4 KiB of flash at 0 and 8 KiB of RAM
-pub record IsSmall (board : Board) : Type 0 where
+pub record IsSmall (board : Layout) : Type 0 where
   pub flash_base : board.flash_base ≡ 0
   pub flash_size : board.flash_size ≡ 4096
   pub ram_size : board.ram_size ≡ 8192
@@ -41,7 +41,7 @@ Ends steps (Ok s) (Err fault) = (fault ≡ Start NoMemory) ⊎ (fault ≡ Io)
 Ends steps (Err refusal) result = result ≡ Err (Start refusal)
 
 -- an image that is refused is refused as the definition refuses it
-abbrev pub Executes : Board → Result (List Segment) LoadFault → ℕ → Result Stop Fault → Type 0
+abbrev pub Executes : Layout → Result (List Segment) LoadFault → ℕ → Result Stop Fault → Type 0
 Executes board (Ok image) steps result = Ends steps (start board image) result
 Executes board (Err refusal) steps result = result ≡ Err (Load refusal)
 
@@ -51,6 +51,6 @@ EndsWith steps (Ok s) status = (status ≡ stop_status (ending_of steps s)) ⊎ 
 EndsWith steps (Err refusal) status = status ≡ 3
 
 -- the status of a run of an image
-abbrev pub GoesTo : Board → Result (List Segment) LoadFault → ℕ → ℕ → Type 0
+abbrev pub GoesTo : Layout → Result (List Segment) LoadFault → ℕ → ℕ → Type 0
 GoesTo board (Ok image) steps status = EndsWith steps (start board image) status
 GoesTo board (Err refusal) steps status = status ≡ 3

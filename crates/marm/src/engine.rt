@@ -2,12 +2,12 @@
 
 ghost use Rattle.std.specs.Prelude.{◌≡◌, ◌^◌, ◌≤◌};
 ghost use Rattle.marm.specs.Statuses.{IsSmall, GoesTo, Executes};
-ghost use Rattle.reference.specs.declared.board.Board.{Board};
+ghost use Rattle.reference.specs.declared.board.Layout.{Layout};
 ghost use Rattle.reference.specs.Images.{image_of};
 
 use crate::fault::{Fault, stop_status, tell};
 use elf::load;
-use machine::{Board, Machine, Out, Over, Paged, SMALL_BOARD, Stop};
+use machine::{Layout, Machine, Out, Over, Paged, SMALL_BOARD, Stop};
 use std::alloc::Global;
 use std::io::Write;
 use std::marker::Brand;
@@ -24,7 +24,7 @@ pub fn go<W: Write + Drop, E: Write>(
     err: &mut E,
 ) -> u8
     requires { steps ≤ 2 ^ 32 }
-    ensures { (board : Board) → IsSmall board → GoesTo board (image_of image.now) steps result }
+    ensures { (board : Layout) → IsSmall board → GoesTo board (image_of image.now) steps result }
 {
     match execute::<W, Brand>(alloc, image, &SMALL_BOARD, steps, out, Blank::new(1)) {
         Ok(stop) => stop_status(stop),
@@ -36,7 +36,7 @@ pub fn go<W: Write + Drop, E: Write>(
 fn execute<W: Write + Drop, K: Ledger>(
     alloc: Global,
     image: &[u8],
-    board: &Board,
+    board: &Layout,
     steps: u64,
     out: W,
     blank: Blank,

@@ -10,6 +10,6 @@ pub mod fault;
 pub mod instruction;
 pub mod place;
 pub mod registers;
-pub mod shift;
 pub mod script;
+pub mod shift;
 pub mod stop;
