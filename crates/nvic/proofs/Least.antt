@@ -3,7 +3,7 @@ use Rattle.std.proofs.Common.{◌≡◌, ℕ, zero, suc, ◌<◌, ◌≤◌, ◌
 use Rattle.std.proofs.lemmas.Bool.{eqb-false}
 use Rattle.std.proofs.lemmas.Bool.Decides.{nat_tests}
 use Rattle.reference.specs.declared.exception.TheConstants.{EXCEPTIONS}
-use Rattle.reference.specs.Priorities.{Nvic, is_in, of_byte, grouped, lowest, group_priority, lessened, least_active, boosted, execution_priority}
+use Rattle.reference.specs.Priorities.{Nvic, hard_fault_priority, is_in, of_byte, grouped, lowest, group_priority, lessened, least_active, boosted, execution_priority}
 use Rattle.nvic.proofs.Best.{or_last}
 use Rattle.nvic.specs.Laws.{Holds, IsLeast}
 use Rattle.nvic.specs.Laws.Holds.{nothing, handler, basepri, primask, faultmask}
@@ -56,7 +56,7 @@ boosted_holds : (n : Nvic) → Holds n (boosted n.group n.masks)
 boosted_holds n = split n.masks.faultmask n.masks.primask (n.masks.basepri == 0) refl refl refl
   where
     split : (f p none : Bool) → n.masks.faultmask ≡ f → n.masks.primask ≡ p → (n.masks.basepri == 0) ≡ none
-        → Holds n (if f then 1 else if p then of_byte 0 else if none then lowest else of_byte (grouped n.group n.masks.basepri))
+        → Holds n (if f then hard_fault_priority else if p then of_byte 0 else if none then lowest else of_byte (grouped n.group n.masks.basepri))
     split true p none e f g = faultmask e refl
     split false true none e f g = primask f refl
     split false false true e f g = nothing refl
@@ -64,9 +64,9 @@ boosted_holds n = split n.masks.faultmask n.masks.primask (n.masks.basepri == 0)
 
 -- the priority of the masks, over their bits and over BASEPRI's group
 abbrev masked : Bool → Bool → Bool → ℕ → ℕ
-masked f p none g = if f then 1 else if p then of_byte 0 else if none then lowest else of_byte g
+masked f p none g = if f then hard_fault_priority else if p then of_byte 0 else if none then lowest else of_byte g
 
-under_faultmask : (f p none : Bool) (g : ℕ) → f ≡ true → masked f p none g ≤ 1
+under_faultmask : (f p none : Bool) (g : ℕ) → f ≡ true → masked f p none g ≤ hard_fault_priority
 under_faultmask f p none g e = grind arith
 
 under_primask : (f p none : Bool) (g : ℕ) → p ≡ true → masked f p none g ≤ of_byte 0

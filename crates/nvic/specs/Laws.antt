@@ -2,7 +2,7 @@
 -- the crate `reference`.
 use Rattle.std.specs.Prelude.{◌≡◌, ℕ, ◌<◌, ◌≤◌, ◌⊎◌, Bool, true, ◌&&◌, ◌||◌, List, length, slice_index, Option, Some, None}
 use Rattle.reference.specs.declared.exception.TheConstants.{EXCEPTIONS, MOST_LINES}
-use Rattle.reference.specs.Priorities.{Nvic, is_exception, is_switched, kept, is_in, is_due, is_ready, priority_of, group_priority, execution_priority, of_byte, grouped, lowest}
+use Rattle.reference.specs.Priorities.{Nvic, is_exception, is_switched, kept, is_in, is_due, is_ready, priority_of, group_priority, execution_priority, hard_fault_priority, of_byte, grouped, lowest}
 
 -- exception x is pending and enabled
 pub record IsReady (n : Nvic) (x : ℕ) : Type 0 where
@@ -30,7 +30,7 @@ pub data Holds (n : Nvic) (p : ℕ) : Type 0 where
   handler : (x : ℕ) → x < EXCEPTIONS → is_in n.active x ≡ true → p ≡ group_priority n x → Holds n p
   basepri : (n.masks.basepri ≡ 0 → ⊥) → p ≡ of_byte (grouped n.group n.masks.basepri) → Holds n p
   primask : n.masks.primask ≡ true → p ≡ of_byte 0 → Holds n p
-  faultmask : n.masks.faultmask ≡ true → p ≡ 1 → Holds n p
+  faultmask : n.masks.faultmask ≡ true → p ≡ hard_fault_priority → Holds n p
 
 -- the least of them
 pub record IsLeast (n : Nvic) (p : ℕ) : Type 0 where

@@ -229,7 +229,7 @@ impl Levels for PlainLevels {
     fn escalate(&self, number: u16) -> Escalation {
         if self.is_enabled(number) && self.preempts(number) {
             Escalation::Itself
-        } else if self.execution_priority().is_below(Priority::of_byte(0)) {
+        } else if self.execution_priority().is_negative() {
             Escalation::Lockup
         } else {
             Escalation::HardFault

@@ -54,20 +54,33 @@ has_byte lines x = is_exception lines x && not (is_fixed x)
 abbrev pub is_in : List Bool → ℕ → Bool
 is_in set x = slice_index_or set x false
 
+-- whether x is enabled, be it always
 abbrev pub is_enabled : Nvic → ℕ → Bool
 is_enabled n x = is_always_enabled x || is_in n.enabled x
+
+-- -2, the priority of NMI
+abbrev pub nmi_priority : ℕ
+nmi_priority = 0
+
+-- -1, the priority of HardFault and under FAULTMASK
+abbrev pub hard_fault_priority : ℕ
+hard_fault_priority = 1
 
 -- the priority of a byte
 abbrev pub of_byte : ℕ → ℕ
 of_byte b = b + 2
 
--- the manual's 256: nothing is active and nothing is masked
+-- 256, where nothing is active and nothing is masked
 abbrev pub lowest : ℕ
 lowest = 258
 
--- exception x has one of the fixed priorities, -2 and -1, or this one
+-- whether a priority is below 0
+abbrev pub is_negative : ℕ → Bool
+is_negative p = nat_lt p (of_byte 0)
+
+-- exception x has one of the fixed priorities, or this one
 abbrev pub fixed_or : ℕ → ℕ → ℕ
-fixed_or x other = if x == NMI then 0 else if x == HARD_FAULT then 1 else other
+fixed_or x other = if x == NMI then nmi_priority else if x == HARD_FAULT then hard_fault_priority else other
 
 -- the priority of exception x
 abbrev pub priority_of : Nvic → ℕ → ℕ
@@ -93,7 +106,7 @@ least_active n (suc x) = lessened n x (least_active n x)
 -- the priority to which the masks raise: -1 under FAULTMASK, 0 under PRIMASK, BASEPRI's group where it isn't 0
 abbrev pub boosted : ℕ → Masks → ℕ
 boosted group m =
-    if m.faultmask then 1
+    if m.faultmask then hard_fault_priority
     else if m.primask then of_byte 0
     else if m.basepri == 0 then lowest
     else of_byte (grouped group m.basepri)
@@ -134,12 +147,12 @@ unfoldable pub candidate : Nvic → Option ℕ
 candidate n = if_preempts n (best n)
 
 -- what becomes of a fault or of SVC whose exception is x: its own exception where that is enabled and preempts,
--- otherwise HardFault where the execution priority is 0 or above, and otherwise lockup
+-- otherwise lockup where the execution priority is below 0, and otherwise HardFault
 unfoldable pub escalation : Nvic → ℕ → Escalation
 escalation n x =
     if is_enabled n x && nat_lt (group_priority n x) (execution_priority n) then Itself
-    else if nat_le (of_byte 0) (execution_priority n) then HardFault
-    else Lockup
+    else if is_negative (execution_priority n) then Lockup
+    else HardFault
 
 -- whether a test holds of one of the exceptions below x
 unfoldable pub some_below : (ℕ → Bool) → ℕ → Bool
@@ -158,13 +171,15 @@ is_other_active n x = some_below (λ y. not (y == x) && is_in n.active y) EXCEPT
 abbrev pub with_member : ℕ → List Bool → ℕ → Bool → List Bool
 with_member lines set x on = if is_exception lines x then slice_set set x on else set
 
+-- x becomes pending, or isn't pending any more
 abbrev pub with_pending : Nvic → ℕ → Bool → Nvic
 with_pending n x on = record n { pending = with_member n.lines n.pending x on }
 
+-- x becomes active, or isn't active any more
 abbrev pub with_active : Nvic → ℕ → Bool → Nvic
 with_active n x on = record n { active = with_member n.lines n.active x on }
 
--- an exception that can't be disabled is left
+-- x is enabled or disabled: one that can't be disabled is left
 abbrev pub with_enabled : Nvic → ℕ → Bool → Nvic
 with_enabled n x on = if is_switched n.lines x then record n { enabled = slice_set n.enabled x on } else n
 
@@ -172,22 +187,24 @@ with_enabled n x on = if is_switched n.lines x then record n { enabled = slice_s
 abbrev pub kept : ℕ → ℕ → ℕ
 kept bits b = b / 2 ^ (8 - bits) * 2 ^ (8 - bits)
 
--- an exception that has no priority byte is left
+-- x is given a priority byte: an exception that has none is left
 abbrev pub with_priority : Nvic → ℕ → ℕ → Nvic
 with_priority n x b =
     if has_byte n.lines x then record n { priorities = slice_set n.priorities x (kept n.priority_bits b) } else n
 
--- PRIGROUP has three bits
+-- PRIGROUP is given a value, of which it has three bits
 abbrev pub with_group : Nvic → ℕ → Nvic
 with_group n g = record n { group = g % 8 }
 
+-- PRIMASK is given a value
 abbrev pub with_primask : Nvic → Bool → Nvic
 with_primask n on = record n { masks = record n.masks { primask = on } }
 
+-- FAULTMASK is given a value, whatever the execution priority is
 abbrev pub with_faultmask : Nvic → Bool → Nvic
 with_faultmask n on = record n { masks = record n.masks { faultmask = on } }
 
--- BASEPRI keeps the bits that a priority byte keeps
+-- BASEPRI is given a value, of which it keeps the bits that a priority byte keeps
 abbrev pub with_basepri : Nvic → ℕ → Nvic
 with_basepri n b = record n { masks = record n.masks { basepri = kept n.priority_bits b } }
 

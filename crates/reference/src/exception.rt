@@ -85,6 +85,14 @@ impl Priority {
         self.raised as i16 - 2
     }
 
+    /// Whether it's below 0, as those of NMI and HardFault are.
+    #[inline]
+    pub fn is_negative(self) -> bool
+        ensures { result ≡ nat_lt self 2 }
+    {
+        self.raised < 2
+    }
+
     /// Whether its number is less, so that it's the more urgent one.
     #[inline]
     pub fn is_below(self, other: Priority) -> bool
