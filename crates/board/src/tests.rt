@@ -4,6 +4,7 @@
 mod texts;
 
 use super::*;
+use reference::board::SMALL_BOARD;
 use std::process::Abort;
 use texts::{EVENTS, LINES, SMALL, TEXTS, Want};
 
@@ -130,6 +131,32 @@ fn reads_all_numbers_and_events(rt: HostRuntime) {
         matches!(last.what, Signal::Pulse(line) if line.number() == 5),
         "pulse"
     );
+}
+
+/// The numbers of a layout.
+fn numbers(layout: Layout) -> [u32; 5] {
+    [
+        layout.flash_base,
+        layout.flash_size,
+        layout.ram_size,
+        layout.priority_bits as u32,
+        layout.lines as u32,
+    ]
+}
+
+#[test]
+fn small_board_is_that_of_its_text(rt: HostRuntime) {
+    let Some(text) = text_of(rt.alloc(), 5, "", "") else {
+        assert!(rt; false, "no memory for a text");
+        return;
+    };
+    match read(rt.alloc(), text.as_str()) {
+        Ok(board) => {
+            assert_eq!(rt; numbers(board.layout), numbers(SMALL_BOARD));
+            assert_eq!(rt; board.events.len(), 0);
+        }
+        Err(_) => assert!(rt; false, "the small board should be accepted"),
+    }
 }
 
 /// The small board with so many events that have nothing in them.

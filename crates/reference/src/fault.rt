@@ -26,8 +26,8 @@ pub enum LoadFault {
     TooManySegments,
 }
 
-/// Why a text isn't a board that this machine takes. The order in which a text is looked at is that
-/// of its keys; README.md of the crate `board` has it.
+/// Why a text isn't a board that this machine takes. A text is looked at key by key, so a refusal's
+/// number isn't its place in the order of the checks: docs/FILES.md has that order.
 #[derive(Clone, Copy, Debug, Error)]
 pub enum BoardFault {
     #[error("the text isn't TOML")]
