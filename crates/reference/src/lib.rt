@@ -7,6 +7,7 @@ pub mod board;
 pub mod event;
 pub mod fault;
 pub mod instruction;
+pub mod mpu;
 pub mod place;
 pub mod registers;
 pub mod stop;

@@ -1,0 +1,2 @@
+pub mod Owner
+mod Sound
