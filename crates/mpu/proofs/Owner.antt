@@ -1,5 +1,5 @@
 -- One look of the search, from the highest region downward.
-use Rattle.std.proofs.Common.{◌≡◌, ℕ, zero, suc, ◌-◌, ◌<◌, ◌≤◌, true, false, Bool, if◌then◌else◌, Option, Some, None, arith, refl, sym, ap, ◌∙◌}
+use Rattle.std.proofs.Common.{◌≡◌, ℕ, zero, suc, ◌-◌, ◌<◌, ◌≤◌, true, false, Bool, if◌then◌else◌, Some, None, arith, refl, sym, ap}
 use Rattle.reference.specs.Regions.{Mpu, region, matches, owner_below}
 
 step-found : (m : Mpu) (a k : ℕ) → matches (region m k) a ≡ true → owner_below m a (suc k) ≡ Some k

@@ -2,7 +2,7 @@
 use Rattle.std.proofs.Common.{◌≡◌, ℕ, zero, suc, ◌%◌, List, [], ◌∷◌, true, ◌∙◌, slice_index_or, slice_set}
 use Rattle.std.proofs.Math.ListN.{length-set}
 use Rattle.reference.specs.declared.mpu.Region.{Region}
-use Rattle.reference.specs.Regions.{Mpu, IsSound, region, with_region, empty, is_taken}
+use Rattle.reference.specs.Regions.{Mpu, IsSound, with_region, empty, is_taken}
 
 -- what holds of the new region and of each old one holds of each region after the change
 each-after : (P : Region → Type 0) (regions : List Region) (k j : ℕ) (r : Region)

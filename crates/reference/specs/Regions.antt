@@ -1,7 +1,7 @@
 -- The registers of the Memory Protection Unit, and which region an address belongs to (ARM DDI 0403, "Protected Memory
 -- System Architecture, PMSAv7": "Register support for PMSAv7 in the SCS", and the pseudocode of ValidateAddress()). What
 -- the manual calls UNPREDICTABLE at a write stops by name and changes nothing (profile).
-use Rattle.std.specs.Prelude.{◌≡◌, ℕ, zero, suc, ◌+◌, ◌-◌, ◌*◌, ◌/◌, ◌%◌, ◌^◌, ◌<◌, ◌≤◌, ◌⊎◌, Bool, true, false, not, ◌&&◌, ◌||◌, ◌==◌, nat_lt, nat_le, if◌then◌else◌, List, length, slice_index_or, slice_set, replicate, Option, Some, None, Result, Ok, Err, bit_and}
+use Rattle.std.specs.Prelude.{◌≡◌, ℕ, zero, suc, ◌+◌, ◌-◌, ◌*◌, ◌/◌, ◌%◌, ◌^◌, ◌<◌, ◌≤◌, ◌⊎◌, Bool, true, not, ◌&&◌, ◌||◌, ◌==◌, nat_lt, nat_le, if◌then◌else◌, List, length, slice_index_or, slice_set, replicate, Option, Some, None, Result, Ok, Err, bit_and}
 use Rattle.reference.specs.declared.mpu.MpuRegister.{MpuRegister}
 use Rattle.reference.specs.declared.mpu.MpuRegister.TheVariants as register
 use Rattle.reference.specs.declared.mpu.MpuStop.{MpuStop}
