@@ -80,7 +80,7 @@ fn is_off_below_zero(control: u32, below_zero: bool) -> bool
 
 /// What the default memory map grants: all data, and the fetches of code.
 #[inline]
-pub fn default_map(address: u32, kind: Kind) -> bool
+fn default_map(address: u32, kind: Kind) -> bool
     ensures { result ≡ default_map address kind }
 {
     match kind {
