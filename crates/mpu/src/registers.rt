@@ -14,6 +14,15 @@ const PLACES: usize = 16;
 /// The bits that RASR keeps: XN, AP, TEX, S, C, B, SRD, SIZE and ENABLE.
 const STORED: u32 = 0x173F_FF3F;
 
+/// The bit of MPU_CTRL for ENABLE: the MPU is on.
+pub(crate) const ENABLE: u32 = 0;
+
+/// The bit for HFNMIENA: it's on for code whose execution priority is below 0 too.
+pub(crate) const HFNMIENA: u32 = 1;
+
+/// The bit for PRIVDEFENA: privileged code has the default map behind the regions.
+pub(crate) const PRIVDEFENA: u32 = 2;
+
 /// The bit of RBAR that says that REGION is selected.
 const VALID: u32 = 4;
 
@@ -149,7 +158,7 @@ impl MpuRegs {
         ensures state { self.new ≡ left self.old (write_control self.old value) }
         ensures answer { result ≡ answered (write_control self.old value) }
     {
-        if value & 3 == 2 {
+        if is_bit(value, HFNMIENA) && !is_bit(value, ENABLE) {
             return Err(MpuStop::Control);
         }
         self.control = value & 7;

@@ -8,19 +8,11 @@ ghost use Rattle.reference.specs.Regions.{Mpu, permission, never_executes, regio
 ghost use Rattle.reference.specs.Rules.{is_in_ppb, is_fetch, is_vector, is_off_below_zero, before_regions, may_read, may_write, granted_by, grants, is_background, behind_regions};
 
 use crate::regions::{is_bit, permission};
+use crate::registers::{ENABLE, HFNMIENA, PRIVDEFENA};
 use reference::access::{Decision, Kind, Rule};
 
 /// Where the system address space begins, in which no code stands.
 const SYSTEM_BASE: u32 = 0xE000_0000;
-
-/// The bit of MPU_CTRL for ENABLE: the MPU is on.
-const ENABLE: u32 = 0;
-
-/// The bit for HFNMIENA: it's on for code whose execution priority is below 0 too.
-const HFNMIENA: u32 = 1;
-
-/// The bit for PRIVDEFENA: privileged code has the default map behind the regions.
-const PRIVDEFENA: u32 = 2;
 
 /// The bit of RASR for XN.
 const XN: u32 = 28;

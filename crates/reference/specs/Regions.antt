@@ -19,7 +19,7 @@ pub record Mpu : Type 0 where
   pub number : ℕ
   -- the board's: how many regions there are, 8 or 16
   pub count : ℕ
-  -- a place for each of sixteen regions; those from `count` upward stay empty
+  -- a place for each of sixteen regions, of which the first `count` are there
   pub regions : List Region
 
 -- MPU_CTRL.ENABLE, HFNMIENA and PRIVDEFENA, by what MPU_CTRL holds
