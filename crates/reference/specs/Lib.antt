@@ -8,6 +8,8 @@ pub mod Patterns
 pub mod Decoding
 pub mod Operations
 pub mod Decisions
+pub mod Regions
+pub mod Rules
 pub mod Accesses
 pub mod Step
 pub mod Run

@@ -8,6 +8,7 @@ pub mod event;
 pub mod exception;
 pub mod fault;
 pub mod instruction;
+pub mod mpu;
 pub mod place;
 pub mod registers;
 pub mod script;

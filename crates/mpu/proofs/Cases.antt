@@ -1,0 +1,181 @@
+-- The decision is by the first case of the table that fits, and nothing else is.
+use Rattle.std.proofs.Common.{◌≡◌, ℕ, ◌<◌, ◌≤◌, ◌⊎◌, ◌↔◌, true, false, not, Bool, if◌then◌else◌, ◌==◌, ◌+◌, subst, Option, Some, None, arith, refl, sym, ap, ◌∙◌, inl, inr}
+use Rattle.std.proofs.lemmas.Bool.{cases_lt, eqb-true, eq-eqb}
+use Rattle.reference.specs.declared.access.Decision.{Decision}
+use Rattle.reference.specs.declared.access.Rule.{Rule}
+use Rattle.reference.specs.declared.access.Rule.TheVariants.{NeverExecute, VectorRead, PrivatePeripheralBus, MpuOff, NegativePriority, Region, Background, NoRegion}
+use Rattle.reference.specs.Decisions.{default_map}
+use Rattle.reference.specs.Regions.{Mpu, owner, is_on, IsOwner}
+use Rattle.reference.specs.Rules.{Asked, Fits, IsFirstFit, place, granted_to, before_regions, by_owner, first_of_two, decision_of, is_never_executed, is_vector, is_ppb_data, is_off_below_zero, is_background}
+use Rattle.mpu.proofs.Belonging.{only_owner, owner_is}
+
+-- ---- rules by their places
+
+-- the rule of a place that only one rule has
+rule_at : ℕ → Rule
+rule_at n =
+    if n == 0 then NeverExecute
+    else if n == 1 then VectorRead
+    else if n == 2 then PrivatePeripheralBus
+    else if n == 3 then MpuOff
+    else if n == 4 then NegativePriority
+    else if n == 6 then Background
+    else NoRegion
+
+rule_of_place : (r : Rule) → (place r ≡ 5 → ⊥) → rule_at (place r) ≡ r
+unfolding rule_at
+rule_of_place NeverExecute _ = refl
+rule_of_place VectorRead _ = refl
+rule_of_place PrivatePeripheralBus _ = refl
+rule_of_place MpuOff _ = refl
+rule_of_place NegativePriority _ = refl
+rule_of_place (Region k) h = absurd (h refl)
+rule_of_place Background _ = refl
+rule_of_place NoRegion _ = refl
+
+same_rule : (r s : Rule) → place r ≡ place s → (place s ≡ 5 → ⊥) → r ≡ s
+same_rule r s e h = sym (rule_of_place r (λ f. h (sym e ∙ f))) ∙ ap rule_at e ∙ rule_of_place s h
+
+number_of : (r : Rule) → place r ≡ 5 → (k : ℕ) × (r ≡ Region k)
+number_of NeverExecute h = absurd (let wrong : ⊥ = omega arith in wrong)
+number_of VectorRead h = absurd (let wrong : ⊥ = omega arith in wrong)
+number_of PrivatePeripheralBus h = absurd (let wrong : ⊥ = omega arith in wrong)
+number_of MpuOff h = absurd (let wrong : ⊥ = omega arith in wrong)
+number_of NegativePriority h = absurd (let wrong : ⊥ = omega arith in wrong)
+number_of (Region k) h = (k, refl)
+number_of Background h = absurd (let wrong : ⊥ = omega arith in wrong)
+number_of NoRegion h = absurd (let wrong : ⊥ = omega arith in wrong)
+
+-- ---- the cases that don't fit
+
+-- none of the cases above a place fits
+abbrev Missed : Mpu → Asked → ℕ → Type 0
+Missed m q n = (r : Rule) → place r < n → Fits m q r → ⊥
+
+nothing_above : (m : Mpu) (q : Asked) → Missed m q 0
+nothing_above m q r above f = omega arith
+
+and_rule : (m : Mpu) (q : Asked) (s : Rule) → (place s ≡ 5 → ⊥) → Missed m q (place s) → (Fits m q s → ⊥) → Missed m q (place s + 1)
+and_rule m q s h before here r above f = lead (cases_lt (place r) (place s))
+  where
+    lead : ((place r < place s) ⊎ (place s ≤ place r)) → ⊥
+    lead (inl under) = before r under f
+    lead (inr over) = let e : place r ≡ place s = omega arith in here (subst (Fits m q) (same_rule r s e h) f)
+
+and_regions : (m : Mpu) (q : Asked) → Missed m q 5 → ((k : ℕ) → IsOwner m q.address (Some k) → ⊥) → Missed m q 6
+and_regions m q before here r above f = lead (cases_lt (place r) 5)
+  where
+    lead : ((place r < 5) ⊎ (5 ≤ place r)) → ⊥
+    lead (inl under) = before r under f
+    lead (inr over) =
+        let e : place r ≡ 5 = omega arith in
+        let n = number_of r e in
+        here n.0 (subst (Fits m q) n.1 f)
+
+-- ---- the first case that fits
+
+unlike : (b : Bool) → b ≡ false → b ≡ true → ⊥
+unlike b e f = let e : true ≡ false = sym f ∙ e in cc
+
+unlike_too : (b : Bool) → b ≡ true → b ≡ false → ⊥
+unlike_too b e f = unlike b f e
+
+behind : (m : Mpu) (q : Asked) (b : Bool) → is_background m.control q.privileged ≡ b → Missed m q 6
+    → IsFirstFit m q (if b then record { rule = Background; granted = default_map q.address q.kind } else record { rule = NoRegion; granted = false })
+behind m q true e missed = record { fits = e; first = missed; granted = refl }
+behind m q false e missed = record {
+  fits = tt;
+  first = and_rule m q Background (λ h. omega arith) missed (unlike _ e);
+  granted = refl;
+}
+
+at_regions : (m : Mpu) (q : Asked) (o : Option ℕ) → Missed m q 5 → IsOwner m q.address o
+    → IsFirstFit m q (by_owner m q.kind q.address q.privileged o)
+at_regions m q (Some k) missed owns = record { fits = owns; first = missed; granted = refl }
+at_regions m q None missed owns =
+    behind m q (is_background m.control q.privileged) refl
+    (and_regions m q missed (λ k other. let e = only_owner m q.address None (Some k) owns other in cc))
+
+fit : (m : Mpu) (q : Asked) (xn vec ppb on neg : Bool) (o : Option ℕ)
+    → is_never_executed q.address q.kind ≡ xn → is_vector q.kind ≡ vec → is_ppb_data q.address q.kind ≡ ppb
+    → is_on m.control ≡ on → is_off_below_zero m.control q.below_zero ≡ neg → IsOwner m q.address o
+    → IsFirstFit m q (first_of_two (
+    if xn then Some (record { rule = NeverExecute; granted = false })
+    else if vec then Some (record { rule = VectorRead; granted = true })
+    else if ppb then Some (record { rule = PrivatePeripheralBus; granted = true })
+    else if not on then Some (record { rule = MpuOff; granted = default_map q.address q.kind })
+    else if neg then Some (record { rule = NegativePriority; granted = default_map q.address q.kind })
+    else None) (by_owner m q.kind q.address q.privileged o))
+fit m q true vec ppb on neg o e1 e2 e3 e4 e5 owns = record { fits = e1; first = nothing_above m q; granted = refl }
+fit m q false true ppb on neg o e1 e2 e3 e4 e5 owns =
+    let m1 = and_rule m q NeverExecute (λ h. omega arith) (nothing_above m q) (unlike _ e1) in
+    record { fits = e2; first = m1; granted = refl }
+fit m q false false true on neg o e1 e2 e3 e4 e5 owns =
+    let m1 = and_rule m q NeverExecute (λ h. omega arith) (nothing_above m q) (unlike _ e1) in
+    let m2 = and_rule m q VectorRead (λ h. omega arith) m1 (unlike _ e2) in
+    record { fits = e3; first = m2; granted = refl }
+fit m q false false false false neg o e1 e2 e3 e4 e5 owns =
+    let m1 = and_rule m q NeverExecute (λ h. omega arith) (nothing_above m q) (unlike _ e1) in
+    let m2 = and_rule m q VectorRead (λ h. omega arith) m1 (unlike _ e2) in
+    let m3 = and_rule m q PrivatePeripheralBus (λ h. omega arith) m2 (unlike _ e3) in
+    record { fits = e4; first = m3; granted = refl }
+fit m q false false false true true o e1 e2 e3 e4 e5 owns =
+    let m1 = and_rule m q NeverExecute (λ h. omega arith) (nothing_above m q) (unlike _ e1) in
+    let m2 = and_rule m q VectorRead (λ h. omega arith) m1 (unlike _ e2) in
+    let m3 = and_rule m q PrivatePeripheralBus (λ h. omega arith) m2 (unlike _ e3) in
+    let m4 = and_rule m q MpuOff (λ h. omega arith) m3 (unlike_too _ e4) in
+    record { fits = e5; first = m4; granted = refl }
+fit m q false false false true false o e1 e2 e3 e4 e5 owns =
+    let m1 = and_rule m q NeverExecute (λ h. omega arith) (nothing_above m q) (unlike _ e1) in
+    let m2 = and_rule m q VectorRead (λ h. omega arith) m1 (unlike _ e2) in
+    let m3 = and_rule m q PrivatePeripheralBus (λ h. omega arith) m2 (unlike _ e3) in
+    let m4 = and_rule m q MpuOff (λ h. omega arith) m3 (unlike_too _ e4) in
+    let m5 = and_rule m q NegativePriority (λ h. omega arith) m4 (unlike _ e5) in
+    at_regions m q o m5 owns
+
+-- the decision is by the first case that fits
+decision_is : (m : Mpu) (q : Asked) → IsFirstFit m q (decision_of m q.address q.kind q.privileged q.below_zero)
+unfolding decision_of before_regions
+decision_is m q = fit m q _ _ _ _ _ (owner m q.address) refl refl refl refl refl (owner_is m q.address)
+
+-- ---- two such decisions are one
+
+same_case : (m : Mpu) (q : Asked) (r s : Rule) → place r ≡ place s → Fits m q r → Fits m q s → r ≡ s
+same_case m q r s e f g = lead (place s == 5) refl
+  where
+    regions : place r ≡ 5 → place s ≡ 5 → r ≡ s
+    regions at_r at_s =
+        let j = number_of r at_r in
+        let k = number_of s at_s in
+        let same = only_owner m q.address (Some j.0) (Some k.0) (subst (Fits m q) j.1 f) (subst (Fits m q) k.1 g) in
+        let h : j.0 ≡ k.0 = cc in
+        j.1 ∙ ap Region h ∙ sym k.1
+
+    lead : (b : Bool) → (place s == 5) ≡ b → r ≡ s
+    lead true t = let at_s : place s ≡ 5 = eqb-true (place s) 5 t in regions (e ∙ at_s) at_s
+    lead false t = same_rule r s e (λ h. unlike (place s == 5) t (eq-eqb (place s) 5 h))
+
+same_decision : (d e : Decision) → d.rule ≡ e.rule → d.granted ≡ e.granted → d ≡ e
+same_decision d e p g =
+    let made : Rule → Bool → Decision = λ r b. record { rule = r; granted = b } in
+    ap (λ r. made r d.granted) p ∙ ap (made e.rule) g
+
+only_decision : (m : Mpu) (q : Asked) (d e : Decision) → IsFirstFit m q d → IsFirstFit m q e → d ≡ e
+only_decision m q d e f g = same_decision d e same (f.granted ∙ ap (granted_to m q) same ∙ sym g.granted)
+  where
+    places : ((place d.rule < place e.rule) ⊎ (place e.rule ≤ place d.rule))
+        → ((place e.rule < place d.rule) ⊎ (place d.rule ≤ place e.rule)) → place d.rule ≡ place e.rule
+    places (inl under) _ = absurd (g.first d.rule under f.fits)
+    places (inr _) (inl over) = absurd (f.first e.rule over g.fits)
+    places (inr above) (inr below) = omega arith
+
+    same : d.rule ≡ e.rule
+    same = same_case m q d.rule e.rule
+        (places (cases_lt (place d.rule) (place e.rule)) (cases_lt (place e.rule) (place d.rule))) f.fits g.fits
+
+pub decision_exactly : (m : Mpu) (q : Asked) (d : Decision)
+    → IsFirstFit m q d ↔ (d ≡ decision_of m q.address q.kind q.privileged q.below_zero)
+decision_exactly m q d = (
+  λ f. only_decision m q d (decision_of m q.address q.kind q.privileged q.below_zero) f (decision_is m q),
+  λ e. rw e (decision_is m q),
+)

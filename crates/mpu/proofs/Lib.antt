@@ -1,0 +1,4 @@
+pub mod Belonging
+pub mod Cases
+pub mod Owner
+mod Sound

@@ -1,0 +1,65 @@
+//! What decides an access by the registers of the MPU, however it keeps them.
+
+ghost use Rattle.std.specs.Prelude.{◌≡◌};
+ghost use Rattle.reference.specs.Regions.{Mpu};
+ghost use Rattle.reference.specs.Rules.{decision_of};
+
+use crate::registers::MpuRegs;
+use crate::rules::{Rights, before_regions, by_region, without_region};
+use reference::access::{Decision, Kind};
+
+/// What decides each access, and stands for the registers that it was last told.
+pub trait Decider: Drop {
+    /// Whether it decides as registers with this content say.
+    ghost stands_for: { Self → Mpu → Type 0 };
+
+    /// One that stands for these registers.
+    fn fresh(registers: &MpuRegs) -> Self
+        ensures { stands_for result registers.now };
+
+    /// It stands for these registers from now on.
+    fn reload(&mut self, registers: &MpuRegs)
+        ensures { stands_for self.new registers.now };
+
+    /// The rule that decides an access of that kind to an address, by code of that privilege, and
+    /// whether it grants it. `below_zero` says whether the execution priority is below 0.
+    fn decide(&self, address: u32, kind: Kind, privileged: bool, below_zero: bool) -> Decision
+        ensures { (m : Mpu) → stands_for self.now m → result ≡ decision_of m address kind privileged below_zero };
+}
+
+/// Keeps the registers, and searches the regions at each access, from the highest downward.
+#[derive(Drop)]
+pub struct Search {
+    registers: MpuRegs,
+}
+
+impl Decider for Search {
+    ghost stands_for = { λ s m. s.registers ≡ m };
+
+    fn fresh(registers: &MpuRegs) -> Self {
+        Search {
+            registers: *registers,
+        }
+    }
+
+    fn reload(&mut self, registers: &MpuRegs) {
+        self.registers = *registers;
+    }
+
+    #[inline]
+    #[tactic(auto, unfolding(reference::specs::Rules::decision_of))]
+    fn decide(&self, address: u32, kind: Kind, privileged: bool, below_zero: bool) -> Decision {
+        let registers = &self.registers;
+        let control = registers.control();
+        if let Some(decision) = before_regions(control, address, kind, below_zero) {
+            return decision;
+        }
+        match registers.owner(address) {
+            Some(number) => {
+                let rights = Rights::of(registers.at(number).attributes);
+                by_region(number, rights, kind, privileged)
+            }
+            None => without_region(control, address, kind, privileged),
+        }
+    }
+}

@@ -1,0 +1,18 @@
+//! The Memory Protection Unit (ARM DDI 0403, "Protected Memory System Architecture, PMSAv7"): its
+//! registers, and which of its regions or of the rules around them decides an access.
+#![tactic(auto)]
+
+mod decider;
+pub mod laws;
+mod regions;
+mod registers;
+mod rules;
+#[cfg(test)]
+mod tests;
+
+pub use decider::{Decider, Search};
+pub use reference::access::{Decision, Kind, Rule};
+pub use reference::mpu::{MpuRegister, MpuStop, Region};
+pub use regions::{matches, size};
+pub use registers::{MpuRegs, register_at, stop_of};
+pub use rules::{Rights, before_regions, by_region, without_region};

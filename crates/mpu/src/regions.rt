@@ -1,0 +1,90 @@
+//! What the registers of one region say.
+
+ghost use Rattle.std.specs.Prelude.{◌≡◌, ◌+◌, ◌<◌, ◌≤◌, ◌/◌, ◌^◌, ◌%◌};
+ghost use Rattle.reference.specs.Regions.{is_enabled, size, switched_off, permission, is_taken, agrees, is_switched_off, matches};
+ghost use Rattle.reference.specs.Words.{is_bit};
+
+use reference::mpu::Region;
+
+/// Whether a bit of a word is 1.
+#[inline]
+pub(crate) fn is_bit(word: u32, bit: u32) -> bool
+    requires { bit < 32 }
+    ensures { result ≡ is_bit word bit }
+{
+    word >> bit & 1 == 1
+}
+
+/// RASR.ENABLE.
+#[inline]
+fn is_enabled(attributes: u32) -> bool
+    ensures { result ≡ is_enabled attributes }
+{
+    is_bit(attributes, 0)
+}
+
+/// RASR.SIZE, from 0 to 31: a region covers 2^(SIZE + 1) bytes.
+#[inline]
+pub fn size(attributes: u32) -> u32
+    ensures value { result ≡ size attributes }
+    ensures small { result < 32 }
+{
+    attributes >> 1 & 31
+}
+
+/// RASR.SRD: a bit for each of eight subregions.
+fn switched_off(attributes: u32) -> u32
+    ensures { result ≡ switched_off attributes }
+{
+    attributes >> 8 & 0xFF
+}
+
+/// RASR.AP.
+#[inline]
+pub(crate) fn permission(attributes: u32) -> u8
+    ensures { result ≡ permission attributes }
+{
+    (attributes >> 24 & 7) as u8
+}
+
+/// Whether RASR takes these attributes.
+pub(crate) fn is_taken(attributes: u32) -> bool
+    ensures { result ≡ is_taken attributes }
+{
+    if !is_enabled(attributes) {
+        return true;
+    }
+    let size = size(attributes);
+    size >= 4 && permission(attributes) != 4 && (size >= 7 || switched_off(attributes) == 0)
+}
+
+/// Whether an address lies in a region, and in none of its subregions that are switched off.
+#[inline]
+#[tactic(auto, unfolding(reference::specs::Regions::matches))]
+pub fn matches(region: Region, address: u32) -> bool
+    ensures { result ≡ matches region address }
+{
+    is_enabled(region.attributes) && agrees(region, address) && !is_switched_off(region, address)
+}
+
+/// Whether an address and the region's base agree in the bits that its size leaves.
+#[inline]
+fn agrees(region: Region, address: u32) -> bool
+    ensures { result ≡ agrees region address }
+{
+    let bits = size(region.attributes) + 1;
+    u64::from(address) >> bits == u64::from(region.base) >> bits
+}
+
+/// Whether an address stands in a subregion that is switched off.
+#[inline]
+fn is_switched_off(region: Region, address: u32) -> bool
+    ensures { result ≡ is_switched_off region address }
+{
+    let size = size(region.attributes);
+    if size < 7 {
+        return false;
+    }
+    let subregion = address >> (size - 2) & 7;
+    is_bit(region.attributes, 8 + subregion)
+}

@@ -1,0 +1,259 @@
+//! The registers, their reads and their writes.
+
+ghost use Rattle.std.specs.Prelude.{◌≡◌, ◌+◌, ◌*◌, ◌/◌, ◌%◌, ◌<◌, ◌⊎◌, true, IfSome};
+ghost use Rattle.reference.specs.Regions.{fresh, read, write, left, answered, shown, region as region_of, with_base, with_attributes, selected, write_control, write_number, write_base, based, write_attributes, kept, is_taken, matches, owner, owner_below, register_at, stop_of};
+
+use crate::regions::{is_bit, is_taken, matches};
+use reference::mpu::{MpuRegister, MpuStop, Region};
+use reference::stop::{Stop, UnpredictableCase};
+use std::marker::Model;
+
+/// How many regions there is a place for.
+const PLACES: usize = 16;
+
+/// The bits that RASR keeps: XN, AP, TEX, S, C, B, SRD, SIZE and ENABLE.
+const STORED: u32 = 0x173F_FF3F;
+
+/// The bit of MPU_CTRL for ENABLE: the MPU is on.
+pub(crate) const ENABLE: u32 = 0;
+
+/// The bit for HFNMIENA: it's on for code whose execution priority is below 0 too.
+pub(crate) const HFNMIENA: u32 = 1;
+
+/// The bit for PRIVDEFENA: privileged code has the default map behind the regions.
+pub(crate) const PRIVDEFENA: u32 = 2;
+
+/// The bit of RBAR that says that REGION is selected.
+const VALID: u32 = 4;
+
+/// The registers of the MPU. A contract sees them as the reference's `Mpu`.
+#[derive(Clone, Copy)]
+pub struct MpuRegs {
+    control: u32,
+    number: u8,
+    count: u8,
+    regions: [Region; PLACES],
+}
+
+impl Model for MpuRegs {
+    ghost use Rattle.reference.specs.Regions.{Mpu, IsSound};
+
+    ghost Value = { Mpu };
+
+    ghost view = { λ m. record {
+      control = m.control;
+      number = m.number;
+      count = m.count;
+      regions = m.regions;
+    } };
+
+    ghost invariant = { λ m. IsSound (record {
+      control = m.control;
+      number = m.number;
+      count = m.count;
+      regions = m.regions;
+    }) };
+
+    ghost inverse = { λ m. record {
+      control = m.control;
+      number = m.number;
+      count = m.count;
+      regions = m.regions;
+    } };
+}
+
+impl MpuRegs {
+    /// The registers after a reset, with 8 or 16 regions.
+    pub fn new(count: u8) -> Self
+        requires { (count ≡ 8) ⊎ (count ≡ 16) }
+        ensures { result ≡ fresh count }
+    {
+        MpuRegs {
+            control: 0,
+            number: 0,
+            count,
+            regions: [Region {
+                base: 0,
+                attributes: 0,
+            }; PLACES],
+        }
+    }
+
+    /// MPU_CTRL: ENABLE, HFNMIENA and PRIVDEFENA are its bits 0 to 2.
+    #[inline]
+    pub fn control(&self) -> u32
+        ensures { result ≡ self.now.control }
+    {
+        self.control
+    }
+
+    /// How many regions there are, 8 or 16.
+    #[inline]
+    pub fn count(&self) -> u8
+        ensures value { result ≡ self.now.count }
+        ensures known { (result ≡ 8) ⊎ (result ≡ 16) }
+    {
+        self.count
+    }
+
+    /// What the registers hold of a region.
+    #[inline]
+    pub fn at(&self, number: u8) -> Region
+        requires { number < 16 }
+        ensures value { result ≡ region_of self.now number }
+        ensures based { result.base % 32 ≡ 0 }
+    {
+        self.regions[number as usize]
+    }
+
+    /// RBAR with VALID 0 and REGION this number, and RASR. None where there is no such region.
+    pub fn region(&self, number: u8) -> Option<(u32, u32)>
+        ensures { result ≡ shown self.now number }
+    {
+        if number >= self.count {
+            return None;
+        }
+        Some((self.base_word(number), self.at(number).attributes))
+    }
+
+    /// RBAR of a region, with VALID 0 and REGION its number.
+    fn base_word(&self, number: u8) -> u32
+        requires { number < 16 }
+        ensures { result ≡ (region_of self.now number).base + number }
+    {
+        self.at(number).base + u32::from(number)
+    }
+
+    /// What a register reads as.
+    #[tactic(auto, unfolding(reference::specs::Regions::read))]
+    pub fn read_reg(&self, register: MpuRegister) -> u32
+        ensures { result ≡ read self.now register }
+    {
+        match register {
+            MpuRegister::Type => u32::from(self.count) << 8,
+            MpuRegister::Control => self.control,
+            MpuRegister::Number => u32::from(self.number),
+            MpuRegister::Base => self.base_word(self.number),
+            MpuRegister::Attributes => self.at(self.number).attributes,
+        }
+    }
+
+    /// Writes a register. Where the write stops by name, all registers are as they were.
+    #[tactic(auto, unfolding(reference::specs::Regions::write))]
+    pub fn write_reg(&mut self, register: MpuRegister, value: u32) -> Result<(), MpuStop>
+        ensures state { self.new ≡ left self.old (write self.old register value) }
+        ensures answer { result ≡ answered (write self.old register value) }
+    {
+        match register {
+            MpuRegister::Type => Ok(()),
+            MpuRegister::Control => self.write_control(value),
+            MpuRegister::Number => self.select((value & 0xFF) as u8),
+            MpuRegister::Base => self.write_base(value),
+            MpuRegister::Attributes => self.write_attributes(value),
+        }
+    }
+
+    /// MPU_CTRL: HFNMIENA without ENABLE stops.
+    fn write_control(&mut self, value: u32) -> Result<(), MpuStop>
+        ensures state { self.new ≡ left self.old (write_control self.old value) }
+        ensures answer { result ≡ answered (write_control self.old value) }
+    {
+        if is_bit(value, HFNMIENA) && !is_bit(value, ENABLE) {
+            return Err(MpuStop::Control);
+        }
+        self.control = value & 7;
+        Ok(())
+    }
+
+    /// RNR takes the number of a region that there is.
+    fn select(&mut self, number: u8) -> Result<(), MpuStop>
+        ensures state { self.new ≡ left self.old (selected self.old number) }
+        ensures answer { result ≡ answered (selected self.old number) }
+    {
+        if number >= self.count {
+            return Err(MpuStop::Region);
+        }
+        self.number = number;
+        Ok(())
+    }
+
+    /// RBAR: with VALID 1 it selects its region first.
+    fn write_base(&mut self, value: u32) -> Result<(), MpuStop>
+        ensures state { self.new ≡ left self.old (write_base self.old value) }
+        ensures answer { result ≡ answered (write_base self.old value) }
+    {
+        if is_bit(value, VALID) {
+            self.select((value & 15) as u8)?;
+        }
+        self.set_base(value & !31);
+        Ok(())
+    }
+
+    /// The base of the selected region.
+    fn set_base(&mut self, base: u32)
+        requires { base % 32 ≡ 0 }
+        ensures { self.new ≡ with_base self.old self.old.number base }
+    {
+        self.regions[self.number as usize].base = base;
+    }
+
+    /// RASR.
+    fn write_attributes(&mut self, value: u32) -> Result<(), MpuStop>
+        ensures state { self.new ≡ left self.old (write_attributes self.old value) }
+        ensures answer { result ≡ answered (write_attributes self.old value) }
+    {
+        let attributes = value & STORED;
+        if !is_taken(attributes) {
+            return Err(MpuStop::Region);
+        }
+        self.set_attributes(attributes);
+        Ok(())
+    }
+
+    /// The attributes of the selected region.
+    fn set_attributes(&mut self, attributes: u32)
+        requires { is_taken attributes ≡ true }
+        ensures { self.new ≡ with_attributes self.old self.old.number attributes }
+    {
+        self.regions[self.number as usize].attributes = attributes;
+    }
+
+    /// The number of the highest region that an address lies in.
+    #[inline]
+    #[tactic(auto, using(crate::proofs::Owner::found, crate::proofs::Owner::passed, crate::proofs::Owner::none_left), unfolding(reference::specs::Regions::owner))]
+    pub fn owner(&self, address: u32) -> Option<u8>
+        ensures value { result ≡ owner self.now address }
+        ensures within { IfSome result (λ number. number < 16) }
+    {
+        for number in (0..self.count()).rev() {
+            if matches(self.at(number), address) {
+                return Some(number);
+            }
+        }
+        None
+    }
+}
+
+/// The register at an address of a word, if one of the MPU stands there: 0xE000ED90 to 0xE000EDB8.
+pub fn register_at(address: u32) -> Option<MpuRegister>
+    ensures { result ≡ register_at address }
+{
+    match address {
+        0xE000_ED90 => Some(MpuRegister::Type),
+        0xE000_ED94 => Some(MpuRegister::Control),
+        0xE000_ED98 => Some(MpuRegister::Number),
+        0xE000_ED9C | 0xE000_EDA4 | 0xE000_EDAC | 0xE000_EDB4 => Some(MpuRegister::Base),
+        0xE000_EDA0 | 0xE000_EDA8 | 0xE000_EDB0 | 0xE000_EDB8 => Some(MpuRegister::Attributes),
+        _ => None,
+    }
+}
+
+/// The stop of the machine that a refused write is.
+pub fn stop_of(stop: MpuStop) -> Stop
+    ensures { result ≡ stop_of stop }
+{
+    Stop::Unpredictable(match stop {
+        MpuStop::Region => UnpredictableCase::MpuRegion,
+        MpuStop::Control => UnpredictableCase::MpuControl,
+    })
+}

@@ -1,0 +1,177 @@
+//! The rules: what decides before the regions are asked, what a region grants, and what is behind
+//! the regions.
+
+ghost use Rattle.std.specs.Prelude.{◌≡◌, Some, None, not, ◌&&◌, Bool};
+ghost use Rattle.reference.specs.declared.access.Rule.TheVariants.{Region};
+ghost use Rattle.reference.specs.Decisions.{default_map, is_executable};
+ghost use Rattle.reference.specs.Regions.{Mpu, permission, never_executes, region};
+ghost use Rattle.reference.specs.Rules.{is_in_ppb, is_fetch, is_vector, is_off_below_zero, before_regions, may_read, may_write, granted_by, grants, is_background, behind_regions};
+
+use crate::regions::{is_bit, permission};
+use crate::registers::{ENABLE, HFNMIENA, PRIVDEFENA};
+use reference::access::{Decision, Kind, Rule};
+
+/// Where the system address space begins, in which no code stands.
+const SYSTEM_BASE: u32 = 0xE000_0000;
+
+/// The bit of RASR for XN.
+const XN: u32 = 28;
+
+/// The decision for which the regions aren't asked, by what MPU_CTRL holds. `below_zero` says
+/// whether the execution priority is below 0.
+#[inline]
+#[tactic(auto, unfolding(reference::specs::Rules::before_regions))]
+pub fn before_regions(control: u32, address: u32, kind: Kind, below_zero: bool) -> Option<Decision>
+    ensures { result ≡ before_regions control address kind below_zero }
+{
+    let (rule, granted) = if is_fetch(kind) && address >= SYSTEM_BASE {
+        (Rule::NeverExecute, false)
+    } else if is_vector(kind) {
+        (Rule::VectorRead, true)
+    } else if !is_fetch(kind) && is_in_ppb(address) {
+        (Rule::PrivatePeripheralBus, true)
+    } else if !is_bit(control, ENABLE) {
+        (Rule::MpuOff, default_map(address, kind))
+    } else if is_off_below_zero(control, below_zero) {
+        (Rule::NegativePriority, default_map(address, kind))
+    } else {
+        return None;
+    };
+    Some(Decision { rule, granted })
+}
+
+#[inline]
+fn is_fetch(kind: Kind) -> bool
+    ensures { result ≡ is_fetch kind }
+{
+    matches!(kind, Kind::Fetch)
+}
+
+#[inline]
+fn is_vector(kind: Kind) -> bool
+    ensures { result ≡ is_vector kind }
+{
+    matches!(kind, Kind::Vector)
+}
+
+/// Whether an address stands in the Private Peripheral Bus.
+#[inline]
+fn is_in_ppb(address: u32) -> bool
+    ensures { result ≡ is_in_ppb address }
+{
+    address >> 20 == 0xE00
+}
+
+/// Whether the MPU is off for code whose execution priority is below 0.
+#[inline]
+fn is_off_below_zero(control: u32, below_zero: bool) -> bool
+    ensures { result ≡ is_off_below_zero control below_zero }
+{
+    below_zero && !is_bit(control, HFNMIENA)
+}
+
+/// What the default memory map grants: all data, and the fetches of code.
+#[inline]
+fn default_map(address: u32, kind: Kind) -> bool
+    ensures { result ≡ default_map address kind }
+{
+    match kind {
+        Kind::Fetch => is_executable(address),
+        Kind::Load | Kind::Store | Kind::Push | Kind::Pop | Kind::Vector => true,
+    }
+}
+
+/// Whether the default memory map lets code stand at an address, by bits 31:29.
+#[inline]
+fn is_executable(address: u32) -> bool
+    ensures { result ≡ is_executable address }
+{
+    matches!(address >> 29, 0 | 1 | 3 | 4)
+}
+
+/// What a region grants: the fields AP and XN of its RASR.
+#[derive(Clone, Copy)]
+pub struct Rights {
+    /// AP, from 0 to 7.
+    pub permission: u8,
+    /// XN.
+    pub never_executes: bool,
+}
+
+impl Rights {
+    /// The fields of these attributes.
+    #[inline]
+    pub fn of(attributes: u32) -> Self
+        ensures permission { result.permission ≡ permission attributes }
+        ensures never_executes { result.never_executes ≡ never_executes attributes }
+    {
+        Rights {
+            permission: permission(attributes),
+            never_executes: is_bit(attributes, XN),
+        }
+    }
+
+    /// Whether they grant an access of that kind to code of that privilege: `CheckPermission()`.
+    #[inline]
+    pub fn grants(self, kind: Kind, privileged: bool) -> bool
+        ensures { result ≡ granted_by self.permission self.never_executes kind privileged }
+    {
+        match kind {
+            Kind::Fetch => self.may_read(privileged) && !self.never_executes,
+            Kind::Load | Kind::Pop | Kind::Vector => self.may_read(privileged),
+            Kind::Store | Kind::Push => self.may_write(privileged),
+        }
+    }
+
+    #[inline]
+    fn may_read(self, privileged: bool) -> bool
+        ensures { result ≡ may_read self.permission privileged }
+    {
+        if privileged {
+            !matches!(self.permission, 0 | 4)
+        } else {
+            matches!(self.permission, 2 | 3 | 6 | 7)
+        }
+    }
+
+    #[inline]
+    fn may_write(self, privileged: bool) -> bool
+        ensures { result ≡ may_write self.permission privileged }
+    {
+        if privileged {
+            matches!(self.permission, 1 | 2 | 3)
+        } else {
+            self.permission == 3
+        }
+    }
+}
+
+/// The decision of the region of this number, which has these rights.
+#[inline]
+pub fn by_region(number: u8, rights: Rights, kind: Kind, privileged: bool) -> Decision
+    ensures rule { result.rule ≡ Region number }
+    ensures granted { result.granted ≡ granted_by rights.permission rights.never_executes kind privileged }
+{
+    Decision {
+        rule: Rule::Region(number),
+        granted: rights.grants(kind, privileged),
+    }
+}
+
+/// The decision where an address belongs to no region, by what MPU_CTRL holds.
+#[inline]
+pub fn without_region(control: u32, address: u32, kind: Kind, privileged: bool) -> Decision
+    ensures { result ≡ behind_regions control address kind privileged }
+{
+    if privileged && is_bit(control, PRIVDEFENA) {
+        Decision {
+            rule: Rule::Background,
+            granted: default_map(address, kind),
+        }
+    } else {
+        Decision {
+            rule: Rule::NoRegion,
+            granted: false,
+        }
+    }
+}

@@ -1,0 +1,163 @@
+-- Which rule decides an access, and what it grants (ARM DDI 0403, "Protected Memory System Architecture, PMSAv7": "MPU
+-- fault handling", and the pseudocode of ValidateAddress(), DefaultAttrs() and CheckPermission()). The first case that
+-- fits decides.
+use Rattle.std.specs.Prelude.{◌≡◌, ℕ, ◌/◌, ◌^◌, ◌<◌, Bool, true, false, not, ◌&&◌, ◌||◌, ◌==◌, nat_le, if◌then◌else◌, Option, Some, None, ⊤}
+use Rattle.reference.specs.declared.access.Decision.{Decision}
+use Rattle.reference.specs.declared.access.Kind.{Kind}
+use Rattle.reference.specs.declared.access.Kind.TheVariants.{Fetch, Load, Store, Push, Pop, Vector}
+use Rattle.reference.specs.declared.access.Rule.{Rule}
+use Rattle.reference.specs.declared.access.Rule.TheVariants.{NeverExecute, VectorRead, PrivatePeripheralBus, MpuOff, NegativePriority, Region, Background, NoRegion}
+use Rattle.reference.specs.Decisions.{default_map}
+use Rattle.reference.specs.Regions.{Mpu, region, owner, permission, never_executes, is_on, is_on_below_zero, has_background, IsOwner}
+
+-- the system address space, where no code stands, begins here
+abbrev pub system_base : ℕ
+system_base = 0xE000_0000
+
+-- the Private Peripheral Bus: 0xE0000000 to 0xE00FFFFF
+abbrev pub is_in_ppb : ℕ → Bool
+is_in_ppb a = a / 2 ^ 20 == 0xE00
+
+abbrev pub is_fetch : Kind → Bool
+is_fetch Fetch = true
+is_fetch Load = false
+is_fetch Store = false
+is_fetch Push = false
+is_fetch Pop = false
+is_fetch Vector = false
+
+abbrev pub is_vector : Kind → Bool
+is_vector Fetch = false
+is_vector Load = false
+is_vector Store = false
+is_vector Push = false
+is_vector Pop = false
+is_vector Vector = true
+
+-- The cases before the regions
+
+-- a fetch from the system address space
+abbrev pub is_never_executed : ℕ → Kind → Bool
+is_never_executed a kind = is_fetch kind && nat_le system_base a
+
+-- a data access to the Private Peripheral Bus
+abbrev pub is_ppb_data : ℕ → Kind → Bool
+is_ppb_data a kind = not (is_fetch kind) && is_in_ppb a
+
+-- the execution priority is below 0, and MPU_CTRL.HFNMIENA is 0
+abbrev pub is_off_below_zero : ℕ → Bool → Bool
+is_off_below_zero control below_zero = below_zero && not (is_on_below_zero control)
+
+-- the rule that decides without asking the regions, if one does
+unfoldable pub before_regions : ℕ → ℕ → Kind → Bool → Option Decision
+before_regions control a kind below_zero =
+    if is_never_executed a kind then Some (record { rule = NeverExecute; granted = false })
+    else if is_vector kind then Some (record { rule = VectorRead; granted = true })
+    else if is_ppb_data a kind then Some (record { rule = PrivatePeripheralBus; granted = true })
+    else if not (is_on control) then Some (record { rule = MpuOff; granted = default_map a kind })
+    else if is_off_below_zero control below_zero
+    then Some (record { rule = NegativePriority; granted = default_map a kind })
+    else None
+
+-- What a region grants: CheckPermission()
+
+-- AP lets code of that privilege read: privileged code but for 000 and 100, unprivileged code at 010, 011, 110 and 111
+abbrev pub may_read : ℕ → Bool → Bool
+may_read ap true = not (ap == 0) && not (ap == 4)
+may_read ap false = (ap == 2) || (ap == 3) || (ap == 6) || (ap == 7)
+
+-- AP lets code of that privilege write: privileged code at 001, 010 and 011, unprivileged code at 011
+abbrev pub may_write : ℕ → Bool → Bool
+may_write ap true = (ap == 1) || (ap == 2) || (ap == 3)
+may_write ap false = ap == 3
+
+-- what AP and XN grant: a fetch needs leave to read, and XN 0
+abbrev pub granted_by : ℕ → Bool → Kind → Bool → Bool
+granted_by ap xn Fetch privileged = may_read ap privileged && not xn
+granted_by ap xn Load privileged = may_read ap privileged
+granted_by ap xn Store privileged = may_write ap privileged
+granted_by ap xn Push privileged = may_write ap privileged
+granted_by ap xn Pop privileged = may_read ap privileged
+granted_by ap xn Vector privileged = may_read ap privileged
+
+-- what the attributes of a region grant
+abbrev pub grants : ℕ → Kind → Bool → Bool
+grants attributes kind privileged = granted_by (permission attributes) (never_executes attributes) kind privileged
+
+-- The regions, and what is behind them
+
+-- privileged code has the default map behind the regions, where MPU_CTRL.PRIVDEFENA is 1
+abbrev pub is_background : ℕ → Bool → Bool
+is_background control privileged = privileged && has_background control
+
+-- what decides behind the regions
+abbrev pub behind_regions : ℕ → ℕ → Kind → Bool → Decision
+behind_regions control a kind privileged =
+    if is_background control privileged
+    then record { rule = Background; granted = default_map a kind }
+    else record { rule = NoRegion; granted = false }
+
+-- the region that the address belongs to decides; where it belongs to none, what is behind them
+abbrev pub by_owner : Mpu → Kind → ℕ → Bool → Option ℕ → Decision
+by_owner m kind a privileged (Some k) =
+    record { rule = Region k; granted = grants (region m k).attributes kind privileged }
+by_owner m kind a privileged None = behind_regions m.control a kind privileged
+
+-- a decision that was made, or the other one
+abbrev pub first_of_two : Option Decision → Decision → Decision
+first_of_two (Some decision) other = decision
+first_of_two None other = other
+
+-- the rule that decides an access of that kind to an address, by code of that privilege, and whether it grants it;
+-- `below_zero` says whether the execution priority is below 0
+unfoldable pub decision_of : Mpu → ℕ → Kind → Bool → Bool → Decision
+decision_of m a kind privileged below_zero =
+    first_of_two (before_regions m.control a kind below_zero) (by_owner m kind a privileged (owner m a))
+
+-- The same without an order of work: a table of cases, of which the first that fits decides
+
+-- an access that is to be decided
+pub record Asked : Type 0 where
+  pub address : ℕ
+  pub kind : Kind
+  pub privileged : Bool
+  pub below_zero : Bool
+
+-- a rule's place in the table, from the top
+abbrev pub place : Rule → ℕ
+place NeverExecute = 0
+place VectorRead = 1
+place PrivatePeripheralBus = 2
+place MpuOff = 3
+place NegativePriority = 4
+place (Region k) = 5
+place Background = 6
+place NoRegion = 7
+
+-- the case of a rule, as its line of the table says it, whatever the lines above say
+abbrev pub Fits : Mpu → Asked → Rule → Type 0
+Fits m q NeverExecute = is_never_executed q.address q.kind ≡ true
+Fits m q VectorRead = is_vector q.kind ≡ true
+Fits m q PrivatePeripheralBus = is_ppb_data q.address q.kind ≡ true
+Fits m q MpuOff = is_on m.control ≡ false
+Fits m q NegativePriority = is_off_below_zero m.control q.below_zero ≡ true
+Fits m q (Region k) = IsOwner m q.address (Some k)
+Fits m q Background = is_background m.control q.privileged ≡ true
+Fits m q NoRegion = ⊤
+
+-- what a rule grants, where it decides
+abbrev pub granted_to : Mpu → Asked → Rule → Bool
+granted_to m q NeverExecute = false
+granted_to m q VectorRead = true
+granted_to m q PrivatePeripheralBus = true
+granted_to m q MpuOff = default_map q.address q.kind
+granted_to m q NegativePriority = default_map q.address q.kind
+granted_to m q (Region k) = grants (region m k).attributes q.kind q.privileged
+granted_to m q Background = default_map q.address q.kind
+granted_to m q NoRegion = false
+
+-- a decision names the first case that fits, and grants what that case grants
+pub record IsFirstFit (m : Mpu) (q : Asked) (d : Decision) : Type 0 where
+  pub fits : Fits m q d.rule
+  pub first : (r : Rule) → place r < place d.rule → Fits m q r → ⊥
+  pub granted : d.granted ≡ granted_to m q d.rule
