@@ -24,7 +24,6 @@ const P_FILESZ: usize = 16;
 const PT_LOAD: u32 = 1;
 
 // The segments of `count` program headers from `table` on.
-#[tactic(auto, using(crate::proofs::Headers::refused))]
 pub fn image_of_headers(file: &[u8], table: usize, count: usize) -> Result<Image<'_>, LoadFault>
     requires few { count ≤ MOST_SEGMENTS }
     requires within { table + PROGRAM_HEADER_SIZE * count ≤ length file.now }

@@ -1,7 +1,8 @@
 use Rattle.std.proofs.Common.{map, arith, sym, length-append}
 use Rattle.std.proofs.lemmas.List.{map_push}
 use Rattle.elf.specs.Segment.{segment_of}
-use Rattle.elf.proofs.Headers.{skipped, taken}
+use Rattle.std.proofs.lemmas.Result.{err_from_is_err_and}
+use Rattle.elf.proofs.Headers.{refused, skipped, taken}
 use Rattle.elf.proofs.program_header.image_of_headers.Goals as goal
 use Rattle.elf.proofs.program_header.image_of_headers.Goals.{then-is_segment+in_ok-segment_of_header, else-is_segment}
 
@@ -24,3 +25,13 @@ headers-preserved c =
             few = omega arith;
           })
     ]
+
+-- a header whose segment is refused
+pub returns-in_err-segment_of_header : goal.returns-in_err-segment_of_header
+returns-in_err-segment_of_header c =
+    let found = map segment_of c.headers.segments.items in
+    let p = err_from_is_err_and c.from_residual.result c.from_residual.ensures.1 in
+    rw (p.1, p.2)
+    (sym (refused c.args.file.now c.args.table c.args.count c.headers.index found _ _
+    c.headers-test.true (sym c.if-is_segment.ensures) c.in_err-segment_of_header.ensures
+    c.headers.invariant.whole))
