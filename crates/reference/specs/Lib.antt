@@ -3,7 +3,12 @@ pub mod Words
 pub mod Registers
 pub mod Memory
 pub mod State
+pub mod Arithmetic
 pub mod Patterns
+pub mod Rows
+pub mod ShortData
+pub mod ShortMemory
+pub mod ShortControl
 pub mod Decoding
 pub mod Operations
 pub mod Decisions

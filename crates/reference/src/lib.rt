@@ -7,6 +7,8 @@ pub mod board;
 pub mod event;
 pub mod fault;
 pub mod instruction;
+pub mod operands;
 pub mod place;
 pub mod registers;
+pub mod shift;
 pub mod stop;
