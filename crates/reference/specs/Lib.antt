@@ -1,5 +1,6 @@
 -- The definitions of the reference machine, one chapter a file, in the order in which they are read.
 pub mod Words
+pub mod Arithmetic
 pub mod Registers
 pub mod Memory
 pub mod State

@@ -9,8 +9,12 @@ ghost use Rattle.reference.specs.Words.{word_sum};
 pub use reference::registers::{Flags, Register};
 use std::marker::Model;
 
+mod arithmetic;
+mod conditions;
 #[cfg(test)]
 mod tests;
+
+pub use arithmetic::{Shift, ShiftType, add_with_carry, decode_imm_shift, expand_imm, shift_c};
 
 /// The number of the stack pointer.
 const SP: u8 = 13;
@@ -191,6 +195,22 @@ impl Regs {
     {
         self.flags.negative = value >> 31 == 1;
         self.flags.zero = value == 0;
+    }
+
+    /// The flags are given, each of the five.
+    #[inline]
+    pub fn set_flags(&mut self, flags: Flags)
+        ensures { self.new ≡ record self.old { flags = flags } }
+    {
+        self.flags = flags;
+    }
+
+    /// The eight bits of EPSR.IT are given.
+    #[inline]
+    pub fn set_it(&mut self, it: u8)
+        ensures { self.new ≡ record self.old { it = it } }
+    {
+        self.it = it;
     }
 
     /// Whether a handler runs: Handler mode.

@@ -1,0 +1,190 @@
+//! Sums, shifts and modified immediates (ARM DDI 0403: `AddWithCarry()`, `Shift_C()`,
+//! `DecodeImmShift()` and `ThumbExpandImm_C()`).
+
+ghost use Rattle.std.specs.Prelude.{◌≡◌, ◌<◌, not};
+ghost use Rattle.reference.specs.Arithmetic.{add_with_carry as sum_of, unsigned_sum as unsigned_sum_of, sum_result, signed_sum, signed, shift_c as shift_of, lsl_c as lsl_of, lsr_c as lsr_of, asr_c as asr_of, ror_c as ror_of, rrx_c as rrx_of, turned as turned_of, decode_imm_shift as decoded_shift, replicated as replicated_of, expand_imm as expanded};
+ghost use Rattle.reference.specs.Words.{is_bit};
+ghost use Rattle.std.specs.Ordering.{int_eq};
+
+pub use reference::shift::{Shift, ShiftType};
+
+/// `AddWithCarry(x, y, carry)`: the low 32 bits of the sum, whether the unsigned sum isn't the
+/// result (the carry out), and whether the signed sum isn't the result read as signed (the
+/// overflow).
+#[inline]
+pub fn add_with_carry(x: u32, y: u32, carry: bool) -> (u32, bool, bool)
+    ensures { result ≡ sum_of x y carry }
+{
+    let sum = unsigned_sum(x, y, carry);
+    let result = (sum & 0xFFFF_FFFF) as u32;
+    (result, sum >> 32 != 0, is_overflow(x, y, carry, result))
+}
+
+/// The whole sum of two words and a carry.
+#[inline]
+fn unsigned_sum(x: u32, y: u32, carry: bool) -> u64
+    ensures { result ≡ unsigned_sum_of x y carry }
+{
+    x as u64 + y as u64 + if carry { 1 } else { 0 }
+}
+
+/// Whether the signed sum isn't the result: both words have one sign, and the result has the other.
+#[inline]
+#[tactic(auto, using(crate::proofs::Sums::signs_of_sum))]
+fn is_overflow(x: u32, y: u32, carry: bool, sum: u32) -> bool
+    requires { sum ≡ sum_result x y carry }
+    ensures { result ≡ not (int_eq (signed_sum x y carry) (signed sum)) }
+{
+    is_negative(x) == is_negative(y) && is_negative(x) != is_negative(sum)
+}
+
+/// Bit 31 of a word.
+#[inline]
+fn is_negative(x: u32) -> bool
+    ensures { result ≡ is_bit x 31 }
+{
+    x >> 31 == 1
+}
+
+/// `Shift_C(value, shift_type, amount, carry)`: the shifted word and the carry out. The amount is
+/// that of [`decode_imm_shift`], or the low byte of a register: by 0 the word and the carry stay.
+/// RRX is by one place.
+#[inline]
+#[tactic(auto, unfolding(reference::specs::Arithmetic::shift_c))]
+pub fn shift_c(value: u32, shift_type: ShiftType, amount: u8, carry: bool) -> (u32, bool)
+    ensures { result ≡ shift_of value shift_type amount carry }
+{
+    if amount == 0 {
+        return (value, carry);
+    }
+    match shift_type {
+        ShiftType::Lsl => lsl_c(value, amount),
+        ShiftType::Lsr => lsr_c(value, amount),
+        ShiftType::Asr => asr_c(value, amount),
+        ShiftType::Ror => ror_c(value, amount),
+        ShiftType::Rrx => rrx_c(value, carry),
+    }
+}
+
+/// `LSL_C(value, amount)`, for an amount from 1.
+#[inline]
+#[tactic(auto, using(crate::proofs::Shifts::left_above))]
+fn lsl_c(value: u32, amount: u8) -> (u32, bool)
+    requires { 0 < amount }
+    ensures { result ≡ lsl_of value amount }
+{
+    if amount > 32 {
+        return (0, false);
+    }
+    let wide = (value as u64) << amount;
+    ((wide & 0xFFFF_FFFF) as u32, wide >> 32 & 1 == 1)
+}
+
+/// `LSR_C(value, amount)`, for an amount from 1.
+#[inline]
+#[tactic(auto, using(crate::proofs::Shifts::right_above))]
+fn lsr_c(value: u32, amount: u8) -> (u32, bool)
+    requires { 0 < amount }
+    ensures { result ≡ lsr_of value amount }
+{
+    if amount > 32 {
+        return (0, false);
+    }
+    (
+        ((value as u64) >> amount) as u32,
+        value >> (amount - 1) & 1 == 1,
+    )
+}
+
+/// `ASR_C(value, amount)`, for an amount from 1.
+#[inline]
+#[tactic(auto, using(crate::proofs::Shifts::asr_positive, crate::proofs::Shifts::asr_complement))]
+fn asr_c(value: u32, amount: u8) -> (u32, bool)
+    requires { 0 < amount }
+    ensures { result ≡ asr_of value amount }
+{
+    if !is_negative(value) {
+        return lsr_c(value, amount);
+    }
+    let (inverted, carry) = lsr_c(!value, amount);
+    (!inverted, !carry)
+}
+
+/// `ROR_C(value, amount)`, for an amount from 1.
+#[inline]
+fn ror_c(value: u32, amount: u8) -> (u32, bool)
+    ensures { result ≡ ror_of value amount }
+{
+    let result = turned(value, amount % 32);
+    (result, is_negative(result))
+}
+
+/// `LSR(value, amount) OR LSL(value, 32 - amount)`.
+#[inline]
+#[tactic(auto, using(crate::proofs::Shifts::turned_apart))]
+fn turned(value: u32, amount: u8) -> u32
+    requires { amount < 32 }
+    ensures { result ≡ turned_of value amount }
+{
+    if amount == 0 {
+        return value;
+    }
+    value >> amount | value << (32 - amount)
+}
+
+/// `RRX_C(value, carry)`.
+#[inline]
+fn rrx_c(value: u32, carry: bool) -> (u32, bool)
+    ensures { result ≡ rrx_of value carry }
+{
+    ((carry as u32) << 31 | value >> 1, value & 1 == 1)
+}
+
+/// `DecodeImmShift(shift_type, imm5)`, of the two bits and the five bits of a row: LSR and ASR by
+/// 0 mean by 32, and ROR by 0 is RRX.
+pub fn decode_imm_shift(shift_type: u8, imm5: u8) -> Shift
+    ensures { result ≡ decoded_shift shift_type imm5 }
+{
+    let or_all = if imm5 == 0 { 32 } else { imm5 };
+    let (shift_type, amount) = match shift_type {
+        0 => (ShiftType::Lsl, imm5),
+        1 => (ShiftType::Lsr, or_all),
+        2 => (ShiftType::Asr, or_all),
+        _ if imm5 == 0 => (ShiftType::Rrx, 1),
+        _ => (ShiftType::Ror, imm5),
+    };
+    Shift { shift_type, amount }
+}
+
+/// `ThumbExpandImm_C(imm12, carry)`: the word and the carry out, or None where a byte of 0 is to
+/// be replicated, which is UNPREDICTABLE.
+#[inline]
+#[tactic(auto, unfolding(reference::specs::Arithmetic::expand_imm))]
+pub fn expand_imm(imm12: u16, carry: bool) -> Option<(u32, bool)>
+    ensures { result ≡ expanded imm12 carry }
+{
+    if imm12 >= 0x400 {
+        let unrotated = 0x80 + (imm12 & 0x7F) as u32;
+        return Some(ror_c(unrotated, (imm12 >> 7 & 31) as u8));
+    }
+    let pattern = imm12 >> 8;
+    let byte = (imm12 & 0xFF) as u32;
+    if byte == 0 && pattern != 0 {
+        return None;
+    }
+    Some((replicated(pattern, byte), carry))
+}
+
+/// A byte at its places in one of the four patterns.
+#[inline]
+fn replicated(pattern: u16, byte: u32) -> u32
+    requires { byte < 256 }
+    ensures { result ≡ replicated_of pattern byte }
+{
+    match pattern {
+        0 => byte,
+        1 => byte * 0x0001_0001,
+        2 => byte * 0x0100_0100,
+        _ => byte * 0x0101_0101,
+    }
+}

@@ -1,0 +1,107 @@
+//! Conditions and the IT block (ARM DDI 0403, "Conditional execution" and "ITSTATE").
+
+ghost use Rattle.std.specs.Prelude.{◌≡◌};
+ghost use Rattle.reference.specs.Arithmetic.{condition_holds as holds_of, base_condition as base_of, condition_passed as passed_of, in_it_block as in_block_of, last_in_it_block as last_in_block_of, current_condition as current_of, it_advance as advanced, same as same_of};
+
+use crate::{Flags, Regs};
+
+impl Regs {
+    /// Whether the flags meet this condition, as its four bits: 0 to 14 are EQ, NE, CS, CC, MI,
+    /// PL, VS, VC, HI, LS, GE, LT, GT, LE and AL, and 15 always holds.
+    #[inline]
+    pub fn condition(&self, condition: u8) -> bool
+        ensures { result ≡ holds_of condition self.now.flags }
+    {
+        condition_holds(condition, self.flags())
+    }
+
+    /// `ConditionPassed()` of an instruction that has no condition of its own: that of the IT
+    /// block, and outside one it always holds.
+    #[inline]
+    pub fn condition_passed(&self) -> bool
+        ensures { result ≡ passed_of self.now.it self.now.flags }
+    {
+        self.condition(self.current_condition())
+    }
+
+    /// `CurrentCond()` of an instruction that has none of its own: bits 7:4 of IT in an IT block,
+    /// 14 (AL) outside one.
+    #[inline]
+    pub fn current_condition(&self) -> u8
+        ensures { result ≡ current_of self.now.it }
+    {
+        if self.in_it_block() {
+            self.it() >> 4
+        } else {
+            14
+        }
+    }
+
+    /// `InITBlock()`.
+    #[inline]
+    pub fn in_it_block(&self) -> bool
+        ensures { result ≡ in_block_of self.now.it }
+    {
+        self.it() & 0b1111 != 0
+    }
+
+    /// `LastInITBlock()`.
+    #[inline]
+    pub fn last_in_it_block(&self) -> bool
+        ensures { result ≡ last_in_block_of self.now.it }
+    {
+        self.it() & 0b1111 == 0b1000
+    }
+
+    /// `ITAdvance()`, which outside an IT block leaves all as it is.
+    #[inline]
+    pub fn it_advance(&mut self)
+        ensures { self.new ≡ record self.old { it = advanced self.old.it } }
+    {
+        self.set_it(it_advanced(self.it()));
+    }
+}
+
+/// The eight bits of IT behind an instruction.
+#[inline]
+fn it_advanced(it: u8) -> u8
+    ensures { result ≡ advanced it }
+{
+    if it & 0b1111 == 0 {
+        it
+    } else if it & 0b111 == 0 {
+        0
+    } else {
+        (it & 0b1110_0000) + (it << 1 & 0b1_1111)
+    }
+}
+
+/// `ConditionHolds(condition)`.
+#[inline]
+fn condition_holds(condition: u8, flags: Flags) -> bool
+    ensures { result ≡ holds_of condition flags }
+{
+    let base = base_condition(condition >> 1, flags);
+    if condition & 1 == 1 && condition != 15 {
+        !base
+    } else {
+        base
+    }
+}
+
+/// The condition that the upper three bits name.
+#[inline]
+fn base_condition(base: u8, flags: Flags) -> bool
+    ensures { result ≡ base_of base flags }
+{
+    match base {
+        0 => flags.zero,
+        1 => flags.carry,
+        2 => flags.negative,
+        3 => flags.overflow,
+        4 => flags.carry && !flags.zero,
+        5 => flags.negative == flags.overflow,
+        6 => flags.negative == flags.overflow && !flags.zero,
+        _ => true,
+    }
+}
