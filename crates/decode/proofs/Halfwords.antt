@@ -11,7 +11,7 @@ use Rattle.decode.proofs.Verdicts.{resolve, given_by, row_means, none_means}
 abbrev pub short_rows : List Row
 short_rows = short_special ++ short_general
 
-pub short_row : (row : Row) (known denied : List Test) (x : ℕ)
+pub short_row : (row : Row) (known : List Test) (denied : List (List Test)) (x : ℕ)
     → resolve (text_of 16 known) (texts_of 16 denied) short_rows ≡ Some (Some row)
     → are_proper 16 denied ≡ true
     → Passes known x
@@ -21,7 +21,7 @@ unfolding short_meaning
 short_row row known denied x found proper passes fails =
     row_means 16 short_rows Undefined row known denied x found proper passes fails
 
-pub short_none : (known denied : List Test) (x : ℕ)
+pub short_none : (known : List Test) (denied : List (List Test)) (x : ℕ)
     → resolve (text_of 16 known) (texts_of 16 denied) short_rows ≡ Some None
     → are_proper 16 denied ≡ true
     → Passes known x

@@ -126,7 +126,7 @@ pub it_t1_means : (x : ℕ)
 it_t1_means x q1 q2 q3 q4 q5 q6 q7 q8 q9 =
     let small : bits x 8 3 < 8 = bits_small x 8 3 in
     let e2 : bits x 8 3 ≡ 7 = omega arith in
-    short_row it_t1 (test 11 5 23 ∷ test 8 3 7 ∷ []) (test 0 4 0 ∷ []) x refl refl (q1, (e2, tt)) (q9, tt)
+    short_row it_t1 (test 11 5 23 ∷ test 8 3 7 ∷ []) ((test 0 4 0 ∷ []) ∷ []) x refl refl (q1, (e2, tt)) ((λ p. q9 p.0), tt)
 
 pub udf_t1_means : (x : ℕ)
     → bits x 11 5 ≡ 27
@@ -154,7 +154,7 @@ pub b_t1_means_high : (x : ℕ)
     → bits x 8 3 ≢ 7
     → short_meaning x ≡ branch_if (bits x 8 4) (bits x 0 8)
 b_t1_means_high x q1 q2 q3 =
-    short_row b_t1 (test 11 5 27 ∷ []) (test 8 3 6 ∷ test 8 3 7 ∷ []) x refl refl (q1, tt) (q2, (q3, tt))
+    short_row b_t1 (test 11 5 27 ∷ []) ((test 8 3 6 ∷ []) ∷ (test 8 3 7 ∷ []) ∷ []) x refl refl (q1, tt) ((λ p. q2 p.0), ((λ p. q3 p.0), tt))
 
 pub b_t2_means : (x : ℕ)
     → bits x 11 5 < 29
@@ -197,7 +197,7 @@ pub cps_none : (x : ℕ)
     → bits x 5 3 ≢ 3
     → short_meaning x ≡ Undefined
 cps_none x q1 q2 q3 =
-    short_none (test 11 5 22 ∷ test 8 3 6 ∷ []) (test 5 3 3 ∷ []) x refl refl (q1, (q2, tt)) (q3, tt)
+    short_none (test 11 5 22 ∷ test 8 3 6 ∷ []) ((test 5 3 3 ∷ []) ∷ []) x refl refl (q1, (q2, tt)) ((λ p. q3 p.0), tt)
 
 pub reverse_none : (x : ℕ)
     → bits x 11 5 ≡ 23
@@ -207,7 +207,7 @@ pub reverse_none : (x : ℕ)
     → bits x 6 2 ≢ 3
     → short_meaning x ≡ Undefined
 reverse_none x q1 q2 q3 q4 q5 =
-    short_none (test 11 5 23 ∷ test 8 3 2 ∷ []) (test 6 2 0 ∷ test 6 2 1 ∷ test 6 2 3 ∷ []) x refl refl (q1, (q2, tt)) (q3, (q4, (q5, tt)))
+    short_none (test 11 5 23 ∷ test 8 3 2 ∷ []) ((test 6 2 0 ∷ []) ∷ (test 6 2 1 ∷ []) ∷ (test 6 2 3 ∷ []) ∷ []) x refl refl (q1, (q2, tt)) ((λ p. q3 p.0), ((λ p. q4 p.0), ((λ p. q5 p.0), tt)))
 
 pub misc_low_none : (x : ℕ)
     → bits x 11 5 ≡ 22

@@ -45,7 +45,7 @@ pub lsl_immediate_t1_means : (x : ℕ)
     → bits x 6 5 ≢ 0
     → short_meaning x ≡ shift_number 0 (bits x 6 5) (bits x 0 3) (bits x 3 3)
 lsl_immediate_t1_means x q1 q2 =
-    short_row lsl_immediate_t1 (test 11 5 0 ∷ []) (test 6 5 0 ∷ []) x refl refl (q1, tt) (q2, tt)
+    short_row lsl_immediate_t1 (test 11 5 0 ∷ []) ((test 6 5 0 ∷ []) ∷ []) x refl refl (q1, tt) ((λ p. q2 p.0), tt)
 
 pub lsr_immediate_t1_means : (x : ℕ)
     → bits x 11 5 ≡ 1

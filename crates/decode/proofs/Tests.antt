@@ -8,6 +8,7 @@ use Rattle.std.proofs.lemmas.Bool.Decides.{nat_tests}
 use Rattle.std.proofs.lemmas.Nat.{shr-shr, mod-pow-add, field_of, pow_pos}
 use Rattle.reference.specs.Words.{bit_at, bits}
 use Rattle.reference.specs.Patterns.{place_0, place_1, allows, fits}
+use Rattle.decode.proofs.Texts.{is_within, within_fits}
 
 -- a test: the bits from the lowest on, so many of them, and the value that they are asked to have
 pub record Test : Type 0 where
@@ -22,14 +23,15 @@ pub bits_small : (x low width : ℕ) → bits x low width < 2 ^ width
 unfolding bits
 bits_small x low width = mod-lt (x / 2 ^ low) (pow_pos width)
 
--- whether a number passes them all, and whether it passes none
+-- whether a number passes them all
 abbrev pub Passes : List Test → ℕ → Type 0
 Passes [] x = Unit {0}
 Passes (t ∷ ts) x = (bits x t.low t.width ≡ t.value) × Passes ts x
 
-abbrev pub Fails : List Test → ℕ → Type 0
+-- whether it passes none of several lists whole
+abbrev pub Fails : List (List Test) → ℕ → Type 0
 Fails [] x = Unit {0}
-Fails (t ∷ ts) x = (bits x t.low t.width ≢ t.value) × Fails ts x
+Fails (ts ∷ rest) x = (Passes ts x → ⊥) × Fails rest x
 
 -- ---- their texts
 
@@ -176,27 +178,66 @@ test_of_text n t x room f =
 abbrev is_proper : ℕ → Test → Bool
 is_proper n t = nat_le (t.low + t.width) n && t.value % 2 ^ t.width == t.value
 
-abbrev pub are_proper : ℕ → List Test → Bool
+-- whether each of some tests is proper, and one that the text asks for
+abbrev ask : ℕ → List ℕ → List Test → Bool
+ask n text [] = true
+ask n text (t ∷ ts) = is_proper n t && (is_within (text_of n (t ∷ [])) text && ask n text ts)
+
+-- whether the text of each list asks for all its tests
+abbrev pub are_proper : ℕ → List (List Test) → Bool
 are_proper n [] = true
-are_proper n (t ∷ ts) = is_proper n t && are_proper n ts
+are_proper n (ts ∷ rest) = ask n (text_of n ts) ts && are_proper n rest
 
--- the texts of the tests one by one
-abbrev pub texts_of : ℕ → List Test → List (List ℕ)
+-- the texts of the lists
+abbrev pub texts_of : ℕ → List (List Test) → List (List ℕ)
 texts_of n [] = []
-texts_of n (t ∷ ts) = text_of n (t ∷ []) ∷ texts_of n ts
+texts_of n (ts ∷ rest) = text_of n ts ∷ texts_of n rest
 
-fails_one : (n : ℕ) (t : Test) (x : ℕ)
-    → is_proper n t ≡ true
-    → bits x t.low t.width ≢ t.value
-    → fits (text_of n (t ∷ [])) x ≡ false
-fails_one n t x p other =
-    let (room, small) = and_parts (nat_le (t.low + t.width) n) (t.value % 2 ^ t.width == t.value) p in
+asked_passes : (n : ℕ) (text : List ℕ) (ts : List Test) (x : ℕ)
+    → length text ≡ n
+    → ask n text ts ≡ true
+    → fits text x ≡ true
+    → Passes ts x
+asked_passes n text [] x l a f = tt
+asked_passes n text (t ∷ ts) x l a f =
+    let (proper, more) = and_parts (is_proper n t) (is_within (text_of n (t ∷ [])) text && ask n text ts) a in
+    let (within, rest) = and_parts (is_within (text_of n (t ∷ [])) text) (ask n text ts) more in
+    let (room, small) = and_parts (nat_le (t.low + t.width) n) (t.value % 2 ^ t.width == t.value) proper in
     let enough : t.low + t.width ≤ n = grind (arith, nat_tests) in
-    false_from_ne_true (fits (text_of n (t ∷ [])) x)
-    (λ f. other (test_of_text n t x enough f ∙ eqb-true (t.value % 2 ^ t.width) t.value small))
+    let one : fits (text_of n (t ∷ [])) x ≡ true =
+    within_fits (text_of n (t ∷ [])) text x (length_of_text n (t ∷ []) ∙ sym l) within f in
+    (
+      test_of_text n t x enough one ∙ eqb-true (t.value % 2 ^ t.width) t.value small,
+      asked_passes n text ts x l rest f,
+    )
 
-pub fails_fits_none : (n : ℕ) (ts : List Test) (x : ℕ) → are_proper n ts ≡ true → Fails ts x → FitsNone (texts_of n ts) x
+pub fails_fits_none : (n : ℕ) (denied : List (List Test)) (x : ℕ)
+    → are_proper n denied ≡ true
+    → Fails denied x
+    → FitsNone (texts_of n denied) x
 fails_fits_none n [] x p fails = tt
-fails_fits_none n (t ∷ ts) x p fails =
-    let (here, rest) = and_parts (is_proper n t) (are_proper n ts) p in
-    (fails_one n t x here fails.0, fails_fits_none n ts x rest fails.1)
+fails_fits_none n (ts ∷ rest) x p fails =
+    let (here, others) = and_parts (ask n (text_of n ts) ts) (are_proper n rest) p in
+    (
+      false_from_ne_true (fits (text_of n ts) x)
+      (λ f. fails.0 (asked_passes n (text_of n ts) ts x (length_of_text n ts) here f)),
+      fails_fits_none n rest x others fails.1,
+    )
+
+-- ---- two tests made as one
+
+pub both_pass : (x low width value low' width' value' : ℕ)
+    → (bits x low width == value && bits x low' width' == value') ≡ true
+    → (bits x low width ≡ value) × (bits x low' width' ≡ value')
+both_pass x low width value low' width' value' e =
+    let (one, other) = and_parts (bits x low width == value) (bits x low' width' == value') e in
+    (eqb-true _ _ one, eqb-true _ _ other)
+
+pub not_both : (x low width value low' width' value' : ℕ)
+    → (bits x low width == value && bits x low' width' == value') ≡ false
+    → Passes (test low width value ∷ (test low' width' value' ∷ [])) x
+    → ⊥
+not_both x low width value low' width' value' e passes =
+    let one : bits x low width ≡ value = passes.0 in
+    let other : bits x low' width' ≡ value' = passes.1.0 in
+    grind (arith, nat_tests)

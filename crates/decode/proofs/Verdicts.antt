@@ -126,7 +126,7 @@ by_row_is row x =
     ap (λ f. as_told (f z == 0) (f o == 2 ^ ones_of row - 1) (row.gives f)) fields
 
 -- by the tests that a number passes and fails, a row is the first that fits
-pub row_means : (places : ℕ) (rows : List Row) (otherwise : Decoded) (row : Row) (known denied : List Test) (x : ℕ)
+pub row_means : (places : ℕ) (rows : List Row) (otherwise : Decoded) (row : Row) (known : List Test) (denied : List (List Test)) (x : ℕ)
     → resolve (text_of places known) (texts_of places denied) rows ≡ Some (Some row)
     → are_proper places denied ≡ true
     → Passes known x
@@ -140,7 +140,7 @@ row_means places rows otherwise row known denied x found proper passes fails =
     ∙ by_row_is row x
 
 -- by them no row fits
-pub none_means : (places : ℕ) (rows : List Row) (otherwise : Decoded) (known denied : List Test) (x : ℕ)
+pub none_means : (places : ℕ) (rows : List Row) (otherwise : Decoded) (known : List Test) (denied : List (List Test)) (x : ℕ)
     → resolve (text_of places known) (texts_of places denied) rows ≡ Some None
     → are_proper places denied ≡ true
     → Passes known x

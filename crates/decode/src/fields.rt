@@ -88,3 +88,21 @@ pub fn split_register(x: u32) -> Register
 {
     Register::new((bits(x, 7, 1) * 8 + bits(x, 0, 3)) as u8)
 }
+
+/// `i:imm3:imm8`, the twelve bits of an immediate.
+#[inline]
+pub fn imm12(x: u32) -> u16
+    ensures value { result ≡ bits x 26 1 * 2048 + (bits x 12 3 * 256 + bits x 0 8) }
+    ensures small { result < 4096 }
+{
+    (bits(x, 26, 1) * 2048 + (bits(x, 12, 3) * 256 + bits(x, 0, 8))) as u16
+}
+
+/// `imm3:imm2`, the amount of a shift.
+#[inline]
+pub fn imm5(x: u32) -> u8
+    ensures value { result ≡ bits x 12 3 * 4 + bits x 6 2 }
+    ensures small { result < 32 }
+{
+    (bits(x, 12, 3) * 4 + bits(x, 6, 2)) as u8
+}

@@ -1,9 +1,10 @@
 //! What a row gives, of its instruction and of the causes for which it is UNPREDICTABLE.
 
 ghost use Rattle.std.specs.Prelude.{◌≡◌, ◌==◌};
-ghost use Rattle.reference.specs.Rows.{as_told, short, long, placed, last_only_if, unless};
+ghost use Rattle.reference.specs.Rows.{as_told, short, long, placed, last_only_if, unless, is_bad};
 
 use reference::instruction::{BlockPlace, CodedInstruction, Decoded, Instruction};
+use reference::registers::Register;
 use reference::stop::UnpredictableCase;
 
 /// An instruction of two bytes that may stand anywhere in an IT block.
@@ -12,6 +13,22 @@ pub fn short(instruction: Instruction) -> Decoded
     ensures { result ≡ short instruction }
 {
     placed(2, BlockPlace::Anywhere, instruction)
+}
+
+/// An instruction of four bytes that may stand anywhere in an IT block.
+#[inline]
+pub fn long(instruction: Instruction) -> Decoded
+    ensures { result ≡ long instruction }
+{
+    placed(4, BlockPlace::Anywhere, instruction)
+}
+
+/// Whether a register is SP or PC: `BadReg()`.
+#[inline]
+pub fn is_bad(register: Register) -> bool
+    ensures { result ≡ is_bad register }
+{
+    register.number() == 13 || register.number() == 15
 }
 
 /// An instruction of that many bytes that may stand there in an IT block.

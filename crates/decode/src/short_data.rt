@@ -1,7 +1,6 @@
 //! The rows of 16 bits for data processing.
 
 ghost use Rattle.std.specs.Prelude.{◌≡◌, ◌<◌, ◌*◌};
-ghost use Rattle.reference.specs.Arithmetic.{decode_imm_shift};
 ghost use Rattle.reference.specs.Decoding.{short_meaning};
 ghost use Rattle.reference.specs.ShortData.{unshifted, number, move_low, shift_number, shift_register, data_registers, data_number, move_number, move_not, compare_number, compare_registers, multiply, add_high, compare_high, move_high, address, sp_number, extend, rearrange};
 ghost use Rattle.reference.specs.Words.{bits};
@@ -19,6 +18,7 @@ use reference::operands::{
 use reference::registers::Register;
 use reference::shift::{Shift, ShiftType};
 use reference::stop::UnpredictableCase;
+use regs::decode_imm_shift;
 
 /// LSL (immediate), and MOV (register) that stands for LSL by 0.
 #[tactic(auto, using(crate::proofs::ShortTop::shift_left_lemmas))]
@@ -160,23 +160,6 @@ pub fn number(value: u32) -> Immediate
     ensures { result ≡ number value }
 {
     Immediate { value, carry: None }
-}
-
-/// `DecodeImmShift(type, imm5)`: LSR and ASR by 0 mean by 32, and ROR by 0 is RRX.
-#[inline]
-pub fn decode_imm_shift(kind: u8, amount: u8) -> Shift
-    ensures { result ≡ decode_imm_shift kind amount }
-{
-    let (shift_type, amount) = match (kind, amount) {
-        (0, amount) => (ShiftType::Lsl, amount),
-        (1, 0) => (ShiftType::Lsr, 32),
-        (1, amount) => (ShiftType::Lsr, amount),
-        (2, 0) => (ShiftType::Asr, 32),
-        (2, amount) => (ShiftType::Asr, amount),
-        (_, 0) => (ShiftType::Rrx, 1),
-        (_, amount) => (ShiftType::Ror, amount),
-    };
-    Shift { shift_type, amount }
 }
 
 /// MOV of a low register, which sets N and Z always.

@@ -4,12 +4,12 @@ pub mod Arithmetic
 pub mod Registers
 pub mod Memory
 pub mod State
-pub mod Arithmetic
 pub mod Patterns
 pub mod Rows
 pub mod ShortData
 pub mod ShortMemory
 pub mod ShortControl
+pub mod LongData
 pub mod Decoding
 pub mod Operations
 pub mod Decisions

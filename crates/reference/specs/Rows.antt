@@ -15,6 +15,9 @@ use Rattle.reference.specs.Patterns.{fits, field}
 abbrev pub a : ℕ
 a = 97
 
+abbrev pub b : ℕ
+b = 98
+
 abbrev pub c : ℕ
 c = 99
 
@@ -80,6 +83,36 @@ big_m = 77
 
 abbrev pub big_p : ℕ
 big_p = 80
+
+abbrev pub big_s : ℕ
+big_s = 83
+
+abbrev pub big_u : ℕ
+big_u = 85
+
+abbrev pub big_w : ℕ
+big_w = 87
+
+abbrev pub big_h : ℕ
+big_h = 72
+
+abbrev pub big_k : ℕ
+big_k = 75
+
+abbrev pub big_j : ℕ
+big_j = 74
+
+abbrev pub big_r : ℕ
+big_r = 82
+
+abbrev pub big_v : ℕ
+big_v = 86
+
+abbrev pub big_x : ℕ
+big_x = 88
+
+abbrev pub big_l : ℕ
+big_l = 76
 
 abbrev pub z : ℕ
 z = 122
