@@ -1,5 +1,5 @@
 -- LongData: what two halfwords mean by the tests that the code makes, one lemma for each row and way to it.
-use Rattle.std.proofs.Common.{◌≡◌, ◌≢◌, ℕ, ◌+◌, ◌*◌, ◌<◌, ◌≤◌, Bool, true, false, ◌==◌, ◌&&◌, List, [], ◌∷◌, refl, arith}
+use Rattle.std.proofs.Common.{◌≡◌, ◌≢◌, ℕ, ◌+◌, ◌*◌, ◌^◌, ◌<◌, ◌≤◌, Bool, true, false, ◌==◌, ◌&&◌, List, [], ◌∷◌, refl, arith}
 use Rattle.reference.specs.declared.access.Size.{Size}
 use Rattle.reference.specs.declared.access.Size.TheVariants.{Byte, Halfword, Word}
 use Rattle.reference.specs.declared.instruction.BlockPlace.{BlockPlace}
@@ -536,7 +536,7 @@ pub immediate_none : (x : ℕ)
     → bits x 21 4 ≢ 11
     → bits x 21 4 ≢ 13
     → bits x 21 4 ≢ 14
-    → long_meaning x ≡ Unbuilt
+    → long_meaning x ≡ Undefined
 immediate_none x q1 q2 q3 q4 q5 q6 q7 q8 q9 q10 q11 q12 q13 =
     long_none (test 27 5 30 ∷ test 15 1 0 ∷ test 25 1 0 ∷ []) ((test 21 4 0 ∷ []) ∷ (test 21 4 1 ∷ []) ∷ (test 21 4 2 ∷ []) ∷ (test 21 4 3 ∷ []) ∷ (test 21 4 4 ∷ []) ∷ (test 21 4 8 ∷ []) ∷ (test 21 4 10 ∷ []) ∷ (test 21 4 11 ∷ []) ∷ (test 21 4 13 ∷ []) ∷ (test 21 4 14 ∷ []) ∷ []) x refl refl (q1, (q2, (q3, tt))) ((λ p. q4 p.0), ((λ p. q5 p.0), ((λ p. q6 p.0), ((λ p. q7 p.0), ((λ p. q8 p.0), ((λ p. q9 p.0), ((λ p. q10 p.0), ((λ p. q11 p.0), ((λ p. q12 p.0), ((λ p. q13 p.0), tt))))))))))
 
@@ -554,7 +554,7 @@ pub shifted_none : (x : ℕ)
     → bits x 21 4 ≢ 11
     → bits x 21 4 ≢ 13
     → bits x 21 4 ≢ 14
-    → long_meaning x ≡ Unbuilt
+    → long_meaning x ≡ Undefined
 shifted_none x q1 q2 q3 q4 q5 q6 q7 q8 q9 q10 q11 q12 q13 =
     long_none (test 27 5 29 ∷ test 26 1 0 ∷ test 25 1 1 ∷ []) ((test 21 4 0 ∷ []) ∷ (test 21 4 1 ∷ []) ∷ (test 21 4 2 ∷ []) ∷ (test 21 4 3 ∷ []) ∷ (test 21 4 4 ∷ []) ∷ (test 21 4 8 ∷ []) ∷ (test 21 4 10 ∷ []) ∷ (test 21 4 11 ∷ []) ∷ (test 21 4 13 ∷ []) ∷ (test 21 4 14 ∷ []) ∷ []) x refl refl (q1, (q2, (q3, tt))) ((λ p. q4 p.0), ((λ p. q5 p.0), ((λ p. q6 p.0), ((λ p. q7 p.0), ((λ p. q8 p.0), ((λ p. q9 p.0), ((λ p. q10 p.0), ((λ p. q11 p.0), ((λ p. q12 p.0), ((λ p. q13 p.0), tt))))))))))
 
@@ -573,38 +573,6 @@ pub plain_none : (x : ℕ)
     → bits x 20 5 ≢ 20
     → bits x 20 5 ≢ 28
     → bits x 20 5 ≢ 22
-    → long_meaning x ≡ Unbuilt
+    → long_meaning x ≡ Undefined
 plain_none x q1 q2 q3 q4 q5 q6 q7 q8 q9 q10 q11 q12 q13 q14 =
     long_none (test 27 5 30 ∷ test 15 1 0 ∷ test 25 1 1 ∷ []) ((test 20 5 0 ∷ []) ∷ (test 20 5 10 ∷ []) ∷ (test 20 5 4 ∷ []) ∷ (test 20 5 12 ∷ []) ∷ (test 20 5 18 ∷ []) ∷ (test 20 5 16 ∷ []) ∷ (test 20 5 26 ∷ []) ∷ (test 20 5 24 ∷ []) ∷ (test 20 5 20 ∷ []) ∷ (test 20 5 28 ∷ []) ∷ (test 20 5 22 ∷ []) ∷ []) x refl refl (q1, (q2, (q3, tt))) ((λ p. q4 p.0), ((λ p. q5 p.0), ((λ p. q6 p.0), ((λ p. q7 p.0), ((λ p. q8 p.0), ((λ p. q9 p.0), ((λ p. q10 p.0), ((λ p. q11 p.0), ((λ p. q12 p.0), ((λ p. q13 p.0), ((λ p. q14 p.0), tt)))))))))))
-
-pub top_31_none : (x : ℕ)
-    → 29 ≤ bits x 27 5
-    → bits x 27 5 ≢ 29
-    → bits x 27 5 ≢ 30
-    → long_meaning x ≡ Unbuilt
-top_31_none x q1 q2 q3 =
-    let small : bits x 27 5 < 32 = bits_small x 27 5 in
-    let e1 : bits x 27 5 ≡ 31 = omega arith in
-    long_none (test 27 5 31 ∷ []) [] x refl refl (e1, tt) tt
-
-pub coprocessor_none : (x : ℕ)
-    → bits x 27 5 ≡ 29
-    → bits x 26 1 ≡ 1
-    → long_meaning x ≡ Unbuilt
-coprocessor_none x q1 q2 =
-    long_none (test 27 5 29 ∷ test 26 1 1 ∷ []) [] x refl refl (q1, (q2, tt)) tt
-
-pub several_none : (x : ℕ)
-    → bits x 27 5 ≡ 29
-    → bits x 26 1 ≢ 1
-    → bits x 25 1 ≢ 1
-    → long_meaning x ≡ Unbuilt
-several_none x q1 q2 q3 =
-    long_none (test 27 5 29 ∷ []) ((test 26 1 1 ∷ []) ∷ (test 25 1 1 ∷ []) ∷ []) x refl refl (q1, tt) ((λ p. q2 p.0), ((λ p. q3 p.0), tt))
-
-pub control_none : (x : ℕ)
-    → bits x 27 5 ≡ 30
-    → bits x 15 1 ≡ 1
-    → long_meaning x ≡ Unbuilt
-control_none x q1 q2 =
-    long_none (test 27 5 30 ∷ test 15 1 1 ∷ []) [] x refl refl (q1, (q2, tt)) tt

@@ -26,7 +26,7 @@ pub fn branches_and_control(x: u32) -> Decoded
         return wide_branches(x);
     }
     if bits(x, 14, 1) == 1 {
-        return Decoded::Unbuilt;
+        return Decoded::Undefined;
     }
     if bits(x, 23, 3) == 0b111 {
         control(x)
@@ -61,19 +61,19 @@ fn control(x: u32) -> Decoded
     requires control { bits x 23 3 ≡ 7 }
     ensures { result ≡ long_meaning x }
 {
-    match bits(x, 20, 7) {
-        0b011_1000 | 0b011_1001 => {
+    match bits(x, 21, 6) {
+        0b011_100 => {
             let zeros = bits(x, 20, 1) * 8 + (bits(x, 13, 1) * 4 + bits(x, 8, 2));
             let decoded = move_to_special(register(x, 16), bits(x, 10, 2), eight(x, 0));
             as_told(zeros == 0, true, decoded)
         }
-        0b011_1110 | 0b011_1111 => {
+        0b011_111 => {
             let zeros = bits(x, 20, 1) * 2 + bits(x, 13, 1);
             let decoded = move_from_special(register(x, 8), eight(x, 0));
             as_told(zeros == 0, bits(x, 16, 4) == 0b1111, decoded)
         }
-        0b011_1010 => long_hints(x),
-        0b011_1011 => barriers(x),
+        0b011_101 if bits(x, 20, 1) == 0 => long_hints(x),
+        0b011_101 => barriers(x),
         _ => Decoded::Undefined,
     }
 }
@@ -86,7 +86,8 @@ fn long_hints(x: u32) -> Decoded
     requires link { bits x 14 1 ≡ 0 }
     requires wide { bits x 12 1 ≡ 0 }
     requires control { bits x 23 3 ≡ 7 }
-    requires hints { bits x 20 7 ≡ 58 }
+    requires group { bits x 21 6 ≡ 29 }
+    requires hints { bits x 20 1 ≡ 0 }
     ensures { result ≡ long_meaning x }
 {
     if bits(x, 8, 3) != 0 {
@@ -105,7 +106,8 @@ fn barriers(x: u32) -> Decoded
     requires link { bits x 14 1 ≡ 0 }
     requires wide { bits x 12 1 ≡ 0 }
     requires control { bits x 23 3 ≡ 7 }
-    requires barriers { bits x 20 7 ≡ 59 }
+    requires group { bits x 21 6 ≡ 29 }
+    requires barriers { bits x 20 1 ≡ 1 }
     ensures { result ≡ long_meaning x }
 {
     let zeros = bits(x, 13, 1) == 0;

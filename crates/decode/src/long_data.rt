@@ -1,8 +1,9 @@
 //! The rows of 32 bits for data processing with an immediate or a shifted register.
 
-ghost use Rattle.std.specs.Prelude.{◌≡◌, ◌==◌, ◌<◌, ◌+◌, ◌*◌, ◌^◌, ◌&&◌, ◌||◌, not};
+ghost use Rattle.std.specs.Prelude.{◌≡◌, ◌==◌, ◌<◌, ◌+◌, ◌*◌, ◌^◌, ◌&&◌, ◌||◌, not, true};
 ghost use Rattle.reference.specs.Decoding.{long_meaning};
 ghost use Rattle.reference.specs.LongData.{takes_sp, compares_sp, is_refused_first, is_refused_destination, is_lsl_below, is_refused_move, flags_if, modified_immediate as expanded, data_given, data_immediate, compare_given, compare_immediate, move_given, move_immediate, shifted, data_shifted, compare_shifted, move_shifted, move_not_shifted};
+ghost use Rattle.reference.specs.Rows.{as_told as told_of};
 ghost use Rattle.reference.specs.Words.{bits};
 
 use crate::fields::{bits, imm5, imm12, is_set, register};
@@ -31,9 +32,9 @@ pub fn modified_immediates(x: u32) -> Decoded
         0b0000 if compares(x) => compare_immediate(Comparison::Test, n, second),
         0b0000 => data_immediate(DataOperation::And, s, n, d, second),
         0b0001 => data_immediate(DataOperation::BitClear, s, n, d, second),
-        0b0010 if moves(x) => move_immediate(MoveOperation::Move, s, d, second),
+        0b0010 if bits(x, 16, 4) == 15 => move_immediate(MoveOperation::Move, s, d, second),
         0b0010 => data_immediate(DataOperation::Or, s, n, d, second),
-        0b0011 if moves(x) => move_immediate(MoveOperation::MoveNot, s, d, second),
+        0b0011 if bits(x, 16, 4) == 15 => move_immediate(MoveOperation::MoveNot, s, d, second),
         0b0011 => data_immediate(DataOperation::OrNot, s, n, d, second),
         0b0100 if compares(x) => compare_immediate(Comparison::TestEquivalence, n, second),
         0b0100 => data_immediate(DataOperation::ExclusiveOr, s, n, d, second),
@@ -44,7 +45,7 @@ pub fn modified_immediates(x: u32) -> Decoded
         0b1101 if compares(x) => compare_immediate(Comparison::Compare, n, second),
         0b1101 => data_immediate(DataOperation::Subtract, s, n, d, second),
         0b1110 => data_immediate(DataOperation::ReverseSubtract, s, n, d, second),
-        _ => Decoded::Unbuilt,
+        _ => Decoded::Undefined,
     }
 }
 
@@ -58,26 +59,26 @@ pub fn shifted_registers(x: u32) -> Decoded
 {
     let second = shifted(register(x, 0), bits(x, 4, 2) as u8, imm5(x));
     let (s, n, d) = (is_set(x, 20), register(x, 16), register(x, 8));
-    let decoded = match bits(x, 21, 4) {
-        0b0000 if compares(x) => compare_shifted(Comparison::Test, n, second),
-        0b0000 => data_shifted(DataOperation::And, s, n, d, second),
-        0b0001 => data_shifted(DataOperation::BitClear, s, n, d, second),
-        0b0010 if moves(x) => move_shifted(s, d, second),
-        0b0010 => data_shifted(DataOperation::Or, s, n, d, second),
-        0b0011 if moves(x) => move_not_shifted(s, d, second),
-        0b0011 => data_shifted(DataOperation::OrNot, s, n, d, second),
-        0b0100 if compares(x) => compare_shifted(Comparison::TestEquivalence, n, second),
-        0b0100 => data_shifted(DataOperation::ExclusiveOr, s, n, d, second),
-        0b1000 if compares(x) => compare_shifted(Comparison::CompareNegative, n, second),
-        0b1000 => data_shifted(DataOperation::Add, s, n, d, second),
-        0b1010 => data_shifted(DataOperation::AddWithCarry, s, n, d, second),
-        0b1011 => data_shifted(DataOperation::SubtractWithCarry, s, n, d, second),
-        0b1101 if compares(x) => compare_shifted(Comparison::Compare, n, second),
-        0b1101 => data_shifted(DataOperation::Subtract, s, n, d, second),
-        0b1110 => data_shifted(DataOperation::ReverseSubtract, s, n, d, second),
-        _ => return Decoded::Unbuilt,
-    };
-    as_told(bits(x, 15, 1) == 0, true, decoded)
+    let told = bits(x, 15, 1) == 0;
+    match bits(x, 21, 4) {
+        0b0000 if compares(x) => compare_shifted(told, Comparison::Test, n, second),
+        0b0000 => data_shifted(told, DataOperation::And, s, n, d, second),
+        0b0001 => data_shifted(told, DataOperation::BitClear, s, n, d, second),
+        0b0010 if bits(x, 16, 4) == 15 => move_shifted(told, s, d, second),
+        0b0010 => data_shifted(told, DataOperation::Or, s, n, d, second),
+        0b0011 if bits(x, 16, 4) == 15 => move_not_shifted(told, s, d, second),
+        0b0011 => data_shifted(told, DataOperation::OrNot, s, n, d, second),
+        0b0100 if compares(x) => compare_shifted(told, Comparison::TestEquivalence, n, second),
+        0b0100 => data_shifted(told, DataOperation::ExclusiveOr, s, n, d, second),
+        0b1000 if compares(x) => compare_shifted(told, Comparison::CompareNegative, n, second),
+        0b1000 => data_shifted(told, DataOperation::Add, s, n, d, second),
+        0b1010 => data_shifted(told, DataOperation::AddWithCarry, s, n, d, second),
+        0b1011 => data_shifted(told, DataOperation::SubtractWithCarry, s, n, d, second),
+        0b1101 if compares(x) => compare_shifted(told, Comparison::Compare, n, second),
+        0b1101 => data_shifted(told, DataOperation::Subtract, s, n, d, second),
+        0b1110 => data_shifted(told, DataOperation::ReverseSubtract, s, n, d, second),
+        _ => Decoded::Undefined,
+    }
 }
 
 /// Whether an operation gives its flags alone: d = 15 and S = 1.
@@ -86,14 +87,6 @@ fn compares(x: u32) -> bool
     ensures { result ≡ (bits x 8 4 == 15 && bits x 20 1 == 1) }
 {
     bits(x, 8, 4) == 15 && bits(x, 20, 1) == 1
-}
-
-/// Whether an operation has no first register: n = 15.
-#[inline]
-fn moves(x: u32) -> bool
-    ensures { result ≡ (bits x 16 4 == 15) }
-{
-    bits(x, 16, 4) == 15
 }
 
 // ---- which registers the rows allow
@@ -140,7 +133,7 @@ fn is_lsl_below(shift: Shift, bound: u8) -> bool
 // ---- what the rows give
 
 /// `S`.
-fn flags_if(sets: bool) -> FlagSetting
+pub fn flags_if(sets: bool) -> FlagSetting
     ensures { result ≡ flags_if sets }
 {
     if sets {
@@ -258,13 +251,14 @@ pub fn shifted(m: Register, shift_type: u8, imm5: u8) -> ShiftedRegister
 /// LSL by at most 3.
 #[tactic(auto, unfolding(reference::specs::LongData::data_shifted))]
 fn data_shifted(
+    told: bool,
     operation: DataOperation,
     s: bool,
     n: Register,
     d: Register,
     second: ShiftedRegister,
 ) -> Decoded
-    ensures { result ≡ data_shifted operation s n d second }
+    ensures { result ≡ told_of told true (data_shifted operation s n d second) }
 {
     let sp = takes_sp(operation);
     let near = sp && is_lsl_below(second.shift, 4);
@@ -277,18 +271,19 @@ fn data_shifted(
         first: n,
         second,
     });
-    unless(
+    let decoded = unless(
         refused,
         BlockPlace::Anywhere,
         UnpredictableCase::Registers,
         long(instruction),
-    )
+    );
+    as_told(told, true, decoded)
 }
 
 /// A comparison of two registers, the second shifted.
 #[tactic(auto, unfolding(reference::specs::LongData::compare_shifted))]
-fn compare_shifted(operation: Comparison, n: Register, second: ShiftedRegister) -> Decoded
-    ensures { result ≡ compare_shifted operation n second }
+fn compare_shifted(told: bool, operation: Comparison, n: Register, second: ShiftedRegister) -> Decoded
+    ensures { result ≡ told_of told true (compare_shifted operation n second) }
 {
     let refused = is_bad(second.register) || is_refused_first(compares_sp(operation), n);
     let instruction = Instruction::CompareRegister(CompareRegister {
@@ -296,12 +291,13 @@ fn compare_shifted(operation: Comparison, n: Register, second: ShiftedRegister) 
         first: n,
         second,
     });
-    unless(
+    let decoded = unless(
         refused,
         BlockPlace::Anywhere,
         UnpredictableCase::Registers,
         long(instruction),
-    )
+    );
+    as_told(told, true, decoded)
 }
 
 /// Whether a MOV refuses its registers: without flags and shift it takes and gives SP, but not SP
@@ -318,8 +314,8 @@ fn is_refused_move(s: bool, d: Register, m: Register, shift: Shift) -> bool
 
 /// MOV of a shifted register.
 #[tactic(auto, unfolding(reference::specs::LongData::move_shifted))]
-fn move_shifted(s: bool, d: Register, source: ShiftedRegister) -> Decoded
-    ensures { result ≡ move_shifted s d source }
+fn move_shifted(told: bool, s: bool, d: Register, source: ShiftedRegister) -> Decoded
+    ensures { result ≡ told_of told true (move_shifted s d source) }
 {
     let refused = is_refused_move(s, d, source.register, source.shift);
     let instruction = Instruction::MoveRegister(MoveRegister {
@@ -328,18 +324,19 @@ fn move_shifted(s: bool, d: Register, source: ShiftedRegister) -> Decoded
         destination: d,
         source,
     });
-    unless(
+    let decoded = unless(
         refused,
         BlockPlace::Anywhere,
         UnpredictableCase::Registers,
         long(instruction),
-    )
+    );
+    as_told(told, true, decoded)
 }
 
 /// MVN of a shifted register.
 #[tactic(auto, unfolding(reference::specs::LongData::move_not_shifted))]
-fn move_not_shifted(s: bool, d: Register, source: ShiftedRegister) -> Decoded
-    ensures { result ≡ move_not_shifted s d source }
+fn move_not_shifted(told: bool, s: bool, d: Register, source: ShiftedRegister) -> Decoded
+    ensures { result ≡ told_of told true (move_not_shifted s d source) }
 {
     let instruction = Instruction::MoveRegister(MoveRegister {
         operation: MoveOperation::MoveNot,
@@ -347,10 +344,11 @@ fn move_not_shifted(s: bool, d: Register, source: ShiftedRegister) -> Decoded
         destination: d,
         source,
     });
-    unless(
+    let decoded = unless(
         is_bad(d) || is_bad(source.register),
         BlockPlace::Anywhere,
         UnpredictableCase::Registers,
         long(instruction),
-    )
+    );
+    as_told(told, true, decoded)
 }

@@ -61,7 +61,7 @@ fn bit_fields(x: u32) -> Decoded
         0b11100 => extract_field(false, n, d, amount, last + 1),
         0b10110 if bits(x, 16, 4) == 15 => clear_field(d, amount, last),
         0b10110 => insert_field(n, d, amount, last),
-        _ => return Decoded::Unbuilt,
+        _ => return Decoded::Undefined,
     };
     as_told(bits(x, 26, 1) * 2 + bits(x, 5, 1) == 0, true, decoded)
 }

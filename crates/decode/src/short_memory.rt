@@ -179,7 +179,7 @@ pub fn pop(pc: u16, list: u8) -> Decoded
 }
 
 /// Whether a register is in a list.
-fn is_in_list(n: Register, list: u16) -> bool
+pub fn is_in_list(n: Register, list: u16) -> bool
     ensures { result ≡ is_bit list n }
 {
     (list >> n.number()) % 2 == 1

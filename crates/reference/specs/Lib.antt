@@ -10,6 +10,10 @@ pub mod ShortData
 pub mod ShortMemory
 pub mod ShortControl
 pub mod LongData
+pub mod LongControl
+pub mod LongSeveral
+pub mod LongMemory
+pub mod LongRegister
 pub mod Decoding
 pub mod Operations
 pub mod Decisions

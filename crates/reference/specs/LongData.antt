@@ -6,7 +6,7 @@ use Rattle.reference.specs.declared.access.Size.TheVariants.{Byte, Halfword, Wor
 use Rattle.reference.specs.declared.instruction.BlockPlace.{BlockPlace}
 use Rattle.reference.specs.declared.instruction.BlockPlace.TheVariants as place
 use Rattle.reference.specs.declared.instruction.Decoded.{Decoded}
-use Rattle.reference.specs.declared.instruction.Decoded.TheVariants.{Undefined, Unpredictable, NoCoprocessor}
+use Rattle.reference.specs.declared.instruction.Decoded.TheVariants.{Undefined, Unpredictable, NoCoprocessor, Unbuilt}
 use Rattle.reference.specs.declared.instruction.Hint.{Hint as HintWord}
 use Rattle.reference.specs.declared.instruction.Hint.TheVariants as hint
 use Rattle.reference.specs.declared.instruction.Instruction.TheVariants.{DataImmediate, DataRegister, MoveImmediate, MoveRegister, MoveTop, CompareImmediate, CompareRegister, ShiftByRegister, Address, Multiply, MultiplyAccumulate, MultiplyLong, Divide, Saturate, ExtractField, InsertField, ClearField, Extend, Rearrange, LoadImmediate, LoadRegister, LoadLiteral, StoreImmediate, StoreRegister, LoadDual, LoadDualLiteral, StoreDual, LoadMultiple, StoreMultiple, LoadExclusive, StoreExclusive, ClearExclusive, Branch, BranchWithLink, ConditionalBranch, TableBranch, MoveToSpecial, MoveFromSpecial, Hint}
@@ -581,11 +581,12 @@ bfi_t1 = record {
   gives = λ field. insert_field (field n) (field d) (field i) (field w);
 }
 
--- special cases, which stand before all others
-abbrev pub special_long_data : List Row
-special_long_data =
+-- those that stand before all others
+abbrev pub long_data_first : List Row
+long_data_first =
     tst_immediate_t1 ∷ mov_immediate_t2 ∷ mvn_immediate_t1 ∷ teq_immediate_t1 ∷ cmn_immediate_t1 ∷ cmp_immediate_t2 ∷ tst_register_t2 ∷ mov_register_t3 ∷ mvn_register_t2 ∷ teq_register_t1 ∷ cmn_register_t2 ∷ cmp_register_t3 ∷ adr_t3 ∷ adr_t2 ∷ ssat_none ∷ usat_none ∷ bfc_t1 ∷ []
 
+-- the other rows
 abbrev pub long_data_rows : List Row
 long_data_rows =
     and_immediate_t1 ∷ bic_immediate_t1 ∷ orr_immediate_t1 ∷ orn_immediate_t1 ∷ eor_immediate_t1 ∷ add_immediate_t3 ∷ adc_immediate_t1 ∷ sbc_immediate_t1 ∷ sub_immediate_t3 ∷ rsb_immediate_t2 ∷ and_register_t2 ∷ bic_register_t2 ∷ orr_register_t2 ∷ orn_register_t1 ∷ eor_register_t2 ∷ add_register_t3 ∷ adc_register_t2 ∷ sbc_register_t2 ∷ sub_register_t2 ∷ rsb_register_t1 ∷ addw ∷ subw ∷ movw ∷ movt ∷ ssat_asr ∷ ssat_lsl ∷ usat_asr ∷ usat_lsl ∷ sbfx_t1 ∷ ubfx_t1 ∷ bfi_t1 ∷ []

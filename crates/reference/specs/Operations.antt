@@ -21,6 +21,7 @@ use Rattle.reference.specs.declared.operands.MoveOperation.TheVariants.{Move, Mo
 use Rattle.reference.specs.declared.stop.LeftOut.TheVariants.{Unbuilt}
 use Rattle.reference.specs.declared.stop.Stop.{Stop}
 use Rattle.reference.specs.declared.stop.Stop.TheVariants.{OutOfProfile}
+use Rattle.reference.specs.LongMemory.{is_word}
 use Rattle.reference.specs.Registers.{Registers, register, with_register, with_pc, with_result, is_privileged}
 use Rattle.reference.specs.Words.{word_sum}
 
@@ -29,11 +30,6 @@ abbrev pub offset_address : Registers → ImmediateAddress → ℕ
 offset_address r o = word_sum (register r o.base) o.offset
 
 -- ---- what this version of the machine executes
-
-abbrev pub is_word : Size → Bool
-is_word Word = true
-is_word Halfword = false
-is_word Byte = false
 
 abbrev pub keeps_base : Indexing → Bool
 keeps_base Offset = true
