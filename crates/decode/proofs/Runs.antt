@@ -2,7 +2,7 @@
 use Rattle.std.proofs.Common.{◌≡◌, ℕ, zero, suc, ◌+◌, ◌*◌, ◌/◌, ◌%◌, ◌^◌, Bool, true, false, ◌==◌, if◌then◌else◌, List, [], ◌∷◌, length, refl, ap, ◌∙◌, arith, div-one}
 use Rattle.std.proofs.lemmas.Bool.{eqb-true}
 use Rattle.std.proofs.lemmas.Nat.{shr-shr, mod-pow-add, pow-add}
-use Rattle.reference.specs.Words.{bit_at}
+use Rattle.reference.specs.Words.{bit_at, bits}
 use Rattle.reference.specs.Patterns.{joined, field}
 
 -- places of one letter, side by side: how many places stand below them, and how many they are
@@ -87,24 +87,19 @@ joined_runs letter (place ∷ places) x before =
 
 -- ---- the same, as code writes it
 
--- the bits of a run
-abbrev pub bits_at : ℕ → ℕ → ℕ → ℕ
-bits_at x zero width = x % 2 ^ width
-bits_at x (suc low) width = x / 2 ^ suc low % 2 ^ width
-
 abbrev pub value_of : List Run → ℕ → ℕ
 value_of [] x = 0
-value_of (run ∷ []) x = bits_at x run.low run.width
-value_of (run ∷ (next ∷ runs)) x = bits_at x run.low run.width * 2 ^ width_of (next ∷ runs) + value_of (next ∷ runs) x
+value_of (run ∷ []) x = bits x run.low run.width
+value_of (run ∷ (next ∷ runs)) x = bits x run.low run.width * 2 ^ width_of (next ∷ runs) + value_of (next ∷ runs) x
 
-bits_at_is : (x low width : ℕ) → x / 2 ^ low % 2 ^ width ≡ bits_at x low width
-bits_at_is x zero width = ap (λ n. n % 2 ^ width) (div-one x)
-bits_at_is x (suc low) width = refl
+bits_are : (x low width : ℕ) → x / 2 ^ low % 2 ^ width ≡ bits x low width
+unfolding bits
+bits_are x low width = refl
 
 value_is : (runs : List Run) (x : ℕ) → joined_bits runs x ≡ value_of runs x
 value_is [] x = refl
-value_is (run ∷ []) x = omega (arith, bits_at_is x run.low run.width)
-value_is (run ∷ (next ∷ runs)) x = rw (bits_at_is x run.low run.width, value_is (next ∷ runs) x) refl
+value_is (run ∷ []) x = omega (arith, bits_are x run.low run.width)
+value_is (run ∷ (next ∷ runs)) x = rw (bits_are x run.low run.width, value_is (next ∷ runs) x) refl
 
 -- the field of a letter, read off the text
 abbrev pub value_at : List ℕ → ℕ → ℕ → ℕ

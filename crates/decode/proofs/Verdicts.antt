@@ -1,23 +1,17 @@
 -- Which row fits, found out on the texts alone: from a text that the halfword fits, and texts that it doesn't fit.
-use Rattle.std.proofs.Common.{◌≡◌, ℕ, ◌/◌, ◌^◌, Bool, true, false, ◌&&◌, ◌==◌, if◌then◌else◌, List, [], ◌∷◌, length, take, drop, find, Option, Some, None, refl, ap, ◌∙◌, arith, inl, inr}
+use Rattle.std.proofs.Common.{◌≡◌, ℕ, ◌-◌, ◌/◌, ◌^◌, Bool, true, false, ◌&&◌, ◌==◌, if◌then◌else◌, List, [], ◌∷◌, length, take, drop, find, Option, Some, None, refl, ap, ◌∙◌, arith, inl, inr}
 use Rattle.std.specs.List.{list_any, list_all, All}
 use Rattle.std.proofs.Math.Path.{fun_ext}
 use Rattle.std.proofs.lemmas.Bool.{and_parts, or_cases, eqb-true, false_from_ne_true, both_ways}
 use Rattle.std.proofs.lemmas.List.Elements.{All-nil, All-cons}
 use Rattle.std.proofs.lemmas.List.Kept.{AllPairs-cons}
 use Rattle.reference.specs.declared.instruction.Decoded.{Decoded}
-use Rattle.reference.specs.declared.instruction.Decoded.TheVariants.{Instr, Unbuilt}
-use Rattle.reference.specs.declared.instruction.Instruction.{Instruction}
 use Rattle.reference.specs.Patterns.{fits, field}
-use Rattle.reference.specs.Decoding.{Row, rows, instruction_length, meaning, decoding}
-use Rattle.decode.specs.Laws.{HaveSixteenPlaces, AreApart}
-use Rattle.decode.proofs.Texts.{is_free, fits_front, are_apart, apart_fits, is_within, within_fits}
+use Rattle.reference.specs.Rows.{Row, as_told, ones_of, by_row, by_found, meaning, z, o}
+use Rattle.decode.specs.Laws.{HavePlaces, AreApart}
+use Rattle.decode.proofs.Texts.{are_apart, apart_fits, is_within, within_fits}
 use Rattle.decode.proofs.Runs.{value_at, field_is}
-
--- none of the texts fits
-abbrev pub FitsNone : List (List ℕ) → ℕ → Type 0
-FitsNone [] x = Unit {0}
-FitsNone (text ∷ texts) x = (fits text x ≡ false) × FitsNone texts x
+use Rattle.decode.proofs.Tests.{Test, Passes, Fails, FitsNone, text_of, texts_of, are_proper, passes_fits, fails_fits_none}
 
 -- ---- one row
 
@@ -119,52 +113,44 @@ resolve_finds known refused (row ∷ rest) answer x e f none =
     (verdict_tells known refused row.places x f none) e
     (λ less. resolve_finds known refused rest answer x less f none)
 
--- ---- what a halfword means
-
-pub short_decoding : (hw1 hw2 : ℕ) → instruction_length hw1 ≡ 2 → decoding hw1 hw2 ≡ meaning hw1 (find (λ row. fits row.places hw1) rows)
-unfolding decoding
-short_decoding hw1 hw2 e = rw e refl
-
-pub long_decoding : (hw1 hw2 : ℕ) → instruction_length hw1 ≡ 4 → decoding hw1 hw2 ≡ Unbuilt
-unfolding decoding
-long_decoding hw1 hw2 e = rw e refl
+-- ---- what a number means
 
 -- a row with its fields read off its text
-abbrev pub instruction_of : Row → ℕ → Instruction
-instruction_of row hw1 = row.gives (value_at row.places hw1)
+abbrev pub given_by : Row → ℕ → Decoded
+given_by row x =
+    as_told (value_at row.places x z == 0) (value_at row.places x o == 2 ^ ones_of row - 1) (row.gives (value_at row.places x))
 
-meaning_of_row : (row : Row) (hw1 : ℕ) → meaning hw1 (Some row) ≡ Instr (instruction_of row hw1)
-meaning_of_row row hw1 =
-    let fields : field row.places hw1 ≡ value_at row.places hw1 = fun_ext (λ letter. field_is row.places hw1 letter) in
-    ap (λ f. Instr (row.gives f)) fields
+by_row_is : (row : Row) (x : ℕ) → by_row row x ≡ given_by row x
+by_row_is row x =
+    let fields : field row.places x ≡ value_at row.places x = fun_ext (λ letter. field_is row.places x letter) in
+    ap (λ f. as_told (f z == 0) (f o == 2 ^ ones_of row - 1) (row.gives f)) fields
 
--- a row whose places below the first n are letters is what the halfword means, where those n fit what stands there
-pub row_means : (row : Row) (n : ℕ) (hw1 hw2 : ℕ)
-    → resolve row.places [] rows ≡ Some (Some row)
-    → is_free (drop n row.places) ≡ true
-    → instruction_length hw1 ≡ 2
-    → fits (take n row.places) (hw1 / 2 ^ length (drop n row.places)) ≡ true
-    → decoding hw1 hw2 ≡ Instr (instruction_of row hw1)
-row_means row n hw1 hw2 found free short front =
-    let whole : fits row.places hw1 ≡ true = fits_front n row.places hw1 free ∙ front in
-    short_decoding hw1 hw2 short
-    ∙ ap (meaning hw1) (resolve_finds row.places [] rows (Some row) hw1 found whole tt)
-    ∙ meaning_of_row row hw1
+-- by the tests that a number passes and fails, a row is the first that fits
+pub row_means : (places : ℕ) (rows : List Row) (otherwise : Decoded) (row : Row) (known : List Test) (denied : List (List Test)) (x : ℕ)
+    → resolve (text_of places known) (texts_of places denied) rows ≡ Some (Some row)
+    → are_proper places denied ≡ true
+    → Passes known x
+    → Fails denied x
+    → meaning rows otherwise x ≡ given_by row x
+unfolding meaning
+row_means places rows otherwise row known denied x found proper passes fails =
+    ap (by_found otherwise x)
+    (resolve_finds (text_of places known) (texts_of places denied) rows (Some row) x found (passes_fits places known x passes)
+    (fails_fits_none places denied x proper fails))
+    ∙ by_row_is row x
 
-either_unbuilt : (long : Bool) (short : Decoded) → short ≡ Unbuilt → (if long then Unbuilt else short) ≡ Unbuilt
-either_unbuilt true short e = refl
-either_unbuilt false short e = e
-
--- no row is, where each is excluded by a text that the halfword fits, or implies one that it doesn't fit
-pub none_means : (known : List ℕ) (refused : List (List ℕ)) (hw1 hw2 : ℕ)
-    → resolve known refused rows ≡ Some None
-    → fits known hw1 ≡ true
-    → FitsNone refused hw1
-    → decoding hw1 hw2 ≡ Unbuilt
-unfolding decoding
-none_means known refused hw1 hw2 found fit none =
-    either_unbuilt (instruction_length hw1 == 4) (meaning hw1 (find (λ row. fits row.places hw1) rows))
-    (ap (meaning hw1) (resolve_finds known refused rows None hw1 found fit none))
+-- by them no row fits
+pub none_means : (places : ℕ) (rows : List Row) (otherwise : Decoded) (known : List Test) (denied : List (List Test)) (x : ℕ)
+    → resolve (text_of places known) (texts_of places denied) rows ≡ Some None
+    → are_proper places denied ≡ true
+    → Passes known x
+    → Fails denied x
+    → meaning rows otherwise x ≡ otherwise
+unfolding meaning
+none_means places rows otherwise known denied x found proper passes fails =
+    ap (by_found otherwise x)
+    (resolve_finds (text_of places known) (texts_of places denied) rows None x found (passes_fits places known x passes)
+    (fails_fits_none places denied x proper fails))
 
 -- ---- the rows against one another
 
@@ -177,10 +163,12 @@ each_passes P test (x ∷ xs) one e =
     let (here, rest) = and_parts (test x) (list_all test xs) e in
     All-cons P x xs (one x here) (each_passes P test xs one rest)
 
-pub all_sixteen : (rest : List Row) → list_all (λ row. length row.places == 16) rest ≡ true → HaveSixteenPlaces rest
-all_sixteen rest e =
-    each_passes (λ row. length row.places ≡ 16) (λ row. length row.places == 16) rest
-    (λ row h. eqb-true (length row.places) 16 h) e
+pub all_have_places : (places : ℕ) (rest : List Row)
+    → list_all (λ row. length row.places == places) rest ≡ true
+    → HavePlaces places rest
+all_have_places places rest e =
+    each_passes (λ row. length row.places ≡ places) (λ row. length row.places == places) rest
+    (λ row h. eqb-true (length row.places) places h) e
 
 -- whether each row excludes each after it
 abbrev pub exclude_each_other : List Row → Bool

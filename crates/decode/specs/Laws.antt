@@ -1,12 +1,12 @@
--- What holds of the rows, whatever the halfword.
+-- What holds of the rows, whatever the halfwords.
 use Rattle.std.specs.Prelude.{◌≡◌, ℕ, true, List, length, All, AllPairs}
 use Rattle.reference.specs.Patterns.{fits}
-use Rattle.reference.specs.Decoding.{Row}
+use Rattle.reference.specs.Rows.{Row}
 
--- each row has a place for each bit of a halfword
-abbrev pub HaveSixteenPlaces : List Row → Type 0
-HaveSixteenPlaces rows = All (λ row. length row.places ≡ 16) rows
+-- each row has so many places, one for each bit
+abbrev pub HavePlaces : ℕ → List Row → Type 0
+HavePlaces places rows = All (λ row. length row.places ≡ places) rows
 
--- no halfword fits two of the rows
+-- no number fits two of the rows
 abbrev pub AreApart : List Row → Type 0
-AreApart rows = AllPairs (λ one other. (hw1 : ℕ) → fits one.places hw1 ≡ true → fits other.places hw1 ≡ true → ⊥) rows
+AreApart rows = AllPairs (λ one other. (x : ℕ) → fits one.places x ≡ true → fits other.places x ≡ true → ⊥) rows

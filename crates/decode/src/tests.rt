@@ -1,124 +1,221 @@
 use super::*;
+use encodings::{
+    COPROCESSORS, LONG_CONTROL, LONG_DATA, LONG_OTHERS, NEIGHBOURS, SHORT, STOPS, UNDEFINED,
+};
+use reference::operands::{
+    ImmediateAddress, LoadForm, RegisterAddress, ShiftedRegister,
+};
 use std::test::*;
 
-/// The register that a MOV writes, and the value.
-fn moved(hw1: u16) -> Option<(u8, u32)> {
-    match decode(hw1, 0) {
-        Decoded::Instr(Instruction::MoveImmediate(operands)) => {
-            Some((operands.destination.number(), operands.value))
+mod encodings;
+
+/// The operands of an instruction behind the number of its variant.
+type Told = [u32; 8];
+
+fn number(register: Register) -> u32 {
+    register.number() as u32
+}
+
+fn shifted(operand: ShiftedRegister) -> [u32; 3] {
+    [
+        number(operand.register),
+        operand.shift.shift_type as u32,
+        operand.shift.amount as u32,
+    ]
+}
+
+fn carry(operand: Option<bool>) -> u32 {
+    match operand {
+        Some(carry) => carry as u32,
+        None => 2,
+    }
+}
+
+fn form(operand: LoadForm) -> [u32; 2] {
+    [operand.size as u32, operand.signed as u32]
+}
+
+fn immediate_address(operand: ImmediateAddress) -> [u32; 3] {
+    [number(operand.base), operand.offset, operand.indexing as u32]
+}
+
+fn register_address(operand: RegisterAddress) -> [u32; 3] {
+    [number(operand.base), number(operand.index), operand.shift as u32]
+}
+
+/// The data-processing instructions.
+fn told_data(instruction: Instruction) -> Option<Told> {
+    Some(match instruction {
+        Instruction::DataImmediate(o) => [0, o.operation as u32, o.flags as u32, number(o.destination), number(o.first), o.second.value, carry(o.second.carry), 0],
+        Instruction::DataRegister(o) => {
+            let [m, kind, amount] = shifted(o.second);
+            [1, o.operation as u32, o.flags as u32, number(o.destination), number(o.first), m, kind, amount]
         }
-        _ => None,
+        Instruction::MoveImmediate(o) => [2, o.operation as u32, o.flags as u32, number(o.destination), o.source.value, carry(o.source.carry), 0, 0],
+        Instruction::MoveRegister(o) => {
+            let [m, kind, amount] = shifted(o.source);
+            [3, o.operation as u32, o.flags as u32, number(o.destination), m, kind, amount, 0]
+        }
+        Instruction::MoveTop(o) => [4, number(o.destination), o.value as u32, 0, 0, 0, 0, 0],
+        Instruction::CompareImmediate(o) => [5, o.operation as u32, number(o.first), o.second.value, carry(o.second.carry), 0, 0, 0],
+        Instruction::CompareRegister(o) => {
+            let [m, kind, amount] = shifted(o.second);
+            [6, o.operation as u32, number(o.first), m, kind, amount, 0, 0]
+        }
+        Instruction::ShiftByRegister(o) => [7, o.shift_type as u32, o.flags as u32, number(o.destination), number(o.source), number(o.amount), 0, 0],
+        Instruction::Address(o) => [8, number(o.destination), o.offset, 0, 0, 0, 0, 0],
+        _ => return None,
+    })
+}
+
+/// Products, quotients, bit fields and single registers.
+fn told_fields(instruction: Instruction) -> Option<Told> {
+    Some(match instruction {
+        Instruction::Multiply(o) => [9, o.flags as u32, number(o.destination), number(o.first), number(o.second), 0, 0, 0],
+        Instruction::MultiplyAccumulate(o) => [10, o.operation as u32, number(o.destination), number(o.first), number(o.second), number(o.addend), 0, 0],
+        Instruction::MultiplyLong(o) => [11, o.signed as u32, o.accumulates as u32, number(o.low), number(o.high), number(o.first), number(o.second), 0],
+        Instruction::Divide(o) => [12, o.signed as u32, number(o.destination), number(o.dividend), number(o.divisor), 0, 0, 0],
+        Instruction::Saturate(o) => {
+            let [n, kind, amount] = shifted(o.source);
+            [13, o.signed as u32, number(o.destination), o.bits as u32, n, kind, amount, 0]
+        }
+        Instruction::ExtractField(o) => [14, o.signed as u32, number(o.destination), number(o.source), o.low as u32, o.width as u32, 0, 0],
+        Instruction::InsertField(o) => [15, number(o.destination), number(o.source), o.low as u32, o.width as u32, 0, 0, 0],
+        Instruction::ClearField(o) => [16, number(o.destination), o.low as u32, o.width as u32, 0, 0, 0, 0],
+        Instruction::Extend(o) => [17, o.signed as u32, o.size as u32, number(o.destination), number(o.source), o.rotation as u32, 0, 0],
+        Instruction::Rearrange(o) => [18, o.operation as u32, number(o.destination), number(o.source), 0, 0, 0, 0],
+        _ => return None,
+    })
+}
+
+/// Loads and stores of one register.
+fn told_single(instruction: Instruction) -> Option<Told> {
+    Some(match instruction {
+        Instruction::LoadImmediate(o) => {
+            let ([size, signed], [n, offset, indexing]) = (form(o.form), immediate_address(o.address));
+            [19, size, signed, number(o.target), n, offset, indexing, o.unprivileged as u32]
+        }
+        Instruction::LoadRegister(o) => {
+            let ([size, signed], [n, m, shift]) = (form(o.form), register_address(o.address));
+            [20, size, signed, number(o.target), n, m, shift, 0]
+        }
+        Instruction::LoadLiteral(o) => {
+            let [size, signed] = form(o.form);
+            [21, size, signed, number(o.target), o.offset, 0, 0, 0]
+        }
+        Instruction::StoreImmediate(o) => {
+            let [n, offset, indexing] = immediate_address(o.address);
+            [22, o.size as u32, number(o.target), n, offset, indexing, o.unprivileged as u32, 0]
+        }
+        Instruction::StoreRegister(o) => {
+            let [n, m, shift] = register_address(o.address);
+            [23, o.size as u32, number(o.target), n, m, shift, 0, 0]
+        }
+        _ => return None,
+    })
+}
+
+/// Loads and stores of several registers, and exclusive ones.
+fn told_several(instruction: Instruction) -> Option<Told> {
+    Some(match instruction {
+        Instruction::LoadDual(o) => {
+            let [n, offset, indexing] = immediate_address(o.address);
+            [24, number(o.first), number(o.second), n, offset, indexing, 0, 0]
+        }
+        Instruction::LoadDualLiteral(o) => [25, number(o.first), number(o.second), o.offset, 0, 0, 0, 0],
+        Instruction::StoreDual(o) => {
+            let [n, offset, indexing] = immediate_address(o.address);
+            [26, number(o.first), number(o.second), n, offset, indexing, 0, 0]
+        }
+        Instruction::LoadMultiple(o) => [27, number(o.base), o.list.bits() as u32, o.order as u32, o.write_back as u32, 0, 0, 0],
+        Instruction::StoreMultiple(o) => [28, number(o.base), o.list.bits() as u32, o.order as u32, o.write_back as u32, 0, 0, 0],
+        Instruction::LoadExclusive(o) => [29, o.size as u32, number(o.target), number(o.base), o.offset, 0, 0, 0],
+        Instruction::StoreExclusive(o) => [30, o.size as u32, number(o.status), number(o.target), number(o.base), o.offset, 0, 0],
+        Instruction::ClearExclusive => [31, 0, 0, 0, 0, 0, 0, 0],
+        _ => return None,
+    })
+}
+
+/// Branches and control.
+fn told_control(instruction: Instruction) -> Option<Told> {
+    Some(match instruction {
+        Instruction::Branch(o) => [32, o.offset, 0, 0, 0, 0, 0, 0],
+        Instruction::ConditionalBranch(o) => [33, o.condition as u32, o.offset, 0, 0, 0, 0, 0],
+        Instruction::BranchWithLink(o) => [34, o.offset, 0, 0, 0, 0, 0, 0],
+        Instruction::BranchExchange(o) => [35, o.links as u32, number(o.target), 0, 0, 0, 0, 0],
+        Instruction::CompareAndBranch(o) => [36, o.nonzero as u32, number(o.register), o.offset, 0, 0, 0, 0],
+        Instruction::TableBranch(o) => [37, o.size as u32, number(o.base), number(o.index), 0, 0, 0, 0],
+        Instruction::IfThen(o) => [38, o.condition as u32, o.mask as u32, 0, 0, 0, 0, 0],
+        Instruction::ChangeProcessorState(o) => [39, o.disables as u32, o.primask as u32, o.faultmask as u32, 0, 0, 0, 0],
+        Instruction::MoveToSpecial(o) => [40, o.special as u32, number(o.source), 0, 0, 0, 0, 0],
+        Instruction::MoveFromSpecial(o) => [41, o.special as u32, number(o.destination), 0, 0, 0, 0, 0],
+        Instruction::Hint(hint) => [42, hint as u32, 0, 0, 0, 0, 0, 0],
+        Instruction::SupervisorCall(number) => [43, number as u32, 0, 0, 0, 0, 0, 0],
+        Instruction::Breakpoint(number) => [44, number as u32, 0, 0, 0, 0, 0, 0],
+        _ => return None,
+    })
+}
+
+/// An instruction as the tables tell it: its variant, its length, its place in an IT block, and its
+/// operands.
+fn told(hw1: u16, hw2: u16) -> Option<[u32; 10]> {
+    let Decoded::Instr(coded) = decode(hw1, hw2) else {
+        return None;
+    };
+    let i = coded.instruction;
+    let [variant, a, b, c, d, e, f, g] = told_data(i)
+        .or(told_fields(i))
+        .or(told_single(i))
+        .or(told_several(i))
+        .or(told_control(i))?;
+    let (length, place) = (coded.length as u32, coded.place as u32);
+    Some([variant, length, place, a, b, c, d, e, f, g])
+}
+
+#[test]
+fn instructions(rt: HostRuntime) {
+    for (hw1, hw2, want) in SHORT {
+        assert_eq!(rt; told(hw1, hw2), Some(want), "{hw1} of 16 bits");
+        assert_eq!(rt; told(hw1, 0xFFFF), Some(want), "the second halfword doesn't count: {hw1}");
+    }
+    for (hw1, hw2, want) in LONG_DATA {
+        assert_eq!(rt; told(hw1, hw2), Some(want), "data processing: {hw1} {hw2}");
+    }
+    for (hw1, hw2, want) in LONG_CONTROL {
+        assert_eq!(rt; told(hw1, hw2), Some(want), "branches, control, several: {hw1} {hw2}");
+    }
+    for (hw1, hw2, want) in LONG_OTHERS {
+        assert_eq!(rt; told(hw1, hw2), Some(want), "of 32 bits: {hw1} {hw2}");
     }
 }
 
-/// The register that is stored, the base register and the offset.
-fn stored(hw1: u16) -> Option<(u8, u8, u32)> {
-    match decode(hw1, 0) {
-        Decoded::Instr(Instruction::StoreImmediate(operands)) => Some(places(operands)),
-        _ => None,
-    }
-}
-
-/// The register that is loaded, the base register and the offset.
-fn loaded(hw1: u16) -> Option<(u8, u8, u32)> {
-    match decode(hw1, 0) {
-        Decoded::Instr(Instruction::LoadImmediate(operands)) => Some(places(operands)),
-        _ => None,
-    }
-}
-
-fn places(operands: ImmediateOffset) -> (u8, u8, u32) {
-    (
-        operands.target.number(),
-        operands.base.number(),
-        operands.offset,
-    )
-}
-
-/// The offset of a B.
-fn jumped(hw1: u16) -> Option<u32> {
-    match decode(hw1, 0) {
-        Decoded::Instr(Instruction::Branch(operand)) => Some(operand.offset),
-        _ => None,
-    }
-}
-
-/// The number of a BKPT.
-fn stopped(hw1: u16) -> Option<u8> {
-    match decode(hw1, 0) {
-        Decoded::Instr(Instruction::Breakpoint(number)) => Some(number),
+/// The place and the cause of what stops by name.
+fn stopped(hw1: u16, hw2: u16) -> Option<(u32, u32)> {
+    match decode(hw1, hw2) {
+        Decoded::Unpredictable(place, cause) => Some((place as u32, cause as u32)),
         _ => None,
     }
 }
 
 #[test]
-fn moves(rt: HostRuntime) {
-    let table = [
-        (0x2005, (0, 5)), // MOVS R0, #5
-        (0x2007, (0, 7)), // MOVS R0, #7
-        (0x27FF, (7, 255)), // MOVS R7, #255
-    ];
-    for (hw1, want) in table {
-        assert_eq!(rt; moved(hw1), Some(want), "should be a MOV: {hw1}");
+fn named_stops(rt: HostRuntime) {
+    for (hw1, hw2, place, cause) in STOPS {
+        assert_eq!(rt; stopped(hw1, hw2), Some((place, cause)), "should stop: {hw1} {hw2}");
+    }
+    for (hw1, hw2) in NEIGHBOURS {
+        assert!(rt; told(hw1, hw2).is_some(), "should not stop: {hw1} {hw2}");
     }
 }
 
 #[test]
-fn loads_and_stores(rt: HostRuntime) {
-    let stores = [
-        (0x6008, (0, 1, 0)), // STR R0, [R1]
-        (0x6041, (1, 0, 4)), // STR R1, [R0, #4]
-        (0x67FE, (6, 7, 124)), // STR R6, [R7, #124]
-    ];
-    for (hw1, want) in stores {
-        assert_eq!(rt; stored(hw1), Some(want), "should be an STR: {hw1}");
+fn what_is_no_instruction(rt: HostRuntime) {
+    for (hw1, hw2) in UNDEFINED {
+        let is_undefined = matches!(decode(hw1, hw2), Decoded::Undefined);
+        assert!(rt; is_undefined, "should be undefined: {hw1} {hw2}");
     }
-    let loads = [
-        (0x680A, (2, 1, 0)), // LDR R2, [R1]
-        (0x6FFE, (6, 7, 124)), // LDR R6, [R7, #124]
-    ];
-    for (hw1, want) in loads {
-        assert_eq!(rt; loaded(hw1), Some(want), "should be an LDR: {hw1}");
-    }
-}
-
-#[test]
-fn branches(rt: HostRuntime) {
-    let table = [
-        (0xE000, 0x0000_0000), // B to the instruction and 4 more
-        (0xE7FE, 0xFFFF_FFFC), // B to itself
-        (0xE3FF, 0x0000_07FE), // the furthest forward
-        (0xE400, 0xFFFF_F800), // the furthest back
-    ];
-    for (hw1, want) in table {
-        assert_eq!(rt; jumped(hw1), Some(want), "should be a B: {hw1}");
-    }
-}
-
-#[test]
-fn breakpoints(rt: HostRuntime) {
-    let table = [(0xBE00, 0x00), (0xBEAB, 0xAB), (0xBEFF, 0xFF)];
-    for (hw1, want) in table {
-        assert_eq!(rt; stopped(hw1), Some(want), "should be a BKPT: {hw1}");
-    }
-}
-
-#[test]
-fn rows_that_are_not_built(rt: HostRuntime) {
-    let table = [
-        0x0000, // LSL R0, R0, #0
-        0x1FFF, // SUB R7, R7, #7: the halfword before the MOVs
-        0x2800, // CMP R0, #0: the one behind them
-        0xBDFF, // POP {R0-R7, PC}: the one before the BKPTs
-        0xBF00, // NOP: the one behind them
-        0xE800, // the first of 32 bits
-        0xFFFF, // the last
-    ];
-    for hw1 in table {
-        assert!(rt;
-            matches!(decode(hw1, 0), Decoded::Unbuilt),
-            "should be unbuilt: {hw1}"
-        );
+    for (hw1, hw2) in COPROCESSORS {
+        let is_other = matches!(decode(hw1, hw2), Decoded::NoCoprocessor);
+        assert!(rt; is_other, "should be a coprocessor's: {hw1} {hw2}");
     }
 }
 
@@ -140,7 +237,17 @@ fn lengths(rt: HostRuntime) {
 }
 
 #[test]
+fn lines_are_read_again(rt: HostRuntime) {
+    let mut lines = Reread;
+    lines.wrote(0x100, 4);
+    let decoded = lines.fetch(0x100, 0xDE00, 0);
+    assert!(rt; matches!(decoded, Decoded::Undefined), "UDF");
+}
+
+#[test]
 fn the_laws_of_the_rows_are_called() {
-    laws::rows_are_whole();
-    laws::rows_are_apart();
+    laws::short_rows_are_whole();
+    laws::short_rows_are_apart();
+    laws::long_rows_are_whole();
+    laws::long_rows_are_apart();
 }

@@ -5,6 +5,15 @@ pub mod Registers
 pub mod Memory
 pub mod State
 pub mod Patterns
+pub mod Rows
+pub mod ShortData
+pub mod ShortMemory
+pub mod ShortControl
+pub mod LongData
+pub mod LongControl
+pub mod LongSeveral
+pub mod LongMemory
+pub mod LongRegister
 pub mod Decoding
 pub mod Operations
 pub mod Decisions

@@ -5,6 +5,14 @@ use Rattle.std.specs.Prelude.{ℕ, ◌+◌, ◌-◌, ◌/◌, ◌%◌, ◌^◌, 
 abbrev pub word_sum : ℕ → ℕ → ℕ
 word_sum x y = (x + y) % 2 ^ 32
 
+-- the word that added to a word takes the other away: its two's complement
+unfoldable pub negated : ℕ → ℕ
+negated x = (2 ^ 32 - x) % 2 ^ 32
+
+-- the bits of x from the lowest on, so many of them: x<low + width - 1:low>
+unfoldable pub bits : ℕ → ℕ → ℕ → ℕ
+bits x low width = x / 2 ^ low % 2 ^ width
+
 -- bit k of x, as a number: x<k>
 abbrev pub bit_at : ℕ → ℕ → ℕ
 bit_at x k = x / 2 ^ k % 2

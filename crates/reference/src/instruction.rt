@@ -1,52 +1,163 @@
-//! The instructions, one variant for each operation that the manual names.
+//! The instructions: one variant for each shape of operands, so that every encoding of one
+//! operation gives the same variant.
 
-use crate::registers::Register;
+use crate::operands::{
+    Address, BranchExchange, ChangeProcessorState, ClearField, CompareAndBranch, CompareImmediate,
+    CompareRegister, ConditionalBranch, DataImmediate, DataRegister, Divide, Extend, ExtractField,
+    IfThen, InsertField, LoadDual, LoadDualLiteral, LoadExclusive, LoadImmediate, LoadLiteral,
+    LoadMultiple, LoadRegister, MoveFromSpecial, MoveImmediate, MoveRegister, MoveToSpecial,
+    MoveTop, Multiply, MultiplyAccumulate, MultiplyLong, Offset, Rearrange, Saturate,
+    ShiftByRegister, StoreDual, StoreExclusive, StoreImmediate, StoreMultiple, StoreRegister,
+    TableBranch,
+};
+use crate::stop::UnpredictableCase;
 
 /// What a halfword, or a pair of them, means.
 #[derive(Clone, Copy)]
 pub enum Decoded {
-    Instr(Instruction),
+    Instr(CodedInstruction),
+    /// The manual calls it UNDEFINED, or no row has it: UsageFault UNDEFINSTR.
+    Undefined,
+    /// A coprocessor's instruction: UsageFault NOCP.
+    NoCoprocessor,
+    /// A row that stops the machine by name, wherever it is met: how the row stands in an IT block,
+    /// which is asked before any cause but `Encoding`, and the first cause of those that the row
+    /// alone decides. Beside `Encoding` the first is of no matter.
+    Unpredictable(BlockPlace, UnpredictableCase),
     /// A row that a later version of this machine will know.
     Unbuilt,
+}
+
+/// An instruction as a row gives it.
+#[derive(Clone, Copy)]
+pub struct CodedInstruction {
+    pub instruction: Instruction,
+    /// In bytes: 2 or 4.
+    pub length: u8,
+    pub place: BlockPlace,
+}
+
+/// Where an instruction may stand in an IT block.
+#[derive(Clone, Copy)]
+pub enum BlockPlace {
+    Anywhere,
+    /// As its last instruction alone, since it writes the PC.
+    LastOnly,
+    Never,
 }
 
 /// An instruction with its operands.
 #[derive(Clone, Copy)]
 pub enum Instruction {
-    /// MOV (immediate).
+    /// AND, BIC, ORR, ORN, EOR, ADD, ADC, SBC, SUB and RSB of a register and a number.
+    DataImmediate(DataImmediate),
+    /// The same of two registers, the second shifted.
+    DataRegister(DataRegister),
+    /// MOV and MVN of a number.
     MoveImmediate(MoveImmediate),
-    /// STR (immediate).
-    StoreImmediate(ImmediateOffset),
-    /// LDR (immediate).
-    LoadImmediate(ImmediateOffset),
+    /// MOV and MVN of a shifted register; so LSL, LSR, ASR, ROR and RRX by a number too.
+    MoveRegister(MoveRegister),
+    /// MOVT.
+    MoveTop(MoveTop),
+    /// TST, TEQ, CMP and CMN of a register and a number.
+    CompareImmediate(CompareImmediate),
+    /// The same of two registers, the second shifted.
+    CompareRegister(CompareRegister),
+    /// LSL, LSR, ASR and ROR by a register.
+    ShiftByRegister(ShiftByRegister),
+    /// ADR.
+    Address(Address),
+    /// MUL.
+    Multiply(Multiply),
+    /// MLA and MLS.
+    MultiplyAccumulate(MultiplyAccumulate),
+    /// SMULL, UMULL, SMLAL and UMLAL.
+    MultiplyLong(MultiplyLong),
+    /// SDIV and UDIV.
+    Divide(Divide),
+    /// SSAT and USAT.
+    Saturate(Saturate),
+    /// SBFX and UBFX.
+    ExtractField(ExtractField),
+    /// BFI.
+    InsertField(InsertField),
+    /// BFC.
+    ClearField(ClearField),
+    /// SXTB, SXTH, UXTB and UXTH.
+    Extend(Extend),
+    /// REV, REV16, REVSH, RBIT and CLZ.
+    Rearrange(Rearrange),
+    /// LDR, LDRB, LDRH, LDRSB and LDRSH at a base register and a number, and their unprivileged
+    /// forms.
+    LoadImmediate(LoadImmediate),
+    /// The same at a base register and another, shifted.
+    LoadRegister(LoadRegister),
+    /// The same at the PC and a number.
+    LoadLiteral(LoadLiteral),
+    /// STR, STRB and STRH at a base register and a number, and their unprivileged forms.
+    StoreImmediate(StoreImmediate),
+    /// The same at a base register and another, shifted.
+    StoreRegister(StoreRegister),
+    /// LDRD.
+    LoadDual(LoadDual),
+    /// LDRD at the PC and a number.
+    LoadDualLiteral(LoadDualLiteral),
+    /// STRD.
+    StoreDual(StoreDual),
+    /// LDM, LDMDB and POP.
+    LoadMultiple(LoadMultiple),
+    /// STM, STMDB and PUSH.
+    StoreMultiple(StoreMultiple),
+    /// LDREX, LDREXB and LDREXH.
+    LoadExclusive(LoadExclusive),
+    /// STREX, STREXB and STREXH.
+    StoreExclusive(StoreExclusive),
+    /// CLREX.
+    ClearExclusive,
     /// B.
-    Branch(Branch),
-    /// BKPT.
+    Branch(Offset),
+    /// B with a condition.
+    ConditionalBranch(ConditionalBranch),
+    /// BL.
+    BranchWithLink(Offset),
+    /// BX and BLX.
+    BranchExchange(BranchExchange),
+    /// CBZ and CBNZ.
+    CompareAndBranch(CompareAndBranch),
+    /// TBB and TBH.
+    TableBranch(TableBranch),
+    /// IT.
+    IfThen(IfThen),
+    /// CPS.
+    ChangeProcessorState(ChangeProcessorState),
+    /// MSR.
+    MoveToSpecial(MoveToSpecial),
+    /// MRS.
+    MoveFromSpecial(MoveFromSpecial),
+    /// An instruction that changes nothing but the PC, or waits.
+    Hint(Hint),
+    /// SVC with this number.
+    SupervisorCall(u8),
+    /// BKPT with this number.
     Breakpoint(u8),
 }
 
-/// A register and the value that it is given.
+/// The hints. In this machine all but WFI do nothing (profile).
 #[derive(Clone, Copy)]
-pub struct MoveImmediate {
-    pub value: u32,
-    pub destination: Register,
-}
-
-/// The operands of a load or a store at a base register and an offset.
-#[derive(Clone, Copy)]
-pub struct ImmediateOffset {
-    /// In bytes: the row's field, scaled.
-    pub offset: u32,
-    /// The register that is loaded or stored.
-    pub target: Register,
-    pub base: Register,
-}
-
-/// The operand of a branch.
-#[derive(Clone, Copy)]
-pub struct Branch {
-    /// Added to the PC as an operand, modulo 2^32: a negative offset is its two's complement.
-    pub offset: u32,
+pub enum Hint {
+    NoOperation,
+    Yield,
+    WaitForEvent,
+    WaitForInterrupt,
+    SendEvent,
+    /// DBG.
+    Debug,
+    /// PLD and PLI, which make no access.
+    Preload,
+    /// DMB, DSB and ISB.
+    Barrier,
+    /// A place among the hints that the manual leaves free.
+    Unallocated,
 }
 
 /// What an instruction does beside its registers.

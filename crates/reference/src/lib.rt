@@ -9,6 +9,7 @@ pub mod exception;
 pub mod fault;
 pub mod instruction;
 pub mod mpu;
+pub mod operands;
 pub mod place;
 pub mod registers;
 pub mod script;

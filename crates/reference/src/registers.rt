@@ -23,6 +23,9 @@ impl Model for Register {
 }
 
 impl Register {
+    /// The stack pointer.
+    pub const SP: Register = Register { number: 13 };
+
     /// The program counter.
     pub const PC: Register = Register { number: 15 };
 
@@ -40,6 +43,38 @@ impl Register {
         ensures small { result < 16 }
     {
         self.number
+    }
+}
+
+/// A set of core registers, as a bit for each: `registers<15:0>`.
+#[derive(Clone, Copy)]
+pub struct RegisterList {
+    bits: u16,
+}
+
+impl Model for RegisterList {
+    ghost use Rattle.std.specs.Prelude.{ℕ};
+
+    ghost Value = { ℕ };
+
+    ghost view = { λ l. l.bits };
+
+    ghost inverse = { λ n. record { bits = n } };
+}
+
+impl RegisterList {
+    /// The registers whose bits are set.
+    pub const fn new(bits: u16) -> Self
+        ensures { result ≡ bits }
+    {
+        RegisterList { bits }
+    }
+
+    /// The bit of each register.
+    pub const fn bits(self) -> u16
+        ensures { result ≡ self }
+    {
+        self.bits
     }
 }
 
