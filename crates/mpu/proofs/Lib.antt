@@ -2,3 +2,4 @@ pub mod Belonging
 pub mod Cases
 pub mod Owner
 mod Sound
+pub mod Writes

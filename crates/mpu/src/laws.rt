@@ -1,10 +1,18 @@
 //! What holds of owners and decisions, whatever the registers hold: each is the theorem of a
 //! function that does nothing.
 
-ghost use Rattle.std.specs.Prelude.{◌≡◌, ◌↔◌, ℕ, Option};
-ghost use Rattle.reference.specs.Regions.{Mpu, IsOwner, owner};
+ghost use Rattle.std.specs.Prelude.{◌≡◌, ◌↔◌, ◌⊎◌, ℕ, Option};
+ghost use Rattle.reference.specs.Regions.{Mpu, IsSound, IsOwner, owner, fresh, write, left};
 ghost use Rattle.reference.specs.Rules.{Asked, IsFirstFit, decision_of};
 ghost use Rattle.reference.specs.declared.access.Decision.{Decision};
+ghost use Rattle.reference.specs.declared.mpu.MpuRegister.{MpuRegister};
+
+/// The registers are sound after a reset, and stay so after each write, whether it's taken or not.
+#[tactic(auto, using(crate::proofs::Writes::sound_at_reset, crate::proofs::Writes::sound_after_write))]
+pub fn registers_stay_sound()
+    ensures reset { (count : ℕ) → (count ≡ 8) ⊎ (count ≡ 16) → IsSound (fresh count) }
+    ensures writes { (m : Mpu) (register : MpuRegister) (value : ℕ) → IsSound m → IsSound (left m (write m register value)) }
+{}
 
 /// The owner of an address, and nothing else, is the highest region that the address lies in, and
 /// none where it lies in none.

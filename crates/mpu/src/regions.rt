@@ -1,6 +1,6 @@
 //! What the registers of one region say.
 
-ghost use Rattle.std.specs.Prelude.{◌≡◌, ◌+◌, ◌<◌, ◌≤◌, ◌/◌, ◌^◌, ◌%◌};
+ghost use Rattle.std.specs.Prelude.{◌≡◌, ◌<◌};
 ghost use Rattle.reference.specs.Regions.{is_enabled, size, switched_off, permission, is_taken, agrees, is_switched_off, matches};
 ghost use Rattle.reference.specs.Words.{is_bit};
 

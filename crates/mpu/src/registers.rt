@@ -1,7 +1,7 @@
 //! The registers, their reads and their writes.
 
-ghost use Rattle.std.specs.Prelude.{◌≡◌, ◌+◌, ◌*◌, ◌/◌, ◌%◌, ◌<◌, ◌⊎◌, true, IfSome};
-ghost use Rattle.reference.specs.Regions.{fresh, read, write, left, answered, shown, region as region_of, with_base, with_attributes, selected, write_control, write_number, write_base, based, write_attributes, kept, is_taken, matches, owner, owner_below, register_at, stop_of};
+ghost use Rattle.std.specs.Prelude.{◌≡◌, ◌+◌, ◌%◌, ◌<◌, ◌⊎◌, true, IfSome};
+ghost use Rattle.reference.specs.Regions.{fresh, read, write, left, answered, shown, region as region_of, with_base, with_attributes, selected, write_control, write_base, based, write_attributes, is_taken, owner, register_at, stop_of};
 
 use crate::regions::{is_bit, is_taken, matches};
 use reference::mpu::{MpuRegister, MpuStop, Region};

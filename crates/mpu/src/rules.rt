@@ -1,11 +1,11 @@
 //! The rules: what decides before the regions are asked, what a region grants, and what is behind
 //! the regions.
 
-ghost use Rattle.std.specs.Prelude.{◌≡◌, Some, None, not, ◌&&◌, Bool};
+ghost use Rattle.std.specs.Prelude.{◌≡◌};
 ghost use Rattle.reference.specs.declared.access.Rule.TheVariants.{Region};
 ghost use Rattle.reference.specs.Decisions.{default_map, is_executable};
-ghost use Rattle.reference.specs.Regions.{Mpu, permission, never_executes, region};
-ghost use Rattle.reference.specs.Rules.{is_in_ppb, is_fetch, is_vector, is_off_below_zero, before_regions, may_read, may_write, granted_by, grants, is_background, behind_regions};
+ghost use Rattle.reference.specs.Regions.{permission, never_executes};
+ghost use Rattle.reference.specs.Rules.{is_in_ppb, is_fetch, is_vector, is_off_below_zero, before_regions, may_read, may_write, granted_by, behind_regions};
 
 use crate::regions::{is_bit, permission};
 use crate::registers::{ENABLE, HFNMIENA, PRIVDEFENA};
