@@ -435,78 +435,95 @@ fn told_control(instruction: Instruction) -> Option<Told> {
     })
 }
 
-/// An instruction as the tables tell it: its variant, its length, its place in an IT block, and its
-/// operands.
-fn told(hw1: u16, hw2: u16) -> Option<[u32; 10]> {
-    let Decoded::Instr(coded) = decode(hw1, hw2) else {
-        return None;
+/// The operands of an instruction behind the number of its variant.
+fn told_operands(instruction: Instruction) -> Option<Told> {
+    if let Some(told) = told_data(instruction) {
+        return Some(told);
+    }
+    if let Some(told) = told_fields(instruction) {
+        return Some(told);
+    }
+    if let Some(told) = told_single(instruction) {
+        return Some(told);
+    }
+    if let Some(told) = told_several(instruction) {
+        return Some(told);
+    }
+    told_control(instruction)
+}
+
+/// The numbers of a line; what stands behind them is the assembler's text.
+fn numbers(line: &str) -> [u32; 12] {
+    let mut all = [0; 12];
+    for (at, word) in line.split(' ').enumerate() {
+        if at < 12 {
+            all[at] = u32::from_str_radix(word, 16).unwrap_or(0);
+        }
+    }
+    all
+}
+
+/// What the halfwords at the head of a line mean.
+fn decoded(line: &str) -> Decoded {
+    let all = numbers(line);
+    decode((all[0] & 0xFFFF) as u16, (all[1] & 0xFFFF) as u16)
+}
+
+/// Whether a line says what its halfwords mean.
+fn is_told(line: &str) -> bool {
+    let Decoded::Instr(coded) = decoded(line) else {
+        return false;
     };
-    let i = coded.instruction;
-    let [variant, a, b, c, d, e, f, g] = told_data(i)
-        .or(told_fields(i))
-        .or(told_single(i))
-        .or(told_several(i))
-        .or(told_control(i))?;
-    let (length, place) = (coded.length as u32, coded.place as u32);
-    Some([variant, length, place, a, b, c, d, e, f, g])
+    let Some(told) = told_operands(coded.instruction) else {
+        return false;
+    };
+    let want = numbers(line);
+    want[2] == told[0]
+        && want[3] == coded.length as u32
+        && want[4] == coded.place as u32
+        && want[5..12] == told[1..8]
+}
+
+/// Whether the halfwords of a line stop for its cause, at its place in an IT block.
+fn is_stopped(line: &str) -> bool {
+    let want = numbers(line);
+    match decoded(line) {
+        Decoded::Unpredictable(place, cause) => {
+            want[2] == place as u32 && want[3] == cause as u32
+        }
+        _ => false,
+    }
 }
 
 #[test]
 fn instructions(rt: HostRuntime) {
-    for (hw1, hw2, want) in SHORT {
-        assert_eq!(rt; told(hw1, hw2), Some(want), "{hw1} of 16 bits");
-        assert_eq!(rt;
-            told(hw1, 0xFFFF),
-            Some(want),
-            "the second halfword doesn't count: {hw1}"
-        );
-    }
-    for (hw1, hw2, want) in LONG_DATA {
-        assert_eq!(rt; told(hw1, hw2), Some(want), "data processing: {hw1} {hw2}");
-    }
-    for (hw1, hw2, want) in LONG_CONTROL {
-        assert_eq!(rt;
-            told(hw1, hw2),
-            Some(want),
-            "branches, control, several: {hw1} {hw2}"
-        );
-    }
-    for (hw1, hw2, want) in LONG_OTHERS {
-        assert_eq!(rt; told(hw1, hw2), Some(want), "of 32 bits: {hw1} {hw2}");
-    }
-}
-
-/// The place and the cause of what stops by name.
-fn stopped(hw1: u16, hw2: u16) -> Option<(u32, u32)> {
-    match decode(hw1, hw2) {
-        Decoded::Unpredictable(place, cause) => Some((place as u32, cause as u32)),
-        _ => None,
+    for table in [SHORT, LONG_DATA, LONG_CONTROL, LONG_OTHERS] {
+        for line in table.lines() {
+            assert!(rt; is_told(line), "should be that: {line}");
+        }
     }
 }
 
 #[test]
 fn named_stops(rt: HostRuntime) {
-    for (hw1, hw2, place, cause) in STOPS {
-        assert_eq!(rt;
-            stopped(hw1, hw2),
-            Some((place, cause)),
-            "should stop: {hw1} {hw2}"
-        );
+    for line in STOPS.lines() {
+        assert!(rt; is_stopped(line), "should stop: {line}");
     }
-    for (hw1, hw2) in NEIGHBOURS {
-        assert!(rt; told(hw1, hw2).is_some(), "should not stop: {hw1} {hw2}");
+    for line in NEIGHBOURS.lines() {
+        let is_free = matches!(decoded(line), Decoded::Instr(_));
+        assert!(rt; is_free, "should not stop: {line}");
     }
 }
 
 #[test]
 fn what_is_no_instruction(rt: HostRuntime) {
-    for (hw1, hw2) in UNDEFINED {
-        let is_undefined = matches!(decode(hw1, hw2), Decoded::Undefined);
-        assert!(rt; is_undefined, "should be undefined: {hw1} {hw2}");
+    for line in UNDEFINED.lines() {
+        let is_undefined = matches!(decoded(line), Decoded::Undefined);
+        assert!(rt; is_undefined, "should be undefined: {line}");
     }
-    for (hw1, hw2) in COPROCESSORS {
-        let is_other = matches!(decode(hw1, hw2), Decoded::NoCoprocessor);
-        assert!(rt; is_other, "should be a coprocessor's: {hw1} {hw2}");
+    for line in COPROCESSORS.lines() {
+        let is_other = matches!(decoded(line), Decoded::NoCoprocessor);
+        assert!(rt; is_other, "should be a coprocessor's: {line}");
     }
 }
 
