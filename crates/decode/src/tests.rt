@@ -50,7 +50,7 @@ fn register_address(operand: RegisterAddress) -> [u32; 3] {
 }
 
 /// The data-processing instructions.
-fn told_data(instruction: Instruction) -> Option<Told> {
+fn told_data(instruction: &Instruction) -> Option<Told> {
     Some(match instruction {
         Instruction::DataImmediate(o) => [
             0,
@@ -138,7 +138,7 @@ fn told_data(instruction: Instruction) -> Option<Told> {
 }
 
 /// Products, quotients, bit fields and single registers.
-fn told_fields(instruction: Instruction) -> Option<Told> {
+fn told_fields(instruction: &Instruction) -> Option<Told> {
     Some(match instruction {
         Instruction::Multiply(o) => [
             9,
@@ -248,7 +248,7 @@ fn told_fields(instruction: Instruction) -> Option<Told> {
 }
 
 /// Loads and stores of one register.
-fn told_single(instruction: Instruction) -> Option<Told> {
+fn told_single(instruction: &Instruction) -> Option<Told> {
     Some(match instruction {
         Instruction::LoadImmediate(o) => {
             let ([size, signed], [n, offset, indexing]) = (
@@ -296,7 +296,7 @@ fn told_single(instruction: Instruction) -> Option<Told> {
 }
 
 /// Loads and stores of several registers, and exclusive ones.
-fn told_several(instruction: Instruction) -> Option<Told> {
+fn told_several(instruction: &Instruction) -> Option<Told> {
     Some(match instruction {
         Instruction::LoadDual(o) => {
             let [n, offset, indexing] = immediate_address(o.address);
@@ -380,7 +380,7 @@ fn told_several(instruction: Instruction) -> Option<Told> {
 }
 
 /// Branches and control.
-fn told_control(instruction: Instruction) -> Option<Told> {
+fn told_control(instruction: &Instruction) -> Option<Told> {
     Some(match instruction {
         Instruction::Branch(o) => [32, o.offset, 0, 0, 0, 0, 0, 0],
         Instruction::ConditionalBranch(o) => [33, o.condition as u32, o.offset, 0, 0, 0, 0, 0],
@@ -428,15 +428,15 @@ fn told_control(instruction: Instruction) -> Option<Told> {
             0,
             0,
         ],
-        Instruction::Hint(hint) => [42, hint as u32, 0, 0, 0, 0, 0, 0],
-        Instruction::SupervisorCall(number) => [43, number as u32, 0, 0, 0, 0, 0, 0],
-        Instruction::Breakpoint(number) => [44, number as u32, 0, 0, 0, 0, 0, 0],
+        Instruction::Hint(hint) => [42, *hint as u32, 0, 0, 0, 0, 0, 0],
+        Instruction::SupervisorCall(number) => [43, *number as u32, 0, 0, 0, 0, 0, 0],
+        Instruction::Breakpoint(number) => [44, *number as u32, 0, 0, 0, 0, 0, 0],
         _ => return None,
     })
 }
 
 /// The operands of an instruction behind the number of its variant.
-fn told_operands(instruction: Instruction) -> Option<Told> {
+fn told_operands(instruction: &Instruction) -> Option<Told> {
     if let Some(told) = told_data(instruction) {
         return Some(told);
     }
@@ -474,7 +474,7 @@ fn is_told(line: &str) -> bool {
     let Decoded::Instr(coded) = decoded(line) else {
         return false;
     };
-    let Some(told) = told_operands(coded.instruction) else {
+    let Some(told) = told_operands(&coded.instruction) else {
         return false;
     };
     let want = numbers(line);
