@@ -4,7 +4,7 @@ use Rattle.reference.specs.declared.instruction.Decoded.{Decoded}
 use Rattle.reference.specs.declared.instruction.Decoded.TheVariants.{Undefined}
 use Rattle.reference.specs.Rows.{Row}
 use Rattle.reference.specs.Decoding.{short_meaning, short_special, short_general}
-use Rattle.decode.proofs.Tests.{Test, Passes, Fails, text_of, texts_of, are_proper}
+use Rattle.decode.proofs.Known.{Test, Passes, Fails, text_of, texts_of, are_proper}
 use Rattle.decode.proofs.Verdicts.{resolve, given_by, row_means, none_means}
 
 -- all rows of 16 bits

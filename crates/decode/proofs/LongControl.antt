@@ -5,7 +5,7 @@ use Rattle.reference.specs.declared.access.Size.TheVariants.{Byte, Halfword, Wor
 use Rattle.reference.specs.declared.instruction.BlockPlace.{BlockPlace}
 use Rattle.reference.specs.declared.instruction.BlockPlace.TheVariants as place
 use Rattle.reference.specs.declared.instruction.Decoded.{Decoded}
-use Rattle.reference.specs.declared.instruction.Decoded.TheVariants.{Undefined, Unpredictable, NoCoprocessor, Unbuilt}
+use Rattle.reference.specs.declared.instruction.Decoded.TheVariants.{Undefined, Unpredictable, NoCoprocessor}
 use Rattle.reference.specs.declared.instruction.Hint.{Hint as HintWord}
 use Rattle.reference.specs.declared.instruction.Hint.TheVariants as hint
 use Rattle.reference.specs.declared.instruction.Instruction.TheVariants.{DataImmediate, DataRegister, MoveImmediate, MoveRegister, MoveTop, CompareImmediate, CompareRegister, ShiftByRegister, Address, Multiply, MultiplyAccumulate, MultiplyLong, Divide, Saturate, ExtractField, InsertField, ClearField, Extend, Rearrange, LoadImmediate, LoadRegister, LoadLiteral, StoreImmediate, StoreRegister, LoadDual, LoadDualLiteral, StoreDual, LoadMultiple, StoreMultiple, LoadExclusive, StoreExclusive, ClearExclusive, Branch, BranchWithLink, ConditionalBranch, TableBranch, MoveToSpecial, MoveFromSpecial, Hint}
@@ -43,7 +43,7 @@ use Rattle.reference.specs.Words.{is_bit, sign_extended, negated}
 use Rattle.reference.specs.Words.{bits}
 use Rattle.reference.specs.Decoding.{long_meaning}
 use Rattle.reference.specs.LongControl.{wide_offset, conditional_offset, branch_with_link, branch_wide, branch_wide_if, special_of, to_special, move_to_special, from_special, move_from_special, long_hint_of, msr_t1, mrs_t1, nop_t2, clrex_t1, dsb_t1, dmb_t1, isb_t1, bl_t1, b_t4, unallocated_control, b_t3}
-use Rattle.decode.proofs.Tests.{test, bits_small, both_pass, not_both}
+use Rattle.decode.proofs.Known.{test, bits_small, both_pass, not_both}
 use Rattle.decode.proofs.Pairs.{long_row, long_none}
 
 pub msr_t1_means : (x : ℕ)

@@ -5,7 +5,7 @@ use Rattle.reference.specs.declared.access.Size.TheVariants.{Byte, Halfword, Wor
 use Rattle.reference.specs.declared.instruction.BlockPlace.{BlockPlace}
 use Rattle.reference.specs.declared.instruction.BlockPlace.TheVariants as place
 use Rattle.reference.specs.declared.instruction.Decoded.{Decoded}
-use Rattle.reference.specs.declared.instruction.Decoded.TheVariants.{Undefined, Unpredictable, NoCoprocessor, Unbuilt}
+use Rattle.reference.specs.declared.instruction.Decoded.TheVariants.{Undefined, Unpredictable, NoCoprocessor}
 use Rattle.reference.specs.declared.instruction.Hint.{Hint as HintWord}
 use Rattle.reference.specs.declared.instruction.Hint.TheVariants as hint
 use Rattle.reference.specs.declared.instruction.Instruction.TheVariants.{DataImmediate, DataRegister, MoveImmediate, MoveRegister, MoveTop, CompareImmediate, CompareRegister, ShiftByRegister, Address, Multiply, MultiplyAccumulate, MultiplyLong, Divide, Saturate, ExtractField, InsertField, ClearField, Extend, Rearrange, LoadImmediate, LoadRegister, LoadLiteral, StoreImmediate, StoreRegister, LoadDual, LoadDualLiteral, StoreDual, LoadMultiple, StoreMultiple, LoadExclusive, StoreExclusive, ClearExclusive, Branch, BranchWithLink, ConditionalBranch, TableBranch, MoveToSpecial, MoveFromSpecial, Hint}
@@ -44,7 +44,7 @@ use Rattle.reference.specs.LongSeveral.{byte_or_halfword, signed_offset, indexin
 use Rattle.reference.specs.Words.{bits}
 use Rattle.reference.specs.Decoding.{long_meaning}
 use Rattle.reference.specs.LongMemory.{size_of, is_word, narrow_form, word_form, place_of_load, is_refused_load, is_refused_store, load_literal, load_at, load_unprivileged, load_indexed, store_at, store_unprivileged, store_indexed, memory_hint, memory_hint_indexed, size_none, store_pc_none, hint_literal, ldr_narrow_literal, ldr_literal_t2, hint_immediate_up, hint_register, hint_immediate_down, strt, ldrt_narrow, ldrt_t1, str_immediate_up, str_register_wide, str_immediate_pre, str_immediate_post, ldr_narrow_immediate_up, ldr_narrow_register, ldr_narrow_immediate_pre, ldr_narrow_immediate_post, ldr_wide_immediate_up, ldr_wide_register, ldr_wide_immediate_pre, ldr_wide_immediate_post}
-use Rattle.decode.proofs.Tests.{test, bits_small, both_pass, not_both}
+use Rattle.decode.proofs.Known.{test, bits_small, both_pass, not_both}
 use Rattle.decode.proofs.Pairs.{long_row, long_none}
 
 pub size_none_means_store : (x : ℕ)

@@ -5,7 +5,7 @@ use Rattle.reference.specs.declared.access.Size.TheVariants.{Byte, Halfword, Wor
 use Rattle.reference.specs.declared.instruction.BlockPlace.{BlockPlace}
 use Rattle.reference.specs.declared.instruction.BlockPlace.TheVariants as place
 use Rattle.reference.specs.declared.instruction.Decoded.{Decoded}
-use Rattle.reference.specs.declared.instruction.Decoded.TheVariants.{Undefined, Unpredictable, NoCoprocessor, Unbuilt}
+use Rattle.reference.specs.declared.instruction.Decoded.TheVariants.{Undefined, Unpredictable, NoCoprocessor}
 use Rattle.reference.specs.declared.instruction.Hint.{Hint as HintWord}
 use Rattle.reference.specs.declared.instruction.Hint.TheVariants as hint
 use Rattle.reference.specs.declared.instruction.Instruction.TheVariants.{DataImmediate, DataRegister, MoveImmediate, MoveRegister, MoveTop, CompareImmediate, CompareRegister, ShiftByRegister, Address, Multiply, MultiplyAccumulate, MultiplyLong, Divide, Saturate, ExtractField, InsertField, ClearField, Extend, Rearrange, LoadImmediate, LoadRegister, LoadLiteral, StoreImmediate, StoreRegister, LoadDual, LoadDualLiteral, StoreDual, LoadMultiple, StoreMultiple, LoadExclusive, StoreExclusive, ClearExclusive, Branch, BranchWithLink, ConditionalBranch, TableBranch, MoveToSpecial, MoveFromSpecial, Hint}
@@ -44,7 +44,7 @@ use Rattle.reference.specs.LongData.{flags_if}
 use Rattle.reference.specs.Words.{bits}
 use Rattle.reference.specs.Decoding.{long_meaning}
 use Rattle.reference.specs.LongRegister.{shift_type_of, shift_by_register, extended_size, extend_turned, rearrange_wide, multiply_wide, multiply_accumulate, multiply_long, divide, shift_register_t2, extend_t2, rev_t2, rev16_t2, rbit_t1, revsh_t2, clz_t1, mul_t2, mla_t1, mls_t1, mull_t1, div_t1, coprocessor}
-use Rattle.decode.proofs.Tests.{test, bits_small, both_pass, not_both}
+use Rattle.decode.proofs.Known.{test, bits_small, both_pass, not_both}
 use Rattle.decode.proofs.Pairs.{long_row, long_none}
 
 pub shift_register_t2_means : (x : ℕ)

@@ -5,7 +5,7 @@ use Rattle.reference.specs.declared.access.Size.TheVariants.{Byte, Halfword, Wor
 use Rattle.reference.specs.declared.instruction.BlockPlace.{BlockPlace}
 use Rattle.reference.specs.declared.instruction.BlockPlace.TheVariants as place
 use Rattle.reference.specs.declared.instruction.Decoded.{Decoded}
-use Rattle.reference.specs.declared.instruction.Decoded.TheVariants.{Undefined, Unpredictable, NoCoprocessor, Unbuilt}
+use Rattle.reference.specs.declared.instruction.Decoded.TheVariants.{Undefined, Unpredictable, NoCoprocessor}
 use Rattle.reference.specs.declared.instruction.Hint.{Hint as HintWord}
 use Rattle.reference.specs.declared.instruction.Hint.TheVariants as hint
 use Rattle.reference.specs.declared.instruction.Instruction.TheVariants.{DataImmediate, DataRegister, MoveImmediate, MoveRegister, MoveTop, CompareImmediate, CompareRegister, ShiftByRegister, Address, Multiply, MultiplyAccumulate, MultiplyLong, Divide, Saturate, ExtractField, InsertField, ClearField, Extend, Rearrange, LoadImmediate, LoadRegister, LoadLiteral, StoreImmediate, StoreRegister, LoadDual, LoadDualLiteral, StoreDual, LoadMultiple, StoreMultiple, LoadExclusive, StoreExclusive, ClearExclusive, Branch, BranchWithLink, ConditionalBranch, TableBranch, MoveToSpecial, MoveFromSpecial, Hint}
@@ -44,7 +44,7 @@ use Rattle.std.specs.Int.RustNames.{count_ones}
 use Rattle.reference.specs.Words.{bits}
 use Rattle.reference.specs.Decoding.{long_meaning}
 use Rattle.reference.specs.LongSeveral.{has_few, store_list, load_list_at, load_list, byte_or_halfword, store_exclusive, load_exclusive, table_branch, signed_offset, indexing_of, writes_back, is_refused_pair, load_dual, load_dual_literal, store_dual, stm_t2, ldm_t2, stmdb_t1, ldmdb_t1, strex_t1, ldrex_t1, strexb_t1, tbb_t1, ldrexb_t1, ldrd_literal_t1_pre, ldrd_literal_t1_post, ldrd_immediate_t1_pre, ldrd_immediate_t1_post, strd_immediate_t1_pre, strd_immediate_t1_post}
-use Rattle.decode.proofs.Tests.{test, bits_small, both_pass, not_both}
+use Rattle.decode.proofs.Known.{test, bits_small, both_pass, not_both}
 use Rattle.decode.proofs.Pairs.{long_row, long_none}
 
 pub stm_t2_means : (x : ℕ)

@@ -4,7 +4,7 @@ use Rattle.reference.specs.declared.instruction.Decoded.{Decoded}
 use Rattle.reference.specs.declared.instruction.Decoded.TheVariants.{Undefined}
 use Rattle.reference.specs.Rows.{Row}
 use Rattle.reference.specs.Decoding.{long_meaning, long_rows}
-use Rattle.decode.proofs.Tests.{Test, Passes, Fails, text_of, texts_of, are_proper}
+use Rattle.decode.proofs.Known.{Test, Passes, Fails, text_of, texts_of, are_proper}
 use Rattle.decode.proofs.Verdicts.{resolve, given_by, row_means, none_means}
 
 pub long_row : (row : Row) (known : List Test) (denied : List (List Test)) (x : ℕ)

@@ -30,7 +30,7 @@ use Rattle.reference.specs.Words.{is_bit, sign_extended}
 use Rattle.reference.specs.Words.{bits}
 use Rattle.reference.specs.Decoding.{short_meaning}
 use Rattle.reference.specs.ShortControl.{branch_exchange, branch_link_exchange, compare_and_branch, change_state, breakpoint, hint_of, is_one_bit, if_then, branch_if, branch_short, bx_t1, blx_register_t1, cbz_t1, cps_t1, bkpt_t1, nop_t1, it_t1, udf_t1, svc_t1, b_t1, b_t2}
-use Rattle.decode.proofs.Tests.{test, bits_small}
+use Rattle.decode.proofs.Known.{test, bits_small}
 use Rattle.decode.proofs.Halfwords.{short_row, short_none}
 
 pub bx_t1_means : (x : ℕ)

@@ -30,7 +30,7 @@ use Rattle.reference.specs.Words.{is_bit, sign_extended}
 use Rattle.reference.specs.Words.{bits}
 use Rattle.reference.specs.Decoding.{short_meaning}
 use Rattle.reference.specs.ShortData.{unshifted, number, move_low, shift_number, shift_register, data_registers, data_number, move_number, move_not, compare_number, compare_registers, multiply, add_high, compare_high, move_high, address, sp_number, extend, rearrange, mov_register_t2, lsl_immediate_t1, lsr_immediate_t1, asr_immediate_t1, add_register_t1, sub_register_t1, add_immediate_t1, sub_immediate_t1, mov_immediate_t1, cmp_immediate_t1, add_immediate_t2, sub_immediate_t2, and_register_t1, eor_register_t1, lsl_register_t1, lsr_register_t1, asr_register_t1, adc_register_t1, sbc_register_t1, ror_register_t1, tst_register_t1, rsb_immediate_t1, cmp_register_t1, cmn_register_t1, orr_register_t1, mul_t1, bic_register_t1, mvn_register_t1, add_register_t2, cmp_register_t2, mov_register_t1, adr_t1, add_sp_immediate_t1, add_sp_immediate_t2, sub_sp_immediate_t1, sxth_t1, sxtb_t1, uxth_t1, uxtb_t1, rev_t1, rev16_t1, revsh_t1}
-use Rattle.decode.proofs.Tests.{test, bits_small}
+use Rattle.decode.proofs.Known.{test, bits_small}
 use Rattle.decode.proofs.Halfwords.{short_row, short_none}
 
 pub mov_register_t2_means : (x : ℕ)

@@ -30,7 +30,7 @@ use Rattle.reference.specs.Words.{is_bit, sign_extended}
 use Rattle.reference.specs.Words.{bits}
 use Rattle.reference.specs.Decoding.{short_meaning}
 use Rattle.reference.specs.ShortMemory.{load_literal_word, store_register, load_register, at_offset, store_number, load_number, push, pop, is_above_lowest, store_list, load_list, ldr_literal_t1, str_register_t1, strh_register_t1, strb_register_t1, ldrsb_register_t1, ldr_register_t1, ldrh_register_t1, ldrb_register_t1, ldrsh_register_t1, str_immediate_t1, ldr_immediate_t1, strb_immediate_t1, ldrb_immediate_t1, strh_immediate_t1, ldrh_immediate_t1, str_immediate_t2, ldr_immediate_t2, push_t1, pop_t1, stm_t1, ldm_t1}
-use Rattle.decode.proofs.Tests.{test, bits_small}
+use Rattle.decode.proofs.Known.{test, bits_small}
 use Rattle.decode.proofs.Halfwords.{short_row, short_none}
 
 pub ldr_literal_t1_means : (x : ℕ)

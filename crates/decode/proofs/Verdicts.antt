@@ -11,7 +11,7 @@ use Rattle.reference.specs.Rows.{Row, as_told, ones_of, by_row, by_found, meanin
 use Rattle.decode.specs.Laws.{HavePlaces, AreApart}
 use Rattle.decode.proofs.Texts.{are_apart, apart_fits, is_within, within_fits}
 use Rattle.decode.proofs.Runs.{value_at, field_is}
-use Rattle.decode.proofs.Tests.{Test, Passes, Fails, FitsNone, text_of, texts_of, are_proper, passes_fits, fails_fits_none}
+use Rattle.decode.proofs.Known.{Test, Passes, Fails, FitsNone, text_of, texts_of, are_proper, passes_fits, fails_fits_none}
 
 -- ---- one row
 

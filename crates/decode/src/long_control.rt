@@ -212,10 +212,7 @@ fn move_to_special(n: Register, mask: u32, number: u8) -> Decoded
 {
     let known = match special_of(number) {
         None => Decoded::Unpredictable(BlockPlace::Anywhere, UnpredictableCase::SpecialRegister),
-        Some(special) => long(Instruction::MoveToSpecial(MoveToSpecial {
-            special,
-            source: n,
-        })),
+        Some(special) => long(Instruction::MoveToSpecial(MoveToSpecial { special, source: n })),
     };
     let masked = unless(
         mask != 0b10,

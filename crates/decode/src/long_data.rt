@@ -102,10 +102,7 @@ fn takes_sp(operation: DataOperation) -> bool
 fn compares_sp(operation: Comparison) -> bool
     ensures { result ≡ compares_sp operation }
 {
-    matches!(
-        operation,
-        Comparison::Compare | Comparison::CompareNegative
-    )
+    matches!(operation, Comparison::Compare | Comparison::CompareNegative)
 }
 
 /// Whether a first operand is refused: PC always, and SP where it isn't taken.
@@ -262,8 +259,9 @@ fn data_shifted(
 {
     let sp = takes_sp(operation);
     let near = sp && is_lsl_below(second.shift, 4);
-    let refused =
-        is_bad(second.register) || is_refused_first(sp, n) || is_refused_destination(near, n, d);
+    let refused = is_bad(second.register)
+        || is_refused_first(sp, n)
+        || is_refused_destination(near, n, d);
     let instruction = Instruction::DataRegister(DataRegister {
         operation,
         flags: flags_if(s),
@@ -282,7 +280,12 @@ fn data_shifted(
 
 /// A comparison of two registers, the second shifted.
 #[tactic(auto, unfolding(reference::specs::LongData::compare_shifted))]
-fn compare_shifted(told: bool, operation: Comparison, n: Register, second: ShiftedRegister) -> Decoded
+fn compare_shifted(
+    told: bool,
+    operation: Comparison,
+    n: Register,
+    second: ShiftedRegister,
+) -> Decoded
     ensures { result ≡ told_of told true (compare_shifted operation n second) }
 {
     let refused = is_bad(second.register) || is_refused_first(compares_sp(operation), n);

@@ -148,11 +148,7 @@ fn long_multiplies(x: u32) -> Decoded
     if bits(x, 22, 1) != 0 {
         return Decoded::Undefined;
     }
-    as_told(
-        true,
-        bits(x, 12, 4) == 0b1111,
-        divide(signed, n, high, m),
-    )
+    as_told(true, bits(x, 12, 4) == 0b1111, divide(signed, n, high, m))
 }
 
 // ---- what the rows give

@@ -192,14 +192,7 @@ fn store_list(n: Register, write_back: bool, order: ListOrder, list: u16) -> Dec
 /// LDM and LDMDB: PC isn't a base, LR and PC aren't both loaded, and a base that is loaded isn't
 /// written back.
 #[tactic(auto, unfolding(reference::specs::LongSeveral::load_list))]
-fn load_list(
-    n: Register,
-    write_back: bool,
-    order: ListOrder,
-    pc: u16,
-    lr: u16,
-    low: u16,
-) -> Decoded
+fn load_list(n: Register, write_back: bool, order: ListOrder, pc: u16, lr: u16, low: u16) -> Decoded
     requires pc { pc < 2 }
     requires lr { lr < 2 }
     requires low { low < 2 ^ 13 }

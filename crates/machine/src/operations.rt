@@ -25,8 +25,7 @@ pub fn plan(instruction: &Instruction, regs: &Regs) -> Result<Option<Request>, S
                 operands.size,
                 operands.address.indexing,
                 operands.unprivileged,
-            ) =>
-        {
+            ) => {
             let value = regs.get(operands.target);
             let address = offset_address(regs, &operands.address);
             word_access(Kind::Store, regs, address, value)
@@ -36,8 +35,7 @@ pub fn plan(instruction: &Instruction, regs: &Regs) -> Result<Option<Request>, S
                 operands.form.size,
                 operands.address.indexing,
                 operands.unprivileged,
-            ) =>
-        {
+            ) => {
             let address = offset_address(regs, &operands.address);
             word_access(Kind::Load, regs, address, 0)
         }

@@ -1,46 +1,19 @@
 -- The rows of 32 bits that load and store several registers, or one exclusively, and that branch by a table (ARM DDI
 -- 0403, "32-bit Thumb instruction encoding": load multiple and store multiple; load/store dual or exclusive, table branch).
-use Rattle.std.specs.Prelude.{ℕ, ◌+◌, ◌-◌, ◌*◌, ◌/◌, ◌%◌, ◌^◌, nat_lt, Bool, true, false, not, ◌&&◌, ◌||◌, ◌==◌, if◌then◌else◌, List, [], ◌∷◌, Option, Some, None, codes}
+use Rattle.std.specs.Prelude.{ℕ, ◌+◌, ◌*◌, ◌^◌, nat_lt, Bool, true, false, ◌&&◌, ◌||◌, ◌==◌, if◌then◌else◌, List, [], ◌∷◌, codes}
 use Rattle.reference.specs.declared.access.Size.{Size}
 use Rattle.reference.specs.declared.access.Size.TheVariants.{Byte, Halfword, Word}
 use Rattle.reference.specs.declared.instruction.BlockPlace.{BlockPlace}
 use Rattle.reference.specs.declared.instruction.BlockPlace.TheVariants as place
 use Rattle.reference.specs.declared.instruction.Decoded.{Decoded}
-use Rattle.reference.specs.declared.instruction.Decoded.TheVariants.{Undefined, Unpredictable, NoCoprocessor, Unbuilt}
-use Rattle.reference.specs.declared.instruction.Hint.{Hint as HintWord}
-use Rattle.reference.specs.declared.instruction.Hint.TheVariants as hint
-use Rattle.reference.specs.declared.instruction.Instruction.TheVariants.{DataImmediate, DataRegister, MoveImmediate, MoveRegister, MoveTop, CompareImmediate, CompareRegister, ShiftByRegister, Address, Multiply, MultiplyAccumulate, MultiplyLong, Divide, Saturate, ExtractField, InsertField, ClearField, Extend, Rearrange, LoadImmediate, LoadRegister, LoadLiteral, StoreImmediate, StoreRegister, LoadDual, LoadDualLiteral, StoreDual, LoadMultiple, StoreMultiple, LoadExclusive, StoreExclusive, ClearExclusive, Branch, BranchWithLink, ConditionalBranch, TableBranch, MoveToSpecial, MoveFromSpecial, Hint}
-use Rattle.reference.specs.declared.operands.Accumulation.{Accumulation}
-use Rattle.reference.specs.declared.operands.Accumulation.TheVariants as sum
-use Rattle.reference.specs.declared.operands.Comparison.{Comparison}
-use Rattle.reference.specs.declared.operands.Comparison.TheVariants.{Test, TestEquivalence, Compare, CompareNegative}
-use Rattle.reference.specs.declared.operands.DataOperation.{DataOperation}
-use Rattle.reference.specs.declared.operands.DataOperation.TheVariants.{And, BitClear, Or, OrNot, ExclusiveOr, Add, AddWithCarry, SubtractWithCarry, Subtract, ReverseSubtract}
-use Rattle.reference.specs.declared.operands.FlagSetting.{FlagSetting}
-use Rattle.reference.specs.declared.operands.FlagSetting.TheVariants as flags
-use Rattle.reference.specs.declared.operands.Immediate.{Immediate}
-use Rattle.reference.specs.declared.operands.ImmediateAddress.{ImmediateAddress}
+use Rattle.reference.specs.declared.instruction.Instruction.TheVariants.{LoadDual, LoadDualLiteral, StoreDual, LoadMultiple, StoreMultiple, LoadExclusive, StoreExclusive, TableBranch}
 use Rattle.reference.specs.declared.operands.Indexing.{Indexing}
 use Rattle.reference.specs.declared.operands.Indexing.TheVariants.{Offset, PreIndexed, PostIndexed}
 use Rattle.reference.specs.declared.operands.ListOrder.{ListOrder}
 use Rattle.reference.specs.declared.operands.ListOrder.TheVariants.{IncrementAfter, DecrementBefore}
-use Rattle.reference.specs.declared.operands.LoadForm.{LoadForm}
-use Rattle.reference.specs.declared.operands.MoveOperation.{MoveOperation}
-use Rattle.reference.specs.declared.operands.MoveOperation.TheVariants.{Move, MoveNot}
-use Rattle.reference.specs.declared.operands.Rearrangement.{Rearrangement}
-use Rattle.reference.specs.declared.operands.Rearrangement.TheVariants.{ReverseWord, ReverseHalfwords, ReverseSignedHalfword, ReverseBits, CountLeadingZeros}
-use Rattle.reference.specs.declared.operands.ShiftedRegister.{ShiftedRegister}
-use Rattle.reference.specs.declared.operands.SpecialRegister.{SpecialRegister}
-use Rattle.reference.specs.declared.operands.SpecialRegister.TheVariants as special
-use Rattle.reference.specs.declared.shift.Shift.{Shift}
-use Rattle.reference.specs.declared.shift.ShiftType.{ShiftType}
-use Rattle.reference.specs.declared.shift.ShiftType.TheVariants.{Lsl, Lsr, Asr, Ror, Rrx}
 use Rattle.reference.specs.declared.stop.UnpredictableCase.TheVariants as cause
-use Rattle.reference.specs.Arithmetic.{decode_imm_shift, expand_imm}
 use Rattle.reference.specs.Rows.{big_h, big_m, big_p, big_u, big_w, d, i, l, m, n, t, u, Row, long, placed, last_only_if, unless, is_bad}
-use Rattle.reference.specs.ShortData.{number}
-use Rattle.reference.specs.ShortControl.{hint_of}
-use Rattle.reference.specs.Words.{is_bit, sign_extended, negated}
+use Rattle.reference.specs.Words.{is_bit, negated}
 use Rattle.std.specs.Int.RustNames.{count_ones}
 
 -- ---- what the rows give

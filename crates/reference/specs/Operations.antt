@@ -5,7 +5,7 @@ use Rattle.reference.specs.declared.access.Kind.{Kind}
 use Rattle.reference.specs.declared.access.Kind.TheVariants as kind
 use Rattle.reference.specs.declared.access.Request.{Request}
 use Rattle.reference.specs.declared.access.Size.{Size}
-use Rattle.reference.specs.declared.access.Size.TheVariants.{Byte, Halfword, Word}
+use Rattle.reference.specs.declared.access.Size.TheVariants.{Word}
 use Rattle.reference.specs.declared.instruction.Ending.{Ending}
 use Rattle.reference.specs.declared.instruction.Ending.TheVariants as ending
 use Rattle.reference.specs.declared.instruction.CodedInstruction.{CodedInstruction}

@@ -1,7 +1,7 @@
 -- A row of the instruction set is text, as the manual prints it: its places stand from the highest bit down. A place
 -- `0` or `1` is a bit that has to be so. A letter is a bit of the field of that name; where a letter stands in several
 -- runs, they are joined from the highest. Two letters say more: a bit at a place `z` should be 0, and one at a place `o`
--- should be 1. The row fits whatever stands there, and where something else does, the encoding is UNPREDICTABLE.
+-- should be 1. (A bit at a place `x` is in most rows of no field, and means nothing.) The row fits whatever stands there, and where something else does, the encoding is UNPREDICTABLE.
 use Rattle.std.specs.Prelude.{ℕ, ◌+◌, ◌*◌, Bool, true, ◌&&◌, ◌==◌, if◌then◌else◌, List, [], ◌∷◌, length}
 use Rattle.reference.specs.Words.{bit_at}
 

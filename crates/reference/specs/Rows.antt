@@ -1,10 +1,10 @@
 -- What a row of the instruction set is, and what a number means by a list of rows (ARM DDI 0403, "The Thumb
 -- instruction set encoding").
-use Rattle.std.specs.Prelude.{ℕ, ◌+◌, ◌-◌, ◌^◌, Bool, true, false, ◌||◌, ◌==◌, if◌then◌else◌, List, [], ◌∷◌, Option, Some, None, find, count_by}
+use Rattle.std.specs.Prelude.{ℕ, ◌-◌, ◌^◌, Bool, true, false, ◌||◌, ◌==◌, if◌then◌else◌, List, Option, Some, None, find, count_by}
 use Rattle.reference.specs.declared.instruction.BlockPlace.{BlockPlace}
-use Rattle.reference.specs.declared.instruction.BlockPlace.TheVariants.{Anywhere, LastOnly, Never}
+use Rattle.reference.specs.declared.instruction.BlockPlace.TheVariants.{Anywhere, LastOnly}
 use Rattle.reference.specs.declared.instruction.Decoded.{Decoded}
-use Rattle.reference.specs.declared.instruction.Decoded.TheVariants.{Instr, Undefined, Unpredictable}
+use Rattle.reference.specs.declared.instruction.Decoded.TheVariants.{Instr, Unpredictable}
 use Rattle.reference.specs.declared.instruction.Instruction.{Instruction}
 use Rattle.reference.specs.declared.stop.UnpredictableCase.{UnpredictableCase}
 use Rattle.reference.specs.declared.stop.UnpredictableCase.TheVariants.{Encoding}

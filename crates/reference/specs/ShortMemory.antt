@@ -1,32 +1,16 @@
 -- The rows of 16 bits that load and store (ARM DDI 0403, "16-bit Thumb instruction encoding").
-use Rattle.std.specs.Prelude.{ℕ, ◌+◌, ◌*◌, ◌/◌, ◌%◌, ◌^◌, nat_lt, Bool, true, false, not, ◌&&◌, ◌||◌, ◌==◌, if◌then◌else◌, List, [], ◌∷◌, Option, Some, None, codes}
+use Rattle.std.specs.Prelude.{ℕ, ◌+◌, ◌*◌, ◌%◌, ◌^◌, Bool, true, false, not, ◌&&◌, ◌==◌, List, [], ◌∷◌, codes}
 use Rattle.reference.specs.declared.access.Size.{Size}
 use Rattle.reference.specs.declared.access.Size.TheVariants.{Byte, Halfword, Word}
 use Rattle.reference.specs.declared.instruction.BlockPlace.TheVariants as place
 use Rattle.reference.specs.declared.instruction.Decoded.{Decoded}
-use Rattle.reference.specs.declared.instruction.Decoded.TheVariants.{Undefined, Unpredictable}
-use Rattle.reference.specs.declared.instruction.Hint.{Hint as HintWord}
-use Rattle.reference.specs.declared.instruction.Hint.TheVariants as hint
-use Rattle.reference.specs.declared.instruction.Instruction.TheVariants.{DataImmediate, DataRegister, MoveImmediate, MoveRegister, CompareImmediate, CompareRegister, ShiftByRegister, Address, Multiply, Extend, Rearrange, LoadImmediate, LoadRegister, LoadLiteral, StoreImmediate, StoreRegister, LoadMultiple, StoreMultiple, Branch, ConditionalBranch, BranchExchange, CompareAndBranch, IfThen, ChangeProcessorState, Hint, SupervisorCall, Breakpoint}
-use Rattle.reference.specs.declared.operands.Comparison.{Comparison}
-use Rattle.reference.specs.declared.operands.Comparison.TheVariants.{Test, Compare, CompareNegative}
-use Rattle.reference.specs.declared.operands.DataOperation.{DataOperation}
-use Rattle.reference.specs.declared.operands.DataOperation.TheVariants.{And, BitClear, Or, ExclusiveOr, Add, AddWithCarry, SubtractWithCarry, Subtract, ReverseSubtract}
-use Rattle.reference.specs.declared.operands.FlagSetting.TheVariants as flags
-use Rattle.reference.specs.declared.operands.Immediate.{Immediate}
+use Rattle.reference.specs.declared.instruction.Instruction.TheVariants.{LoadImmediate, LoadRegister, LoadLiteral, StoreImmediate, StoreRegister, LoadMultiple, StoreMultiple}
 use Rattle.reference.specs.declared.operands.ImmediateAddress.{ImmediateAddress}
 use Rattle.reference.specs.declared.operands.Indexing.TheVariants.{Offset}
 use Rattle.reference.specs.declared.operands.ListOrder.TheVariants.{IncrementAfter, DecrementBefore}
-use Rattle.reference.specs.declared.operands.MoveOperation.TheVariants.{Move, MoveNot}
-use Rattle.reference.specs.declared.operands.Rearrangement.{Rearrangement}
-use Rattle.reference.specs.declared.operands.Rearrangement.TheVariants.{ReverseWord, ReverseHalfwords, ReverseSignedHalfword}
-use Rattle.reference.specs.declared.operands.ShiftedRegister.{ShiftedRegister}
-use Rattle.reference.specs.declared.shift.ShiftType.{ShiftType}
-use Rattle.reference.specs.declared.shift.ShiftType.TheVariants.{Lsl, Lsr, Asr, Ror}
-use Rattle.reference.specs.declared.stop.UnpredictableCase.TheVariants.{Registers, EmptyList, StoredBase, ItBlock}
-use Rattle.reference.specs.Arithmetic.{decode_imm_shift}
+use Rattle.reference.specs.declared.stop.UnpredictableCase.TheVariants.{EmptyList, StoredBase}
 use Rattle.reference.specs.Rows.{big_m, big_p, i, l, m, n, t, Row, short, placed, last_only_if, unless}
-use Rattle.reference.specs.Words.{is_bit, sign_extended}
+use Rattle.reference.specs.Words.{is_bit}
 
 -- ---- what the rows give
 

@@ -24,8 +24,6 @@ pub enum Decoded {
     /// which is asked before any cause but `Encoding`, and the first cause of those that the row
     /// alone decides. Beside `Encoding` the first is of no matter.
     Unpredictable(BlockPlace, UnpredictableCase),
-    /// A row that a later version of this machine will know.
-    Unbuilt,
 }
 
 /// An instruction as a row gives it.

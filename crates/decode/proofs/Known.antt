@@ -205,8 +205,7 @@ asked_passes n text (t ∷ ts) x l a f =
     let (room, small) = and_parts (nat_le (t.low + t.width) n) (t.value % 2 ^ t.width == t.value) proper in
     let enough : t.low + t.width ≤ n = grind (arith, nat_tests) in
     let one : fits (text_of n (t ∷ [])) x ≡ true =
-    within_fits (text_of n (t ∷ [])) text x (length_of_text n (t ∷ []) ∙ sym l) within f in
-    (
+    within_fits (text_of n (t ∷ [])) text x (length_of_text n (t ∷ []) ∙ sym l) within f in (
       test_of_text n t x enough one ∙ eqb-true (t.value % 2 ^ t.width) t.value small,
       asked_passes n text ts x l rest f,
     )
@@ -217,10 +216,9 @@ pub fails_fits_none : (n : ℕ) (denied : List (List Test)) (x : ℕ)
     → FitsNone (texts_of n denied) x
 fails_fits_none n [] x p fails = tt
 fails_fits_none n (ts ∷ rest) x p fails =
-    let (here, others) = and_parts (ask n (text_of n ts) ts) (are_proper n rest) p in
-    (
+    let (here, others) = and_parts (ask n (text_of n ts) ts) (are_proper n rest) p in (
       false_from_ne_true (fits (text_of n ts) x)
-      (λ f. fails.0 (asked_passes n (text_of n ts) ts x (length_of_text n ts) here f)),
+          (λ f. fails.0 (asked_passes n (text_of n ts) ts x (length_of_text n ts) here f)),
       fails_fits_none n rest x others fails.1,
     )
 
