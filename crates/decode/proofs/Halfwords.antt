@@ -1,6 +1,5 @@
 -- What a halfword means by the tests that it passes and fails.
-use Rattle.std.proofs.Common.{◌≡◌, ℕ, true, List, [], ◌∷◌, ◌++◌, Option, Some, None}
-use Rattle.reference.specs.declared.instruction.Decoded.{Decoded}
+use Rattle.std.proofs.Common.{◌≡◌, ℕ, true, List, ◌++◌, Some, None}
 use Rattle.reference.specs.declared.instruction.Decoded.TheVariants.{Undefined}
 use Rattle.reference.specs.Rows.{Row}
 use Rattle.reference.specs.Decoding.{short_meaning, short_special, short_general}

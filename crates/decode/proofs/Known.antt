@@ -1,13 +1,13 @@
 -- What the code's tests tell of a number, as texts: the bits that it was found to have, and those that it was found not
 -- to have.
-use Rattle.std.proofs.Common.{◌≡◌, ◌≢◌, ℕ, zero, suc, ◌+◌, ◌-◌, ◌*◌, ◌/◌, ◌%◌, ◌^◌, ◌<◌, ◌≤◌, nat_le, nat_lt, Bool, true, false, ◌&&◌, ◌==◌, List, [], ◌∷◌, length, refl, sym, ap, ◌∙◌, arith, if◌then◌else◌}
+use Rattle.std.proofs.Common.{◌≡◌, ℕ, zero, suc, ◌+◌, ◌-◌, ◌*◌, ◌/◌, ◌%◌, ◌^◌, ◌<◌, ◌≤◌, nat_le, nat_lt, Bool, true, false, ◌&&◌, ◌==◌, List, [], ◌∷◌, length, refl, sym, ap, ◌∙◌, arith, if◌then◌else◌}
 use Rattle.std.proofs.Math.Nat.{mod-lt}
 use Rattle.std.proofs.Math.Pow.{mod-mod-pow}
 use Rattle.std.proofs.lemmas.Bool.{and_parts, and_from, eqb-true, false_from_ne_true}
 use Rattle.std.proofs.lemmas.Bool.Decides.{nat_tests}
 use Rattle.std.proofs.lemmas.Nat.{shr-shr, mod-pow-add, field_of, pow_pos}
 use Rattle.reference.specs.Words.{bit_at, bits}
-use Rattle.reference.specs.Patterns.{place_0, place_1, allows, fits}
+use Rattle.reference.specs.Patterns.{place_0, allows, fits}
 use Rattle.decode.proofs.Texts.{is_within, within_fits}
 
 -- a test: the bits from the lowest on, so many of them, and the value that they are asked to have

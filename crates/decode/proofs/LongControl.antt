@@ -1,49 +1,13 @@
 -- LongControl: what two halfwords mean by the tests that the code makes, one lemma for each row and way to it.
-use Rattle.std.proofs.Common.{◌≡◌, ◌≢◌, ℕ, ◌+◌, ◌*◌, ◌^◌, ◌<◌, ◌≤◌, Bool, true, false, ◌==◌, ◌&&◌, List, [], ◌∷◌, refl, arith}
-use Rattle.reference.specs.declared.access.Size.{Size}
-use Rattle.reference.specs.declared.access.Size.TheVariants.{Byte, Halfword, Word}
-use Rattle.reference.specs.declared.instruction.BlockPlace.{BlockPlace}
-use Rattle.reference.specs.declared.instruction.BlockPlace.TheVariants as place
-use Rattle.reference.specs.declared.instruction.Decoded.{Decoded}
-use Rattle.reference.specs.declared.instruction.Decoded.TheVariants.{Undefined, Unpredictable, NoCoprocessor}
-use Rattle.reference.specs.declared.instruction.Hint.{Hint as HintWord}
+use Rattle.std.proofs.Common.{◌≡◌, ◌≢◌, ℕ, ◌+◌, ◌*◌, true, ◌==◌, [], ◌∷◌, refl}
+use Rattle.reference.specs.declared.instruction.Decoded.TheVariants.{Undefined}
 use Rattle.reference.specs.declared.instruction.Hint.TheVariants as hint
-use Rattle.reference.specs.declared.instruction.Instruction.TheVariants.{DataImmediate, DataRegister, MoveImmediate, MoveRegister, MoveTop, CompareImmediate, CompareRegister, ShiftByRegister, Address, Multiply, MultiplyAccumulate, MultiplyLong, Divide, Saturate, ExtractField, InsertField, ClearField, Extend, Rearrange, LoadImmediate, LoadRegister, LoadLiteral, StoreImmediate, StoreRegister, LoadDual, LoadDualLiteral, StoreDual, LoadMultiple, StoreMultiple, LoadExclusive, StoreExclusive, ClearExclusive, Branch, BranchWithLink, ConditionalBranch, TableBranch, MoveToSpecial, MoveFromSpecial, Hint}
-use Rattle.reference.specs.declared.operands.Accumulation.{Accumulation}
-use Rattle.reference.specs.declared.operands.Accumulation.TheVariants as sum
-use Rattle.reference.specs.declared.operands.Comparison.{Comparison}
-use Rattle.reference.specs.declared.operands.Comparison.TheVariants.{Test, TestEquivalence, Compare, CompareNegative}
-use Rattle.reference.specs.declared.operands.DataOperation.{DataOperation}
-use Rattle.reference.specs.declared.operands.DataOperation.TheVariants.{And, BitClear, Or, OrNot, ExclusiveOr, Add, AddWithCarry, SubtractWithCarry, Subtract, ReverseSubtract}
-use Rattle.reference.specs.declared.operands.FlagSetting.{FlagSetting}
-use Rattle.reference.specs.declared.operands.FlagSetting.TheVariants as flags
-use Rattle.reference.specs.declared.operands.Immediate.{Immediate}
-use Rattle.reference.specs.declared.operands.ImmediateAddress.{ImmediateAddress}
-use Rattle.reference.specs.declared.operands.Indexing.{Indexing}
-use Rattle.reference.specs.declared.operands.Indexing.TheVariants.{Offset, PreIndexed, PostIndexed}
-use Rattle.reference.specs.declared.operands.ListOrder.{ListOrder}
-use Rattle.reference.specs.declared.operands.ListOrder.TheVariants.{IncrementAfter, DecrementBefore}
-use Rattle.reference.specs.declared.operands.LoadForm.{LoadForm}
-use Rattle.reference.specs.declared.operands.MoveOperation.{MoveOperation}
-use Rattle.reference.specs.declared.operands.MoveOperation.TheVariants.{Move, MoveNot}
-use Rattle.reference.specs.declared.operands.Rearrangement.{Rearrangement}
-use Rattle.reference.specs.declared.operands.Rearrangement.TheVariants.{ReverseWord, ReverseHalfwords, ReverseSignedHalfword, ReverseBits, CountLeadingZeros}
-use Rattle.reference.specs.declared.operands.ShiftedRegister.{ShiftedRegister}
-use Rattle.reference.specs.declared.operands.SpecialRegister.{SpecialRegister}
-use Rattle.reference.specs.declared.operands.SpecialRegister.TheVariants as special
-use Rattle.reference.specs.declared.shift.Shift.{Shift}
-use Rattle.reference.specs.declared.shift.ShiftType.{ShiftType}
-use Rattle.reference.specs.declared.shift.ShiftType.TheVariants.{Lsl, Lsr, Asr, Ror, Rrx}
-use Rattle.reference.specs.declared.stop.UnpredictableCase.TheVariants as cause
-use Rattle.reference.specs.Arithmetic.{decode_imm_shift, expand_imm}
-use Rattle.reference.specs.Rows.{Row, as_told, long, placed, last_only_if, unless, is_bad}
-use Rattle.reference.specs.ShortData.{number}
-use Rattle.reference.specs.ShortControl.{hint_of}
-use Rattle.reference.specs.Words.{is_bit, sign_extended, negated}
+use Rattle.reference.specs.declared.instruction.Instruction.TheVariants.{ClearExclusive, Hint}
+use Rattle.reference.specs.Rows.{as_told, long}
 use Rattle.reference.specs.Words.{bits}
 use Rattle.reference.specs.Decoding.{long_meaning}
-use Rattle.reference.specs.LongControl.{wide_offset, conditional_offset, branch_with_link, branch_wide, branch_wide_if, special_of, to_special, move_to_special, from_special, move_from_special, long_hint_of, msr_t1, mrs_t1, nop_t2, clrex_t1, dsb_t1, dmb_t1, isb_t1, bl_t1, b_t4, unallocated_control, b_t3}
-use Rattle.decode.proofs.Known.{test, bits_small, both_pass, not_both}
+use Rattle.reference.specs.LongControl.{wide_offset, conditional_offset, branch_with_link, branch_wide, branch_wide_if, move_to_special, move_from_special, long_hint_of, msr_t1, mrs_t1, nop_t2, clrex_t1, dsb_t1, dmb_t1, isb_t1, bl_t1, b_t4, unallocated_control, b_t3}
+use Rattle.decode.proofs.Known.{test}
 use Rattle.decode.proofs.Pairs.{long_row, long_none}
 
 pub msr_t1_means : (x : ℕ)

@@ -1,49 +1,15 @@
 -- LongData: what two halfwords mean by the tests that the code makes, one lemma for each row and way to it.
-use Rattle.std.proofs.Common.{◌≡◌, ◌≢◌, ℕ, ◌+◌, ◌*◌, ◌^◌, ◌<◌, ◌≤◌, Bool, true, false, ◌==◌, ◌&&◌, List, [], ◌∷◌, refl, arith}
-use Rattle.reference.specs.declared.access.Size.{Size}
-use Rattle.reference.specs.declared.access.Size.TheVariants.{Byte, Halfword, Word}
-use Rattle.reference.specs.declared.instruction.BlockPlace.{BlockPlace}
-use Rattle.reference.specs.declared.instruction.BlockPlace.TheVariants as place
-use Rattle.reference.specs.declared.instruction.Decoded.{Decoded}
-use Rattle.reference.specs.declared.instruction.Decoded.TheVariants.{Undefined, Unpredictable, NoCoprocessor}
-use Rattle.reference.specs.declared.instruction.Hint.{Hint as HintWord}
-use Rattle.reference.specs.declared.instruction.Hint.TheVariants as hint
-use Rattle.reference.specs.declared.instruction.Instruction.TheVariants.{DataImmediate, DataRegister, MoveImmediate, MoveRegister, MoveTop, CompareImmediate, CompareRegister, ShiftByRegister, Address, Multiply, MultiplyAccumulate, MultiplyLong, Divide, Saturate, ExtractField, InsertField, ClearField, Extend, Rearrange, LoadImmediate, LoadRegister, LoadLiteral, StoreImmediate, StoreRegister, LoadDual, LoadDualLiteral, StoreDual, LoadMultiple, StoreMultiple, LoadExclusive, StoreExclusive, ClearExclusive, Branch, BranchWithLink, ConditionalBranch, TableBranch, MoveToSpecial, MoveFromSpecial, Hint}
-use Rattle.reference.specs.declared.operands.Accumulation.{Accumulation}
-use Rattle.reference.specs.declared.operands.Accumulation.TheVariants as sum
-use Rattle.reference.specs.declared.operands.Comparison.{Comparison}
+use Rattle.std.proofs.Common.{◌≡◌, ◌≢◌, ℕ, ◌+◌, ◌*◌, true, false, ◌==◌, ◌&&◌, [], ◌∷◌, refl}
+use Rattle.reference.specs.declared.instruction.Decoded.TheVariants.{Undefined}
 use Rattle.reference.specs.declared.operands.Comparison.TheVariants.{Test, TestEquivalence, Compare, CompareNegative}
-use Rattle.reference.specs.declared.operands.DataOperation.{DataOperation}
 use Rattle.reference.specs.declared.operands.DataOperation.TheVariants.{And, BitClear, Or, OrNot, ExclusiveOr, Add, AddWithCarry, SubtractWithCarry, Subtract, ReverseSubtract}
-use Rattle.reference.specs.declared.operands.FlagSetting.{FlagSetting}
-use Rattle.reference.specs.declared.operands.FlagSetting.TheVariants as flags
-use Rattle.reference.specs.declared.operands.Immediate.{Immediate}
-use Rattle.reference.specs.declared.operands.ImmediateAddress.{ImmediateAddress}
-use Rattle.reference.specs.declared.operands.Indexing.{Indexing}
-use Rattle.reference.specs.declared.operands.Indexing.TheVariants.{Offset, PreIndexed, PostIndexed}
-use Rattle.reference.specs.declared.operands.ListOrder.{ListOrder}
-use Rattle.reference.specs.declared.operands.ListOrder.TheVariants.{IncrementAfter, DecrementBefore}
-use Rattle.reference.specs.declared.operands.LoadForm.{LoadForm}
-use Rattle.reference.specs.declared.operands.MoveOperation.{MoveOperation}
 use Rattle.reference.specs.declared.operands.MoveOperation.TheVariants.{Move, MoveNot}
-use Rattle.reference.specs.declared.operands.Rearrangement.{Rearrangement}
-use Rattle.reference.specs.declared.operands.Rearrangement.TheVariants.{ReverseWord, ReverseHalfwords, ReverseSignedHalfword, ReverseBits, CountLeadingZeros}
-use Rattle.reference.specs.declared.operands.ShiftedRegister.{ShiftedRegister}
-use Rattle.reference.specs.declared.operands.SpecialRegister.{SpecialRegister}
-use Rattle.reference.specs.declared.operands.SpecialRegister.TheVariants as special
-use Rattle.reference.specs.declared.shift.Shift.{Shift}
-use Rattle.reference.specs.declared.shift.ShiftType.{ShiftType}
-use Rattle.reference.specs.declared.shift.ShiftType.TheVariants.{Lsl, Lsr, Asr, Ror, Rrx}
-use Rattle.reference.specs.declared.stop.UnpredictableCase.TheVariants as cause
-use Rattle.reference.specs.Arithmetic.{decode_imm_shift, expand_imm}
-use Rattle.reference.specs.Rows.{Row, as_told, long, placed, last_only_if, unless, is_bad}
-use Rattle.reference.specs.ShortData.{number}
-use Rattle.reference.specs.ShortControl.{hint_of}
-use Rattle.reference.specs.Words.{is_bit, sign_extended, negated}
+use Rattle.reference.specs.Rows.{as_told}
+use Rattle.reference.specs.Words.{negated}
 use Rattle.reference.specs.Words.{bits}
 use Rattle.reference.specs.Decoding.{long_meaning}
-use Rattle.reference.specs.LongData.{takes_sp, compares_sp, is_refused_first, is_refused_destination, is_lsl, flags_if, operand_of, modified_immediate, data_given, data_immediate, compare_given, compare_immediate, move_given, move_immediate, shifted, is_lsl_below, data_shifted, compare_shifted, is_refused_move, move_shifted, move_not_shifted, add_wide, address_wide, halfword, move_wide, move_top, saturate, extract_field, insert_field, clear_field, tst_immediate_t1, and_immediate_t1, bic_immediate_t1, mov_immediate_t2, orr_immediate_t1, mvn_immediate_t1, orn_immediate_t1, teq_immediate_t1, eor_immediate_t1, cmn_immediate_t1, add_immediate_t3, adc_immediate_t1, sbc_immediate_t1, cmp_immediate_t2, sub_immediate_t3, rsb_immediate_t2, tst_register_t2, and_register_t2, bic_register_t2, mov_register_t3, orr_register_t2, mvn_register_t2, orn_register_t1, teq_register_t1, eor_register_t2, cmn_register_t2, add_register_t3, adc_register_t2, sbc_register_t2, cmp_register_t3, sub_register_t2, rsb_register_t1, adr_t3, addw, adr_t2, subw, movw, movt, ssat_none, ssat_asr, ssat_lsl, usat_none, usat_asr, usat_lsl, sbfx_t1, ubfx_t1, bfc_t1, bfi_t1}
-use Rattle.decode.proofs.Known.{test, bits_small, both_pass, not_both}
+use Rattle.reference.specs.LongData.{modified_immediate, data_immediate, compare_immediate, move_immediate, shifted, data_shifted, compare_shifted, move_shifted, move_not_shifted, add_wide, address_wide, halfword, move_wide, move_top, saturate, extract_field, insert_field, clear_field, tst_immediate_t1, and_immediate_t1, bic_immediate_t1, mov_immediate_t2, orr_immediate_t1, mvn_immediate_t1, orn_immediate_t1, teq_immediate_t1, eor_immediate_t1, cmn_immediate_t1, add_immediate_t3, adc_immediate_t1, sbc_immediate_t1, cmp_immediate_t2, sub_immediate_t3, rsb_immediate_t2, tst_register_t2, and_register_t2, bic_register_t2, mov_register_t3, orr_register_t2, mvn_register_t2, orn_register_t1, teq_register_t1, eor_register_t2, cmn_register_t2, add_register_t3, adc_register_t2, sbc_register_t2, cmp_register_t3, sub_register_t2, rsb_register_t1, adr_t3, addw, adr_t2, subw, movw, movt, ssat_none, ssat_asr, ssat_lsl, usat_none, usat_asr, usat_lsl, sbfx_t1, ubfx_t1, bfc_t1, bfi_t1}
+use Rattle.decode.proofs.Known.{test, both_pass, not_both}
 use Rattle.decode.proofs.Pairs.{long_row, long_none}
 
 pub tst_immediate_t1_means : (x : ℕ)

@@ -1,50 +1,12 @@
 -- LongMemory: what two halfwords mean by the tests that the code makes, one lemma for each row and way to it.
-use Rattle.std.proofs.Common.{◌≡◌, ◌≢◌, ℕ, ◌+◌, ◌*◌, ◌^◌, ◌<◌, ◌≤◌, Bool, true, false, ◌==◌, ◌&&◌, List, [], ◌∷◌, refl, arith}
-use Rattle.reference.specs.declared.access.Size.{Size}
-use Rattle.reference.specs.declared.access.Size.TheVariants.{Byte, Halfword, Word}
-use Rattle.reference.specs.declared.instruction.BlockPlace.{BlockPlace}
-use Rattle.reference.specs.declared.instruction.BlockPlace.TheVariants as place
-use Rattle.reference.specs.declared.instruction.Decoded.{Decoded}
-use Rattle.reference.specs.declared.instruction.Decoded.TheVariants.{Undefined, Unpredictable, NoCoprocessor}
-use Rattle.reference.specs.declared.instruction.Hint.{Hint as HintWord}
-use Rattle.reference.specs.declared.instruction.Hint.TheVariants as hint
-use Rattle.reference.specs.declared.instruction.Instruction.TheVariants.{DataImmediate, DataRegister, MoveImmediate, MoveRegister, MoveTop, CompareImmediate, CompareRegister, ShiftByRegister, Address, Multiply, MultiplyAccumulate, MultiplyLong, Divide, Saturate, ExtractField, InsertField, ClearField, Extend, Rearrange, LoadImmediate, LoadRegister, LoadLiteral, StoreImmediate, StoreRegister, LoadDual, LoadDualLiteral, StoreDual, LoadMultiple, StoreMultiple, LoadExclusive, StoreExclusive, ClearExclusive, Branch, BranchWithLink, ConditionalBranch, TableBranch, MoveToSpecial, MoveFromSpecial, Hint}
-use Rattle.reference.specs.declared.operands.Accumulation.{Accumulation}
-use Rattle.reference.specs.declared.operands.Accumulation.TheVariants as sum
-use Rattle.reference.specs.declared.operands.Comparison.{Comparison}
-use Rattle.reference.specs.declared.operands.Comparison.TheVariants.{Test, TestEquivalence, Compare, CompareNegative}
-use Rattle.reference.specs.declared.operands.DataOperation.{DataOperation}
-use Rattle.reference.specs.declared.operands.DataOperation.TheVariants.{And, BitClear, Or, OrNot, ExclusiveOr, Add, AddWithCarry, SubtractWithCarry, Subtract, ReverseSubtract}
-use Rattle.reference.specs.declared.operands.FlagSetting.{FlagSetting}
-use Rattle.reference.specs.declared.operands.FlagSetting.TheVariants as flags
-use Rattle.reference.specs.declared.operands.Immediate.{Immediate}
-use Rattle.reference.specs.declared.operands.ImmediateAddress.{ImmediateAddress}
-use Rattle.reference.specs.declared.operands.Indexing.{Indexing}
-use Rattle.reference.specs.declared.operands.Indexing.TheVariants.{Offset, PreIndexed, PostIndexed}
-use Rattle.reference.specs.declared.operands.ListOrder.{ListOrder}
-use Rattle.reference.specs.declared.operands.ListOrder.TheVariants.{IncrementAfter, DecrementBefore}
-use Rattle.reference.specs.declared.operands.LoadForm.{LoadForm}
-use Rattle.reference.specs.declared.operands.MoveOperation.{MoveOperation}
-use Rattle.reference.specs.declared.operands.MoveOperation.TheVariants.{Move, MoveNot}
-use Rattle.reference.specs.declared.operands.Rearrangement.{Rearrangement}
-use Rattle.reference.specs.declared.operands.Rearrangement.TheVariants.{ReverseWord, ReverseHalfwords, ReverseSignedHalfword, ReverseBits, CountLeadingZeros}
-use Rattle.reference.specs.declared.operands.ShiftedRegister.{ShiftedRegister}
-use Rattle.reference.specs.declared.operands.SpecialRegister.{SpecialRegister}
-use Rattle.reference.specs.declared.operands.SpecialRegister.TheVariants as special
-use Rattle.reference.specs.declared.shift.Shift.{Shift}
-use Rattle.reference.specs.declared.shift.ShiftType.{ShiftType}
-use Rattle.reference.specs.declared.shift.ShiftType.TheVariants.{Lsl, Lsr, Asr, Ror, Rrx}
-use Rattle.reference.specs.declared.stop.UnpredictableCase.TheVariants as cause
-use Rattle.reference.specs.Arithmetic.{decode_imm_shift, expand_imm}
-use Rattle.reference.specs.Rows.{Row, as_told, long, placed, last_only_if, unless, is_bad}
-use Rattle.reference.specs.ShortData.{number}
-use Rattle.reference.specs.ShortControl.{hint_of}
-use Rattle.reference.specs.Words.{is_bit, sign_extended, negated}
-use Rattle.reference.specs.LongSeveral.{byte_or_halfword, signed_offset, indexing_of, writes_back}
+use Rattle.std.proofs.Common.{◌≡◌, ◌≢◌, ℕ, ◌<◌, [], ◌∷◌, refl, arith}
+use Rattle.reference.specs.declared.instruction.Decoded.TheVariants.{Undefined}
+use Rattle.reference.specs.declared.operands.Indexing.TheVariants.{Offset, PostIndexed}
+use Rattle.reference.specs.LongSeveral.{signed_offset, indexing_of}
 use Rattle.reference.specs.Words.{bits}
 use Rattle.reference.specs.Decoding.{long_meaning}
-use Rattle.reference.specs.LongMemory.{size_of, is_word, narrow_form, word_form, place_of_load, is_refused_load, is_refused_store, load_literal, load_at, load_unprivileged, load_indexed, store_at, store_unprivileged, store_indexed, memory_hint, memory_hint_indexed, size_none, store_pc_none, hint_literal, ldr_narrow_literal, ldr_literal_t2, hint_immediate_up, hint_register, hint_immediate_down, strt, ldrt_narrow, ldrt_t1, str_immediate_up, str_register_wide, str_immediate_pre, str_immediate_post, ldr_narrow_immediate_up, ldr_narrow_register, ldr_narrow_immediate_pre, ldr_narrow_immediate_post, ldr_wide_immediate_up, ldr_wide_register, ldr_wide_immediate_pre, ldr_wide_immediate_post}
-use Rattle.decode.proofs.Known.{test, bits_small, both_pass, not_both}
+use Rattle.reference.specs.LongMemory.{size_of, narrow_form, word_form, load_literal, load_at, load_unprivileged, load_indexed, store_at, store_unprivileged, store_indexed, memory_hint, memory_hint_indexed, size_none, store_pc_none, hint_literal, ldr_narrow_literal, ldr_literal_t2, hint_immediate_up, hint_register, hint_immediate_down, strt, ldrt_narrow, ldrt_t1, str_immediate_up, str_register_wide, str_immediate_pre, str_immediate_post, ldr_narrow_immediate_up, ldr_narrow_register, ldr_narrow_immediate_pre, ldr_narrow_immediate_post, ldr_wide_immediate_up, ldr_wide_register, ldr_wide_immediate_pre, ldr_wide_immediate_post}
+use Rattle.decode.proofs.Known.{test, bits_small}
 use Rattle.decode.proofs.Pairs.{long_row, long_none}
 
 pub size_none_means_store : (x : ℕ)

@@ -1,50 +1,14 @@
 -- LongSeveral: what two halfwords mean by the tests that the code makes, one lemma for each row and way to it.
-use Rattle.std.proofs.Common.{◌≡◌, ◌≢◌, ℕ, ◌+◌, ◌*◌, ◌^◌, ◌<◌, ◌≤◌, Bool, true, false, ◌==◌, ◌&&◌, List, [], ◌∷◌, refl, arith}
-use Rattle.reference.specs.declared.access.Size.{Size}
-use Rattle.reference.specs.declared.access.Size.TheVariants.{Byte, Halfword, Word}
-use Rattle.reference.specs.declared.instruction.BlockPlace.{BlockPlace}
-use Rattle.reference.specs.declared.instruction.BlockPlace.TheVariants as place
-use Rattle.reference.specs.declared.instruction.Decoded.{Decoded}
-use Rattle.reference.specs.declared.instruction.Decoded.TheVariants.{Undefined, Unpredictable, NoCoprocessor}
-use Rattle.reference.specs.declared.instruction.Hint.{Hint as HintWord}
-use Rattle.reference.specs.declared.instruction.Hint.TheVariants as hint
-use Rattle.reference.specs.declared.instruction.Instruction.TheVariants.{DataImmediate, DataRegister, MoveImmediate, MoveRegister, MoveTop, CompareImmediate, CompareRegister, ShiftByRegister, Address, Multiply, MultiplyAccumulate, MultiplyLong, Divide, Saturate, ExtractField, InsertField, ClearField, Extend, Rearrange, LoadImmediate, LoadRegister, LoadLiteral, StoreImmediate, StoreRegister, LoadDual, LoadDualLiteral, StoreDual, LoadMultiple, StoreMultiple, LoadExclusive, StoreExclusive, ClearExclusive, Branch, BranchWithLink, ConditionalBranch, TableBranch, MoveToSpecial, MoveFromSpecial, Hint}
-use Rattle.reference.specs.declared.operands.Accumulation.{Accumulation}
-use Rattle.reference.specs.declared.operands.Accumulation.TheVariants as sum
-use Rattle.reference.specs.declared.operands.Comparison.{Comparison}
-use Rattle.reference.specs.declared.operands.Comparison.TheVariants.{Test, TestEquivalence, Compare, CompareNegative}
-use Rattle.reference.specs.declared.operands.DataOperation.{DataOperation}
-use Rattle.reference.specs.declared.operands.DataOperation.TheVariants.{And, BitClear, Or, OrNot, ExclusiveOr, Add, AddWithCarry, SubtractWithCarry, Subtract, ReverseSubtract}
-use Rattle.reference.specs.declared.operands.FlagSetting.{FlagSetting}
-use Rattle.reference.specs.declared.operands.FlagSetting.TheVariants as flags
-use Rattle.reference.specs.declared.operands.Immediate.{Immediate}
-use Rattle.reference.specs.declared.operands.ImmediateAddress.{ImmediateAddress}
-use Rattle.reference.specs.declared.operands.Indexing.{Indexing}
-use Rattle.reference.specs.declared.operands.Indexing.TheVariants.{Offset, PreIndexed, PostIndexed}
-use Rattle.reference.specs.declared.operands.ListOrder.{ListOrder}
+use Rattle.std.proofs.Common.{◌≡◌, ◌≢◌, ℕ, ◌+◌, ◌*◌, ◌^◌, ◌<◌, true, ◌==◌, [], ◌∷◌, refl, arith}
+use Rattle.reference.specs.declared.access.Size.TheVariants.{Word}
+use Rattle.reference.specs.declared.instruction.Decoded.TheVariants.{Undefined}
+use Rattle.reference.specs.declared.operands.Indexing.TheVariants.{PostIndexed}
 use Rattle.reference.specs.declared.operands.ListOrder.TheVariants.{IncrementAfter, DecrementBefore}
-use Rattle.reference.specs.declared.operands.LoadForm.{LoadForm}
-use Rattle.reference.specs.declared.operands.MoveOperation.{MoveOperation}
-use Rattle.reference.specs.declared.operands.MoveOperation.TheVariants.{Move, MoveNot}
-use Rattle.reference.specs.declared.operands.Rearrangement.{Rearrangement}
-use Rattle.reference.specs.declared.operands.Rearrangement.TheVariants.{ReverseWord, ReverseHalfwords, ReverseSignedHalfword, ReverseBits, CountLeadingZeros}
-use Rattle.reference.specs.declared.operands.ShiftedRegister.{ShiftedRegister}
-use Rattle.reference.specs.declared.operands.SpecialRegister.{SpecialRegister}
-use Rattle.reference.specs.declared.operands.SpecialRegister.TheVariants as special
-use Rattle.reference.specs.declared.shift.Shift.{Shift}
-use Rattle.reference.specs.declared.shift.ShiftType.{ShiftType}
-use Rattle.reference.specs.declared.shift.ShiftType.TheVariants.{Lsl, Lsr, Asr, Ror, Rrx}
-use Rattle.reference.specs.declared.stop.UnpredictableCase.TheVariants as cause
-use Rattle.reference.specs.Arithmetic.{decode_imm_shift, expand_imm}
-use Rattle.reference.specs.Rows.{Row, as_told, long, placed, last_only_if, unless, is_bad}
-use Rattle.reference.specs.ShortData.{number}
-use Rattle.reference.specs.ShortControl.{hint_of}
-use Rattle.reference.specs.Words.{is_bit, sign_extended, negated}
-use Rattle.std.specs.Int.RustNames.{count_ones}
+use Rattle.reference.specs.Rows.{as_told}
 use Rattle.reference.specs.Words.{bits}
 use Rattle.reference.specs.Decoding.{long_meaning}
-use Rattle.reference.specs.LongSeveral.{has_few, store_list, load_list_at, load_list, byte_or_halfword, store_exclusive, load_exclusive, table_branch, signed_offset, indexing_of, writes_back, is_refused_pair, load_dual, load_dual_literal, store_dual, stm_t2, ldm_t2, stmdb_t1, ldmdb_t1, strex_t1, ldrex_t1, strexb_t1, tbb_t1, ldrexb_t1, ldrd_literal_t1_pre, ldrd_literal_t1_post, ldrd_immediate_t1_pre, ldrd_immediate_t1_post, strd_immediate_t1_pre, strd_immediate_t1_post}
-use Rattle.decode.proofs.Known.{test, bits_small, both_pass, not_both}
+use Rattle.reference.specs.LongSeveral.{store_list, load_list, byte_or_halfword, store_exclusive, load_exclusive, table_branch, signed_offset, indexing_of, load_dual, load_dual_literal, store_dual, stm_t2, ldm_t2, stmdb_t1, ldmdb_t1, strex_t1, ldrex_t1, strexb_t1, tbb_t1, ldrexb_t1, ldrd_literal_t1_pre, ldrd_literal_t1_post, ldrd_immediate_t1_pre, ldrd_immediate_t1_post, strd_immediate_t1_pre, strd_immediate_t1_post}
+use Rattle.decode.proofs.Known.{test, bits_small}
 use Rattle.decode.proofs.Pairs.{long_row, long_none}
 
 pub stm_t2_means : (x : ℕ)

@@ -1,35 +1,11 @@
 -- ShortControl: what a halfword means by the tests that the code makes, one lemma for each row and way to it.
-use Rattle.std.proofs.Common.{◌≡◌, ◌≢◌, ℕ, ◌+◌, ◌*◌, ◌<◌, Bool, true, false, ◌==◌, List, [], ◌∷◌, refl, arith}
-use Rattle.reference.specs.declared.access.Size.{Size}
-use Rattle.reference.specs.declared.access.Size.TheVariants.{Byte, Halfword, Word}
-use Rattle.reference.specs.declared.instruction.BlockPlace.TheVariants as place
-use Rattle.reference.specs.declared.instruction.Decoded.{Decoded}
-use Rattle.reference.specs.declared.instruction.Decoded.TheVariants.{Undefined, Unpredictable}
-use Rattle.reference.specs.declared.instruction.Hint.{Hint as HintWord}
-use Rattle.reference.specs.declared.instruction.Hint.TheVariants as hint
-use Rattle.reference.specs.declared.instruction.Instruction.TheVariants.{DataImmediate, DataRegister, MoveImmediate, MoveRegister, CompareImmediate, CompareRegister, ShiftByRegister, Address, Multiply, Extend, Rearrange, LoadImmediate, LoadRegister, LoadLiteral, StoreImmediate, StoreRegister, LoadMultiple, StoreMultiple, Branch, ConditionalBranch, BranchExchange, CompareAndBranch, IfThen, ChangeProcessorState, Hint, SupervisorCall, Breakpoint}
-use Rattle.reference.specs.declared.operands.Comparison.{Comparison}
-use Rattle.reference.specs.declared.operands.Comparison.TheVariants.{Test, Compare, CompareNegative}
-use Rattle.reference.specs.declared.operands.DataOperation.{DataOperation}
-use Rattle.reference.specs.declared.operands.DataOperation.TheVariants.{And, BitClear, Or, ExclusiveOr, Add, AddWithCarry, SubtractWithCarry, Subtract, ReverseSubtract}
-use Rattle.reference.specs.declared.operands.FlagSetting.TheVariants as flags
-use Rattle.reference.specs.declared.operands.Immediate.{Immediate}
-use Rattle.reference.specs.declared.operands.ImmediateAddress.{ImmediateAddress}
-use Rattle.reference.specs.declared.operands.Indexing.TheVariants.{Offset}
-use Rattle.reference.specs.declared.operands.ListOrder.TheVariants.{IncrementAfter, DecrementBefore}
-use Rattle.reference.specs.declared.operands.MoveOperation.TheVariants.{Move, MoveNot}
-use Rattle.reference.specs.declared.operands.Rearrangement.{Rearrangement}
-use Rattle.reference.specs.declared.operands.Rearrangement.TheVariants.{ReverseWord, ReverseHalfwords, ReverseSignedHalfword}
-use Rattle.reference.specs.declared.operands.ShiftedRegister.{ShiftedRegister}
-use Rattle.reference.specs.declared.shift.ShiftType.{ShiftType}
-use Rattle.reference.specs.declared.shift.ShiftType.TheVariants.{Lsl, Lsr, Asr, Ror}
-use Rattle.reference.specs.declared.stop.UnpredictableCase.TheVariants.{Registers, EmptyList, StoredBase, ItBlock}
-use Rattle.reference.specs.Arithmetic.{decode_imm_shift}
-use Rattle.reference.specs.Rows.{Row, as_told, short, placed, last_only_if, unless}
-use Rattle.reference.specs.Words.{is_bit, sign_extended}
+use Rattle.std.proofs.Common.{◌≡◌, ◌≢◌, ℕ, ◌+◌, ◌*◌, ◌<◌, true, ◌==◌, [], ◌∷◌, refl, arith}
+use Rattle.reference.specs.declared.instruction.Decoded.TheVariants.{Undefined}
+use Rattle.reference.specs.declared.instruction.Instruction.TheVariants.{Hint, SupervisorCall}
+use Rattle.reference.specs.Rows.{as_told, short}
 use Rattle.reference.specs.Words.{bits}
 use Rattle.reference.specs.Decoding.{short_meaning}
-use Rattle.reference.specs.ShortControl.{branch_exchange, branch_link_exchange, compare_and_branch, change_state, breakpoint, hint_of, is_one_bit, if_then, branch_if, branch_short, bx_t1, blx_register_t1, cbz_t1, cps_t1, bkpt_t1, nop_t1, it_t1, udf_t1, svc_t1, b_t1, b_t2}
+use Rattle.reference.specs.ShortControl.{branch_exchange, branch_link_exchange, compare_and_branch, change_state, breakpoint, hint_of, if_then, branch_if, branch_short, bx_t1, blx_register_t1, cbz_t1, cps_t1, bkpt_t1, nop_t1, it_t1, udf_t1, svc_t1, b_t1, b_t2}
 use Rattle.decode.proofs.Known.{test, bits_small}
 use Rattle.decode.proofs.Halfwords.{short_row, short_none}
 

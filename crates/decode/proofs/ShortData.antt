@@ -1,37 +1,15 @@
 -- ShortData: what a halfword means by the tests that the code makes, one lemma for each row and way to it.
-use Rattle.std.proofs.Common.{◌≡◌, ◌≢◌, ℕ, ◌+◌, ◌*◌, ◌<◌, Bool, true, false, ◌==◌, List, [], ◌∷◌, refl, arith}
-use Rattle.reference.specs.declared.access.Size.{Size}
-use Rattle.reference.specs.declared.access.Size.TheVariants.{Byte, Halfword, Word}
-use Rattle.reference.specs.declared.instruction.BlockPlace.TheVariants as place
-use Rattle.reference.specs.declared.instruction.Decoded.{Decoded}
-use Rattle.reference.specs.declared.instruction.Decoded.TheVariants.{Undefined, Unpredictable}
-use Rattle.reference.specs.declared.instruction.Hint.{Hint as HintWord}
-use Rattle.reference.specs.declared.instruction.Hint.TheVariants as hint
-use Rattle.reference.specs.declared.instruction.Instruction.TheVariants.{DataImmediate, DataRegister, MoveImmediate, MoveRegister, CompareImmediate, CompareRegister, ShiftByRegister, Address, Multiply, Extend, Rearrange, LoadImmediate, LoadRegister, LoadLiteral, StoreImmediate, StoreRegister, LoadMultiple, StoreMultiple, Branch, ConditionalBranch, BranchExchange, CompareAndBranch, IfThen, ChangeProcessorState, Hint, SupervisorCall, Breakpoint}
-use Rattle.reference.specs.declared.operands.Comparison.{Comparison}
+use Rattle.std.proofs.Common.{◌≡◌, ◌≢◌, ℕ, ◌+◌, ◌*◌, ◌<◌, true, false, [], ◌∷◌, refl, arith}
+use Rattle.reference.specs.declared.access.Size.TheVariants.{Byte, Halfword}
 use Rattle.reference.specs.declared.operands.Comparison.TheVariants.{Test, Compare, CompareNegative}
-use Rattle.reference.specs.declared.operands.DataOperation.{DataOperation}
 use Rattle.reference.specs.declared.operands.DataOperation.TheVariants.{And, BitClear, Or, ExclusiveOr, Add, AddWithCarry, SubtractWithCarry, Subtract, ReverseSubtract}
-use Rattle.reference.specs.declared.operands.FlagSetting.TheVariants as flags
-use Rattle.reference.specs.declared.operands.Immediate.{Immediate}
-use Rattle.reference.specs.declared.operands.ImmediateAddress.{ImmediateAddress}
-use Rattle.reference.specs.declared.operands.Indexing.TheVariants.{Offset}
-use Rattle.reference.specs.declared.operands.ListOrder.TheVariants.{IncrementAfter, DecrementBefore}
-use Rattle.reference.specs.declared.operands.MoveOperation.TheVariants.{Move, MoveNot}
-use Rattle.reference.specs.declared.operands.Rearrangement.{Rearrangement}
 use Rattle.reference.specs.declared.operands.Rearrangement.TheVariants.{ReverseWord, ReverseHalfwords, ReverseSignedHalfword}
-use Rattle.reference.specs.declared.operands.ShiftedRegister.{ShiftedRegister}
-use Rattle.reference.specs.declared.shift.ShiftType.{ShiftType}
 use Rattle.reference.specs.declared.shift.ShiftType.TheVariants.{Lsl, Lsr, Asr, Ror}
-use Rattle.reference.specs.declared.stop.UnpredictableCase.TheVariants.{Registers, EmptyList, StoredBase, ItBlock}
-use Rattle.reference.specs.Arithmetic.{decode_imm_shift}
-use Rattle.reference.specs.Rows.{Row, as_told, short, placed, last_only_if, unless}
-use Rattle.reference.specs.Words.{is_bit, sign_extended}
 use Rattle.reference.specs.Words.{bits}
 use Rattle.reference.specs.Decoding.{short_meaning}
-use Rattle.reference.specs.ShortData.{unshifted, number, move_low, shift_number, shift_register, data_registers, data_number, move_number, move_not, compare_number, compare_registers, multiply, add_high, compare_high, move_high, address, sp_number, extend, rearrange, mov_register_t2, lsl_immediate_t1, lsr_immediate_t1, asr_immediate_t1, add_register_t1, sub_register_t1, add_immediate_t1, sub_immediate_t1, mov_immediate_t1, cmp_immediate_t1, add_immediate_t2, sub_immediate_t2, and_register_t1, eor_register_t1, lsl_register_t1, lsr_register_t1, asr_register_t1, adc_register_t1, sbc_register_t1, ror_register_t1, tst_register_t1, rsb_immediate_t1, cmp_register_t1, cmn_register_t1, orr_register_t1, mul_t1, bic_register_t1, mvn_register_t1, add_register_t2, cmp_register_t2, mov_register_t1, adr_t1, add_sp_immediate_t1, add_sp_immediate_t2, sub_sp_immediate_t1, sxth_t1, sxtb_t1, uxth_t1, uxtb_t1, rev_t1, rev16_t1, revsh_t1}
+use Rattle.reference.specs.ShortData.{move_low, shift_number, shift_register, data_registers, data_number, move_number, move_not, compare_number, compare_registers, multiply, add_high, compare_high, move_high, address, sp_number, extend, rearrange, mov_register_t2, lsl_immediate_t1, lsr_immediate_t1, asr_immediate_t1, add_register_t1, sub_register_t1, add_immediate_t1, sub_immediate_t1, mov_immediate_t1, cmp_immediate_t1, add_immediate_t2, sub_immediate_t2, and_register_t1, eor_register_t1, lsl_register_t1, lsr_register_t1, asr_register_t1, adc_register_t1, sbc_register_t1, ror_register_t1, tst_register_t1, rsb_immediate_t1, cmp_register_t1, cmn_register_t1, orr_register_t1, mul_t1, bic_register_t1, mvn_register_t1, add_register_t2, cmp_register_t2, mov_register_t1, adr_t1, add_sp_immediate_t1, add_sp_immediate_t2, sub_sp_immediate_t1, sxth_t1, sxtb_t1, uxth_t1, uxtb_t1, rev_t1, rev16_t1, revsh_t1}
 use Rattle.decode.proofs.Known.{test, bits_small}
-use Rattle.decode.proofs.Halfwords.{short_row, short_none}
+use Rattle.decode.proofs.Halfwords.{short_row}
 
 pub mov_register_t2_means : (x : ℕ)
     → bits x 11 5 ≡ 0

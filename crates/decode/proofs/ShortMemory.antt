@@ -1,37 +1,11 @@
 -- ShortMemory: what a halfword means by the tests that the code makes, one lemma for each row and way to it.
-use Rattle.std.proofs.Common.{◌≡◌, ◌≢◌, ℕ, ◌+◌, ◌*◌, ◌<◌, Bool, true, false, ◌==◌, List, [], ◌∷◌, refl, arith}
-use Rattle.reference.specs.declared.access.Size.{Size}
+use Rattle.std.proofs.Common.{◌≡◌, ◌≢◌, ℕ, ◌*◌, ◌<◌, true, false, [], ◌∷◌, refl, arith}
 use Rattle.reference.specs.declared.access.Size.TheVariants.{Byte, Halfword, Word}
-use Rattle.reference.specs.declared.instruction.BlockPlace.TheVariants as place
-use Rattle.reference.specs.declared.instruction.Decoded.{Decoded}
-use Rattle.reference.specs.declared.instruction.Decoded.TheVariants.{Undefined, Unpredictable}
-use Rattle.reference.specs.declared.instruction.Hint.{Hint as HintWord}
-use Rattle.reference.specs.declared.instruction.Hint.TheVariants as hint
-use Rattle.reference.specs.declared.instruction.Instruction.TheVariants.{DataImmediate, DataRegister, MoveImmediate, MoveRegister, CompareImmediate, CompareRegister, ShiftByRegister, Address, Multiply, Extend, Rearrange, LoadImmediate, LoadRegister, LoadLiteral, StoreImmediate, StoreRegister, LoadMultiple, StoreMultiple, Branch, ConditionalBranch, BranchExchange, CompareAndBranch, IfThen, ChangeProcessorState, Hint, SupervisorCall, Breakpoint}
-use Rattle.reference.specs.declared.operands.Comparison.{Comparison}
-use Rattle.reference.specs.declared.operands.Comparison.TheVariants.{Test, Compare, CompareNegative}
-use Rattle.reference.specs.declared.operands.DataOperation.{DataOperation}
-use Rattle.reference.specs.declared.operands.DataOperation.TheVariants.{And, BitClear, Or, ExclusiveOr, Add, AddWithCarry, SubtractWithCarry, Subtract, ReverseSubtract}
-use Rattle.reference.specs.declared.operands.FlagSetting.TheVariants as flags
-use Rattle.reference.specs.declared.operands.Immediate.{Immediate}
-use Rattle.reference.specs.declared.operands.ImmediateAddress.{ImmediateAddress}
-use Rattle.reference.specs.declared.operands.Indexing.TheVariants.{Offset}
-use Rattle.reference.specs.declared.operands.ListOrder.TheVariants.{IncrementAfter, DecrementBefore}
-use Rattle.reference.specs.declared.operands.MoveOperation.TheVariants.{Move, MoveNot}
-use Rattle.reference.specs.declared.operands.Rearrangement.{Rearrangement}
-use Rattle.reference.specs.declared.operands.Rearrangement.TheVariants.{ReverseWord, ReverseHalfwords, ReverseSignedHalfword}
-use Rattle.reference.specs.declared.operands.ShiftedRegister.{ShiftedRegister}
-use Rattle.reference.specs.declared.shift.ShiftType.{ShiftType}
-use Rattle.reference.specs.declared.shift.ShiftType.TheVariants.{Lsl, Lsr, Asr, Ror}
-use Rattle.reference.specs.declared.stop.UnpredictableCase.TheVariants.{Registers, EmptyList, StoredBase, ItBlock}
-use Rattle.reference.specs.Arithmetic.{decode_imm_shift}
-use Rattle.reference.specs.Rows.{Row, as_told, short, placed, last_only_if, unless}
-use Rattle.reference.specs.Words.{is_bit, sign_extended}
 use Rattle.reference.specs.Words.{bits}
 use Rattle.reference.specs.Decoding.{short_meaning}
-use Rattle.reference.specs.ShortMemory.{load_literal_word, store_register, load_register, at_offset, store_number, load_number, push, pop, is_above_lowest, store_list, load_list, ldr_literal_t1, str_register_t1, strh_register_t1, strb_register_t1, ldrsb_register_t1, ldr_register_t1, ldrh_register_t1, ldrb_register_t1, ldrsh_register_t1, str_immediate_t1, ldr_immediate_t1, strb_immediate_t1, ldrb_immediate_t1, strh_immediate_t1, ldrh_immediate_t1, str_immediate_t2, ldr_immediate_t2, push_t1, pop_t1, stm_t1, ldm_t1}
+use Rattle.reference.specs.ShortMemory.{load_literal_word, store_register, load_register, store_number, load_number, push, pop, store_list, load_list, ldr_literal_t1, str_register_t1, strh_register_t1, strb_register_t1, ldrsb_register_t1, ldr_register_t1, ldrh_register_t1, ldrb_register_t1, ldrsh_register_t1, str_immediate_t1, ldr_immediate_t1, strb_immediate_t1, ldrb_immediate_t1, strh_immediate_t1, ldrh_immediate_t1, str_immediate_t2, ldr_immediate_t2, push_t1, pop_t1, stm_t1, ldm_t1}
 use Rattle.decode.proofs.Known.{test, bits_small}
-use Rattle.decode.proofs.Halfwords.{short_row, short_none}
+use Rattle.decode.proofs.Halfwords.{short_row}
 
 pub ldr_literal_t1_means : (x : ℕ)
     → bits x 11 5 ≡ 9
