@@ -85,63 +85,63 @@ long_hint_of number = if nat_lt number 240 then hint_of number else hint.Debug
 
 -- ---- the rows
 
--- MSR, T1
+-- MSR, encoding T1
 abbrev pub msr_t1 : Row
 msr_t1 = record {
   places = codes "11110011100znnnn10z0xxzzssssssss";
   gives = λ field. move_to_special (field n) (field x) (field s);
 }
 
--- MRS, T1
+-- MRS, encoding T1
 abbrev pub mrs_t1 : Row
 mrs_t1 = record {
   places = codes "11110011111zoooo10z0ddddssssssss";
   gives = λ field. move_from_special (field d) (field s);
 }
 
--- The hints of 32 bits, T2
+-- The hints of 32 bits, encoding T2
 abbrev pub nop_t2 : Row
 nop_t2 = record {
   places = codes "111100111010oooo10z0z000hhhhhhhh";
   gives = λ field. long (Hint (long_hint_of (field h)));
 }
 
--- CLREX, T1
+-- CLREX, encoding T1
 abbrev pub clrex_t1 : Row
 clrex_t1 = record {
   places = codes "111100111011oooo10z0oooo0010oooo";
   gives = λ field. long ClearExclusive;
 }
 
--- DSB, T1
+-- DSB, encoding T1
 abbrev pub dsb_t1 : Row
 dsb_t1 = record {
   places = codes "111100111011oooo10z0oooo0100xxxx";
   gives = λ field. long (Hint hint.Barrier);
 }
 
--- DMB, T1
+-- DMB, encoding T1
 abbrev pub dmb_t1 : Row
 dmb_t1 = record {
   places = codes "111100111011oooo10z0oooo0101xxxx";
   gives = λ field. long (Hint hint.Barrier);
 }
 
--- ISB, T1
+-- ISB, encoding T1
 abbrev pub isb_t1 : Row
 isb_t1 = record {
   places = codes "111100111011oooo10z0oooo0110xxxx";
   gives = λ field. long (Hint hint.Barrier);
 }
 
--- BL, T1
+-- BL, encoding T1
 abbrev pub bl_t1 : Row
 bl_t1 = record {
   places = codes "11110Sjjjjjjjjjj11J1Kiiiiiiiiiii";
   gives = λ field. branch_with_link (wide_offset (field big_s) (field big_j) (field big_k) (field j) (field i));
 }
 
--- B, T4
+-- B, encoding T4
 abbrev pub b_t4 : Row
 b_t4 = record {
   places = codes "11110Sjjjjjjjjjj10J1Kiiiiiiiiiii";
@@ -155,7 +155,7 @@ unallocated_control = record {
   gives = λ field. Undefined;
 }
 
--- B, T3: behind the rows for control
+-- B, encoding T3: behind the rows for control
 abbrev pub b_t3 : Row
 b_t3 = record {
   places = codes "11110Sccccjjjjjj10J0Kiiiiiiiiiii";

@@ -227,266 +227,266 @@ clear_field d low high =
 
 -- ---- the rows
 
--- TST (immediate), T1: AND with d = 15 and S = 1
+-- TST (immediate), encoding T1: AND with d = 15 and S = 1
 abbrev pub tst_immediate_t1 : Row
 tst_immediate_t1 = record {
   places = codes "11110i000001nnnn0iii1111iiiiiiii";
   gives = λ field. compare_immediate Test (field n) (modified_immediate (field i));
 }
 
--- AND (immediate), T1
+-- AND (immediate), encoding T1
 abbrev pub and_immediate_t1 : Row
 and_immediate_t1 = record {
   places = codes "11110i00000Snnnn0iiiddddiiiiiiii";
   gives = λ field. data_immediate And (field big_s == 1) (field n) (field d) (modified_immediate (field i));
 }
 
--- BIC (immediate), T1
+-- BIC (immediate), encoding T1
 abbrev pub bic_immediate_t1 : Row
 bic_immediate_t1 = record {
   places = codes "11110i00001Snnnn0iiiddddiiiiiiii";
   gives = λ field. data_immediate BitClear (field big_s == 1) (field n) (field d) (modified_immediate (field i));
 }
 
--- MOV (immediate), T2: ORR with n = 15
+-- MOV (immediate), encoding T2: ORR with n = 15
 abbrev pub mov_immediate_t2 : Row
 mov_immediate_t2 = record {
   places = codes "11110i00010S11110iiiddddiiiiiiii";
   gives = λ field. move_immediate Move (field big_s == 1) (field d) (modified_immediate (field i));
 }
 
--- ORR (immediate), T1
+-- ORR (immediate), encoding T1
 abbrev pub orr_immediate_t1 : Row
 orr_immediate_t1 = record {
   places = codes "11110i00010Snnnn0iiiddddiiiiiiii";
   gives = λ field. data_immediate Or (field big_s == 1) (field n) (field d) (modified_immediate (field i));
 }
 
--- MVN (immediate), T1: ORN with n = 15
+-- MVN (immediate), encoding T1: ORN with n = 15
 abbrev pub mvn_immediate_t1 : Row
 mvn_immediate_t1 = record {
   places = codes "11110i00011S11110iiiddddiiiiiiii";
   gives = λ field. move_immediate MoveNot (field big_s == 1) (field d) (modified_immediate (field i));
 }
 
--- ORN (immediate), T1
+-- ORN (immediate), encoding T1
 abbrev pub orn_immediate_t1 : Row
 orn_immediate_t1 = record {
   places = codes "11110i00011Snnnn0iiiddddiiiiiiii";
   gives = λ field. data_immediate OrNot (field big_s == 1) (field n) (field d) (modified_immediate (field i));
 }
 
--- TEQ (immediate), T1: EOR with d = 15 and S = 1
+-- TEQ (immediate), encoding T1: EOR with d = 15 and S = 1
 abbrev pub teq_immediate_t1 : Row
 teq_immediate_t1 = record {
   places = codes "11110i001001nnnn0iii1111iiiiiiii";
   gives = λ field. compare_immediate TestEquivalence (field n) (modified_immediate (field i));
 }
 
--- EOR (immediate), T1
+-- EOR (immediate), encoding T1
 abbrev pub eor_immediate_t1 : Row
 eor_immediate_t1 = record {
   places = codes "11110i00100Snnnn0iiiddddiiiiiiii";
   gives = λ field. data_immediate ExclusiveOr (field big_s == 1) (field n) (field d) (modified_immediate (field i));
 }
 
--- CMN (immediate), T1: ADD with d = 15 and S = 1
+-- CMN (immediate), encoding T1: ADD with d = 15 and S = 1
 abbrev pub cmn_immediate_t1 : Row
 cmn_immediate_t1 = record {
   places = codes "11110i010001nnnn0iii1111iiiiiiii";
   gives = λ field. compare_immediate CompareNegative (field n) (modified_immediate (field i));
 }
 
--- ADD (immediate), T3
+-- ADD (immediate), encoding T3
 abbrev pub add_immediate_t3 : Row
 add_immediate_t3 = record {
   places = codes "11110i01000Snnnn0iiiddddiiiiiiii";
   gives = λ field. data_immediate Add (field big_s == 1) (field n) (field d) (modified_immediate (field i));
 }
 
--- ADC (immediate), T1
+-- ADC (immediate), encoding T1
 abbrev pub adc_immediate_t1 : Row
 adc_immediate_t1 = record {
   places = codes "11110i01010Snnnn0iiiddddiiiiiiii";
   gives = λ field. data_immediate AddWithCarry (field big_s == 1) (field n) (field d) (modified_immediate (field i));
 }
 
--- SBC (immediate), T1
+-- SBC (immediate), encoding T1
 abbrev pub sbc_immediate_t1 : Row
 sbc_immediate_t1 = record {
   places = codes "11110i01011Snnnn0iiiddddiiiiiiii";
   gives = λ field. data_immediate SubtractWithCarry (field big_s == 1) (field n) (field d) (modified_immediate (field i));
 }
 
--- CMP (immediate), T2: SUB with d = 15 and S = 1
+-- CMP (immediate), encoding T2: SUB with d = 15 and S = 1
 abbrev pub cmp_immediate_t2 : Row
 cmp_immediate_t2 = record {
   places = codes "11110i011011nnnn0iii1111iiiiiiii";
   gives = λ field. compare_immediate Compare (field n) (modified_immediate (field i));
 }
 
--- SUB (immediate), T3
+-- SUB (immediate), encoding T3
 abbrev pub sub_immediate_t3 : Row
 sub_immediate_t3 = record {
   places = codes "11110i01101Snnnn0iiiddddiiiiiiii";
   gives = λ field. data_immediate Subtract (field big_s == 1) (field n) (field d) (modified_immediate (field i));
 }
 
--- RSB (immediate), T2
+-- RSB (immediate), encoding T2
 abbrev pub rsb_immediate_t2 : Row
 rsb_immediate_t2 = record {
   places = codes "11110i01110Snnnn0iiiddddiiiiiiii";
   gives = λ field. data_immediate ReverseSubtract (field big_s == 1) (field n) (field d) (modified_immediate (field i));
 }
 
--- TST (register), T2: AND with d = 15 and S = 1
+-- TST (register), encoding T2: AND with d = 15 and S = 1
 abbrev pub tst_register_t2 : Row
 tst_register_t2 = record {
   places = codes "111010100001nnnnziii1111iittmmmm";
   gives = λ field. compare_shifted Test (field n) (shifted (field m) (field t) (field i));
 }
 
--- AND (register), T2
+-- AND (register), encoding T2
 abbrev pub and_register_t2 : Row
 and_register_t2 = record {
   places = codes "11101010000Snnnnziiiddddiittmmmm";
   gives = λ field. data_shifted And (field big_s == 1) (field n) (field d) (shifted (field m) (field t) (field i));
 }
 
--- BIC (register), T2
+-- BIC (register), encoding T2
 abbrev pub bic_register_t2 : Row
 bic_register_t2 = record {
   places = codes "11101010001Snnnnziiiddddiittmmmm";
   gives = λ field. data_shifted BitClear (field big_s == 1) (field n) (field d) (shifted (field m) (field t) (field i));
 }
 
--- MOV (register), T3: ORR with n = 15; LSL, LSR, ASR, ROR and RRX by a number are this
+-- MOV (register), encoding T3: ORR with n = 15; LSL, LSR, ASR, ROR and RRX by a number are this
 abbrev pub mov_register_t3 : Row
 mov_register_t3 = record {
   places = codes "11101010010S1111ziiiddddiittmmmm";
   gives = λ field. move_shifted (field big_s == 1) (field d) (shifted (field m) (field t) (field i));
 }
 
--- ORR (register), T2
+-- ORR (register), encoding T2
 abbrev pub orr_register_t2 : Row
 orr_register_t2 = record {
   places = codes "11101010010Snnnnziiiddddiittmmmm";
   gives = λ field. data_shifted Or (field big_s == 1) (field n) (field d) (shifted (field m) (field t) (field i));
 }
 
--- MVN (register), T2: ORN with n = 15
+-- MVN (register), encoding T2: ORN with n = 15
 abbrev pub mvn_register_t2 : Row
 mvn_register_t2 = record {
   places = codes "11101010011S1111ziiiddddiittmmmm";
   gives = λ field. move_not_shifted (field big_s == 1) (field d) (shifted (field m) (field t) (field i));
 }
 
--- ORN (register), T1
+-- ORN (register), encoding T1
 abbrev pub orn_register_t1 : Row
 orn_register_t1 = record {
   places = codes "11101010011Snnnnziiiddddiittmmmm";
   gives = λ field. data_shifted OrNot (field big_s == 1) (field n) (field d) (shifted (field m) (field t) (field i));
 }
 
--- TEQ (register), T1: EOR with d = 15 and S = 1
+-- TEQ (register), encoding T1: EOR with d = 15 and S = 1
 abbrev pub teq_register_t1 : Row
 teq_register_t1 = record {
   places = codes "111010101001nnnnziii1111iittmmmm";
   gives = λ field. compare_shifted TestEquivalence (field n) (shifted (field m) (field t) (field i));
 }
 
--- EOR (register), T2
+-- EOR (register), encoding T2
 abbrev pub eor_register_t2 : Row
 eor_register_t2 = record {
   places = codes "11101010100Snnnnziiiddddiittmmmm";
   gives = λ field. data_shifted ExclusiveOr (field big_s == 1) (field n) (field d) (shifted (field m) (field t) (field i));
 }
 
--- CMN (register), T2: ADD with d = 15 and S = 1
+-- CMN (register), encoding T2: ADD with d = 15 and S = 1
 abbrev pub cmn_register_t2 : Row
 cmn_register_t2 = record {
   places = codes "111010110001nnnnziii1111iittmmmm";
   gives = λ field. compare_shifted CompareNegative (field n) (shifted (field m) (field t) (field i));
 }
 
--- ADD (register), T3
+-- ADD (register), encoding T3
 abbrev pub add_register_t3 : Row
 add_register_t3 = record {
   places = codes "11101011000Snnnnziiiddddiittmmmm";
   gives = λ field. data_shifted Add (field big_s == 1) (field n) (field d) (shifted (field m) (field t) (field i));
 }
 
--- ADC (register), T2
+-- ADC (register), encoding T2
 abbrev pub adc_register_t2 : Row
 adc_register_t2 = record {
   places = codes "11101011010Snnnnziiiddddiittmmmm";
   gives = λ field. data_shifted AddWithCarry (field big_s == 1) (field n) (field d) (shifted (field m) (field t) (field i));
 }
 
--- SBC (register), T2
+-- SBC (register), encoding T2
 abbrev pub sbc_register_t2 : Row
 sbc_register_t2 = record {
   places = codes "11101011011Snnnnziiiddddiittmmmm";
   gives = λ field. data_shifted SubtractWithCarry (field big_s == 1) (field n) (field d) (shifted (field m) (field t) (field i));
 }
 
--- CMP (register), T3: SUB with d = 15 and S = 1
+-- CMP (register), encoding T3: SUB with d = 15 and S = 1
 abbrev pub cmp_register_t3 : Row
 cmp_register_t3 = record {
   places = codes "111010111011nnnnziii1111iittmmmm";
   gives = λ field. compare_shifted Compare (field n) (shifted (field m) (field t) (field i));
 }
 
--- SUB (register), T2
+-- SUB (register), encoding T2
 abbrev pub sub_register_t2 : Row
 sub_register_t2 = record {
   places = codes "11101011101Snnnnziiiddddiittmmmm";
   gives = λ field. data_shifted Subtract (field big_s == 1) (field n) (field d) (shifted (field m) (field t) (field i));
 }
 
--- RSB (register), T1
+-- RSB (register), encoding T1
 abbrev pub rsb_register_t1 : Row
 rsb_register_t1 = record {
   places = codes "11101011110Snnnnziiiddddiittmmmm";
   gives = λ field. data_shifted ReverseSubtract (field big_s == 1) (field n) (field d) (shifted (field m) (field t) (field i));
 }
 
--- ADR, T3: ADDW with n = 15
+-- ADR, encoding T3: ADDW with n = 15
 abbrev pub adr_t3 : Row
 adr_t3 = record {
   places = codes "11110i10000011110iiiddddiiiiiiii";
   gives = λ field. address_wide (field d) (field i);
 }
 
--- ADD (immediate), T4
+-- ADD (immediate), encoding T4
 abbrev pub addw : Row
 addw = record {
   places = codes "11110i100000nnnn0iiiddddiiiiiiii";
   gives = λ field. add_wide Add (field n) (field d) (field i);
 }
 
--- ADR, T2: SUBW with n = 15
+-- ADR, encoding T2: SUBW with n = 15
 abbrev pub adr_t2 : Row
 adr_t2 = record {
   places = codes "11110i10101011110iiiddddiiiiiiii";
   gives = λ field. address_wide (field d) (negated (field i));
 }
 
--- SUB (immediate), T4
+-- SUB (immediate), encoding T4
 abbrev pub subw : Row
 subw = record {
   places = codes "11110i101010nnnn0iiiddddiiiiiiii";
   gives = λ field. add_wide Subtract (field n) (field d) (field i);
 }
 
--- MOV (immediate), T3
+-- MOV (immediate), encoding T3
 abbrev pub movw : Row
 movw = record {
   places = codes "11110i100100nnnn0iiiddddiiiiiiii";
   gives = λ field. move_wide (field d) (halfword (field n) (field i));
 }
 
--- MOVT, T1
+-- MOVT, encoding T1
 abbrev pub movt : Row
 movt = record {
   places = codes "11110i101100nnnn0iiiddddiiiiiiii";
@@ -500,14 +500,14 @@ ssat_none = record {
   gives = λ field. Undefined;
 }
 
--- SSAT, T1, with ASR
+-- SSAT, encoding T1, with ASR
 abbrev pub ssat_asr : Row
 ssat_asr = record {
   places = codes "11110z110010nnnn0iiiddddiizwwwww";
   gives = λ field. saturate true (field d) ((field w) + 1) (shifted (field n) 2 (field i));
 }
 
--- SSAT, T1, with LSL
+-- SSAT, encoding T1, with LSL
 abbrev pub ssat_lsl : Row
 ssat_lsl = record {
   places = codes "11110z110000nnnn0iiiddddiizwwwww";
@@ -521,42 +521,42 @@ usat_none = record {
   gives = λ field. Undefined;
 }
 
--- USAT, T1, with ASR
+-- USAT, encoding T1, with ASR
 abbrev pub usat_asr : Row
 usat_asr = record {
   places = codes "11110z111010nnnn0iiiddddiizwwwww";
   gives = λ field. saturate false (field d) (field w) (shifted (field n) 2 (field i));
 }
 
--- USAT, T1, with LSL
+-- USAT, encoding T1, with LSL
 abbrev pub usat_lsl : Row
 usat_lsl = record {
   places = codes "11110z111000nnnn0iiiddddiizwwwww";
   gives = λ field. saturate false (field d) (field w) (shifted (field n) 0 (field i));
 }
 
--- SBFX, T1
+-- SBFX, encoding T1
 abbrev pub sbfx_t1 : Row
 sbfx_t1 = record {
   places = codes "11110z110100nnnn0iiiddddiizwwwww";
   gives = λ field. extract_field true (field n) (field d) (field i) ((field w) + 1);
 }
 
--- UBFX, T1
+-- UBFX, encoding T1
 abbrev pub ubfx_t1 : Row
 ubfx_t1 = record {
   places = codes "11110z111100nnnn0iiiddddiizwwwww";
   gives = λ field. extract_field false (field n) (field d) (field i) ((field w) + 1);
 }
 
--- BFC, T1: BFI with n = 15
+-- BFC, encoding T1: BFI with n = 15
 abbrev pub bfc_t1 : Row
 bfc_t1 = record {
   places = codes "11110z11011011110iiiddddiizwwwww";
   gives = λ field. clear_field (field d) (field i) (field w);
 }
 
--- BFI, T1
+-- BFI, encoding T1
 abbrev pub bfi_t1 : Row
 bfi_t1 = record {
   places = codes "11110z110110nnnn0iiiddddiizwwwww";

@@ -134,147 +134,147 @@ store_pc_none = record {
   gives = λ field. Undefined;
 }
 
--- PLD and PLI (literal), T1: LDRB and LDRSB with t = 15; the same of LDRH and LDRSH
+-- PLD and PLI (literal), encoding T1: LDRB and LDRSB with t = 15; the same of LDRH and LDRSH
 abbrev pub hint_literal : Row
 hint_literal = record {
   places = codes "1111100xx0s111111111xxxxxxxxxxxx";
   gives = λ field. memory_hint (field s);
 }
 
--- LDRB, LDRSB, LDRH and LDRSH (literal), T1: n = 15
+-- LDRB, LDRSB, LDRH and LDRSH (literal), encoding T1: n = 15
 abbrev pub ldr_narrow_literal : Row
 ldr_narrow_literal = record {
   places = codes "1111100XU0s11111ttttiiiiiiiiiiii";
   gives = λ field. load_literal (narrow_form (field big_x) (field s)) (field t) (signed_offset (field big_u) (field i));
 }
 
--- LDR (literal), T2: n = 15
+-- LDR (literal), encoding T2: n = 15
 abbrev pub ldr_literal_t2 : Row
 ldr_literal_t2 = record {
   places = codes "11111000U1011111ttttiiiiiiiiiiii";
   gives = λ field. load_literal word_form (field t) (signed_offset (field big_u) (field i));
 }
 
--- PLD and PLI (immediate), T1: LDRB and LDRSB with t = 15; the same of LDRH and LDRSH
+-- PLD and PLI (immediate), encoding T1: LDRB and LDRSB with t = 15; the same of LDRH and LDRSH
 abbrev pub hint_immediate_up : Row
 hint_immediate_up = record {
   places = codes "1111100x10s1xxxx1111xxxxxxxxxxxx";
   gives = λ field. memory_hint (field s);
 }
 
--- PLD and PLI (register), T1; the same of LDRH and LDRSH
+-- PLD and PLI (register), encoding T1; the same of LDRH and LDRSH
 abbrev pub hint_register : Row
 hint_register = record {
   places = codes "1111100x00s1xxxx1111000000xxmmmm";
   gives = λ field. memory_hint_indexed (field s) (field m);
 }
 
--- PLD and PLI (immediate), T2; the same of LDRH and LDRSH
+-- PLD and PLI (immediate), encoding T2; the same of LDRH and LDRSH
 abbrev pub hint_immediate_down : Row
 hint_immediate_down = record {
   places = codes "1111100x00s1xxxx11111100xxxxxxxx";
   gives = λ field. memory_hint (field s);
 }
 
--- STRT, STRBT and STRHT, T1
+-- STRT, STRBT and STRHT, encoding T1
 abbrev pub strt : Row
 strt = record {
   places = codes "111110000ss0nnnntttt1110iiiiiiii";
   gives = λ field. store_unprivileged (size_of (field s)) (field t) (field n) (field i);
 }
 
--- LDRBT, LDRSBT, LDRHT and LDRSHT, T1
+-- LDRBT, LDRSBT, LDRHT and LDRSHT, encoding T1
 abbrev pub ldrt_narrow : Row
 ldrt_narrow = record {
   places = codes "1111100X00s1nnnntttt1110iiiiiiii";
   gives = λ field. load_unprivileged (narrow_form (field big_x) (field s)) (field t) (field n) (field i);
 }
 
--- LDRT, T1
+-- LDRT, encoding T1
 abbrev pub ldrt_t1 : Row
 ldrt_t1 = record {
   places = codes "111110000101nnnntttt1110iiiiiiii";
   gives = λ field. load_unprivileged word_form (field t) (field n) (field i);
 }
 
--- STR (immediate), T3; STRB and STRH, T2
+-- STR (immediate), encoding T3; STRB and STRH, encoding T2
 abbrev pub str_immediate_up : Row
 str_immediate_up = record {
   places = codes "111110001ss0nnnnttttiiiiiiiiiiii";
   gives = λ field. store_at (size_of (field s)) (field t) (field n) Offset (field i);
 }
 
--- STR, STRB and STRH (register), T2
+-- STR, STRB and STRH (register), encoding T2
 abbrev pub str_register_wide : Row
 str_register_wide = record {
   places = codes "111110000ss0nnnntttt000000iimmmm";
   gives = λ field. store_indexed (size_of (field s)) (field t) (field n) (field m) (field i);
 }
 
--- STR (immediate), T4; STRB and STRH, T3, with P = 1
+-- STR (immediate), encoding T4; STRB and STRH, encoding T3, with P = 1
 abbrev pub str_immediate_pre : Row
 str_immediate_pre = record {
   places = codes "111110000ss0nnnntttt11VWiiiiiiii";
   gives = λ field. store_at (size_of (field s)) (field t) (field n) (indexing_of (field big_w)) (signed_offset (field big_v) (field i));
 }
 
--- STR (immediate), T4; STRB and STRH, T3, with P = 0 and W = 1
+-- STR (immediate), encoding T4; STRB and STRH, encoding T3, with P = 0 and W = 1
 abbrev pub str_immediate_post : Row
 str_immediate_post = record {
   places = codes "111110000ss0nnnntttt10V1iiiiiiii";
   gives = λ field. store_at (size_of (field s)) (field t) (field n) PostIndexed (signed_offset (field big_v) (field i));
 }
 
--- LDRB, LDRSB, LDRH and LDRSH (immediate), T2 and T1
+-- LDRB, LDRSB, LDRH and LDRSH (immediate), encoding T2 and encoding T1
 abbrev pub ldr_narrow_immediate_up : Row
 ldr_narrow_immediate_up = record {
   places = codes "1111100X10s1nnnnttttiiiiiiiiiiii";
   gives = λ field. load_at (narrow_form (field big_x) (field s)) (field t) (field n) Offset (field i);
 }
 
--- LDRB, LDRSB, LDRH and LDRSH (register), T2
+-- LDRB, LDRSB, LDRH and LDRSH (register), encoding T2
 abbrev pub ldr_narrow_register : Row
 ldr_narrow_register = record {
   places = codes "1111100X00s1nnnntttt000000iimmmm";
   gives = λ field. load_indexed (narrow_form (field big_x) (field s)) (field t) (field n) (field m) (field i);
 }
 
--- LDRB, LDRSB, LDRH and LDRSH (immediate), T3 and T2, with P = 1
+-- LDRB, LDRSB, LDRH and LDRSH (immediate), encoding T3 and encoding T2, with P = 1
 abbrev pub ldr_narrow_immediate_pre : Row
 ldr_narrow_immediate_pre = record {
   places = codes "1111100X00s1nnnntttt11VWiiiiiiii";
   gives = λ field. load_at (narrow_form (field big_x) (field s)) (field t) (field n) (indexing_of (field big_w)) (signed_offset (field big_v) (field i));
 }
 
--- LDRB, LDRSB, LDRH and LDRSH (immediate), T3 and T2, with P = 0 and W = 1
+-- LDRB, LDRSB, LDRH and LDRSH (immediate), encoding T3 and encoding T2, with P = 0 and W = 1
 abbrev pub ldr_narrow_immediate_post : Row
 ldr_narrow_immediate_post = record {
   places = codes "1111100X00s1nnnntttt10V1iiiiiiii";
   gives = λ field. load_at (narrow_form (field big_x) (field s)) (field t) (field n) PostIndexed (signed_offset (field big_v) (field i));
 }
 
--- LDR (immediate), T3
+-- LDR (immediate), encoding T3
 abbrev pub ldr_wide_immediate_up : Row
 ldr_wide_immediate_up = record {
   places = codes "111110001101nnnnttttiiiiiiiiiiii";
   gives = λ field. load_at word_form (field t) (field n) Offset (field i);
 }
 
--- LDR (register), T2
+-- LDR (register), encoding T2
 abbrev pub ldr_wide_register : Row
 ldr_wide_register = record {
   places = codes "111110000101nnnntttt000000iimmmm";
   gives = λ field. load_indexed word_form (field t) (field n) (field m) (field i);
 }
 
--- LDR (immediate), T4, with P = 1
+-- LDR (immediate), encoding T4, with P = 1
 abbrev pub ldr_wide_immediate_pre : Row
 ldr_wide_immediate_pre = record {
   places = codes "111110000101nnnntttt11VWiiiiiiii";
   gives = λ field. load_at word_form (field t) (field n) (indexing_of (field big_w)) (signed_offset (field big_v) (field i));
 }
 
--- LDR (immediate), T4, with P = 0 and W = 1
+-- LDR (immediate), encoding T4, with P = 0 and W = 1
 abbrev pub ldr_wide_immediate_post : Row
 ldr_wide_immediate_post = record {
   places = codes "111110000101nnnntttt10V1iiiiiiii";

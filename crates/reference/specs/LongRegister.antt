@@ -85,84 +85,84 @@ divide signed n d m =
 
 -- ---- the rows
 
--- LSL, LSR, ASR and ROR (register), T2
+-- LSL, LSR, ASR and ROR (register), encoding T2
 abbrev pub shift_register_t2 : Row
 shift_register_t2 = record {
   places = codes "111110100ttSnnnn1111dddd0000mmmm";
   gives = λ field. shift_by_register (field t) (field big_s == 1) (field n) (field d) (field m);
 }
 
--- SXTH, UXTH, SXTB and UXTB, T2
+-- SXTH, UXTH, SXTB and UXTB, encoding T2
 abbrev pub extend_t2 : Row
 extend_t2 = record {
   places = codes "111110100b0u11111111dddd1zrrmmmm";
   gives = λ field. extend_turned (field u == 0) (extended_size (field b)) (field d) (field m) (field r);
 }
 
--- REV, T2
+-- REV, encoding T2
 abbrev pub rev_t2 : Row
 rev_t2 = record {
   places = codes "111110101001nnnn1111dddd1000mmmm";
   gives = λ field. rearrange_wide ReverseWord (field n) (field d) (field m);
 }
 
--- REV16, T2
+-- REV16, encoding T2
 abbrev pub rev16_t2 : Row
 rev16_t2 = record {
   places = codes "111110101001nnnn1111dddd1001mmmm";
   gives = λ field. rearrange_wide ReverseHalfwords (field n) (field d) (field m);
 }
 
--- RBIT, T1
+-- RBIT, encoding T1
 abbrev pub rbit_t1 : Row
 rbit_t1 = record {
   places = codes "111110101001nnnn1111dddd1010mmmm";
   gives = λ field. rearrange_wide ReverseBits (field n) (field d) (field m);
 }
 
--- REVSH, T2
+-- REVSH, encoding T2
 abbrev pub revsh_t2 : Row
 revsh_t2 = record {
   places = codes "111110101001nnnn1111dddd1011mmmm";
   gives = λ field. rearrange_wide ReverseSignedHalfword (field n) (field d) (field m);
 }
 
--- CLZ, T1
+-- CLZ, encoding T1
 abbrev pub clz_t1 : Row
 clz_t1 = record {
   places = codes "111110101011nnnn1111dddd1000mmmm";
   gives = λ field. rearrange_wide CountLeadingZeros (field n) (field d) (field m);
 }
 
--- MUL, T2: MLA with a = 15
+-- MUL, encoding T2: MLA with a = 15
 abbrev pub mul_t2 : Row
 mul_t2 = record {
   places = codes "111110110000nnnn1111dddd0000mmmm";
   gives = λ field. multiply_wide (field n) (field d) (field m);
 }
 
--- MLA, T1
+-- MLA, encoding T1
 abbrev pub mla_t1 : Row
 mla_t1 = record {
   places = codes "111110110000nnnnaaaadddd0000mmmm";
   gives = λ field. multiply_accumulate sum.Add (field n) (field a) (field d) (field m);
 }
 
--- MLS, T1
+-- MLS, encoding T1
 abbrev pub mls_t1 : Row
 mls_t1 = record {
   places = codes "111110110000nnnnaaaadddd0001mmmm";
   gives = λ field. multiply_accumulate sum.Subtract (field n) (field a) (field d) (field m);
 }
 
--- SMULL, UMULL, SMLAL and UMLAL, T1
+-- SMULL, UMULL, SMLAL and UMLAL, encoding T1
 abbrev pub mull_t1 : Row
 mull_t1 = record {
   places = codes "111110111au0nnnnllllhhhh0000mmmm";
   gives = λ field. multiply_long (field u == 0) (field a == 1) (field n) (field l) (field h) (field m);
 }
 
--- SDIV and UDIV, T1
+-- SDIV and UDIV, encoding T1
 abbrev pub div_t1 : Row
 div_t1 = record {
   places = codes "1111101110u1nnnnoooodddd1111mmmm";

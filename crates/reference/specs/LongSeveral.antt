@@ -108,105 +108,105 @@ store_dual t u n indexing offset =
 
 -- ---- the rows
 
--- STM, T2
+-- STM, encoding T2
 abbrev pub stm_t2 : Row
 stm_t2 = record {
   places = codes "1110100010W0nnnnzMzlllllllllllll";
   gives = λ field. store_list (field n) (field big_w == 1) IncrementAfter (field big_m * 2 ^ 14 + (field l));
 }
 
--- LDM, T2
+-- LDM, encoding T2
 abbrev pub ldm_t2 : Row
 ldm_t2 = record {
   places = codes "1110100010W1nnnnPMzlllllllllllll";
   gives = λ field. load_list (field n) (field big_w == 1) IncrementAfter (field big_p) (field big_m) (field l);
 }
 
--- STMDB, T1
+-- STMDB, encoding T1
 abbrev pub stmdb_t1 : Row
 stmdb_t1 = record {
   places = codes "1110100100W0nnnnzMzlllllllllllll";
   gives = λ field. store_list (field n) (field big_w == 1) DecrementBefore (field big_m * 2 ^ 14 + (field l));
 }
 
--- LDMDB, T1
+-- LDMDB, encoding T1
 abbrev pub ldmdb_t1 : Row
 ldmdb_t1 = record {
   places = codes "1110100100W1nnnnPMzlllllllllllll";
   gives = λ field. load_list (field n) (field big_w == 1) DecrementBefore (field big_p) (field big_m) (field l);
 }
 
--- STREX, T1
+-- STREX, encoding T1
 abbrev pub strex_t1 : Row
 strex_t1 = record {
   places = codes "111010000100nnnnttttddddiiiiiiii";
   gives = λ field. store_exclusive Word (field d) (field t) (field n) (field i * 4);
 }
 
--- LDREX, T1
+-- LDREX, encoding T1
 abbrev pub ldrex_t1 : Row
 ldrex_t1 = record {
   places = codes "111010000101nnnnttttooooiiiiiiii";
   gives = λ field. load_exclusive Word (field t) (field n) (field i * 4);
 }
 
--- STREXB and STREXH, T1
+-- STREXB and STREXH, encoding T1
 abbrev pub strexb_t1 : Row
 strexb_t1 = record {
   places = codes "111010001100nnnnttttoooo010Hdddd";
   gives = λ field. store_exclusive (byte_or_halfword (field big_h)) (field d) (field t) (field n) 0;
 }
 
--- TBB and TBH, T1
+-- TBB and TBH, encoding T1
 abbrev pub tbb_t1 : Row
 tbb_t1 = record {
   places = codes "111010001101nnnnoooozzzz000Hmmmm";
   gives = λ field. table_branch (field big_h) (field n) (field m);
 }
 
--- LDREXB and LDREXH, T1
+-- LDREXB and LDREXH, encoding T1
 abbrev pub ldrexb_t1 : Row
 ldrexb_t1 = record {
   places = codes "111010001101nnnnttttoooo010Hoooo";
   gives = λ field. load_exclusive (byte_or_halfword (field big_h)) (field t) (field n) 0;
 }
 
--- LDRD (literal), T1: LDRD with n = 15
+-- LDRD (literal), encoding T1: LDRD with n = 15
 abbrev pub ldrd_literal_t1_pre : Row
 ldrd_literal_t1_pre = record {
   places = codes "11101001U1W11111ttttuuuuiiiiiiii";
   gives = λ field. load_dual_literal (field t) (field u) (field big_w == 1) (signed_offset (field big_u) (field i * 4));
 }
 
--- LDRD (literal), T1, with P = 0 and W = 1
+-- LDRD (literal), encoding T1, with P = 0 and W = 1
 abbrev pub ldrd_literal_t1_post : Row
 ldrd_literal_t1_post = record {
   places = codes "11101000U1111111ttttuuuuiiiiiiii";
   gives = λ field. load_dual_literal (field t) (field u) true (signed_offset (field big_u) (field i * 4));
 }
 
--- LDRD (immediate), T1, with P = 1
+-- LDRD (immediate), encoding T1, with P = 1
 abbrev pub ldrd_immediate_t1_pre : Row
 ldrd_immediate_t1_pre = record {
   places = codes "11101001U1W1nnnnttttuuuuiiiiiiii";
   gives = λ field. load_dual (field t) (field u) (field n) (indexing_of (field big_w)) (signed_offset (field big_u) (field i * 4));
 }
 
--- LDRD (immediate), T1, with P = 0 and W = 1
+-- LDRD (immediate), encoding T1, with P = 0 and W = 1
 abbrev pub ldrd_immediate_t1_post : Row
 ldrd_immediate_t1_post = record {
   places = codes "11101000U111nnnnttttuuuuiiiiiiii";
   gives = λ field. load_dual (field t) (field u) (field n) PostIndexed (signed_offset (field big_u) (field i * 4));
 }
 
--- STRD (immediate), T1, with P = 1
+-- STRD (immediate), encoding T1, with P = 1
 abbrev pub strd_immediate_t1_pre : Row
 strd_immediate_t1_pre = record {
   places = codes "11101001U1W0nnnnttttuuuuiiiiiiii";
   gives = λ field. store_dual (field t) (field u) (field n) (indexing_of (field big_w)) (signed_offset (field big_u) (field i * 4));
 }
 
--- STRD (immediate), T1, with P = 0 and W = 1
+-- STRD (immediate), encoding T1, with P = 0 and W = 1
 abbrev pub strd_immediate_t1_post : Row
 strd_immediate_t1_post = record {
   places = codes "11101000U110nnnnttttuuuuiiiiiiii";

@@ -67,77 +67,77 @@ branch_short halfwords = placed 2 place.LastOnly (Branch (record { offset = sign
 
 -- ---- the rows
 
--- BX, T1
+-- BX, encoding T1
 abbrev pub bx_t1 : Row
 bx_t1 = record {
   places = codes "010001110mmmmzzz";
   gives = λ field. branch_exchange (field m);
 }
 
--- BLX (register), T1
+-- BLX (register), encoding T1
 abbrev pub blx_register_t1 : Row
 blx_register_t1 = record {
   places = codes "010001111mmmmzzz";
   gives = λ field. branch_link_exchange (field m);
 }
 
--- CBZ and CBNZ, T1
+-- CBZ and CBNZ, encoding T1
 abbrev pub cbz_t1 : Row
 cbz_t1 = record {
   places = codes "1011p0i1iiiiinnn";
   gives = λ field. compare_and_branch (field p == 1) (field i) (field n);
 }
 
--- CPS, T1
+-- CPS, encoding T1
 abbrev pub cps_t1 : Row
 cps_t1 = record {
   places = codes "10110110011ezzIF";
   gives = λ field. change_state (field e == 1) (field big_i == 1) (field big_f == 1);
 }
 
--- BKPT, T1
+-- BKPT, encoding T1
 abbrev pub bkpt_t1 : Row
 bkpt_t1 = record {
   places = codes "10111110iiiiiiii";
   gives = λ field. breakpoint (field i);
 }
 
--- The hints of 16 bits, T1
+-- The hints of 16 bits, encoding T1
 abbrev pub nop_t1 : Row
 nop_t1 = record {
   places = codes "10111111hhhh0000";
   gives = λ field. short (Hint (hint_of (field h)));
 }
 
--- IT, T1: where no hint is
+-- IT, encoding T1: where no hint is
 abbrev pub it_t1 : Row
 it_t1 = record {
   places = codes "10111111ccccxxxx";
   gives = λ field. if_then (field c) (field x);
 }
 
--- UDF, T1: B with the condition 1110
+-- UDF, encoding T1: B with the condition 1110
 abbrev pub udf_t1 : Row
 udf_t1 = record {
   places = codes "11011110iiiiiiii";
   gives = λ field. Undefined;
 }
 
--- SVC, T1: B with the condition 1111
+-- SVC, encoding T1: B with the condition 1111
 abbrev pub svc_t1 : Row
 svc_t1 = record {
   places = codes "11011111iiiiiiii";
   gives = λ field. short (SupervisorCall (field i));
 }
 
--- B, T1
+-- B, encoding T1
 abbrev pub b_t1 : Row
 b_t1 = record {
   places = codes "1101cccciiiiiiii";
   gives = λ field. branch_if (field c) (field i);
 }
 
--- B, T2
+-- B, encoding T2
 abbrev pub b_t2 : Row
 b_t2 = record {
   places = codes "11100iiiiiiiiiii";

@@ -142,294 +142,294 @@ rearrange operation d m = short (Rearrange (record { operation = operation; dest
 
 -- ---- the rows
 
--- MOV (register), T2: LSL (immediate) by 0, which sets flags and may not stand in an IT block
+-- MOV (register), encoding T2: LSL (immediate) by 0, which sets flags and may not stand in an IT block
 abbrev pub mov_register_t2 : Row
 mov_register_t2 = record {
   places = codes "0000000000mmmddd";
   gives = λ field. move_low (field d) (field m);
 }
 
--- LSL (immediate), T1
+-- LSL (immediate), encoding T1
 abbrev pub lsl_immediate_t1 : Row
 lsl_immediate_t1 = record {
   places = codes "00000iiiiimmmddd";
   gives = λ field. shift_number 0 (field i) (field d) (field m);
 }
 
--- LSR (immediate), T1
+-- LSR (immediate), encoding T1
 abbrev pub lsr_immediate_t1 : Row
 lsr_immediate_t1 = record {
   places = codes "00001iiiiimmmddd";
   gives = λ field. shift_number 1 (field i) (field d) (field m);
 }
 
--- ASR (immediate), T1
+-- ASR (immediate), encoding T1
 abbrev pub asr_immediate_t1 : Row
 asr_immediate_t1 = record {
   places = codes "00010iiiiimmmddd";
   gives = λ field. shift_number 2 (field i) (field d) (field m);
 }
 
--- ADD (register), T1
+-- ADD (register), encoding T1
 abbrev pub add_register_t1 : Row
 add_register_t1 = record {
   places = codes "0001100mmmnnnddd";
   gives = λ field. data_registers Add (field d) (field n) (field m);
 }
 
--- SUB (register), T1
+-- SUB (register), encoding T1
 abbrev pub sub_register_t1 : Row
 sub_register_t1 = record {
   places = codes "0001101mmmnnnddd";
   gives = λ field. data_registers Subtract (field d) (field n) (field m);
 }
 
--- ADD (immediate), T1
+-- ADD (immediate), encoding T1
 abbrev pub add_immediate_t1 : Row
 add_immediate_t1 = record {
   places = codes "0001110iiinnnddd";
   gives = λ field. data_number Add (field d) (field n) (field i);
 }
 
--- SUB (immediate), T1
+-- SUB (immediate), encoding T1
 abbrev pub sub_immediate_t1 : Row
 sub_immediate_t1 = record {
   places = codes "0001111iiinnnddd";
   gives = λ field. data_number Subtract (field d) (field n) (field i);
 }
 
--- MOV (immediate), T1
+-- MOV (immediate), encoding T1
 abbrev pub mov_immediate_t1 : Row
 mov_immediate_t1 = record {
   places = codes "00100dddiiiiiiii";
   gives = λ field. move_number (field d) (field i);
 }
 
--- CMP (immediate), T1
+-- CMP (immediate), encoding T1
 abbrev pub cmp_immediate_t1 : Row
 cmp_immediate_t1 = record {
   places = codes "00101nnniiiiiiii";
   gives = λ field. compare_number (field n) (field i);
 }
 
--- ADD (immediate), T2
+-- ADD (immediate), encoding T2
 abbrev pub add_immediate_t2 : Row
 add_immediate_t2 = record {
   places = codes "00110dddiiiiiiii";
   gives = λ field. data_number Add (field d) (field d) (field i);
 }
 
--- SUB (immediate), T2
+-- SUB (immediate), encoding T2
 abbrev pub sub_immediate_t2 : Row
 sub_immediate_t2 = record {
   places = codes "00111dddiiiiiiii";
   gives = λ field. data_number Subtract (field d) (field d) (field i);
 }
 
--- AND (register), T1
+-- AND (register), encoding T1
 abbrev pub and_register_t1 : Row
 and_register_t1 = record {
   places = codes "0100000000mmmddd";
   gives = λ field. data_registers And (field d) (field d) (field m);
 }
 
--- EOR (register), T1
+-- EOR (register), encoding T1
 abbrev pub eor_register_t1 : Row
 eor_register_t1 = record {
   places = codes "0100000001mmmddd";
   gives = λ field. data_registers ExclusiveOr (field d) (field d) (field m);
 }
 
--- LSL (register), T1
+-- LSL (register), encoding T1
 abbrev pub lsl_register_t1 : Row
 lsl_register_t1 = record {
   places = codes "0100000010mmmddd";
   gives = λ field. shift_register Lsl (field d) (field m);
 }
 
--- LSR (register), T1
+-- LSR (register), encoding T1
 abbrev pub lsr_register_t1 : Row
 lsr_register_t1 = record {
   places = codes "0100000011mmmddd";
   gives = λ field. shift_register Lsr (field d) (field m);
 }
 
--- ASR (register), T1
+-- ASR (register), encoding T1
 abbrev pub asr_register_t1 : Row
 asr_register_t1 = record {
   places = codes "0100000100mmmddd";
   gives = λ field. shift_register Asr (field d) (field m);
 }
 
--- ADC (register), T1
+-- ADC (register), encoding T1
 abbrev pub adc_register_t1 : Row
 adc_register_t1 = record {
   places = codes "0100000101mmmddd";
   gives = λ field. data_registers AddWithCarry (field d) (field d) (field m);
 }
 
--- SBC (register), T1
+-- SBC (register), encoding T1
 abbrev pub sbc_register_t1 : Row
 sbc_register_t1 = record {
   places = codes "0100000110mmmddd";
   gives = λ field. data_registers SubtractWithCarry (field d) (field d) (field m);
 }
 
--- ROR (register), T1
+-- ROR (register), encoding T1
 abbrev pub ror_register_t1 : Row
 ror_register_t1 = record {
   places = codes "0100000111mmmddd";
   gives = λ field. shift_register Ror (field d) (field m);
 }
 
--- TST (register), T1
+-- TST (register), encoding T1
 abbrev pub tst_register_t1 : Row
 tst_register_t1 = record {
   places = codes "0100001000mmmddd";
   gives = λ field. compare_registers Test (field d) (field m);
 }
 
--- RSB (immediate), T1: 0 less the register
+-- RSB (immediate), encoding T1: 0 less the register
 abbrev pub rsb_immediate_t1 : Row
 rsb_immediate_t1 = record {
   places = codes "0100001001mmmddd";
   gives = λ field. data_number ReverseSubtract (field d) (field m) 0;
 }
 
--- CMP (register), T1
+-- CMP (register), encoding T1
 abbrev pub cmp_register_t1 : Row
 cmp_register_t1 = record {
   places = codes "0100001010mmmddd";
   gives = λ field. compare_registers Compare (field d) (field m);
 }
 
--- CMN (register), T1
+-- CMN (register), encoding T1
 abbrev pub cmn_register_t1 : Row
 cmn_register_t1 = record {
   places = codes "0100001011mmmddd";
   gives = λ field. compare_registers CompareNegative (field d) (field m);
 }
 
--- ORR (register), T1
+-- ORR (register), encoding T1
 abbrev pub orr_register_t1 : Row
 orr_register_t1 = record {
   places = codes "0100001100mmmddd";
   gives = λ field. data_registers Or (field d) (field d) (field m);
 }
 
--- MUL, T1
+-- MUL, encoding T1
 abbrev pub mul_t1 : Row
 mul_t1 = record {
   places = codes "0100001101mmmddd";
   gives = λ field. multiply (field d) (field m);
 }
 
--- BIC (register), T1
+-- BIC (register), encoding T1
 abbrev pub bic_register_t1 : Row
 bic_register_t1 = record {
   places = codes "0100001110mmmddd";
   gives = λ field. data_registers BitClear (field d) (field d) (field m);
 }
 
--- MVN (register), T1
+-- MVN (register), encoding T1
 abbrev pub mvn_register_t1 : Row
 mvn_register_t1 = record {
   places = codes "0100001111mmmddd";
   gives = λ field. move_not (field d) (field m);
 }
 
--- ADD (register), T2
+-- ADD (register), encoding T2
 abbrev pub add_register_t2 : Row
 add_register_t2 = record {
   places = codes "01000100dmmmmddd";
   gives = λ field. add_high (field d) (field m);
 }
 
--- CMP (register), T2
+-- CMP (register), encoding T2
 abbrev pub cmp_register_t2 : Row
 cmp_register_t2 = record {
   places = codes "01000101nmmmmnnn";
   gives = λ field. compare_high (field n) (field m);
 }
 
--- MOV (register), T1
+-- MOV (register), encoding T1
 abbrev pub mov_register_t1 : Row
 mov_register_t1 = record {
   places = codes "01000110dmmmmddd";
   gives = λ field. move_high (field d) (field m);
 }
 
--- ADR, T1
+-- ADR, encoding T1
 abbrev pub adr_t1 : Row
 adr_t1 = record {
   places = codes "10100dddiiiiiiii";
   gives = λ field. address (field d) (field i);
 }
 
--- ADD (SP plus immediate), T1
+-- ADD (SP plus immediate), encoding T1
 abbrev pub add_sp_immediate_t1 : Row
 add_sp_immediate_t1 = record {
   places = codes "10101dddiiiiiiii";
   gives = λ field. sp_number Add (field d) (field i);
 }
 
--- ADD (SP plus immediate), T2
+-- ADD (SP plus immediate), encoding T2
 abbrev pub add_sp_immediate_t2 : Row
 add_sp_immediate_t2 = record {
   places = codes "101100000iiiiiii";
   gives = λ field. sp_number Add 13 (field i);
 }
 
--- SUB (SP minus immediate), T1
+-- SUB (SP minus immediate), encoding T1
 abbrev pub sub_sp_immediate_t1 : Row
 sub_sp_immediate_t1 = record {
   places = codes "101100001iiiiiii";
   gives = λ field. sp_number Subtract 13 (field i);
 }
 
--- SXTH, T1
+-- SXTH, encoding T1
 abbrev pub sxth_t1 : Row
 sxth_t1 = record {
   places = codes "1011001000mmmddd";
   gives = λ field. extend true Halfword (field d) (field m);
 }
 
--- SXTB, T1
+-- SXTB, encoding T1
 abbrev pub sxtb_t1 : Row
 sxtb_t1 = record {
   places = codes "1011001001mmmddd";
   gives = λ field. extend true Byte (field d) (field m);
 }
 
--- UXTH, T1
+-- UXTH, encoding T1
 abbrev pub uxth_t1 : Row
 uxth_t1 = record {
   places = codes "1011001010mmmddd";
   gives = λ field. extend false Halfword (field d) (field m);
 }
 
--- UXTB, T1
+-- UXTB, encoding T1
 abbrev pub uxtb_t1 : Row
 uxtb_t1 = record {
   places = codes "1011001011mmmddd";
   gives = λ field. extend false Byte (field d) (field m);
 }
 
--- REV, T1
+-- REV, encoding T1
 abbrev pub rev_t1 : Row
 rev_t1 = record {
   places = codes "1011101000mmmddd";
   gives = λ field. rearrange ReverseWord (field d) (field m);
 }
 
--- REV16, T1
+-- REV16, encoding T1
 abbrev pub rev16_t1 : Row
 rev16_t1 = record {
   places = codes "1011101001mmmddd";
   gives = λ field. rearrange ReverseHalfwords (field d) (field m);
 }
 
--- REVSH, T1
+-- REVSH, encoding T1
 abbrev pub revsh_t1 : Row
 revsh_t1 = record {
   places = codes "1011101011mmmddd";

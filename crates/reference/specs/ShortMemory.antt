@@ -84,147 +84,147 @@ load_list n list =
 
 -- ---- the rows
 
--- LDR (literal), T1
+-- LDR (literal), encoding T1
 abbrev pub ldr_literal_t1 : Row
 ldr_literal_t1 = record {
   places = codes "01001tttiiiiiiii";
   gives = λ field. load_literal_word (field t) (field i);
 }
 
--- STR (register), T1
+-- STR (register), encoding T1
 abbrev pub str_register_t1 : Row
 str_register_t1 = record {
   places = codes "0101000mmmnnnttt";
   gives = λ field. store_register Word (field t) (field n) (field m);
 }
 
--- STRH (register), T1
+-- STRH (register), encoding T1
 abbrev pub strh_register_t1 : Row
 strh_register_t1 = record {
   places = codes "0101001mmmnnnttt";
   gives = λ field. store_register Halfword (field t) (field n) (field m);
 }
 
--- STRB (register), T1
+-- STRB (register), encoding T1
 abbrev pub strb_register_t1 : Row
 strb_register_t1 = record {
   places = codes "0101010mmmnnnttt";
   gives = λ field. store_register Byte (field t) (field n) (field m);
 }
 
--- LDRSB (register), T1
+-- LDRSB (register), encoding T1
 abbrev pub ldrsb_register_t1 : Row
 ldrsb_register_t1 = record {
   places = codes "0101011mmmnnnttt";
   gives = λ field. load_register Byte true (field t) (field n) (field m);
 }
 
--- LDR (register), T1
+-- LDR (register), encoding T1
 abbrev pub ldr_register_t1 : Row
 ldr_register_t1 = record {
   places = codes "0101100mmmnnnttt";
   gives = λ field. load_register Word false (field t) (field n) (field m);
 }
 
--- LDRH (register), T1
+-- LDRH (register), encoding T1
 abbrev pub ldrh_register_t1 : Row
 ldrh_register_t1 = record {
   places = codes "0101101mmmnnnttt";
   gives = λ field. load_register Halfword false (field t) (field n) (field m);
 }
 
--- LDRB (register), T1
+-- LDRB (register), encoding T1
 abbrev pub ldrb_register_t1 : Row
 ldrb_register_t1 = record {
   places = codes "0101110mmmnnnttt";
   gives = λ field. load_register Byte false (field t) (field n) (field m);
 }
 
--- LDRSH (register), T1
+-- LDRSH (register), encoding T1
 abbrev pub ldrsh_register_t1 : Row
 ldrsh_register_t1 = record {
   places = codes "0101111mmmnnnttt";
   gives = λ field. load_register Halfword true (field t) (field n) (field m);
 }
 
--- STR (immediate), T1
+-- STR (immediate), encoding T1
 abbrev pub str_immediate_t1 : Row
 str_immediate_t1 = record {
   places = codes "01100iiiiinnnttt";
   gives = λ field. store_number Word (field t) (field n) (field i * 4);
 }
 
--- LDR (immediate), T1
+-- LDR (immediate), encoding T1
 abbrev pub ldr_immediate_t1 : Row
 ldr_immediate_t1 = record {
   places = codes "01101iiiiinnnttt";
   gives = λ field. load_number Word (field t) (field n) (field i * 4);
 }
 
--- STRB (immediate), T1
+-- STRB (immediate), encoding T1
 abbrev pub strb_immediate_t1 : Row
 strb_immediate_t1 = record {
   places = codes "01110iiiiinnnttt";
   gives = λ field. store_number Byte (field t) (field n) (field i);
 }
 
--- LDRB (immediate), T1
+-- LDRB (immediate), encoding T1
 abbrev pub ldrb_immediate_t1 : Row
 ldrb_immediate_t1 = record {
   places = codes "01111iiiiinnnttt";
   gives = λ field. load_number Byte (field t) (field n) (field i);
 }
 
--- STRH (immediate), T1
+-- STRH (immediate), encoding T1
 abbrev pub strh_immediate_t1 : Row
 strh_immediate_t1 = record {
   places = codes "10000iiiiinnnttt";
   gives = λ field. store_number Halfword (field t) (field n) (field i * 2);
 }
 
--- LDRH (immediate), T1
+-- LDRH (immediate), encoding T1
 abbrev pub ldrh_immediate_t1 : Row
 ldrh_immediate_t1 = record {
   places = codes "10001iiiiinnnttt";
   gives = λ field. load_number Halfword (field t) (field n) (field i * 2);
 }
 
--- STR (immediate), T2: at SP
+-- STR (immediate), encoding T2: at SP
 abbrev pub str_immediate_t2 : Row
 str_immediate_t2 = record {
   places = codes "10010tttiiiiiiii";
   gives = λ field. store_number Word (field t) 13 (field i * 4);
 }
 
--- LDR (immediate), T2: at SP
+-- LDR (immediate), encoding T2: at SP
 abbrev pub ldr_immediate_t2 : Row
 ldr_immediate_t2 = record {
   places = codes "10011tttiiiiiiii";
   gives = λ field. load_number Word (field t) 13 (field i * 4);
 }
 
--- PUSH, T1
+-- PUSH, encoding T1
 abbrev pub push_t1 : Row
 push_t1 = record {
   places = codes "1011010Mllllllll";
   gives = λ field. push (field big_m) (field l);
 }
 
--- POP, T1
+-- POP, encoding T1
 abbrev pub pop_t1 : Row
 pop_t1 = record {
   places = codes "1011110Pllllllll";
   gives = λ field. pop (field big_p) (field l);
 }
 
--- STM, T1
+-- STM, encoding T1
 abbrev pub stm_t1 : Row
 stm_t1 = record {
   places = codes "11000nnnllllllll";
   gives = λ field. store_list (field n) (field l);
 }
 
--- LDM, T1
+-- LDM, encoding T1
 abbrev pub ldm_t1 : Row
 ldm_t1 = record {
   places = codes "11001nnnllllllll";
