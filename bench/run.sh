@@ -7,4 +7,4 @@ folder=$(mktemp -d)
 trap 'rm -rf "$folder"' EXIT
 "$top/marm" run --steps 0 "$top/examples/first.elf" >"$folder/stop"
 gcc -O2 -o "$folder/format" "$top/bench/format.c"
-python3 "$top/bench/rounds.py" "$top/crates/marm/out/marm" "$folder/format" "$folder" "${1:-3000000}" "${2:-15}"
+python3 -B "$top/bench/rounds.py" "$top/crates/marm/out/marm" "$folder/format" "$folder" "${1:-3000000}" "${2:-15}"

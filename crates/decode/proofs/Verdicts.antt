@@ -126,28 +126,37 @@ by_row_is row x =
     ap (λ f. as_told (f z == 0) (f o == 2 ^ ones_of row - 1) (row.gives f)) fields
 
 -- by the tests that a number passes and fails, a row is the first that fits
-pub row_means : (places : ℕ) (rows : List Row) (otherwise : Decoded) (row : Row) (known : List Test) (denied : List (List Test)) (x : ℕ)
+abbrev pub RowMeans : ℕ → List Row → (ℕ → Decoded) → Type 0
+RowMeans places rows means =
+    (row : Row) (known : List Test) (denied : List (List Test)) (x : ℕ)
     → resolve (text_of places known) (texts_of places denied) rows ≡ Some (Some row)
     → are_proper places denied ≡ true
     → Passes known x
     → Fails denied x
-    → meaning rows otherwise x ≡ given_by row x
+    → means x ≡ given_by row x
+
+pub row_means : (places : ℕ) (rows : List Row) (otherwise : Decoded) → RowMeans places rows (meaning rows otherwise)
 unfolding meaning
-row_means places rows otherwise row known denied x found proper passes fails =
+row_means places rows otherwise = λ row known denied x found proper passes fails.
     ap (by_found otherwise x)
     (resolve_finds (text_of places known) (texts_of places denied) rows (Some row) x found (passes_fits places known x passes)
     (fails_fits_none places denied x proper fails))
     ∙ by_row_is row x
 
 -- by them no row fits
-pub none_means : (places : ℕ) (rows : List Row) (otherwise : Decoded) (known : List Test) (denied : List (List Test)) (x : ℕ)
+abbrev pub NoneMeans : ℕ → List Row → Decoded → (ℕ → Decoded) → Type 0
+NoneMeans places rows otherwise means =
+    (known : List Test) (denied : List (List Test)) (x : ℕ)
     → resolve (text_of places known) (texts_of places denied) rows ≡ Some None
     → are_proper places denied ≡ true
     → Passes known x
     → Fails denied x
-    → meaning rows otherwise x ≡ otherwise
+    → means x ≡ otherwise
+
+pub none_means : (places : ℕ) (rows : List Row) (otherwise : Decoded)
+    → NoneMeans places rows otherwise (meaning rows otherwise)
 unfolding meaning
-none_means places rows otherwise known denied x found proper passes fails =
+none_means places rows otherwise = λ known denied x found proper passes fails.
     ap (by_found otherwise x)
     (resolve_finds (text_of places known) (texts_of places denied) rows None x found (passes_fits places known x passes)
     (fails_fits_none places denied x proper fails))

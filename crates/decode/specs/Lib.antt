@@ -2,3 +2,4 @@
 pub use Rattle.reference.specs.Decoding
 pub mod Laws
 pub mod Lines
+pub mod NumberForms

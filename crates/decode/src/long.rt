@@ -14,7 +14,7 @@ use crate::long_several::{duals_and_exclusives, lists};
 use reference::instruction::Decoded;
 
 /// What two halfwords mean that are an instruction together, the first above the second.
-pub fn decode_long(x: u32) -> Decoded
+pub(crate) fn decode_long(x: u32) -> Decoded
     requires { 29 ≤ bits x 27 5 }
     ensures { result ≡ long_meaning x }
 {

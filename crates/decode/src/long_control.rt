@@ -6,7 +6,7 @@ ghost use Rattle.reference.specs.LongControl.{wide_offset, conditional_offset, b
 ghost use Rattle.reference.specs.Words.{bits};
 
 use crate::fields::{bits, eight, four, register};
-use crate::given::{as_told, is_bad, long, placed, unless};
+use crate::given::{as_told, is_bad, long, placed, unless, unless_refused};
 use crate::short_control::{hint, sign_extend};
 use reference::instruction::{BlockPlace, Decoded, Hint, Instruction};
 use reference::operands::{
@@ -17,7 +17,7 @@ use reference::stop::UnpredictableCase;
 
 /// Branches, and the rows for control.
 #[tactic(auto, using(crate::proofs::LongTop::branch_lemmas))]
-pub fn branches_and_control(x: u32) -> Decoded
+pub(crate) fn branches_and_control(x: u32) -> Decoded
     requires top { bits x 27 5 ≡ 30 }
     requires second { bits x 15 1 ≡ 1 }
     ensures { result ≡ long_meaning x }
@@ -220,12 +220,7 @@ fn move_to_special(n: Register, mask: u32, number: u8) -> Decoded
         UnpredictableCase::SpecialRegister,
         known,
     );
-    unless(
-        is_bad(n),
-        BlockPlace::Anywhere,
-        UnpredictableCase::Registers,
-        masked,
-    )
+    unless_refused(is_bad(n), masked)
 }
 
 /// MRS.
@@ -240,12 +235,7 @@ fn move_from_special(d: Register, number: u8) -> Decoded
             destination: d,
         })),
     };
-    unless(
-        is_bad(d),
-        BlockPlace::Anywhere,
-        UnpredictableCase::Registers,
-        known,
-    )
+    unless_refused(is_bad(d), known)
 }
 
 /// The hints of 32 bits by their number: DBG has the top sixteen.

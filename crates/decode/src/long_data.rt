@@ -7,7 +7,7 @@ ghost use Rattle.reference.specs.Rows.{as_told as told_of};
 ghost use Rattle.reference.specs.Words.{bits};
 
 use crate::fields::{bits, imm5, imm12, is_set, register};
-use crate::given::{as_told, is_bad, long, unless};
+use crate::given::{as_told, is_bad, long, long_unless, unless_refused};
 use reference::instruction::{BlockPlace, Decoded, Instruction};
 use reference::operands::{
     CompareImmediate, CompareRegister, Comparison, DataImmediate, DataOperation, DataRegister,
@@ -20,7 +20,7 @@ use regs::{decode_imm_shift, expand_imm};
 
 /// The operations on a register and a modified immediate.
 #[tactic(auto, using(crate::proofs::LongTop::modified_immediate_lemmas))]
-pub fn modified_immediates(x: u32) -> Decoded
+pub(crate) fn modified_immediates(x: u32) -> Decoded
     requires top { bits x 27 5 ≡ 30 }
     requires second { bits x 15 1 ≡ 0 }
     requires modified { bits x 25 1 ≡ 0 }
@@ -51,7 +51,7 @@ pub fn modified_immediates(x: u32) -> Decoded
 
 /// The operations on two registers, the second shifted.
 #[tactic(auto, using(crate::proofs::LongTop::shifted_register_lemmas))]
-pub fn shifted_registers(x: u32) -> Decoded
+pub(crate) fn shifted_registers(x: u32) -> Decoded
     requires top { bits x 27 5 ≡ 29 }
     requires processor { bits x 26 1 ≡ 0 }
     requires data { bits x 25 1 ≡ 1 }
@@ -114,7 +114,7 @@ fn is_refused_first(sp: bool, n: Register) -> bool
 
 /// Whether a destination is refused: PC always, and SP unless it is SP that the operation starts
 /// from.
-pub fn is_refused_destination(sp: bool, n: Register, d: Register) -> bool
+pub(crate) fn is_refused_destination(sp: bool, n: Register, d: Register) -> bool
     ensures { result ≡ is_refused_destination sp n d }
 {
     d.number() == 15 || d.number() == 13 && !(sp && n.number() == 13)
@@ -130,7 +130,7 @@ fn is_lsl_below(shift: Shift, bound: u8) -> bool
 // ---- what the rows give
 
 /// `S`.
-pub fn flags_if(sets: bool) -> FlagSetting
+pub(crate) fn flags_if(sets: bool) -> FlagSetting
     ensures { result ≡ flags_if sets }
 {
     if sets {
@@ -176,12 +176,7 @@ fn data_immediate(
             second,
         })),
     };
-    unless(
-        refused,
-        BlockPlace::Anywhere,
-        UnpredictableCase::Registers,
-        given,
-    )
+    unless_refused(refused, given)
 }
 
 /// A comparison of a register and a modified immediate.
@@ -197,12 +192,7 @@ fn compare_immediate(operation: Comparison, n: Register, second: Option<Immediat
             second,
         })),
     };
-    unless(
-        is_refused_first(compares_sp(operation), n),
-        BlockPlace::Anywhere,
-        UnpredictableCase::Registers,
-        given,
-    )
+    unless_refused(is_refused_first(compares_sp(operation), n), given)
 }
 
 /// MOV and MVN of a modified immediate.
@@ -224,18 +214,13 @@ fn move_immediate(
             source,
         })),
     };
-    unless(
-        is_bad(d),
-        BlockPlace::Anywhere,
-        UnpredictableCase::Registers,
-        given,
-    )
+    unless_refused(is_bad(d), given)
 }
 
 /// A register shifted by a number.
 #[inline]
 #[tactic(auto, unfolding(reference::specs::LongData::shifted))]
-pub fn shifted(m: Register, shift_type: u8, imm5: u8) -> ShiftedRegister
+pub(crate) fn shifted(m: Register, shift_type: u8, imm5: u8) -> ShiftedRegister
     ensures { result ≡ shifted m shift_type imm5 }
 {
     ShiftedRegister {
@@ -269,13 +254,7 @@ fn data_shifted(
         first: n,
         second,
     });
-    let decoded = unless(
-        refused,
-        BlockPlace::Anywhere,
-        UnpredictableCase::Registers,
-        long(instruction),
-    );
-    as_told(told, true, decoded)
+    as_told(told, true, long_unless(refused, instruction))
 }
 
 /// A comparison of two registers, the second shifted.
@@ -294,13 +273,7 @@ fn compare_shifted(
         first: n,
         second,
     });
-    let decoded = unless(
-        refused,
-        BlockPlace::Anywhere,
-        UnpredictableCase::Registers,
-        long(instruction),
-    );
-    as_told(told, true, decoded)
+    as_told(told, true, long_unless(refused, instruction))
 }
 
 /// Whether a MOV refuses its registers: without flags and shift it takes and gives SP, but not SP
@@ -327,13 +300,7 @@ fn move_shifted(told: bool, s: bool, d: Register, source: ShiftedRegister) -> De
         destination: d,
         source,
     });
-    let decoded = unless(
-        refused,
-        BlockPlace::Anywhere,
-        UnpredictableCase::Registers,
-        long(instruction),
-    );
-    as_told(told, true, decoded)
+    as_told(told, true, long_unless(refused, instruction))
 }
 
 /// MVN of a shifted register.
@@ -347,11 +314,9 @@ fn move_not_shifted(told: bool, s: bool, d: Register, source: ShiftedRegister) -
         destination: d,
         source,
     });
-    let decoded = unless(
-        is_bad(d) || is_bad(source.register),
-        BlockPlace::Anywhere,
-        UnpredictableCase::Registers,
-        long(instruction),
-    );
-    as_told(told, true, decoded)
+    as_told(
+        told,
+        true,
+        long_unless(is_bad(d) || is_bad(source.register), instruction),
+    )
 }

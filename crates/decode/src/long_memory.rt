@@ -1,13 +1,16 @@
 //! The rows of 32 bits that load and store one register.
 
 ghost use Rattle.std.specs.Prelude.{◌≡◌, ◌≢◌, ◌==◌, ◌<◌, ◌+◌, ◌*◌, ◌^◌, ◌&&◌, ◌||◌};
+ghost use Rattle.decode.specs.NumberForms.{number_form};
 ghost use Rattle.reference.specs.Decoding.{long_meaning};
-ghost use Rattle.reference.specs.LongMemory.{size_of, is_word, narrow_form, word_form, place_of_load, is_refused_load, is_refused_store, load_literal, load_at, load_unprivileged, load_indexed, store_at, store_unprivileged, store_indexed, memory_hint, memory_hint_indexed};
+ghost use Rattle.reference.specs.Kinds.{is_word};
+ghost use Rattle.reference.specs.LongMemory.{size_of, narrow_form, word_form, place_of_load, is_refused_load, is_refused_store, load_literal, load_at, load_unprivileged, load_indexed, store_at, store_unprivileged, store_indexed, memory_hint, memory_hint_indexed};
 ghost use Rattle.reference.specs.Words.{bits};
 
 use crate::fields::{bits, register};
-use crate::given::{is_bad, last_only_if, long, placed, unless};
+use crate::given::{is_bad, last_only_if, long, long_unless, placed_unless, unless_refused};
 use crate::long_several::{byte_or_halfword, indexing_of, signed_offset, writes_back};
+use crate::short_memory::at_offset;
 use reference::access::Size;
 use reference::instruction::{BlockPlace, Decoded, Hint, Instruction};
 use reference::operands::{
@@ -15,11 +18,10 @@ use reference::operands::{
     RegisterAddress, StoreImmediate, StoreRegister,
 };
 use reference::registers::Register;
-use reference::stop::UnpredictableCase;
 
 /// STR, STRB and STRH.
 #[tactic(auto, using(crate::proofs::LongTop::store_lemmas))]
-pub fn stores(x: u32) -> Decoded
+pub(crate) fn stores(x: u32) -> Decoded
     requires top { bits x 27 5 ≡ 31 }
     requires processor { bits x 26 1 ≡ 0 }
     requires one { bits x 25 1 ≡ 0 }
@@ -48,22 +50,17 @@ pub fn stores(x: u32) -> Decoded
     }
     let number = bits(x, 0, 8);
     let offset = signed_offset(bits(x, 9, 1), number);
-    if bits(x, 10, 1) == 1 {
-        if bits(x, 8, 2) == 0b10 {
-            store_unprivileged(size, t, n, number)
-        } else {
-            store_at(size, t, n, indexing_of(bits(x, 8, 1)), offset)
-        }
-    } else if bits(x, 8, 1) == 1 {
-        store_at(size, t, n, Indexing::PostIndexed, offset)
-    } else {
-        Decoded::Undefined
+    match number_form(x) {
+        NumberForm::Unprivileged => store_unprivileged(size, t, n, number),
+        NumberForm::Before => store_at(size, t, n, indexing_of(bits(x, 8, 1)), offset),
+        NumberForm::After => store_at(size, t, n, Indexing::PostIndexed, offset),
+        NumberForm::Undefined => Decoded::Undefined,
     }
 }
 
 /// LDR, LDRB, LDRSB, LDRH and LDRSH; PLD, PLI and the free places beside them.
 #[tactic(auto, using(crate::proofs::LongTop::load_word_lemmas))]
-pub fn loads(x: u32) -> Decoded
+pub(crate) fn loads(x: u32) -> Decoded
     requires top { bits x 27 5 ≡ 31 }
     requires processor { bits x 26 1 ≡ 0 }
     requires one { bits x 25 1 ≡ 0 }
@@ -110,16 +107,11 @@ fn word_loads(x: u32) -> Decoded
     }
     let number = bits(x, 0, 8);
     let offset = signed_offset(bits(x, 9, 1), number);
-    if bits(x, 10, 1) == 1 {
-        if bits(x, 8, 2) == 0b10 {
-            load_unprivileged(form, t, n, number)
-        } else {
-            load_at(form, t, n, indexing_of(bits(x, 8, 1)), offset)
-        }
-    } else if bits(x, 8, 1) == 1 {
-        load_at(form, t, n, Indexing::PostIndexed, offset)
-    } else {
-        Decoded::Undefined
+    match number_form(x) {
+        NumberForm::Unprivileged => load_unprivileged(form, t, n, number),
+        NumberForm::Before => load_at(form, t, n, indexing_of(bits(x, 8, 1)), offset),
+        NumberForm::After => load_at(form, t, n, Indexing::PostIndexed, offset),
+        NumberForm::Undefined => Decoded::Undefined,
     }
 }
 
@@ -176,17 +168,50 @@ fn narrow_indexed(x: u32) -> Decoded
     let (t, n) = (register(x, 12), register(x, 16));
     let number = bits(x, 0, 8);
     let offset = signed_offset(bits(x, 9, 1), number);
+    match number_form(x) {
+        NumberForm::Unprivileged => load_unprivileged(form, t, n, number),
+        NumberForm::Before if is_hint(x) => memory_hint(bits(x, 21, 1)),
+        NumberForm::Before => load_at(form, t, n, indexing_of(bits(x, 8, 1)), offset),
+        NumberForm::After => load_at(form, t, n, Indexing::PostIndexed, offset),
+        NumberForm::Undefined => Decoded::Undefined,
+    }
+}
+
+/// Whether a load at a register less a number stands for a hint: U and W are 0, and t = 15.
+#[inline]
+fn is_hint(x: u32) -> bool
+    ensures { result ≡ (bits x 8 2 == 0 && bits x 12 4 == 15) }
+{
+    bits(x, 8, 2) == 0 && bits(x, 12, 4) == 15
+}
+
+/// How an access uses its number of eight bits.
+#[derive(Clone, Copy)]
+pub(crate) enum NumberForm {
+    /// As by unprivileged code.
+    Unprivileged,
+    /// Before the access.
+    Before,
+    /// Behind it, for the base alone.
+    After,
+    /// No row has it.
+    Undefined,
+}
+
+/// How an access uses its number of eight bits: by P, U and W, the bits 10, 9 and 8.
+fn number_form(x: u32) -> NumberForm
+    ensures { result ≡ number_form (bits x 10 1) (bits x 8 2) (bits x 8 1) }
+{
     if bits(x, 10, 1) == 1 {
-        match bits(x, 8, 2) {
-            0b10 => load_unprivileged(form, t, n, number),
-            0b00 if bits(x, 12, 4) == 15 => memory_hint(bits(x, 21, 1)),
-            0b00 => load_at(form, t, n, indexing_of(bits(x, 8, 1)), offset),
-            _ => load_at(form, t, n, indexing_of(bits(x, 8, 1)), offset),
+        if bits(x, 8, 2) == 0b10 {
+            NumberForm::Unprivileged
+        } else {
+            NumberForm::Before
         }
     } else if bits(x, 8, 1) == 1 {
-        load_at(form, t, n, Indexing::PostIndexed, offset)
+        NumberForm::After
     } else {
-        Decoded::Undefined
+        NumberForm::Undefined
     }
 }
 
@@ -262,12 +287,7 @@ fn load_literal(form: LoadForm, t: Register, offset: u32) -> Decoded
         target: t,
         offset,
     });
-    unless(
-        refused,
-        place,
-        UnpredictableCase::Registers,
-        placed(4, place, instruction),
-    )
+    placed_unless(refused, 4, place, instruction)
 }
 
 /// A load at a register and an offset: a base that is written isn't the target.
@@ -288,12 +308,7 @@ fn load_at(form: LoadForm, t: Register, n: Register, indexing: Indexing, offset:
         },
         unprivileged: false,
     });
-    unless(
-        refused,
-        place,
-        UnpredictableCase::Registers,
-        placed(4, place, instruction),
-    )
+    placed_unless(refused, 4, place, instruction)
 }
 
 /// The same as by unprivileged code, which goes neither to SP nor to PC.
@@ -304,19 +319,10 @@ fn load_unprivileged(form: LoadForm, t: Register, n: Register, offset: u32) -> D
     let instruction = Instruction::LoadImmediate(LoadImmediate {
         form,
         target: t,
-        address: ImmediateAddress {
-            base: n,
-            offset,
-            indexing: Indexing::Offset,
-        },
+        address: at_offset(n, offset),
         unprivileged: true,
     });
-    unless(
-        is_bad(t),
-        BlockPlace::Anywhere,
-        UnpredictableCase::Registers,
-        long(instruction),
-    )
+    long_unless(is_bad(t), instruction)
 }
 
 /// A load at two registers.
@@ -335,12 +341,7 @@ fn load_indexed(form: LoadForm, t: Register, n: Register, m: Register, shift: u8
             shift,
         },
     });
-    unless(
-        refused,
-        place,
-        UnpredictableCase::Registers,
-        placed(4, place, instruction),
-    )
+    placed_unless(refused, 4, place, instruction)
 }
 
 /// A store at a register and an offset: a base that is written isn't the target.
@@ -360,12 +361,7 @@ fn store_at(size: Size, t: Register, n: Register, indexing: Indexing, offset: u3
         },
         unprivileged: false,
     });
-    unless(
-        refused,
-        BlockPlace::Anywhere,
-        UnpredictableCase::Registers,
-        long(instruction),
-    )
+    long_unless(refused, instruction)
 }
 
 /// The same as by unprivileged code, which stores neither SP nor PC.
@@ -376,19 +372,10 @@ fn store_unprivileged(size: Size, t: Register, n: Register, offset: u32) -> Deco
     let instruction = Instruction::StoreImmediate(StoreImmediate {
         size,
         target: t,
-        address: ImmediateAddress {
-            base: n,
-            offset,
-            indexing: Indexing::Offset,
-        },
+        address: at_offset(n, offset),
         unprivileged: true,
     });
-    unless(
-        is_bad(t),
-        BlockPlace::Anywhere,
-        UnpredictableCase::Registers,
-        long(instruction),
-    )
+    long_unless(is_bad(t), instruction)
 }
 
 /// A store at two registers.
@@ -406,12 +393,7 @@ fn store_indexed(size: Size, t: Register, n: Register, m: Register, shift: u8) -
             shift,
         },
     });
-    unless(
-        refused,
-        BlockPlace::Anywhere,
-        UnpredictableCase::Registers,
-        long(instruction),
-    )
+    long_unless(refused, instruction)
 }
 
 /// PLD and PLI, which stand where a byte would be loaded to PC; the places where a halfword would
@@ -433,10 +415,5 @@ fn memory_hint(half: u32) -> Decoded
 fn memory_hint_indexed(half: u32, m: Register) -> Decoded
     ensures { result ≡ memory_hint_indexed half m }
 {
-    unless(
-        is_bad(m),
-        BlockPlace::Anywhere,
-        UnpredictableCase::Registers,
-        memory_hint(half),
-    )
+    unless_refused(is_bad(m), memory_hint(half))
 }

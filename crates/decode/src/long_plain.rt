@@ -3,10 +3,13 @@
 ghost use Rattle.std.specs.Prelude.{◌≡◌, ◌≢◌, ◌==◌, ◌<◌, ◌≤◌, ◌+◌, ◌*◌, ◌^◌, ◌&&◌};
 ghost use Rattle.reference.specs.Decoding.{long_meaning};
 ghost use Rattle.reference.specs.LongData.{add_wide, address_wide, halfword, move_wide, move_top, saturate, extract_field, insert_field, clear_field};
+ghost use Rattle.reference.specs.Rows.{long, unless};
 ghost use Rattle.reference.specs.Words.{bits, negated};
+ghost use Rattle.reference.specs.declared.instruction.BlockPlace.TheVariants.{Anywhere};
+ghost use Rattle.reference.specs.declared.stop.UnpredictableCase.TheVariants.{BitField};
 
 use crate::fields::{bits, five, four, imm5, imm12, register};
-use crate::given::{as_told, is_bad, long, unless};
+use crate::given::{as_told, is_bad, long, long_unless, unless, unless_refused};
 use crate::long_data::{is_refused_destination, shifted};
 use crate::short_data::number;
 use reference::instruction::{BlockPlace, Decoded, Instruction};
@@ -19,7 +22,7 @@ use reference::stop::UnpredictableCase;
 
 /// The operations with a plain immediate, and those on bit fields.
 #[tactic(auto, using(crate::proofs::LongTop::plain_immediate_lemmas))]
-pub fn plain_immediates(x: u32) -> Decoded
+pub(crate) fn plain_immediates(x: u32) -> Decoded
     requires top { bits x 27 5 ≡ 30 }
     requires second { bits x 15 1 ≡ 0 }
     requires plain { bits x 25 1 ≡ 1 }
@@ -79,7 +82,7 @@ fn is_unshifted(x: u32) -> bool
 /// The word that added to a word takes the other away: its two's complement.
 #[inline]
 #[tactic(auto, unfolding(reference::specs::Words::negated))]
-pub fn negated(offset: u32) -> u32
+pub(crate) fn negated(offset: u32) -> u32
     ensures { result ≡ negated offset }
 {
     offset.wrapping_neg()
@@ -108,12 +111,7 @@ fn add_wide(operation: DataOperation, n: Register, d: Register, imm12: u16) -> D
         first: n,
         second: number(imm12 as u32),
     });
-    unless(
-        is_refused_destination(true, n, d),
-        BlockPlace::Anywhere,
-        UnpredictableCase::Registers,
-        long(instruction),
-    )
+    long_unless(is_refused_destination(true, n, d), instruction)
 }
 
 /// ADR.
@@ -125,12 +123,7 @@ fn address_wide(d: Register, offset: u32) -> Decoded
         destination: d,
         offset,
     });
-    unless(
-        is_bad(d),
-        BlockPlace::Anywhere,
-        UnpredictableCase::Registers,
-        long(instruction),
-    )
+    long_unless(is_bad(d), instruction)
 }
 
 /// MOVW.
@@ -144,12 +137,7 @@ fn move_wide(d: Register, imm16: u16) -> Decoded
         destination: d,
         source: number(imm16 as u32),
     });
-    unless(
-        is_bad(d),
-        BlockPlace::Anywhere,
-        UnpredictableCase::Registers,
-        long(instruction),
-    )
+    long_unless(is_bad(d), instruction)
 }
 
 /// MOVT.
@@ -161,12 +149,7 @@ fn move_top(d: Register, imm16: u16) -> Decoded
         destination: d,
         value: imm16,
     });
-    unless(
-        is_bad(d),
-        BlockPlace::Anywhere,
-        UnpredictableCase::Registers,
-        long(instruction),
-    )
+    long_unless(is_bad(d), instruction)
 }
 
 /// SSAT and USAT, to so many bits.
@@ -180,10 +163,17 @@ fn saturate(signed: bool, d: Register, width: u8, source: ShiftedRegister) -> De
         bits: width,
         source,
     });
+    long_unless(is_bad(d) || is_bad(source.register), instruction)
+}
+
+/// An instruction on a bit field, unless there is no such field.
+fn long_within(outside: bool, instruction: Instruction) -> Decoded
+    ensures { result ≡ unless outside Anywhere BitField (long instruction) }
+{
     unless(
-        is_bad(d) || is_bad(source.register),
+        outside,
         BlockPlace::Anywhere,
-        UnpredictableCase::Registers,
+        UnpredictableCase::BitField,
         long(instruction),
     )
 }
@@ -202,17 +192,9 @@ fn extract_field(signed: bool, n: Register, d: Register, low: u8, width: u8) -> 
         low,
         width,
     });
-    let within = unless(
-        low + width > 32,
-        BlockPlace::Anywhere,
-        UnpredictableCase::BitField,
-        long(instruction),
-    );
-    unless(
+    unless_refused(
         is_bad(d) || is_bad(n),
-        BlockPlace::Anywhere,
-        UnpredictableCase::Registers,
-        within,
+        long_within(low + width > 32, instruction),
     )
 }
 
@@ -228,18 +210,7 @@ fn insert_field(n: Register, d: Register, low: u8, high: u8) -> Decoded
         low,
         width: (high + 1).saturating_sub(low),
     });
-    let within = unless(
-        high < low,
-        BlockPlace::Anywhere,
-        UnpredictableCase::BitField,
-        long(instruction),
-    );
-    unless(
-        is_bad(d) || is_bad(n),
-        BlockPlace::Anywhere,
-        UnpredictableCase::Registers,
-        within,
-    )
+    unless_refused(is_bad(d) || is_bad(n), long_within(high < low, instruction))
 }
 
 /// BFC.
@@ -253,16 +224,5 @@ fn clear_field(d: Register, low: u8, high: u8) -> Decoded
         low,
         width: (high + 1).saturating_sub(low),
     });
-    let within = unless(
-        high < low,
-        BlockPlace::Anywhere,
-        UnpredictableCase::BitField,
-        long(instruction),
-    );
-    unless(
-        is_bad(d),
-        BlockPlace::Anywhere,
-        UnpredictableCase::Registers,
-        within,
-    )
+    unless_refused(is_bad(d), long_within(high < low, instruction))
 }

@@ -6,21 +6,20 @@ ghost use Rattle.reference.specs.LongRegister.{shift_type_of, shift_by_register,
 ghost use Rattle.reference.specs.Words.{bits};
 
 use crate::fields::{bits, is_set, register};
-use crate::given::{as_told, is_bad, long, unless};
+use crate::given::{as_told, is_bad, long_unless};
 use crate::long_data::flags_if;
 use reference::access::Size;
-use reference::instruction::{BlockPlace, Decoded, Instruction};
+use reference::instruction::{Decoded, Instruction};
 use reference::operands::{
     Accumulation, Divide, Extend, FlagSetting, Multiply, MultiplyAccumulate, MultiplyLong,
     Rearrange, Rearrangement, ShiftByRegister,
 };
 use reference::registers::Register;
 use reference::shift::ShiftType;
-use reference::stop::UnpredictableCase;
 
 /// Shifts by a register, extensions, REV, REV16, RBIT, REVSH and CLZ.
 #[tactic(auto, using(crate::proofs::LongTop::register_rows_lemmas))]
-pub fn register_rows(x: u32) -> Decoded
+pub(crate) fn register_rows(x: u32) -> Decoded
     requires top { bits x 27 5 ≡ 31 }
     requires processor { bits x 26 1 ≡ 0 }
     requires registers { bits x 25 1 ≢ 0 }
@@ -101,7 +100,7 @@ fn reverses(x: u32) -> Decoded
 
 /// Multiplication and division.
 #[tactic(auto, using(crate::proofs::LongTop::multiply_lemmas))]
-pub fn multiplies(x: u32) -> Decoded
+pub(crate) fn multiplies(x: u32) -> Decoded
     requires top { bits x 27 5 ≡ 31 }
     requires processor { bits x 26 1 ≡ 0 }
     requires registers { bits x 25 1 ≢ 0 }
@@ -177,12 +176,7 @@ fn shift_by_register(kind: u32, s: bool, n: Register, d: Register, m: Register) 
         source: n,
         amount: m,
     });
-    unless(
-        is_bad(n) || is_bad(d) || is_bad(m),
-        BlockPlace::Anywhere,
-        UnpredictableCase::Registers,
-        long(instruction),
-    )
+    long_unless(is_bad(n) || is_bad(d) || is_bad(m), instruction)
 }
 
 /// Halfword, or byte where the bit is 1.
@@ -205,12 +199,7 @@ fn extend_turned(signed: bool, size: Size, d: Register, m: Register, bytes: u8) 
         source: m,
         rotation: bytes * 8,
     });
-    unless(
-        is_bad(d) || is_bad(m),
-        BlockPlace::Anywhere,
-        UnpredictableCase::Registers,
-        long(instruction),
-    )
+    long_unless(is_bad(d) || is_bad(m), instruction)
 }
 
 /// REV, REV16, RBIT, REVSH and CLZ, in which the source stands twice.
@@ -223,11 +212,9 @@ fn rearrange_wide(operation: Rearrangement, again: Register, d: Register, m: Reg
         destination: d,
         source: m,
     });
-    unless(
+    long_unless(
         is_bad(d) || is_bad(m) || again.number() != m.number(),
-        BlockPlace::Anywhere,
-        UnpredictableCase::Registers,
-        long(instruction),
+        instruction,
     )
 }
 
@@ -242,12 +229,7 @@ fn multiply_wide(n: Register, d: Register, m: Register) -> Decoded
         first: n,
         second: m,
     });
-    unless(
-        is_bad(n) || is_bad(d) || is_bad(m),
-        BlockPlace::Anywhere,
-        UnpredictableCase::Registers,
-        long(instruction),
-    )
+    long_unless(is_bad(n) || is_bad(d) || is_bad(m), instruction)
 }
 
 /// MLA and MLS.
@@ -268,11 +250,9 @@ fn multiply_accumulate(
         second: m,
         addend: a,
     });
-    unless(
+    long_unless(
         is_bad(n) || is_bad(a) || is_bad(d) || is_bad(m),
-        BlockPlace::Anywhere,
-        UnpredictableCase::Registers,
-        long(instruction),
+        instruction,
     )
 }
 
@@ -297,11 +277,9 @@ fn multiply_long(
         second: m,
     });
     let same = low.number() == high.number();
-    unless(
+    long_unless(
         is_bad(n) || is_bad(low) || is_bad(high) || is_bad(m) || same,
-        BlockPlace::Anywhere,
-        UnpredictableCase::Registers,
-        long(instruction),
+        instruction,
     )
 }
 
@@ -316,10 +294,5 @@ fn divide(signed: bool, n: Register, d: Register, m: Register) -> Decoded
         dividend: n,
         divisor: m,
     });
-    unless(
-        is_bad(n) || is_bad(d) || is_bad(m),
-        BlockPlace::Anywhere,
-        UnpredictableCase::Registers,
-        long(instruction),
-    )
+    long_unless(is_bad(n) || is_bad(d) || is_bad(m), instruction)
 }

@@ -8,7 +8,7 @@ ghost use Rattle.reference.specs.Rows.{as_told};
 ghost use Rattle.reference.specs.Words.{bits};
 
 use crate::fields::{bits, is_set, register};
-use crate::given::{as_told, is_bad, last_only_if, long, placed, unless};
+use crate::given::{as_told, is_bad, last_only_if, long, long_unless, placed_unless, unless};
 use crate::long_plain::negated;
 use crate::short_memory::is_in_list;
 use reference::access::Size;
@@ -22,7 +22,7 @@ use reference::stop::UnpredictableCase;
 
 /// STM, LDM, STMDB and LDMDB.
 #[tactic(auto, using(crate::proofs::LongTop::several_list_lemmas))]
-pub fn lists(x: u32) -> Decoded
+pub(crate) fn lists(x: u32) -> Decoded
     requires top { bits x 27 5 ≡ 29 }
     requires processor { bits x 26 1 ≡ 0 }
     requires several { bits x 25 1 ≡ 0 }
@@ -59,7 +59,7 @@ fn list_store(x: u32, order: ListOrder) -> Decoded
 
 /// STRD, LDRD, the exclusive accesses, TBB and TBH.
 #[tactic(auto, using(crate::proofs::LongTop::dual_or_exclusive_lemmas))]
-pub fn duals_and_exclusives(x: u32) -> Decoded
+pub(crate) fn duals_and_exclusives(x: u32) -> Decoded
     requires top { bits x 27 5 ≡ 29 }
     requires processor { bits x 26 1 ≡ 0 }
     requires several { bits x 25 1 ≡ 0 }
@@ -175,11 +175,9 @@ fn store_list(n: Register, write_back: bool, order: ListOrder, list: u16) -> Dec
         order,
         write_back,
     });
-    let allowed = unless(
+    let allowed = long_unless(
         n.number() == 15 || write_back && is_in_list(n, list),
-        BlockPlace::Anywhere,
-        UnpredictableCase::Registers,
-        long(instruction),
+        instruction,
     );
     unless(
         has_few(list),
@@ -207,17 +205,17 @@ fn load_list(n: Register, write_back: bool, order: ListOrder, pc: u16, lr: u16, 
         write_back,
     });
     let both = pc == 1 && lr == 1;
-    let allowed = unless(
+    let allowed = placed_unless(
         n.number() == 15 || both || write_back && is_in_list(n, list),
+        4,
         place,
-        UnpredictableCase::Registers,
-        placed(4, place, instruction),
+        instruction,
     );
     unless(has_few(list), place, UnpredictableCase::EmptyList, allowed)
 }
 
 /// Byte, or halfword where the bit is 1.
-pub fn byte_or_halfword(bit: u32) -> Size
+pub(crate) fn byte_or_halfword(bit: u32) -> Size
     ensures { result ≡ byte_or_halfword bit }
 {
     if bit == 1 { Size::Halfword } else { Size::Byte }
@@ -260,24 +258,24 @@ fn table_branch(half: u32, n: Register, m: Register) -> Decoded
         base: n,
         index: m,
     });
-    unless(
+    placed_unless(
         n.number() == 13 || is_bad(m),
+        4,
         BlockPlace::LastOnly,
-        UnpredictableCase::Registers,
-        placed(4, BlockPlace::LastOnly, instruction),
+        instruction,
     )
 }
 
 /// An offset that is added where U is 1, and otherwise taken away.
 #[tactic(auto, unfolding(reference::specs::LongSeveral::signed_offset))]
-pub fn signed_offset(up: u32, offset: u32) -> u32
+pub(crate) fn signed_offset(up: u32, offset: u32) -> u32
     ensures { result ≡ signed_offset up offset }
 {
     if up == 1 { offset } else { negated(offset) }
 }
 
 /// The form of an index before the access: W writes it back.
-pub fn indexing_of(write_back: u32) -> Indexing
+pub(crate) fn indexing_of(write_back: u32) -> Indexing
     ensures { result ≡ indexing_of write_back }
 {
     if write_back == 1 {
@@ -288,7 +286,7 @@ pub fn indexing_of(write_back: u32) -> Indexing
 }
 
 /// Whether the base register is written.
-pub fn writes_back(indexing: Indexing) -> bool
+pub(crate) fn writes_back(indexing: Indexing) -> bool
     ensures { result ≡ writes_back indexing }
 {
     !matches!(indexing, Indexing::Offset)
@@ -317,12 +315,7 @@ fn load_dual(t: Register, u: Register, n: Register, indexing: Indexing, offset: 
             indexing,
         },
     });
-    unless(
-        refused,
-        BlockPlace::Anywhere,
-        UnpredictableCase::Registers,
-        long(instruction),
-    )
+    long_unless(refused, instruction)
 }
 
 /// LDRD at the PC, which isn't written.
@@ -336,12 +329,7 @@ fn load_dual_literal(t: Register, u: Register, write_back: bool, offset: u32) ->
         second: u,
         offset,
     });
-    unless(
-        refused,
-        BlockPlace::Anywhere,
-        UnpredictableCase::Registers,
-        long(instruction),
-    )
+    long_unless(refused, instruction)
 }
 
 /// STRD: PC isn't a base.
@@ -359,10 +347,5 @@ fn store_dual(t: Register, u: Register, n: Register, indexing: Indexing, offset:
             indexing,
         },
     });
-    unless(
-        refused,
-        BlockPlace::Anywhere,
-        UnpredictableCase::Registers,
-        long(instruction),
-    )
+    long_unless(refused, instruction)
 }

@@ -24,7 +24,7 @@ use reference::registers::Register;
 
 /// What a halfword means that is an instruction alone.
 #[tactic(auto, using(crate::proofs::ShortTop::top_lemmas))]
-pub fn decode_short(x: u32) -> Decoded
+pub(crate) fn decode_short(x: u32) -> Decoded
     requires { bits x 11 5 < 29 }
     ensures { result ≡ short_meaning x }
 {

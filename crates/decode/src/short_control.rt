@@ -6,7 +6,7 @@ ghost use Rattle.reference.specs.ShortControl.{branch_exchange, branch_link_exch
 ghost use Rattle.reference.specs.Words.{bits, sign_extended};
 
 use crate::fields::{bits, eight, four, is_set, low_register, register};
-use crate::given::{as_told, placed, short, unless};
+use crate::given::{as_told, placed, placed_unless, short, unless};
 use reference::instruction::{BlockPlace, Decoded, Hint, Instruction};
 use reference::operands::{
     BranchExchange, ChangeProcessorState, CompareAndBranch, ConditionalBranch, IfThen, Offset,
@@ -16,7 +16,7 @@ use reference::stop::UnpredictableCase;
 
 /// BX and BLX.
 #[tactic(auto, using(crate::proofs::ShortTop::special_data_lemmas))]
-pub fn branch_exchanges(x: u32) -> Decoded
+pub(crate) fn branch_exchanges(x: u32) -> Decoded
     requires top { bits x 11 5 ≡ 8 }
     requires high { bits x 10 1 ≡ 1 }
     requires middle { bits x 8 2 ≡ 3 }
@@ -33,7 +33,7 @@ pub fn branch_exchanges(x: u32) -> Decoded
 
 /// CPS.
 #[tactic(auto, using(crate::proofs::ShortTop::miscellaneous_low_lemmas))]
-pub fn changes_state(x: u32) -> Decoded
+pub(crate) fn changes_state(x: u32) -> Decoded
     requires top { bits x 11 5 ≡ 22 }
     requires middle { bits x 8 3 ≡ 6 }
     ensures { result ≡ short_meaning x }
@@ -47,7 +47,7 @@ pub fn changes_state(x: u32) -> Decoded
 
 /// The hints, and IT.
 #[tactic(auto, using(crate::proofs::ShortTop::miscellaneous_high_lemmas))]
-pub fn hints_and_it(x: u32) -> Decoded
+pub(crate) fn hints_and_it(x: u32) -> Decoded
     requires top { bits x 11 5 ≡ 23 }
     requires middle { bits x 8 3 ≡ 7 }
     ensures { result ≡ short_meaning x }
@@ -60,7 +60,7 @@ pub fn hints_and_it(x: u32) -> Decoded
 
 /// B with a condition from 8 on, UDF and SVC.
 #[tactic(auto, using(crate::proofs::ShortTop::branches_and_calls_lemmas))]
-pub fn branches_and_calls(x: u32) -> Decoded
+pub(crate) fn branches_and_calls(x: u32) -> Decoded
     requires { bits x 11 5 ≡ 27 }
     ensures { result ≡ short_meaning x }
 {
@@ -72,7 +72,7 @@ pub fn branches_and_calls(x: u32) -> Decoded
 }
 
 /// CBZ and CBNZ.
-pub fn compares_and_branches(x: u32) -> Decoded
+pub(crate) fn compares_and_branches(x: u32) -> Decoded
     ensures { result ≡ compare_and_branch (bits x 11 1 == 1) (bits x 9 1 * 32 + bits x 3 5) (bits x 0 3) }
 {
     let halfwords = bits(x, 9, 1) * 32 + bits(x, 3, 5);
@@ -102,12 +102,7 @@ fn branch_link_exchange(m: Register) -> Decoded
         links: true,
         target: m,
     });
-    unless(
-        m.number() == 15,
-        BlockPlace::LastOnly,
-        UnpredictableCase::Registers,
-        placed(2, BlockPlace::LastOnly, instruction),
-    )
+    placed_unless(m.number() == 15, 2, BlockPlace::LastOnly, instruction)
 }
 
 /// CBZ and CBNZ: the offset counts halfwords.
@@ -134,17 +129,12 @@ fn change_state(disables: bool, primask: bool, faultmask: bool) -> Decoded
         primask,
         faultmask,
     });
-    unless(
-        !primask && !faultmask,
-        BlockPlace::Never,
-        UnpredictableCase::Registers,
-        placed(2, BlockPlace::Never, instruction),
-    )
+    placed_unless(!primask && !faultmask, 2, BlockPlace::Never, instruction)
 }
 
 /// BKPT.
 #[tactic(auto, unfolding(reference::specs::ShortControl::breakpoint))]
-pub fn breakpoint(number: u8) -> Decoded
+pub(crate) fn breakpoint(number: u8) -> Decoded
     ensures { result ≡ breakpoint number }
 {
     short(Instruction::Breakpoint(number))
@@ -152,7 +142,7 @@ pub fn breakpoint(number: u8) -> Decoded
 
 /// The hints by their number.
 #[tactic(auto, unfolding(reference::specs::ShortControl::hint_of))]
-pub fn hint(number: u8) -> Hint
+pub(crate) fn hint(number: u8) -> Hint
     ensures { result ≡ hint_of number }
 {
     match number {
@@ -191,7 +181,7 @@ fn if_then(condition: u8, mask: u8) -> Decoded
 
 /// B with a condition: the offset counts halfwords, and is signed.
 #[tactic(auto, unfolding(reference::specs::ShortControl::branch_if))]
-pub fn branch_if(condition: u8, halfwords: u8) -> Decoded
+pub(crate) fn branch_if(condition: u8, halfwords: u8) -> Decoded
     ensures { result ≡ branch_if condition halfwords }
 {
     let instruction = Instruction::ConditionalBranch(ConditionalBranch {
@@ -203,7 +193,7 @@ pub fn branch_if(condition: u8, halfwords: u8) -> Decoded
 
 /// B: the offset counts halfwords, and is signed.
 #[tactic(auto, unfolding(reference::specs::ShortControl::branch_short))]
-pub fn branch_short(halfwords: u32) -> Decoded
+pub(crate) fn branch_short(halfwords: u32) -> Decoded
     requires { halfwords < 2 ^ 11 }
     ensures { result ≡ branch_short halfwords }
 {
@@ -214,7 +204,7 @@ pub fn branch_short(halfwords: u32) -> Decoded
 }
 
 /// `SignExtend(number, 32)` of so many bits.
-pub fn sign_extend(bits: u8, number: u32) -> u32
+pub(crate) fn sign_extend(bits: u8, number: u32) -> u32
     requires some { 0 < bits }
     requires narrow { bits < 32 }
     requires fits { number < 2 ^ bits }

@@ -6,7 +6,7 @@ ghost use Rattle.reference.specs.ShortData.{unshifted, number, move_low, shift_n
 ghost use Rattle.reference.specs.Words.{bits};
 
 use crate::fields::{bits, five, low_register, register, seven, split_register};
-use crate::given::{last_only_if, placed, short, unless};
+use crate::given::{last_only_if, placed, placed_unless, short, unless_refused};
 use crate::short_control::branch_exchanges;
 use reference::access::Size;
 use reference::instruction::{BlockPlace, Decoded, Instruction};
@@ -17,12 +17,11 @@ use reference::operands::{
 };
 use reference::registers::Register;
 use reference::shift::{Shift, ShiftType};
-use reference::stop::UnpredictableCase;
 use regs::decode_imm_shift;
 
 /// LSL (immediate), and MOV (register) that stands for LSL by 0.
 #[tactic(auto, using(crate::proofs::ShortTop::shift_left_lemmas))]
-pub fn shift_left(x: u32) -> Decoded
+pub(crate) fn shift_left(x: u32) -> Decoded
     requires { bits x 11 5 ≡ 0 }
     ensures { result ≡ short_meaning x }
 {
@@ -35,7 +34,7 @@ pub fn shift_left(x: u32) -> Decoded
 
 /// ADD and SUB of two registers, or of a register and a number of three bits.
 #[tactic(auto, using(crate::proofs::ShortTop::add_subtract_lemmas))]
-pub fn add_subtract(x: u32) -> Decoded
+pub(crate) fn add_subtract(x: u32) -> Decoded
     requires { bits x 11 5 ≡ 3 }
     ensures { result ≡ short_meaning x }
 {
@@ -50,7 +49,7 @@ pub fn add_subtract(x: u32) -> Decoded
 
 /// The operations on two low registers.
 #[tactic(auto, using(crate::proofs::ShortTop::data_processing_lemmas))]
-pub fn data_processing(x: u32) -> Decoded
+pub(crate) fn data_processing(x: u32) -> Decoded
     requires top { bits x 11 5 ≡ 8 }
     requires low { bits x 10 1 ≡ 0 }
     ensures { result ≡ short_meaning x }
@@ -78,7 +77,7 @@ pub fn data_processing(x: u32) -> Decoded
 
 /// ADD, CMP and MOV of any two registers; BX and BLX.
 #[tactic(auto, using(crate::proofs::ShortTop::special_data_lemmas))]
-pub fn special_data(x: u32) -> Decoded
+pub(crate) fn special_data(x: u32) -> Decoded
     requires top { bits x 11 5 ≡ 8 }
     requires high { bits x 10 1 ≡ 1 }
     ensures { result ≡ short_meaning x }
@@ -94,7 +93,7 @@ pub fn special_data(x: u32) -> Decoded
 
 /// ADD and SUB of SP and a number.
 #[tactic(auto, using(crate::proofs::ShortTop::miscellaneous_low_lemmas))]
-pub fn adjust_sp(x: u32) -> Decoded
+pub(crate) fn adjust_sp(x: u32) -> Decoded
     requires top { bits x 11 5 ≡ 22 }
     requires middle { bits x 8 3 ≡ 0 }
     ensures { result ≡ short_meaning x }
@@ -108,7 +107,7 @@ pub fn adjust_sp(x: u32) -> Decoded
 
 /// SXTH, SXTB, UXTH and UXTB.
 #[tactic(auto, using(crate::proofs::ShortTop::miscellaneous_low_lemmas))]
-pub fn extends(x: u32) -> Decoded
+pub(crate) fn extends(x: u32) -> Decoded
     requires top { bits x 11 5 ≡ 22 }
     requires middle { bits x 8 3 ≡ 2 }
     ensures { result ≡ short_meaning x }
@@ -124,7 +123,7 @@ pub fn extends(x: u32) -> Decoded
 
 /// REV, REV16 and REVSH.
 #[tactic(auto, using(crate::proofs::ShortTop::miscellaneous_high_lemmas))]
-pub fn rearranges(x: u32) -> Decoded
+pub(crate) fn rearranges(x: u32) -> Decoded
     requires top { bits x 11 5 ≡ 23 }
     requires middle { bits x 8 3 ≡ 2 }
     ensures { result ≡ short_meaning x }
@@ -142,7 +141,7 @@ pub fn rearranges(x: u32) -> Decoded
 
 /// A register that isn't shifted.
 #[inline]
-pub fn unshifted(m: Register) -> ShiftedRegister
+fn unshifted(m: Register) -> ShiftedRegister
     ensures { result ≡ unshifted m }
 {
     ShiftedRegister {
@@ -156,7 +155,7 @@ pub fn unshifted(m: Register) -> ShiftedRegister
 
 /// A number that keeps the carry.
 #[inline]
-pub fn number(value: u32) -> Immediate
+pub(crate) fn number(value: u32) -> Immediate
     ensures { result ≡ number value }
 {
     Immediate { value, carry: None }
@@ -178,7 +177,7 @@ fn move_low(d: Register, m: Register) -> Decoded
 
 /// A shift by a number: MOV of a shifted register.
 #[tactic(auto, unfolding(reference::specs::ShortData::shift_number))]
-pub fn shift_number(kind: u8, amount: u8, d: Register, m: Register) -> Decoded
+pub(crate) fn shift_number(kind: u8, amount: u8, d: Register, m: Register) -> Decoded
     ensures { result ≡ shift_number kind amount d m }
 {
     short(Instruction::MoveRegister(MoveRegister {
@@ -222,7 +221,7 @@ fn data_registers(operation: DataOperation, d: Register, n: Register, m: Registe
 
 /// An operation on a register and a number.
 #[tactic(auto, unfolding(reference::specs::ShortData::data_number))]
-pub fn data_number(operation: DataOperation, d: Register, n: Register, value: u32) -> Decoded
+pub(crate) fn data_number(operation: DataOperation, d: Register, n: Register, value: u32) -> Decoded
     ensures { result ≡ data_number operation d n value }
 {
     short(Instruction::DataImmediate(DataImmediate {
@@ -236,7 +235,7 @@ pub fn data_number(operation: DataOperation, d: Register, n: Register, value: u3
 
 /// MOV of a number.
 #[tactic(auto, unfolding(reference::specs::ShortData::move_number))]
-pub fn move_number(d: Register, value: u32) -> Decoded
+pub(crate) fn move_number(d: Register, value: u32) -> Decoded
     ensures { result ≡ move_number d value }
 {
     short(Instruction::MoveImmediate(MoveImmediate {
@@ -262,7 +261,7 @@ fn move_not(d: Register, m: Register) -> Decoded
 
 /// CMP with a number.
 #[tactic(auto, unfolding(reference::specs::ShortData::compare_number))]
-pub fn compare_number(n: Register, value: u32) -> Decoded
+pub(crate) fn compare_number(n: Register, value: u32) -> Decoded
     ensures { result ≡ compare_number n value }
 {
     short(Instruction::CompareImmediate(CompareImmediate {
@@ -310,12 +309,7 @@ fn add_high(d: Register, m: Register) -> Decoded
         first: d,
         second: unshifted(m),
     });
-    unless(
-        d.number() == 15 && m.number() == 15,
-        place,
-        UnpredictableCase::Registers,
-        placed(2, place, instruction),
-    )
+    placed_unless(d.number() == 15 && m.number() == 15, 2, place, instruction)
 }
 
 /// CMP of any registers, of which one is above R7.
@@ -328,10 +322,8 @@ fn compare_high(n: Register, m: Register) -> Decoded
         first: n,
         second: unshifted(m),
     });
-    unless(
+    unless_refused(
         n.number() == 15 || m.number() == 15 || n.number() < 8 && m.number() < 8,
-        BlockPlace::Anywhere,
-        UnpredictableCase::Registers,
         short(instruction),
     )
 }
@@ -352,7 +344,7 @@ fn move_high(d: Register, m: Register) -> Decoded
 
 /// ADR: the offset counts words.
 #[tactic(auto, unfolding(reference::specs::ShortData::address))]
-pub fn address(d: Register, words: u8) -> Decoded
+pub(crate) fn address(d: Register, words: u8) -> Decoded
     ensures { result ≡ address d words }
 {
     short(Instruction::Address(Address {
@@ -363,7 +355,7 @@ pub fn address(d: Register, words: u8) -> Decoded
 
 /// ADD and SUB of SP and a number, which counts words; no flags.
 #[tactic(auto, unfolding(reference::specs::ShortData::sp_number))]
-pub fn sp_number(operation: DataOperation, d: Register, words: u8) -> Decoded
+pub(crate) fn sp_number(operation: DataOperation, d: Register, words: u8) -> Decoded
     ensures { result ≡ sp_number operation d words }
 {
     short(Instruction::DataImmediate(DataImmediate {

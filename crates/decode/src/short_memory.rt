@@ -18,7 +18,7 @@ use reference::stop::UnpredictableCase;
 
 /// STR, STRH, STRB and LDRSB at two registers.
 #[tactic(auto, using(crate::proofs::ShortTop::register_address_lemmas))]
-pub fn stores_at_registers(x: u32) -> Decoded
+pub(crate) fn stores_at_registers(x: u32) -> Decoded
     requires { bits x 11 5 ≡ 10 }
     ensures { result ≡ short_meaning x }
 {
@@ -33,7 +33,7 @@ pub fn stores_at_registers(x: u32) -> Decoded
 
 /// LDR, LDRH, LDRB and LDRSH at two registers.
 #[tactic(auto, using(crate::proofs::ShortTop::register_address_lemmas))]
-pub fn loads_at_registers(x: u32) -> Decoded
+pub(crate) fn loads_at_registers(x: u32) -> Decoded
     requires { bits x 11 5 ≡ 11 }
     ensures { result ≡ short_meaning x }
 {
@@ -50,7 +50,7 @@ pub fn loads_at_registers(x: u32) -> Decoded
 
 /// LDR at the PC and an offset, which counts words.
 #[tactic(auto, unfolding(reference::specs::ShortMemory::load_literal_word))]
-pub fn load_literal_word(t: Register, words: u8) -> Decoded
+pub(crate) fn load_literal_word(t: Register, words: u8) -> Decoded
     ensures { result ≡ load_literal_word t words }
 {
     short(Instruction::LoadLiteral(LoadLiteral {
@@ -96,7 +96,7 @@ fn load_register(size: Size, signed: bool, t: Register, n: Register, m: Register
 }
 
 /// A base and an offset, where the base stays.
-fn at_offset(n: Register, offset: u32) -> ImmediateAddress
+pub(crate) fn at_offset(n: Register, offset: u32) -> ImmediateAddress
     ensures { result ≡ at_offset n offset }
 {
     ImmediateAddress {
@@ -108,7 +108,7 @@ fn at_offset(n: Register, offset: u32) -> ImmediateAddress
 
 /// A store at a register and an offset.
 #[tactic(auto, unfolding(reference::specs::ShortMemory::store_number))]
-pub fn store_number(size: Size, t: Register, n: Register, offset: u32) -> Decoded
+pub(crate) fn store_number(size: Size, t: Register, n: Register, offset: u32) -> Decoded
     ensures { result ≡ store_number size t n offset }
 {
     short(Instruction::StoreImmediate(StoreImmediate {
@@ -121,7 +121,7 @@ pub fn store_number(size: Size, t: Register, n: Register, offset: u32) -> Decode
 
 /// A load at a register and an offset.
 #[tactic(auto, unfolding(reference::specs::ShortMemory::load_number))]
-pub fn load_number(size: Size, t: Register, n: Register, offset: u32) -> Decoded
+pub(crate) fn load_number(size: Size, t: Register, n: Register, offset: u32) -> Decoded
     ensures { result ≡ load_number size t n offset }
 {
     short(Instruction::LoadImmediate(LoadImmediate {
@@ -137,7 +137,7 @@ pub fn load_number(size: Size, t: Register, n: Register, offset: u32) -> Decoded
 
 /// PUSH of registers from R0 to R7, and of LR.
 #[tactic(auto, unfolding(reference::specs::ShortMemory::push))]
-pub fn push(lr: u16, list: u8) -> Decoded
+pub(crate) fn push(lr: u16, list: u8) -> Decoded
     requires { lr < 2 }
     ensures { result ≡ push lr list }
 {
@@ -158,7 +158,7 @@ pub fn push(lr: u16, list: u8) -> Decoded
 
 /// POP of registers from R0 to R7, and of PC.
 #[tactic(auto, unfolding(reference::specs::ShortMemory::pop))]
-pub fn pop(pc: u16, list: u8) -> Decoded
+pub(crate) fn pop(pc: u16, list: u8) -> Decoded
     requires { pc < 2 }
     ensures { result ≡ pop pc list }
 {
@@ -179,7 +179,7 @@ pub fn pop(pc: u16, list: u8) -> Decoded
 }
 
 /// Whether a register is in a list.
-pub fn is_in_list(n: Register, list: u16) -> bool
+pub(crate) fn is_in_list(n: Register, list: u16) -> bool
     ensures { result ≡ is_bit list n }
 {
     (list >> n.number()) % 2 == 1
@@ -194,7 +194,7 @@ fn is_above_lowest(n: Register, list: u16) -> bool
 
 /// STM, which writes back always.
 #[tactic(auto, unfolding(reference::specs::ShortMemory::store_list))]
-pub fn store_list(n: Register, list: u8) -> Decoded
+pub(crate) fn store_list(n: Register, list: u8) -> Decoded
     ensures { result ≡ store_list n list }
 {
     let instruction = Instruction::StoreMultiple(StoreMultiple {
@@ -218,7 +218,7 @@ pub fn store_list(n: Register, list: u8) -> Decoded
 
 /// LDM, which writes back where the base isn't in the list.
 #[tactic(auto, unfolding(reference::specs::ShortMemory::load_list))]
-pub fn load_list(n: Register, list: u8) -> Decoded
+pub(crate) fn load_list(n: Register, list: u8) -> Decoded
     ensures { result ≡ load_list n list }
 {
     let instruction = Instruction::LoadMultiple(LoadMultiple {

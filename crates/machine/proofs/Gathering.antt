@@ -1,5 +1,5 @@
 -- Lines that wait on a page behind the bytes that a writer took.
-use Rattle.std.proofs.Common.{◌≡◌, ℕ, suc, ◌+◌, ◌<◌, ◌≤◌, List, [], ◌∷◌, ◌++◌, length, take, drop, Option, Result, Ok, Err, refl, sym, ◌∙◌, ap, subst, arith, length-append, false, true, ◌==◌}
+use Rattle.std.proofs.Common.{◌≡◌, ℕ, suc, ◌+◌, ◌<◌, List, [], ◌∷◌, length, take, drop, Option, Result, Ok, Err, refl, sym, arith, length-append, false, true, ◌==◌}
 use Rattle.std.proofs.KnownBytes.{Appends-nil, Appends-kept, Keeps-trans, append_known-kept, append_known-moved, append_known-passed}
 use Rattle.std.proofs.lemmas.Bool.Decides.{nat_tests}
 use Rattle.std.proofs.lemmas.List.{take-append-drop, drop-drop, append-nil}

@@ -1,5 +1,5 @@
-mod Blocks
 mod Gathering
 mod Loading
 mod Running
 mod Sending
+mod Serving

@@ -1,7 +1,6 @@
-pub mod Narrow
 pub mod Output
-pub mod Plans
 pub mod Runs
+pub mod Serving
 pub mod Starts
 pub mod Values
 pub mod Whole

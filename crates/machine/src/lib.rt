@@ -1,21 +1,18 @@
 //! The machine: steps, runs and their traces.
 #![tactic(auto)]
 
-mod bus;
-mod decide;
-mod operations;
 pub mod output;
 pub mod paged;
 mod placing;
 pub mod readers;
 mod run;
-mod space;
 mod start;
 mod stepping;
 #[cfg(test)]
 mod tests;
 mod whole;
 
+pub use access::{Decider, Search};
 pub use output::{IoFault, Out, Over};
 pub use paged::Paged;
 pub use readers::RegValues;
@@ -26,4 +23,4 @@ pub use reference::place::Place;
 pub use reference::stop::Stop;
 pub use stepping::{Events, MOST_EVENTS};
 pub use trace::lines::{Text, event_line, stop_line};
-pub use whole::{Machine, RunFault};
+pub use whole::{Machine, RunFault, Slow};

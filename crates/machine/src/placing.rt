@@ -2,15 +2,21 @@
 
 ghost use Rattle.std.specs.Prelude.{◌≡◌, true};
 ghost use Rattle.machine.specs.Starts.{PlacesAt};
-ghost use Rattle.reference.specs.Places.{place, is_special, is_private_peripheral, is_there, is_word_aligned, taken};
+ghost use Rattle.reference.specs.declared.place.Place.TheVariants.{Word};
+ghost use Rattle.reference.specs.Map.{is_in_ppb};
+ghost use Rattle.reference.specs.Places.{place, is_special, is_there, is_word_aligned, special_taken, store_of, taken};
 
-use crate::bus::UNBUILT;
-use crate::stepping::Core;
+use crate::stepping::{Core, UNBUILT};
+use access::Decider;
+use reference::access::{Answer, Kind, Request, Size};
 use reference::fault::PlaceFault;
 use reference::place::Place;
 use reference::registers::Register;
 
-impl Core {
+/// The number of CONTROL among the special registers.
+const CONTROL: u8 = 20;
+
+impl<D: Decider> Core<D> {
     /// Puts a value into a register or a word.
     #[tactic(auto, unfolding(reference::specs::Places::place))]
     pub fn place(&mut self, value: Place) -> Result<(), PlaceFault>
@@ -37,9 +43,7 @@ impl Core {
             Place::Special(number, _) => is_special(number),
             Place::Word(address, _) => {
                 let space = self.bus().space();
-                space.is_in_flash(address, 4)
-                    || space.is_in_ram(address, 4)
-                    || is_private_peripheral(address)
+                space.is_in_flash(address, 4) || space.is_in_ram(address, 4) || is_in_ppb(address)
             }
         }
     }
@@ -54,14 +58,37 @@ impl Core {
                 self.set_register(Register::new(number), value);
                 Ok(())
             }
-            Place::Special(_, _) => Err(PlaceFault::Refused(UNBUILT)),
+            Place::Special(number, value) => self.take_special(number, value),
             Place::Word(address, value) => {
-                if is_private_peripheral(address) {
-                    return Err(PlaceFault::Refused(UNBUILT));
+                if is_in_ppb(address) {
+                    return self.take_register(address, value);
                 }
                 self.overwrite(address, &value.to_le_bytes());
                 Ok(())
             }
+        }
+    }
+
+    /// MSR by privileged code in Thread mode; CONTROL is the special register that is built.
+    fn take_special(&mut self, number: u8, value: u32) -> Result<(), PlaceFault>
+        ensures { PlacesAt (special_taken self.old number value) self.old self.new result }
+    {
+        if number != CONTROL {
+            return Err(PlaceFault::Refused(UNBUILT));
+        }
+        self.set_control(value);
+        Ok(())
+    }
+
+    /// A store to the Private Peripheral Bus by privileged code, about which no rule is asked.
+    fn take_register(&mut self, address: u32, value: u32) -> Result<(), PlaceFault>
+        requires { is_in_ppb address ≡ true }
+        ensures { PlacesAt (taken self.old (Word address value)) self.old self.new result }
+    {
+        match self.carry_out(&store_of(address, value)) {
+            Answer::Value(_) => Ok(()),
+            Answer::Error => Err(PlaceFault::NoSuchPlace),
+            Answer::Stop(why) => Err(PlaceFault::Refused(why)),
         }
     }
 }
@@ -83,8 +110,21 @@ fn is_special(number: u8) -> bool
 }
 
 /// Whether an address lies in the Private Peripheral Bus.
-fn is_private_peripheral(address: u32) -> bool
-    ensures { result ≡ is_private_peripheral address }
+fn is_in_ppb(address: u32) -> bool
+    ensures { result ≡ is_in_ppb address }
 {
     address >> 20 == 0xE00
+}
+
+/// A store of a word by privileged code.
+fn store_of(address: u32, value: u32) -> Request
+    ensures { result ≡ store_of address value }
+{
+    Request {
+        address,
+        value,
+        kind: Kind::Store,
+        size: Size::Word,
+        privileged: true,
+    }
 }

@@ -2,8 +2,10 @@
 
 ghost use Rattle.std.specs.Prelude.{◌≡◌};
 ghost use Rattle.reference.specs.Memory.{byte_at};
+ghost use Rattle.reference.specs.Regions.{shown};
 
 use crate::stepping::Core;
+use access::Decider;
 
 /// The values of the core registers, each as a word.
 #[derive(Clone, Copy)]
@@ -22,7 +24,7 @@ pub struct RegValues {
     pub basepri: u32,
 }
 
-impl Core {
+impl<D: Decider> Core<D> {
     ghost use Rattle.machine.specs.Values.{values_of};
 
     /// The values of the core registers.
@@ -49,5 +51,12 @@ impl Core {
         ensures { result ≡ byte_at self.now.bus.memory address }
     {
         self.bus().space().byte(address)
+    }
+
+    /// RBAR and RASR of a region, if there is one of that number.
+    pub fn region(&self, number: u8) -> Option<(u32, u32)>
+        ensures { result ≡ shown self.now.bus.mpu number }
+    {
+        self.bus().region(number)
     }
 }

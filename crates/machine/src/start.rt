@@ -6,20 +6,23 @@ ghost use Rattle.reference.specs.Memory.{Memory};
 ghost use Rattle.reference.specs.Start.{start, blank, are_placed, is_placed, loaded, vector};
 ghost use Rattle.elf.specs.Segment.{segment_of};
 
-use crate::bus::Bus;
-use crate::space::{RAM_BASE, Space, is_within};
 use crate::stepping::Core;
+use access::{Bus, Decider};
 use elf::{Image, Segment};
-use reference::access::Size;
 use reference::board::Layout;
 use reference::fault::StartFault;
 use regs::Regs;
+use space::{RAM_BASE, Space, is_within};
 use std::alloc::Global;
 
 /// The core of a board, with an image in its memory, before the first step. The segments are looked
 /// at before any memory is taken.
 #[tactic(auto, unfolding(reference::specs::Start::start))]
-pub fn start_core(alloc: Global, image: &Image<'_>, board: &Layout) -> Result<Core, StartFault>
+pub fn start_core<D: Decider>(
+    alloc: Global,
+    image: &Image<'_>,
+    board: &Layout,
+) -> Result<Core<D>, StartFault>
     ensures { StartsAt (start board.now image.now) result }
 {
     if !are_placed(board, image.segments()) {

@@ -1,13 +1,14 @@
 ghost use Rattle.std.specs.Prelude.{◌≡◌};
 
+mod instructions;
+mod regions;
+
 use crate::output::{Out, Over};
 use crate::paged::Paged;
-use crate::{
-    Events, Machine, Place, PlaceFault, RunFault, SMALL_BOARD, Stop, event_line, stop_line,
-};
+use crate::{Events, Place, PlaceFault, RunFault, SMALL_BOARD, Slow, Stop, event_line, stop_line};
 use arrayvec::ArrayVec;
 use elf::load;
-use reference::stop::LeftOut;
+use reference::stop::{LeftOut, UnpredictableCase};
 use std::alloc::Global;
 use std::io;
 use std::io::Write;
@@ -76,7 +77,7 @@ impl Write for Cut {
 }
 
 fn run_over<K: Ledger>(
-    machine: &mut Machine,
+    machine: &mut Slow,
     steps: u32,
     out: &mut Cut,
     blank: Blank,
@@ -89,14 +90,14 @@ fn run_over<K: Ledger>(
     machine.run(u64::from(steps), &mut out)
 }
 
-fn run(machine: &mut Machine, steps: u32, out: &mut Cut) -> Result<Stop, RunFault> {
+fn run(machine: &mut Slow, steps: u32, out: &mut Cut) -> Result<Stop, RunFault> {
     run_over::<Brand>(machine, steps, out, Blank::new(1))
 }
 
 /// A machine of the small board with these values in it.
-fn machine_with(alloc: Global, places: &[Place]) -> Result<Machine, Fail> {
+fn machine_with(alloc: Global, places: &[Place]) -> Result<Slow, Fail> {
     let image = load(&NO_SEGMENTS).map_err(|_| "an image")?;
-    let mut machine = Machine::new(alloc, &image, &SMALL_BOARD).map_err(|_| "a machine")?;
+    let mut machine = Slow::new(alloc, &image, &SMALL_BOARD).map_err(|_| "a machine")?;
     for value in places {
         machine.place(*value).map_err(|_| "a place")?;
     }
@@ -123,11 +124,11 @@ fn traces_are_those_of_the_rows(rt: HostRuntime) -> Result<(), Fail> {
               3 F 00000104 2 p ok off\n3 L 20000010 4 p ok off\n4 F 00000106 2 p ok off\nstop steps\n",
         ),
         (
-            "a store to flash is left to a later version",
+            "the bus refuses a store to flash",
             &STORE_AND_LOAD,
             Place::Reg(1, 0x100),
             4,
-            b"1 F 00000100 2 p ok off\n2 F 00000102 2 p ok off\nstop outofprofile unbuilt\n",
+            b"1 F 00000100 2 p ok off\n2 F 00000102 2 p ok off\n2 S 00000100 4 p bus off\nstop outofprofile unbuilt\n",
         ),
     ];
     for (name, places, last, steps, wanted) in rows {
@@ -175,7 +176,7 @@ fn a_step_tells_its_events(rt: HostRuntime) -> Result<(), Fail> {
     // R1 is 0, so the store goes to flash.
     let stop = machine.step(&mut events).ok_or("a stop")?;
     assert!(rt; stop_line(&stop).as_slice() == b"stop outofprofile unbuilt\n".as_slice());
-    assert_eq!(rt; events.len(), 1);
+    assert_eq!(rt; events.len(), 2);
     // A stopped machine repeats its stop and tells nothing.
     let stop = machine.step(&mut events).ok_or("a stop")?;
     assert!(rt; stop_line(&stop).as_slice() == b"stop outofprofile unbuilt\n".as_slice());
@@ -221,7 +222,7 @@ fn a_writer_that_takes_one_byte_gets_all(rt: HostRuntime) -> Result<(), Fail> {
     Ok(())
 }
 
-fn run_paged<K: Ledger>(machine: &mut Machine, out: &mut Cut, blank: Blank) -> (bool, bool)
+fn run_paged<K: Ledger>(machine: &mut Slow, out: &mut Cut, blank: Blank) -> (bool, bool)
     requires name { blank.name ≡ K.name }
     requires parts { blank.parts ≡ K.parts }
     requires some { blank.parts ≡ 1 }
@@ -231,7 +232,7 @@ fn run_paged<K: Ledger>(machine: &mut Machine, out: &mut Cut, blank: Blank) -> (
     (ran, out.flush().is_ok())
 }
 
-fn run_gathered(machine: &mut Machine, out: &mut Cut) -> (bool, bool) {
+fn run_gathered(machine: &mut Slow, out: &mut Cut) -> (bool, bool) {
     run_paged::<Brand>(machine, out, Blank::new(1))
 }
 
@@ -259,12 +260,15 @@ fn places_are_taken_or_refused(rt: HostRuntime) -> Result<(), Fail> {
         Place::Word(0xFFC, 1),
         Place::Word(0x2000_0000, 1),
         Place::Word(0x2000_1FFC, 1),
+        Place::Word(0xE000_ED94, 5),
+        Place::Special(20, 2),
     ];
     for value in taken {
         assert!(rt; machine.place(value).is_ok());
     }
     assert_eq!(rt; machine.regs().pc, 0x100);
     assert_eq!(rt; machine.byte(0x2000_1FFC), Some(1));
+    assert_eq!(rt; machine.regs().control, 2);
     let nowhere = [
         Place::Reg(16, 0),
         Place::Special(4, 0),
@@ -280,7 +284,7 @@ fn places_are_taken_or_refused(rt: HostRuntime) -> Result<(), Fail> {
     for value in [Place::Word(2, 0), Place::Word(0x1001, 0)] {
         assert!(rt; matches!(machine.place(value), Err(PlaceFault::NotAligned)));
     }
-    for value in [Place::Special(20, 1), Place::Word(0xE000_ED94, 1)] {
+    for value in [Place::Special(16, 1), Place::Word(0xE000_E100, 1)] {
         assert!(rt;
             matches!(
                 machine.place(value),
@@ -288,8 +292,16 @@ fn places_are_taken_or_refused(rt: HostRuntime) -> Result<(), Fail> {
             )
         );
     }
+    assert!(rt;
+        matches!(
+            machine.place(Place::Word(0xE000_ED94, 2)),
+            Err(PlaceFault::Refused(Stop::Unpredictable(UnpredictableCase::MpuControl)))
+        )
+    );
     let mut out = Cut::new(512, 512, true);
-    machine.place(Place::Word(0x100, 0)).map_err(|_| "a place")?;
+    machine
+        .place(Place::Word(0x100, 0xBE00))
+        .map_err(|_| "a place")?;
     let _ = run(&mut machine, 1, &mut out);
     assert!(rt; matches!(machine.place(Place::Reg(0, 0)), Err(PlaceFault::Stopped)));
     Ok(())
@@ -299,8 +311,8 @@ fn places_are_taken_or_refused(rt: HostRuntime) -> Result<(), Fail> {
 #[test]
 fn a_refused_growth_is_told_and_leaves_nothing_behind(rt: HostRuntime) -> Result<(), Fail> {
     let image = load(&NO_SEGMENTS).map_err(|_| "an image")?;
-    if Machine::new(rt.alloc(), &image, &SMALL_BOARD).is_err() {
-        let again = Machine::new(rt.alloc(), &image, &SMALL_BOARD);
+    if Slow::new(rt.alloc(), &image, &SMALL_BOARD).is_err() {
+        let again = Slow::new(rt.alloc(), &image, &SMALL_BOARD);
         assert!(rt; again.is_ok());
     }
     Ok(())

@@ -5,6 +5,7 @@ ghost use Rattle.machine.specs.Runs.{Fails};
 ghost use Rattle.machine.specs.Starts.{Starts, Places};
 ghost use Rattle.reference.specs.Memory.{byte_at};
 ghost use Rattle.reference.specs.Places.{place};
+ghost use Rattle.reference.specs.Regions.{shown};
 ghost use Rattle.reference.specs.Run.{after, ending_of, trace};
 ghost use Rattle.reference.specs.Start.{start};
 ghost use Rattle.reference.specs.Step.{step};
@@ -15,6 +16,7 @@ use crate::readers::RegValues;
 use crate::run::run_core;
 use crate::start::start_core;
 use crate::stepping::{Core, Events};
+use access::{Decider, Search};
 use elf::Image;
 use reference::board::Layout;
 use reference::fault::{PlaceFault, StartFault};
@@ -32,14 +34,17 @@ pub enum RunFault {
     Broken,
 }
 
-/// A machine.
+/// A machine, whose accesses are decided by a `D`.
 #[derive(Drop)]
-pub struct Machine {
-    core: Core,
+pub struct Machine<D: Decider> {
+    core: Core<D>,
     broken: bool,
 }
 
-impl Model for Machine {
+/// The machine that searches the regions at each access.
+pub type Slow = Machine<Search>;
+
+impl<D: Decider> Model for Machine<D> {
     ghost use Rattle.machine.specs.Whole.{Whole};
 
     ghost Value = { Whole };
@@ -47,7 +52,7 @@ impl Model for Machine {
     ghost view = { λ m. record { state = m.core; broken = m.broken } };
 }
 
-impl Machine {
+impl<D: Decider> Machine<D> {
     ghost use Rattle.machine.specs.Values.{values_of};
 
     /// The machine of a board, with an image in its memory, before the first step.
@@ -123,5 +128,12 @@ impl Machine {
         ensures { result ≡ byte_at self.now.state.bus.memory address }
     {
         self.core.byte(address)
+    }
+
+    /// RBAR (with VALID 0 and REGION as given) and RASR of a region, if there is one of that number.
+    pub fn region(&self, number: u8) -> Option<(u32, u32)>
+        ensures { result ≡ shown self.now.state.bus.mpu number }
+    {
+        self.core.region(number)
     }
 }

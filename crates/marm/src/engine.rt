@@ -7,7 +7,7 @@ ghost use Rattle.reference.specs.Images.{image_of};
 
 use crate::fault::{Fault, stop_status, tell};
 use elf::load;
-use machine::{Layout, Machine, Out, Over, Paged, SMALL_BOARD, Stop};
+use machine::{Layout, Out, Over, Paged, SMALL_BOARD, Slow, Stop};
 use std::alloc::Global;
 use std::io::Write;
 use std::marker::Brand;
@@ -48,7 +48,7 @@ fn execute<W: Write + Drop, K: Ledger>(
     ensures { Executes board.now (image_of image.now) steps result }
 {
     let image = load(image).map_err(Fault::Load)?;
-    let mut machine = Machine::new(alloc, &image, board).map_err(Fault::Start)?;
+    let mut machine = Slow::new(alloc, &image, board).map_err(Fault::Start)?;
     let mut out: Paged<Over<W, K>> = Paged::new(Over::new(out, blank));
     match machine.run(steps, &mut out) {
         Ok(stop) => match out.flush() {

@@ -95,7 +95,7 @@ fn runs_and_refusals_of_an_image(rt: HostRuntime) -> Result<(), Fail> {
             &empty,
             10,
             512,
-            b"stop outofprofile unbuilt\n",
+            b"1 F FFFFFFFE 2 p mpu xn\nstop outofprofile unbuilt\n",
             b"",
             4,
         ),

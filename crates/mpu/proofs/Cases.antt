@@ -4,9 +4,9 @@ use Rattle.std.proofs.lemmas.Bool.{cases_lt, eqb-true, eq-eqb}
 use Rattle.reference.specs.declared.access.Decision.{Decision}
 use Rattle.reference.specs.declared.access.Rule.{Rule}
 use Rattle.reference.specs.declared.access.Rule.TheVariants.{NeverExecute, VectorRead, PrivatePeripheralBus, MpuOff, NegativePriority, Region, Background, NoRegion}
-use Rattle.reference.specs.Decisions.{default_map}
+use Rattle.reference.specs.Kinds.{is_vector}
 use Rattle.reference.specs.Regions.{Mpu, owner, is_on, IsOwner}
-use Rattle.reference.specs.Rules.{Asked, Fits, IsFirstFit, place, granted_to, before_regions, by_owner, first_of_two, decision_of, is_never_executed, is_vector, is_ppb_data, is_off_below_zero, is_background}
+use Rattle.reference.specs.Rules.{default_map, Asked, Fits, IsFirstFit, place, granted_to, before_regions, by_owner, first_of_two, decision_of, is_never_executed, is_ppb_data, is_off_below_zero, is_background}
 use Rattle.mpu.proofs.Belonging.{only_owner, owner_is}
 
 -- ---- rules by their places

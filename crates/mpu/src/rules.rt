@@ -3,9 +3,9 @@
 
 ghost use Rattle.std.specs.Prelude.{◌≡◌};
 ghost use Rattle.reference.specs.declared.access.Rule.TheVariants.{Region};
-ghost use Rattle.reference.specs.Decisions.{default_map, is_executable};
+ghost use Rattle.reference.specs.Map.{is_in_ppb};
 ghost use Rattle.reference.specs.Regions.{permission, never_executes};
-ghost use Rattle.reference.specs.Rules.{is_in_ppb, is_fetch, is_vector, is_off_below_zero, before_regions, may_read, may_write, granted_by, behind_regions};
+ghost use Rattle.reference.specs.Rules.{default_map, is_executable, is_off_below_zero, before_regions, may_read, may_write, granted_by, behind_regions};
 
 use crate::regions::{is_bit, permission};
 use crate::registers::{ENABLE, HFNMIENA, PRIVDEFENA};
@@ -24,11 +24,11 @@ const XN: u32 = 28;
 pub fn before_regions(control: u32, address: u32, kind: Kind, below_zero: bool) -> Option<Decision>
     ensures { result ≡ before_regions control address kind below_zero }
 {
-    let (rule, granted) = if is_fetch(kind) && address >= SYSTEM_BASE {
+    let (rule, granted) = if kind.is_fetch() && address >= SYSTEM_BASE {
         (Rule::NeverExecute, false)
-    } else if is_vector(kind) {
+    } else if kind.is_vector() {
         (Rule::VectorRead, true)
-    } else if !is_fetch(kind) && is_in_ppb(address) {
+    } else if !kind.is_fetch() && is_in_ppb(address) {
         (Rule::PrivatePeripheralBus, true)
     } else if !is_bit(control, ENABLE) {
         (Rule::MpuOff, default_map(address, kind))
@@ -38,20 +38,6 @@ pub fn before_regions(control: u32, address: u32, kind: Kind, below_zero: bool) 
         return None;
     };
     Some(Decision { rule, granted })
-}
-
-#[inline]
-fn is_fetch(kind: Kind) -> bool
-    ensures { result ≡ is_fetch kind }
-{
-    matches!(kind, Kind::Fetch)
-}
-
-#[inline]
-fn is_vector(kind: Kind) -> bool
-    ensures { result ≡ is_vector kind }
-{
-    matches!(kind, Kind::Vector)
 }
 
 /// Whether an address stands in the Private Peripheral Bus.

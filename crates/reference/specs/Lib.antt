@@ -1,7 +1,9 @@
 -- The definitions of the reference machine, one chapter a file, in the order in which they are read.
 pub mod Words
 pub mod Arithmetic
+pub mod Kinds
 pub mod Registers
+pub mod Map
 pub mod Memory
 pub mod State
 pub mod Patterns
@@ -15,10 +17,16 @@ pub mod LongSeveral
 pub mod LongMemory
 pub mod LongRegister
 pub mod Decoding
+pub mod DataProcessing
+pub mod Products
+pub mod Fields
+pub mod Transfers
+pub mod Branches
+pub mod Several
 pub mod Operations
-pub mod Decisions
 pub mod Regions
 pub mod Rules
+pub mod Space
 pub mod Accesses
 pub mod Step
 pub mod Run

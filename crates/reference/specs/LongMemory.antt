@@ -13,6 +13,7 @@ use Rattle.reference.specs.declared.operands.Indexing.{Indexing}
 use Rattle.reference.specs.declared.operands.Indexing.TheVariants.{Offset, PostIndexed}
 use Rattle.reference.specs.declared.operands.LoadForm.{LoadForm}
 use Rattle.reference.specs.declared.stop.UnpredictableCase.TheVariants as cause
+use Rattle.reference.specs.Kinds.{is_word}
 use Rattle.reference.specs.Rows.{big_u, big_v, big_w, big_x, i, m, n, s, t, Row, long, placed, last_only_if, unless, is_bad}
 use Rattle.reference.specs.LongSeveral.{byte_or_halfword, signed_offset, indexing_of, writes_back}
 
@@ -21,11 +22,6 @@ use Rattle.reference.specs.LongSeveral.{byte_or_halfword, signed_offset, indexin
 -- the size of the two bits 00, 01 and 10
 abbrev pub size_of : ℕ → Size
 size_of ss = if ss == 0 then Byte else if ss == 1 then Halfword else Word
-
-abbrev pub is_word : Size → Bool
-is_word Word = true
-is_word Halfword = false
-is_word Byte = false
 
 -- how a byte or a halfword is loaded
 abbrev pub narrow_form : ℕ → ℕ → LoadForm

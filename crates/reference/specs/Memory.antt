@@ -1,9 +1,7 @@
 -- Memory, a partial map from addresses to bytes: flash and RAM. Where flash stands and how large both are is the
--- board's; that RAM stands at 0x20000000 is this project's choice (profile).
+-- board's.
 use Rattle.std.specs.Prelude.{ℕ, zero, suc, ◌+◌, ◌-◌, ◌*◌, ◌/◌, ◌%◌, Bool, ◌&&◌, nat_le, if◌then◌else◌, List, [], ◌∷◌, ◌++◌, length, take, drop, slice_index, Option, Some, None}
-
-abbrev pub ram_base : ℕ
-ram_base = 0x2000_0000
+use Rattle.reference.specs.Map.{ram_base}
 
 pub record Memory : Type 0 where
   pub flash_base : ℕ

@@ -1,38 +1,29 @@
 -- Which rule decides an access, and what it grants (ARM DDI 0403, "Protected Memory System Architecture, PMSAv7": "MPU
 -- fault handling", and the pseudocode of ValidateAddress(), DefaultAttrs() and CheckPermission()). The first case that
 -- fits decides.
-use Rattle.std.specs.Prelude.{◌≡◌, ℕ, ◌/◌, ◌^◌, ◌<◌, Bool, true, false, not, ◌&&◌, ◌||◌, ◌==◌, nat_le, if◌then◌else◌, Option, Some, None, ⊤}
+use Rattle.std.specs.Prelude.{◌≡◌, ℕ, ◌/◌, ◌^◌, ◌<◌, Bool, true, false, not, ◌&&◌, ◌||◌, ◌==◌, nat_lt, nat_le, if◌then◌else◌, Option, Some, None, ⊤}
 use Rattle.reference.specs.declared.access.Decision.{Decision}
 use Rattle.reference.specs.declared.access.Kind.{Kind}
 use Rattle.reference.specs.declared.access.Kind.TheVariants.{Fetch, Load, Store, Push, Pop, Vector}
 use Rattle.reference.specs.declared.access.Rule.{Rule}
 use Rattle.reference.specs.declared.access.Rule.TheVariants.{NeverExecute, VectorRead, PrivatePeripheralBus, MpuOff, NegativePriority, Region, Background, NoRegion}
-use Rattle.reference.specs.Decisions.{default_map}
+use Rattle.reference.specs.Kinds.{is_fetch, is_vector}
+use Rattle.reference.specs.Map.{system_base, is_in_ppb}
 use Rattle.reference.specs.Regions.{Mpu, region, owner, permission, never_executes, is_on, is_on_below_zero, has_background, IsOwner}
 
--- the system address space, where no code stands, begins here
-abbrev pub system_base : ℕ
-system_base = 0xE000_0000
+-- whether the default map lets code stand there, by address bits 31:29: code, RAM and external RAM, but no device and
+-- no system address
+abbrev pub is_executable : ℕ → Bool
+is_executable a = nat_lt (a / 2 ^ 29) 2 || (a / 2 ^ 29 == 3) || (a / 2 ^ 29 == 4)
 
--- the Private Peripheral Bus: 0xE0000000 to 0xE00FFFFF
-abbrev pub is_in_ppb : ℕ → Bool
-is_in_ppb a = a / 2 ^ 20 == 0xE00
-
-abbrev pub is_fetch : Kind → Bool
-is_fetch Fetch = true
-is_fetch Load = false
-is_fetch Store = false
-is_fetch Push = false
-is_fetch Pop = false
-is_fetch Vector = false
-
-abbrev pub is_vector : Kind → Bool
-is_vector Fetch = false
-is_vector Load = false
-is_vector Store = false
-is_vector Push = false
-is_vector Pop = false
-is_vector Vector = true
+-- what the default map grants: all data, and the fetches of code
+abbrev pub default_map : ℕ → Kind → Bool
+default_map a Fetch = is_executable a
+default_map a Load = true
+default_map a Store = true
+default_map a Push = true
+default_map a Pop = true
+default_map a Vector = true
 
 -- The cases before the regions
 

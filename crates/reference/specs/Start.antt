@@ -6,6 +6,7 @@ use Rattle.reference.specs.declared.fault.StartFault.{StartFault}
 use Rattle.reference.specs.declared.fault.StartFault.TheVariants.{SegmentOutsideMemory}
 use Rattle.reference.specs.Images.{Segment}
 use Rattle.reference.specs.Memory.{Memory, is_in_flash, is_in_ram, overwritten, number_at}
+use Rattle.reference.specs.Regions.{fresh}
 use Rattle.reference.specs.Registers.{reset_registers}
 use Rattle.reference.specs.State.{State}
 
@@ -34,11 +35,15 @@ are_placed m (s ∷ segments) = is_placed m s && are_placed m segments
 abbrev pub vector : Memory → ℕ → ℕ
 vector m number = unwrap_or (number_at m (m.flash_base + 4 * number) 4) 0
 
+-- how many regions the MPU has
+abbrev pub region_count : ℕ
+region_count = 8
+
 -- the first entry is the main stack pointer, the second is where the first instruction stands
 abbrev pub reset : Memory → State
 reset m = record {
   registers = reset_registers (vector m 0) (vector m 1);
-  bus = record { memory = m; clock = record { ticks = 0 } };
+  bus = record { memory = m; mpu = fresh region_count; clock = record { ticks = 0 } };
   stop = None;
 }
 

@@ -4,6 +4,7 @@ use Rattle.std.specs.Prelude.{ℕ, ◌+◌, ◌^◌, List, Option, Some}
 use Rattle.reference.specs.declared.event.Event.{Event}
 use Rattle.reference.specs.declared.stop.Stop.{Stop}
 use Rattle.reference.specs.Memory.{Memory}
+use Rattle.reference.specs.Regions.{Mpu}
 use Rattle.reference.specs.Registers.{Registers}
 
 -- time: how many ticks have gone by
@@ -17,6 +18,7 @@ clock_end = 2 ^ 48
 -- what an access can see and change
 pub record Bus : Type 0 where
   pub memory : Memory
+  pub mpu : Mpu
   pub clock : Clock
 
 pub record State : Type 0 where

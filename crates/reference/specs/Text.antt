@@ -18,7 +18,7 @@ use Rattle.reference.specs.declared.stop.Stop.{Stop}
 use Rattle.reference.specs.declared.stop.Stop.TheVariants.{StepLimit, Breakpoint, Lockup, Unpredictable, OutOfProfile, ResetRequested}
 use Rattle.reference.specs.declared.stop.UnpredictableCase.{UnpredictableCase}
 use Rattle.reference.specs.declared.stop.UnpredictableCase.TheVariants.{Encoding, ItBlock, EmptyList, Registers, StoredBase, Immediate, BitField, SpecialRegister, LoadPc, LiteralPc, MpuRegion, MpuControl, Icsr, ExceptionReturn, PoppedPc}
-use Rattle.reference.specs.Accesses.{bytes_in}
+use Rattle.reference.specs.Kinds.{bytes_in}
 
 -- the digit of a number below 16
 abbrev pub hex_digit : ℕ → ℕ

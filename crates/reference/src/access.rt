@@ -1,5 +1,8 @@
 //! The words for one access to memory: what it is for, how wide it is, and what became of it.
 
+ghost use Rattle.std.specs.Prelude.{◌≡◌};
+ghost use Rattle.reference.specs.Kinds.{bytes_in, is_fetch, is_load, is_store, is_vector, is_word, is_write};
+
 use crate::stop::Stop;
 
 /// What an access is for.
@@ -17,12 +20,71 @@ pub enum Kind {
     Vector,
 }
 
+impl Kind {
+    #[inline]
+    pub fn is_fetch(self) -> bool
+        ensures { result ≡ is_fetch self }
+    {
+        matches!(self, Kind::Fetch)
+    }
+
+    #[inline]
+    pub fn is_load(self) -> bool
+        ensures { result ≡ is_load self }
+    {
+        matches!(self, Kind::Load)
+    }
+
+    #[inline]
+    pub fn is_store(self) -> bool
+        ensures { result ≡ is_store self }
+    {
+        matches!(self, Kind::Store)
+    }
+
+    /// Whether it is a store, or a push of exception entry.
+    #[inline]
+    pub fn is_write(self) -> bool
+        ensures { result ≡ is_write self }
+    {
+        matches!(self, Kind::Store | Kind::Push)
+    }
+
+    #[inline]
+    pub fn is_vector(self) -> bool
+        ensures { result ≡ is_vector self }
+    {
+        matches!(self, Kind::Vector)
+    }
+}
+
 /// How many bytes an access moves.
 #[derive(Clone, Copy)]
 pub enum Size {
     Byte,
     Halfword,
     Word,
+}
+
+impl Size {
+    /// So many bytes: 1, 2 or 4.
+    #[inline]
+    pub fn bytes(self) -> u32
+        ensures { result ≡ bytes_in self }
+    {
+        match self {
+            Size::Byte => 1,
+            Size::Halfword => 2,
+            Size::Word => 4,
+        }
+    }
+
+    #[inline]
+    pub fn is_word(self) -> bool
+        ensures { result ≡ is_word self }
+    {
+        matches!(self, Size::Word)
+    }
 }
 
 /// The rule that decided an access: the first that fits, in the order that docs/REFERENCE.md gives.
@@ -86,11 +148,63 @@ pub struct Access {
     pub rule: Rule,
 }
 
+/// What the bus answers to an access that a rule granted.
+#[derive(Clone, Copy)]
+pub enum Answer {
+    /// It was carried out; a read gives its value, a write 0.
+    Value(u32),
+    /// A bus error: it was refused, and nothing is changed.
+    Error,
+    /// The machine stops before the access.
+    Stop(Stop),
+}
+
+/// What refused an access.
+#[derive(Clone, Copy)]
+pub enum Cause {
+    /// The rule that decided it.
+    Mpu,
+    /// The bus, though the rule had granted it.
+    Bus,
+}
+
 /// The answer to a request.
 #[derive(Clone, Copy)]
 pub enum Performed {
     /// The rule granted it, and it was carried out; a read gives its value, a write 0.
     Done(Rule, u32),
+    /// It was refused, and nothing is changed.
+    Denied(Rule, Cause),
     /// The machine stops before the access.
     Stop(Stop),
+}
+
+/// An access that was refused.
+#[derive(Clone, Copy)]
+pub struct Denial {
+    pub address: u32,
+    pub kind: Kind,
+    pub cause: Cause,
+}
+
+/// Why a step doesn't go on behind an access.
+#[derive(Clone, Copy)]
+pub enum Failure {
+    /// The access was refused, which is a fault.
+    Denied(Denial),
+    /// The machine stops by name.
+    Stop(Stop),
+}
+
+// A list of a fixed capacity is made of blank requests.
+impl Default for Request {
+    fn default() -> Self {
+        Request {
+            address: 0,
+            value: 0,
+            kind: Kind::Load,
+            size: Size::Byte,
+            privileged: false,
+        }
+    }
 }

@@ -165,4 +165,6 @@ pub enum Ending {
     Next,
     /// A breakpoint with this number.
     Breakpoint(u8),
+    /// A return from an exception, with this EXC_RETURN value.
+    ExceptionReturn(u32),
 }

@@ -2,8 +2,10 @@
 //! stack pointers, LR, PC, and what xPSR and CONTROL hold.
 #![tactic(auto)]
 
-ghost use Rattle.std.specs.Prelude.{◌≡◌};
-ghost use Rattle.reference.specs.Registers.{register as register_of, with_register, with_pc, with_result, sp as sp_of, is_handler as is_handler_of, is_privileged as is_privileged_of, xpsr as xpsr_of, control as control_of, weighed as weighed_of, uses_psp as uses_psp_of, with_sp, reset_registers};
+ghost use Rattle.std.specs.Prelude.{◌≡◌, ◌<◌, ◌≤◌, ◌-◌, ◌^◌};
+ghost use Rattle.reference.specs.Registers.{register as register_of, with_register, with_pc, with_result, sp as sp_of, is_handler as is_handler_of, is_privileged as is_privileged_of, xpsr as xpsr_of, control as control_of, weighed as weighed_of, uses_psp as uses_psp_of, with_sp, with_control, reset_registers};
+ghost use Rattle.reference.specs.Branches.{with_exchange};
+ghost use Rattle.reference.specs.Operations.{apsr as apsr_of};
 ghost use Rattle.reference.specs.Words.{word_sum};
 
 pub use reference::registers::{Flags, Register};
@@ -172,6 +174,15 @@ impl Regs {
         self.pc = address & !1;
     }
 
+    /// `BLXWritePC(address)`: bit 0 becomes EPSR.T.
+    #[inline]
+    pub fn branch_exchange(&mut self, address: u32)
+        ensures { self.new ≡ with_exchange self.old address }
+    {
+        self.branch(address);
+        self.thumb = address & 1 == 1;
+    }
+
     /// Goes on to the instruction behind one of this length.
     #[inline]
     pub fn go_on(&mut self, length: u32)
@@ -219,6 +230,15 @@ impl Regs {
         ensures { result ≡ is_handler_of self.now }
     {
         self.exception != 0
+    }
+
+    /// IPSR: the number of the exception whose handler runs, 0 in Thread mode.
+    #[inline]
+    pub fn exception(&self) -> u16
+        ensures value { result ≡ self.now.exception }
+        ensures small { result < 512 }
+    {
+        self.exception
     }
 
     /// `CurrentModeIsPrivileged()`.
@@ -286,11 +306,31 @@ impl Regs {
             + self.exception as u32
     }
 
+    /// APSR: the flags in bits 31:27.
+    pub fn apsr(&self) -> u32
+        ensures value { result ≡ apsr_of self.now.flags }
+        ensures room { result ≤ 2 ^ 32 - 2 ^ 27 }
+    {
+        weighed(self.flags.negative, 1 << 31)
+            + weighed(self.flags.zero, 1 << 30)
+            + weighed(self.flags.carry, 1 << 29)
+            + weighed(self.flags.overflow, 1 << 28)
+            + weighed(self.flags.saturated, 1 << 27)
+    }
+
     /// CONTROL: nPRIV and SPSEL.
     pub fn control(&self) -> u32
         ensures { result ≡ control_of self.now }
     {
         weighed(self.unprivileged, 1) + weighed(self.process_stack, 2)
+    }
+
+    /// CONTROL is given a value, of which nPRIV (bit 0) and SPSEL (bit 1) are kept.
+    pub fn set_control(&mut self, value: u32)
+        ensures { self.new ≡ with_control self.old value }
+    {
+        self.unprivileged = value & 1 == 1;
+        self.process_stack = value >> 1 & 1 == 1;
     }
 }
 

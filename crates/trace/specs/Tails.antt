@@ -2,7 +2,7 @@
 use Rattle.std.specs.Prelude.{ℕ, List, ◌++◌, codes, decimal}
 use Rattle.reference.specs.declared.access.Access.{Access}
 use Rattle.reference.specs.declared.event.Happening.{Happening}
-use Rattle.reference.specs.Accesses.{bytes_in}
+use Rattle.reference.specs.Kinds.{bytes_in}
 use Rattle.reference.specs.Text.{kind_text, hex_word, privilege_text, happening_text, line_feed}
 
 -- all of a line but its tick

@@ -1,7 +1,7 @@
 //! The words of the lines: the text of each enum.
 
 ghost use Rattle.std.specs.Prelude.{◌≡◌, ◌≤◌, [], ◌∷◌, length, decimal};
-ghost use Rattle.reference.specs.Accesses.{bytes_in};
+ghost use Rattle.reference.specs.Kinds.{bytes_in};
 ghost use Rattle.reference.specs.Text.{kind_text, privilege_text, unpredictable_text, left_out_text};
 
 use reference::access::{Kind, Size};

@@ -1,0 +1,75 @@
+"""The loops that the benches run, the image that has one of them, and what the best of many runs takes."""
+
+import os
+import random
+import struct
+import subprocess
+import sys
+import time
+
+# At 0x100: B to itself; and MOV R0, #7; STR R0, [R1]; LDR R2, [R1]; B to the MOV, where the start code sets R1. With
+# each, how many lines it writes a step.
+LOOPS = {
+    "branch": ([0xE7FE], 1.0),
+    "store_load": ([0x2007, 0x6008, 0x680A, 0xE7FB], 1.5),
+}
+
+
+# RBAR, with VALID and the region's number, and RASR of regions that all grant everything. The first covers all addresses;
+# seven more stand over one another in RAM, from 256 bytes upward, so that each fetch asks all eight.
+REGIONS = [(0x00000010, 0x0300003F)] + [(0x20000010 | number, 0x0300000F + 2 * (number - 1)) for number in range(1, 8)]
+
+# LDR R0, table; LDR R1, RBAR; LDR R4, count; then for each region LDM R0!, {R2, R3}; STR R2, [R1]; STR R3, [R1, #4];
+# SUBS R4, #1; BNE; and MOVS R5, #1; SUBS R1, #8; STR R5, [R1], which is MPU_CTRL; LDR R1, address; B 0x100.
+SET_UP = [0x4806, 0x4907, 0x4C07, 0xC80C, 0x600A, 0x604B, 0x3C01, 0xD1FA, 0x2501, 0x3908, 0x600D, 0x4904, 0xE052, 0xBF00]
+
+# LDR R1, address; B 0x100.
+START = [0x4900, 0xE05D]
+
+
+def start_code(regions):
+    """What stands from 0x40 on: it sets the regions up, if there are any, and gives R1 the address 0x20000010."""
+    if not regions:
+        return struct.pack("<2HI", *START, 0x20000010)
+    table = 0x40 + 2 * len(SET_UP) + 16
+    words = [table, 0xE000ED9C, len(regions), 0x20000010] + [word for region in regions for word in region]
+    return struct.pack(f"<{len(SET_UP)}H{len(words)}I", *SET_UP, *words)
+
+
+def image(halfwords, regions=()):
+    """An ELF file of one segment at 0: the vector table, the start code at 0x40, the loop at 0x100."""
+    memory = struct.pack("<II", 0x20001000, 0x41).ljust(0x40, b"\0") + start_code(regions)
+    memory = memory.ljust(0x100, b"\0") + b"".join(struct.pack("<H", halfword) for halfword in halfwords)
+    header = b"\x7fELF\x01\x01\x01" + bytes(9)
+    header += struct.pack("<HHIIIIIHHHHHH", 2, 40, 1, 0, 52, 0, 0x05000000, 52, 32, 1, 0, 0, 0)
+    program_header = struct.pack("<8I", 1, 84, 0, 0, len(memory), len(memory), 5, 4)
+    return header + program_header + memory
+
+
+def written(folder, name, content):
+    """The path of a new file with that content."""
+    path = os.path.join(folder, name)
+    with open(path, "wb") as file:
+        file.write(content)
+    return path
+
+
+def seconds(words):
+    """What a command takes, its output to /dev/null."""
+    begin = time.perf_counter()
+    with open(os.devnull, "wb") as sink:
+        status = subprocess.run(words, stdout=sink).returncode
+    if status != 0:
+        sys.exit(f"{words} ended with {status}")
+    return time.perf_counter() - begin
+
+
+def best_of(runs, rounds):
+    """The best time of each command, in shuffled rounds."""
+    best = {}
+    for _ in range(rounds):
+        order = list(runs)
+        random.shuffle(order)
+        for run in order:
+            best[run] = min(best.get(run, 1e9), seconds(runs[run]))
+    return best

@@ -1,0 +1,11 @@
+-- A value that an access gave has no more bits than the access moves.
+use Rattle.std.specs.Prelude.{◌^◌, ◌<◌, ⊤}
+use Rattle.reference.specs.declared.access.Performed.{Performed}
+use Rattle.reference.specs.declared.access.Performed.TheVariants.{Done, Denied, Stop}
+use Rattle.reference.specs.declared.access.Size.{Size}
+use Rattle.reference.specs.Kinds.{bytes_in}
+
+abbrev pub GivesNarrow : Size → Performed → Type 0
+GivesNarrow size (Done rule value) = value < 256 ^ bytes_in size
+GivesNarrow size (Denied rule cause) = ⊤
+GivesNarrow size (Stop why) = ⊤

@@ -1,0 +1,4 @@
+pub mod Bits
+pub mod Parts
+pub mod Ranges
+pub mod Wide

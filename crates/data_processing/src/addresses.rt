@@ -1,0 +1,18 @@
+//! ADR: an address beside the instruction.
+
+ghost use Rattle.std.specs.Prelude.{◌≡◌};
+ghost use Rattle.reference.specs.DataProcessing.{address};
+
+use reference::operands::Address;
+use reference::registers::Register;
+use regs::Regs;
+
+/// ADR.
+#[inline]
+#[tactic(auto, unfolding(reference::specs::DataProcessing::address))]
+pub fn address(operands: &Address, regs: &mut Regs)
+    ensures { regs.new ≡ address operands.now regs.old }
+{
+    let base = regs.get(Register::PC) & !3;
+    regs.set(operands.destination, base.wrapping_add(operands.offset));
+}

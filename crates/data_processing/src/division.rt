@@ -1,0 +1,34 @@
+//! Division: SDIV and UDIV. Whether one by zero is trapped isn't asked here.
+
+ghost use Rattle.std.specs.Prelude.{◌≡◌};
+ghost use Rattle.reference.specs.Products.{quotient, divide};
+
+use reference::operands::Divide;
+use regs::Regs;
+
+/// The quotient, rounded towards zero. By zero it is 0.
+#[inline]
+#[tactic(auto, unfolding(reference::specs::Products::quotient))]
+fn quotient(signed: bool, x: u32, y: u32) -> u32
+    ensures { result ≡ quotient signed x y }
+{
+    if y == 0 {
+        0
+    } else if signed {
+        x.cast_signed()
+            .wrapping_div(y.cast_signed())
+            .cast_unsigned()
+    } else {
+        x / y
+    }
+}
+
+/// SDIV and UDIV.
+#[inline]
+#[tactic(auto, unfolding(reference::specs::Products::divide))]
+pub fn divide(operands: &Divide, regs: &mut Regs)
+    ensures { regs.new ≡ divide operands.now regs.old }
+{
+    let (x, y) = (regs.get(operands.dividend), regs.get(operands.divisor));
+    regs.set(operands.destination, quotient(operands.signed, x, y));
+}

@@ -1,0 +1,29 @@
+//! The second operand: a number and its carry, or a shifted register.
+
+ghost use Rattle.std.specs.Prelude.{◌≡◌};
+ghost use Rattle.reference.specs.DataProcessing.{immediate_carry, shifted};
+
+use reference::operands::{Immediate, ShiftedRegister};
+use reference::registers::Flags;
+use regs::{Regs, shift_c};
+
+/// The carry that a number gives: where its expansion gives none, C as it is.
+#[inline]
+pub fn immediate_carry(immediate: Immediate, flags: Flags) -> bool
+    ensures { result ≡ immediate_carry immediate flags }
+{
+    match immediate.carry {
+        Some(carry) => carry,
+        None => flags.carry,
+    }
+}
+
+/// A shifted register, and its carry.
+#[inline]
+pub fn shifted(operand: ShiftedRegister, regs: &Regs) -> (u32, bool)
+    ensures { result ≡ shifted operand regs.now }
+{
+    let value = regs.get(operand.register);
+    let carry = regs.flags().carry;
+    shift_c(value, operand.shift.shift_type, operand.shift.amount, carry)
+}

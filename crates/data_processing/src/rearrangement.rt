@@ -1,0 +1,73 @@
+//! The low part of a register extended, and the bytes or bits of one rearranged: SXTB, SXTH, UXTB,
+//! UXTH, REV, REV16, REVSH, RBIT and CLZ.
+
+ghost use Rattle.std.specs.Prelude.{◌≡◌};
+ghost use Rattle.reference.specs.Fields.{width_of, extend, ror, rearranged, rearrange};
+
+use crate::fields::extended;
+use reference::access::Size;
+use reference::operands::{Extend, Rearrange, Rearrangement};
+use reference::shift::ShiftType;
+use regs::{Regs, shift_c};
+
+/// How many bits it has.
+#[inline]
+fn width_of(size: Size) -> u8
+    ensures { result ≡ width_of size }
+{
+    match size {
+        Size::Byte => 8,
+        Size::Halfword => 16,
+        Size::Word => 32,
+    }
+}
+
+/// `ROR(x, rotation)`.
+#[inline]
+fn ror(x: u32, rotation: u8) -> u32
+    ensures { result ≡ ror x rotation }
+{
+    let (value, _) = shift_c(x, ShiftType::Ror, rotation, false);
+    value
+}
+
+/// SXTB, SXTH, UXTB and UXTH.
+#[inline]
+#[tactic(auto, unfolding(reference::specs::Fields::extend))]
+pub fn extend(operands: &Extend, regs: &mut Regs)
+    ensures { regs.new ≡ extend operands.now regs.old }
+{
+    let rotated = ror(regs.get(operands.source), operands.rotation);
+    let value = extended(operands.signed, width_of(operands.size), rotated);
+    regs.set(operands.destination, value);
+}
+
+/// The bytes or the bits of a word in another order, or how many zeros stand above its highest one.
+#[inline]
+#[tactic(auto, using(crate::proofs::Bits::reversed_bits, crate::proofs::Bits::leading_zeros_of), unfolding(reference::specs::Fields::rearranged))]
+fn rearranged(operation: Rearrangement, x: u32) -> u32
+    ensures { result ≡ rearranged operation x }
+{
+    let [a, b, c, d] = x.to_be_bytes();
+    match operation {
+        Rearrangement::ReverseWord => u32::from_be_bytes([d, c, b, a]),
+        Rearrangement::ReverseHalfwords => u32::from_be_bytes([b, a, d, c]),
+        Rearrangement::ReverseSignedHalfword => extended(
+            true,
+            16,
+            u16::from_be_bytes([d, c]) as u32,
+        ),
+        Rearrangement::ReverseBits => x.reverse_bits(),
+        Rearrangement::CountLeadingZeros => x.leading_zeros(),
+    }
+}
+
+/// REV, REV16, REVSH, RBIT and CLZ.
+#[inline]
+#[tactic(auto, unfolding(reference::specs::Fields::rearrange))]
+pub fn rearrange(operands: &Rearrange, regs: &mut Regs)
+    ensures { regs.new ≡ rearrange operands.now regs.old }
+{
+    let value = rearranged(operands.operation, regs.get(operands.source));
+    regs.set(operands.destination, value);
+}

@@ -1,0 +1,73 @@
+//! What becomes of a result: the register that is given it, and the flags.
+
+ghost use Rattle.std.specs.Prelude.{◌≡◌};
+ghost use Rattle.reference.specs.DataProcessing.{sets_flags, logical, summed, written};
+ghost use Rattle.reference.specs.Registers.{with_result};
+
+use reference::operands::FlagSetting;
+use reference::registers::{Flags, Register};
+use regs::Regs;
+
+/// The flags, with N and Z of a result.
+#[inline]
+pub fn with_result(flags: Flags, value: u32) -> Flags
+    ensures { result ≡ with_result flags value }
+{
+    Flags {
+        negative: value >> 31 == 1,
+        zero: value == 0,
+        ..flags
+    }
+}
+
+/// A logical result and its flags: N and Z of it, and C of the shifter.
+#[inline]
+pub fn logical(flags: Flags, value: u32, carry: bool) -> (u32, Flags)
+    ensures { result ≡ logical flags value carry }
+{
+    let flags = Flags {
+        carry,
+        ..with_result(flags, value)
+    };
+    (value, flags)
+}
+
+/// A sum and its flags: N, Z, C and V.
+#[inline]
+pub fn summed(flags: Flags, sum: (u32, bool, bool)) -> (u32, Flags)
+    ensures { result ≡ summed flags sum }
+{
+    let (value, carry, overflow) = sum;
+    let flags = Flags {
+        carry,
+        overflow,
+        ..with_result(flags, value)
+    };
+    (value, flags)
+}
+
+/// Whether an instruction sets flags: `setflags`.
+#[inline]
+fn sets_flags(setting: FlagSetting, regs: &Regs) -> bool
+    ensures { result ≡ sets_flags setting regs.now }
+{
+    match setting {
+        FlagSetting::Never => false,
+        FlagSetting::OutsideBlock => !regs.in_it_block(),
+        FlagSetting::Always => true,
+    }
+}
+
+/// The destination is given the result, and where the instruction sets flags, they are the ones
+/// given.
+#[inline]
+pub fn write(setting: FlagSetting, destination: Register, given: (u32, Flags), regs: &mut Regs)
+    ensures { regs.new ≡ written setting destination given regs.old }
+{
+    let (value, flags) = given;
+    let sets = sets_flags(setting, regs);
+    regs.set(destination, value);
+    if sets {
+        regs.set_flags(flags);
+    }
+}

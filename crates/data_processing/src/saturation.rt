@@ -1,0 +1,131 @@
+//! Saturation: SSAT and USAT.
+
+ghost use Rattle.std.specs.Ordering.{int_eq};
+ghost use Rattle.std.specs.Prelude.{◌≡◌, ◌-◌, ◌≤◌, ◌^◌, not, pos};
+ghost use Rattle.reference.specs.Arithmetic.{signed};
+ghost use Rattle.reference.specs.Fields.{least, greatest, nearest, saturated, saturate};
+ghost use Rattle.reference.specs.Products.{low_bits};
+
+use crate::operands::shifted;
+use reference::operands::Saturate;
+use reference::registers::Flags;
+use regs::Regs;
+
+/// A range of so many bits, or of more, has each word in it.
+const WIDEST: u8 = 32;
+
+/// The least number of so many bits.
+#[inline]
+fn least(is_signed: bool, bits: u8) -> i64
+    requires { bits ≤ WIDEST }
+    ensures { result ≡ least is_signed bits }
+{
+    if is_signed {
+        -(1 << bits.saturating_sub(1))
+    } else {
+        0
+    }
+}
+
+/// The greatest number of so many bits that has no sign.
+#[inline]
+fn ones(bits: u8) -> i64
+    requires { bits ≤ WIDEST }
+    ensures { result ≡ pos (2 ^ bits - 1) }
+{
+    ((1u64 << bits) - 1) as i64
+}
+
+/// The greatest number of so many bits.
+#[inline]
+fn greatest(is_signed: bool, bits: u8) -> i64
+    requires { bits ≤ WIDEST }
+    ensures { result ≡ greatest is_signed bits }
+{
+    if is_signed {
+        ones(bits.saturating_sub(1))
+    } else {
+        ones(bits)
+    }
+}
+
+/// The number itself, or the end of the range that it is beyond.
+#[inline]
+fn nearest(from: i64, to: i64, value: i64) -> i64
+    ensures { result ≡ nearest from to value }
+{
+    if to < value {
+        to
+    } else if value < from {
+        from
+    } else {
+        value
+    }
+}
+
+/// The low word of a whole number.
+#[inline]
+fn low_word(value: i64) -> u32
+    ensures { result ≡ low_bits 32 value }
+{
+    (value.cast_unsigned() & 0xFFFF_FFFF) as u32
+}
+
+/// Whether two numbers differ.
+#[inline]
+fn differs(x: i64, y: i64) -> bool
+    ensures { result ≡ not (int_eq x y) }
+{
+    x != y
+}
+
+/// A word as a signed number.
+#[inline]
+#[tactic(auto, using(crate::proofs::Wide::signed_cast))]
+fn signed(word: u32) -> i64
+    ensures { result ≡ signed word }
+{
+    word.cast_signed() as i64
+}
+
+/// A word that is read as signed, taken to the nearest number of a range, and whether that is
+/// another one.
+#[inline]
+#[tactic(auto, unfolding(reference::specs::Fields::saturated))]
+fn saturated_within(is_signed: bool, bits: u8, word: u32) -> (u32, bool)
+    requires { bits ≤ WIDEST }
+    ensures { result ≡ saturated is_signed bits word }
+{
+    let value = signed(word);
+    let given = nearest(least(is_signed, bits), greatest(is_signed, bits), value);
+    (low_word(given), differs(given, value))
+}
+
+/// The same for any number of bits.
+#[inline]
+#[tactic(auto, using(crate::proofs::Ranges::none_beyond))]
+fn saturated(is_signed: bool, bits: u8, word: u32) -> (u32, bool)
+    ensures { result ≡ saturated is_signed bits word }
+{
+    if bits > WIDEST {
+        saturated_within(is_signed, WIDEST, word)
+    } else {
+        saturated_within(is_signed, bits, word)
+    }
+}
+
+/// SSAT and USAT.
+#[inline]
+#[tactic(auto, unfolding(reference::specs::Fields::saturate))]
+pub fn saturate(operands: &Saturate, regs: &mut Regs)
+    ensures { regs.new ≡ saturate operands.now regs.old }
+{
+    let (word, _) = shifted(operands.source, regs);
+    let (value, is_saturated) = saturated(operands.signed, operands.bits, word);
+    let flags = regs.flags();
+    regs.set(operands.destination, value);
+    regs.set_flags(Flags {
+        saturated: flags.saturated || is_saturated,
+        ..flags
+    });
+}

@@ -1,0 +1,152 @@
+use super::*;
+use arrayvec::ArrayVec;
+use decode::{Decoded, decode, length};
+use edges::{EDGES, STOPS};
+use lines::Case;
+use long_data_first::LONG_DATA_FIRST;
+use long_data_second::LONG_DATA_SECOND;
+use long_others_first::LONG_OTHERS_FIRST;
+use long_others_second::{LATER, LONG_OTHERS_SECOND};
+use memory::Memory;
+use reference::registers::Register;
+use reference::stop::{LeftOut, UnpredictableCase};
+use regs::Regs;
+use short_data::SHORT_DATA;
+use short_others::SHORT_OTHERS;
+use std::test::*;
+
+mod edges;
+mod lines;
+mod long_data_first;
+mod long_data_second;
+mod long_others_first;
+mod long_others_second;
+mod memory;
+mod short_data;
+mod short_others;
+
+/// One instruction, from its fetch on.
+fn step(regs: &mut Regs, memory: &mut Memory) -> Result<Ending, Stop> {
+    let pc = regs.pc();
+    let coded = match decode(memory.halfword(pc), memory.halfword(pc.wrapping_add(2))) {
+        Decoded::Instr(coded) => coded,
+        Decoded::Unpredictable(_, case) => return Err(Stop::Unpredictable(case)),
+        Decoded::Undefined | Decoded::NoCoprocessor => return Err(Stop::Lockup),
+    };
+    let requests = plan(&coded, regs)?;
+    let mut values: ArrayVec<u32, 16> = ArrayVec::new();
+    'requests: for request in requests.as_slice() {
+        let _ = values.try_push(memory.carry_out(request));
+    }
+    Ok(finish(&coded, regs, values.as_slice()))
+}
+
+/// All instructions of a case, one after the other; whether none of them stops or ends otherwise.
+fn runs(case: &mut Case) -> bool {
+    let mut left = case.halfwords;
+    'instructions: for _ in 0..case.halfwords {
+        if left > 0 {
+            let halfwords = length(case.memory.halfword(case.regs.pc())) / 2;
+            left = left.saturating_sub(halfwords as usize);
+            if !matches!(step(&mut case.regs, &mut case.memory), Ok(Ending::Next)) {
+                return false;
+            }
+        }
+    }
+    true
+}
+
+/// Whether the registers are the ones wanted.
+fn has_registers(case: &Case) -> bool {
+    'registers: for number in 0..15 {
+        if case.regs.get(Register::new(number)) != case.wanted.registers[number as usize] {
+            return false;
+        }
+    }
+    case.regs.pc() == case.wanted.registers[15]
+}
+
+/// Whether the flags, IT and T are the ones wanted.
+fn has_status(case: &Case) -> bool {
+    case.regs.apsr() == case.wanted.flags
+        && case.regs.it() == case.wanted.it
+        && case.regs.is_thumb() == case.wanted.thumb
+}
+
+/// What of a case isn't as wanted, if anything.
+fn difference(case: &mut Case) -> Option<&'static str> {
+    if !runs(case) {
+        return Some("it should go on");
+    }
+    if !has_registers(case) {
+        return Some("the registers");
+    }
+    if !has_status(case) {
+        return Some("the flags, IT or T");
+    }
+    if !case.memory.agrees_with(&case.wanted.memory) {
+        return Some("the memory");
+    }
+    None
+}
+
+#[test]
+fn edges_worked_by_hand(rt: HostRuntime) {
+    'cases: for text in EDGES.split("\n\n") {
+        let mut case = Case::of(text);
+        assert_eq!(rt; difference(&mut case), None, "{text}");
+    }
+}
+
+#[test]
+fn cases_of_other_machines(rt: HostRuntime) {
+    let tables = [
+        SHORT_DATA,
+        SHORT_OTHERS,
+        LONG_DATA_FIRST,
+        LONG_DATA_SECOND,
+        LONG_OTHERS_FIRST,
+        LONG_OTHERS_SECOND,
+    ];
+    'tables: for table in tables {
+        'cases: for text in table.split("\n\n") {
+            let mut case = Case::of(text);
+            assert_eq!(rt; difference(&mut case), None, "{text}");
+        }
+    }
+}
+
+#[test]
+fn cases_that_stop_today(rt: HostRuntime) {
+    'cases: for text in LATER.split("\n\n") {
+        let mut case = Case::of(text);
+        let stop = step(&mut case.regs, &mut case.memory);
+        let is_unbuilt = matches!(stop, Err(Stop::OutOfProfile(LeftOut::Unbuilt)));
+        assert!(rt; is_unbuilt, "{text}");
+    }
+}
+
+/// The name of a stop, where it is one of these.
+fn name_of(stop: Stop) -> &'static str {
+    match stop {
+        Stop::Unpredictable(UnpredictableCase::ItBlock) => "it-block",
+        Stop::Unpredictable(UnpredictableCase::LoadPc) => "load-pc",
+        Stop::Unpredictable(UnpredictableCase::LiteralPc) => "literal-pc",
+        Stop::OutOfProfile(LeftOut::Exclusive) => "exclusive",
+        Stop::OutOfProfile(LeftOut::UnalignedDevice) => "unaligned-device",
+        Stop::OutOfProfile(LeftOut::Unbuilt) => "unbuilt",
+        _ => "another",
+    }
+}
+
+#[test]
+fn named_stops(rt: HostRuntime) {
+    'cases: for text in STOPS.split("\n\n") {
+        let mut case = Case::of(text);
+        let name = match step(&mut case.regs, &mut case.memory) {
+            Ok(_) => "goes on",
+            Err(stop) => name_of(stop),
+        };
+        assert!(rt; text.starts_with(name), "{name} isn't that of: {text}");
+    }
+}

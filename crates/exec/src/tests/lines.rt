@@ -1,0 +1,212 @@
+//! A case as text: its name, and lines of a word and of hexadecimal numbers.
+//!
+//! | Word | Numbers |
+//! |---|---|
+//! | `code` | the address, and the halfwords that stand there |
+//! | `registers`, `higher` | R0 to R7, and R8 to LR, before |
+//! | `before`, `after` | a register's number and its value, and so on; 15 is the address of the next instruction |
+//! | `flags`, `flags_after` | APSR |
+//! | `it`, `it_after` | ITSTATE |
+//! | `thumb_after` | EPSR.T |
+//! | `memory`, `memory_after` | an address, and the words there |
+//! | `bytes` | an address, and the bytes there |
+//!
+//! What has no line with `after` is to be as before; the PC is to stand behind the code.
+
+ghost use Rattle.std.specs.Prelude.{◌<◌};
+
+use super::memory::Memory;
+use crate::special::flags_of;
+use arrayvec::ArrayVec;
+use reference::registers::Register;
+use regs::Regs;
+
+/// What is to be there afterwards.
+#[derive(Drop)]
+pub struct Wanted {
+    /// R0 to LR, and the address of the next instruction.
+    pub registers: [u32; 16],
+    pub flags: u32,
+    pub it: u8,
+    pub thumb: bool,
+    pub memory: Memory,
+}
+
+/// A case: the machine before, how many halfwords of code it runs, and what is wanted.
+#[derive(Drop)]
+pub struct Case {
+    pub regs: Regs,
+    pub memory: Memory,
+    pub halfwords: usize,
+    pub wanted: Wanted,
+}
+
+/// The numbers of a line.
+type Numbers = ArrayVec<u32, 24>;
+
+/// The numbers behind the first word of a line.
+fn numbers_of(line: &str) -> Numbers {
+    let mut numbers = Numbers::new();
+    'words: for (place, word) in line.split(' ').enumerate() {
+        if place > 0 {
+            let _ = numbers.try_push(u32::from_str_radix(word, 16).unwrap_or(0));
+        }
+    }
+    numbers
+}
+
+/// The first word of a line.
+fn word_of(line: &str) -> &str {
+    line.split(' ').next().unwrap_or("")
+}
+
+/// The number at a place of a line, 0 where it has none.
+fn number_at(numbers: &Numbers, place: usize) -> u32 {
+    match numbers.as_slice().get(place) {
+        Some(number) => *number,
+        None => 0,
+    }
+}
+
+impl Case {
+    /// A machine after a reset, whose registers and flags are 0.
+    pub fn new() -> Self {
+        let mut regs = Regs::reset(0, 1);
+        regs.set(Register::new(14), 0);
+        Case {
+            regs,
+            memory: Memory::new(),
+            halfwords: 0,
+            wanted: Wanted {
+                registers: [0; 16],
+                flags: 0,
+                it: 0,
+                thumb: true,
+                memory: Memory::new(),
+            },
+        }
+    }
+
+    /// The case of a text whose first line is a name.
+    pub fn of(text: &str) -> Self {
+        let mut case = Case::new();
+        'lines: for line in text.lines() {
+            case.read(line);
+        }
+        case
+    }
+
+    /// A line is read.
+    fn read(&mut self, line: &str) {
+        let word = word_of(line);
+        let numbers = numbers_of(line);
+        if word == "code" {
+            self.read_code(&numbers);
+        } else if word == "registers" {
+            self.read_registers(0, &numbers);
+        } else if word == "higher" {
+            self.read_registers(8, &numbers);
+        } else if word == "before" {
+            self.read_before(&numbers);
+        } else if word == "after" {
+            self.read_after(&numbers);
+        } else if word == "memory" || word == "memory_after" {
+            self.read_words(word == "memory", &numbers);
+        } else if word == "bytes" {
+            self.read_bytes(&numbers);
+        } else {
+            self.read_status(word, number_at(&numbers, 0));
+        }
+    }
+
+    /// Flags, IT and T.
+    fn read_status(&mut self, word: &str, value: u32) {
+        let byte = (value & 0xFF) as u8;
+        if word == "flags" {
+            self.regs.set_flags(flags_of(value));
+            self.wanted.flags = value;
+        } else if word == "flags_after" {
+            self.wanted.flags = value;
+        } else if word == "it" {
+            self.regs.set_it(byte);
+            self.wanted.it = byte;
+        } else if word == "it_after" {
+            self.wanted.it = byte;
+        } else if word == "thumb_after" {
+            self.wanted.thumb = value == 1;
+        }
+    }
+
+    /// The code, behind which the PC is to stand.
+    fn read_code(&mut self, numbers: &Numbers) {
+        let mut at = number_at(numbers, 0);
+        self.regs.branch(at);
+        'halfwords: for halfword in numbers.as_slice().iter().skip(1) {
+            let [low, high, _, _] = halfword.to_le_bytes();
+            self.memory.put(at, low);
+            self.memory.put(at.wrapping_add(1), high);
+            at = at.wrapping_add(2);
+        }
+        self.halfwords = numbers.len().saturating_sub(1);
+        self.wanted.registers[15] = at;
+    }
+
+    /// Registers upward from that one, as far as LR.
+    fn read_registers(&mut self, lowest: u8, numbers: &Numbers) {
+        'registers: for number in 0..15 {
+            if number >= lowest && number < lowest.saturating_add(8) {
+                let place = number.saturating_sub(lowest);
+                self.set(number, number_at(numbers, usize::from(place)));
+            }
+        }
+    }
+
+    /// Registers with their numbers.
+    fn read_before(&mut self, numbers: &Numbers) {
+        'pairs: for pair in 0..12 {
+            if 2 * pair < numbers.len() {
+                let number = number_at(numbers, 2 * pair) % 15;
+                self.set(number as u8, number_at(numbers, 2 * pair + 1));
+            }
+        }
+    }
+
+    /// A register is given a value, and is to keep it.
+    fn set(&mut self, number: u8, value: u32)
+        requires { number < 15 }
+    {
+        self.regs.set(Register::new(number), value);
+        self.wanted.registers[number as usize] = value;
+    }
+
+    /// Registers that are to have other values.
+    fn read_after(&mut self, numbers: &Numbers) {
+        'pairs: for pair in 0..12 {
+            if 2 * pair < numbers.len() {
+                let number = number_at(numbers, 2 * pair) % 16;
+                self.wanted.registers[number as usize] = number_at(numbers, 2 * pair + 1);
+            }
+        }
+    }
+
+    /// Words of memory, before or afterwards.
+    fn read_words(&mut self, before: bool, numbers: &Numbers) {
+        let mut at = number_at(numbers, 0);
+        'words: for word in numbers.as_slice().iter().skip(1) {
+            if before {
+                self.memory.put_word(at, *word);
+            }
+            self.wanted.memory.put_word(at, *word);
+            at = at.wrapping_add(4);
+        }
+    }
+
+    /// Bytes of memory.
+    fn read_bytes(&mut self, numbers: &Numbers) {
+        let mut at = number_at(numbers, 0);
+        'bytes: for byte in numbers.as_slice().iter().skip(1) {
+            self.memory.put(at, (*byte & 0xFF) as u8);
+            at = at.wrapping_add(1);
+        }
+    }
+}

@@ -1,0 +1,9 @@
+-- How the definitions see the values that a list of accesses gave, or what ended it early.
+use Rattle.std.specs.Prelude.{◌≡◌, ℕ, Some, None, Result, Ok, Err}
+use Rattle.arrayvec.specs.ArrayVec.{ArrayVec}
+use Rattle.reference.specs.declared.access.Failure.{Failure}
+use Rattle.reference.specs.Accesses.{Served}
+
+abbrev pub Serves : Served → Result (ArrayVec ℕ) Failure → Type 0
+Serves all (Ok values) = (all.failure ≡ None) × (values.items ≡ all.values)
+Serves all (Err why) = all.failure ≡ Some why

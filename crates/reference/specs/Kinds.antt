@@ -1,0 +1,58 @@
+-- What an access is for, and how wide it is.
+use Rattle.std.specs.Prelude.{ℕ, Bool, true, false}
+use Rattle.reference.specs.declared.access.Kind.{Kind}
+use Rattle.reference.specs.declared.access.Kind.TheVariants.{Fetch, Load, Store, Push, Pop, Vector}
+use Rattle.reference.specs.declared.access.Size.{Size}
+use Rattle.reference.specs.declared.access.Size.TheVariants.{Byte, Halfword, Word}
+
+-- how many bytes an access moves
+abbrev pub bytes_in : Size → ℕ
+bytes_in Byte = 1
+bytes_in Halfword = 2
+bytes_in Word = 4
+
+abbrev pub is_word : Size → Bool
+is_word Byte = false
+is_word Halfword = false
+is_word Word = true
+
+abbrev pub is_fetch : Kind → Bool
+is_fetch Fetch = true
+is_fetch Load = false
+is_fetch Store = false
+is_fetch Push = false
+is_fetch Pop = false
+is_fetch Vector = false
+
+abbrev pub is_load : Kind → Bool
+is_load Fetch = false
+is_load Load = true
+is_load Store = false
+is_load Push = false
+is_load Pop = false
+is_load Vector = false
+
+abbrev pub is_store : Kind → Bool
+is_store Fetch = false
+is_store Load = false
+is_store Store = true
+is_store Push = false
+is_store Pop = false
+is_store Vector = false
+
+-- a store, or a push of exception entry
+abbrev pub is_write : Kind → Bool
+is_write Fetch = false
+is_write Load = false
+is_write Store = true
+is_write Push = true
+is_write Pop = false
+is_write Vector = false
+
+abbrev pub is_vector : Kind → Bool
+is_vector Fetch = false
+is_vector Load = false
+is_vector Store = false
+is_vector Push = false
+is_vector Pop = false
+is_vector Vector = true

@@ -1,0 +1,33 @@
+-- Where things stand in the address space (ARM DDI 0403, "The system address map"; where RAM and the device window stand
+-- is this project's choice).
+use Rattle.std.specs.Prelude.{ℕ, ◌/◌, ◌^◌, Bool, ◌||◌, ◌==◌}
+
+-- RAM begins here; flash ends here, or before
+abbrev pub ram_base : ℕ
+ram_base = 0x2000_0000
+
+-- the device window: 4,096 bytes
+abbrev pub window_base : ℕ
+window_base = 0x4000_0000
+
+abbrev pub is_in_window : ℕ → Bool
+is_in_window a = a / 2 ^ 12 == 0x4_0000
+
+-- its registers: a word stored to OUT sends its low byte to the console, a word loaded from TICK is the clock's low word
+abbrev pub out_register : ℕ
+out_register = 0x4000_0000
+
+abbrev pub tick_register : ℕ
+tick_register = 0x4000_0004
+
+-- the system address space, where no code stands, begins here
+abbrev pub system_base : ℕ
+system_base = 0xE000_0000
+
+-- the Private Peripheral Bus: 0xE0000000 to 0xE00FFFFF
+abbrev pub is_in_ppb : ℕ → Bool
+is_in_ppb a = a / 2 ^ 20 == 0xE00
+
+-- where an access can have an effect of its own: the device window and the Private Peripheral Bus
+abbrev pub is_device : ℕ → Bool
+is_device a = is_in_window a || is_in_ppb a

@@ -1,0 +1,97 @@
+-- Loads and stores of several registers (ARM DDI 0403, the operation of LDM, LDMDB, STM, STMDB, PUSH, POP, LDRD and STRD):
+-- each is a word, upward from the lowest address.
+use Rattle.std.specs.Prelude.{ℕ, ◌*◌, Bool, if◌then◌else◌, List, [], ◌∷◌, length, drop, slice_index, Result, Ok, Err}
+use Rattle.std.specs.Int.RustNames.{count_ones}
+use Rattle.std.specs.List.{filter, range_with_len}
+use Rattle.reference.specs.declared.access.Kind.{Kind}
+use Rattle.reference.specs.declared.access.Kind.TheVariants.{Load}
+use Rattle.reference.specs.declared.access.Request.{Request}
+use Rattle.reference.specs.declared.access.Size.TheVariants.{Word}
+use Rattle.reference.specs.declared.operands.ListOrder.{ListOrder}
+use Rattle.reference.specs.declared.operands.ListOrder.TheVariants.{IncrementAfter, DecrementBefore}
+use Rattle.reference.specs.declared.operands.LoadDualLiteral.{LoadDualLiteral}
+use Rattle.reference.specs.declared.operands.LoadMultiple.{LoadMultiple}
+use Rattle.reference.specs.declared.stop.LeftOut.TheVariants.{Unbuilt}
+use Rattle.reference.specs.declared.stop.Stop.{Stop}
+use Rattle.reference.specs.declared.stop.Stop.TheVariants.{OutOfProfile, Unpredictable}
+use Rattle.reference.specs.declared.stop.UnpredictableCase.TheVariants.{LiteralPc}
+use Rattle.reference.specs.Branches.{Finished, exchanges, moves_on}
+use Rattle.reference.specs.Kinds.{is_store}
+use Rattle.reference.specs.Registers.{Registers, register, with_register, is_privileged}
+use Rattle.reference.specs.Transfers.{request, is_aligned}
+use Rattle.reference.specs.Words.{word_sum, negated, is_bit}
+
+-- ---- lists
+
+-- the registers of a list that have a number below that, the lowest first
+unfoldable pub registers_below : ℕ → ℕ → List ℕ
+registers_below top list = filter (λ n. is_bit list n) (range_with_len 0 top)
+
+-- all registers of a list
+abbrev pub registers_of : ℕ → List ℕ
+registers_of list = registers_below 16 list
+
+-- how many bytes they take: 4 * BitCount(registers)
+abbrev pub bytes_of_list : ℕ → ℕ
+bytes_of_list list = 4 * count_ones list
+
+-- the lowest address of a list at a base
+abbrev pub lowest_address : ListOrder → ℕ → ℕ → ℕ
+lowest_address IncrementAfter list base = base
+lowest_address DecrementBefore list base = word_sum base (negated (bytes_of_list list))
+
+-- where the base moves
+abbrev pub moved_base : ListOrder → ℕ → ℕ → ℕ
+moved_base IncrementAfter list base = word_sum base (bytes_of_list list)
+moved_base DecrementBefore list base = word_sum base (negated (bytes_of_list list))
+
+-- the base is written back, where the row does so
+abbrev pub with_moved_base : Bool → ℕ → ListOrder → ℕ → Registers → Registers
+with_moved_base writes n order list r =
+    if writes then with_register r n (moved_base order list (register r n)) else r
+
+-- ---- accesses
+
+-- what the access of a register writes: a store the register, and a load nothing, which is 0
+abbrev pub written_word : Kind → ℕ → Registers → ℕ
+written_word kind n r = if is_store kind then register r n else 0
+
+-- the access of its word
+abbrev pub word_request : Kind → ℕ → ℕ → Registers → Request
+word_request kind address n r = request kind (is_privileged r) Word address (written_word kind n r)
+
+-- a word for each register, upward from an address, 2^32 - 1 being followed by 0
+unfoldable pub word_requests : Kind → ℕ → List ℕ → Registers → List Request
+word_requests kind address [] r = []
+word_requests kind address (n ∷ ns) r = word_request kind address n r ∷ word_requests kind (word_sum address 4) ns r
+
+-- their accesses: MemA[] of an address that isn't a multiple of 4 is UsageFault UNALIGNED, which isn't built yet
+unfoldable pub several : Kind → List ℕ → ℕ → Registers → Result (List Request) Stop
+several kind registers address r =
+    if is_aligned Word address then Ok (word_requests kind address registers r) else Err (OutOfProfile Unbuilt)
+
+-- LDRD at the PC: that isn't a multiple of 4 is UNPREDICTABLE
+abbrev pub load_dual_literal : LoadDualLiteral → Registers → Result (List Request) Stop
+load_dual_literal o r =
+    if is_aligned Word (register r 15)
+    then several Load (o.first ∷ o.second ∷ []) (word_sum (register r 15) o.offset) r
+    else Err (Unpredictable LiteralPc)
+
+-- ---- values
+
+-- each register is given the value of its access, in order
+unfoldable pub loaded : List ℕ → List ℕ → Registers → Registers
+loaded [] values r = r
+loaded (n ∷ ns) values r = loaded ns (drop 1 values) (with_register r n (slice_index values 0))
+
+-- the base, then R0 to LR. The manual writes the base last; where the list has it, the row doesn't write it back
+abbrev pub loaded_below_pc : LoadMultiple → List ℕ → Registers → Registers
+loaded_below_pc o values r =
+    loaded (registers_below 15 o.list) values (with_moved_base o.write_back o.base o.order o.list r)
+
+-- LDM, LDMDB and POP: at last a value for the PC, LoadWritePC(MemA[address, 4])
+unfoldable pub load_multiple : ℕ → LoadMultiple → List ℕ → Registers → Finished
+load_multiple bytes o values r =
+    if is_bit o.list 15
+    then exchanges (slice_index values (length (registers_below 15 o.list))) (loaded_below_pc o values r)
+    else moves_on bytes (loaded_below_pc o values r)
