@@ -8,9 +8,9 @@ import sys
 
 from loops import LOOPS, best_of, image, written
 
-RATE, MARM, LISTING, FOLDER = sys.argv[1:5]
-COUNT = int(sys.argv[5])
-ROUNDS = int(sys.argv[6])
+RATE, MARM, BOARD, LISTING, FOLDER = sys.argv[1:6]
+COUNT = int(sys.argv[6])
+ROUNDS = int(sys.argv[7])
 
 
 def random_pairs(count):
@@ -46,7 +46,7 @@ for at, (name, pairs) in enumerate(mixes.items()):
     runs[name] = [RATE, path, str(max(1, COUNT // len(pairs)))]
 for name, (halfwords, _) in LOOPS.items():
     path = written(FOLDER, name + ".elf", image(halfwords))
-    runs[name, "marm"] = [MARM, "run", "--steps", str(COUNT // 10), path]
+    runs[name, "marm"] = [MARM, "run", "--board", BOARD, "--steps", str(COUNT // 10), path]
 best = best_of(runs, ROUNDS)
 print(f"{COUNT} decodes, {COUNT // 10} steps, the best of {ROUNDS} shuffled rounds")
 for name, pairs in mixes.items():

@@ -16,8 +16,8 @@ echo "rate: decode" >>"$folder/top/crates.txt"
 cp "$top/bench/rate.rt.in" "$folder/top/crates/rate/src/main.rt"
 head -c 4 /dev/zero >"$folder/four"
 (cd "$folder/top/crates/rate" && rt run -- "$folder/four" 1) >"$folder/log" 2>&1 || { cat "$folder/log" >&2; exit 1; }
-"$top/marm" run --steps 0 "$top/examples/first.elf" >"$folder/stop"
+"$top/marm" run --board "$top/examples/boards/small.toml" --steps 0 "$top/examples/first.elf" >"$folder/stop"
 clang --target=thumbv7m-none-eabi -mcpu=cortex-m3 -O2 -ffreestanding -c -o "$folder/mix.o" "$top/bench/mix.c" &&
     llvm-objdump -d "$folder/mix.o" >"$folder/listing" || : >"$folder/listing"
-python3 -B "$top/bench/decodes.py" "$folder/top/crates/rate/out/rate" "$top/crates/marm/out/marm" "$folder/listing" \
-    "$folder" "${1:-30000000}" "${2:-9}"
+python3 -B "$top/bench/decodes.py" "$folder/top/crates/rate/out/rate" "$top/crates/marm/out/marm" \
+    "$top/examples/boards/small.toml" "$folder/listing" "$folder" "${1:-30000000}" "${2:-9}"

@@ -5,18 +5,18 @@ import sys
 
 from loops import LOOPS, REGIONS, best_of, image, written
 
-MARM, FORMAT, FOLDER = sys.argv[1:4]
-STEPS = int(sys.argv[4])
-ROUNDS = int(sys.argv[5])
+MARM, BOARD, FORMAT, FOLDER = sys.argv[1:5]
+STEPS = int(sys.argv[5])
+ROUNDS = int(sys.argv[6])
 
 runs = {}
 for name, (halfwords, _) in LOOPS.items():
     path = written(FOLDER, name + ".elf", image(halfwords))
-    runs[name, "marm"] = [MARM, "run", "--steps", str(STEPS), path]
+    runs[name, "marm"] = [MARM, "run", "--board", BOARD, "--steps", str(STEPS), path]
     runs[name, "format"] = [FORMAT, name, str(STEPS)]
     for count in (1, 8):
         path = written(FOLDER, f"{name}{count}.elf", image(halfwords, REGIONS[:count]))
-        runs[name, count] = [MARM, "run", "--steps", str(STEPS), path]
+        runs[name, count] = [MARM, "run", "--board", BOARD, "--steps", str(STEPS), path]
 best = best_of(runs, ROUNDS)
 print(f"{STEPS} steps, the best of {ROUNDS} shuffled rounds, the trace to /dev/null")
 for name, (_, lines) in LOOPS.items():

@@ -5,6 +5,6 @@ set -euo pipefail
 top=$(cd "$(dirname "${BASH_SOURCE[0]}")/.." && pwd)
 folder=$(mktemp -d)
 trap 'rm -rf "$folder"' EXIT
-"$top/marm" run --steps 0 "$top/examples/first.elf" >"$folder/stop"
+"$top/marm" run --board "$top/examples/boards/small.toml" --steps 0 "$top/examples/first.elf" >"$folder/stop"
 gcc -O2 -o "$folder/format" "$top/bench/format.c"
-python3 -B "$top/bench/rounds.py" "$top/crates/marm/out/marm" "$folder/format" "$folder" "${1:-3000000}" "${2:-15}"
+python3 -B "$top/bench/rounds.py" "$top/crates/marm/out/marm" "$top/examples/boards/small.toml" "$folder/format" "$folder" "${1:-3000000}" "${2:-15}"

@@ -76,7 +76,7 @@ carrying_keeps : (b : Bus) (q : Request) → Keeps b (carried_out b q)
 unfolding carried_out
 carrying_keeps b q =
     either b (is_in_ppb q.address) _ _ (system_keeps b q)
-    (lifted_keeps b (space_access b.memory b.clock.ticks q) (space_keeps b.memory b.clock.ticks q))
+    (lifted_keeps b (space_access b.memory b.time.ticks q) (space_keeps b.memory b.time.ticks q))
 
 is_error : (rule by : Rule) (a : Answer) (why : Cause) → performed_by rule a ≡ Denied by why → a ≡ Error
 is_error rule by (Value value) why e = absurd cc

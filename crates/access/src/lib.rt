@@ -8,6 +8,7 @@ pub mod laws;
 mod tests;
 
 pub use bus::Bus;
+pub use clock::{Counting, DueTicks, ScriptedEvent};
 pub use mpu::{Decider, Search};
 pub use reference::access::{Answer, Cause, Decision, Kind, Performed, Request, Rule, Size};
 pub use reference::stop::Stop;

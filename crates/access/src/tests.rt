@@ -1,4 +1,4 @@
-use crate::{Bus, Cause, Kind, Performed, Request, Rule, Search, Size, Space};
+use crate::{Bus, Cause, Counting, Kind, Performed, Request, Rule, Search, Size, Space};
 use reference::board::SMALL_BOARD;
 use std::test::Fail;
 
@@ -107,7 +107,7 @@ static ROWS: [(&str, (Kind, u32, u32, bool), (&str, &str)); 13] = [
 #[test]
 fn each_access_is_decided_in_the_state_before_it(rt: HostRuntime) -> Result<(), Fail> {
     let space = Space::blank(rt.alloc(), &SMALL_BOARD).map_err(|_| "memory")?;
-    let mut bus: Bus<Search> = Bus::new(space);
+    let mut bus: Bus<Search, Counting> = Bus::new(space, Vec::new(rt.alloc()));
     for (name, (kind, address, value, privileged), wanted) in ROWS {
         let performed = bus.perform(&request(kind, address, value, privileged));
         assert!(rt; told(performed) == wanted, "{name}");

@@ -1,20 +1,9 @@
 -- How the reader's values are read as those of the reference, and how an answer stands to the definition.
 use Rattle.std.specs.Prelude.{◌≡◌, ◌⊎◌, Result, Ok, Err, IsOk}
-use Rattle.reference.specs.Boards.{Numbers, Described}
+use Rattle.reference.specs.Boards.{Described, numbers_of}
 use Rattle.board.specs.declared.whole.Board.{Board}
-use Rattle.reference.specs.declared.board.Layout.{Layout}
 use Rattle.reference.specs.declared.fault.BoardFault.{BoardFault}
 use Rattle.reference.specs.declared.fault.BoardFault.TheVariants.{OutOfMemory}
-
--- the numbers of a layout
-abbrev pub numbers_of : Layout → Numbers
-numbers_of layout = record {
-  flash_base = layout.flash_base;
-  flash_size = layout.flash_size;
-  ram_size = layout.ram_size;
-  priority_bits = layout.priority_bits;
-  lines = layout.lines;
-}
 
 -- a board, as the reference describes it
 abbrev pub described : Board → Described

@@ -2,8 +2,8 @@
 
 ghost use Rattle.std.specs.Prelude.{◌≡◌, ◌<◌, ◌+◌, ◌^◌};
 ghost use Rattle.toml.specs.View.{table_view};
-ghost use Rattle.reference.specs.Boards.{is_whole, is_size, is_flash};
-ghost use Rattle.board.specs.Seen.{Gives, numbers_of};
+ghost use Rattle.reference.specs.Boards.{is_whole, is_size, is_flash, numbers_of};
+ghost use Rattle.board.specs.Seen.{Gives};
 ghost use Rattle.board.specs.Texts.{numbers_in};
 
 use crate::values::{find, number};

@@ -4,7 +4,7 @@
 
 ghost use Rattle.std.specs.Prelude.{◌≡◌, ◌^◌, ◌<◌, ◌≤◌, false};
 ghost use Rattle.clock.specs.Kept.{IsRight, IsQuiet};
-ghost use Rattle.reference.specs.Time.{after_tick, tick_pends, passed, is_high, start_time, csr, after_csr_read, with_csr, with_rvr, with_cvr_cleared, IsSetOf};
+ghost use Rattle.reference.specs.Time.{after_tick, tick_pends, event_applies_next, passed, is_high, start_time, csr, after_csr_read, with_csr, with_rvr, with_cvr_cleared, IsSetOf};
 
 mod due_ticks;
 pub mod laws;
@@ -84,6 +84,15 @@ impl<U: DueTicks> Clock<U> {
         ensures { result ≡ is_high self.now.time line }
     {
         lines::is_high(&self.high, line)
+    }
+
+    /// Whether an event of the script applies in the next tick.
+    #[inline]
+    pub fn event_applies_next(&self) -> bool
+        requires { self.now.time.ticks < 2 ^ 48 }
+        ensures { result ≡ event_applies_next self.now.time }
+    {
+        script::script_due(&self.script[self.done..]) <= self.ticks + 1
     }
 
     /// What the next tick would pend. It is asked of a clock that isn't at its end, as is `tick`.

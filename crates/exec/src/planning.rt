@@ -1,6 +1,7 @@
 //! What an instruction asks for.
 
-ghost use Rattle.std.specs.Prelude.{◌≡◌};
+ghost use Rattle.std.specs.Prelude.{◌≡◌, []};
+ghost use Rattle.exec.specs.Plans.{Listed};
 ghost use Rattle.exec.specs.Plans.{planned};
 ghost use Rattle.reference.specs.declared.instruction.Instruction.TheVariants as instruction;
 ghost use Rattle.reference.specs.Operations.{wants, asked_for, is_misplaced, is_carried_out, is_exclusive, waits, nothing_if};
@@ -27,13 +28,14 @@ pub const MOST_REQUESTS: usize = 16;
 /// The accesses that an instruction asks for, in their order.
 pub type Requests = ArrayVec<Request, MOST_REQUESTS>;
 
-/// The accesses that an instruction asks for, or the stop for which it asks for none. Where its
-/// condition fails it asks for none.
+/// `requests` becomes the accesses that an instruction asks for, unless it stops. Where its condition
+/// fails it asks for none.
 #[inline]
 #[tactic(auto, unfolding(reference::specs::Operations::wants))]
-pub fn plan(coded: &CodedInstruction, regs: &Regs) -> Result<Requests, Stop>
-    ensures { planned result ≡ wants coded.now regs.now }
+pub fn plan(coded: &CodedInstruction, regs: &Regs, requests: &mut Requests) -> Result<(), Stop>
+    ensures { planned requests.new result ≡ wants coded.now regs.now }
 {
+    requests.clear();
     if is_exclusive(&coded.instruction) {
         return Err(Stop::OutOfProfile(LeftOut::Exclusive));
     }
@@ -41,9 +43,9 @@ pub fn plan(coded: &CodedInstruction, regs: &Regs) -> Result<Requests, Stop>
         return Err(Stop::Unpredictable(UnpredictableCase::ItBlock));
     }
     if !is_carried_out(&coded.instruction, regs) {
-        return Ok(Requests::new());
+        return Ok(());
     }
-    requests(&coded.instruction, regs)
+    ask(&coded.instruction, regs, requests)
 }
 
 /// LDREX, STREX and CLREX, of each size.
@@ -83,21 +85,22 @@ pub fn is_carried_out(instruction: &Instruction, regs: &Regs) -> bool
 /// What an instruction that is carried out asks for.
 #[inline]
 #[tactic(auto, unfolding(reference::specs::Operations::asked_for))]
-fn requests(instruction: &Instruction, regs: &Regs) -> Result<Requests, Stop>
-    ensures { planned result ≡ asked_for instruction.now regs.now }
+fn ask(instruction: &Instruction, regs: &Regs, requests: &mut Requests) -> Result<(), Stop>
+    requires { requests.old.items ≡ [] }
+    ensures { planned requests.new result ≡ asked_for instruction.now regs.now }
 {
     match instruction {
-        Instruction::LoadImmediate(operands) => load_immediate(operands, regs),
-        Instruction::LoadRegister(operands) => load_register(operands, regs),
-        Instruction::LoadLiteral(operands) => load_literal(operands, regs),
-        Instruction::StoreImmediate(operands) => store_immediate(operands, regs),
-        Instruction::StoreRegister(operands) => store_register(operands, regs),
-        Instruction::LoadDual(operands) => load_dual(operands, regs),
-        Instruction::LoadDualLiteral(operands) => load_dual_literal(operands, regs),
-        Instruction::StoreDual(operands) => store_dual(operands, regs),
-        Instruction::LoadMultiple(operands) => load_multiple(operands, regs),
-        Instruction::StoreMultiple(operands) => store_multiple(operands, regs),
-        Instruction::TableBranch(operands) => table_branch(operands, regs),
+        Instruction::LoadImmediate(operands) => load_immediate(operands, regs, requests),
+        Instruction::LoadRegister(operands) => load_register(operands, regs, requests),
+        Instruction::LoadLiteral(operands) => load_literal(operands, regs, requests),
+        Instruction::StoreImmediate(operands) => store_immediate(operands, regs, requests),
+        Instruction::StoreRegister(operands) => store_register(operands, regs, requests),
+        Instruction::LoadDual(operands) => load_dual(operands, regs, requests),
+        Instruction::LoadDualLiteral(operands) => load_dual_literal(operands, regs, requests),
+        Instruction::StoreDual(operands) => store_dual(operands, regs, requests),
+        Instruction::LoadMultiple(operands) => load_multiple(operands, regs, requests),
+        Instruction::StoreMultiple(operands) => store_multiple(operands, regs, requests),
+        Instruction::TableBranch(operands) => table_branch(operands, regs, requests),
         Instruction::MoveToSpecial(operands) => nothing_if(is_program_status(operands.special)),
         Instruction::MoveFromSpecial(operands) => nothing_if(is_program_status(operands.special)),
         Instruction::Hint(hint) => nothing_if(!waits(*hint)),
@@ -106,15 +109,16 @@ fn requests(instruction: &Instruction, regs: &Regs) -> Result<Requests, Stop>
     }
 }
 
-/// Nothing, where this version of the machine does it.
+/// Nothing is asked for, where this version of the machine does it.
 #[inline]
-fn nothing_if(is_built: bool) -> Result<Requests, Stop>
-    ensures { planned result ≡ nothing_if is_built }
+fn nothing_if(is_built: bool) -> Result<(), Stop>
+    ensures { (requests : Listed) → requests.items ≡ [] → planned requests result ≡ nothing_if is_built }
 {
-    if !is_built {
-        return Err(Stop::OutOfProfile(LeftOut::Unbuilt));
+    if is_built {
+        Ok(())
+    } else {
+        Err(Stop::OutOfProfile(LeftOut::Unbuilt))
     }
-    Ok(Requests::new())
 }
 
 /// Whether a hint waits.
@@ -130,19 +134,31 @@ fn waits(hint: Hint) -> bool
 /// A load at a base register and a number.
 #[inline]
 #[tactic(auto, unfolding(reference::specs::Operations::asked_for))]
-fn load_immediate(operands: &LoadImmediate, regs: &Regs) -> Result<Requests, Stop>
-    ensures { planned result ≡ asked_for (instruction.LoadImmediate operands.now) regs.now }
+fn load_immediate(
+    operands: &LoadImmediate,
+    regs: &Regs,
+    requests: &mut Requests,
+) -> Result<(), Stop>
+    requires { requests.old.items ≡ [] }
+    ensures { planned requests.new result ≡ asked_for (instruction.LoadImmediate operands.now) regs.now }
 {
     let privileged = is_made_privileged(operands.unprivileged, regs);
     let address = immediate_address(&operands.address, regs);
-    load(operands.form, operands.target, privileged, address)
+    load(
+        operands.form,
+        operands.target,
+        privileged,
+        address,
+        requests,
+    )
 }
 
 /// A load at two registers.
 #[inline]
 #[tactic(auto, unfolding(reference::specs::Operations::asked_for))]
-fn load_register(operands: &LoadRegister, regs: &Regs) -> Result<Requests, Stop>
-    ensures { planned result ≡ asked_for (instruction.LoadRegister operands.now) regs.now }
+fn load_register(operands: &LoadRegister, regs: &Regs, requests: &mut Requests) -> Result<(), Stop>
+    requires { requests.old.items ≡ [] }
+    ensures { planned requests.new result ≡ asked_for (instruction.LoadRegister operands.now) regs.now }
 {
     let address = register_address(&operands.address, regs);
     load(
@@ -150,14 +166,16 @@ fn load_register(operands: &LoadRegister, regs: &Regs) -> Result<Requests, Stop>
         operands.target,
         regs.is_privileged(),
         address,
+        requests,
     )
 }
 
 /// A load at the PC and a number.
 #[inline]
 #[tactic(auto, unfolding(reference::specs::Operations::asked_for))]
-fn load_literal(operands: &LoadLiteral, regs: &Regs) -> Result<Requests, Stop>
-    ensures { planned result ≡ asked_for (instruction.LoadLiteral operands.now) regs.now }
+fn load_literal(operands: &LoadLiteral, regs: &Regs, requests: &mut Requests) -> Result<(), Stop>
+    requires { requests.old.items ≡ [] }
+    ensures { planned requests.new result ≡ asked_for (instruction.LoadLiteral operands.now) regs.now }
 {
     let address = literal_address(operands.offset, regs);
     load(
@@ -165,26 +183,44 @@ fn load_literal(operands: &LoadLiteral, regs: &Regs) -> Result<Requests, Stop>
         operands.target,
         regs.is_privileged(),
         address,
+        requests,
     )
 }
 
 /// A store at a base register and a number.
 #[inline]
 #[tactic(auto, unfolding(reference::specs::Operations::asked_for))]
-fn store_immediate(operands: &StoreImmediate, regs: &Regs) -> Result<Requests, Stop>
-    ensures { planned result ≡ asked_for (instruction.StoreImmediate operands.now) regs.now }
+fn store_immediate(
+    operands: &StoreImmediate,
+    regs: &Regs,
+    requests: &mut Requests,
+) -> Result<(), Stop>
+    requires { requests.old.items ≡ [] }
+    ensures { planned requests.new result ≡ asked_for (instruction.StoreImmediate operands.now) regs.now }
 {
     let privileged = is_made_privileged(operands.unprivileged, regs);
     let address = immediate_address(&operands.address, regs);
     let value = regs.get(operands.target);
-    transfer(Kind::Store, privileged, operands.size, address, value)
+    transfer(
+        Kind::Store,
+        privileged,
+        operands.size,
+        address,
+        value,
+        requests,
+    )
 }
 
 /// A store at two registers.
 #[inline]
 #[tactic(auto, unfolding(reference::specs::Operations::asked_for))]
-fn store_register(operands: &StoreRegister, regs: &Regs) -> Result<Requests, Stop>
-    ensures { planned result ≡ asked_for (instruction.StoreRegister operands.now) regs.now }
+fn store_register(
+    operands: &StoreRegister,
+    regs: &Regs,
+    requests: &mut Requests,
+) -> Result<(), Stop>
+    requires { requests.old.items ≡ [] }
+    ensures { planned requests.new result ≡ asked_for (instruction.StoreRegister operands.now) regs.now }
 {
     let address = register_address(&operands.address, regs);
     let value = regs.get(operands.target);
@@ -194,57 +230,88 @@ fn store_register(operands: &StoreRegister, regs: &Regs) -> Result<Requests, Sto
         operands.size,
         address,
         value,
+        requests,
     )
 }
 
 /// LDRD.
 #[inline]
 #[tactic(auto, unfolding(reference::specs::Operations::asked_for))]
-fn load_dual(operands: &LoadDual, regs: &Regs) -> Result<Requests, Stop>
-    ensures { planned result ≡ asked_for (instruction.LoadDual operands.now) regs.now }
+fn load_dual(operands: &LoadDual, regs: &Regs, requests: &mut Requests) -> Result<(), Stop>
+    requires { requests.old.items ≡ [] }
+    ensures { planned requests.new result ≡ asked_for (instruction.LoadDual operands.now) regs.now }
 {
     let address = immediate_address(&operands.address, regs);
-    transfer_pair(Kind::Load, operands.first, operands.second, address, regs)
+    transfer_pair(
+        Kind::Load,
+        operands.first,
+        operands.second,
+        address,
+        regs,
+        requests,
+    )
 }
 
 /// STRD.
 #[inline]
 #[tactic(auto, unfolding(reference::specs::Operations::asked_for))]
-fn store_dual(operands: &StoreDual, regs: &Regs) -> Result<Requests, Stop>
-    ensures { planned result ≡ asked_for (instruction.StoreDual operands.now) regs.now }
+fn store_dual(operands: &StoreDual, regs: &Regs, requests: &mut Requests) -> Result<(), Stop>
+    requires { requests.old.items ≡ [] }
+    ensures { planned requests.new result ≡ asked_for (instruction.StoreDual operands.now) regs.now }
 {
     let address = immediate_address(&operands.address, regs);
-    transfer_pair(Kind::Store, operands.first, operands.second, address, regs)
+    transfer_pair(
+        Kind::Store,
+        operands.first,
+        operands.second,
+        address,
+        regs,
+        requests,
+    )
 }
 
 /// LDM, LDMDB and POP.
 #[inline]
 #[tactic(auto, unfolding(reference::specs::Operations::asked_for))]
-fn load_multiple(operands: &LoadMultiple, regs: &Regs) -> Result<Requests, Stop>
-    ensures { planned result ≡ asked_for (instruction.LoadMultiple operands.now) regs.now }
+fn load_multiple(operands: &LoadMultiple, regs: &Regs, requests: &mut Requests) -> Result<(), Stop>
+    requires { requests.old.items ≡ [] }
+    ensures { planned requests.new result ≡ asked_for (instruction.LoadMultiple operands.now) regs.now }
 {
     let base = regs.get(operands.base);
     let address = lowest_address(operands.order, operands.list, base);
-    transfer_list(Kind::Load, operands.list, address, regs)
+    transfer_list(Kind::Load, operands.list, address, regs, requests)
 }
 
 /// STM, STMDB and PUSH.
 #[inline]
 #[tactic(auto, unfolding(reference::specs::Operations::asked_for))]
-fn store_multiple(operands: &StoreMultiple, regs: &Regs) -> Result<Requests, Stop>
-    ensures { planned result ≡ asked_for (instruction.StoreMultiple operands.now) regs.now }
+fn store_multiple(
+    operands: &StoreMultiple,
+    regs: &Regs,
+    requests: &mut Requests,
+) -> Result<(), Stop>
+    requires { requests.old.items ≡ [] }
+    ensures { planned requests.new result ≡ asked_for (instruction.StoreMultiple operands.now) regs.now }
 {
     let base = regs.get(operands.base);
     let address = lowest_address(operands.order, operands.list, base);
-    transfer_list(Kind::Store, operands.list, address, regs)
+    transfer_list(Kind::Store, operands.list, address, regs, requests)
 }
 
 /// TBB and TBH: the entry of the table.
 #[inline]
 #[tactic(auto, unfolding(reference::specs::Operations::asked_for))]
-fn table_branch(operands: &TableBranch, regs: &Regs) -> Result<Requests, Stop>
-    ensures { planned result ≡ asked_for (instruction.TableBranch operands.now) regs.now }
+fn table_branch(operands: &TableBranch, regs: &Regs, requests: &mut Requests) -> Result<(), Stop>
+    requires { requests.old.items ≡ [] }
+    ensures { planned requests.new result ≡ asked_for (instruction.TableBranch operands.now) regs.now }
 {
     let address = entry_address(operands, regs);
-    transfer(Kind::Load, regs.is_privileged(), operands.size, address, 0)
+    transfer(
+        Kind::Load,
+        regs.is_privileged(),
+        operands.size,
+        address,
+        0,
+        requests,
+    )
 }

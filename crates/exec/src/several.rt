@@ -105,10 +105,10 @@ fn word_request(kind: Kind, address: u32, register: Register, regs: &Regs) -> Re
 
 /// A word for each register of a list, upward from an address.
 #[tactic(auto, using(crate::proofs::Lists::request_lemmas))]
-fn list_requests(kind: Kind, list: RegisterList, address: u32, regs: &Regs) -> Requests
-    ensures { result.items ≡ word_requests kind address (registers_of list) regs.now }
+fn ask_for_list(kind: Kind, list: RegisterList, address: u32, regs: &Regs, requests: &mut Requests)
+    requires { requests.old.items ≡ [] }
+    ensures { requests.new.items ≡ word_requests kind address (registers_of list) regs.now }
 {
-    let mut requests = Requests::new();
     let mut at = address;
     'registers: for number in 0..16 {
         if is_listed(list, number) {
@@ -116,7 +116,6 @@ fn list_requests(kind: Kind, list: RegisterList, address: u32, regs: &Regs) -> R
             at = at.wrapping_add(4);
         }
     }
-    requests
 }
 
 /// The accesses of the registers of a list. An address that isn't a multiple of 4 is a fault, which
@@ -127,13 +126,16 @@ pub fn transfer_list(
     list: RegisterList,
     address: u32,
     regs: &Regs,
-) -> Result<Requests, Stop>
-    ensures { planned result ≡ several kind (registers_of list) address regs.now }
+    requests: &mut Requests,
+) -> Result<(), Stop>
+    requires { requests.old.items ≡ [] }
+    ensures { planned requests.new result ≡ several kind (registers_of list) address regs.now }
 {
     if address % 4 != 0 {
         return Err(Stop::OutOfProfile(LeftOut::Unbuilt));
     }
-    Ok(list_requests(kind, list, address, regs))
+    ask_for_list(kind, list, address, regs, requests);
+    Ok(())
 }
 
 /// The same of two registers.
@@ -144,29 +146,42 @@ pub fn transfer_pair(
     second: Register,
     address: u32,
     regs: &Regs,
-) -> Result<Requests, Stop>
-    ensures { planned result ≡ several kind (first ∷ second ∷ []) address regs.now }
+    requests: &mut Requests,
+) -> Result<(), Stop>
+    requires { requests.old.items ≡ [] }
+    ensures { planned requests.new result ≡ several kind (first ∷ second ∷ []) address regs.now }
 {
     if address % 4 != 0 {
         return Err(Stop::OutOfProfile(LeftOut::Unbuilt));
     }
-    let mut requests = Requests::new();
     requests.push(word_request(kind, address, first, regs));
     requests.push(word_request(kind, address.wrapping_add(4), second, regs));
-    Ok(requests)
+    Ok(())
 }
 
 /// The accesses of LDRD at the PC: that isn't a multiple of 4 is UNPREDICTABLE.
 #[inline]
-pub fn load_dual_literal(operands: &LoadDualLiteral, regs: &Regs) -> Result<Requests, Stop>
-    ensures { planned result ≡ load_dual_literal operands.now regs.now }
+pub fn load_dual_literal(
+    operands: &LoadDualLiteral,
+    regs: &Regs,
+    requests: &mut Requests,
+) -> Result<(), Stop>
+    requires { requests.old.items ≡ [] }
+    ensures { planned requests.new result ≡ load_dual_literal operands.now regs.now }
 {
     let base = regs.get(Register::PC);
     if base % 4 != 0 {
         return Err(Stop::Unpredictable(UnpredictableCase::LiteralPc));
     }
     let address = base.wrapping_add(operands.offset);
-    transfer_pair(Kind::Load, operands.first, operands.second, address, regs)
+    transfer_pair(
+        Kind::Load,
+        operands.first,
+        operands.second,
+        address,
+        regs,
+        requests,
+    )
 }
 
 // ---- values

@@ -33,7 +33,8 @@ fn step(regs: &mut Regs, memory: &mut Memory) -> Result<Ending, Stop> {
         Decoded::Unpredictable(_, case) => return Err(Stop::Unpredictable(case)),
         Decoded::Undefined | Decoded::NoCoprocessor => return Err(Stop::Lockup),
     };
-    let requests = plan(&coded, regs)?;
+    let mut requests = Requests::new();
+    plan(&coded, regs, &mut requests)?;
     let mut values: ArrayVec<u32, 16> = ArrayVec::new();
     'requests: for request in requests.as_slice() {
         let _ = values.try_push(memory.carry_out(request));

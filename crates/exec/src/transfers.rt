@@ -1,7 +1,7 @@
 //! Loads and stores of one number (ARM DDI 0403, MemU[]): the address, the accesses, and what is
 //! made of the values read.
 
-ghost use Rattle.std.specs.Prelude.{◌≡◌, ◌≤◌, ◌<◌, ◌+◌, ◌-◌, ◌*◌, ◌^◌, ◌&&◌, nat_le, if◌then◌else◌, length};
+ghost use Rattle.std.specs.Prelude.{◌≡◌, ◌≤◌, ◌<◌, ◌+◌, ◌-◌, ◌*◌, ◌^◌, ◌&&◌, nat_le, if◌then◌else◌, [], length};
 ghost use Rattle.exec.specs.Plans.{planned};
 ghost use Rattle.reference.specs.Fields.{extended, width_of};
 ghost use Rattle.reference.specs.LongSeveral.{writes_back};
@@ -95,13 +95,15 @@ pub fn load(
     target: Register,
     privileged: bool,
     address: u32,
-) -> Result<Requests, Stop>
-    ensures { planned result ≡ load form target privileged address }
+    requests: &mut Requests,
+) -> Result<(), Stop>
+    requires { requests.old.items ≡ [] }
+    ensures { planned requests.new result ≡ load form target privileged address }
 {
     if target.number() == 15 && address % 4 != 0 {
         return Err(Stop::Unpredictable(UnpredictableCase::LoadPc));
     }
-    transfer(Kind::Load, privileged, form.size, address, 0)
+    transfer(Kind::Load, privileged, form.size, address, 0, requests)
 }
 
 /// The accesses of a load or a store. An unaligned one is made byte by byte, and stops before any
@@ -114,11 +116,12 @@ pub fn transfer(
     size: Size,
     address: u32,
     value: u32,
-) -> Result<Requests, Stop>
-    ensures { planned result ≡ transfer kind privileged size address value }
+    requests: &mut Requests,
+) -> Result<(), Stop>
+    requires { requests.old.items ≡ [] }
+    ensures { planned requests.new result ≡ transfer kind privileged size address value }
 {
     if address % size.bytes() == 0 {
-        let mut requests = Requests::new();
         requests.push(Request {
             address,
             value,
@@ -126,22 +129,23 @@ pub fn transfer(
             size,
             privileged,
         });
-        return Ok(requests);
+        return Ok(());
     }
     let bytes = value.to_le_bytes();
-    unaligned(match size {
-        Size::Byte => byte_requests(kind, privileged, address, &bytes[..1]),
-        Size::Halfword => byte_requests(kind, privileged, address, &bytes[..2]),
-        Size::Word => byte_requests(kind, privileged, address, &bytes),
-    })
+    match size {
+        Size::Byte => ask_for_bytes(kind, privileged, address, &bytes[..1], requests),
+        Size::Halfword => ask_for_bytes(kind, privileged, address, &bytes[..2], requests),
+        Size::Word => ask_for_bytes(kind, privileged, address, &bytes, requests),
+    }
+    check_unaligned(requests)
 }
 
 /// Bytes upward from an address, 2^32 - 1 being followed by 0.
-fn byte_requests(kind: Kind, privileged: bool, address: u32, bytes: &[u8]) -> Requests
-    requires { length bytes.now ≤ 4 }
-    ensures { result.items ≡ byte_requests kind privileged address bytes.now }
+fn ask_for_bytes(kind: Kind, privileged: bool, address: u32, bytes: &[u8], requests: &mut Requests)
+    requires few { length bytes.now ≤ 4 }
+    requires empty { requests.old.items ≡ [] }
+    ensures { requests.new.items ≡ byte_requests kind privileged address bytes.now }
 {
-    let mut requests = Requests::new();
     let mut at = address;
     'bytes: for byte in bytes {
         requests.push(Request {
@@ -153,17 +157,16 @@ fn byte_requests(kind: Kind, privileged: bool, address: u32, bytes: &[u8]) -> Re
         });
         at = at.wrapping_add(1);
     }
-    requests
 }
 
 /// An unaligned access stops before any byte where one of them meets a device.
-fn unaligned(requests: Requests) -> Result<Requests, Stop>
-    ensures { planned result ≡ unaligned requests.items }
+fn check_unaligned(requests: &Requests) -> Result<(), Stop>
+    ensures { planned requests.now result ≡ unaligned requests.now.items }
 {
     if meets_device(requests.as_slice()) {
         return Err(Stop::OutOfProfile(LeftOut::UnalignedDevice));
     }
-    Ok(requests)
+    Ok(())
 }
 
 /// Whether one of the accesses has an effect of its own.

@@ -7,7 +7,7 @@ use Rattle.reference.specs.declared.access.Failure.{Failure}
 use Rattle.reference.specs.declared.access.Request.{Request}
 use Rattle.reference.specs.declared.event.Event.{Event}
 use Rattle.reference.specs.Accesses.{Served, followed, perform, perform_all, told, value_of}
-use Rattle.reference.specs.State.{Bus, State, with_bus}
+use Rattle.reference.specs.State.{Bus}
 
 -- what accesses leave behind lines and values that are there already
 abbrev pub behind : List Event → List ℕ → Served → Served
@@ -46,8 +46,3 @@ all_served tick b requests i events values all past rest =
       ap (λ (s : Served). s.values) whole,
       sym (ap (λ (s : Served). s.failure) whole),
     )
-
--- a state that only its bus was changed in, twice
-pub carried_on : (start s new : State) (after last : Bus) → new ≡ with_bus s after → s ≡ with_bus start s.bus → after ≡ last → new ≡ with_bus start last
-carried_on start s new after last moved same now =
-    moved ∙ (ap (λ (t : State). with_bus t after) same ∙ ap (with_bus start) now)

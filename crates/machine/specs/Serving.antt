@@ -4,6 +4,6 @@ use Rattle.arrayvec.specs.ArrayVec.{ArrayVec}
 use Rattle.reference.specs.declared.access.Failure.{Failure}
 use Rattle.reference.specs.Accesses.{Served}
 
-abbrev pub Serves : Served → Result (ArrayVec ℕ) Failure → Type 0
-Serves all (Ok values) = (all.failure ≡ None) × (values.items ≡ all.values)
-Serves all (Err why) = all.failure ≡ Some why
+abbrev pub Serves : Served → ArrayVec ℕ → Result (Unit {0}) Failure → Type 0
+Serves all values (Ok done) = (all.failure ≡ None) × (values.items ≡ all.values)
+Serves all values (Err why) = all.failure ≡ Some why

@@ -1,6 +1,7 @@
 //! The machine: steps, runs and their traces.
 #![tactic(auto)]
 
+mod accesses;
 pub mod output;
 pub mod paged;
 mod placing;
@@ -12,7 +13,9 @@ mod stepping;
 mod tests;
 mod whole;
 
-pub use access::{Decider, Search};
+pub use access::{Counting, Decider, DueTicks, Search};
+pub use accesses::{Events, MOST_EVENTS};
+pub use board::{Board, InterruptLine, ScriptedEvent, Signal};
 pub use output::{IoFault, Out, Over};
 pub use paged::Paged;
 pub use readers::RegValues;
@@ -21,6 +24,5 @@ pub use reference::event::Event;
 pub use reference::fault::{PlaceFault, StartFault};
 pub use reference::place::Place;
 pub use reference::stop::Stop;
-pub use stepping::{Events, MOST_EVENTS};
 pub use trace::lines::{Text, event_line, stop_line};
 pub use whole::{Machine, RunFault, Slow};

@@ -4,7 +4,7 @@ ghost use Rattle.std.specs.Prelude.{◌≡◌, ℕ, ◌+◌, ◌*◌, ◌<◌, �
 ghost use Rattle.machine.specs.Output.{Took, Put};
 ghost use Rattle.reference.specs.Text.{lines};
 
-use crate::stepping::MOST_EVENTS;
+use crate::accesses::MOST_EVENTS;
 use reference::event::Event;
 use std::io::Write;
 use std::marker::Model;

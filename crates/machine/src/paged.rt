@@ -5,8 +5,8 @@ ghost use Rattle.machine.specs.Output.{Took, Put};
 ghost use Rattle.reference.specs.Text.{lines};
 ghost use Rattle.std.specs.Io.KnownBytes.{append_known, Keeps};
 
+use crate::accesses::MOST_EVENTS;
 use crate::output::{IoFault, Out, StepPage};
-use crate::stepping::MOST_EVENTS;
 use reference::event::Event;
 use trace::page::Page;
 use trace::tick::Tick;

@@ -7,7 +7,7 @@ ghost use Rattle.reference.specs.Map.{is_in_ppb};
 ghost use Rattle.reference.specs.Places.{place, is_special, is_there, is_word_aligned, special_taken, store_of, taken};
 
 use crate::stepping::{Core, UNBUILT};
-use access::Decider;
+use access::{Decider, DueTicks};
 use reference::access::{Answer, Kind, Request, Size};
 use reference::fault::PlaceFault;
 use reference::place::Place;
@@ -16,7 +16,7 @@ use reference::registers::Register;
 /// The number of CONTROL among the special registers.
 const CONTROL: u8 = 20;
 
-impl<D: Decider> Core<D> {
+impl<D: Decider, U: DueTicks> Core<D, U> {
     /// Puts a value into a register or a word.
     #[tactic(auto, unfolding(reference::specs::Places::place))]
     pub fn place(&mut self, value: Place) -> Result<(), PlaceFault>

@@ -5,7 +5,7 @@ ghost use Rattle.reference.specs.Memory.{byte_at};
 ghost use Rattle.reference.specs.Regions.{shown};
 
 use crate::stepping::Core;
-use access::Decider;
+use access::{Decider, DueTicks};
 
 /// The values of the core registers, each as a word.
 #[derive(Clone, Copy)]
@@ -24,7 +24,7 @@ pub struct RegValues {
     pub basepri: u32,
 }
 
-impl<D: Decider> Core<D> {
+impl<D: Decider, U: DueTicks> Core<D, U> {
     ghost use Rattle.machine.specs.Values.{values_of};
 
     /// The values of the core registers.

@@ -1,13 +1,16 @@
 //! The start of a core (ARM DDI 0403, TakeReset()).
 
 ghost use Rattle.std.specs.Prelude.{◌≡◌, ◌*◌, ◌+◌, true, map};
+ghost use Rattle.board.specs.Seen.{described};
 ghost use Rattle.machine.specs.Starts.{StartsAt};
+ghost use Rattle.reference.specs.Boards.{numbers_of};
 ghost use Rattle.reference.specs.Memory.{Memory};
 ghost use Rattle.reference.specs.Start.{start, blank, are_placed, is_placed, loaded, vector};
 ghost use Rattle.elf.specs.Segment.{segment_of};
 
 use crate::stepping::Core;
-use access::{Bus, Decider};
+use access::{Bus, Decider, DueTicks};
+use board::Board;
 use elf::{Image, Segment};
 use reference::board::Layout;
 use reference::fault::StartFault;
@@ -18,27 +21,31 @@ use std::alloc::Global;
 /// The core of a board, with an image in its memory, before the first step. The segments are looked
 /// at before any memory is taken.
 #[tactic(auto, unfolding(reference::specs::Start::start))]
-pub fn start_core<D: Decider>(
+pub fn start_core<D: Decider, U: DueTicks>(
     alloc: Global,
     image: &Image<'_>,
-    board: &Layout,
-) -> Result<Core<D>, StartFault>
-    ensures { StartsAt (start board.now image.now) result }
+    board: &Board,
+) -> Result<Core<D, U>, StartFault>
+    ensures { StartsAt (start (described board.now) image.now) result }
 {
-    if !are_placed(board, image.segments()) {
+    if !are_placed(&board.layout, image.segments()) {
         return Err(StartFault::SegmentOutsideMemory);
     }
-    let Ok(mut space) = Space::blank(alloc, board) else {
+    let Ok(mut space) = Space::blank(alloc, &board.layout) else {
         return Err(StartFault::NoMemory);
     };
+    let mut script = Vec::new(alloc);
+    if script.extend_from_slice(board.events.as_slice()).is_err() {
+        return Err(StartFault::NoMemory);
+    }
     load_segments(&mut space, image.segments());
     let regs = Regs::reset(space.vector(0), space.vector(1));
-    Ok(Core::new(regs, Bus::new(space)))
+    Ok(Core::new(regs, Bus::new(space, script)))
 }
 
 /// Whether each segment lies wholly in flash or wholly in RAM.
 fn are_placed(board: &Layout, segments: &[Segment<'_>]) -> bool
-    ensures { result ≡ are_placed (blank board.now) (map segment_of segments.now) }
+    ensures { result ≡ are_placed (blank (numbers_of board.now)) (map segment_of segments.now) }
 {
     'segments: for segment in segments {
         if !is_placed(board, segment) {
@@ -50,7 +57,7 @@ fn are_placed(board: &Layout, segments: &[Segment<'_>]) -> bool
 
 /// Whether a segment lies wholly in flash or wholly in RAM.
 fn is_placed(board: &Layout, segment: &Segment<'_>) -> bool
-    ensures { result ≡ is_placed (blank board.now) (segment_of segment.now) }
+    ensures { result ≡ is_placed (blank (numbers_of board.now)) (segment_of segment.now) }
 {
     let length = segment.bytes.len();
     is_within(

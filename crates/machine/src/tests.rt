@@ -5,7 +5,10 @@ mod regions;
 
 use crate::output::{Out, Over};
 use crate::paged::Paged;
-use crate::{Events, Place, PlaceFault, RunFault, SMALL_BOARD, Slow, Stop, event_line, stop_line};
+use crate::{
+    Board, Events, InterruptLine, Layout, Place, PlaceFault, RunFault, SMALL_BOARD, ScriptedEvent,
+    Signal, Slow, Stop, event_line, stop_line,
+};
 use arrayvec::ArrayVec;
 use elf::load;
 use reference::stop::{LeftOut, UnpredictableCase};
@@ -94,10 +97,32 @@ fn run(machine: &mut Slow, steps: u32, out: &mut Cut) -> Result<Stop, RunFault> 
     run_over::<Brand>(machine, steps, out, Blank::new(1))
 }
 
+/// The small board with these events.
+fn small_board(alloc: Global, script: &[ScriptedEvent]) -> Result<Board, Fail> {
+    let mut events = Vec::new(alloc);
+    events
+        .extend_from_slice(script)
+        .map_err(|_| "room for the events")?;
+    Ok(Board {
+        layout: SMALL_BOARD,
+        events,
+    })
+}
+
 /// A machine of the small board with these values in it.
 fn machine_with(alloc: Global, places: &[Place]) -> Result<Slow, Fail> {
+    scripted_machine(alloc, &[], places)
+}
+
+/// The same with a script.
+fn scripted_machine(
+    alloc: Global,
+    script: &[ScriptedEvent],
+    places: &[Place],
+) -> Result<Slow, Fail> {
     let image = load(&NO_SEGMENTS).map_err(|_| "an image")?;
-    let mut machine = Slow::new(alloc, &image, &SMALL_BOARD).map_err(|_| "a machine")?;
+    let board = small_board(alloc, script)?;
+    let mut machine = Slow::new(alloc, &image, &board).map_err(|_| "a machine")?;
     for value in places {
         machine.place(*value).map_err(|_| "a place")?;
     }
@@ -311,9 +336,87 @@ fn places_are_taken_or_refused(rt: HostRuntime) -> Result<(), Fail> {
 #[test]
 fn a_refused_growth_is_told_and_leaves_nothing_behind(rt: HostRuntime) -> Result<(), Fail> {
     let image = load(&NO_SEGMENTS).map_err(|_| "an image")?;
-    if Slow::new(rt.alloc(), &image, &SMALL_BOARD).is_err() {
-        let again = Slow::new(rt.alloc(), &image, &SMALL_BOARD);
+    let script = [NMI_AT_3];
+    let Ok(board) = small_board(rt.alloc(), &script) else {
+        let again = small_board(rt.alloc(), &script);
         assert!(rt; again.is_ok());
+        return Ok(());
+    };
+    if Slow::new(rt.alloc(), &image, &board).is_err() {
+        let again = Slow::new(rt.alloc(), &image, &board);
+        assert!(rt; again.is_ok());
+    }
+    Ok(())
+}
+
+/// NMI in the third tick.
+const NMI_AT_3: ScriptedEvent = ScriptedEvent {
+    at: 3,
+    what: Signal::Nmi,
+};
+
+/// A line that falls in the first tick: it pends nothing, and it is an event all the same.
+const FALL_AT_1: ScriptedEvent = ScriptedEvent {
+    at: 1,
+    what: Signal::Fall(InterruptLine::new(0)),
+};
+
+/// An event in the tick behind the last one of the run.
+const PULSE_AT_5: ScriptedEvent = ScriptedEvent {
+    at: 5,
+    what: Signal::Pulse(InterruptLine::new(7)),
+};
+
+#[test]
+fn the_machine_stops_where_an_event_would_apply(rt: HostRuntime) -> Result<(), Fail> {
+    let two = b"1 F 00000100 2 p ok off\n2 F 00000102 2 p ok off\n2 S 20000010 4 p ok off\n\
+                stop outofprofile unbuilt\n";
+    let four = b"1 F 00000100 2 p ok off\n2 F 00000102 2 p ok off\n2 S 20000010 4 p ok off\n\
+                 3 F 00000104 2 p ok off\n3 L 20000010 4 p ok off\n4 F 00000106 2 p ok off\nstop steps\n";
+    let rows: [(&str, ScriptedEvent, &[u8]); 3] = [
+        ("NMI", NMI_AT_3, two),
+        ("a line falls", FALL_AT_1, b"stop outofprofile unbuilt\n"),
+        ("behind the run", PULSE_AT_5, four),
+    ];
+    for (name, event, wanted) in rows {
+        let mut machine = scripted_machine(rt.alloc(), &[event], &STORE_AND_LOAD)?;
+        machine
+            .place(Place::Reg(1, 0x2000_0010))
+            .map_err(|_| "a place")?;
+        let mut out = Cut::new(512, 512, true);
+        let _ = run(&mut machine, 4, &mut out);
+        assert!(rt; out.text.as_slice() == wanted, "{name}");
+    }
+    Ok(())
+}
+
+/// Flash that begins at 0x10000, and RAM of 1 KiB.
+const HIGH_FLASH: Layout = Layout {
+    flash_base: 0x1_0000,
+    flash_size: 1024,
+    ram_size: 1024,
+    priority_bits: 3,
+    lines: 0,
+};
+
+#[test]
+fn flash_and_ram_are_those_of_the_board(rt: HostRuntime) -> Result<(), Fail> {
+    let image = load(&NO_SEGMENTS).map_err(|_| "an image")?;
+    let board = Board {
+        layout: HIGH_FLASH,
+        events: Vec::new(rt.alloc()),
+    };
+    let machine = Slow::new(rt.alloc(), &image, &board).map_err(|_| "a machine")?;
+    let rows: [(&str, u32, Option<u8>); 6] = [
+        ("below flash", 0xFFFF, None),
+        ("the first byte of flash", 0x1_0000, Some(0xFF)),
+        ("the last byte of flash", 0x1_03FF, Some(0xFF)),
+        ("behind flash", 0x1_0400, None),
+        ("the last byte of RAM", 0x2000_03FF, Some(0)),
+        ("behind RAM", 0x2000_0400, None),
+    ];
+    for (name, address, wanted) in rows {
+        assert_eq!(rt; machine.byte(address), wanted, "{name}");
     }
     Ok(())
 }

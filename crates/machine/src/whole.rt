@@ -1,6 +1,7 @@
 //! The machine that a user has: a core, and whether its trace is still whole.
 
 ghost use Rattle.std.specs.Prelude.{◌≡◌, ◌↔◌, ◌^◌, ◌≤◌, false, true, Ok, Err, IfOk, IfErr, OnOk};
+ghost use Rattle.board.specs.Seen.{described};
 ghost use Rattle.machine.specs.Runs.{Fails};
 ghost use Rattle.machine.specs.Starts.{Starts, Places};
 ghost use Rattle.reference.specs.Memory.{byte_at};
@@ -11,14 +12,15 @@ ghost use Rattle.reference.specs.Start.{start};
 ghost use Rattle.reference.specs.Step.{step};
 ghost use Rattle.std.specs.Io.KnownBytes.{Appends};
 
+use crate::accesses::Events;
 use crate::output::Out;
 use crate::readers::RegValues;
 use crate::run::run_core;
 use crate::start::start_core;
-use crate::stepping::{Core, Events};
-use access::{Decider, Search};
+use crate::stepping::Core;
+use access::{Counting, Decider, DueTicks, Search};
+use board::Board;
 use elf::Image;
-use reference::board::Layout;
 use reference::fault::{PlaceFault, StartFault};
 use reference::place::Place;
 use reference::stop::Stop;
@@ -34,17 +36,17 @@ pub enum RunFault {
     Broken,
 }
 
-/// A machine, whose accesses are decided by a `D`.
+/// A machine, whose accesses are decided by a `D`, and whose ticks are counted by a `U`.
 #[derive(Drop)]
-pub struct Machine<D: Decider> {
-    core: Core<D>,
+pub struct Machine<D: Decider, U: DueTicks> {
+    core: Core<D, U>,
     broken: bool,
 }
 
-/// The machine that searches the regions at each access.
-pub type Slow = Machine<Search>;
+/// The machine that searches the regions at each access, and counts each tick.
+pub type Slow = Machine<Search, Counting>;
 
-impl<D: Decider> Model for Machine<D> {
+impl<D: Decider, U: DueTicks> Model for Machine<D, U> {
     ghost use Rattle.machine.specs.Whole.{Whole};
 
     ghost Value = { Whole };
@@ -52,12 +54,12 @@ impl<D: Decider> Model for Machine<D> {
     ghost view = { λ m. record { state = m.core; broken = m.broken } };
 }
 
-impl<D: Decider> Machine<D> {
+impl<D: Decider, U: DueTicks> Machine<D, U> {
     ghost use Rattle.machine.specs.Values.{values_of};
 
     /// The machine of a board, with an image in its memory, before the first step.
-    pub fn new(alloc: Global, image: &Image<'_>, board: &Layout) -> Result<Self, StartFault>
-        ensures { Starts (start board.now image.now) result }
+    pub fn new(alloc: Global, image: &Image<'_>, board: &Board) -> Result<Self, StartFault>
+        ensures { Starts (start (described board.now) image.now) result }
     {
         let core = start_core(alloc, image, board)?;
         Ok(Machine {

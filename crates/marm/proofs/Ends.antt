@@ -1,20 +1,19 @@
 -- How a run's status follows from its end.
-use Rattle.std.proofs.Common.{◌≡◌, inl, inr, ℕ, List, Result, Ok, Err, refl, ◌∙◌, ap}
+use Rattle.std.proofs.Common.{◌≡◌, ◌⊎◌, inl, inr, ℕ, List, Result, Ok, Err, ◌∙◌, ap}
+use Rattle.board.specs.declared.whole.Board.{Board as TheBoard}
+use Rattle.board.specs.Seen.{Answers, described}
 use Rattle.marm.specs.declared.fault.Fault.{Fault}
-use Rattle.marm.specs.declared.fault.Fault.TheVariants.{Load, Start}
-use Rattle.marm.specs.Statuses.{GoesTo, Executes, Ends, EndsWith, stop_status, fault_status}
-use Rattle.reference.specs.declared.board.Layout.{Layout}
+use Rattle.marm.specs.declared.fault.Fault.TheVariants.{Load, Board, Start}
+use Rattle.marm.specs.Statuses.{GoesTo, Executes, Ends, EndsWith, Reads, stop_status, fault_status}
+use Rattle.reference.specs.declared.fault.BoardFault.{BoardFault}
+use Rattle.reference.specs.declared.fault.BoardFault.TheVariants.{OutOfMemory}
 use Rattle.reference.specs.declared.fault.LoadFault.{LoadFault}
 use Rattle.reference.specs.declared.fault.StartFault.{StartFault}
 use Rattle.reference.specs.declared.stop.Stop.{Stop}
+use Rattle.reference.specs.Boards.{Described}
 use Rattle.reference.specs.Images.{Segment}
 use Rattle.reference.specs.Start.{start}
 use Rattle.reference.specs.State.{State}
-
--- a start reads three numbers of the board
-start_alike : (a b : Layout) (image : List Segment) → a.flash_base ≡ b.flash_base → a.flash_size ≡ b.flash_size → a.ram_size ≡ b.ram_size → start a image ≡ start b image
-unfolding start
-start_alike a b image base flash ram = rw (base, flash, ram) refl
 
 stop_ends : (steps : ℕ) (started : Result State StartFault) (stop : Stop) (status : ℕ) → Ends steps started (Ok stop) → status ≡ stop_status stop → EndsWith steps started status
 stop_ends steps (Ok s) stop status ends e = inl (e ∙ ap stop_status ends)
@@ -25,12 +24,37 @@ fault_ends steps (Ok s) fault status (inl memory) e = inr (inl (e ∙ ap fault_s
 fault_ends steps (Ok s) fault status (inr writer) e = inr (inr (e ∙ ap fault_status writer))
 fault_ends steps (Err refusal) fault status ends e = let same : fault ≡ Start refusal = cc in e ∙ ap fault_status same
 
-pub stop_goes : (board small : Layout) (read : Result (List Segment) LoadFault) (steps : ℕ) (stop : Stop) (status : ℕ) → board.flash_base ≡ small.flash_base → board.flash_size ≡ small.flash_size → board.ram_size ≡ small.ram_size → Executes small read steps (Ok stop) → status ≡ stop_status stop → GoesTo board read steps status
-stop_goes board small (Ok image) steps stop status base flash ram ends e =
-    rw (start_alike board small image base flash ram) (stop_ends steps (start small image) stop status ends e)
-stop_goes board small (Err refusal) steps stop status base flash ram ends e = absurd cc
+-- want of memory has status 3, whatever was started
+wanting_ends : (steps : ℕ) (started : Result State StartFault) (fault : Fault) (status : ℕ) → fault ≡ Board OutOfMemory → status ≡ fault_status fault → EndsWith steps started status
+wanting_ends steps (Ok s) fault status same e = inr (inl (e ∙ ap fault_status same))
+wanting_ends steps (Err refusal) fault status same e = e ∙ ap fault_status same
 
-pub fault_goes : (board small : Layout) (read : Result (List Segment) LoadFault) (steps : ℕ) (fault : Fault) (status : ℕ) → board.flash_base ≡ small.flash_base → board.flash_size ≡ small.flash_size → board.ram_size ≡ small.ram_size → Executes small read steps (Err fault) → status ≡ fault_status fault → GoesTo board read steps status
-fault_goes board small (Ok image) steps fault status base flash ram ends e =
-    rw (start_alike board small image base flash ram) (fault_ends steps (start small image) fault status ends e)
-fault_goes board small (Err refusal) steps fault status base flash ram ends e = let same : fault ≡ Load refusal = cc in e ∙ ap fault_status same
+pub stop_goes : (image : Result (List Segment) LoadFault) (board : Result Described BoardFault) (steps : ℕ) (stop : Stop) (status : ℕ) → Executes image board steps (Ok stop) → status ≡ stop_status stop → GoesTo image board steps status
+stop_goes (Ok image) (Ok board) steps stop status (inl ends) e = stop_ends steps (start board image) stop status ends e
+stop_goes (Ok image) (Ok board) steps stop status (inr other) e = absurd cc
+stop_goes (Ok image) (Err refusal) steps stop status (inl other) e = absurd cc
+stop_goes (Ok image) (Err refusal) steps stop status (inr other) e = absurd cc
+stop_goes (Err refusal) board steps stop status ends e = absurd cc
+
+pub fault_goes : (image : Result (List Segment) LoadFault) (board : Result Described BoardFault) (steps : ℕ) (fault : Fault) (status : ℕ) → Executes image board steps (Err fault) → status ≡ fault_status fault → GoesTo image board steps status
+fault_goes (Ok image) (Ok board) steps fault status (inl ends) e = fault_ends steps (start board image) fault status ends e
+fault_goes (Ok image) (Ok board) steps fault status (inr wanting) e =
+    let same : fault ≡ Board OutOfMemory = cc in wanting_ends steps (start board image) fault status same e
+fault_goes (Ok image) (Err refusal) steps fault status (inl refused) e = let same : fault ≡ Board refusal = cc in e ∙ ap fault_status same
+fault_goes (Ok image) (Err refusal) steps fault status (inr wanting) e = let same : fault ≡ Board OutOfMemory = cc in e ∙ ap fault_status same
+fault_goes (Err refusal) board steps fault status ends e = let same : fault ≡ Load refusal = cc in e ∙ ap fault_status same
+
+-- what the reader of boards answers is what is read here
+pub read_as : (read : Result Described BoardFault) (result : Result TheBoard BoardFault) → Answers described result read ⊎ (result ≡ Err OutOfMemory) → Reads read result
+read_as read (Ok board) (inl same) = same
+read_as read (Ok board) (inr wanting) = absurd cc
+read_as read (Err fault) (inl (inl same)) = inl same
+read_as read (Err fault) (inl (inr wanting)) = inr wanting.0
+read_as read (Err fault) (inr wanting) = inr cc
+
+-- a board that isn't read ends the run
+pub board_ends : (image : List Segment) (board : Result Described BoardFault) (steps : ℕ) (fault : BoardFault) → Reads board (Err fault) → Executes (Ok image) board steps (Err (Board fault))
+board_ends image (Ok board) steps fault (inl other) = absurd cc
+board_ends image (Ok board) steps fault (inr wanting) = inr cc
+board_ends image (Err refusal) steps fault (inl same) = inl cc
+board_ends image (Err refusal) steps fault (inr wanting) = inr cc

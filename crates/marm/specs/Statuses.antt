@@ -1,13 +1,19 @@
 -- The exit statuses of the program.
-use Rattle.std.specs.Prelude.{◌≡◌, ◌⊎◌, ℕ, List, Result, Ok, Err}
+use Rattle.std.specs.Prelude.{◌≡◌, ◌⊎◌, ℕ, if◌then◌else◌, List, Result, Ok, Err}
+use Rattle.std.specs.Str.{is_utf8}
+use Rattle.board.specs.declared.whole.Board.{Board as TheBoard}
+use Rattle.board.specs.Seen.{described}
+use Rattle.board.specs.Texts.{board_of}
 use Rattle.marm.specs.declared.fault.Fault.{Fault}
-use Rattle.marm.specs.declared.fault.Fault.TheVariants.{Usage, Load, Start, Size, Io}
-use Rattle.reference.specs.declared.board.Layout.{Layout}
+use Rattle.marm.specs.declared.fault.Fault.TheVariants.{Usage, Load, Board, Start, Size, Io}
+use Rattle.reference.specs.declared.fault.BoardFault.{BoardFault}
+use Rattle.reference.specs.declared.fault.BoardFault.TheVariants.{NotToml, OutOfMemory}
 use Rattle.reference.specs.declared.fault.LoadFault.{LoadFault}
 use Rattle.reference.specs.declared.fault.StartFault.{StartFault}
 use Rattle.reference.specs.declared.fault.StartFault.TheVariants.{NoMemory}
 use Rattle.reference.specs.declared.stop.Stop.{Stop}
 use Rattle.reference.specs.declared.stop.Stop.TheVariants as stop
+use Rattle.reference.specs.Boards.{Described}
 use Rattle.reference.specs.Images.{Segment}
 use Rattle.reference.specs.Run.{ending_of}
 use Rattle.reference.specs.Start.{start}
@@ -16,6 +22,7 @@ use Rattle.reference.specs.State.{State}
 abbrev pub fault_status : Fault → ℕ
 fault_status Usage = 2
 fault_status (Load fault) = 3
+fault_status (Board fault) = 3
 fault_status (Start fault) = 3
 fault_status Size = 3
 fault_status Io = 5
@@ -28,11 +35,14 @@ stop_status (stop.Unpredictable why) = 4
 stop_status (stop.OutOfProfile why) = 4
 stop_status stop.ResetRequested = 4
 
--- the board that is taken where no other is named: 4 KiB of flash at 0 and 8 KiB of RAM
-pub record IsSmall (board : Layout) : Type 0 where
-  pub flash_base : board.flash_base ≡ 0
-  pub flash_size : board.flash_size ≡ 4096
-  pub ram_size : board.ram_size ≡ 8192
+-- the board in the bytes of a file, which are text in UTF-8, or the first refusal
+abbrev pub board_in_file : List ℕ → Result Described BoardFault
+board_in_file bytes = if is_utf8 bytes then board_of bytes else Err NotToml
+
+-- a board that was read is the definition's, and so is a refusal, unless memory was wanting
+abbrev pub Reads : Result Described BoardFault → Result TheBoard BoardFault → Type 0
+Reads read (Ok board) = read ≡ Ok (described board)
+Reads read (Err fault) = (read ≡ Err fault) ⊎ (fault ≡ OutOfMemory)
 
 -- a run from a start state ends as the reference machine's; otherwise memory was wanting or the writer failed
 abbrev pub Ends : ℕ → Result State StartFault → Result Stop Fault → Type 0
@@ -40,17 +50,20 @@ Ends steps (Ok s) (Ok why) = why ≡ ending_of steps s
 Ends steps (Ok s) (Err fault) = (fault ≡ Start NoMemory) ⊎ (fault ≡ Io)
 Ends steps (Err refusal) result = result ≡ Err (Start refusal)
 
--- an image that is refused is refused as the definition refuses it
-abbrev pub Executes : Layout → Result (List Segment) LoadFault → ℕ → Result Stop Fault → Type 0
-Executes board (Ok image) steps result = Ends steps (start board image) result
-Executes board (Err refusal) steps result = result ≡ Err (Load refusal)
+-- an image or a board that is refused is refused as the definition refuses it, the image first; memory for the board may
+-- be wanting in place of what comes behind the image
+abbrev pub Executes : Result (List Segment) LoadFault → Result Described BoardFault → ℕ → Result Stop Fault → Type 0
+Executes (Ok image) (Ok board) steps result = Ends steps (start board image) result ⊎ (result ≡ Err (Board OutOfMemory))
+Executes (Ok image) (Err refusal) steps result = (result ≡ Err (Board refusal)) ⊎ (result ≡ Err (Board OutOfMemory))
+Executes (Err refusal) board steps result = result ≡ Err (Load refusal)
 
 -- the status of a run from a start state
 abbrev pub EndsWith : ℕ → Result State StartFault → ℕ → Type 0
 EndsWith steps (Ok s) status = (status ≡ stop_status (ending_of steps s)) ⊎ ((status ≡ 3) ⊎ (status ≡ 5))
 EndsWith steps (Err refusal) status = status ≡ 3
 
--- the status of a run of an image
-abbrev pub GoesTo : Layout → Result (List Segment) LoadFault → ℕ → ℕ → Type 0
-GoesTo board (Ok image) steps status = EndsWith steps (start board image) status
-GoesTo board (Err refusal) steps status = status ≡ 3
+-- the status of a run of an image on a board
+abbrev pub GoesTo : Result (List Segment) LoadFault → Result Described BoardFault → ℕ → ℕ → Type 0
+GoesTo (Ok image) (Ok board) steps status = EndsWith steps (start board image) status
+GoesTo (Ok image) (Err refusal) steps status = status ≡ 3
+GoesTo (Err refusal) board steps status = status ≡ 3

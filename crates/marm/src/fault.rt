@@ -3,6 +3,7 @@
 ghost use Rattle.std.specs.Prelude.{◌≡◌};
 ghost use Rattle.marm.specs.Statuses.{fault_status, stop_status};
 
+use board::BoardFault;
 use elf::LoadFault;
 use machine::{StartFault, Stop};
 use std::io::Write;
@@ -13,6 +14,7 @@ pub enum Fault {
     /// The words after the program's name are wrong.
     Usage,
     Load(LoadFault),
+    Board(BoardFault),
     Start(StartFault),
     /// A file is larger than 16 MiB.
     Size,
@@ -26,7 +28,7 @@ pub fn fault_status(fault: Fault) -> u8
 {
     match fault {
         Fault::Usage => 2,
-        Fault::Load(_) | Fault::Start(_) | Fault::Size => 3,
+        Fault::Load(_) | Fault::Board(_) | Fault::Start(_) | Fault::Size => 3,
         Fault::Io => 5,
     }
 }
@@ -48,6 +50,7 @@ pub fn tell<E: Write>(fault: Fault, err: &mut E) -> u8
     let _ = match fault {
         Fault::Usage => writeln!(err, "marm: usage"),
         Fault::Load(fault) => writeln!(err, "marm: load {} {fault:?}", fault as u8),
+        Fault::Board(fault) => writeln!(err, "marm: board {} {fault:?}", fault as u8),
         Fault::Start(fault) => writeln!(err, "marm: start {} {fault:?}", fault as u8),
         Fault::Size => writeln!(err, "marm: size"),
         Fault::Io => writeln!(err, "marm: io"),

@@ -24,8 +24,8 @@ pub fn words<R: Env + AllocGlobal>(rt: &R) -> Result<Vec<String>, Fault> {
     Ok(words)
 }
 
-/// The bytes of an image file, of which there are at most 16 MiB.
-pub fn read_image<R: Files + AllocGlobal>(rt: &R, path: &str) -> Result<Vec<u8>, Fault>
+/// The bytes of a file, of which there are at most 16 MiB.
+pub fn read_file<R: Files + AllocGlobal>(rt: &R, path: &str) -> Result<Vec<u8>, Fault>
     ensures { IfOk result (λ bytes. vec_len bytes ≤ 0x100_0000) }
 {
     let mut bytes = Vec::new(rt.alloc());

@@ -22,14 +22,20 @@ fn main(rt: HostRuntime) -> ExitCode {
     ExitCode::from(status)
 }
 
-/// Reads the words and the image file, and runs the image.
+/// Reads the words, the image and the board, in this order, and runs the image.
 fn run(rt: &HostRuntime) -> Result<u8, Fault> {
     let words = files::words(rt)?;
-    let Request { steps, image } = read_words(rt.alloc(), words.as_slice())?;
-    let bytes = files::read_image(rt, image)?;
+    let Request {
+        board,
+        steps,
+        image,
+    } = read_words(rt.alloc(), words.as_slice())?;
+    let image = files::read_file(rt, image)?;
+    let board = files::read_file(rt, board)?;
     Ok(go(
         rt.alloc(),
-        bytes.as_slice(),
+        image.as_slice(),
+        board.as_slice(),
         steps,
         io::writer(rt),
         &mut rt.stderr(),

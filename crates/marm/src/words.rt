@@ -1,4 +1,4 @@
-//! The command line: `marm run --steps N IMAGE`.
+//! The command line: `marm run --board FILE --steps N IMAGE`.
 
 ghost use Rattle.std.specs.Prelude.{◌^◌, ◌≤◌, IfOk};
 
@@ -14,6 +14,8 @@ const MOST_STEPS: u64 = 0x1_0000_0000;
 /// What the words ask for.
 #[derive(Clone, Copy)]
 pub struct Request<'a> {
+    /// The path of the board file.
+    pub board: &'a str,
     pub steps: u64,
     /// The path of the image file.
     pub image: &'a str,
@@ -33,11 +35,19 @@ pub fn read_words<'a>(alloc: Global, words: &'a [String]) -> Result<Request<'a>,
     let Some((_, run)) = matches.subcommand() else {
         return Err(Fault::Usage);
     };
-    let (Some(steps), Some(image)) = (run.get_str("steps"), run.get_str("image")) else {
+    let (Some(board), Some(steps), Some(image)) = (
+        run.get_str("board"),
+        run.get_str("steps"),
+        run.get_str("image"),
+    ) else {
         return Err(Fault::Usage);
     };
     match steps.parse::<u64>() {
-        Ok(steps) if steps <= MOST_STEPS => Ok(Request { steps, image }),
+        Ok(steps) if steps <= MOST_STEPS => Ok(Request {
+            board,
+            steps,
+            image,
+        }),
         _ => Err(Fault::Usage),
     }
 }
@@ -52,11 +62,20 @@ fn fault_of(error: &Error) -> Fault {
 
 /// The command `marm`, with its one subcommand.
 fn marm<'a>(alloc: Global) -> Result<Command<'a>, AllocError> {
-    let run = Command::new(alloc, "run").arg(steps(alloc))?;
+    let run = Command::new(alloc, "run").arg(board(alloc))?;
+    let run = run.arg(steps(alloc))?;
     let run = run.arg(image(alloc))?;
     Command::new(alloc, "marm")
         .subcommand_required(true)
         .subcommand(run)
+}
+
+/// `--board FILE`.
+fn board<'a>(alloc: Global) -> Arg<'a> {
+    Arg::new(alloc, "board")
+        .long("board")
+        .required(true)
+        .action(ArgAction::Set)
 }
 
 /// `--steps N`, from 0 to 4294967296.

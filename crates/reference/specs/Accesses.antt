@@ -77,7 +77,7 @@ lifted b r = record { bus = record b { memory = r.memory }; answer = r.answer }
 -- what the bus makes of a request that a rule granted
 unfoldable pub carried_out : Bus → Request → Answered
 carried_out b q =
-    if is_in_ppb q.address then system_access b q else lifted b (space_access b.memory b.clock.ticks q)
+    if is_in_ppb q.address then system_access b q else lifted b (space_access b.memory b.time.ticks q)
 
 -- ---- one access
 

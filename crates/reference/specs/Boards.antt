@@ -1,6 +1,7 @@
 -- What a board is (profile): its numbers, each with its range, and the script of what happens on its lines. What the
 -- text of a board means stands in the crate `board`, over the `toml` crate's meaning of a document.
 use Rattle.std.specs.Prelude.{ℕ, ◌+◌, ◌%◌, ◌^◌, ◌<◌, ◌≤◌, Bool, ◌&&◌, nat_le, ◌==◌, List, [], ◌∷◌}
+use Rattle.reference.specs.declared.board.Layout.{Layout}
 use Rattle.reference.specs.declared.script.ScriptedEvent.{ScriptedEvent}
 use Rattle.reference.specs.declared.script.Signal.{Signal}
 use Rattle.reference.specs.declared.script.Signal.TheVariants.{Rise, Fall, Pulse, Nmi}
@@ -17,6 +18,16 @@ pub record Numbers : Type 0 where
 pub record Described : Type 0 where
   pub numbers : Numbers
   pub script : List ScriptedEvent
+
+-- the numbers of a layout
+abbrev pub numbers_of : Layout → Numbers
+numbers_of layout = record {
+  flash_base = layout.flash_base;
+  flash_size = layout.flash_size;
+  ram_size = layout.ram_size;
+  priority_bits = layout.priority_bits;
+  lines = layout.lines;
+}
 
 -- flash and RAM come in blocks of 1,024 bytes
 abbrev pub block : ℕ

@@ -5,6 +5,7 @@ pub mod Kinds
 pub mod Registers
 pub mod Map
 pub mod Memory
+pub mod Time
 pub mod State
 pub mod Patterns
 pub mod Rows
@@ -36,4 +37,3 @@ pub mod Boards
 pub mod Start
 pub mod Places
 pub mod Priorities
-pub mod Time

@@ -1,17 +1,19 @@
 -- The state in which a machine starts (ARM DDI 0403, TakeReset()). What flash and RAM hold where no segment goes, and the
 -- registers that TakeReset() leaves UNKNOWN, are the profile's.
 use Rattle.std.specs.Prelude.{ℕ, ◌+◌, ◌*◌, Bool, true, ◌&&◌, ◌||◌, if◌then◌else◌, List, [], ◌∷◌, length, replicate, None, Result, Ok, Err, unwrap_or}
-use Rattle.reference.specs.declared.board.Layout.{Layout}
 use Rattle.reference.specs.declared.fault.StartFault.{StartFault}
 use Rattle.reference.specs.declared.fault.StartFault.TheVariants.{SegmentOutsideMemory}
+use Rattle.reference.specs.declared.script.ScriptedEvent.{ScriptedEvent}
+use Rattle.reference.specs.Boards.{Described, Numbers}
 use Rattle.reference.specs.Images.{Segment}
 use Rattle.reference.specs.Memory.{Memory, is_in_flash, is_in_ram, overwritten, number_at}
 use Rattle.reference.specs.Regions.{fresh}
 use Rattle.reference.specs.Registers.{reset_registers}
 use Rattle.reference.specs.State.{State}
+use Rattle.reference.specs.Time.{start_time}
 
 -- flash is 0xFF and RAM is 0 where nothing was loaded
-abbrev pub blank : Layout → Memory
+abbrev pub blank : Numbers → Memory
 blank board = record {
   flash_base = board.flash_base;
   flash = replicate board.flash_size 0xFF;
@@ -40,14 +42,16 @@ abbrev pub region_count : ℕ
 region_count = 8
 
 -- the first entry is the main stack pointer, the second is where the first instruction stands
-abbrev pub reset : Memory → State
-reset m = record {
+abbrev pub reset : Memory → List ScriptedEvent → State
+reset m script = record {
   registers = reset_registers (vector m 0) (vector m 1);
-  bus = record { memory = m; mpu = fresh region_count; clock = record { ticks = 0 } };
+  bus = record { memory = m; mpu = fresh region_count; time = start_time script };
   stop = None;
 }
 
 -- the state before the first step, or the refusal of the image
-unfoldable pub start : Layout → List Segment → Result State StartFault
+unfoldable pub start : Described → List Segment → Result State StartFault
 start board image =
-    if are_placed (blank board) image then Ok (reset (loaded (blank board) image)) else Err SegmentOutsideMemory
+    if are_placed (blank board.numbers) image
+    then Ok (reset (loaded (blank board.numbers) image) board.script)
+    else Err SegmentOutsideMemory

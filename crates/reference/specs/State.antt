@@ -1,25 +1,18 @@
 -- The state of the machine: a record of chapters, each of which has its own file or crate. Nothing that can be worked
 -- out from it stands in it.
-use Rattle.std.specs.Prelude.{ℕ, ◌+◌, ◌^◌, List, Option, Some}
+use Rattle.std.specs.Prelude.{List, Option, Some}
 use Rattle.reference.specs.declared.event.Event.{Event}
 use Rattle.reference.specs.declared.stop.Stop.{Stop}
 use Rattle.reference.specs.Memory.{Memory}
 use Rattle.reference.specs.Regions.{Mpu}
 use Rattle.reference.specs.Registers.{Registers}
-
--- time: how many ticks have gone by
-pub record Clock : Type 0 where
-  pub ticks : ℕ
-
--- the number of ticks at which the clock ends (profile)
-abbrev pub clock_end : ℕ
-clock_end = 2 ^ 48
+use Rattle.reference.specs.Time.{Time, after_tick}
 
 -- what an access can see and change
 pub record Bus : Type 0 where
   pub memory : Memory
   pub mpu : Mpu
-  pub clock : Clock
+  pub time : Time
 
 pub record State : Type 0 where
   pub registers : Registers
@@ -32,9 +25,9 @@ pub record Stepped : Type 0 where
   pub state : State
   pub events : List Event
 
--- the clock goes on by one tick
+-- time goes on by one tick
 abbrev pub ticked : State → State
-ticked s = record s { bus = record s.bus { clock = record s.bus.clock { ticks = s.bus.clock.ticks + 1 } } }
+ticked s = record s { bus = record s.bus { time = after_tick s.bus.time } }
 
 abbrev pub with_bus : State → Bus → State
 with_bus s b = record s { bus = b }

@@ -164,6 +164,10 @@ abbrev pub script_due : List ScriptedEvent → ℕ
 script_due [] = never
 script_due (e ∷ events) = e.at
 
+-- whether an event of the script applies in the next tick
+abbrev pub event_applies_next : Time → Bool
+event_applies_next t = nat_le (script_due t.script) (t.ticks + 1)
+
 -- the first of both, where the script goes on at a given tick
 abbrev pub next_due : ℕ → SysTick → ℕ → ℕ
 next_due ticks t event = min never (min (timer_due ticks t) event)

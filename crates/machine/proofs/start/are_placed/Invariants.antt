@@ -1,9 +1,10 @@
 use Rattle.std.proofs.Common.{◌≡◌, map, drop}
 use Rattle.elf.specs.Segment.{segment_of}
+use Rattle.reference.specs.Boards.{numbers_of}
 use Rattle.reference.specs.Start.{are_placed, blank}
 use Rattle.machine.proofs.start.are_placed.Given as goal
 
 -- the segments behind the index decide
 abbrev pub invariant-segments : goal.invariant-segments
 invariant-segments l =
-    are_placed (blank l.board) (map segment_of (drop l.segment-index l.segments)) ≡ are_placed (blank l.board) (map segment_of l.segments)
+    are_placed (blank (numbers_of l.board)) (map segment_of (drop l.segment-index l.segments)) ≡ are_placed (blank (numbers_of l.board)) (map segment_of l.segments)

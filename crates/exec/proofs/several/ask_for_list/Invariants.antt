@@ -1,7 +1,7 @@
 use Rattle.std.proofs.Common.{◌≡◌, ◌≤◌, ◌++◌, length}
 use Rattle.reference.specs.Several.{registers_of, word_requests}
 use Rattle.exec.proofs.Lists.{registers_between}
-use Rattle.exec.proofs.several.list_requests.Given as goal
+use Rattle.exec.proofs.several.ask_for_list.Given as goal
 
 -- the accesses of the registers from the number on are still to come
 abbrev pub invariant-registers : goal.invariant-registers

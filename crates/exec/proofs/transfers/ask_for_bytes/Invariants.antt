@@ -1,6 +1,6 @@
 use Rattle.std.proofs.Common.{◌≡◌, ◌++◌, drop, length}
 use Rattle.reference.specs.Transfers.{byte_requests}
-use Rattle.exec.proofs.transfers.byte_requests.Given as goal
+use Rattle.exec.proofs.transfers.ask_for_bytes.Given as goal
 
 -- the accesses of the bytes behind the index are still to come
 abbrev pub invariant-bytes : goal.invariant-bytes

@@ -1,7 +1,7 @@
 use Rattle.std.proofs.Common.{◌≡◌, arith}
 use Rattle.reference.specs.Several.{registers_of, word_requests}
 use Rattle.exec.proofs.Lists.{last_request}
-use Rattle.exec.proofs.several.list_requests.Goals as goal
+use Rattle.exec.proofs.several.ask_for_list.Goals as goal
 
 pub returns : goal.returns
 returns c =
