@@ -5,11 +5,11 @@ ghost use Rattle.std.specs.Prelude.{◌≡◌, ◌≤◌, ◌<◌, ◌+◌, ◌-
 ghost use Rattle.exec.specs.Plans.{planned};
 ghost use Rattle.reference.specs.Fields.{extended, width_of};
 ghost use Rattle.reference.specs.LongSeveral.{writes_back};
-ghost use Rattle.reference.specs.Map.{is_device};
 ghost use Rattle.reference.specs.Transfers.{offset_address, immediate_address, with_base, register_address, literal_address, transfer, byte_requests, unaligned, meets_device, is_made_privileged, load, joined, loaded_value};
 
 use crate::planning::Requests;
 use reference::access::{Kind, Request, Size};
+use reference::map::is_device;
 use reference::operands::{ImmediateAddress, Indexing, LoadForm, RegisterAddress};
 use reference::registers::Register;
 use reference::stop::{LeftOut, Stop, UnpredictableCase};
@@ -176,14 +176,6 @@ fn meets_device(requests: &[Request]) -> bool
         }
     }
     false
-}
-
-/// Whether an access has an effect of its own there: in the device window and in the Private
-/// Peripheral Bus.
-fn is_device(address: u32) -> bool
-    ensures { result ≡ is_device address }
-{
-    address >> 12 == 0x4_0000 || address >> 20 == 0xE00
 }
 
 // ---- values
