@@ -16,10 +16,9 @@
 ghost use Rattle.std.specs.Prelude.{◌<◌};
 
 use super::memory::Memory;
-use crate::special::flags_of;
 use arrayvec::ArrayVec;
 use reference::registers::Register;
-use regs::Regs;
+use regs::{Regs, flags_of};
 
 /// What is to be there afterwards.
 #[derive(Drop)]
