@@ -116,12 +116,10 @@ wants i r =
 
 -- ---- what an instruction leaves
 
--- the registers, by an instruction that computes
+-- the registers, by an instruction that computes and can't write the PC
 unfoldable pub processed : Instruction → Registers → Registers
 processed (DataImmediate o) r = data_immediate o r
-processed (DataRegister o) r = data_register o r
 processed (MoveImmediate o) r = move_immediate o r
-processed (MoveRegister o) r = move_register o r
 processed (MoveTop o) r = move_top o r
 processed (CompareImmediate o) r = compare_immediate o r
 processed (CompareRegister o) r = compare_register o r
