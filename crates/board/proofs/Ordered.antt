@@ -7,7 +7,8 @@ use Rattle.reference.specs.declared.fault.BoardFault.TheVariants.{OutOfRange, Ev
 use Rattle.reference.specs.declared.script.ScriptedEvent.{ScriptedEvent}
 use Rattle.reference.specs.declared.script.Signal.{Signal}
 use Rattle.reference.specs.declared.script.Signal.TheVariants.{Rise, Fall, Pulse, Nmi}
-use Rattle.reference.specs.Boards.{IsOfBoard, IsScriptFrom, is_tick, last_tick}
+use Rattle.reference.specs.Boards.{IsOfBoard, IsScriptFrom, is_tick}
+use Rattle.reference.specs.Time.{last_tick}
 use Rattle.board.specs.Texts.{◌>>=◌, change, event_in, in_front, line_keys, line_signal, nmi, nmi_keys, nmi_signal, number, of_kind, only, script_in, signal_in, timely_event, where_ok, word}
 
 -- both steps were taken

@@ -9,15 +9,13 @@ ghost use Rattle.board.specs.Texts.{numbers_in};
 use crate::values::{find, number};
 use reference::board::Layout;
 use reference::fault::BoardFault;
+use reference::map::RAM_BASE;
 use toml::Table;
 
 // Flash and RAM come in blocks of this many bytes, and have a mebibyte at most.
 const BLOCK: u64 = 1024;
 
 const MOST_BYTES: u64 = 0x10_0000;
-
-// Where RAM begins.
-const RAM_BEGIN: u64 = 0x2000_0000;
 
 const MOST_LINES: u64 = 32;
 
@@ -74,5 +72,5 @@ fn is_flash(base: u64, bytes: u64) -> bool
     requires { base < 2 ^ 63 }
     ensures { result ≡ is_flash base bytes }
 {
-    is_size(bytes) && base + bytes <= RAM_BEGIN
+    is_size(bytes) && base + bytes <= u64::from(RAM_BASE)
 }

@@ -2,9 +2,12 @@
 
 ghost use Rattle.std.specs.Prelude.{◌≡◌, ◌==◌, ◌||◌, ◌&&◌, ◌<◌, ℕ};
 ghost use Rattle.std.specs.List.{list_any};
-ghost use Rattle.reference.specs.Time.{is_due, pends, line_exception, systick_exception, reaches_zero};
+ghost use Rattle.reference.specs.declared.exception.TheConstants.{SYS_TICK};
+ghost use Rattle.reference.specs.Priorities.{is_due};
+ghost use Rattle.reference.specs.Time.{pends, line_exception, reaches_zero};
 
 use crate::timer::SysTick;
+use reference::exception::{FIRST_LINE, NMI, SYS_TICK};
 use reference::script::{InterruptLine, ScriptedEvent, Signal};
 
 /// A set of exceptions: bit n mod 32 of word n / 32 says whether exception n is in it.
@@ -12,15 +15,6 @@ pub type Due = [u32; 8];
 
 /// The empty set.
 pub const NOTHING: Due = [0; 8];
-
-/// The number of the exception NMI.
-const NMI: u8 = 2;
-
-/// The number of SysTick's exception.
-const SYSTICK: u8 = 15;
-
-/// The number of line 0's exception.
-const FIRST_LINE: u8 = 16;
 
 /// Puts an exception into a set.
 #[inline]
@@ -40,14 +34,14 @@ fn put_signal(due: &mut Due, signal: Signal)
     match signal {
         Signal::Rise(line) | Signal::Pulse(line) => put(due, exception_of(line)),
         Signal::Fall(_) => {}
-        Signal::Nmi => put(due, NMI),
+        Signal::Nmi => put(due, NMI as u8),
     }
 }
 
 fn exception_of(line: InterruptLine) -> u8
     ensures { result ≡ line_exception line }
 {
-    FIRST_LINE + line.number()
+    FIRST_LINE as u8 + line.number()
 }
 
 /// Puts the exceptions that events pend into a set.
@@ -62,9 +56,9 @@ pub fn put_events(due: &mut Due, events: &[ScriptedEvent])
 /// Puts SysTick's exception into a set, where its next count pends it.
 #[inline]
 pub fn put_timer(due: &mut Due, timer: &SysTick)
-    ensures { (n : ℕ) → n < 256 → is_due due.new n ≡ ((reaches_zero timer.now && timer.now.tickint && (n == systick_exception)) || is_due due.old n) }
+    ensures { (n : ℕ) → n < 256 → is_due due.new n ≡ ((reaches_zero timer.now && timer.now.tickint && (n == SYS_TICK)) || is_due due.old n) }
 {
     if timer.will_pend() {
-        put(due, SYSTICK);
+        put(due, SYS_TICK as u8);
     }
 }

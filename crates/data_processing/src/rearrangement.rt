@@ -12,7 +12,7 @@ use regs::{Regs, shift_c};
 
 /// How many bits it has.
 #[inline]
-fn width_of(size: Size) -> u8
+pub fn width_of(size: Size) -> u8
     ensures { result ≡ width_of size }
 {
     match size {

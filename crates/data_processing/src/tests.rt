@@ -4,12 +4,10 @@ use edges::{
     TWO_OPERANDS,
 };
 use lines::is_told;
-use machines::CASES;
 use std::test::*;
 
 mod edges;
 mod lines;
-mod machines;
 
 #[test]
 fn edges_of_each_family(rt: HostRuntime) {
@@ -28,12 +26,5 @@ fn edges_of_each_family(rt: HostRuntime) {
         for line in table.lines() {
             assert!(rt; is_told(line), "should be that: {line}");
         }
-    }
-}
-
-#[test]
-fn cases_of_other_machines(rt: HostRuntime) {
-    for line in CASES.lines() {
-        assert!(rt; is_told(line), "should be that: {line}");
     }
 }

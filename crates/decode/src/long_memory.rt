@@ -3,7 +3,6 @@
 ghost use Rattle.std.specs.Prelude.{◌≡◌, ◌≢◌, ◌==◌, ◌<◌, ◌+◌, ◌*◌, ◌^◌, ◌&&◌, ◌||◌};
 ghost use Rattle.decode.specs.NumberForms.{number_form};
 ghost use Rattle.reference.specs.Decoding.{long_meaning};
-ghost use Rattle.reference.specs.Kinds.{is_word};
 ghost use Rattle.reference.specs.LongMemory.{size_of, narrow_form, word_form, place_of_load, is_refused_load, is_refused_store, load_literal, load_at, load_unprivileged, load_indexed, store_at, store_unprivileged, store_indexed, memory_hint, memory_hint_indexed};
 ghost use Rattle.reference.specs.Words.{bits};
 
@@ -228,12 +227,6 @@ fn size_of(bits: u32) -> Size
     }
 }
 
-fn is_word(size: Size) -> bool
-    ensures { result ≡ is_word size }
-{
-    matches!(size, Size::Word)
-}
-
 /// How a byte or a halfword is loaded.
 fn narrow_form(signed: u32, half: u32) -> LoadForm
     ensures { result ≡ narrow_form signed half }
@@ -258,21 +251,21 @@ fn word_form() -> LoadForm
 fn place_of_load(size: Size, t: Register) -> BlockPlace
     ensures { result ≡ place_of_load size t }
 {
-    last_only_if(is_word(size) && t.number() == 15)
+    last_only_if(size.is_word() && t.number() == 15)
 }
 
 /// Whether a load refuses its target: a byte or a halfword goes neither to SP nor to PC.
 fn is_refused_load(size: Size, t: Register) -> bool
     ensures { result ≡ is_refused_load size t }
 {
-    !is_word(size) && is_bad(t)
+    !size.is_word() && is_bad(t)
 }
 
 /// Whether a store refuses its target: PC always, and SP but as a word.
 fn is_refused_store(size: Size, t: Register) -> bool
     ensures { result ≡ is_refused_store size t }
 {
-    t.number() == 15 || t.number() == 13 && !is_word(size)
+    t.number() == 15 || t.number() == 13 && !size.is_word()
 }
 
 /// A load at the PC and an offset.

@@ -4,8 +4,8 @@ ghost use Rattle.std.specs.Prelude.{◌≡◌, [], ◌∷◌};
 ghost use Rattle.exec.specs.Plans.{finished_as};
 ghost use Rattle.reference.specs.Branches.{moves_on, proceeds, loads_into};
 ghost use Rattle.reference.specs.DataProcessing.{data_register, move_register};
-ghost use Rattle.reference.specs.Operations.{result_of, effect, flags_of, program_status};
-ghost use Rattle.reference.specs.Registers.{register, with_register};
+ghost use Rattle.reference.specs.Operations.{result_of, effect, program_status};
+ghost use Rattle.reference.specs.Registers.{register, with_register, flags_of};
 ghost use Rattle.reference.specs.Several.{loaded, with_moved_base};
 ghost use Rattle.reference.specs.Transfers.{with_base, loaded_value};
 
@@ -16,7 +16,7 @@ use crate::branches::{
 use crate::planning::is_carried_out;
 use crate::processing::process;
 use crate::several::{load_dual, load_multiple, move_base};
-use crate::special::{flags_of, program_status};
+use crate::special::program_status;
 use crate::transfers::{joined, loaded_value, write_base};
 use data_processing::{data_register, move_register};
 use reference::instruction::{CodedInstruction, Ending, Instruction};
@@ -25,7 +25,7 @@ use reference::operands::{
     MoveFromSpecial, MoveRegister, MoveToSpecial, StoreMultiple,
 };
 use reference::registers::Register;
-use regs::Regs;
+use regs::{Regs, flags_of};
 
 /// What an instruction makes of the registers and of the values that it read, in the order of its
 /// accesses. Where its condition fails it moves on.

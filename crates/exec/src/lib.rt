@@ -8,8 +8,6 @@ mod planning;
 mod processing;
 mod several;
 mod special;
-#[cfg(test)]
-mod tests;
 mod transfers;
 
 pub use branches::move_on;

@@ -1,10 +1,9 @@
 //! Special registers (ARM DDI 0403, the operation of MSR and MRS): APSR, alone or with others.
 
 ghost use Rattle.std.specs.Prelude.{◌≡◌};
-ghost use Rattle.reference.specs.Operations.{is_program_status, shows_exception, flags_of, program_status};
+ghost use Rattle.reference.specs.Operations.{is_program_status, shows_exception, program_status};
 
 use reference::operands::SpecialRegister;
-use reference::registers::Flags;
 use regs::Regs;
 
 /// Whether a special register is APSR, alone or with others that MSR doesn't write.
@@ -27,20 +26,6 @@ fn shows_exception(special: SpecialRegister) -> bool
     ensures { result ≡ shows_exception special }
 {
     matches!(special, SpecialRegister::Iapsr | SpecialRegister::Xpsr)
-}
-
-/// The flags in bits 31:27 of a word.
-#[inline]
-pub fn flags_of(value: u32) -> Flags
-    ensures { result ≡ flags_of value }
-{
-    Flags {
-        negative: value >> 31 & 1 == 1,
-        zero: value >> 30 & 1 == 1,
-        carry: value >> 29 & 1 == 1,
-        overflow: value >> 28 & 1 == 1,
-        saturated: value >> 27 & 1 == 1,
-    }
 }
 
 /// What MRS reads: the flags, and the exception's number where IPSR is a part.

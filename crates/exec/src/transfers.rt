@@ -1,15 +1,15 @@
 //! Loads and stores of one number (ARM DDI 0403, MemU[]): the address, the accesses, and what is
 //! made of the values read.
 
-ghost use Rattle.std.specs.Prelude.{◌≡◌, ◌≤◌, ◌<◌, ◌+◌, ◌-◌, ◌*◌, ◌^◌, ◌&&◌, nat_le, if◌then◌else◌, [], length};
+ghost use Rattle.std.specs.Prelude.{◌≡◌, ◌≤◌, [], length};
 ghost use Rattle.exec.specs.Plans.{planned};
-ghost use Rattle.reference.specs.Fields.{extended, width_of};
 ghost use Rattle.reference.specs.LongSeveral.{writes_back};
-ghost use Rattle.reference.specs.Map.{is_device};
 ghost use Rattle.reference.specs.Transfers.{offset_address, immediate_address, with_base, register_address, literal_address, transfer, byte_requests, unaligned, meets_device, is_made_privileged, load, joined, loaded_value};
 
 use crate::planning::Requests;
+use data_processing::{extended, width_of};
 use reference::access::{Kind, Request, Size};
+use reference::map::is_device;
 use reference::operands::{ImmediateAddress, Indexing, LoadForm, RegisterAddress};
 use reference::registers::Register;
 use reference::stop::{LeftOut, Stop, UnpredictableCase};
@@ -181,14 +181,6 @@ fn meets_device(requests: &[Request]) -> bool
     false
 }
 
-/// Whether an access has an effect of its own there: in the device window and in the Private
-/// Peripheral Bus.
-fn is_device(address: u32) -> bool
-    ensures { result ≡ is_device address }
-{
-    address >> 12 == 0x4_0000 || address >> 20 == 0xE00
-}
-
 // ---- values
 
 /// The number that the values read make: one value, or bytes of which the lowest stands first.
@@ -209,31 +201,5 @@ pub fn joined(values: &[u32]) -> u32
 pub fn loaded_value(form: LoadForm, values: &[u32]) -> u32
     ensures { result ≡ loaded_value form values.now }
 {
-    extended(form, joined(values))
-}
-
-/// The low bits of a number, extended with their sign or with zeros.
-#[inline]
-fn extended(form: LoadForm, value: u32) -> u32
-    ensures { result ≡ extended form.signed (width_of form.size) value }
-{
-    match form.size {
-        Size::Byte => with_sign(form.signed, value & 0xFF, 0x80),
-        Size::Halfword => with_sign(form.signed, value & 0xFFFF, 0x8000),
-        Size::Word => value,
-    }
-}
-
-/// A number whose highest bit has this weight: where it is signed and the bit is set, so are all
-/// bits above it.
-#[inline]
-fn with_sign(signed: bool, value: u32, sign: u32) -> u32
-    requires within { value < 2 * sign }
-    requires fits { sign < 2 ^ 31 }
-    ensures { result ≡ (if signed && nat_le sign value then value + (2 ^ 32 - 2 * sign) else value) }
-{
-    if signed && value >= sign {
-        return value + (u32::MAX - 2 * sign + 1);
-    }
-    value
+    extended(form.signed, width_of(form.size), joined(values))
 }

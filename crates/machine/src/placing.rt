@@ -10,6 +10,7 @@ use crate::stepping::{Core, UNBUILT};
 use access::{Decider, DueTicks};
 use reference::access::{Answer, Kind, Request, Size};
 use reference::fault::PlaceFault;
+use reference::map::is_in_ppb;
 use reference::place::Place;
 use reference::registers::Register;
 
@@ -107,13 +108,6 @@ fn is_special(number: u8) -> bool
     ensures { result ≡ is_special number }
 {
     matches!(number, 0..=3 | 5..=9 | 16..=20)
-}
-
-/// Whether an address lies in the Private Peripheral Bus.
-fn is_in_ppb(address: u32) -> bool
-    ensures { result ≡ is_in_ppb address }
-{
-    address >> 20 == 0xE00
 }
 
 /// A store of a word by privileged code.

@@ -14,8 +14,9 @@ use board::Board;
 use elf::{Image, Segment};
 use reference::board::Layout;
 use reference::fault::StartFault;
+use reference::map::RAM_BASE;
 use regs::Regs;
-use space::{RAM_BASE, Space, is_within};
+use space::{Space, is_within};
 use std::alloc::Global;
 
 /// The core of a board, with an image in its memory, before the first step. The segments are looked

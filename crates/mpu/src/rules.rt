@@ -3,13 +3,13 @@
 
 ghost use Rattle.std.specs.Prelude.{◌≡◌};
 ghost use Rattle.reference.specs.declared.access.Rule.TheVariants.{Region};
-ghost use Rattle.reference.specs.Map.{is_in_ppb};
 ghost use Rattle.reference.specs.Regions.{permission, never_executes};
 ghost use Rattle.reference.specs.Rules.{default_map, is_executable, is_off_below_zero, before_regions, may_read, may_write, granted_by, behind_regions};
 
 use crate::regions::{is_bit, permission};
 use crate::registers::{ENABLE, HFNMIENA, PRIVDEFENA};
 use reference::access::{Decision, Kind, Rule};
+use reference::map::is_in_ppb;
 
 /// Where the system address space begins, in which no code stands.
 const SYSTEM_BASE: u32 = 0xE000_0000;
@@ -38,14 +38,6 @@ pub fn before_regions(control: u32, address: u32, kind: Kind, below_zero: bool) 
         return None;
     };
     Some(Decision { rule, granted })
-}
-
-/// Whether an address stands in the Private Peripheral Bus.
-#[inline]
-fn is_in_ppb(address: u32) -> bool
-    ensures { result ≡ is_in_ppb address }
-{
-    address >> 20 == 0xE00
 }
 
 /// Whether the MPU is off for code whose execution priority is below 0.

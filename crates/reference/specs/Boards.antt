@@ -1,10 +1,12 @@
 -- What a board is (profile): its numbers, each with its range, and the script of what happens on its lines. What the
 -- text of a board means stands in the crate `board`, over the `toml` crate's meaning of a document.
-use Rattle.std.specs.Prelude.{ℕ, ◌+◌, ◌%◌, ◌^◌, ◌<◌, ◌≤◌, Bool, ◌&&◌, nat_le, ◌==◌, List, [], ◌∷◌}
+use Rattle.std.specs.Prelude.{ℕ, ◌+◌, ◌%◌, ◌<◌, ◌≤◌, Bool, ◌&&◌, nat_le, ◌==◌, List, [], ◌∷◌}
 use Rattle.reference.specs.declared.board.Layout.{Layout}
 use Rattle.reference.specs.declared.script.ScriptedEvent.{ScriptedEvent}
 use Rattle.reference.specs.declared.script.Signal.{Signal}
 use Rattle.reference.specs.declared.script.Signal.TheVariants.{Rise, Fall, Pulse, Nmi}
+use Rattle.reference.specs.Map.{ram_base}
+use Rattle.reference.specs.Time.{last_tick}
 
 -- the numbers of a board
 pub record Numbers : Type 0 where
@@ -37,22 +39,15 @@ block = 1024
 abbrev pub most_bytes : ℕ
 most_bytes = 0x10_0000
 
--- RAM begins here
-abbrev pub ram_begin : ℕ
-ram_begin = 0x2000_0000
-
 abbrev pub most_lines : ℕ
 most_lines = 32
 
 abbrev pub most_events : ℕ
 most_events = 65536
 
--- the tick of the first event, and the last tick of the clock
+-- the tick of the first event
 abbrev pub first_tick : ℕ
 first_tick = 1
-
-abbrev pub last_tick : ℕ
-last_tick = 2 ^ 48
 
 -- a number of whole blocks
 abbrev pub is_whole : ℕ → Bool
@@ -64,7 +59,7 @@ is_size bytes = (is_whole bytes && nat_le block bytes) && nat_le bytes most_byte
 
 -- flash of a size at a base, which ends where RAM begins, or before
 abbrev pub is_flash : ℕ → ℕ → Bool
-is_flash base bytes = is_size bytes && nat_le (base + bytes) ram_begin
+is_flash base bytes = is_size bytes && nat_le (base + bytes) ram_base
 
 -- how many bits of a priority are kept
 abbrev pub is_priority_bits : ℕ → Bool

@@ -10,8 +10,8 @@ use Rattle.reference.specs.declared.operands.IfThen.{IfThen}
 use Rattle.reference.specs.declared.operands.TableBranch.{TableBranch}
 use Rattle.reference.specs.Arithmetic.{condition_holds, it_advance}
 use Rattle.reference.specs.Kinds.{bytes_in}
-use Rattle.reference.specs.Registers.{Registers, register, with_register, with_pc, is_handler}
-use Rattle.reference.specs.Words.{word_sum, is_bit}
+use Rattle.reference.specs.Registers.{Registers, register, with_register, with_pc, with_exchange, is_handler}
+use Rattle.reference.specs.Words.{word_sum}
 
 -- ---- the end of an instruction
 
@@ -41,10 +41,6 @@ proceeds length d r = if d == 15 then branches r else moves_on length r
 -- a branch by an offset to PC: BranchWritePC(PC + imm32)
 abbrev pub branches_by : ℕ → Registers → Finished
 branches_by offset r = branches (with_pc r (word_sum (register r 15) offset))
-
--- the PC and T of an address: BLXWritePC(v), where bit 0 is T
-abbrev pub with_exchange : Registers → ℕ → Registers
-with_exchange r v = record (with_pc r v) { thumb = is_bit v 0 }
 
 -- in Handler mode a value whose bits 31:28 are all ones returns from the exception
 abbrev pub is_exception_return : ℕ → Registers → Bool

@@ -1,6 +1,6 @@
 -- What an instruction asks for, and what it makes of the answers (ARM DDI 0403, "Alphabetical list of ARMv7-M Thumb
 -- instructions", the operation of each).
-use Rattle.std.specs.Prelude.{ℕ, ◌+◌, ◌^◌, Bool, true, false, not, ◌&&◌, if◌then◌else◌, List, [], ◌∷◌, Result, Ok, Err}
+use Rattle.std.specs.Prelude.{ℕ, ◌+◌, Bool, true, false, not, ◌&&◌, if◌then◌else◌, List, [], ◌∷◌, Result, Ok, Err}
 use Rattle.reference.specs.declared.access.Kind.TheVariants.{Load, Store}
 use Rattle.reference.specs.declared.access.Request.{Request}
 use Rattle.reference.specs.declared.instruction.BlockPlace.{BlockPlace}
@@ -13,7 +13,6 @@ use Rattle.reference.specs.declared.instruction.Instruction.{Instruction}
 use Rattle.reference.specs.declared.instruction.Instruction.TheVariants.{DataImmediate, DataRegister, MoveImmediate, MoveRegister, MoveTop, CompareImmediate, CompareRegister, ShiftByRegister, Address, Multiply, MultiplyAccumulate, MultiplyLong, Divide, Saturate, ExtractField, InsertField, ClearField, Extend, Rearrange, LoadImmediate, LoadRegister, LoadLiteral, StoreImmediate, StoreRegister, LoadDual, LoadDualLiteral, StoreDual, LoadMultiple, StoreMultiple, LoadExclusive, StoreExclusive, ClearExclusive, Branch, ConditionalBranch, BranchWithLink, BranchExchange, CompareAndBranch, TableBranch, IfThen, ChangeProcessorState, MoveToSpecial, MoveFromSpecial, Hint, SupervisorCall, Breakpoint}
 use Rattle.reference.specs.declared.operands.SpecialRegister.{SpecialRegister}
 use Rattle.reference.specs.declared.operands.SpecialRegister.TheVariants.{Apsr, Iapsr, Eapsr, Xpsr}
-use Rattle.reference.specs.declared.registers.Flags.{Flags}
 use Rattle.reference.specs.declared.stop.LeftOut.TheVariants.{Unbuilt, Exclusive}
 use Rattle.reference.specs.declared.stop.Stop.{Stop}
 use Rattle.reference.specs.declared.stop.Stop.TheVariants.{OutOfProfile, Unpredictable}
@@ -24,10 +23,9 @@ use Rattle.reference.specs.Branches.{branches_by, proceeds, loads_into, conditio
 use Rattle.reference.specs.DataProcessing.{data_immediate, data_register, compare_immediate, compare_register, move_immediate, move_register, move_top, shift_by_register, address}
 use Rattle.reference.specs.Fields.{saturate, extract_field, insert_field, clear_field, extend, rearrange}
 use Rattle.reference.specs.Products.{multiply, multiply_accumulate, multiply_long, divide}
-use Rattle.reference.specs.Registers.{Registers, register, with_register, weighed, is_privileged}
+use Rattle.reference.specs.Registers.{Registers, register, with_register, apsr, flags_of, is_privileged}
 use Rattle.reference.specs.Several.{registers_of, lowest_address, with_moved_base, several, load_dual_literal, loaded, load_multiple}
 use Rattle.reference.specs.Transfers.{immediate_address, with_base, register_address, literal_address, transfer, is_made_privileged, load, joined, loaded_value}
-use Rattle.reference.specs.Words.{is_bit}
 
 -- ---- where an instruction stands
 
@@ -57,22 +55,6 @@ abbrev pub shows_exception : SpecialRegister → Bool
 shows_exception Iapsr = true
 shows_exception Xpsr = true
 shows_exception _ = false
-
--- APSR: N, Z, C, V and Q in bits 31:27
-abbrev pub apsr : Flags → ℕ
-apsr f =
-    weighed f.negative (2 ^ 31) + weighed f.zero (2 ^ 30) + weighed f.carry (2 ^ 29) + weighed f.overflow (2 ^ 28)
-    + weighed f.saturated (2 ^ 27)
-
--- the flags in bits 31:27 of a word
-abbrev pub flags_of : ℕ → Flags
-flags_of v = record {
-  negative = is_bit v 31;
-  zero = is_bit v 30;
-  carry = is_bit v 29;
-  overflow = is_bit v 28;
-  saturated = is_bit v 27;
-}
 
 -- what MRS reads: the flags, and the exception's number where IPSR is a part; EPSR reads 0
 abbrev pub program_status : SpecialRegister → Registers → ℕ
@@ -134,12 +116,10 @@ wants i r =
 
 -- ---- what an instruction leaves
 
--- the registers, by an instruction that computes
+-- the registers, by an instruction that computes and can't write the PC
 unfoldable pub processed : Instruction → Registers → Registers
 processed (DataImmediate o) r = data_immediate o r
-processed (DataRegister o) r = data_register o r
 processed (MoveImmediate o) r = move_immediate o r
-processed (MoveRegister o) r = move_register o r
 processed (MoveTop o) r = move_top o r
 processed (CompareImmediate o) r = compare_immediate o r
 processed (CompareRegister o) r = compare_register o r

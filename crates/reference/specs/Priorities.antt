@@ -208,7 +208,7 @@ with_faultmask n on = record n { masks = record n.masks { faultmask = on } }
 abbrev pub with_basepri : Nvic → ℕ → Nvic
 with_basepri n b = record n { masks = record n.masks { basepri = kept n.priority_bits b } }
 
--- whether a set of bits has x: bit x mod 32 of word x / 32
+-- whether a set of exceptions as eight words has x: bit x mod 32 of word x / 32
 abbrev pub is_due : List ℕ → ℕ → Bool
 is_due due x = is_bit (slice_index due (x / 32)) (x % 32)
 

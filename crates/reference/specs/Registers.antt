@@ -55,6 +55,10 @@ with_sp r v = if uses_psp r then record r { psp = v / 4 * 4 } else record r { ms
 abbrev pub with_pc : Registers → ℕ → Registers
 with_pc r v = record r { pc = v / 2 * 2 }
 
+-- BLXWritePC(v): the PC of an address, and T of its bit 0
+abbrev pub with_exchange : Registers → ℕ → Registers
+with_exchange r v = record (with_pc r v) { thumb = is_bit v 0 }
+
 -- R[n] = v, where a write to PC branches
 abbrev pub with_register : Registers → ℕ → ℕ → Registers
 with_register r n v =
@@ -71,12 +75,25 @@ with_result f v = record f { negative = is_bit v 31; zero = v == 0 }
 abbrev pub weighed : Bool → ℕ → ℕ
 weighed b weight = if b then weight else 0
 
--- xPSR: N, Z, C, V, Q, IT[1:0], T, IT[7:2] and the exception's number
+-- APSR: N, Z, C, V and Q in bits 31:27
+abbrev pub apsr : Flags → ℕ
+apsr f =
+    weighed f.negative (2 ^ 31) + weighed f.zero (2 ^ 30) + weighed f.carry (2 ^ 29) + weighed f.overflow (2 ^ 28)
+    + weighed f.saturated (2 ^ 27)
+
+-- the flags in bits 31:27 of a word
+abbrev pub flags_of : ℕ → Flags
+flags_of v = record {
+  negative = is_bit v 31;
+  zero = is_bit v 30;
+  carry = is_bit v 29;
+  overflow = is_bit v 28;
+  saturated = is_bit v 27;
+}
+
+-- xPSR: APSR, IT[1:0], T, IT[7:2] and the exception's number
 abbrev pub xpsr : Registers → ℕ
-xpsr r =
-    weighed r.flags.negative (2 ^ 31) + weighed r.flags.zero (2 ^ 30) + weighed r.flags.carry (2 ^ 29)
-    + weighed r.flags.overflow (2 ^ 28) + weighed r.flags.saturated (2 ^ 27) + r.it % 4 * 2 ^ 25
-    + weighed r.thumb (2 ^ 24) + r.it / 4 * 2 ^ 10 + r.exception
+xpsr r = apsr r.flags + r.it % 4 * 2 ^ 25 + weighed r.thumb (2 ^ 24) + r.it / 4 * 2 ^ 10 + r.exception
 
 -- CONTROL: nPRIV and SPSEL
 abbrev pub control : Registers → ℕ

@@ -1,11 +1,13 @@
 -- Time: the clock, SysTick (ARM DDI 0403, "System timer, SysTick"), the lines of the external interrupts and the script
 -- of events. That each tick is one count of SysTick is this project's choice, and so is all that is said of the clock, of
 -- lines and of scripts (profile).
-use Rattle.std.specs.Prelude.{ℕ, ◌+◌, ◌-◌, ◌/◌, ◌%◌, ◌^◌, ◌<◌, min, Bool, true, false, ◌&&◌, ◌||◌, nat_le, ◌==◌, ◌≡◌, if◌then◌else◌, List, [], ◌∷◌, take, drop, slice_set, slice_index, slice_index_or, replicate}
+use Rattle.std.specs.Prelude.{ℕ, ◌+◌, ◌-◌, ◌%◌, ◌^◌, ◌<◌, min, Bool, true, false, ◌&&◌, ◌||◌, nat_le, ◌==◌, ◌≡◌, if◌then◌else◌, List, [], ◌∷◌, take, drop, slice_set, slice_index_or, replicate}
 use Rattle.std.specs.List.{prefix_len, list_any}
+use Rattle.reference.specs.declared.exception.TheConstants.{NMI, SYS_TICK, FIRST_LINE}
 use Rattle.reference.specs.declared.script.ScriptedEvent.{ScriptedEvent}
 use Rattle.reference.specs.declared.script.Signal.{Signal}
 use Rattle.reference.specs.declared.script.Signal.TheVariants.{Rise, Fall, Pulse, Nmi}
+use Rattle.reference.specs.Priorities.{is_due}
 use Rattle.reference.specs.Registers.{weighed}
 use Rattle.reference.specs.Words.{is_bit}
 
@@ -31,15 +33,9 @@ pub record Time : Type 0 where
 abbrev pub last_tick : ℕ
 last_tick = 2 ^ 48
 
--- the exceptions that time makes pending
-abbrev pub nmi : ℕ
-nmi = 2
-
-abbrev pub systick_exception : ℕ
-systick_exception = 15
-
+-- the exception that a line makes pending
 abbrev pub line_exception : ℕ → ℕ
-line_exception line = 16 + line
+line_exception line = FIRST_LINE + line
 
 -- SysTick, one count
 
@@ -111,7 +107,7 @@ abbrev pub pends : Signal → ℕ → Bool
 pends (Rise line) n = n == line_exception line
 pends (Fall line) n = false
 pends (Pulse line) n = n == line_exception line
-pends Nmi n = n == nmi
+pends Nmi n = n == NMI
 
 -- whether a line is high
 abbrev pub is_high : Time → ℕ → Bool
@@ -131,18 +127,14 @@ after_tick t = record {
 -- the set of exceptions that the next tick makes pending: whether n is one of them
 unfoldable pub tick_pends : Time → ℕ → Bool
 tick_pends t n =
-    (reaches_zero t.systick && t.systick.tickint && (n == systick_exception))
+    (reaches_zero t.systick && t.systick.tickint && (n == SYS_TICK))
     || list_any (λ e. pends e.what n) (events_at (t.ticks + 1) t.script)
 
 -- time at the start
 abbrev pub start_time : List ScriptedEvent → Time
 start_time script = record { ticks = 0; systick = reset_systick; high = replicate 240 false; script = script }
 
--- A set of exceptions as eight words: bit n mod 32 of word n / 32 says whether n is in it.
-abbrev pub is_due : List ℕ → ℕ → Bool
-is_due words n = is_bit (slice_index words (n / 32)) (n % 32)
-
--- the words are those of the set with this test
+-- eight words are those of the set of exceptions with this test
 abbrev pub IsSetOf : List ℕ → (ℕ → Bool) → Type 0
 IsSetOf words test = (n : ℕ) → n < 256 → is_due words n ≡ test n
 

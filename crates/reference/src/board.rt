@@ -1,6 +1,7 @@
 //! What a board brings to the machine, its script aside.
 
 ghost use Rattle.std.specs.Prelude.{◌≡◌, ◌+◌, ◌%◌, ◌≤◌};
+ghost use Rattle.reference.specs.Map.{ram_base};
 
 /// The sizes and numbers that differ from one board to the next (profile).
 #[derive(Clone, Copy)]
@@ -17,7 +18,7 @@ pub struct Layout {
     pub lines: u8,
 
     // Flash ends where RAM begins, or before.
-    pub ghost apart: { flash_base + flash_size ≤ 0x2000_0000 },
+    pub ghost apart: { flash_base + flash_size ≤ ram_base },
     // Flash and RAM have from 1,024 bytes to a mebibyte, in blocks of 1,024.
     pub ghost base_is_whole: { flash_base % 1024 ≡ 0 },
     pub ghost flash_is_whole: { flash_size % 1024 ≡ 0 },

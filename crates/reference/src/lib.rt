@@ -8,6 +8,7 @@ pub mod event;
 pub mod exception;
 pub mod fault;
 pub mod instruction;
+pub mod map;
 pub mod mpu;
 pub mod operands;
 pub mod place;

@@ -3,9 +3,7 @@
 #![tactic(auto)]
 
 ghost use Rattle.std.specs.Prelude.{◌≡◌, ◌<◌, ◌≤◌, ◌-◌, ◌^◌};
-ghost use Rattle.reference.specs.Registers.{register as register_of, with_register, with_pc, with_result, sp as sp_of, is_handler as is_handler_of, is_privileged as is_privileged_of, xpsr as xpsr_of, control as control_of, weighed as weighed_of, uses_psp as uses_psp_of, with_sp, with_control, reset_registers};
-ghost use Rattle.reference.specs.Branches.{with_exchange};
-ghost use Rattle.reference.specs.Operations.{apsr as apsr_of};
+ghost use Rattle.reference.specs.Registers.{register as register_of, with_register, with_pc, with_exchange, sp as sp_of, is_handler as is_handler_of, is_privileged as is_privileged_of, apsr as apsr_of, flags_of, xpsr as xpsr_of, control as control_of, weighed as weighed_of, uses_psp as uses_psp_of, with_sp, with_control, reset_registers};
 ghost use Rattle.reference.specs.Words.{word_sum};
 
 pub use reference::registers::{Flags, Register};
@@ -199,15 +197,6 @@ impl Regs {
         self.flags
     }
 
-    /// N and Z are set by a result.
-    #[inline]
-    pub fn set_result(&mut self, value: u32)
-        ensures { self.new ≡ record self.old { flags = with_result self.old.flags value } }
-    {
-        self.flags.negative = value >> 31 == 1;
-        self.flags.zero = value == 0;
-    }
-
     /// The flags are given, each of the five.
     #[inline]
     pub fn set_flags(&mut self, flags: Flags)
@@ -293,13 +282,8 @@ impl Regs {
     pub fn xpsr(&self) -> u32
         ensures { result ≡ xpsr_of self.now }
     {
-        let conditions = weighed(self.flags.negative, 1 << 31)
-            + weighed(self.flags.zero, 1 << 30)
-            + weighed(self.flags.carry, 1 << 29)
-            + weighed(self.flags.overflow, 1 << 28)
-            + weighed(self.flags.saturated, 1 << 27);
         let it = self.it as u32;
-        conditions
+        self.apsr()
             + (it % 4 << 25)
             + weighed(self.thumb, 1 << 24)
             + (it / 4 << 10)
@@ -331,6 +315,20 @@ impl Regs {
     {
         self.unprivileged = value & 1 == 1;
         self.process_stack = value >> 1 & 1 == 1;
+    }
+}
+
+/// The flags in bits 31:27 of a word: those that MSR gives APSR.
+#[inline]
+pub fn flags_of(word: u32) -> Flags
+    ensures { result ≡ flags_of word }
+{
+    Flags {
+        negative: word >> 31 & 1 == 1,
+        zero: word >> 30 & 1 == 1,
+        carry: word >> 29 & 1 == 1,
+        overflow: word >> 28 & 1 == 1,
+        saturated: word >> 27 & 1 == 1,
     }
 }
 

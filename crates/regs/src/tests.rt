@@ -54,20 +54,54 @@ fn the_next_instruction(rt: HostRuntime) {
 }
 
 #[test]
-fn the_flags_of_a_result(rt: HostRuntime) {
-    // the result, N, Z and xPSR
+fn the_flags_of_a_word(rt: HostRuntime) {
+    // the word; N, Z, C, V and Q; APSR, and xPSR after a reset
     let table = [
-        (0x0000_0000, false, true, 0x4100_0000),
-        (0x0000_0001, false, false, 0x0100_0000),
-        (0x7FFF_FFFF, false, false, 0x0100_0000),
-        (0x8000_0000, true, false, 0x8100_0000),
+        (0x0000_0000, [false; 5], 0x0000_0000, 0x0100_0000),
+        (0x07FF_FFFF, [false; 5], 0x0000_0000, 0x0100_0000),
+        (
+            0x8000_0000,
+            [true, false, false, false, false],
+            0x8000_0000,
+            0x8100_0000,
+        ),
+        (
+            0x4000_0001,
+            [false, true, false, false, false],
+            0x4000_0000,
+            0x4100_0000,
+        ),
+        (
+            0x2000_0000,
+            [false, false, true, false, false],
+            0x2000_0000,
+            0x2100_0000,
+        ),
+        (
+            0x1200_0000,
+            [false, false, false, true, false],
+            0x1000_0000,
+            0x1100_0000,
+        ),
+        (
+            0x0C00_0000,
+            [false, false, false, false, true],
+            0x0800_0000,
+            0x0900_0000,
+        ),
+        (0xFFFF_FFFF, [true; 5], 0xF800_0000, 0xF900_0000),
     ];
-    for (value, negative, zero, xpsr) in table {
+    for (word, given, apsr, xpsr) in table {
         let mut registers = after_reset();
-        registers.set_result(value);
-        assert_eq!(rt; registers.flags().negative, negative, "N of {value}");
-        assert_eq!(rt; registers.flags().zero, zero, "Z of {value}");
-        assert_eq!(rt; registers.xpsr(), xpsr, "xPSR after {value}");
+        registers.set_flags(flags_of(word));
+        let flags = registers.flags();
+        assert_eq!(rt; flags.negative, given[0], "N of {word}");
+        assert_eq!(rt; flags.zero, given[1], "Z of {word}");
+        assert_eq!(rt; flags.carry, given[2], "C of {word}");
+        assert_eq!(rt; flags.overflow, given[3], "V of {word}");
+        assert_eq!(rt; flags.saturated, given[4], "Q of {word}");
+        assert_eq!(rt; registers.apsr(), apsr, "APSR of {word}");
+        assert_eq!(rt; registers.xpsr(), xpsr, "xPSR of {word}");
     }
 }
 
@@ -513,7 +547,7 @@ fn the_it_block(rt: HostRuntime) {
     ];
     for (it, in_block, last, condition, passed, behind) in table {
         let mut registers = after_reset();
-        registers.set_result(0);
+        registers.set_flags(flags_of(0x4000_0000));
         registers.set_it(it);
         assert_eq!(rt; registers.in_it_block(), in_block, "in a block: {it}");
         assert_eq!(rt; registers.last_in_it_block(), last, "last: {it}");

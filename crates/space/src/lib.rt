@@ -5,6 +5,6 @@ mod memory;
 #[cfg(test)]
 mod tests;
 
-pub use memory::{RAM_BASE, Space, is_out, is_within};
+pub use memory::{Space, is_out, is_within};
 pub use reference::access::{Answer, Kind, Request, Size};
 pub use reference::board::Layout;

@@ -2,7 +2,7 @@
 //! (Cortex-M3, Thread mode, privileged, the MPU off). The lines are told in `lines`.
 
 /// The cases, in the order of their rows' names.
-pub const SHORT_DATA: &str = "\
+pub(super) const SHORT_DATA: &str = "\
 t16_ADC_dp
 code 29EC 4145
 registers 8000 1 AAAAAAAA 200000 FF C 400000 FFFFFF5F

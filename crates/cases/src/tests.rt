@@ -1,15 +1,16 @@
-use super::*;
 use arrayvec::ArrayVec;
 use decode::{Decoded, decode, length};
 use edges::{EDGES, STOPS};
+use exec::{finish, plan};
 use lines::Case;
 use long_data_first::LONG_DATA_FIRST;
 use long_data_second::LONG_DATA_SECOND;
 use long_others_first::LONG_OTHERS_FIRST;
 use long_others_second::{LATER, LONG_OTHERS_SECOND};
 use memory::Memory;
+use reference::instruction::Ending;
 use reference::registers::Register;
-use reference::stop::{LeftOut, UnpredictableCase};
+use reference::stop::{LeftOut, Stop, UnpredictableCase};
 use regs::Regs;
 use short_data::SHORT_DATA;
 use short_others::SHORT_OTHERS;

@@ -2,7 +2,7 @@
 //! (Cortex-M3, Thread mode, privileged, the MPU off). The lines are told in `lines`.
 
 /// The cases, in the order of their rows' names.
-pub const LONG_DATA_SECOND: &str = "\
+pub(super) const LONG_DATA_SECOND: &str = "\
 t32_ORR_imm
 code 27E6 F05B 329C
 registers 2000000 80000001 E2F17D22 8E954D57 CCC91D87 416DEC2E FFFF FFFFFF75

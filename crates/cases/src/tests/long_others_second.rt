@@ -2,7 +2,7 @@
 //! (Cortex-M3, Thread mode, privileged, the MPU off). The lines are told in `lines`.
 
 /// The cases, in the order of their rows' names.
-pub const LONG_OTHERS_SECOND: &str = "\
+pub(super) const LONG_OTHERS_SECOND: &str = "\
 t32_LDR_imm12
 code 338A F8D4 A690
 registers 21D61A22 20 12345678 5EBBCF1F 20000DE4 C 20000100 7FFF
@@ -467,7 +467,7 @@ higher 7F 7EADDCDB 2 FFFF C58414E2 20003BA8 FFFF
 flags 48000000";
 
 /// Cases of special registers that later versions of the machine have.
-pub const LATER: &str = "\
+pub(super) const LATER: &str = "\
 t32_MRS
 code 2D18 F3EF 8811
 registers 4 FFFFFEFA 20000100 FFFFFFCA 1 FFFFFF33 8946BC85 1000000

@@ -2,7 +2,7 @@
 //! (Cortex-M3, Thread mode, privileged, the MPU off). The lines are told in `lines`.
 
 /// The cases, in the order of their rows' names.
-pub const LONG_DATA_FIRST: &str = "\
+pub(super) const LONG_DATA_FIRST: &str = "\
 t32_ADC_imm
 code 2EE8 F14C 1E5E
 registers 7F EA5B67AB 20000100 F047DE1D C2A22D3A 80000001 36 45C4581D

@@ -2,7 +2,7 @@
 //! (Cortex-M3, Thread mode, privileged, the MPU off). The lines are told in `lines`.
 
 /// The cases, in the order of their rows' names.
-pub const SHORT_OTHERS: &str = "\
+pub(super) const SHORT_OTHERS: &str = "\
 it_block
 code 2086 BF18 E92C 40C2
 registers 4F2DB656 80 B4D7045F F39D42FF 7C0E36AC 5 100 10000

@@ -16,29 +16,28 @@
 ghost use Rattle.std.specs.Prelude.{◌<◌};
 
 use super::memory::Memory;
-use crate::special::flags_of;
 use arrayvec::ArrayVec;
 use reference::registers::Register;
-use regs::Regs;
+use regs::{Regs, flags_of};
 
 /// What is to be there afterwards.
 #[derive(Drop)]
-pub struct Wanted {
+pub(super) struct Wanted {
     /// R0 to LR, and the address of the next instruction.
-    pub registers: [u32; 16],
-    pub flags: u32,
-    pub it: u8,
-    pub thumb: bool,
-    pub memory: Memory,
+    pub(super) registers: [u32; 16],
+    pub(super) flags: u32,
+    pub(super) it: u8,
+    pub(super) thumb: bool,
+    pub(super) memory: Memory,
 }
 
 /// A case: the machine before, how many halfwords of code it runs, and what is wanted.
 #[derive(Drop)]
-pub struct Case {
-    pub regs: Regs,
-    pub memory: Memory,
-    pub halfwords: usize,
-    pub wanted: Wanted,
+pub(super) struct Case {
+    pub(super) regs: Regs,
+    pub(super) memory: Memory,
+    pub(super) halfwords: usize,
+    pub(super) wanted: Wanted,
 }
 
 /// The numbers of a line.
@@ -70,7 +69,7 @@ fn number_at(numbers: &Numbers, place: usize) -> u32 {
 
 impl Case {
     /// A machine after a reset, whose registers and flags are 0.
-    pub fn new() -> Self {
+    pub(super) fn new() -> Self {
         let mut regs = Regs::reset(0, 1);
         regs.set(Register::new(14), 0);
         Case {
@@ -88,7 +87,7 @@ impl Case {
     }
 
     /// The case of a text whose first line is a name.
-    pub fn of(text: &str) -> Self {
+    pub(super) fn of(text: &str) -> Self {
         let mut case = Case::new();
         'lines: for line in text.lines() {
             case.read(line);

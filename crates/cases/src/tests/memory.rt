@@ -21,24 +21,24 @@ impl Default for Cell {
 
 /// The bytes that were put there, the latest last. All others are 0.
 #[derive(Drop)]
-pub struct Memory {
+pub(super) struct Memory {
     cells: ArrayVec<Cell, 256>,
 }
 
 impl Memory {
-    pub fn new() -> Self {
+    pub(super) fn new() -> Self {
         Memory {
             cells: ArrayVec::new(),
         }
     }
 
     /// A byte is put there.
-    pub fn put(&mut self, address: u32, byte: u8) {
+    pub(super) fn put(&mut self, address: u32, byte: u8) {
         let _ = self.cells.try_push(Cell { address, byte });
     }
 
     /// A word is put there.
-    pub fn put_word(&mut self, address: u32, word: u32) {
+    pub(super) fn put_word(&mut self, address: u32, word: u32) {
         let [a, b, c, d] = word.to_le_bytes();
         self.put(address, a);
         self.put(address.wrapping_add(1), b);
@@ -47,7 +47,7 @@ impl Memory {
     }
 
     /// The byte at an address.
-    pub fn byte(&self, address: u32) -> u8 {
+    pub(super) fn byte(&self, address: u32) -> u8 {
         let mut byte = 0;
         'cells: for cell in self.cells.as_slice() {
             if cell.address == address {
@@ -58,12 +58,12 @@ impl Memory {
     }
 
     /// The halfword at an address.
-    pub fn halfword(&self, address: u32) -> u16 {
+    pub(super) fn halfword(&self, address: u32) -> u16 {
         u16::from_le_bytes([self.byte(address), self.byte(address.wrapping_add(1))])
     }
 
     /// Whether every byte that was put into another memory stands here too.
-    pub fn agrees_with(&self, other: &Memory) -> bool {
+    pub(super) fn agrees_with(&self, other: &Memory) -> bool {
         'cells: for cell in other.cells.as_slice() {
             if self.byte(cell.address) != other.byte(cell.address) {
                 return false;
@@ -73,7 +73,7 @@ impl Memory {
     }
 
     /// An access is carried out; a load gives its value, a store 0.
-    pub fn carry_out(&mut self, request: &Request) -> u32 {
+    pub(super) fn carry_out(&mut self, request: &Request) -> u32 {
         let address = request.address;
         let mut bytes = [0, 0, 0, 0];
         let stored = request.value.to_le_bytes();

@@ -2,7 +2,7 @@
 //! ARMv7-M Thumb instructions"); the encodings are an assembler's (LLVM's, for ARMv7-M).
 
 /// What instructions leave.
-pub const EDGES: &str = "\
+pub(super) const EDGES: &str = "\
 LDR R1, [R2, #8] at an address that wraps
 code 0100 6891
 before 2 FFFFFFFC
@@ -561,7 +561,7 @@ code 0100 F890 F000
 before 0 E0000001";
 
 /// Where instructions stop, and their neighbours that go on. The first word says which.
-pub const STOPS: &str = "\
+pub(super) const STOPS: &str = "\
 load-pc of LDR from 20000002
 code 0100 F8D0 F002
 before 0 20000000

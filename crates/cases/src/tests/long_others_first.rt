@@ -2,7 +2,7 @@
 //! (Cortex-M3, Thread mode, privileged, the MPU off). The lines are told in `lines`.
 
 /// The cases, in the order of their rows' names.
-pub const LONG_OTHERS_FIRST: &str = "\
+pub(super) const LONG_OTHERS_FIRST: &str = "\
 t32_B
 code 48E5E F018 BA4D
 registers FFFFFEF4 3E 20 585E5571 20000100 FFFFFF80 EE9B3E44 8
