@@ -1,8 +1,7 @@
 //! What an instruction asks for.
 
-ghost use Rattle.std.specs.Prelude.{◌≡◌, []};
-ghost use Rattle.exec.specs.Plans.{Listed};
-ghost use Rattle.exec.specs.Plans.{planned};
+ghost use Rattle.std.specs.Prelude.{◌≡◌, ◌≤◌, [], length};
+ghost use Rattle.exec.specs.Plans.{Listed, planned};
 ghost use Rattle.reference.specs.declared.instruction.Instruction.TheVariants as instruction;
 ghost use Rattle.reference.specs.Operations.{wants, asked_for, is_misplaced, is_carried_out, is_exclusive, waits, nothing_if};
 
@@ -33,7 +32,8 @@ pub type Requests = ArrayVec<Request, MOST_REQUESTS>;
 #[inline]
 #[tactic(auto, unfolding(reference::specs::Operations::wants))]
 pub fn plan(coded: &CodedInstruction, regs: &Regs, requests: &mut Requests) -> Result<(), Stop>
-    ensures { planned requests.new result ≡ wants coded.now regs.now }
+    ensures answer { planned requests.new result ≡ wants coded.now regs.now }
+    ensures few { length requests.new.items ≤ MOST_REQUESTS }
 {
     requests.clear();
     if is_exclusive(&coded.instruction) {
@@ -45,7 +45,10 @@ pub fn plan(coded: &CodedInstruction, regs: &Regs, requests: &mut Requests) -> R
     if !is_carried_out(&coded.instruction, regs) {
         return Ok(());
     }
-    ask(&coded.instruction, regs, requests)
+    let asked = ask(&coded.instruction, regs, requests);
+    // The list has no room for more: this tells the clause so.
+    let _ = requests.len();
+    asked
 }
 
 /// LDREX, STREX and CLREX, of each size.

@@ -1,6 +1,6 @@
 //! The machine that a user has: a core, and whether its trace is still whole.
 
-ghost use Rattle.std.specs.Prelude.{◌≡◌, ◌↔◌, ◌^◌, ◌≤◌, false, true, Ok, Err, IfOk, IfErr, OnOk};
+ghost use Rattle.std.specs.Prelude.{◌≡◌, length, ◌↔◌, ◌^◌, ◌≤◌, false, true, Ok, Err, IfOk, IfErr, OnOk};
 ghost use Rattle.board.specs.Seen.{described};
 ghost use Rattle.machine.specs.Runs.{Fails};
 ghost use Rattle.machine.specs.Starts.{Starts, Places};
@@ -12,7 +12,7 @@ ghost use Rattle.reference.specs.Start.{start};
 ghost use Rattle.reference.specs.Step.{step};
 ghost use Rattle.std.specs.Io.KnownBytes.{Appends};
 
-use crate::accesses::Events;
+use crate::accesses::{Events, MOST_EVENTS};
 use crate::output::Out;
 use crate::readers::RegValues;
 use crate::run::run_core;
@@ -73,8 +73,11 @@ impl<D: Decider, U: DueTicks> Machine<D, U> {
         ensures state { self.new ≡ record self.old { state = (step self.old.state).state } }
         ensures events { events.new.items ≡ (step self.old.state).events }
         ensures stop { result ≡ self.new.state.stop }
+        ensures few { length events.new.items ≤ MOST_EVENTS }
     {
         self.core.step(events);
+        // The list has no room for more: this tells the clause so.
+        let _ = events.len();
         self.core.stop()
     }
 
