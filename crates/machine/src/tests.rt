@@ -355,30 +355,26 @@ const NMI_AT_3: ScriptedEvent = ScriptedEvent {
     what: Signal::Nmi,
 };
 
-/// A line that falls in the first tick: it pends nothing, and it is an event all the same.
-const FALL_AT_1: ScriptedEvent = ScriptedEvent {
-    at: 1,
-    what: Signal::Fall(InterruptLine::new(0)),
-};
-
-/// An event in the tick behind the last one of the run.
-const PULSE_AT_5: ScriptedEvent = ScriptedEvent {
-    at: 5,
-    what: Signal::Pulse(InterruptLine::new(7)),
-};
-
 #[test]
 fn the_machine_stops_where_an_event_would_apply(rt: HostRuntime) -> Result<(), Fail> {
     let two = b"1 F 00000100 2 p ok off\n2 F 00000102 2 p ok off\n2 S 20000010 4 p ok off\n\
                 stop outofprofile unbuilt\n";
     let four = b"1 F 00000100 2 p ok off\n2 F 00000102 2 p ok off\n2 S 20000010 4 p ok off\n\
                  3 F 00000104 2 p ok off\n3 L 20000010 4 p ok off\n4 F 00000106 2 p ok off\nstop steps\n";
-    let rows: [(&str, ScriptedEvent, &[u8]); 3] = [
-        ("NMI", NMI_AT_3, two),
-        ("a line falls", FALL_AT_1, b"stop outofprofile unbuilt\n"),
-        ("behind the run", PULSE_AT_5, four),
+    let fall = Signal::Fall(InterruptLine::new(0));
+    let pulse = Signal::Pulse(InterruptLine::new(7));
+    let rows: [(&str, u64, Signal, &[u8]); 3] = [
+        ("NMI", 3, Signal::Nmi, two),
+        (
+            "a line falls, which pends nothing",
+            1,
+            fall,
+            b"stop outofprofile unbuilt\n",
+        ),
+        ("behind the run", 5, pulse, four),
     ];
-    for (name, event, wanted) in rows {
+    for (name, at, what, wanted) in rows {
+        let event = ScriptedEvent { at, what };
         let mut machine = scripted_machine(rt.alloc(), &[event], &STORE_AND_LOAD)?;
         machine
             .place(Place::Reg(1, 0x2000_0010))

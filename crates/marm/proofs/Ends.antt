@@ -1,12 +1,15 @@
 -- How a run's status follows from its end.
-use Rattle.std.proofs.Common.{◌≡◌, ◌⊎◌, inl, inr, ℕ, List, Result, Ok, Err, ◌∙◌, ap}
+use Rattle.std.proofs.Common.{◌≡◌, ◌⊎◌, inl, inr, ℕ, Bool, true, false, List, Result, Ok, Err, refl, ◌∙◌, ap}
+use Rattle.std.specs.Str.{IsUtf8, is_utf8}
+use Rattle.std.proofs.lemmas.Str.{IsUtf8-from_is_utf8, is_utf8-from_IsUtf8}
 use Rattle.board.specs.declared.whole.Board.{Board as TheBoard}
 use Rattle.board.specs.Seen.{Answers, described}
+use Rattle.board.specs.Texts.{board_of}
 use Rattle.marm.specs.declared.fault.Fault.{Fault}
 use Rattle.marm.specs.declared.fault.Fault.TheVariants.{Load, Board, Start}
-use Rattle.marm.specs.Statuses.{GoesTo, Executes, Ends, EndsWith, Reads, stop_status, fault_status}
+use Rattle.marm.specs.Statuses.{GoesTo, Executes, Ends, EndsWith, Reads, board_in_file, stop_status, fault_status}
 use Rattle.reference.specs.declared.fault.BoardFault.{BoardFault}
-use Rattle.reference.specs.declared.fault.BoardFault.TheVariants.{OutOfMemory}
+use Rattle.reference.specs.declared.fault.BoardFault.TheVariants.{NotToml, OutOfMemory}
 use Rattle.reference.specs.declared.fault.LoadFault.{LoadFault}
 use Rattle.reference.specs.declared.fault.StartFault.{StartFault}
 use Rattle.reference.specs.declared.stop.Stop.{Stop}
@@ -51,6 +54,18 @@ read_as read (Ok board) (inr wanting) = absurd cc
 read_as read (Err fault) (inl (inl same)) = inl same
 read_as read (Err fault) (inl (inr wanting)) = inr wanting.0
 read_as read (Err fault) (inr wanting) = inr cc
+
+-- bytes that are text are read as that text
+pub text_read : (bytes text : List ℕ) (result : Result TheBoard BoardFault) → IsUtf8 bytes → text ≡ bytes → Answers described result (board_of text) ⊎ (result ≡ Err OutOfMemory) → Reads (board_in_file bytes) result
+text_read bytes text result is_text same answers = rw (is_utf8-from_IsUtf8 bytes is_text) (read_as (board_of bytes) result (rw same at answers))
+
+no_text : (bytes : List ℕ) (test : Bool) → is_utf8 bytes ≡ test → ¬ IsUtf8 bytes → board_in_file bytes ≡ Err NotToml
+no_text bytes true e other = absurd (other (IsUtf8-from_is_utf8 bytes e))
+no_text bytes false e other = rw e refl
+
+-- other bytes aren't
+pub bytes_refused : (bytes : List ℕ) → ¬ IsUtf8 bytes → Reads (board_in_file bytes) (Err NotToml)
+bytes_refused bytes other = inl (no_text bytes (is_utf8 bytes) refl other)
 
 -- a board that isn't read ends the run
 pub board_ends : (image : List Segment) (board : Result Described BoardFault) (steps : ℕ) (fault : BoardFault) → Reads board (Err fault) → Executes (Ok image) board steps (Err (Board fault))
