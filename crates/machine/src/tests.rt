@@ -12,7 +12,7 @@ use crate::{
 use arrayvec::ArrayVec;
 use elf::load;
 use reference::stop::{LeftOut, UnpredictableCase};
-use std::alloc::Global;
+use std::alloc::{AllocError, Global};
 use std::io;
 use std::io::Write;
 use std::marker::Brand;
@@ -98,11 +98,9 @@ fn run(machine: &mut Slow, steps: u32, out: &mut Cut) -> Result<Stop, RunFault> 
 }
 
 /// The small board with these events.
-fn small_board(alloc: Global, script: &[ScriptedEvent]) -> Result<Board, Fail> {
+fn small_board(alloc: Global, script: &[ScriptedEvent]) -> Result<Board, AllocError> {
     let mut events = Vec::new(alloc);
-    events
-        .extend_from_slice(script)
-        .map_err(|_| "room for the events")?;
+    events.extend_from_slice(script)?;
     Ok(Board {
         layout: SMALL_BOARD,
         events,
@@ -121,7 +119,7 @@ fn scripted_machine(
     places: &[Place],
 ) -> Result<Slow, Fail> {
     let image = load(&NO_SEGMENTS).map_err(|_| "an image")?;
-    let board = small_board(alloc, script)?;
+    let board = small_board(alloc, script).map_err(|_| "a board")?;
     let mut machine = Slow::new(alloc, &image, &board).map_err(|_| "a machine")?;
     for value in places {
         machine.place(*value).map_err(|_| "a place")?;
