@@ -5,6 +5,7 @@ pub mod Kinds
 pub mod Registers
 pub mod Map
 pub mod Memory
+pub mod Priorities
 pub mod Time
 pub mod State
 pub mod Patterns
@@ -36,4 +37,3 @@ pub mod Images
 pub mod Boards
 pub mod Start
 pub mod Places
-pub mod Priorities

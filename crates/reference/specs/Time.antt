@@ -3,7 +3,7 @@
 -- lines and of scripts (profile).
 use Rattle.std.specs.Prelude.{ℕ, ◌+◌, ◌-◌, ◌%◌, ◌^◌, ◌<◌, min, Bool, true, false, ◌&&◌, ◌||◌, nat_le, ◌==◌, ◌≡◌, if◌then◌else◌, List, [], ◌∷◌, take, drop, slice_set, slice_index_or, replicate}
 use Rattle.std.specs.List.{prefix_len, list_any}
-use Rattle.reference.specs.declared.exception.TheConstants.{NMI, SYS_TICK, FIRST_LINE}
+use Rattle.reference.specs.declared.exception.TheConstants.{NMI, SYS_TICK, FIRST_LINE, MOST_LINES}
 use Rattle.reference.specs.declared.script.ScriptedEvent.{ScriptedEvent}
 use Rattle.reference.specs.declared.script.Signal.{Signal}
 use Rattle.reference.specs.declared.script.Signal.TheVariants.{Rise, Fall, Pulse, Nmi}
@@ -132,7 +132,7 @@ tick_pends t n =
 
 -- time at the start
 abbrev pub start_time : List ScriptedEvent → Time
-start_time script = record { ticks = 0; systick = reset_systick; high = replicate 240 false; script = script }
+start_time script = record { ticks = 0; systick = reset_systick; high = replicate MOST_LINES false; script = script }
 
 -- eight words are those of the set of exceptions with this test
 abbrev pub IsSetOf : List ℕ → (ℕ → Bool) → Type 0
