@@ -1,4 +1,4 @@
-"""The loops that the benches run, the image that has one of them, and what the best of many runs takes."""
+"""The loops that the benches run, the images that have them, and what the best of many runs takes."""
 
 import os
 import random
@@ -20,30 +20,73 @@ LOOPS = {
 REGIONS = [(0x00000010, 0x0300003F)] + [(0x20000010 | number, 0x0300000F + 2 * (number - 1)) for number in range(1, 8)]
 
 # LDR R0, table; LDR R1, RBAR; LDR R4, count; then for each region LDM R0!, {R2, R3}; STR R2, [R1]; STR R3, [R1, #4];
-# SUBS R4, #1; BNE; and MOVS R5, #1; SUBS R1, #8; STR R5, [R1], which is MPU_CTRL; LDR R1, address; B 0x100.
-SET_UP = [0x4806, 0x4907, 0x4C07, 0xC80C, 0x600A, 0x604B, 0x3C01, 0xD1FA, 0x2501, 0x3908, 0x600D, 0x4904, 0xE052, 0xBF00]
+# SUBS R4, #1; BNE; and MOVS R5, #1; SUBS R1, #8; STR R5, [R1], which is MPU_CTRL; LDR R1, word. One of the ends follows.
+SET_UP = [0x4806, 0x4907, 0x4C07, 0xC80C, 0x600A, 0x604B, 0x3C01, 0xD1FA, 0x2501, 0x3908, 0x600D, 0x4904]
 
 # LDR R1, address; B 0x100.
 START = [0x4900, 0xE05D]
+
+# B 0x100, where SET_UP stands at 0x40; or BX R1. A NOP fills the word.
+TO_LOOP = [0xE052, 0xBF00]
+TO_WORD = [0x4708, 0xBF00]
+
+
+def set_up(base, regions, word, end):
+    """Code that stands at a base: it sets the regions up, gives R1 the word, and goes on with the end."""
+    table = base + 2 * len(SET_UP + end) + 16
+    words = [table, 0xE000ED9C, len(regions), word] + [part for region in regions for part in region]
+    return struct.pack(f"<{len(SET_UP + end)}H{len(words)}I", *SET_UP, *end, *words)
 
 
 def start_code(regions):
     """What stands from 0x40 on: it sets the regions up, if there are any, and gives R1 the address 0x20000010."""
     if not regions:
         return struct.pack("<2HI", *START, 0x20000010)
-    table = 0x40 + 2 * len(SET_UP) + 16
-    words = [table, 0xE000ED9C, len(regions), 0x20000010] + [word for region in regions for word in region]
-    return struct.pack(f"<{len(SET_UP)}H{len(words)}I", *SET_UP, *words)
+    return set_up(0x40, regions, 0x20000010, TO_LOOP)
 
 
 def image(halfwords, regions=()):
     """An ELF file of one segment at 0: the vector table, the start code at 0x40, the loop at 0x100."""
     memory = struct.pack("<II", 0x20001000, 0x41).ljust(0x40, b"\0") + start_code(regions)
-    memory = memory.ljust(0x100, b"\0") + b"".join(struct.pack("<H", halfword) for halfword in halfwords)
+    return elf(memory.ljust(0x100, b"\0") + b"".join(struct.pack("<H", halfword) for halfword in halfwords))
+
+
+def elf(memory):
+    """An ELF file of one segment at 0."""
     header = b"\x7fELF\x01\x01\x01" + bytes(9)
     header += struct.pack("<HHIIIIIHHHHHH", 2, 40, 1, 0, 52, 0, 0x05000000, 52, 32, 1, 0, 0, 0)
     program_header = struct.pack("<8I", 1, 84, 0, 0, len(memory), len(memory), 5, 4)
     return header + program_header + memory
+
+
+def flash_of(content):
+    """What an ELF file puts at 0 and upward: the bytes of its first segment, which is all that it brings."""
+    (headers,) = struct.unpack_from("<I", content, 28)
+    _, offset, _, _, size = struct.unpack_from("<5I", content, headers)
+    return content[offset : offset + size]
+
+
+def with_regions(flash, regions):
+    """An ELF file of that flash, behind which stands code that sets the regions up and then starts the program."""
+    behind = len(flash) + -len(flash) % 4
+    (reset,) = struct.unpack_from("<I", flash, 4)
+    vectors = flash[:4] + struct.pack("<I", behind | 1)
+    return elf((vectors + flash[8:]).ljust(behind, b"\0") + set_up(behind, regions, reset, TO_WORD))
+
+
+def traced(marm, board, steps, path):
+    """The command that runs an image and writes its trace."""
+    return [marm, "run", "--board", board, "--steps", str(steps), path]
+
+
+def trace_of(words):
+    """The text of a run's trace."""
+    return subprocess.run(words, stdout=subprocess.PIPE, check=True).stdout
+
+
+def counted(trace):
+    """How many steps a trace has, and how many lines; the line before the last one begins with the last step's number."""
+    return int(trace[-200:].splitlines()[-2].split()[0]), trace.count(b"\n")
 
 
 def written(folder, name, content):

@@ -1,10 +1,15 @@
 #!/usr/bin/env bash
-# Prints how many steps and lines a second the proved program makes, beside a plain C program that does no more than
-# format such lines. Usage: bench/run.sh [STEPS] [ROUNDS]
+# Prints how many steps and lines a second the proved program makes: on two loops, beside a plain C program that does no
+# more than format such lines, and on a real program, beside the same machine without a trace.
+# Usage: bench/run.sh [STEPS] [ROUNDS]
 set -euo pipefail
 top=$(cd "$(dirname "${BASH_SOURCE[0]}")/.." && pwd)
 folder=$(mktemp -d)
 trap 'rm -rf "$folder"' EXIT
 "$top/marm" run --board "$top/examples/boards/small.toml" --steps 0 "$top/examples/first.elf" >"$folder/stop"
+# The program that runs images without a trace.
+(cd "$top/crates/firmware" && rt run -- data/board.toml) >"$folder/log" 2>&1 || { cat "$folder/log" >&2; exit 1; }
 gcc -O2 -o "$folder/format" "$top/bench/format.c"
-python3 -B "$top/bench/rounds.py" "$top/crates/marm/out/marm" "$top/examples/boards/small.toml" "$folder/format" "$folder" "${1:-3000000}" "${2:-15}"
+python3 -B "$top/bench/rounds.py" "$top/crates/marm/out/marm" "$top/crates/firmware/out/firmware" "$folder/format" \
+    "$top/examples/boards/small.toml" "$top/examples/firmware/board.toml" "$top/examples/firmware/crc32-loop.elf" \
+    "$folder" "${1:-3000000}" "${2:-15}"
