@@ -1,7 +1,7 @@
 use arrayvec::ArrayVec;
 use decode::{Decoded, decode, length};
 use edges::{EDGES, STOPS};
-use exec::{finish, plan};
+use exec::{Requests, finish, plan};
 use lines::Case;
 use long_data_first::LONG_DATA_FIRST;
 use long_data_second::LONG_DATA_SECOND;
