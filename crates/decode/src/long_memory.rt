@@ -1,6 +1,6 @@
 //! The rows of 32 bits that load and store one register.
 
-ghost use Rattle.std.specs.Prelude.{◌≡◌, ◌≢◌, ◌==◌, ◌<◌, ◌+◌, ◌*◌, ◌^◌, ◌&&◌, ◌||◌};
+ghost use Rattle.std.specs.Prelude.{◌≡◌, ◌≢◌, ◌==◌, ◌&&◌, ◌||◌};
 ghost use Rattle.decode.specs.NumberForms.{number_form};
 ghost use Rattle.reference.specs.Decoding.{long_meaning};
 ghost use Rattle.reference.specs.LongMemory.{size_of, narrow_form, word_form, place_of_load, is_refused_load, is_refused_store, load_literal, load_at, load_unprivileged, load_indexed, store_at, store_unprivileged, store_indexed, memory_hint, memory_hint_indexed};

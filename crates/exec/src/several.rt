@@ -1,9 +1,9 @@
 //! Loads and stores of several registers (ARM DDI 0403, the operation of LDM, LDMDB, STM, STMDB,
 //! PUSH, POP, LDRD and STRD).
 
-ghost use Rattle.std.specs.Prelude.{◌≡◌, ◌<◌, ◌+◌, List, [], ◌∷◌, length, drop, slice_index};
+ghost use Rattle.std.specs.Prelude.{◌≡◌, ◌<◌, ◌+◌, [], ◌∷◌, length, slice_index};
 ghost use Rattle.exec.specs.Plans.{planned, finished_as};
-ghost use Rattle.reference.specs.Several.{registers_below, registers_of, bytes_of_list, lowest_address, moved_base, with_moved_base, word_request, word_requests, several, load_dual_literal, loaded, loaded_below_pc, load_multiple};
+ghost use Rattle.reference.specs.Several.{registers_below, registers_of, bytes_of_list, lowest_address, moved_base, with_moved_base, word_request, word_requests, several, load_dual_literal, loaded, load_multiple};
 ghost use Rattle.reference.specs.Words.{word_sum, negated, is_bit};
 
 use crate::branches::{exchange, move_on};

@@ -1,6 +1,6 @@
 //! Where the trace goes: writers that tell what they took.
 
-ghost use Rattle.std.specs.Prelude.{◌≡◌, ℕ, ◌+◌, ◌*◌, ◌<◌, ◌≤◌, List, length, Option};
+ghost use Rattle.std.specs.Prelude.{◌≡◌, ℕ, ◌+◌, ◌<◌, ◌≤◌, List, length, Option};
 ghost use Rattle.machine.specs.Output.{Took, Put};
 ghost use Rattle.reference.specs.Text.{lines};
 

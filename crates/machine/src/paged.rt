@@ -1,7 +1,6 @@
 //! A writer that gathers the lines of many steps, so that the writer below is called seldom.
 
-ghost use Rattle.std.specs.Prelude.{◌≡◌, ◌+◌, ◌*◌, ◌≤◌, [], length, drop, OnOk, OnErr};
-ghost use Rattle.machine.specs.Output.{Took, Put};
+ghost use Rattle.std.specs.Prelude.{◌≡◌, ◌+◌, ◌≤◌, [], length, drop, OnOk, OnErr};
 ghost use Rattle.reference.specs.Text.{lines};
 ghost use Rattle.std.specs.Io.KnownBytes.{append_known, Keeps};
 

@@ -1,10 +1,9 @@
 //! The start of a core (ARM DDI 0403, TakeReset()).
 
-ghost use Rattle.std.specs.Prelude.{◌≡◌, ◌*◌, ◌+◌, true, map};
+ghost use Rattle.std.specs.Prelude.{◌≡◌, true, map};
 ghost use Rattle.board.specs.Seen.{described};
 ghost use Rattle.machine.specs.Starts.{StartsAt};
 ghost use Rattle.reference.specs.Boards.{numbers_of};
-ghost use Rattle.reference.specs.Memory.{Memory};
 ghost use Rattle.reference.specs.Start.{start, blank, are_placed, is_placed, loaded, vector};
 ghost use Rattle.elf.specs.Segment.{segment_of};
 
