@@ -7,8 +7,6 @@ mod levels;
 mod numbers;
 mod plain;
 mod priorities;
-#[cfg(test)]
-mod tests;
 
 pub use levels::Levels;
 pub use plain::PlainLevels;

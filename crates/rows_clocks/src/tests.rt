@@ -1,0 +1,2 @@
+mod priorities;
+mod ticks;

@@ -1,0 +1,312 @@
+//! The clock, SysTick, the lines and scripts. The values come from the manual's text on SysTick
+//! (ARM DDI 0403, "System timer, SysTick") and from the rules of lines and scripts.
+
+use clock::{Clock, Counting, Due, InterruptLine, ScriptedEvent, Signal, laws};
+use std::alloc::Global;
+use std::test::*;
+use tables::{byte_at, is_first, number, number_at, part};
+
+/// The tick at which a clock ends.
+const LAST: u64 = 1 << 48;
+
+/// The set of SysTick's exception alone, whose number is F.
+const SYSTICK: Due = [0x0000_8000, 0, 0, 0, 0, 0, 0, 0];
+
+/// The set of these exceptions.
+fn set_of(numbers: &str) -> Option<Due> {
+    let mut due = [0; 8];
+    for word in numbers.split_whitespace() {
+        let number = byte_at(word, 0)?;
+        due[(number / 32) as usize] |= 1 << (number % 32);
+    }
+    Some(due)
+}
+
+/// The line of this number.
+fn line(word: &str) -> Option<InterruptLine> {
+    let number = byte_at(word, 0)?;
+    if number < InterruptLine::MOST {
+        Some(InterruptLine::new(number))
+    } else {
+        None
+    }
+}
+
+/// A signal: `nmi`, or `rise`, `fall` or `pulse`, a colon, and the line.
+fn signal(word: &str) -> Option<Signal> {
+    if word == "nmi" {
+        return Some(Signal::Nmi);
+    }
+    let (name, number) = word.split_once(':')?;
+    let line = line(number)?;
+    if name == "rise" {
+        Some(Signal::Rise(line))
+    } else if name == "fall" {
+        Some(Signal::Fall(line))
+    } else if name == "pulse" {
+        Some(Signal::Pulse(line))
+    } else {
+        None
+    }
+}
+
+/// An event: its tick, a colon, and its signal.
+fn event(word: &str) -> Option<ScriptedEvent> {
+    let (at, what) = word.split_once(':')?;
+    Some(ScriptedEvent {
+        at: number(at)? as u64,
+        what: signal(what)?,
+    })
+}
+
+/// A clock before its first tick, with a script of these events.
+fn scripted(alloc: Global, events: &str) -> Option<Clock<Counting>> {
+    let mut script = Vec::new(alloc);
+    for word in events.split_whitespace() {
+        script.push(event(word)?).ok()?;
+    }
+    Some(Clock::new(script))
+}
+
+/// SYST_RVR and SYST_CSR are written, and the values are SYST_CSR and SYST_RVR.
+fn write(clock: &mut Clock<Counting>, values: &str) -> Option<()> {
+    clock.write_rvr(number_at(values, 1)?);
+    clock.write_csr(number_at(values, 0)?);
+    Some(())
+}
+
+/// A clock before its first tick, with SYST_CSR and SYST_RVR of these values and no event.
+fn counting(alloc: Global, values: &str) -> Option<Clock<Counting>> {
+    let mut clock = Clock::new(Vec::new(alloc));
+    write(&mut clock, values)?;
+    Some(clock)
+}
+
+/// A tick of a clock that isn't at its end.
+fn tick(clock: &mut Clock<Counting>) -> Option<Due> {
+    if clock.now() < LAST {
+        Some(clock.tick())
+    } else {
+        None
+    }
+}
+
+/// What the next tick of a clock that isn't at its end would pend.
+fn peek(clock: &Clock<Counting>) -> Option<Due> {
+    if clock.now() < LAST {
+        Some(clock.peek())
+    } else {
+        None
+    }
+}
+
+/// Whether SYST_CVR has these values after the ticks that come, one after another.
+fn counts_down(clock: &mut Clock<Counting>, values: &str) -> Option<bool> {
+    for value in values.split_whitespace() {
+        tick(clock)?;
+        if clock.read_cvr() != number(value)? {
+            return Some(false);
+        }
+    }
+    Some(true)
+}
+
+/// Whether the counter counts as its row says.
+fn counts_so(alloc: Global, row: &str) -> Option<bool> {
+    let mut clock = counting(alloc, part(row, 0))?;
+    let begins = clock.read_cvr() == 0;
+    let follows = counts_down(&mut clock, part(row, 1))?;
+    Some(begins && follows && clock.now() == 6)
+}
+
+/// SYST_CSR and SYST_RVR; SYST_CVR after each of six ticks; what the row is.
+const COUNTS: &str = "\
+1 2 | 2 1 0 2 1 0 | three ticks a round
+3 2 | 2 1 0 2 1 0 | with the interrupt too
+1 1 | 1 0 1 0 1 0 | two ticks a round
+1 0 | 0 0 0 0 0 0 | nothing to reload
+1 00FFFFFF | 00FFFFFF 00FFFFFE 00FFFFFD 00FFFFFC 00FFFFFB 00FFFFFA | the longest round
+1 AB000002 | 2 1 0 2 1 0 | the upper bits of SYST_RVR are dropped
+0 2 | 0 0 0 0 0 0 | switched off";
+
+#[test]
+fn the_counter_counts(rt: HostRuntime) {
+    for row in COUNTS.lines() {
+        assert!(rt; counts_so(rt.alloc(), row) == Some(true), "{row}");
+    }
+}
+
+/// Whether a tick goes as its row says.
+fn falls_so(clock: &mut Clock<Counting>, row: &str) -> Option<bool> {
+    let pends = tick(clock)? == set_of(part(row, 1))?;
+    Some(pends && clock.read_cvr() == number_at(part(row, 0), 0)?)
+}
+
+/// The ticks after SYST_RVR became 0 while SYST_CVR was 3: SYST_CVR; what the tick pends; what the
+/// row is.
+const FALLS: &str = "\
+2 | | the count goes on
+1 | | and on
+0 | F | and ends
+0 | | nothing is reloaded
+0 | | and nothing pends any more";
+
+#[test]
+fn a_counter_whose_reload_value_is_0_still_counts_down(rt: HostRuntime) -> Result<(), Fail> {
+    let mut clock = counting(rt.alloc(), "3 3").ok_or("no memory")?;
+    assert_eq!(rt; counts_down(&mut clock, "3"), Some(true));
+    clock.write_rvr(0);
+    assert_eq!(rt; clock.read_rvr(), 0);
+    for row in FALLS.lines() {
+        assert!(rt; falls_so(&mut clock, row) == Some(true), "{row}");
+    }
+    Ok(())
+}
+
+/// A number of ticks.
+fn ticks(clock: &mut Clock<Counting>, count: u8) -> Option<()> {
+    for _ in 0..count {
+        tick(clock)?;
+    }
+    Some(())
+}
+
+/// Whether SYST_CSR reads as its row says.
+fn reads_so(alloc: Global, row: &str) -> Option<bool> {
+    let mut clock = counting(alloc, part(row, 0))?;
+    ticks(&mut clock, byte_at(part(row, 1), 0)?)?;
+    let wanted = part(row, 2);
+    let first = clock.read_csr() == number_at(wanted, 0)?;
+    Some(first && clock.read_csr() == number_at(wanted, 1)?)
+}
+
+/// SYST_CSR and SYST_RVR; the ticks that are made; what SYST_CSR reads then, and what it reads after
+/// that; what the row is.
+const READS: &str = "\
+0 0 | 0 | 00000004 00000004 | CLKSOURCE reads 1
+FFFFFFFF 0 | 0 | 00000007 00000007 | ENABLE and TICKINT are kept
+1 1 | 0 | 00000005 00000005 | before the first tick
+1 1 | 1 | 00000005 00000005 | the reload sets no COUNTFLAG
+1 1 | 2 | 00010005 00000005 | the count to 0 does
+1 1 | 3 | 00010005 00000005 | and it stays until it's read
+3 1 | 2 | 00010007 00000007 | with the interrupt too
+1 0 | 5 | 00000005 00000005 | no count without a reload value";
+
+#[test]
+fn the_registers_of_systick(rt: HostRuntime) {
+    for row in READS.lines() {
+        assert!(rt; reads_so(rt.alloc(), row) == Some(true), "{row}");
+    }
+}
+
+#[test]
+fn writes_to_rvr_and_cvr(rt: HostRuntime) -> Result<(), Fail> {
+    let mut clock = counting(rt.alloc(), "0 FFFFFFFF").ok_or("no memory")?;
+    assert_eq!(rt; clock.read_rvr(), 0x00FF_FFFF);
+    assert_eq!(rt; write(&mut clock, "1 1"), Some(()));
+    assert_eq!(rt; ticks(&mut clock, 3), Some(()));
+    assert_eq!(rt; clock.read_cvr(), 1);
+    clock.write_cvr();
+    assert_eq!(rt; clock.read_cvr(), 0);
+    assert_eq!(rt;
+        clock.read_csr(),
+        0x0000_0005,
+        "a write to CVR clears COUNTFLAG"
+    );
+    Ok(())
+}
+
+/// Whether a tick pends what is wanted, as it's foreseen and as it's done.
+fn pends(clock: &mut Clock<Counting>, due: Due) -> Option<bool> {
+    let foreseen = peek(clock)? == due;
+    Some(foreseen && tick(clock)? == due)
+}
+
+/// Whether the ticks that come pend SysTick's exception at each `F`, and nothing at each `-`.
+fn pends_each(clock: &mut Clock<Counting>, words: &str) -> Option<bool> {
+    for word in words.split_whitespace() {
+        let due = if is_first(word, "F", "-")? {
+            SYSTICK
+        } else {
+            [0; 8]
+        };
+        if !pends(clock, due)? {
+            return Some(false);
+        }
+    }
+    Some(true)
+}
+
+/// Whether SysTick pends its exception as its row says.
+fn pends_so(alloc: Global, row: &str) -> Option<bool> {
+    let mut clock = counting(alloc, part(row, 0))?;
+    let follows = pends_each(&mut clock, part(row, 1))?;
+    Some(follows && clock.now() == 6)
+}
+
+/// SYST_CSR and SYST_RVR; what each of six ticks pends, exception F or nothing; what the row is.
+const PENDS: &str = "\
+3 2 | - - F - - F | the end of each round of three ticks
+3 1 | - F - F - F | the end of each round of two
+3 0 | - - - - - - | no round without a reload value
+1 1 | - - - - - - | the interrupt is switched off
+2 1 | - - - - - - | the counter is switched off";
+
+#[test]
+fn systick_pends_its_exception(rt: HostRuntime) {
+    for row in PENDS.lines() {
+        assert!(rt; pends_so(rt.alloc(), row) == Some(true), "{row}");
+    }
+}
+
+/// Whether the second tick goes as its row says.
+fn goes_so(alloc: Global, row: &str) -> Option<bool> {
+    let mut clock = scripted(alloc, part(row, 0))?;
+    let due = set_of(part(row, 1))?;
+    let high = is_first(part(row, 2), "high", "low")?;
+    tick(&mut clock)?;
+    let foreseen = peek(&clock)? == due && clock.now() == 1;
+    let pends = tick(&mut clock)? == due;
+    Some(foreseen && pends && clock.high(0) == high && !clock.high(255))
+}
+
+/// The events; what the second tick pends; line 0 after it; what the row is.
+const SECOND_TICKS: &str = "\
+ | | low | nothing
+2:rise:0 | 10 | high | a rise
+1:rise:0 2:rise:0 | 10 | high | a rise of a high line
+2:fall:0 | | low | a fall
+1:rise:0 2:fall:0 | | low | a fall of a high line
+2:pulse:0 | 10 | low | a pulse
+1:rise:0 2:pulse:0 | 10 | high | a pulse of a high line
+2:nmi | 2 | low | NMI
+2:rise:0 2:fall:0 | 10 | low | a rise and then a fall
+2:fall:0 2:rise:0 | 10 | high | a fall and then a rise
+3:pulse:0 | | low | a later event
+1:pulse:0 | | low | an earlier event
+2:pulse:EF 2:rise:10 2:nmi 3:rise:0 | FF 20 2 | low | the last line, line 16 and NMI, before a later event";
+
+#[test]
+fn the_second_tick_of_a_script(rt: HostRuntime) {
+    for row in SECOND_TICKS.lines() {
+        assert!(rt; goes_so(rt.alloc(), row) == Some(true), "{row}");
+    }
+}
+
+#[test]
+fn systick_and_the_script_share_a_tick(rt: HostRuntime) -> Result<(), Fail> {
+    let mut clock = scripted(rt.alloc(), "2:nmi 2:rise:3").ok_or("no memory")?;
+    assert_eq!(rt; write(&mut clock, "3 1"), Some(()));
+    assert_eq!(rt; tick(&mut clock), Some([0; 8]));
+    assert_eq!(rt; tick(&mut clock), Some([0x0008_8004, 0, 0, 0, 0, 0, 0, 0]));
+    assert!(rt; clock.high(3));
+    Ok(())
+}
+
+#[test]
+fn the_laws_are_called() {
+    laws::ticks_are_quiet_before_what_is_due();
+    laws::what_is_due_happens();
+    laws::events_apply_in_their_tick();
+    laws::systick_has_its_period();
+}
