@@ -1,5 +1,3 @@
--- What the laws of the rows say. What a halfword means stands in the crate `reference`.
+-- What becomes of kept lines. What a halfword means stands in the crate `reference`.
 pub use Rattle.reference.specs.Decoding
-pub mod Laws
 pub mod Lines
-pub mod NumberForms

@@ -1,0 +1,6 @@
+pub mod LongData
+pub mod LongControl
+pub mod LongSeveral
+pub mod LongMemory
+pub mod LongRegister
+pub mod LongTop

@@ -1,0 +1,4 @@
+pub mod ShortData
+pub mod ShortMemory
+pub mod ShortControl
+pub mod ShortTop

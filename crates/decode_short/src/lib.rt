@@ -1,0 +1,10 @@
+//! What a halfword means that is an instruction alone (ARM DDI 0403, "16-bit Thumb instruction
+//! encoding").
+#![tactic(auto)]
+
+mod short;
+mod short_control;
+mod short_data;
+mod short_memory;
+
+pub use short::decode_short;

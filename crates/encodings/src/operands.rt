@@ -1,0 +1,66 @@
+//! Operands that rows of 16 and of 32 bits have in common.
+
+ghost use Rattle.std.specs.Prelude.{◌≡◌, ◌<◌, ◌^◌};
+ghost use Rattle.reference.specs.ShortControl.{hint_of};
+ghost use Rattle.reference.specs.ShortData.{number};
+ghost use Rattle.reference.specs.ShortMemory.{at_offset};
+ghost use Rattle.reference.specs.Words.{is_bit, sign_extended};
+
+use reference::instruction::Hint;
+use reference::operands::{Immediate, ImmediateAddress, Indexing};
+use reference::registers::Register;
+
+/// The hints by their number.
+#[tactic(auto, unfolding(reference::specs::ShortControl::hint_of))]
+pub fn hint(number: u8) -> Hint
+    ensures { result ≡ hint_of number }
+{
+    match number {
+        0 => Hint::NoOperation,
+        1 => Hint::Yield,
+        2 => Hint::WaitForEvent,
+        3 => Hint::WaitForInterrupt,
+        4 => Hint::SendEvent,
+        _ => Hint::Unallocated,
+    }
+}
+
+/// `SignExtend(number, 32)` of so many bits.
+pub fn sign_extend(bits: u8, number: u32) -> u32
+    requires some { 0 < bits }
+    requires narrow { bits < 32 }
+    requires fits { number < 2 ^ bits }
+    ensures { result ≡ sign_extended bits number }
+{
+    if number < 1 << (bits - 1) {
+        number
+    } else {
+        number + (0xFFFF_FFFF - (1 << bits) + 1)
+    }
+}
+
+/// A number that keeps the carry.
+#[inline]
+pub fn number(value: u32) -> Immediate
+    ensures { result ≡ number value }
+{
+    Immediate { value, carry: None }
+}
+
+/// A base and an offset, where the base stays.
+pub fn at_offset(n: Register, offset: u32) -> ImmediateAddress
+    ensures { result ≡ at_offset n offset }
+{
+    ImmediateAddress {
+        base: n,
+        offset,
+        indexing: Indexing::Offset,
+    }
+}
+
+/// Whether a register is in a list.
+pub fn is_in_list(n: Register, list: u16) -> bool
+    ensures { result ≡ is_bit list n }
+{
+    (list >> n.number()) % 2 == 1
+}
