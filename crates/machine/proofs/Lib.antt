@@ -1,5 +1,3 @@
-mod Gathering
 mod Loading
 mod Running
-mod Sending
 mod Serving

@@ -10,7 +10,7 @@ use Rattle.reference.specs.Run.{after, events_of, ending_of, trace}
 use Rattle.reference.specs.State.{State}
 use Rattle.reference.specs.Step.{step, unless_stopped}
 use Rattle.reference.specs.Text.{lines, line, stop_line}
-use Rattle.machine.specs.Output.{IsCutAfter, IsCutShort}
+use Rattle.output.specs.Output.{IsCutAfter, IsCutShort}
 use Rattle.machine.specs.Runs.{Leaves}
 
 -- a stopped machine makes no step

@@ -1,4 +1,3 @@
-pub mod Output
 pub mod Runs
 pub mod Serving
 pub mod Starts

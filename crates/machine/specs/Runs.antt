@@ -3,7 +3,7 @@ use Rattle.std.specs.Prelude.{◌≡◌, ◌⊎◌, ℕ, ◌+◌, ◌-◌, ◌<�
 use Rattle.std.specs.Io.KnownBytes.{Keeps}
 use Rattle.machine.specs.declared.whole.RunFault.{RunFault}
 use Rattle.machine.specs.declared.whole.RunFault.TheVariants.{Write, Broken}
-use Rattle.machine.specs.Output.{IsCutAfter}
+use Rattle.output.specs.Output.{IsCutAfter}
 use Rattle.machine.specs.Whole.{Whole}
 use Rattle.reference.specs.Run.{after, events_of, ending_of}
 use Rattle.reference.specs.State.{State}

@@ -9,11 +9,9 @@ ghost use Rattle.reference.specs.Kinds.{bytes_in};
 use access::{Bus, Decider, DueTicks, is_out};
 use arrayvec::ArrayVec;
 use exec::MOST_REQUESTS;
+use output::MOST_EVENTS;
 use reference::access::{Access, Cause, Denial, Failure, Outcome, Performed, Request, Rule};
 use reference::event::{Event, Happening};
-
-/// How many events a step gives at most.
-pub const MOST_EVENTS: usize = 40;
 
 /// The events of one step, in their order.
 pub type Events = ArrayVec<Event, MOST_EVENTS>;

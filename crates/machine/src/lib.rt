@@ -2,8 +2,6 @@
 #![tactic(auto)]
 
 mod accesses;
-pub mod output;
-pub mod paged;
 mod placing;
 pub mod readers;
 mod run;
@@ -14,10 +12,9 @@ mod tests;
 mod whole;
 
 pub use access::{Counting, Decider, DueTicks, Search};
-pub use accesses::{Events, MOST_EVENTS};
+pub use accesses::Events;
 pub use board::{Board, InterruptLine, ScriptedEvent, Signal};
-pub use output::{IoFault, Out, Over};
-pub use paged::Paged;
+pub use output::{IoFault, MOST_EVENTS, Out, Over, Paged};
 pub use readers::RegValues;
 pub use reference::board::{Layout, SMALL_BOARD};
 pub use reference::event::Event;

@@ -12,8 +12,7 @@ ghost use Rattle.reference.specs.Start.{start};
 ghost use Rattle.reference.specs.Step.{step};
 ghost use Rattle.std.specs.Io.KnownBytes.{Appends};
 
-use crate::accesses::{Events, MOST_EVENTS};
-use crate::output::Out;
+use crate::accesses::Events;
 use crate::readers::RegValues;
 use crate::run::run_core;
 use crate::start::start_core;
@@ -21,6 +20,7 @@ use crate::stepping::Core;
 use access::{Counting, Decider, DueTicks, Search};
 use board::Board;
 use elf::Image;
+use output::{MOST_EVENTS, Out};
 use reference::fault::{PlaceFault, StartFault};
 use reference::place::Place;
 use reference::stop::Stop;

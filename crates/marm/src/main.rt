@@ -1,18 +1,12 @@
 //! The program `marm`: it runs an image and writes the trace to standard output.
 #![tactic(auto)]
 
-pub mod engine;
-mod fault;
-mod files;
 #[cfg(test)]
 mod tests;
-mod words;
 
-use engine::go;
-use fault::{Fault, tell};
+use command::{Fault, Request, go, read_file, read_words, tell, words};
 use std::io;
 use std::process::ExitCode;
-use words::{Request, read_words};
 
 fn main(rt: HostRuntime) -> ExitCode {
     let status = match run(&rt) {
@@ -24,14 +18,14 @@ fn main(rt: HostRuntime) -> ExitCode {
 
 /// Reads the words, the image and the board, in this order, and runs the image.
 fn run(rt: &HostRuntime) -> Result<u8, Fault> {
-    let words = files::words(rt)?;
+    let words = words(rt)?;
     let Request {
         board,
         steps,
         image,
     } = read_words(rt.alloc(), words.as_slice())?;
-    let image = files::read_file(rt, image)?;
-    let board = files::read_file(rt, board)?;
+    let image = read_file(rt, image)?;
+    let board = read_file(rt, board)?;
     Ok(go(
         rt.alloc(),
         image.as_slice(),

@@ -1,6 +1,4 @@
-use crate::engine::go;
-use crate::fault::{Fault, tell};
-use crate::words::read_words;
+use command::{Fault, go, read_words, tell};
 use std::alloc::Global;
 use std::io;
 use std::io::Write;

@@ -1,0 +1,8 @@
+//! Where a trace goes: writers that tell what they took, and one that gathers the lines of many steps.
+#![tactic(auto)]
+
+mod paged;
+mod writer;
+
+pub use paged::Paged;
+pub use writer::{IoFault, MOST_EVENTS, Out, Over, StepPage};

@@ -1,0 +1,94 @@
+//! A writer that gathers the lines of many steps, so that the writer below is called seldom.
+
+ghost use Rattle.std.specs.Prelude.{◌≡◌, ◌+◌, ◌≤◌, [], length, drop, OnOk, OnErr};
+ghost use Rattle.reference.specs.Text.{lines};
+ghost use Rattle.std.specs.Io.KnownBytes.{append_known, Keeps};
+
+use crate::writer::{IoFault, MOST_EVENTS, Out, StepPage};
+use reference::event::Event;
+use trace::page::Page;
+use trace::tick::Tick;
+
+/// How many bytes are gathered at most.
+const ROOM: usize = 0x4000;
+
+/// How many bytes of a page leave room for a step's lines.
+const ALMOST_FULL: usize = ROOM - 2560;
+
+/// A writer that gathers lines on a page. What was put on the page counts as taken: `flush` hands it
+/// on at the end. Where the writer below fails, the lines that were being put aren't taken.
+#[derive(Drop)]
+pub struct Paged<O: Out + Drop> {
+    inner: O,
+    page: Page<ROOM>,
+    // How many bytes of the page were handed on already, by a call that failed after them.
+    at: usize,
+    ghost within: { at ≤ length page },
+}
+
+impl<O: Out + Drop> Paged<O> {
+    /// Over a writer, with an empty page.
+    pub fn new(inner: O) -> Self
+        ensures inner { result.inner ≡ inner }
+        ensures page { (result.page ≡ []) × (result.at ≡ 0) }
+    {
+        Paged {
+            inner,
+            page: Page::new(),
+            at: 0,
+        }
+    }
+
+    /// Hands the page on. After a fault a beginning of it went on, and the rest is still there.
+    pub fn flush(&mut self) -> Result<(), IoFault>
+        ensures known { Keeps (append_known (O.written self.old.inner) (drop self.old.at self.old.page)) (append_known (O.written self.new.inner) (drop self.new.at self.new.page)) }
+        ensures empty { OnOk result ((self.new.page ≡ []) × (self.new.at ≡ 0)) }
+        ensures quiet { OnOk result (O.faults self.new.inner ≡ O.faults self.old.inner) }
+        ensures fault { OnErr result (O.faults self.new.inner ≡ O.faults self.old.inner + 1) }
+    {
+        'pieces: while self.at < self.page.len() {
+            let (_, rest) = self.page.as_slice().split_at(self.at);
+            match self.inner.put(rest) {
+                Ok(0) => return Err(IoFault),
+                Ok(taken) => self.at += taken,
+                Err(fault) => return Err(fault),
+            }
+        }
+        self.page.clear();
+        self.at = 0;
+        Ok(())
+    }
+}
+
+impl<O: Out + Drop> Out for Paged<O> {
+    ghost written = { λ p. append_known (O.written p.inner) (drop p.at p.page) };
+
+    ghost faults = { λ p. O.faults p.inner };
+
+    fn put(&mut self, bytes: &[u8]) -> Result<usize, IoFault> {
+        match self.flush() {
+            Ok(()) => self.inner.put(bytes),
+            Err(fault) => Err(fault),
+        }
+    }
+
+    fn put_lines(
+        &mut self,
+        page: &mut StepPage,
+        tick: &mut Tick,
+        events: &[Event],
+    ) -> Result<(), IoFault> {
+        let _ = page;
+        if events.is_empty() {
+            return Ok(());
+        }
+        if self.at != 0 || self.page.len() > ALMOST_FULL {
+            match self.flush() {
+                Ok(()) => {}
+                Err(fault) => return Err(fault),
+            }
+        }
+        self.page.put_events(tick, events);
+        Ok(())
+    }
+}

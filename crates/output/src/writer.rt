@@ -1,0 +1,112 @@
+//! Writers that tell what they took.
+
+ghost use Rattle.std.specs.Prelude.{◌≡◌, ℕ, ◌+◌, ◌<◌, ◌≤◌, List, length, Option};
+ghost use Rattle.output.specs.Output.{Took, Put};
+ghost use Rattle.reference.specs.Text.{lines};
+
+use reference::event::Event;
+use std::io::Write;
+use std::marker::Model;
+use std::sync::ledger::{Blank, Book, Ledger, Share};
+use thiserror::Error;
+use trace::page::Page;
+use trace::tick::Tick;
+
+/// How many events a step has at most.
+pub const MOST_EVENTS: usize = 40;
+
+/// Room for the lines of a step, each of at most 64 bytes.
+pub type StepPage = Page<2560>;
+
+/// A writer failed.
+#[derive(Clone, Copy, Debug, Error)]
+#[error("the writer failed")]
+pub struct IoFault;
+
+/// A writer that tells how many of the bytes it took. A contract sees the bytes that it has taken,
+/// where they are known, and how many calls failed or took none of a piece that isn't empty.
+pub trait Out {
+    ghost written: { Self → Option (List ℕ) };
+
+    ghost faults: { Self → ℕ };
+
+    /// Takes a beginning of the bytes, and answers how many that were.
+    fn put(&mut self, bytes: &[u8]) -> Result<usize, IoFault>
+        ensures { Took (written self.old) (written self.new) (faults self.old) (faults self.new) bytes.now result };
+
+    /// Puts all of the bytes, piece by piece. After a fault a beginning of them went out.
+    fn put_all(&mut self, bytes: &[u8]) -> Result<(), IoFault>
+        ensures { Put (written self.old) (written self.new) (faults self.old) (faults self.new) bytes.now result }
+    {
+        let mut rest = bytes;
+        'pieces: while !rest.is_empty() {
+            match self.put(rest) {
+                Ok(0) => return Err(IoFault),
+                Ok(taken) => {
+                    let (_, behind) = rest.split_at(taken);
+                    rest = behind;
+                }
+                Err(fault) => return Err(fault),
+            }
+        }
+        Ok(())
+    }
+
+    /// Puts the lines of a step's events. `page` is room for their text, and `tick` for digits.
+    fn put_lines(
+        &mut self,
+        page: &mut StepPage,
+        tick: &mut Tick,
+        events: &[Event],
+    ) -> Result<(), IoFault>
+        requires { length events.now ≤ MOST_EVENTS }
+        ensures { Put (written self.old) (written self.new) (faults self.old) (faults self.new) (lines events.now) result }
+    {
+        page.clear();
+        page.put_events(tick, events);
+        self.put_all(page.as_slice())
+    }
+}
+
+/// A writer of the standard library, whose faults are counted in contracts alone.
+#[derive(Drop)]
+pub struct Over<W: Write + Drop, K: Ledger> {
+    inner: W,
+    book: Book<K>,
+    share: Share<K>,
+    ghost counts: { 0 < share.parts },
+}
+
+impl<W: Write + Drop, K: Ledger> Over<W, K> {
+    /// Over a writer, with a ledger in which nothing is counted yet.
+    pub fn new(inner: W, blank: Blank) -> Self
+        requires name { blank.name ≡ K.name }
+        requires parts { blank.parts ≡ K.parts }
+        requires some { 0 < blank.parts }
+        ensures inner { result.inner ≡ inner }
+        ensures total { result.book.total ≡ 0 }
+    {
+        let (book, share) = blank.open();
+        Over { inner, book, share }
+    }
+}
+
+impl<W: Write + Drop, K: Ledger> Out for Over<W, K> {
+    ghost written = { λ o. W.contents o.inner };
+
+    ghost faults = { λ o. o.book.total };
+
+    fn put(&mut self, bytes: &[u8]) -> Result<usize, IoFault> {
+        match self.inner.write(bytes) {
+            Ok(0) if !bytes.is_empty() => {
+                self.book.add(&mut self.share, 1);
+                Ok(0)
+            }
+            Ok(taken) => Ok(taken),
+            Err(_) => {
+                self.book.add(&mut self.share, 1);
+                Err(IoFault)
+            }
+        }
+    }
+}
