@@ -1,8 +1,8 @@
 //! Accesses to one bus, one after another (ARM DDI 0403, MemA[] and MemU[]).
 
+use super::memory::blank;
 use super::words::{request, rule_word};
-use access::{Bus, Cause, Counting, Performed, Search, Space};
-use reference::board::SMALL_BOARD;
+use access::{Bus, Cause, Counting, Performed, Search};
 use std::test::*;
 use tables::{part, word};
 
@@ -40,13 +40,12 @@ L word E000ED00 00000000 p | - stop | a register that isn't built
 S word E000ED98 00000008 p | - stop | a region number that isn't there";
 
 #[test]
-fn each_access_is_decided_in_the_state_before_it(rt: HostRuntime) -> Result<(), Fail> {
-    let space = Space::blank(rt.alloc(), &SMALL_BOARD).map_err(|_| "memory")?;
+fn each_access_is_decided_in_the_state_before_it(rt: HostRuntime) {
+    let space = blank(rt.alloc()).expect(&rt, "memory");
     let mut bus: Bus<Search, Counting> = Bus::new(space, Vec::new(rt.alloc()));
     for row in ACCESSES.lines() {
         assert!(rt; is_performed_so(&mut bus, row) == Some(true), "{row}");
     }
-    assert_eq!(rt; bus.region(3), Some((0x2000_0403, 0x0600_0013)));
-    assert_eq!(rt; bus.space().byte(0x2000_0000), Some(0));
-    Ok(())
+    assert!(rt; bus.region(3) == Some((0x2000_0403, 0x0600_0013)));
+    assert!(rt; bus.space().byte(0x2000_0000) == Some(0));
 }

@@ -8,7 +8,7 @@ use std::test::*;
 use tables::{byte_at, is_first, number_at, part, word};
 
 /// The memory of the small board before anything is loaded.
-fn blank(alloc: Global) -> Option<Space> {
+pub(super) fn blank(alloc: Global) -> Option<Space> {
     Space::blank(alloc, &SMALL_BOARD).ok()
 }
 
@@ -44,12 +44,11 @@ L word 40000004 00000000 p | 00000005 | a word from TICK
 F halfword 40000004 00000000 p | none | a fetch from TICK";
 
 #[test]
-fn accesses_one_after_another(rt: HostRuntime) -> Result<(), Fail> {
-    let mut space = blank(rt.alloc()).ok_or("memory")?;
+fn accesses_one_after_another(rt: HostRuntime) {
+    let mut space = blank(rt.alloc()).expect(&rt, "memory");
     for row in ACCESSES.lines() {
         assert!(rt; is_answered_so(&mut space, row) == Some(true), "{row}");
     }
-    Ok(())
 }
 
 /// Whether bytes lie as their row says.
@@ -73,47 +72,54 @@ ram 20001FFE 2 | in | the last halfword of RAM
 ram 20001FFF 2 | out | half behind RAM";
 
 #[test]
-fn places_in_flash_and_ram(rt: HostRuntime) -> Result<(), Fail> {
-    let space = blank(rt.alloc()).ok_or("memory")?;
+fn places_in_flash_and_ram(rt: HostRuntime) {
+    let space = blank(rt.alloc()).expect(&rt, "memory");
     for row in PLACES.lines() {
         assert!(rt; is_there_so(&space, row) == Some(true), "{row}");
     }
-    Ok(())
 }
 
-/// Whether an entry of the vector table or a byte is what its row says.
-fn is_found_so(space: &Space, row: &str) -> Option<bool> {
-    let place = part(row, 0);
-    let found = if is_first(word(place, 0), "vector", "byte")? {
-        Some(space.vector(u32::from(byte_at(place, 1)?)))
-    } else {
-        space.byte(number_at(place, 1)?).map(u32::from)
-    };
-    Some(found == wanted(part(row, 1))?)
+/// Whether an entry of the vector table is what its row says.
+fn is_vector_so(space: &Space, row: &str) -> Option<bool> {
+    let number = byte_at(part(row, 0), 0)?;
+    let vector = space.vector(u32::from(number));
+    Some(vector == number_at(part(row, 1), 0)?)
 }
 
-/// The number of a vector or the address of a byte; what is found there, if anything, once a debugger
-/// has put the bytes 1, 2, 3 and 4 from address 4 on; what the row is.
-const FOUND: &str = "\
-vector 1 | 04030201 | the bytes that were put there
-vector 0 | FFFFFFFF | erased flash before them
-byte 00000005 | 02 | the second of them
-byte 00001000 | none | behind flash";
+/// The number of a vector; its word, once a debugger has put the bytes 1, 2, 3 and 4 from address 4 on;
+/// what the row is.
+const VECTORS: &str = "\
+1 | 04030201 | the bytes that were put there
+0 | FFFFFFFF | erased flash before them";
+
+/// Whether a byte is what its row says.
+fn is_byte_so(space: &Space, row: &str) -> Option<bool> {
+    let byte = space.byte(number_at(part(row, 0), 0)?);
+    Some(byte.map(u32::from) == wanted(part(row, 1))?)
+}
+
+/// The address of a byte; the byte there, if there is one, once the same bytes are put; what the row is.
+const BYTES: &str = "\
+00000005 | 02 | the second of them
+00001000 | none | behind flash";
 
 #[test]
-fn bytes_that_a_debugger_puts(rt: HostRuntime) -> Result<(), Fail> {
-    let mut space = blank(rt.alloc()).ok_or("memory")?;
+fn bytes_that_a_debugger_puts(rt: HostRuntime) {
+    let mut space = blank(rt.alloc()).expect(&rt, "memory");
     assert!(rt; space.is_in_flash(4, 4));
     space.overwrite(4, &[1, 2, 3, 4]);
-    for row in FOUND.lines() {
-        assert!(rt; is_found_so(&space, row) == Some(true), "{row}");
+    for row in VECTORS.lines() {
+        assert!(rt; is_vector_so(&space, row) == Some(true), "{row}");
     }
-    Ok(())
+    for row in BYTES.lines() {
+        assert!(rt; is_byte_so(&space, row) == Some(true), "{row}");
+    }
 }
 
 /// Whether an access goes to the console as its row says.
 fn is_out_so(row: &str) -> Option<bool> {
-    Some(is_out(&request(part(row, 0))?) == is_first(part(row, 1), "out", "not")?)
+    let request = request(part(row, 0))?;
+    Some(is_out(&request) == is_first(part(row, 1), "out", "not")?)
 }
 
 /// An access of privileged code to OUT; whether it sends a byte to the console; what the row is.

@@ -3,7 +3,7 @@
 use super::regions::{decision, is_told};
 use super::settings::{setting, write};
 use super::words::wanted;
-use mpu::{Decider, MpuRegs, Search, register_at, stop_of};
+use mpu::{Decider, MpuRegs, MpuStop, Search, register_at, stop_of};
 use reference::stop::{Stop, UnpredictableCase};
 use std::test::*;
 use tables::{byte_at, number, number_at, part, word};
@@ -63,13 +63,12 @@ fn registers_read_back(rt: HostRuntime) {
     }
 }
 
-/// RBAR and RASR that a part wants, if it wants any.
-fn wanted_region(part: &str) -> Option<Option<(u32, u32)>> {
-    if part == "none" {
-        Some(None)
-    } else {
-        Some(Some((number_at(part, 0)?, number_at(part, 1)?)))
-    }
+/// Whether RBAR and RASR are the wanted ones, or there is none where none is wanted.
+fn is_wanted(shown: Option<(u32, u32)>, wanted: &str) -> Option<bool> {
+    let Some((base, attributes)) = shown else {
+        return Some(wanted == "none");
+    };
+    Some(base == number_at(wanted, 0)? && attributes == number_at(wanted, 1)?)
 }
 
 /// Whether a region is shown as its row says.
@@ -77,7 +76,7 @@ fn is_shown_so(row: &str) -> Option<bool> {
     let registers = setting(word(part(row, 0), 0))?;
     let is_counted = registers.count() == byte_at(part(row, 0), 1)?;
     let shown = registers.region(byte_at(part(row, 1), 0)?);
-    Some(is_counted && shown == wanted_region(part(row, 2))?)
+    Some(is_counted && is_wanted(shown, part(row, 2))?)
 }
 
 /// The name of the registers, and how many regions they have; the number of a region; its RBAR and
@@ -110,24 +109,35 @@ fn is_reloaded_so(row: &str) -> Option<bool> {
 
 /// The name of the registers; an access; what decides it before the decider is told of them, and what
 /// afterwards; the region that the address belongs to; what the row is.
-const RELOADED: &str = "\
-sixteen | L 20000000 u | off ok | r9 mpu | 9 | the higher of two of sixteen regions
-task | L 00000100 u | off ok | r1 ok | 1 | the second of eight regions";
+const SIXTEEN: &str = "\
+sixteen | L 20000000 u | off ok | r9 mpu | 9 | the first byte of regions 2 and 9
+sixteen | L 20000000 p | off ok | r9 ok | 9 | privileged code
+sixteen | S 200003FF u | off ok | r9 mpu | 9 | the last byte of regions 2 and 9";
 
 #[test]
-fn registers_that_are_reloaded(rt: HostRuntime) {
-    for row in RELOADED.lines() {
+fn sixteen_regions(rt: HostRuntime) {
+    for row in SIXTEEN.lines() {
         assert!(rt; is_reloaded_so(row) == Some(true), "{row}");
     }
 }
 
+/// The word of a case at which a write stops.
+fn case_word(case: UnpredictableCase) -> &'static str {
+    match case {
+        UnpredictableCase::MpuRegion => "region",
+        UnpredictableCase::MpuControl => "control",
+        _ => "another case",
+    }
+}
+
 /// The word of what became of a write.
-fn stop_word(stop: Option<Stop>) -> &'static str {
-    match stop {
-        None => "taken",
-        Some(Stop::Unpredictable(UnpredictableCase::MpuRegion)) => "region",
-        Some(Stop::Unpredictable(UnpredictableCase::MpuControl)) => "control",
-        Some(_) => "another stop",
+fn word_of(written: Result<(), MpuStop>) -> &'static str {
+    let Err(stop) = written else {
+        return "taken";
+    };
+    match stop_of(stop) {
+        Stop::Unpredictable(case) => case_word(case),
+        _ => "another stop",
     }
 }
 
@@ -147,8 +157,7 @@ fn is_written_so(row: &str) -> Option<bool> {
     let before = setting("task")?;
     let mut registers = before;
     let register = register_at(number_at(part(row, 0), 0)?)?;
-    let written = registers.write_reg(register, number_at(part(row, 0), 1)?);
-    let became = stop_word(written.err().map(stop_of));
+    let became = word_of(registers.write_reg(register, number_at(part(row, 0), 1)?));
     Some(became == part(row, 1) && (became == "taken" || are_same(&registers, &before)))
 }
 

@@ -1,7 +1,7 @@
 //! Registers of the MPU that rows call by a name.
 
 use mpu::{MpuRegs, register_at};
-use tables::{number, number_at, part, word};
+use tables::{byte_at, number, number_at, part, word};
 
 /// The name; how many regions there are, MPU_CTRL, and RBAR and RASR of each region that is set; what
 /// the registers say.
@@ -21,7 +21,11 @@ sixteen | 10 1 20000012:03000013 20000019:01000013 | region 9, for privileged co
 
 /// A write to the register at an address, which has to be taken.
 pub(super) fn write(registers: &mut MpuRegs, address: u32, value: u32) -> Option<()> {
-    registers.write_reg(register_at(address)?, value).ok()
+    let register = register_at(address)?;
+    match registers.write_reg(register, value) {
+        Ok(()) => Some(()),
+        Err(_) => None,
+    }
 }
 
 /// RBAR and RASR are written, as a word has them.
@@ -31,12 +35,10 @@ pub(super) fn write_region(registers: &mut MpuRegs, word: &str) -> Option<()> {
     write(registers, 0xE000_EDA0, number(attributes)?)
 }
 
-/// The registers after a reset.
-fn fresh(count: u32) -> Option<MpuRegs> {
-    if count == 8 {
-        Some(MpuRegs::new(8))
-    } else if count == 16 {
-        Some(MpuRegs::new(16))
+/// The registers after a reset, with 8 or 16 regions.
+fn fresh(count: u8) -> Option<MpuRegs> {
+    if count == 8 || count == 16 {
+        Some(MpuRegs::new(count))
     } else {
         None
     }
@@ -44,7 +46,7 @@ fn fresh(count: u32) -> Option<MpuRegs> {
 
 /// The registers of a part: how many regions there are, MPU_CTRL, and RBAR and RASR of each region.
 fn registers_of(part: &str) -> Option<MpuRegs> {
-    let mut registers = fresh(number_at(part, 0)?)?;
+    let mut registers = fresh(byte_at(part, 0)?)?;
     for region in part.split_whitespace().skip(2) {
         write_region(&mut registers, region)?;
     }

@@ -33,7 +33,19 @@ fn size_word(size: Size) -> &'static str {
     }
 }
 
-/// The word of a rule. A region has its number, as far as rows name it.
+/// The word of a region, as far as rows name it.
+fn region_word(number: u8) -> &'static str {
+    match number {
+        0 => "r0",
+        1 => "r1",
+        3 => "r3",
+        7 => "r7",
+        9 => "r9",
+        _ => "another region",
+    }
+}
+
+/// The word of a rule.
 pub(super) fn rule_word(rule: Rule) -> &'static str {
     match rule {
         Rule::NeverExecute => "xn",
@@ -41,12 +53,7 @@ pub(super) fn rule_word(rule: Rule) -> &'static str {
         Rule::PrivatePeripheralBus => "ppb",
         Rule::MpuOff => "off",
         Rule::NegativePriority => "neg",
-        Rule::Region(0) => "r0",
-        Rule::Region(1) => "r1",
-        Rule::Region(3) => "r3",
-        Rule::Region(7) => "r7",
-        Rule::Region(9) => "r9",
-        Rule::Region(_) => "another region",
+        Rule::Region(number) => region_word(number),
         Rule::Background => "bg",
         Rule::NoRegion => "none",
     }
