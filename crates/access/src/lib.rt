@@ -4,8 +4,6 @@
 
 mod bus;
 pub mod laws;
-#[cfg(test)]
-mod tests;
 
 pub use bus::Bus;
 pub use clock::{Counting, DueTicks, ScriptedEvent};

@@ -7,8 +7,6 @@ pub mod laws;
 mod regions;
 mod registers;
 mod rules;
-#[cfg(test)]
-mod tests;
 
 pub use decider::{Decider, Search};
 pub use reference::access::{Decision, Kind, Rule};

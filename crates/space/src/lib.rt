@@ -2,8 +2,6 @@
 #![tactic(auto)]
 
 mod memory;
-#[cfg(test)]
-mod tests;
 
 pub use memory::{Space, is_out, is_within};
 pub use reference::access::{Answer, Kind, Request, Size};
