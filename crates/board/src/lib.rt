@@ -12,8 +12,6 @@ ghost use Rattle.board.specs.Seen.{Answers, described};
 mod events;
 mod keys;
 mod layout;
-#[cfg(test)]
-mod tests;
 mod values;
 mod whole;
 

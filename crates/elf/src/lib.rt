@@ -9,8 +9,6 @@ mod image;
 mod number;
 mod overlap;
 mod program_header;
-#[cfg(test)]
-mod tests;
 
 pub use image::{Image, MOST_SEGMENTS, Segment};
 use number::{halfword, word};

@@ -1,6 +1,11 @@
 mod accesses;
+mod boards;
+mod images;
+mod lines;
 mod memory;
+mod priorities;
 mod region_registers;
 mod regions;
 mod settings;
+mod ticks;
 mod words;

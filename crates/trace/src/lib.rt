@@ -4,7 +4,5 @@
 mod hex;
 pub mod lines;
 pub mod page;
-#[cfg(test)]
-mod tests;
 pub mod tick;
 mod words;

@@ -1,2 +1,0 @@
-mod priorities;
-mod ticks;
