@@ -1,4 +1,8 @@
 use arrayvec::ArrayVec;
+use data_edges_fields::{FIELDS, REARRANGEMENTS};
+use data_edges_moves::{MOVES, SHIFTS};
+use data_edges_products::{PRODUCTS, QUOTIENTS, SATURATION};
+use data_edges_sums::{COMPARISONS, TWO_OPERANDS};
 use decode::{Decoded, decode, length};
 use edges::{EDGES, STOPS};
 use exec::{Requests, finish, plan};
@@ -16,6 +20,11 @@ use short_data::SHORT_DATA;
 use short_others::SHORT_OTHERS;
 use std::test::*;
 
+mod data_edges_fields;
+mod data_edges_moves;
+mod data_edges_products;
+mod data_edges_sums;
+mod decoding;
 mod edges;
 mod lines;
 mod long_data_first;
@@ -23,6 +32,7 @@ mod long_data_second;
 mod long_others_first;
 mod long_others_second;
 mod memory;
+mod registers;
 mod short_data;
 mod short_others;
 
@@ -92,11 +102,35 @@ fn difference(case: &mut Case) -> Option<&'static str> {
     None
 }
 
+/// Whether a case leaves what it says.
+fn is_right(text: &str) -> bool {
+    difference(&mut Case::of(text)).is_none()
+}
+
 #[test]
 fn edges_worked_by_hand(rt: HostRuntime) {
-    'cases: for text in EDGES.split("\n\n") {
-        let mut case = Case::of(text);
-        assert_eq!(rt; difference(&mut case), None, "{text}");
+    for text in EDGES.split("\n\n") {
+        assert!(rt; is_right(text), "{text}");
+    }
+}
+
+#[test]
+fn edges_of_data_processing(rt: HostRuntime) {
+    let tables = [
+        TWO_OPERANDS,
+        COMPARISONS,
+        MOVES,
+        SHIFTS,
+        PRODUCTS,
+        QUOTIENTS,
+        SATURATION,
+        FIELDS,
+        REARRANGEMENTS,
+    ];
+    for table in tables {
+        for text in table.split("\n\n") {
+            assert!(rt; is_right(text), "{text}");
+        }
     }
 }
 
@@ -110,21 +144,28 @@ fn cases_of_other_machines(rt: HostRuntime) {
         LONG_OTHERS_FIRST,
         LONG_OTHERS_SECOND,
     ];
-    'tables: for table in tables {
-        'cases: for text in table.split("\n\n") {
-            let mut case = Case::of(text);
-            assert_eq!(rt; difference(&mut case), None, "{text}");
+    for table in tables {
+        for text in table.split("\n\n") {
+            assert!(rt; is_right(text), "{text}");
         }
     }
 }
 
+/// How the first instruction of a case stops, if it does.
+fn stop_of(text: &str) -> Option<Stop> {
+    let mut case = Case::of(text);
+    step(&mut case.regs, &mut case.memory).err()
+}
+
+/// Whether a case stops since its instruction isn't built.
+fn is_unbuilt(text: &str) -> bool {
+    matches!(stop_of(text), Some(Stop::OutOfProfile(LeftOut::Unbuilt)))
+}
+
 #[test]
 fn cases_that_stop_today(rt: HostRuntime) {
-    'cases: for text in LATER.split("\n\n") {
-        let mut case = Case::of(text);
-        let stop = step(&mut case.regs, &mut case.memory);
-        let is_unbuilt = matches!(stop, Err(Stop::OutOfProfile(LeftOut::Unbuilt)));
-        assert!(rt; is_unbuilt, "{text}");
+    for text in LATER.split("\n\n") {
+        assert!(rt; is_unbuilt(text), "{text}");
     }
 }
 
@@ -141,14 +182,17 @@ fn name_of(stop: Stop) -> &'static str {
     }
 }
 
+/// Whether a case stops as its first word says, or goes on.
+fn stops_so(text: &str) -> bool {
+    match stop_of(text) {
+        Some(stop) => text.starts_with(name_of(stop)),
+        None => text.starts_with("goes on"),
+    }
+}
+
 #[test]
 fn named_stops(rt: HostRuntime) {
-    'cases: for text in STOPS.split("\n\n") {
-        let mut case = Case::of(text);
-        let name = match step(&mut case.regs, &mut case.memory) {
-            Ok(_) => "goes on",
-            Err(stop) => name_of(stop),
-        };
-        assert!(rt; text.starts_with(name), "{name} isn't that of: {text}");
+    for text in STOPS.split("\n\n") {
+        assert!(rt; stops_so(text), "{text}");
     }
 }

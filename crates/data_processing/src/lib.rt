@@ -14,8 +14,6 @@ mod rearrangement;
 mod results;
 mod saturation;
 mod shifts;
-#[cfg(test)]
-mod tests;
 mod two_operands;
 
 pub use addresses::address;

@@ -4,13 +4,13 @@ ghost use Rattle.std.specs.Prelude.{◌≡◌, ◌≤◌};
 ghost use Rattle.reference.specs.Decoding.{long_meaning};
 ghost use Rattle.reference.specs.Words.{bits};
 
-use encodings::fields::bits;
 use crate::long_control::branches_and_control;
 use crate::long_data::{modified_immediates, shifted_registers};
 use crate::long_memory::{loads, stores};
 use crate::long_plain::plain_immediates;
 use crate::long_register::{multiplies, register_rows};
 use crate::long_several::{duals_and_exclusives, lists};
+use encodings::fields::bits;
 use reference::instruction::Decoded;
 
 /// What two halfwords mean that are an instruction together, the first above the second.

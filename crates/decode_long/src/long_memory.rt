@@ -6,9 +6,9 @@ ghost use Rattle.reference.specs.Decoding.{long_meaning};
 ghost use Rattle.reference.specs.LongMemory.{size_of, narrow_form, word_form, place_of_load, is_refused_load, is_refused_store, load_literal, load_at, load_unprivileged, load_indexed, store_at, store_unprivileged, store_indexed, memory_hint, memory_hint_indexed};
 ghost use Rattle.reference.specs.Words.{bits};
 
+use crate::long_several::{byte_or_halfword, indexing_of, signed_offset, writes_back};
 use encodings::fields::{bits, register};
 use encodings::given::{is_bad, last_only_if, long, long_unless, placed_unless, unless_refused};
-use crate::long_several::{byte_or_halfword, indexing_of, signed_offset, writes_back};
 use encodings::operands::at_offset;
 use reference::access::Size;
 use reference::instruction::{BlockPlace, Decoded, Hint, Instruction};

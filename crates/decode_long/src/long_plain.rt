@@ -8,9 +8,9 @@ ghost use Rattle.reference.specs.Words.{bits, negated};
 ghost use Rattle.reference.specs.declared.instruction.BlockPlace.TheVariants.{Anywhere};
 ghost use Rattle.reference.specs.declared.stop.UnpredictableCase.TheVariants.{BitField};
 
+use crate::long_data::{is_refused_destination, shifted};
 use encodings::fields::{bits, five, four, imm5, imm12, register};
 use encodings::given::{as_told, is_bad, long, long_unless, unless, unless_refused};
-use crate::long_data::{is_refused_destination, shifted};
 use encodings::operands::number;
 use reference::instruction::{BlockPlace, Decoded, Instruction};
 use reference::operands::{

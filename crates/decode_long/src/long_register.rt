@@ -5,9 +5,9 @@ ghost use Rattle.reference.specs.Decoding.{long_meaning};
 ghost use Rattle.reference.specs.LongRegister.{shift_type_of, shift_by_register, extended_size, extend_turned, rearrange_wide, multiply_wide, multiply_accumulate, multiply_long, divide};
 ghost use Rattle.reference.specs.Words.{bits};
 
+use crate::long_data::flags_if;
 use encodings::fields::{bits, is_set, register};
 use encodings::given::{as_told, is_bad, long_unless};
-use crate::long_data::flags_if;
 use reference::access::Size;
 use reference::instruction::{Decoded, Instruction};
 use reference::operands::{

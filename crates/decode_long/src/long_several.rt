@@ -7,9 +7,9 @@ ghost use Rattle.reference.specs.LongSeveral.{has_few, store_list, load_list, by
 ghost use Rattle.reference.specs.Rows.{as_told};
 ghost use Rattle.reference.specs.Words.{bits};
 
+use crate::long_plain::negated;
 use encodings::fields::{bits, is_set, register};
 use encodings::given::{as_told, is_bad, last_only_if, long, long_unless, placed_unless, unless};
-use crate::long_plain::negated;
 use encodings::operands::is_in_list;
 use reference::access::Size;
 use reference::instruction::{BlockPlace, Decoded, Instruction};

@@ -4,7 +4,6 @@ ghost use Rattle.std.specs.Prelude.{◌≡◌, ◌<◌};
 ghost use Rattle.reference.specs.Decoding.{short_meaning};
 ghost use Rattle.reference.specs.Words.{bits};
 
-use encodings::fields::{bits, eight, five, four, low_register};
 use crate::short_control::{
     branch_if, branch_short, branches_and_calls, breakpoint, changes_state, compares_and_branches,
     hints_and_it,
@@ -17,6 +16,7 @@ use crate::short_memory::{
     load_list, load_literal_word, load_number, loads_at_registers, pop, push, store_list,
     store_number, stores_at_registers,
 };
+use encodings::fields::{bits, eight, five, four, low_register};
 use reference::access::Size;
 use reference::instruction::Decoded;
 use reference::operands::DataOperation;

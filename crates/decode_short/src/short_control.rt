@@ -6,8 +6,8 @@ ghost use Rattle.reference.specs.ShortControl.{branch_exchange, branch_link_exch
 ghost use Rattle.reference.specs.Words.{bits, sign_extended};
 
 use encodings::fields::{bits, eight, four, is_set, low_register, register};
-use encodings::operands::{hint, sign_extend};
 use encodings::given::{as_told, placed, placed_unless, short, unless};
+use encodings::operands::{hint, sign_extend};
 use reference::instruction::{BlockPlace, Decoded, Hint, Instruction};
 use reference::operands::{
     BranchExchange, ChangeProcessorState, CompareAndBranch, ConditionalBranch, IfThen, Offset,

@@ -5,10 +5,10 @@ ghost use Rattle.reference.specs.Decoding.{short_meaning};
 ghost use Rattle.reference.specs.ShortData.{unshifted, number, move_low, shift_number, shift_register, data_registers, data_number, move_number, move_not, compare_number, compare_registers, multiply, add_high, compare_high, move_high, address, sp_number, extend, rearrange};
 ghost use Rattle.reference.specs.Words.{bits};
 
-use encodings::fields::{bits, five, low_register, register, seven, split_register};
-use encodings::operands::number;
-use encodings::given::{last_only_if, placed, placed_unless, short, unless_refused};
 use crate::short_control::branch_exchanges;
+use encodings::fields::{bits, five, low_register, register, seven, split_register};
+use encodings::given::{last_only_if, placed, placed_unless, short, unless_refused};
+use encodings::operands::number;
 use reference::access::Size;
 use reference::instruction::{BlockPlace, Decoded, Instruction};
 use reference::operands::{

@@ -6,8 +6,8 @@ ghost use Rattle.reference.specs.ShortMemory.{load_literal_word, store_register,
 ghost use Rattle.reference.specs.Words.{bits, is_bit};
 
 use encodings::fields::{bits, eight, low_register};
-use encodings::operands::{at_offset, is_in_list};
 use encodings::given::{last_only_if, placed, short, unless};
+use encodings::operands::{at_offset, is_in_list};
 use reference::access::Size;
 use reference::instruction::{BlockPlace, Decoded, Instruction};
 use reference::operands::{

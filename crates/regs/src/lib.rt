@@ -11,8 +11,6 @@ use std::marker::Model;
 
 mod arithmetic;
 mod conditions;
-#[cfg(test)]
-mod tests;
 
 pub use arithmetic::{Shift, ShiftType, add_with_carry, decode_imm_shift, expand_imm, shift_c};
 

@@ -1,6 +1,6 @@
 //! What an instruction says, as the numbers of a line of the tables: a family of shapes a function.
 
-use crate::Instruction;
+use reference::instruction::Instruction;
 use reference::operands::{ImmediateAddress, LoadForm, RegisterAddress, ShiftedRegister};
 use reference::registers::Register;
 

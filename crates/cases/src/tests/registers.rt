@@ -1,0 +1,415 @@
+//! The core registers, and the arithmetic of instructions, worked by hand from the manual (ARM DDI
+//! 0403: the layout of xPSR and CONTROL, `AddWithCarry()`, `Shift_C()`, `ThumbExpandImm_C()`,
+//! `ConditionHolds()`, "ITSTATE").
+
+use regs::{
+    Flags, Register, Regs, ShiftType, add_with_carry, decode_imm_shift, expand_imm, flags_of,
+    shift_c,
+};
+use std::test::*;
+use tables::{byte_at, is_first, number_at, part, word};
+
+/// The registers after a reset.
+fn after_reset() -> Regs {
+    Regs::reset(0x2000_1000, 0x101)
+}
+
+/// Whether the stack pointers, LR and PC are those.
+fn has_addresses(registers: &Regs, wanted: &str) -> Option<bool> {
+    Some(
+        registers.sp() == number_at(wanted, 0)?
+            && registers.main_stack() == number_at(wanted, 1)?
+            && registers.process_stack() == number_at(wanted, 2)?
+            && registers.link() == number_at(wanted, 3)?
+            && registers.pc() == number_at(wanted, 4)?,
+    )
+}
+
+/// Whether T, IT and the mode are those.
+fn has_mode(registers: &Regs, wanted: &str) -> Option<bool> {
+    Some(
+        registers.is_thumb() == is_first(word(wanted, 0), "T", "-")?
+            && registers.it() == byte_at(wanted, 1)?
+            && registers.is_privileged() == is_first(word(wanted, 2), "privileged", "-")?
+            && registers.is_handler() == is_first(word(wanted, 3), "handler", "-")?,
+    )
+}
+
+/// Whether the registers after a reset are those of a row.
+fn is_reset_so(row: &str) -> Option<bool> {
+    let table = part(row, 0);
+    let registers = Regs::reset(number_at(table, 0)?, number_at(table, 1)?);
+    let words = part(row, 3);
+    Some(
+        has_addresses(&registers, part(row, 1))?
+            && has_mode(&registers, part(row, 2))?
+            && registers.xpsr() == number_at(words, 0)?
+            && registers.control() == number_at(words, 1)?,
+    )
+}
+
+/// The stack and the entry that a reset takes; SP, MSP, PSP, LR and PC; T, IT, whether it is
+/// privileged, and whether a handler runs; xPSR and CONTROL; what the row is.
+const RESETS: &str = "\
+20001003 101 | 20001000 20001000 0 FFFFFFFF 100 | T 0 privileged - | 1000000 0 | a reset takes the vector table";
+
+#[test]
+fn resets(rt: HostRuntime) {
+    for row in RESETS.lines() {
+        assert!(rt; is_reset_so(row) == Some(true), "{row}");
+    }
+}
+
+/// Whether a register reads as its row says.
+fn is_kept_so(row: &str) -> Option<bool> {
+    let given = part(row, 0);
+    let number = byte_at(given, 0)?;
+    if number > 15 {
+        return None;
+    }
+    let register = Register::new(number);
+    let mut registers = after_reset();
+    registers.set(register, number_at(given, 1)?);
+    Some(registers.get(register) == number_at(part(row, 1), 0)?)
+}
+
+/// A register's number and the value that it is given; what it reads as; what the row is.
+const KEPT: &str = "\
+0 5 | 5 | R0
+C FFFFFFFF | FFFFFFFF | R12
+D 20000FFF | 20000FFC | SP loses its bits 1:0
+E 201 | 201 | LR
+F 201 | 204 | PC branches, and reads as 4 more";
+
+#[test]
+fn registers_keep_what_they_are_given(rt: HostRuntime) {
+    for row in KEPT.lines() {
+        assert!(rt; is_kept_so(row) == Some(true), "{row}");
+    }
+}
+
+/// Whether PC goes on or branches as its row says.
+fn goes_so(row: &str) -> Option<bool> {
+    let mut registers = Regs::reset(0, number_at(part(row, 0), 0)?);
+    let step = part(row, 1);
+    let number = number_at(step, 1)?;
+    if is_first(word(step, 0), "on", "to")? {
+        registers.go_on(number);
+    } else {
+        registers.branch(number);
+    }
+    Some(registers.pc() == number_at(part(row, 2), 0)?)
+}
+
+/// PC; how many bytes it goes on, or the address that it branches to; PC then; what the row is.
+const NEXT: &str = "\
+100 | on 4 | 104 | goes on behind 32 bits
+104 | to FFFFFFFF | FFFFFFFE | a branch clears bit 0
+FFFFFFFE | on 2 | 0 | goes on across the end";
+
+#[test]
+fn next_instructions(rt: HostRuntime) {
+    for row in NEXT.lines() {
+        assert!(rt; goes_so(row) == Some(true), "{row}");
+    }
+}
+
+/// Five flags, each its letter or a line.
+fn flags_at(flags: &str) -> Option<Flags> {
+    Some(Flags {
+        negative: is_first(word(flags, 0), "N", "-")?,
+        zero: is_first(word(flags, 1), "Z", "-")?,
+        carry: is_first(word(flags, 2), "C", "-")?,
+        overflow: is_first(word(flags, 3), "V", "-")?,
+        saturated: is_first(word(flags, 4), "Q", "-")?,
+    })
+}
+
+/// Whether two are the same flags.
+fn are_same(one: Flags, other: Flags) -> bool {
+    one.negative == other.negative
+        && one.zero == other.zero
+        && one.carry == other.carry
+        && one.overflow == other.overflow
+        && one.saturated == other.saturated
+}
+
+/// Whether a word has the flags of its row, and so have the registers that are given them.
+fn has_flags_so(row: &str) -> Option<bool> {
+    let mut registers = after_reset();
+    registers.set_flags(flags_of(number_at(part(row, 0), 0)?));
+    let words = part(row, 2);
+    Some(
+        are_same(registers.flags(), flags_at(part(row, 1))?)
+            && registers.apsr() == number_at(words, 0)?
+            && registers.xpsr() == number_at(words, 1)?,
+    )
+}
+
+/// A word; its flags; APSR, and xPSR after a reset with these flags; what the row is.
+const FLAGS: &str = "\
+00000000 | - - - - - | 00000000 01000000 | no flag
+07FFFFFF | - - - - - | 00000000 01000000 | no flag, and each other bit
+80000000 | N - - - - | 80000000 81000000 | N
+40000001 | - Z - - - | 40000000 41000000 | Z, and a bit that is no flag
+20000000 | - - C - - | 20000000 21000000 | C
+12000000 | - - - V - | 10000000 11000000 | V, and a bit that is no flag
+0C000000 | - - - - Q | 08000000 09000000 | Q, and a bit that is no flag
+FFFFFFFF | N Z C V Q | F8000000 F9000000 | all bits";
+
+#[test]
+fn flags_of_words(rt: HostRuntime) {
+    for row in FLAGS.lines() {
+        assert!(rt; has_flags_so(row) == Some(true), "{row}");
+    }
+}
+
+/// A carry, set or clear.
+fn carry(word: &str) -> Option<bool> {
+    is_first(word, "C", "-")
+}
+
+/// Whether two words and a carry have the sum of their row.
+fn is_sum(row: &str) -> Option<bool> {
+    let (given, wanted) = (part(row, 0), part(row, 1));
+    let (x, y) = (number_at(given, 0)?, number_at(given, 1)?);
+    let sum = add_with_carry(x, y, carry(word(given, 2))?);
+    Some(
+        sum.0 == number_at(wanted, 0)?
+            && sum.1 == carry(word(wanted, 1))?
+            && sum.2 == is_first(word(wanted, 2), "V", "-")?,
+    )
+}
+
+/// Two words and the carry in; the result, the carry out and the overflow; what the row is.
+const SUMS: &str = "\
+0 0 - | 0 - - | nothing
+0 0 C | 1 - - | the carry alone
+FFFFFFFF 0 C | 0 C - | the carry wraps
+FFFFFFFF 1 - | 0 C - | -1 and 1
+7FFFFFFF 1 - | 80000000 - V | past the greatest
+7FFFFFFF 0 C | 80000000 - V | past it by the carry
+7FFFFFFF 7FFFFFFF C | FFFFFFFF - V | the greatest twice
+80000000 80000000 - | 0 C V | the least twice
+80000000 FFFFFFFF - | 7FFFFFFF C V | past the least
+80000000 FFFFFFFF C | 80000000 C - | saved by the carry
+FFFFFFFF FFFFFFFF C | FFFFFFFF C - | all ones
+5 FFFFFFFC C | 2 C - | 5 - 3, no borrow
+3 FFFFFFFA C | FFFFFFFE - - | 3 - 5, a borrow";
+
+#[test]
+fn sums_of_words(rt: HostRuntime) {
+    for row in SUMS.lines() {
+        assert!(rt; is_sum(row) == Some(true), "{row}");
+    }
+}
+
+/// The word of a shift.
+fn name_of(shift_type: ShiftType) -> &'static str {
+    match shift_type {
+        ShiftType::Lsl => "Lsl",
+        ShiftType::Lsr => "Lsr",
+        ShiftType::Asr => "Asr",
+        ShiftType::Ror => "Ror",
+        ShiftType::Rrx => "Rrx",
+    }
+}
+
+/// The shift that a word names.
+fn shift_type(word: &str) -> Option<ShiftType> {
+    let all = [
+        ShiftType::Lsl,
+        ShiftType::Lsr,
+        ShiftType::Asr,
+        ShiftType::Ror,
+        ShiftType::Rrx,
+    ];
+    for shift_type in all {
+        if word == name_of(shift_type) {
+            return Some(shift_type);
+        }
+    }
+    None
+}
+
+/// Whether a shifted word and its carry are those.
+fn is_word_and_carry(shifted: (u32, bool), wanted: &str) -> Option<bool> {
+    Some(shifted.0 == number_at(wanted, 0)? && shifted.1 == carry(word(wanted, 1))?)
+}
+
+/// Whether a word is shifted as its row says.
+fn is_shifted_so(row: &str) -> Option<bool> {
+    let given = part(row, 0);
+    let shifted = shift_c(
+        number_at(given, 0)?,
+        shift_type(word(given, 1))?,
+        byte_at(given, 2)?,
+        carry(word(given, 3))?,
+    );
+    is_word_and_carry(shifted, part(row, 1))
+}
+
+/// A word, a shift, its amount and the carry in; the result and the carry out; what the row is.
+const SHIFTS: &str = "\
+80000001 Lsl 0 C | 80000001 C | LSL 0 keeps C
+80000001 Lsl 1 - | 2 C | LSL 1
+40000002 Lsl 1F - | 0 C | LSL 31
+80000001 Lsl 20 - | 0 C | LSL 32
+80000001 Lsl 21 C | 0 - | LSL 33
+FFFFFFFF Lsl FF C | 0 - | LSL 255
+80000001 Lsr 0 C | 80000001 C | LSR 0 keeps C
+12345678 Lsr 4 - | 1234567 C | LSR 4
+40000002 Lsr 1F - | 0 C | LSR 31
+80000001 Lsr 20 - | 0 C | LSR 32
+80000001 Lsr 21 C | 0 - | LSR 33
+FFFFFFFF Lsr FF C | 0 - | LSR 255
+80000001 Asr 0 - | 80000001 - | ASR 0 keeps C
+80000001 Asr 1 - | C0000000 C | ASR 1
+40000002 Asr 2 - | 10000000 C | ASR 2
+80000001 Asr 1F C | FFFFFFFF - | ASR 31
+80000001 Asr 20 - | FFFFFFFF C | ASR 32
+80000001 Asr FF - | FFFFFFFF C | ASR 255
+40000002 Asr FF C | 0 - | ASR 255 above zero
+80000001 Ror 0 - | 80000001 - | ROR 0 keeps C
+12345678 Ror 4 - | 81234567 C | ROR 4
+40000002 Ror 1F - | 80000004 C | ROR 31
+80000001 Ror 20 - | 80000001 C | ROR 32
+40000002 Ror 60 C | 40000002 - | ROR 96, bit 31 clear
+80000001 Ror 21 - | C0000000 C | ROR 33
+80000001 Rrx 1 - | 40000000 C | RRX with C clear
+80000002 Rrx 1 C | C0000001 - | RRX with C set";
+
+#[test]
+fn shifts_of_words(rt: HostRuntime) {
+    for row in SHIFTS.lines() {
+        assert!(rt; is_shifted_so(row) == Some(true), "{row}");
+    }
+}
+
+/// Whether the bits of a row mean the shift of its line.
+fn is_decoded_so(row: &str) -> Option<bool> {
+    let given = part(row, 0);
+    let shift = decode_imm_shift(byte_at(given, 0)?, byte_at(given, 1)?);
+    let shifted = shift_c(0x8000_0001, shift.shift_type, shift.amount, true);
+    is_word_and_carry(shifted, part(row, 1))
+}
+
+/// The two and the five bits of a row; what they make of 80000001 with C set, and the carry out;
+/// what the row is.
+const ROW_SHIFTS: &str = "\
+0 0 | 80000001 C | LSL #0
+0 4 | 10 - | LSL #4
+1 1 | 40000000 C | LSR #1
+1 0 | 0 C | LSR #32
+2 4 | F8000000 - | ASR #4
+2 0 | FFFFFFFF C | ASR #32
+3 1F | 3 - | ROR #31
+3 0 | C0000000 C | RRX";
+
+#[test]
+fn shifts_of_a_row(rt: HostRuntime) {
+    for row in ROW_SHIFTS.lines() {
+        assert!(rt; is_decoded_so(row) == Some(true), "{row}");
+    }
+}
+
+/// Whether twelve bits mean the word of their row.
+fn is_expanded_so(row: &str) -> Option<bool> {
+    let (given, wanted) = (part(row, 0), part(row, 1));
+    let bits = u16::try_from(number_at(given, 0)?).ok()?;
+    match expand_imm(bits, carry(word(given, 1))?) {
+        Some(expanded) => is_word_and_carry(expanded, wanted),
+        None => Some(wanted == "none"),
+    }
+}
+
+/// Twelve bits and the carry in; the word and the carry out, or `none`; what the row is.
+const IMMEDIATES: &str = "\
+000 C | 0 C | a byte of 0
+0AB - | AB - | a byte
+1AB C | AB00AB C | a byte at 0 and 16
+2AB - | AB00AB00 - | a byte at 8 and 24
+3AB C | ABABABAB C | a byte four times
+100 - | none | 0 at 0 and 16
+200 C | none | 0 at 8 and 24
+300 - | none | 0 four times
+400 - | 80000000 C | 80 turned by 8
+47F - | FF000000 C | FF turned by 8
+480 C | 40000000 - | 80 turned by 9
+4FF C | 7F800000 - | FF turned by 9
+7FF C | 1FE0000 - | FF turned by 15
+FFF C | 1FE - | FF turned by 31";
+
+#[test]
+fn modified_immediates(rt: HostRuntime) {
+    for row in IMMEDIATES.lines() {
+        assert!(rt; is_expanded_so(row) == Some(true), "{row}");
+    }
+}
+
+/// Whether the conditions of a row hold, and no others.
+fn conditions_hold_so(row: &str) -> Option<bool> {
+    let mut registers = after_reset();
+    registers.set_flags(flags_at(part(row, 0))?);
+    let holding = number_at(part(row, 1), 0)?;
+    for condition in 0..16u8 {
+        if registers.condition(condition) != (holding >> condition & 1 == 1) {
+            return Some(false);
+        }
+    }
+    Some(true)
+}
+
+/// The flags; a bit for each condition that holds, from 15 down to 0; what the row is.
+const CONDITIONS: &str = "\
+- - - - - | D6AA | no flag
+N - - - - | EA9A | N
+- Z - - - | E6A9 | Z
+- - C - - | D5A6 | C
+- - - V - | EA6A | V
+N - - V - | D65A | N and V
+- Z C - - | E6A5 | Z and C
+N Z C V - | E655 | all four";
+
+#[test]
+fn conditions(rt: HostRuntime) {
+    for row in CONDITIONS.lines() {
+        assert!(rt; conditions_hold_so(row) == Some(true), "{row}");
+    }
+}
+
+/// Whether IT says what its row does.
+fn is_in_a_block_so(row: &str) -> Option<bool> {
+    let mut registers = after_reset();
+    registers.set_flags(flags_of(0x4000_0000));
+    registers.set_it(byte_at(part(row, 0), 0)?);
+    let wanted = part(row, 1);
+    let says = registers.in_it_block() == is_first(word(wanted, 0), "block", "-")?
+        && registers.last_in_it_block() == is_first(word(wanted, 1), "last", "-")?
+        && registers.current_condition() == byte_at(wanted, 2)?
+        && registers.condition_passed() == is_first(word(wanted, 3), "passed", "-")?;
+    registers.it_advance();
+    Some(says && registers.it() == byte_at(part(row, 2), 0)?)
+}
+
+/// IT; whether that is in a block and last there, its condition, and whether that holds with Z
+/// alone; IT behind the instruction; what the row is.
+const IT: &str = "\
+00 | - - E passed | 00 | outside a block
+08 | block last 0 passed | 00 | EQ, the last
+18 | block last 1 - | 00 | NE, the last
+04 | block - 0 passed | 08 | EQ before EQ
+0C | block - 0 passed | 18 | EQ before NE
+01 | block - 0 passed | 02 | EQ, the first of four
+1F | block - 1 - | 1E | NE, the first of four
+E1 | block - E passed | E2 | AL, the first of four
+C8 | block last C - | 00 | GT, the last
+F4 | block - F passed | E8 | 15 before AL
+50 | - - E passed | 50 | outside a block, high bits set";
+
+#[test]
+fn it_blocks(rt: HostRuntime) {
+    for row in IT.lines() {
+        assert!(rt; is_in_a_block_so(row) == Some(true), "{row}");
+    }
+}
