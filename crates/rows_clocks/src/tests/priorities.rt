@@ -15,17 +15,18 @@ fn exception(word: &str) -> Option<u16> {
     u16::from_str_radix(word, 16).ok()
 }
 
-/// The number of an exception and its priority byte, with a colon between them.
-fn prioritized(word: &str) -> Option<(u16, u8)> {
+/// An exception, whose number and priority byte have a colon between them, gets that byte; its number.
+fn prioritize<L: Levels>(levels: &mut L, word: &str) -> Option<u16> {
     let (number, byte) = word.split_once(':')?;
-    Some((exception(number)?, byte_at(byte, 0)?))
+    let number = exception(number)?;
+    levels.set_priority(number, byte_at(byte, 0)?);
+    Some(number)
 }
 
 /// Each of these exceptions gets its priority byte and becomes active.
 fn activate<L: Levels>(levels: &mut L, exceptions: &str) -> Option<()> {
     for word in exceptions.split_whitespace() {
-        let (number, byte) = prioritized(word)?;
-        levels.set_priority(number, byte);
+        let number = prioritize(levels, word)?;
         levels.activate(number);
     }
     Some(())
@@ -34,22 +35,24 @@ fn activate<L: Levels>(levels: &mut L, exceptions: &str) -> Option<()> {
 /// Each of these exceptions gets its priority byte, is enabled and becomes pending.
 fn pend<L: Levels>(levels: &mut L, exceptions: &str) -> Option<()> {
     for word in exceptions.split_whitespace() {
-        let (number, byte) = prioritized(word)?;
-        levels.set_priority(number, byte);
+        let number = prioritize(levels, word)?;
         levels.enable(number);
         levels.pend(number);
     }
     Some(())
 }
 
-/// The masks: no word for none, `primask`, `faultmask`, or `basepri:` and its priority byte.
-fn masks(word: &str) -> Option<Masks> {
-    let primask = word == "primask";
-    let faultmask = word == "faultmask";
-    let basepri = if primask || faultmask || word.is_empty() {
+/// The masks: nothing, `primask`, `faultmask`, or `basepri` and its priority byte.
+fn masks(part: &str) -> Option<Masks> {
+    let name = word(part, 0);
+    let primask = name == "primask";
+    let faultmask = name == "faultmask";
+    let basepri = if primask || faultmask || part.is_empty() {
         0
+    } else if name == "basepri" {
+        byte_at(part, 1)?
     } else {
-        byte_at(word.strip_prefix("basepri:")?, 0)?
+        return None;
     };
     Some(Masks {
         primask,
@@ -153,13 +156,13 @@ fn candidates(rt: HostRuntime) {
 
 /// The same parts.
 const CANDIDATES_UNDER_MASKS: &str = "\
-0 | | 10:F0 | basepri:00 | 10 | BASEPRI 0 masks nothing
-0 | | 10:F0 | basepri:0F | 10 | nor do bits that aren't kept
-0 | | 10:40 | basepri:40 | none | a priority masks itself
-0 | | 10:50 | basepri:40 | none | and what is behind it
-0 | | 10:30 | basepri:40 | 10 | and not what is above it
-5 | | 10:50 | basepri:60 | none | a group masks itself
-5 | | 10:30 | basepri:60 | 10 | and not the one above
+0 | | 10:F0 | basepri 00 | 10 | BASEPRI 0 masks nothing
+0 | | 10:F0 | basepri 0F | 10 | nor do bits that aren't kept
+0 | | 10:40 | basepri 40 | none | a priority masks itself
+0 | | 10:50 | basepri 40 | none | and what is behind it
+0 | | 10:30 | basepri 40 | 10 | and not what is above it
+5 | | 10:50 | basepri 60 | none | a group masks itself
+5 | | 10:30 | basepri 60 | 10 | and not the one above
 0 | | 10:00 B:00 | primask | none | PRIMASK masks priority 0
 0 | | 10:00 3:00 | primask | 3 | and not HardFault
 0 | | 10:00 3:00 | faultmask | none | FAULTMASK masks HardFault
@@ -185,11 +188,11 @@ const EXECUTION_PRIORITIES: &str = "\
 0 | 2:00 | | | -2 | NMI
 0 | 3:00 | | | -1 | HardFault
 0 | 10:FF | | | F0 | the bits that are kept
-0 | | | basepri:80 | 80 | BASEPRI
+0 | | | basepri 80 | 80 | BASEPRI
 5 | 10:70 | | | 40 | the group of what is active
-5 | | | basepri:70 | 40 | the group of BASEPRI
-0 | 10:40 | | basepri:80 | 40 | BASEPRI doesn't lower it
-0 | 10:C0 | | basepri:80 | 80 | BASEPRI raises it
+5 | | | basepri 70 | 40 | the group of BASEPRI
+0 | 10:40 | | basepri 80 | 40 | BASEPRI doesn't lower it
+0 | 10:C0 | | basepri 80 | 80 | BASEPRI raises it
 0 | | | primask | 0 | PRIMASK
 0 | 3:00 | | primask | -1 | HardFault is above PRIMASK
 0 | 10:40 | | faultmask | -1 | FAULTMASK

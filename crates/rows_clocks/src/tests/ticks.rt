@@ -313,9 +313,8 @@ fn the_second_tick_of_a_script(rt: HostRuntime) {
 fn shares_a_tick(alloc: Global) -> Option<bool> {
     let mut clock = scripted(alloc, "2:nmi 2:rise:3")?;
     write(&mut clock, "3 1")?;
-    let waits = tick(&mut clock)? == [0; 8];
-    let pends = tick(&mut clock)? == set_of("2 F 13")?;
-    Some(waits && pends && clock.high(3))
+    let due = set_of("2 F 13")?;
+    Some(pends(&mut clock, [0; 8])? && pends(&mut clock, due)? && clock.high(3))
 }
 
 #[test]
