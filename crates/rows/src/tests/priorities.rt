@@ -15,17 +15,18 @@ fn exception(word: &str) -> Option<u16> {
     u16::from_str_radix(word, 16).ok()
 }
 
-/// The number of an exception and its priority byte, with a colon between them.
-fn prioritized(word: &str) -> Option<(u16, u8)> {
+/// An exception, whose number and priority byte have a colon between them, gets that byte; its number.
+fn prioritize<L: Levels>(levels: &mut L, word: &str) -> Option<u16> {
     let (number, byte) = word.split_once(':')?;
-    Some((exception(number)?, byte_at(byte, 0)?))
+    let number = exception(number)?;
+    levels.set_priority(number, byte_at(byte, 0)?);
+    Some(number)
 }
 
 /// Each of these exceptions gets its priority byte and becomes active.
 fn activate<L: Levels>(levels: &mut L, exceptions: &str) -> Option<()> {
     for word in exceptions.split_whitespace() {
-        let (number, byte) = prioritized(word)?;
-        levels.set_priority(number, byte);
+        let number = prioritize(levels, word)?;
         levels.activate(number);
     }
     Some(())
@@ -34,31 +35,30 @@ fn activate<L: Levels>(levels: &mut L, exceptions: &str) -> Option<()> {
 /// Each of these exceptions gets its priority byte, is enabled and becomes pending.
 fn pend<L: Levels>(levels: &mut L, exceptions: &str) -> Option<()> {
     for word in exceptions.split_whitespace() {
-        let (number, byte) = prioritized(word)?;
-        levels.set_priority(number, byte);
+        let number = prioritize(levels, word)?;
         levels.enable(number);
         levels.pend(number);
     }
     Some(())
 }
 
-/// The masks: `primask`, `faultmask`, or `basepri:` and its priority byte.
+/// The masks: nothing, `primask`, `faultmask`, or `basepri` and its priority byte.
 fn masks(part: &str) -> Option<Masks> {
-    let mut masks = Masks {
-        primask: false,
-        faultmask: false,
-        basepri: 0,
+    let name = word(part, 0);
+    let primask = name == "primask";
+    let faultmask = name == "faultmask";
+    let basepri = if primask || faultmask || part.is_empty() {
+        0
+    } else if name == "basepri" {
+        byte_at(part, 1)?
+    } else {
+        return None;
     };
-    for word in part.split_whitespace() {
-        if word == "primask" {
-            masks.primask = true;
-        } else if word == "faultmask" {
-            masks.faultmask = true;
-        } else {
-            masks.basepri = byte_at(word.strip_prefix("basepri:")?, 0)?;
-        }
-    }
-    Some(masks)
+    Some(Masks {
+        primask,
+        faultmask,
+        basepri,
+    })
 }
 
 /// On the same board: PRIGROUP, what is active, what is pending and enabled, and the masks.
@@ -83,14 +83,21 @@ fn group_of(priority_bits: u8, group: u8) -> i16 {
     levels.execution_priority().number()
 }
 
+/// Whether the group of the byte FF is the one wanted.
+fn is_group(priority_bits: u8, group: u8, wanted: &str) -> bool {
+    match byte_at(wanted, 0) {
+        Some(byte) => group_of(priority_bits, group) == byte as i16,
+        None => false,
+    }
+}
+
 /// Whether the groups of the byte FF are those of its row.
 fn is_grouped_so(row: &str) -> Option<bool> {
     let group = byte_at(part(row, 0), 0)?;
     let wanted = part(row, 1);
-    let three = group_of(3, group) == byte_at(wanted, 0)? as i16;
-    let four = group_of(4, group) == byte_at(wanted, 1)? as i16;
-    let eight = group_of(8, group) == byte_at(wanted, 2)? as i16;
-    Some(three && four && eight)
+    let three = is_group(3, group, word(wanted, 0));
+    let four = is_group(4, group, word(wanted, 1));
+    Some(three && four && is_group(8, group, word(wanted, 2)))
 }
 
 /// PRIGROUP; the group of the byte FF where 3, 4 and 8 of its bits are kept; what the row is.
@@ -149,13 +156,13 @@ fn candidates(rt: HostRuntime) {
 
 /// The same parts.
 const CANDIDATES_UNDER_MASKS: &str = "\
-0 | | 10:F0 | basepri:00 | 10 | BASEPRI 0 masks nothing
-0 | | 10:F0 | basepri:0F | 10 | nor do bits that aren't kept
-0 | | 10:40 | basepri:40 | none | a priority masks itself
-0 | | 10:50 | basepri:40 | none | and what is behind it
-0 | | 10:30 | basepri:40 | 10 | and not what is above it
-5 | | 10:50 | basepri:60 | none | a group masks itself
-5 | | 10:30 | basepri:60 | 10 | and not the one above
+0 | | 10:F0 | basepri 00 | 10 | BASEPRI 0 masks nothing
+0 | | 10:F0 | basepri 0F | 10 | nor do bits that aren't kept
+0 | | 10:40 | basepri 40 | none | a priority masks itself
+0 | | 10:50 | basepri 40 | none | and what is behind it
+0 | | 10:30 | basepri 40 | 10 | and not what is above it
+5 | | 10:50 | basepri 60 | none | a group masks itself
+5 | | 10:30 | basepri 60 | 10 | and not the one above
 0 | | 10:00 B:00 | primask | none | PRIMASK masks priority 0
 0 | | 10:00 3:00 | primask | 3 | and not HardFault
 0 | | 10:00 3:00 | faultmask | none | FAULTMASK masks HardFault
@@ -181,11 +188,11 @@ const EXECUTION_PRIORITIES: &str = "\
 0 | 2:00 | | | -2 | NMI
 0 | 3:00 | | | -1 | HardFault
 0 | 10:FF | | | F0 | the bits that are kept
-0 | | | basepri:80 | 80 | BASEPRI
+0 | | | basepri 80 | 80 | BASEPRI
 5 | 10:70 | | | 40 | the group of what is active
-5 | | | basepri:70 | 40 | the group of BASEPRI
-0 | 10:40 | | basepri:80 | 40 | BASEPRI doesn't lower it
-0 | 10:C0 | | basepri:80 | 80 | BASEPRI raises it
+5 | | | basepri 70 | 40 | the group of BASEPRI
+0 | 10:40 | | basepri 80 | 40 | BASEPRI doesn't lower it
+0 | 10:C0 | | basepri 80 | 80 | BASEPRI raises it
 0 | | | primask | 0 | PRIMASK
 0 | 3:00 | | primask | -1 | HardFault is above PRIMASK
 0 | 10:40 | | faultmask | -1 | FAULTMASK
@@ -277,14 +284,19 @@ fn candidates_after_a_tick(rt: HostRuntime) {
     }
 }
 
+/// An answer as a word.
+fn answer(is_so: bool) -> &'static str {
+    if is_so { "yes" } else { "no" }
+}
+
 /// Whether an exception is enabled as the words say: at last, after a reset, and once it's disabled.
-fn is_enabled_so(levels: &mut PlainLevels, number: u16, words: &str) -> Option<bool> {
-    let first = levels.is_enabled(number) == is_first(word(words, 1), "yes", "no")?;
+fn is_enabled_so(levels: &mut PlainLevels, number: u16, words: &str) -> bool {
+    let first = answer(levels.is_enabled(number)) == word(words, 1);
     levels.disable(number);
-    let second = levels.is_enabled(number) == is_first(word(words, 2), "yes", "no")?;
+    let second = answer(levels.is_enabled(number)) == word(words, 2);
     levels.enable(number);
-    let last = levels.is_enabled(number) == is_first(word(words, 0), "yes", "no")?;
-    Some(first && second && last)
+    let last = answer(levels.is_enabled(number)) == word(words, 0);
+    first && second && last
 }
 
 /// Whether an exception becomes pending and active where it exists, and then neither.
@@ -302,7 +314,7 @@ fn counts_so(row: &str) -> Option<bool> {
     let number = exception(part(row, 0))?;
     let words = part(row, 1);
     let mut levels = after_reset();
-    let enabled = is_enabled_so(&mut levels, number, words)?;
+    let enabled = is_enabled_so(&mut levels, number, words);
     levels.set_priority(number, 0xFF);
     let prioritized = levels.priority(number) == byte_at(part(row, 2), 0)?;
     let exists = is_first(word(words, 0), "yes", "no")?;
@@ -358,20 +370,22 @@ fn a_disabled_line_waits(rt: HostRuntime) {
     assert!(rt; !levels.is_interrupt_pending());
 }
 
+/// Whether the masks are the highest ones of a board that keeps three bits.
+fn are_highest(masks: Masks) -> bool {
+    masks.basepri == 0xE0 && masks.primask && masks.faultmask
+}
+
 #[test]
 fn what_a_board_keeps(rt: HostRuntime) {
     let mut levels = PlainLevels::fresh(255, 3);
-    assert_eq!(rt; levels.lines(), 240);
-    assert_eq!(rt; levels.priority_bits(), 3);
-    assert_eq!(rt; levels.group(), 0);
+    assert!(rt; levels.lines() == 240 && levels.priority_bits() == 3);
+    assert!(rt; levels.group() == 0);
     levels.set_group(0xFD);
-    assert_eq!(rt; levels.group(), 5);
+    assert!(rt; levels.group() == 5);
     levels.set_basepri(0xFF);
     levels.set_primask(true);
     levels.set_faultmask(true);
-    assert_eq!(rt; levels.masks().basepri, 0xE0);
-    assert!(rt; levels.masks().primask);
-    assert!(rt; levels.masks().faultmask);
+    assert!(rt; are_highest(levels.masks()));
 }
 
 #[test]

@@ -1,7 +1,8 @@
 //! The clock, SysTick, the lines and scripts. The values come from the manual's text on SysTick
 //! (ARM DDI 0403, "System timer, SysTick") and from the rules of lines and scripts.
 
-use clock::{Clock, Counting, Due, InterruptLine, ScriptedEvent, Signal, laws};
+use clock::{Clock, Counting, Due, laws};
+use reference::script::{InterruptLine, ScriptedEvent, Signal};
 use std::alloc::Global;
 use std::test::*;
 use tables::{byte_at, is_first, number, number_at, part};
@@ -50,28 +51,36 @@ fn signal(word: &str) -> Option<Signal> {
     }
 }
 
-/// An event: its tick, a colon, and its signal.
-fn event(word: &str) -> Option<ScriptedEvent> {
+/// An event at the end of a script: its tick, a colon, and its signal.
+fn add(script: &mut Vec<ScriptedEvent>, word: &str) -> Option<()> {
     let (at, what) = word.split_once(':')?;
-    Some(ScriptedEvent {
+    let event = ScriptedEvent {
         at: number(at)? as u64,
         what: signal(what)?,
-    })
+    };
+    script.push(event).ok()
+}
+
+/// A script of these events.
+fn script(alloc: Global, events: &str) -> Option<Vec<ScriptedEvent>> {
+    let mut script = Vec::new(alloc);
+    for word in events.split_whitespace() {
+        add(&mut script, word)?;
+    }
+    Some(script)
 }
 
 /// A clock before its first tick, with a script of these events.
 fn scripted(alloc: Global, events: &str) -> Option<Clock<Counting>> {
-    let mut script = Vec::new(alloc);
-    for word in events.split_whitespace() {
-        script.push(event(word)?).ok()?;
-    }
-    Some(Clock::new(script))
+    Some(Clock::new(script(alloc, events)?))
 }
 
 /// SYST_RVR and SYST_CSR are written, and the values are SYST_CSR and SYST_RVR.
 fn write(clock: &mut Clock<Counting>, values: &str) -> Option<()> {
-    clock.write_rvr(number_at(values, 1)?);
-    clock.write_csr(number_at(values, 0)?);
+    let csr = number_at(values, 0)?;
+    let rvr = number_at(values, 1)?;
+    clock.write_rvr(rvr);
+    clock.write_csr(csr);
     Some(())
 }
 
@@ -199,21 +208,28 @@ fn the_registers_of_systick(rt: HostRuntime) {
     }
 }
 
-#[test]
-fn writes_to_rvr_and_cvr(rt: HostRuntime) -> Result<(), Fail> {
-    let mut clock = counting(rt.alloc(), "0 FFFFFFFF").ok_or("no memory")?;
-    assert_eq!(rt; clock.read_rvr(), 0x00FF_FFFF);
-    assert_eq!(rt; write(&mut clock, "1 1"), Some(()));
-    assert_eq!(rt; ticks(&mut clock, 3), Some(()));
-    assert_eq!(rt; clock.read_cvr(), 1);
+/// Whether SYST_RVR keeps 24 bits.
+fn keeps_24_bits(alloc: Global) -> Option<bool> {
+    let clock = counting(alloc, "0 FFFFFFFF")?;
+    Some(clock.read_rvr() == 0x00FF_FFFF)
+}
+
+/// Whether a write to SYST_CVR clears it, and COUNTFLAG.
+fn is_cleared(alloc: Global) -> Option<bool> {
+    let mut clock = counting(alloc, "1 1")?;
+    ticks(&mut clock, 3)?;
+    let counted = clock.read_cvr() == 1;
     clock.write_cvr();
-    assert_eq!(rt; clock.read_cvr(), 0);
-    assert_eq!(rt;
-        clock.read_csr(),
-        0x0000_0005,
-        "a write to CVR clears COUNTFLAG"
+    Some(counted && clock.read_cvr() == 0 && clock.read_csr() == 0x0000_0005)
+}
+
+#[test]
+fn writes_to_rvr_and_cvr(rt: HostRuntime) {
+    assert!(rt; keeps_24_bits(rt.alloc()) == Some(true), "RVR has 24 bits");
+    assert!(rt;
+        is_cleared(rt.alloc()) == Some(true),
+        "a write to CVR clears it and COUNTFLAG"
     );
-    Ok(())
 }
 
 /// Whether a tick pends what is wanted, as it's foreseen and as it's done.
@@ -293,14 +309,17 @@ fn the_second_tick_of_a_script(rt: HostRuntime) {
     }
 }
 
+/// Whether SysTick's exception, NMI and line 3's, 13, pend in the second tick, and nothing in the first.
+fn shares_a_tick(alloc: Global) -> Option<bool> {
+    let mut clock = scripted(alloc, "2:nmi 2:rise:3")?;
+    write(&mut clock, "3 1")?;
+    let due = set_of("2 F 13")?;
+    Some(pends(&mut clock, [0; 8])? && pends(&mut clock, due)? && clock.high(3))
+}
+
 #[test]
-fn systick_and_the_script_share_a_tick(rt: HostRuntime) -> Result<(), Fail> {
-    let mut clock = scripted(rt.alloc(), "2:nmi 2:rise:3").ok_or("no memory")?;
-    assert_eq!(rt; write(&mut clock, "3 1"), Some(()));
-    assert_eq!(rt; tick(&mut clock), Some([0; 8]));
-    assert_eq!(rt; tick(&mut clock), Some([0x0008_8004, 0, 0, 0, 0, 0, 0, 0]));
-    assert!(rt; clock.high(3));
-    Ok(())
+fn systick_and_the_script_share_a_tick(rt: HostRuntime) {
+    assert!(rt; shares_a_tick(rt.alloc()) == Some(true));
 }
 
 #[test]
