@@ -107,6 +107,16 @@ fn is_right(text: &str) -> bool {
     difference(&mut Case::of(text)).is_none()
 }
 
+/// The first case of a table that doesn't, and otherwise nothing.
+fn first_wrong(table: &str) -> &str {
+    for text in table.split("\n\n") {
+        if !is_right(text) {
+            return text;
+        }
+    }
+    ""
+}
+
 #[test]
 fn edges_worked_by_hand(rt: HostRuntime) {
     for text in EDGES.split("\n\n") {
@@ -128,9 +138,8 @@ fn edges_of_data_processing(rt: HostRuntime) {
         REARRANGEMENTS,
     ];
     for table in tables {
-        for text in table.split("\n\n") {
-            assert!(rt; is_right(text), "{text}");
-        }
+        let text = first_wrong(table);
+        assert!(rt; text.is_empty(), "{text}");
     }
 }
 
@@ -145,9 +154,8 @@ fn cases_of_other_machines(rt: HostRuntime) {
         LONG_OTHERS_SECOND,
     ];
     for table in tables {
-        for text in table.split("\n\n") {
-            assert!(rt; is_right(text), "{text}");
-        }
+        let text = first_wrong(table);
+        assert!(rt; text.is_empty(), "{text}");
     }
 }
 
