@@ -1,8 +1,8 @@
 use arrayvec::ArrayVec;
-use data_edges_fields::{FIELDS, REARRANGEMENTS};
-use data_edges_moves::{MOVES, SHIFTS};
-use data_edges_products::{PRODUCTS, QUOTIENTS, SATURATION};
-use data_edges_sums::{COMPARISONS, TWO_OPERANDS};
+use data_edges_fields::FIELDS;
+use data_edges_moves::MOVES;
+use data_edges_products::PRODUCTS;
+use data_edges_sums::SUMS;
 use decode::{Decoded, decode, length};
 use edges::{EDGES, STOPS};
 use exec::{Requests, finish, plan};
@@ -126,18 +126,7 @@ fn edges_worked_by_hand(rt: HostRuntime) {
 
 #[test]
 fn edges_of_data_processing(rt: HostRuntime) {
-    let tables = [
-        TWO_OPERANDS,
-        COMPARISONS,
-        MOVES,
-        SHIFTS,
-        PRODUCTS,
-        QUOTIENTS,
-        SATURATION,
-        FIELDS,
-        REARRANGEMENTS,
-    ];
-    for table in tables {
+    for table in [SUMS, MOVES, PRODUCTS, FIELDS] {
         let text = first_wrong(table);
         assert!(rt; text.is_empty(), "{text}");
     }

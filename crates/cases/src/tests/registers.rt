@@ -2,6 +2,8 @@
 //! 0403: the layout of xPSR and CONTROL, `AddWithCarry()`, `Shift_C()`, `ThumbExpandImm_C()`,
 //! `ConditionHolds()`, "ITSTATE").
 
+ghost use Rattle.std.specs.Prelude.{◌<◌};
+
 use regs::{
     Flags, Register, Regs, ShiftType, add_with_carry, decode_imm_shift, expand_imm, flags_of,
     shift_c,
@@ -334,17 +336,23 @@ fn modified_immediates(rt: HostRuntime) {
     }
 }
 
+/// Whether a condition holds just where its bit is set.
+fn holds_so(registers: &Regs, condition: u8, holding: u16) -> bool
+    requires { condition < 16 }
+{
+    registers.condition(condition) == (holding >> condition & 1 == 1)
+}
+
 /// Whether the conditions of a row hold, and no others.
 fn conditions_hold_so(row: &str) -> Option<bool> {
     let mut registers = after_reset();
     registers.set_flags(flags_of(number_at(part(row, 0), 0)?));
-    let holding = number_at(part(row, 1), 0)?;
+    let holding = u16::try_from(number_at(part(row, 1), 0)?).ok()?;
+    let mut all_hold_so = true;
     for condition in 0..16u8 {
-        if registers.condition(condition) != (holding >> condition & 1 == 1) {
-            return Some(false);
-        }
+        all_hold_so = all_hold_so && holds_so(&registers, condition, holding);
     }
-    Some(true)
+    Some(all_hold_so)
 }
 
 /// A word with the flags; a bit for each condition that holds, from 15 down to 0; what the row is.
