@@ -1,8 +1,8 @@
 use arrayvec::ArrayVec;
-use data_edges_fields::{FIELDS, REARRANGEMENTS};
-use data_edges_moves::{MOVES, SHIFTS};
-use data_edges_products::{PRODUCTS, QUOTIENTS, SATURATION};
-use data_edges_sums::{COMPARISONS, TWO_OPERANDS};
+use data_edges_fields::FIELDS;
+use data_edges_moves::MOVES;
+use data_edges_products::PRODUCTS;
+use data_edges_sums::SUMS;
 use decode::{Decoded, decode, length};
 use edges::{EDGES, STOPS};
 use exec::{Requests, finish, plan};
@@ -107,6 +107,16 @@ fn is_right(text: &str) -> bool {
     difference(&mut Case::of(text)).is_none()
 }
 
+/// The first case of a table that doesn't, and otherwise nothing.
+fn first_wrong(table: &str) -> &str {
+    for text in table.split("\n\n") {
+        if !is_right(text) {
+            return text;
+        }
+    }
+    ""
+}
+
 #[test]
 fn edges_worked_by_hand(rt: HostRuntime) {
     for text in EDGES.split("\n\n") {
@@ -116,21 +126,9 @@ fn edges_worked_by_hand(rt: HostRuntime) {
 
 #[test]
 fn edges_of_data_processing(rt: HostRuntime) {
-    let tables = [
-        TWO_OPERANDS,
-        COMPARISONS,
-        MOVES,
-        SHIFTS,
-        PRODUCTS,
-        QUOTIENTS,
-        SATURATION,
-        FIELDS,
-        REARRANGEMENTS,
-    ];
-    for table in tables {
-        for text in table.split("\n\n") {
-            assert!(rt; is_right(text), "{text}");
-        }
+    for table in [SUMS, MOVES, PRODUCTS, FIELDS] {
+        let text = first_wrong(table);
+        assert!(rt; text.is_empty(), "{text}");
     }
 }
 
@@ -145,9 +143,8 @@ fn cases_of_other_machines(rt: HostRuntime) {
         LONG_OTHERS_SECOND,
     ];
     for table in tables {
-        for text in table.split("\n\n") {
-            assert!(rt; is_right(text), "{text}");
-        }
+        let text = first_wrong(table);
+        assert!(rt; text.is_empty(), "{text}");
     }
 }
 

@@ -3,7 +3,7 @@
 //! ARMv7-M Thumb instructions"). A case's name says what it is, and then its instruction; the
 //! encodings are an assembler's (LLVM's, for ARMv7-M).
 
-/// SBFX, UBFX, BFI, BFC, SXTB, SXTH, UXTB and UXTH.
+/// SBFX, UBFX, BFI, BFC, SXTB, SXTH, UXTB and UXTH; REV, REV16, REVSH, RBIT and CLZ.
 pub(super) const FIELDS: &str = "\
 SBFX of a whole word keeps the flags; SBFX R0, R1, #0, #32
 code 0100 F341 001F
@@ -147,10 +147,8 @@ after 0 FFFF
 UXTH across the ends; UXTH.W R0, R1, ROR #24
 code 0100 FA1F F0B1
 before 0 5 1 12345678
-after 0 7812";
+after 0 7812
 
-/// REV, REV16, REVSH, RBIT and CLZ.
-pub(super) const REARRANGEMENTS: &str = "\
 REV keeps the flags; REV R0, R1
 code 0100 BA08
 before 0 5 1 12345678

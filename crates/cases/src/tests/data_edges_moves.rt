@@ -3,7 +3,7 @@
 //! instructions"). A case's name says what it is, and then its instruction; the encodings are an
 //! assembler's (LLVM's, for ARMv7-M).
 
-/// MOV, MVN and MOVT; LSL, LSR, ASR, ROR and RRX by a number.
+/// MOV, MVN and MOVT; LSL, LSR, ASR, ROR and RRX by a number, then by a register; ADR.
 pub(super) const MOVES: &str = "\
 MOVS of 0 keeps C, V and Q; MOVS.W R0, #0
 code 0100 F05F 0000
@@ -135,10 +135,8 @@ after 0 FFFF5678
 MOVT of 0; MOVT R0, #0
 code 0100 F2C0 0000
 before 0 FFFFFFFF
-after 0 FFFF";
+after 0 FFFF
 
-/// LSL, LSR, ASR and ROR by a register; ADR.
-pub(super) const SHIFTS: &str = "\
 LSLS by 256; LSLS.W R0, R1, R2
 code 0100 FA11 F002
 before 0 5 1 80000001 2 FFFFFF00

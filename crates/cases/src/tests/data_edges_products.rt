@@ -3,7 +3,7 @@
 //! instructions"). A case's name says what it is, and then its instruction; the encodings are an
 //! assembler's (LLVM's, for ARMv7-M).
 
-/// MUL, MLA, MLS, SMULL, UMULL, SMLAL and UMLAL.
+/// MUL, MLA, MLS, SMULL, UMULL, SMLAL and UMLAL; SDIV and UDIV; SSAT and USAT.
 pub(super) const PRODUCTS: &str = "\
 MULS keeps C and V; MULS R0, R1, R0
 code 0100 4348
@@ -119,10 +119,8 @@ after 0 0 1 0
 SMLAL wraps; SMLAL R0, R1, R2, R3
 code 0100 FBC2 0103
 before 0 0 1 40000000 2 80000000 3 80000000
-after 1 80000000";
+after 1 80000000
 
-/// SDIV and UDIV.
-pub(super) const QUOTIENTS: &str = "\
 SDIV of the least by -1 keeps the flags; SDIV R0, R1, R2
 code 0100 FB91 F0F2
 before 0 5 1 80000000 2 FFFFFFFF
@@ -182,10 +180,8 @@ after 0 FFFFFFFF
 UDIV by 0; UDIV R0, R1, R2
 code 0100 FBB1 F0F2
 before 0 5 1 7 2 0
-after 0 0";
+after 0 0
 
-/// SSAT and USAT.
-pub(super) const SATURATION: &str = "\
 SSAT of 1 bit: 1 is 0; SSAT R0, #1, R1
 code 0100 F301 0000
 before 0 5 1 1

@@ -3,8 +3,8 @@
 //! Thumb instructions"). A case's name says what it is, and then its instruction; the encodings are
 //! an assembler's (LLVM's, for ARMv7-M).
 
-/// AND, BIC, ORR, ORN, EOR, ADD, ADC, SBC, SUB and RSB.
-pub(super) const TWO_OPERANDS: &str = "\
+/// AND, BIC, ORR, ORN, EOR, ADD, ADC, SBC, SUB and RSB; TST, TEQ, CMP and CMN.
+pub(super) const SUMS: &str = "\
 ADDS past the greatest number; ADDS.W R0, R1, #1
 code 0100 F111 0001
 before 0 0 1 7FFFFFFF
@@ -276,10 +276,8 @@ after 0 0
 RSB 12 - 2; RSB.W R0, R1, R2, LSL #2
 code 0100 EBC1 0082
 before 0 5 1 2 2 3
-after 0 A";
+after 0 A
 
-/// TST, TEQ, CMP and CMN.
-pub(super) const COMPARISONS: &str = "\
 CMP 0 with the least number; CMP R0, #0x80000000
 code 0100 F1B0 4F00
 before 0 0

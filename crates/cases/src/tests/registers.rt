@@ -2,6 +2,8 @@
 //! 0403: the layout of xPSR and CONTROL, `AddWithCarry()`, `Shift_C()`, `ThumbExpandImm_C()`,
 //! `ConditionHolds()`, "ITSTATE").
 
+ghost use Rattle.std.specs.Prelude.{◌<◌};
+
 use regs::{
     Flags, Register, Regs, ShiftType, add_with_carry, decode_imm_shift, expand_imm, flags_of,
     shift_c,
@@ -15,24 +17,20 @@ fn after_reset() -> Regs {
 }
 
 /// Whether the stack pointers, LR and PC are those.
-fn has_addresses(registers: &Regs, wanted: &str) -> Option<bool> {
-    Some(
-        registers.sp() == number_at(wanted, 0)?
-            && registers.main_stack() == number_at(wanted, 1)?
-            && registers.process_stack() == number_at(wanted, 2)?
-            && registers.link() == number_at(wanted, 3)?
-            && registers.pc() == number_at(wanted, 4)?,
-    )
+fn has_addresses(registers: &Regs, wanted: &str) -> bool {
+    number_at(wanted, 0) == Some(registers.sp())
+        && number_at(wanted, 1) == Some(registers.main_stack())
+        && number_at(wanted, 2) == Some(registers.process_stack())
+        && number_at(wanted, 3) == Some(registers.link())
+        && number_at(wanted, 4) == Some(registers.pc())
 }
 
 /// Whether T, IT and the mode are those.
-fn has_mode(registers: &Regs, wanted: &str) -> Option<bool> {
-    Some(
-        registers.is_thumb() == is_first(word(wanted, 0), "T", "-")?
-            && registers.it() == byte_at(wanted, 1)?
-            && registers.is_privileged() == is_first(word(wanted, 2), "privileged", "-")?
-            && registers.is_handler() == is_first(word(wanted, 3), "handler", "-")?,
-    )
+fn has_mode(registers: &Regs, wanted: &str) -> bool {
+    is_first(word(wanted, 0), "T", "-") == Some(registers.is_thumb())
+        && byte_at(wanted, 1) == Some(registers.it())
+        && is_first(word(wanted, 2), "privileged", "-") == Some(registers.is_privileged())
+        && is_first(word(wanted, 3), "handler", "-") == Some(registers.is_handler())
 }
 
 /// Whether the registers after a reset are those of a row.
@@ -41,10 +39,10 @@ fn is_reset_so(row: &str) -> Option<bool> {
     let registers = Regs::reset(number_at(table, 0)?, number_at(table, 1)?);
     let words = part(row, 3);
     Some(
-        has_addresses(&registers, part(row, 1))?
-            && has_mode(&registers, part(row, 2))?
-            && registers.xpsr() == number_at(words, 0)?
-            && registers.control() == number_at(words, 1)?,
+        has_addresses(&registers, part(row, 1))
+            && has_mode(&registers, part(row, 2))
+            && number_at(words, 0) == Some(registers.xpsr())
+            && number_at(words, 1) == Some(registers.control()),
     )
 }
 
@@ -67,10 +65,10 @@ fn is_kept_so(row: &str) -> Option<bool> {
     if number > 15 {
         return None;
     }
-    let register = Register::new(number);
     let mut registers = after_reset();
-    registers.set(register, number_at(given, 1)?);
-    Some(registers.get(register) == number_at(part(row, 1), 0)?)
+    registers.set(Register::new(number), number_at(given, 1)?);
+    let kept = registers.get(Register::new(number));
+    Some(number_at(part(row, 1), 0) == Some(kept))
 }
 
 /// A register's number and the value that it is given; what it reads as; what the row is.
@@ -98,7 +96,7 @@ fn goes_so(row: &str) -> Option<bool> {
     } else {
         registers.branch(number);
     }
-    Some(registers.pc() == number_at(part(row, 2), 0)?)
+    Some(number_at(part(row, 2), 0) == Some(registers.pc()))
 }
 
 /// PC; how many bytes it goes on, or the address that it branches to; PC then; what the row is.
@@ -114,24 +112,13 @@ fn next_instructions(rt: HostRuntime) {
     }
 }
 
-/// Five flags, each its letter or a line.
-fn flags_at(flags: &str) -> Option<Flags> {
-    Some(Flags {
-        negative: is_first(word(flags, 0), "N", "-")?,
-        zero: is_first(word(flags, 1), "Z", "-")?,
-        carry: is_first(word(flags, 2), "C", "-")?,
-        overflow: is_first(word(flags, 3), "V", "-")?,
-        saturated: is_first(word(flags, 4), "Q", "-")?,
-    })
-}
-
-/// Whether two are the same flags.
-fn are_same(one: Flags, other: Flags) -> bool {
-    one.negative == other.negative
-        && one.zero == other.zero
-        && one.carry == other.carry
-        && one.overflow == other.overflow
-        && one.saturated == other.saturated
+/// Whether the flags are those of a part, in which each has its letter or a line.
+fn are_flags(flags: Flags, wanted: &str) -> bool {
+    is_first(word(wanted, 0), "N", "-") == Some(flags.negative)
+        && is_first(word(wanted, 1), "Z", "-") == Some(flags.zero)
+        && is_first(word(wanted, 2), "C", "-") == Some(flags.carry)
+        && is_first(word(wanted, 3), "V", "-") == Some(flags.overflow)
+        && is_first(word(wanted, 4), "Q", "-") == Some(flags.saturated)
 }
 
 /// Whether a word has the flags of its row, and so have the registers that are given them.
@@ -140,9 +127,9 @@ fn has_flags_so(row: &str) -> Option<bool> {
     registers.set_flags(flags_of(number_at(part(row, 0), 0)?));
     let words = part(row, 2);
     Some(
-        are_same(registers.flags(), flags_at(part(row, 1))?)
-            && registers.apsr() == number_at(words, 0)?
-            && registers.xpsr() == number_at(words, 1)?,
+        are_flags(registers.flags(), part(row, 1))
+            && number_at(words, 0) == Some(registers.apsr())
+            && number_at(words, 1) == Some(registers.xpsr()),
     )
 }
 
@@ -164,20 +151,21 @@ fn flags_of_words(rt: HostRuntime) {
     }
 }
 
-/// A carry, set or clear.
-fn carry(word: &str) -> Option<bool> {
-    is_first(word, "C", "-")
+/// The carry at a place of a part, set or clear.
+fn carry(part: &str, place: usize) -> Option<bool> {
+    is_first(word(part, place), "C", "-")
 }
 
 /// Whether two words and a carry have the sum of their row.
 fn is_sum(row: &str) -> Option<bool> {
-    let (given, wanted) = (part(row, 0), part(row, 1));
+    let given = part(row, 0);
     let (x, y) = (number_at(given, 0)?, number_at(given, 1)?);
-    let sum = add_with_carry(x, y, carry(word(given, 2))?);
+    let (result, carry_out, overflow) = add_with_carry(x, y, carry(given, 2)?);
+    let wanted = part(row, 1);
     Some(
-        sum.0 == number_at(wanted, 0)?
-            && sum.1 == carry(word(wanted, 1))?
-            && sum.2 == is_first(word(wanted, 2), "V", "-")?,
+        number_at(wanted, 0) == Some(result)
+            && carry(wanted, 1) == Some(carry_out)
+            && is_first(word(wanted, 2), "V", "-") == Some(overflow),
     )
 }
 
@@ -233,8 +221,8 @@ fn shift_type(word: &str) -> Option<ShiftType> {
 }
 
 /// Whether a shifted word and its carry are those.
-fn is_word_and_carry(shifted: (u32, bool), wanted: &str) -> Option<bool> {
-    Some(shifted.0 == number_at(wanted, 0)? && shifted.1 == carry(word(wanted, 1))?)
+fn is_word_and_carry(shifted: (u32, bool), wanted: &str) -> bool {
+    number_at(wanted, 0) == Some(shifted.0) && carry(wanted, 1) == Some(shifted.1)
 }
 
 /// Whether a word is shifted as its row says.
@@ -244,9 +232,9 @@ fn is_shifted_so(row: &str) -> Option<bool> {
         number_at(given, 0)?,
         shift_type(word(given, 1))?,
         byte_at(given, 2)?,
-        carry(word(given, 3))?,
+        carry(given, 3)?,
     );
-    is_word_and_carry(shifted, part(row, 1))
+    Some(is_word_and_carry(shifted, part(row, 1)))
 }
 
 /// A word, a shift, its amount and the carry in; the result and the carry out; what the row is.
@@ -291,7 +279,7 @@ fn is_decoded_so(row: &str) -> Option<bool> {
     let given = part(row, 0);
     let shift = decode_imm_shift(byte_at(given, 0)?, byte_at(given, 1)?);
     let shifted = shift_c(0x8000_0001, shift.shift_type, shift.amount, true);
-    is_word_and_carry(shifted, part(row, 1))
+    Some(is_word_and_carry(shifted, part(row, 1)))
 }
 
 /// The two and the five bits of a row; what they make of 80000001 with C set, and the carry out;
@@ -315,12 +303,13 @@ fn shifts_of_a_row(rt: HostRuntime) {
 
 /// Whether twelve bits mean the word of their row.
 fn is_expanded_so(row: &str) -> Option<bool> {
-    let (given, wanted) = (part(row, 0), part(row, 1));
+    let given = part(row, 0);
     let bits = u16::try_from(number_at(given, 0)?).ok()?;
-    match expand_imm(bits, carry(word(given, 1))?) {
+    let wanted = part(row, 1);
+    Some(match expand_imm(bits, carry(given, 1)?) {
         Some(expanded) => is_word_and_carry(expanded, wanted),
-        None => Some(wanted == "none"),
-    }
+        None => wanted == "none",
+    })
 }
 
 /// Twelve bits and the carry in; the word and the carry out, or `none`; what the row is.
@@ -347,29 +336,35 @@ fn modified_immediates(rt: HostRuntime) {
     }
 }
 
+/// Whether a condition holds just where its bit is set.
+fn holds_so(registers: &Regs, condition: u8, holding: u16) -> bool
+    requires { condition < 16 }
+{
+    registers.condition(condition) == (holding >> condition & 1 == 1)
+}
+
 /// Whether the conditions of a row hold, and no others.
 fn conditions_hold_so(row: &str) -> Option<bool> {
     let mut registers = after_reset();
-    registers.set_flags(flags_at(part(row, 0))?);
-    let holding = number_at(part(row, 1), 0)?;
+    registers.set_flags(flags_of(number_at(part(row, 0), 0)?));
+    let holding = u16::try_from(number_at(part(row, 1), 0)?).ok()?;
+    let mut all_hold_so = true;
     for condition in 0..16u8 {
-        if registers.condition(condition) != (holding >> condition & 1 == 1) {
-            return Some(false);
-        }
+        all_hold_so = all_hold_so && holds_so(&registers, condition, holding);
     }
-    Some(true)
+    Some(all_hold_so)
 }
 
-/// The flags; a bit for each condition that holds, from 15 down to 0; what the row is.
+/// A word with the flags; a bit for each condition that holds, from 15 down to 0; what the row is.
 const CONDITIONS: &str = "\
-- - - - - | D6AA | no flag
-N - - - - | EA9A | N
-- Z - - - | E6A9 | Z
-- - C - - | D5A6 | C
-- - - V - | EA6A | V
-N - - V - | D65A | N and V
-- Z C - - | E6A5 | Z and C
-N Z C V - | E655 | all four";
+00000000 | D6AA | no flag
+80000000 | EA9A | N
+40000000 | E6A9 | Z
+20000000 | D5A6 | C
+10000000 | EA6A | V
+90000000 | D65A | N and V
+60000000 | E6A5 | Z and C
+F0000000 | E655 | all four";
 
 #[test]
 fn conditions(rt: HostRuntime) {
@@ -378,18 +373,22 @@ fn conditions(rt: HostRuntime) {
     }
 }
 
+/// Whether registers are in an IT block as a part says.
+fn is_in_block(registers: &Regs, wanted: &str) -> bool {
+    is_first(word(wanted, 0), "block", "-") == Some(registers.in_it_block())
+        && is_first(word(wanted, 1), "last", "-") == Some(registers.last_in_it_block())
+        && byte_at(wanted, 2) == Some(registers.current_condition())
+        && is_first(word(wanted, 3), "passed", "-") == Some(registers.condition_passed())
+}
+
 /// Whether IT says what its row does.
-fn is_in_a_block_so(row: &str) -> Option<bool> {
+fn is_it_so(row: &str) -> Option<bool> {
     let mut registers = after_reset();
     registers.set_flags(flags_of(0x4000_0000));
     registers.set_it(byte_at(part(row, 0), 0)?);
-    let wanted = part(row, 1);
-    let says = registers.in_it_block() == is_first(word(wanted, 0), "block", "-")?
-        && registers.last_in_it_block() == is_first(word(wanted, 1), "last", "-")?
-        && registers.current_condition() == byte_at(wanted, 2)?
-        && registers.condition_passed() == is_first(word(wanted, 3), "passed", "-")?;
+    let is_so = is_in_block(&registers, part(row, 1));
     registers.it_advance();
-    Some(says && registers.it() == byte_at(part(row, 2), 0)?)
+    Some(is_so && byte_at(part(row, 2), 0) == Some(registers.it()))
 }
 
 /// IT; whether that is in a block and last there, its condition, and whether that holds with Z
@@ -410,6 +409,6 @@ F4 | block - F passed | E8 | 15 before AL
 #[test]
 fn it_blocks(rt: HostRuntime) {
     for row in IT.lines() {
-        assert!(rt; is_in_a_block_so(row) == Some(true), "{row}");
+        assert!(rt; is_it_so(row) == Some(true), "{row}");
     }
 }

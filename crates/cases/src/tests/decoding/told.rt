@@ -7,17 +7,6 @@ use reference::registers::Register;
 /// The number of the variant, and behind it the operands.
 pub type Told = [u32; 8];
 
-/// The numbers, and 0 for each that isn't there.
-fn told(numbers: &[u32]) -> Option<Told> {
-    let mut all = [0; 8];
-    for (at, number) in numbers.iter().enumerate() {
-        if at < 8 {
-            all[at] = *number;
-        }
-    }
-    Some(all)
-}
-
 fn number(register: Register) -> u32 {
     register.number() as u32
 }
@@ -61,7 +50,7 @@ fn register_address(operand: RegisterAddress) -> [u32; 3] {
 /// The operations that give a register from two operands, and ADR.
 fn told_data(instruction: &Instruction) -> Option<Told> {
     match instruction {
-        Instruction::DataImmediate(o) => told(&[
+        Instruction::DataImmediate(o) => Some([
             0,
             o.operation as u32,
             o.flags as u32,
@@ -69,6 +58,7 @@ fn told_data(instruction: &Instruction) -> Option<Told> {
             number(o.first),
             o.second.value,
             carry(o.second.carry),
+            0,
         ]),
         Instruction::DataRegister(o) => {
             let (d, n, [m, kind, amount]) = (
@@ -77,17 +67,19 @@ fn told_data(instruction: &Instruction) -> Option<Told> {
                 shifted(o.second),
             );
             let flags = o.flags as u32;
-            told(&[1, o.operation as u32, flags, d, n, m, kind, amount])
+            Some([1, o.operation as u32, flags, d, n, m, kind, amount])
         }
-        Instruction::ShiftByRegister(o) => told(&[
+        Instruction::ShiftByRegister(o) => Some([
             7,
             o.shift_type as u32,
             o.flags as u32,
             number(o.destination),
             number(o.source),
             number(o.amount),
+            0,
+            0,
         ]),
-        Instruction::Address(o) => told(&[8, number(o.destination), o.offset]),
+        Instruction::Address(o) => Some([8, number(o.destination), o.offset, 0, 0, 0, 0, 0]),
         _ => None,
     }
 }
@@ -95,19 +87,21 @@ fn told_data(instruction: &Instruction) -> Option<Told> {
 /// The moves.
 fn told_moves(instruction: &Instruction) -> Option<Told> {
     match instruction {
-        Instruction::MoveImmediate(o) => told(&[
+        Instruction::MoveImmediate(o) => Some([
             2,
             o.operation as u32,
             o.flags as u32,
             number(o.destination),
             o.source.value,
             carry(o.source.carry),
+            0,
+            0,
         ]),
         Instruction::MoveRegister(o) => {
             let (d, [m, kind, amount]) = (number(o.destination), shifted(o.source));
-            told(&[3, o.operation as u32, o.flags as u32, d, m, kind, amount])
+            Some([3, o.operation as u32, o.flags as u32, d, m, kind, amount, 0])
         }
-        Instruction::MoveTop(o) => told(&[4, number(o.destination), o.value as u32]),
+        Instruction::MoveTop(o) => Some([4, number(o.destination), o.value as u32, 0, 0, 0, 0, 0]),
         _ => None,
     }
 }
@@ -115,16 +109,19 @@ fn told_moves(instruction: &Instruction) -> Option<Told> {
 /// The comparisons.
 fn told_comparisons(instruction: &Instruction) -> Option<Told> {
     match instruction {
-        Instruction::CompareImmediate(o) => told(&[
+        Instruction::CompareImmediate(o) => Some([
             5,
             o.operation as u32,
             number(o.first),
             o.second.value,
             carry(o.second.carry),
+            0,
+            0,
+            0,
         ]),
         Instruction::CompareRegister(o) => {
             let (n, [m, kind, amount]) = (number(o.first), shifted(o.second));
-            told(&[6, o.operation as u32, n, m, kind, amount])
+            Some([6, o.operation as u32, n, m, kind, amount, 0, 0])
         }
         _ => None,
     }
@@ -133,32 +130,49 @@ fn told_comparisons(instruction: &Instruction) -> Option<Told> {
 /// Products and quotients.
 fn told_products(instruction: &Instruction) -> Option<Told> {
     match instruction {
-        Instruction::Multiply(o) => told(&[
+        Instruction::Multiply(o) => Some([
             9,
             o.flags as u32,
             number(o.destination),
             number(o.first),
             number(o.second),
+            0,
+            0,
+            0,
         ]),
-        Instruction::MultiplyAccumulate(o) => told(&[
+        Instruction::MultiplyAccumulate(o) => Some([
             10,
             o.operation as u32,
             number(o.destination),
             number(o.first),
             number(o.second),
             number(o.addend),
+            0,
+            0,
         ]),
         Instruction::MultiplyLong(o) => {
             let (low, high) = (number(o.low), number(o.high));
             let (n, m) = (number(o.first), number(o.second));
-            told(&[11, o.signed as u32, o.accumulates as u32, low, high, n, m])
+            Some([
+                11,
+                o.signed as u32,
+                o.accumulates as u32,
+                low,
+                high,
+                n,
+                m,
+                0,
+            ])
         }
-        Instruction::Divide(o) => told(&[
+        Instruction::Divide(o) => Some([
             12,
             o.signed as u32,
             number(o.destination),
             number(o.dividend),
             number(o.divisor),
+            0,
+            0,
+            0,
         ]),
         _ => None,
     }
@@ -169,14 +183,32 @@ fn told_fields(instruction: &Instruction) -> Option<Told> {
     match instruction {
         Instruction::ExtractField(o) => {
             let (d, n) = (number(o.destination), number(o.source));
-            told(&[14, o.signed as u32, d, n, o.low as u32, o.width as u32])
+            Some([
+                14,
+                o.signed as u32,
+                d,
+                n,
+                o.low as u32,
+                o.width as u32,
+                0,
+                0,
+            ])
         }
         Instruction::InsertField(o) => {
             let (d, n) = (number(o.destination), number(o.source));
-            told(&[15, d, n, o.low as u32, o.width as u32])
+            Some([15, d, n, o.low as u32, o.width as u32, 0, 0, 0])
         }
         Instruction::ClearField(o) => {
-            told(&[16, number(o.destination), o.low as u32, o.width as u32])
+            Some([
+                16,
+                number(o.destination),
+                o.low as u32,
+                o.width as u32,
+                0,
+                0,
+                0,
+                0,
+            ])
         }
         _ => None,
     }
@@ -187,21 +219,27 @@ fn told_words(instruction: &Instruction) -> Option<Told> {
     match instruction {
         Instruction::Saturate(o) => {
             let (d, [n, kind, amount]) = (number(o.destination), shifted(o.source));
-            told(&[13, o.signed as u32, d, o.bits as u32, n, kind, amount])
+            Some([13, o.signed as u32, d, o.bits as u32, n, kind, amount, 0])
         }
-        Instruction::Extend(o) => told(&[
+        Instruction::Extend(o) => Some([
             17,
             o.signed as u32,
             o.size as u32,
             number(o.destination),
             number(o.source),
             o.rotation as u32,
+            0,
+            0,
         ]),
-        Instruction::Rearrange(o) => told(&[
+        Instruction::Rearrange(o) => Some([
             18,
             o.operation as u32,
             number(o.destination),
             number(o.source),
+            0,
+            0,
+            0,
+            0,
         ]),
         _ => None,
     }
@@ -214,16 +252,16 @@ fn told_loads(instruction: &Instruction) -> Option<Told> {
             let ([size, signed], t) = (form(o.form), number(o.target));
             let [n, offset, indexing] = immediate_address(o.address);
             let unprivileged = o.unprivileged as u32;
-            told(&[19, size, signed, t, n, offset, indexing, unprivileged])
+            Some([19, size, signed, t, n, offset, indexing, unprivileged])
         }
         Instruction::LoadRegister(o) => {
             let ([size, signed], t) = (form(o.form), number(o.target));
             let [n, m, shift] = register_address(o.address);
-            told(&[20, size, signed, t, n, m, shift])
+            Some([20, size, signed, t, n, m, shift, 0])
         }
         Instruction::LoadLiteral(o) => {
             let [size, signed] = form(o.form);
-            told(&[21, size, signed, number(o.target), o.offset])
+            Some([21, size, signed, number(o.target), o.offset, 0, 0, 0])
         }
         _ => None,
     }
@@ -235,11 +273,11 @@ fn told_stores(instruction: &Instruction) -> Option<Told> {
         Instruction::StoreImmediate(o) => {
             let (size, t) = (o.size as u32, number(o.target));
             let [n, offset, indexing] = immediate_address(o.address);
-            told(&[22, size, t, n, offset, indexing, o.unprivileged as u32])
+            Some([22, size, t, n, offset, indexing, o.unprivileged as u32, 0])
         }
         Instruction::StoreRegister(o) => {
             let [n, m, shift] = register_address(o.address);
-            told(&[23, o.size as u32, number(o.target), n, m, shift])
+            Some([23, o.size as u32, number(o.target), n, m, shift, 0, 0])
         }
         _ => None,
     }
@@ -251,15 +289,15 @@ fn told_dual(instruction: &Instruction) -> Option<Told> {
         Instruction::LoadDual(o) => {
             let (t, u) = (number(o.first), number(o.second));
             let [n, offset, indexing] = immediate_address(o.address);
-            told(&[24, t, u, n, offset, indexing])
+            Some([24, t, u, n, offset, indexing, 0, 0])
         }
         Instruction::LoadDualLiteral(o) => {
-            told(&[25, number(o.first), number(o.second), o.offset])
+            Some([25, number(o.first), number(o.second), o.offset, 0, 0, 0, 0])
         }
         Instruction::StoreDual(o) => {
             let (t, u) = (number(o.first), number(o.second));
             let [n, offset, indexing] = immediate_address(o.address);
-            told(&[26, t, u, n, offset, indexing])
+            Some([26, t, u, n, offset, indexing, 0, 0])
         }
         _ => None,
     }
@@ -270,11 +308,11 @@ fn told_several(instruction: &Instruction) -> Option<Told> {
     match instruction {
         Instruction::LoadMultiple(o) => {
             let (n, list) = (number(o.base), o.list.bits() as u32);
-            told(&[27, n, list, o.order as u32, o.write_back as u32])
+            Some([27, n, list, o.order as u32, o.write_back as u32, 0, 0, 0])
         }
         Instruction::StoreMultiple(o) => {
             let (n, list) = (number(o.base), o.list.bits() as u32);
-            told(&[28, n, list, o.order as u32, o.write_back as u32])
+            Some([28, n, list, o.order as u32, o.write_back as u32, 0, 0, 0])
         }
         _ => None,
     }
@@ -285,13 +323,13 @@ fn told_exclusive(instruction: &Instruction) -> Option<Told> {
     match instruction {
         Instruction::LoadExclusive(o) => {
             let (t, n) = (number(o.target), number(o.base));
-            told(&[29, o.size as u32, t, n, o.offset])
+            Some([29, o.size as u32, t, n, o.offset, 0, 0, 0])
         }
         Instruction::StoreExclusive(o) => {
             let (d, t, n) = (number(o.status), number(o.target), number(o.base));
-            told(&[30, o.size as u32, d, t, n, o.offset])
+            Some([30, o.size as u32, d, t, n, o.offset, 0, 0])
         }
-        Instruction::ClearExclusive => told(&[31]),
+        Instruction::ClearExclusive => Some([31, 0, 0, 0, 0, 0, 0, 0]),
         _ => None,
     }
 }
@@ -299,15 +337,51 @@ fn told_exclusive(instruction: &Instruction) -> Option<Told> {
 /// Branches.
 fn told_branches(instruction: &Instruction) -> Option<Told> {
     match instruction {
-        Instruction::Branch(o) => told(&[32, o.offset]),
-        Instruction::ConditionalBranch(o) => told(&[33, o.condition as u32, o.offset]),
-        Instruction::BranchWithLink(o) => told(&[34, o.offset]),
-        Instruction::BranchExchange(o) => told(&[35, o.links as u32, number(o.target)]),
+        Instruction::Branch(o) => Some([32, o.offset, 0, 0, 0, 0, 0, 0]),
+        Instruction::ConditionalBranch(o) => Some([
+            33,
+            o.condition as u32,
+            o.offset,
+            0,
+            0,
+            0,
+            0,
+            0,
+        ]),
+        Instruction::BranchWithLink(o) => Some([34, o.offset, 0, 0, 0, 0, 0, 0]),
+        Instruction::BranchExchange(o) => Some([
+            35,
+            o.links as u32,
+            number(o.target),
+            0,
+            0,
+            0,
+            0,
+            0,
+        ]),
         Instruction::CompareAndBranch(o) => {
-            told(&[36, o.nonzero as u32, number(o.register), o.offset])
+            Some([
+                36,
+                o.nonzero as u32,
+                number(o.register),
+                o.offset,
+                0,
+                0,
+                0,
+                0,
+            ])
         }
         Instruction::TableBranch(o) => {
-            told(&[37, o.size as u32, number(o.base), number(o.index)])
+            Some([
+                37,
+                o.size as u32,
+                number(o.base),
+                number(o.index),
+                0,
+                0,
+                0,
+                0,
+            ])
         }
         _ => None,
     }
@@ -316,16 +390,27 @@ fn told_branches(instruction: &Instruction) -> Option<Told> {
 /// Control.
 fn told_control(instruction: &Instruction) -> Option<Told> {
     match instruction {
-        Instruction::IfThen(o) => told(&[38, o.condition as u32, o.mask as u32]),
+        Instruction::IfThen(o) => Some([38, o.condition as u32, o.mask as u32, 0, 0, 0, 0, 0]),
         Instruction::ChangeProcessorState(o) => {
             let (primask, faultmask) = (o.primask as u32, o.faultmask as u32);
-            told(&[39, o.disables as u32, primask, faultmask])
+            Some([39, o.disables as u32, primask, faultmask, 0, 0, 0, 0])
         }
-        Instruction::MoveToSpecial(o) => told(&[40, o.special as u32, number(o.source)]),
-        Instruction::MoveFromSpecial(o) => { told(&[41, o.special as u32, number(o.destination)]) }
-        Instruction::Hint(hint) => told(&[42, *hint as u32]),
-        Instruction::SupervisorCall(number) => told(&[43, *number as u32]),
-        Instruction::Breakpoint(number) => told(&[44, *number as u32]),
+        Instruction::MoveToSpecial(o) => Some([
+            40,
+            o.special as u32,
+            number(o.source),
+            0,
+            0,
+            0,
+            0,
+            0,
+        ]),
+        Instruction::MoveFromSpecial(o) => {
+            Some([41, o.special as u32, number(o.destination), 0, 0, 0, 0, 0])
+        }
+        Instruction::Hint(hint) => Some([42, *hint as u32, 0, 0, 0, 0, 0, 0]),
+        Instruction::SupervisorCall(number) => Some([43, *number as u32, 0, 0, 0, 0, 0, 0]),
+        Instruction::Breakpoint(number) => Some([44, *number as u32, 0, 0, 0, 0, 0, 0]),
         _ => None,
     }
 }
