@@ -14,9 +14,10 @@ pub(super) fn blank(alloc: Global) -> Option<Space> {
 
 /// What an access is answered, if it is answered by a value.
 fn value(answer: Answer) -> Option<u32> {
-    match answer {
-        Answer::Value(value) => Some(value),
-        Answer::Error | Answer::Stop(_) => None,
+    if let Answer::Value(value) = answer {
+        Some(value)
+    } else {
+        None
     }
 }
 
@@ -81,9 +82,9 @@ fn places_in_flash_and_ram(rt: HostRuntime) {
 
 /// Whether an entry of the vector table is what its row says.
 fn is_vector_so(space: &Space, row: &str) -> Option<bool> {
-    let number = byte_at(part(row, 0), 0)?;
-    let vector = space.vector(u32::from(number));
-    Some(vector == number_at(part(row, 1), 0)?)
+    let number = number_at(part(row, 0), 0)?;
+    let wanted = number_at(part(row, 1), 0)?;
+    Some(number < 256 && space.vector(number) == wanted)
 }
 
 /// The number of a vector; its word, once a debugger has put the bytes 1, 2, 3 and 4 from address 4 on;
@@ -94,8 +95,9 @@ const VECTORS: &str = "\
 
 /// Whether a byte is what its row says.
 fn is_byte_so(space: &Space, row: &str) -> Option<bool> {
-    let byte = space.byte(number_at(part(row, 0), 0)?);
-    Some(byte.map(u32::from) == wanted(part(row, 1))?)
+    let address = number_at(part(row, 0), 0)?;
+    let wanted = wanted(part(row, 1))?;
+    Some(space.byte(address).map(u32::from) == wanted)
 }
 
 /// The address of a byte; the byte there, if there is one, once the same bytes are put; what the row is.
@@ -119,7 +121,8 @@ fn bytes_that_a_debugger_puts(rt: HostRuntime) {
 /// Whether an access goes to the console as its row says.
 fn is_out_so(row: &str) -> Option<bool> {
     let request = request(part(row, 0))?;
-    Some(is_out(&request) == is_first(part(row, 1), "out", "not")?)
+    let wanted = is_first(part(row, 1), "out", "not")?;
+    Some(is_out(&request) == wanted)
 }
 
 /// An access of privileged code to OUT; whether it sends a byte to the console; what the row is.

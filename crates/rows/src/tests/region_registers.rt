@@ -68,7 +68,9 @@ fn is_wanted(shown: Option<(u32, u32)>, wanted: &str) -> Option<bool> {
     let Some((base, attributes)) = shown else {
         return Some(wanted == "none");
     };
-    Some(base == number_at(wanted, 0)? && attributes == number_at(wanted, 1)?)
+    let wanted_base = number_at(wanted, 0)?;
+    let wanted_attributes = number_at(wanted, 1)?;
+    Some(base == wanted_base && attributes == wanted_attributes)
 }
 
 /// Whether a region is shown as its row says.
@@ -130,14 +132,20 @@ fn case_word(case: UnpredictableCase) -> &'static str {
     }
 }
 
+/// The word of a stop.
+fn stop_word(stop: Stop) -> &'static str {
+    if let Stop::Unpredictable(case) = stop {
+        case_word(case)
+    } else {
+        "another stop"
+    }
+}
+
 /// The word of what became of a write.
 fn word_of(written: Result<(), MpuStop>) -> &'static str {
-    let Err(stop) = written else {
-        return "taken";
-    };
-    match stop_of(stop) {
-        Stop::Unpredictable(case) => case_word(case),
-        _ => "another stop",
+    match written {
+        Ok(()) => "taken",
+        Err(stop) => stop_word(stop_of(stop)),
     }
 }
 

@@ -1,19 +1,30 @@
 //! Decisions about accesses (ARM DDI 0403, "Protected Memory System Architecture, PMSAv7").
 
-use super::settings::{setting, write, write_region};
+use super::settings::{registers_of, setting};
 use super::words::{kind, rule_word};
-use mpu::{Decider, Decision, Kind, MpuRegs, Search};
+use mpu::{Decider, Decision, Kind, Search};
 use std::test::*;
 use tables::{is_first, number_at, part, word};
 
+/// What decides an access of that kind to an address, by code of that privilege, at a priority that is
+/// or isn't below 0.
+fn decided(
+    search: &Search,
+    address: u32,
+    kind: Kind,
+    privileged: bool,
+    below_zero: bool,
+) -> Decision {
+    search.decide(address, kind, privileged, below_zero)
+}
+
 /// What decides an access: its kind, address and privilege, and `neg` at a negative priority.
 pub(super) fn decision(search: &Search, access: &str) -> Option<Decision> {
-    Some(search.decide(
-        number_at(access, 1)?,
-        kind(word(access, 0))?,
-        is_first(word(access, 2), "p", "u")?,
-        is_first(word(access, 3), "neg", "")?,
-    ))
+    let kind = kind(word(access, 0))?;
+    let address = number_at(access, 1)?;
+    let privileged = is_first(word(access, 2), "p", "u")?;
+    let below_zero = is_first(word(access, 3), "neg", "")?;
+    Some(decided(search, address, kind, privileged, below_zero))
 }
 
 /// Whether that rule decided, and granted or refused it.
@@ -98,14 +109,6 @@ fn rules_around_the_regions(rt: HostRuntime) {
     }
 }
 
-/// The decider of one region, where the MPU is on.
-fn decider_of(region: &str) -> Option<Search> {
-    let mut registers = setting("blank")?;
-    write_region(&mut registers, region)?;
-    write(&mut registers, 0xE000_ED94, 1)?;
-    Some(Search::fresh(&registers))
-}
-
 /// The kinds of a row of permissions, in its order.
 const KINDS: [Kind; 5] = [Kind::Fetch, Kind::Load, Kind::Store, Kind::Push, Kind::Pop];
 
@@ -114,7 +117,7 @@ fn grants(search: &Search, privileged: bool, wanted: &str) -> Option<bool> {
     let mut agrees = true;
     for (place, kind) in KINDS.iter().enumerate() {
         let granted = is_first(word(wanted, place), "yes", "no")?;
-        let decision = search.decide(0x2000_0000, *kind, privileged, false);
+        let decision = decided(search, 0x2000_0000, *kind, privileged, false);
         agrees &= rule_word(decision.rule) == "r0" && decision.granted == granted;
     }
     Some(agrees)
@@ -122,29 +125,29 @@ fn grants(search: &Search, privileged: bool, wanted: &str) -> Option<bool> {
 
 /// Whether a region grants what its row says.
 fn is_permitted_so(row: &str) -> Option<bool> {
-    let search = decider_of(part(row, 0))?;
+    let search = Search::fresh(&registers_of(part(row, 0))?);
     let privileged = grants(&search, true, part(row, 1))?;
     let unprivileged = grants(&search, false, part(row, 2))?;
     Some(privileged && unprivileged)
 }
 
-/// RBAR and RASR; whether fetch, load, store, push and pop of privileged code are granted; the same of
-/// unprivileged code; what AP and XN say.
+/// How many regions there are, MPU_CTRL, RBAR and RASR; whether fetch, load, store, push and pop of
+/// privileged code are granted; the same of unprivileged code; what AP and XN say.
 const PERMISSIONS: &str = "\
-20000010:00000013 | no no no no no | no no no no no | no access
-20000010:01000013 | yes yes yes yes yes | no no no no no | privileged code alone
-20000010:02000013 | yes yes yes yes yes | yes yes no no yes | unprivileged code reads
-20000010:03000013 | yes yes yes yes yes | yes yes yes yes yes | all
-20000010:05000013 | yes yes no no yes | no no no no no | privileged code reads
-20000010:06000013 | yes yes no no yes | yes yes no no yes | all read
-20000010:07000013 | yes yes no no yes | yes yes no no yes | all read, by AP 111
-20000010:10000013 | no no no no no | no no no no no | no access, and XN
-20000010:11000013 | no yes yes yes yes | no no no no no | privileged code alone, and XN
-20000010:12000013 | no yes yes yes yes | no yes no no yes | unprivileged code reads, and XN
-20000010:13000013 | no yes yes yes yes | no yes yes yes yes | all, and XN
-20000010:15000013 | no yes no no yes | no no no no no | privileged code reads, and XN
-20000010:16000013 | no yes no no yes | no yes no no yes | all read, and XN
-20000010:17000013 | no yes no no yes | no yes no no yes | all read, by AP 111, and XN";
+8 1 20000010:00000013 | no no no no no | no no no no no | no access
+8 1 20000010:01000013 | yes yes yes yes yes | no no no no no | privileged code alone
+8 1 20000010:02000013 | yes yes yes yes yes | yes yes no no yes | unprivileged code reads
+8 1 20000010:03000013 | yes yes yes yes yes | yes yes yes yes yes | all
+8 1 20000010:05000013 | yes yes no no yes | no no no no no | privileged code reads
+8 1 20000010:06000013 | yes yes no no yes | yes yes no no yes | all read
+8 1 20000010:07000013 | yes yes no no yes | yes yes no no yes | all read, by AP 111
+8 1 20000010:10000013 | no no no no no | no no no no no | no access, and XN
+8 1 20000010:11000013 | no yes yes yes yes | no no no no no | privileged code alone, and XN
+8 1 20000010:12000013 | no yes yes yes yes | no yes no no yes | unprivileged code reads, and XN
+8 1 20000010:13000013 | no yes yes yes yes | no yes yes yes yes | all, and XN
+8 1 20000010:15000013 | no yes no no yes | no no no no no | privileged code reads, and XN
+8 1 20000010:16000013 | no yes no no yes | no yes no no yes | all read, and XN
+8 1 20000010:17000013 | no yes no no yes | no yes no no yes | all read, by AP 111, and XN";
 
 #[test]
 fn access_permissions(rt: HostRuntime) {
@@ -157,14 +160,14 @@ fn access_permissions(rt: HostRuntime) {
 /// and to none where it's switched off.
 fn is_eighth_so(search: &Search, first: u32, is_off: bool) -> bool {
     let wanted = if is_off { "none mpu" } else { "r0 ok" };
-    let at_first = search.decide(first, Kind::Store, false, false);
-    let at_last = search.decide(first | 31, Kind::Store, false, false);
+    let at_first = decided(search, first, Kind::Store, false, false);
+    let at_last = decided(search, first | 31, Kind::Store, false, false);
     is_told(at_first, wanted) == Some(true) && is_told(at_last, wanted) == Some(true)
 }
 
 /// Whether the eighth of a row is switched off, and no other one.
 fn is_switched_off_so(row: &str) -> Option<bool> {
-    let search = decider_of(part(row, 0))?;
+    let search = Search::fresh(&registers_of(part(row, 0))?);
     let off = number_at(part(row, 1), 0)?;
     let mut agrees = true;
     for other in EIGHTHS.lines() {
@@ -174,17 +177,17 @@ fn is_switched_off_so(row: &str) -> Option<bool> {
     Some(agrees)
 }
 
-/// RBAR and RASR, whose SRD switches off one eighth of 256 bytes; the first address of that eighth;
-/// which one it is.
+/// How many regions there are, MPU_CTRL, RBAR and RASR, whose SRD switches off one eighth of 256 bytes;
+/// the first address of that eighth; which one it is.
 const EIGHTHS: &str = "\
-20000110:0300010F | 20000100 | the first eighth
-20000110:0300020F | 20000120 | the second eighth
-20000110:0300040F | 20000140 | the third eighth
-20000110:0300080F | 20000160 | the fourth eighth
-20000110:0300100F | 20000180 | the fifth eighth
-20000110:0300200F | 200001A0 | the sixth eighth
-20000110:0300400F | 200001C0 | the seventh eighth
-20000110:0300800F | 200001E0 | the last eighth";
+8 1 20000110:0300010F | 20000100 | the first eighth
+8 1 20000110:0300020F | 20000120 | the second eighth
+8 1 20000110:0300040F | 20000140 | the third eighth
+8 1 20000110:0300080F | 20000160 | the fourth eighth
+8 1 20000110:0300100F | 20000180 | the fifth eighth
+8 1 20000110:0300200F | 200001A0 | the sixth eighth
+8 1 20000110:0300400F | 200001C0 | the seventh eighth
+8 1 20000110:0300800F | 200001E0 | the last eighth";
 
 #[test]
 fn eighths_of_256_bytes(rt: HostRuntime) {

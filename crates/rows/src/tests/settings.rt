@@ -29,7 +29,7 @@ pub(super) fn write(registers: &mut MpuRegs, address: u32, value: u32) -> Option
 }
 
 /// RBAR and RASR are written, as a word has them.
-pub(super) fn write_region(registers: &mut MpuRegs, word: &str) -> Option<()> {
+fn write_region(registers: &mut MpuRegs, word: &str) -> Option<()> {
     let (base, attributes) = word.split_once(':')?;
     write(registers, 0xE000_ED9C, number(base)?)?;
     write(registers, 0xE000_EDA0, number(attributes)?)
@@ -37,15 +37,15 @@ pub(super) fn write_region(registers: &mut MpuRegs, word: &str) -> Option<()> {
 
 /// The registers after a reset, with 8 or 16 regions.
 fn fresh(count: u8) -> Option<MpuRegs> {
-    if count == 8 || count == 16 {
-        Some(MpuRegs::new(count))
-    } else {
-        None
+    match count {
+        8 => Some(MpuRegs::new(8)),
+        16 => Some(MpuRegs::new(16)),
+        _ => None,
     }
 }
 
 /// The registers of a part: how many regions there are, MPU_CTRL, and RBAR and RASR of each region.
-fn registers_of(part: &str) -> Option<MpuRegs> {
+pub(super) fn registers_of(part: &str) -> Option<MpuRegs> {
     let mut registers = fresh(byte_at(part, 0)?)?;
     for region in part.split_whitespace().skip(2) {
         write_region(&mut registers, region)?;

@@ -33,17 +33,8 @@ fn size_word(size: Size) -> &'static str {
     }
 }
 
-/// The word of a region, as far as rows name it.
-fn region_word(number: u8) -> &'static str {
-    match number {
-        0 => "r0",
-        1 => "r1",
-        3 => "r3",
-        7 => "r7",
-        9 => "r9",
-        _ => "another region",
-    }
-}
+/// The words of regions, by their numbers.
+const REGIONS: &str = "r0 r1 r2 r3 r4 r5 r6 r7 r8 r9 rA rB rC rD rE rF";
 
 /// The word of a rule.
 pub(super) fn rule_word(rule: Rule) -> &'static str {
@@ -53,7 +44,7 @@ pub(super) fn rule_word(rule: Rule) -> &'static str {
         Rule::PrivatePeripheralBus => "ppb",
         Rule::MpuOff => "off",
         Rule::NegativePriority => "neg",
-        Rule::Region(number) => region_word(number),
+        Rule::Region(number) => word(REGIONS, usize::from(number)),
         Rule::Background => "bg",
         Rule::NoRegion => "none",
     }
