@@ -7,8 +7,6 @@ pub mod readers;
 mod run;
 mod start;
 mod stepping;
-#[cfg(test)]
-mod tests;
 mod whole;
 
 pub use access::{Counting, Decider, DueTicks, Search};

@@ -1,4 +1,4 @@
-use Rattle.machine.proofs.tests.run_gathered.Given as goal
+use Rattle.runs.proofs.tests.writers.run_gathered.Given as goal
 
 abbrev pub ghosts-run_paged : goal.ghosts-run_paged
 ghosts-run_paged a = record { name = a.blank.name; parts = a.blank.parts }

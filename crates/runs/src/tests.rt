@@ -1,0 +1,10 @@
+mod accesses;
+mod cut;
+mod instructions;
+mod machines;
+mod places;
+mod run;
+mod starts;
+mod steps;
+mod traces;
+mod writers;

@@ -1,0 +1,103 @@
+//! Machines of the small board, with a script and with values in their places.
+
+use elf::load;
+use machine::{Board, InterruptLine, Place, SMALL_BOARD, ScriptedEvent, Signal, Slow};
+use std::alloc::{AllocError, Global};
+use tables::{byte_at, is_first, number_at, word};
+
+/// An ELF file without program headers: all of flash is 0xFF.
+pub(super) static NO_SEGMENTS: [u8; 52] =
+    *b"\x7fELF\x01\x01\x01\0\0\0\0\0\0\0\0\0\x02\0\x28\0\x01\0\0\0\0\0\0\0\x34\0\0\0\0\0\0\0\0\0\0\x05\x34\0\x20\0\0\0\0\0\0\0\0\0";
+
+/// The interrupt line of this number, if there can be one.
+fn interrupt_line(number: u8) -> Option<InterruptLine> {
+    if number < InterruptLine::MOST {
+        Some(InterruptLine::new(number))
+    } else {
+        None
+    }
+}
+
+/// What a signal's word says of a line.
+fn signal(name: &str, line: InterruptLine) -> Option<Signal> {
+    if name == "fall" {
+        Some(Signal::Fall(line))
+    } else if name == "pulse" {
+        Some(Signal::Pulse(line))
+    } else {
+        None
+    }
+}
+
+/// What happens by the words behind the tick of an event.
+fn what_happens(line: &str) -> Option<Signal> {
+    let name = word(line, 2);
+    if name == "nmi" {
+        return Some(Signal::Nmi);
+    }
+    signal(name, interrupt_line(byte_at(line, 3)?)?)
+}
+
+/// The event of a line `event TICK SIGNAL LINE`.
+pub(super) fn event(line: &str) -> Option<ScriptedEvent> {
+    if word(line, 0) != "event" {
+        return None;
+    }
+    Some(ScriptedEvent {
+        at: u64::from(number_at(line, 1)?),
+        what: what_happens(line)?,
+    })
+}
+
+/// The place and the value of a line `word ADDRESS VALUE`, `reg NUMBER VALUE` or `special NUMBER
+/// VALUE`.
+pub(super) fn place(line: &str) -> Option<Place> {
+    let kind = word(line, 0);
+    let at = number_at(line, 1)?;
+    let value = number_at(line, 2)?;
+    if kind == "word" {
+        return Some(Place::Word(at, value));
+    }
+    let number = byte_at(line, 1)?;
+    if is_first(kind, "reg", "special")? {
+        Some(Place::Reg(number, value))
+    } else {
+        Some(Place::Special(number, value))
+    }
+}
+
+/// The events of these lines.
+fn script(alloc: Global, text: &str) -> Result<Vec<ScriptedEvent>, AllocError> {
+    let mut script = Vec::new(alloc);
+    'lines: for line in text.lines() {
+        if let Some(ScriptedEvent { at, what }) = event(line) {
+            script.push(ScriptedEvent { at, what })?;
+        }
+    }
+    Ok(script)
+}
+
+/// The small board with the events of these lines.
+pub(super) fn small_board(alloc: Global, text: &str) -> Result<Board, AllocError> {
+    let events = script(alloc, text)?;
+    Ok(Board {
+        layout: SMALL_BOARD,
+        events,
+    })
+}
+
+/// A machine of the small board with the events of these lines.
+pub(super) fn scripted(alloc: Global, text: &str) -> Option<Slow> {
+    let image = load(&NO_SEGMENTS).ok()?;
+    let board = small_board(alloc, text).ok()?;
+    Slow::new(alloc, &image, &board).ok()
+}
+
+/// A machine of the small board with the values of these lines in their places.
+pub(super) fn machine_with(alloc: Global, text: &str) -> Option<Slow> {
+    let mut machine = scripted(alloc, text)?;
+    'lines: for line in text.lines() {
+        machine.place(place(line)?).ok()?;
+    }
+    Some(machine)
+}

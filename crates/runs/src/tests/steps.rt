@@ -1,0 +1,39 @@
+//! Single steps.
+
+use super::machines::machine_with;
+use machine::{Events, Slow, event_line, stop_line};
+use std::test::*;
+
+/// Whether a machine goes on by a step that tells one event, of this line.
+fn tells(machine: &mut Slow, events: &mut Events, line: &str) -> bool {
+    machine.step(events).is_none()
+        && events.len() == 1
+        && event_line(&events[0]).as_slice() == line.as_bytes()
+}
+
+/// Whether a machine stops, or has stopped, by a step that tells so many events.
+fn stops(machine: &mut Slow, events: &mut Events, told: usize, line: &str) -> bool {
+    let Some(stop) = machine.step(events) else {
+        return false;
+    };
+    events.len() == told && stop_line(&stop).as_slice() == line.as_bytes()
+}
+
+/// MOV R0, #7, and STR R0, [R1] where R1 is 0: the store goes to flash.
+const STORE_TO_FLASH: &str = "\
+word 100 60082007
+word 104 E7FE680A
+reg F 100";
+
+const UNBUILT: &str = "stop outofprofile unbuilt\n";
+
+/// A stopped machine repeats its stop and tells nothing.
+#[test]
+fn a_step_tells_its_events(rt: HostRuntime) -> Result<(), Fail> {
+    let mut machine = machine_with(rt.alloc(), STORE_TO_FLASH).ok_or("a machine")?;
+    let mut events = Events::new();
+    assert!(rt; tells(&mut machine, &mut events, "1 F 00000100 2 p ok off\n"));
+    assert!(rt; stops(&mut machine, &mut events, 2, UNBUILT));
+    assert!(rt; stops(&mut machine, &mut events, 0, UNBUILT));
+    Ok(())
+}
