@@ -1,9 +1,6 @@
 //! The program `marm`: it runs an image and writes the trace to standard output.
 #![tactic(auto)]
 
-#[cfg(test)]
-mod tests;
-
 use command::{Fault, Request, go, read_file, read_words, tell, words};
 use std::io;
 use std::process::ExitCode;

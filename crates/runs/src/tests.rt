@@ -1,4 +1,5 @@
 mod accesses;
+mod command;
 mod cut;
 mod instructions;
 mod machines;

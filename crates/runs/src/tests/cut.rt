@@ -3,8 +3,7 @@
 ghost use Rattle.std.specs.Prelude.{◌≡◌};
 
 use arrayvec::ArrayVec;
-use machine::output::Over;
-use machine::{RunFault, Slow, Stop};
+use machine::{Over, RunFault, Slow, Stop};
 use std::io;
 use std::io::Write;
 use std::marker::Brand;

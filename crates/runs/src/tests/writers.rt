@@ -4,8 +4,7 @@ ghost use Rattle.std.specs.Prelude.{◌≡◌};
 
 use super::cut::{Cut, run};
 use super::machines::machine_with;
-use machine::output::Over;
-use machine::{Paged, RunFault, Slow, Stop};
+use machine::{Over, Paged, RunFault, Slow, Stop};
 use std::marker::Brand;
 use std::sync::ledger::{Blank, Ledger};
 use std::test::*;
