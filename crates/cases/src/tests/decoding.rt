@@ -2,15 +2,15 @@
 
 ghost use Rattle.std.specs.Prelude.{◌<◌};
 
+use assembled::{COPROCESSORS, LONG_CONTROL, LONG_DATA, LONG_OTHERS, SHORT, UNDEFINED};
 use decode::{CodeLines, Decoded, Reread, decode, length};
 use encodings::laws;
-use encodings::{COPROCESSORS, LONG_CONTROL, LONG_DATA, LONG_OTHERS, SHORT, UNDEFINED};
 use std::test::*;
 use stops::STOPS;
 use tables::{byte_at, number_at, part};
 use told::{Told, told_operands};
 
-mod encodings;
+mod assembled;
 mod stops;
 mod told;
 
