@@ -9,10 +9,15 @@ use tables::{byte_at, number, number_at, part};
 /// The bytes of a file.
 type File = ArrayVec<u8, 2104>;
 
+/// Puts a byte behind those of a file.
+fn push_byte(file: &mut File, byte: u8) -> Option<()> {
+    file.try_push(byte).ok()
+}
+
 /// Puts bytes behind those of a file. The text has this character between two of them.
 fn push_bytes(file: &mut File, text: &str, between: char) -> Option<()> {
     'bytes: for byte in text.split(between) {
-        file.try_push(byte_at(byte, 0)?).ok()?;
+        push_byte(file, byte_at(byte, 0)?)?;
     }
     Some(())
 }
@@ -26,20 +31,20 @@ fn file_of(listing: &str) -> Option<File> {
     Some(file)
 }
 
-/// Puts bytes at places of a file.
-fn edit(file: &mut File, edits: &str) -> Option<()> {
-    'edits: for edit in edits.split_whitespace() {
-        let (place, byte) = edit.split_once(':')?;
-        let slot = file.get_mut(number(place)? as usize)?;
-        *slot = byte_at(byte, 0)?;
-    }
+/// Puts a byte at a place of a file, if it has the place.
+fn put(file: &mut File, place: u32, byte: u8) -> Option<()> {
+    let slot = file.get_mut(place as usize)?;
+    *slot = byte;
     Some(())
 }
 
 /// The file of a listing with other bytes at places.
 fn edited(listing: &str, edits: &str) -> Option<File> {
     let mut file = file_of(listing)?;
-    edit(&mut file, edits)?;
+    'edits: for edit in edits.split_whitespace() {
+        let (place, byte) = edit.split_once(':')?;
+        put(&mut file, number(place)?, byte_at(byte, 0)?)?;
+    }
     Some(file)
 }
 
@@ -146,7 +151,7 @@ fn files(rt: HostRuntime) {
 fn are_beginnings_so(row: &str) -> Option<bool> {
     let file = edited(WORKED, part(row, 0))?;
     let lengths = part(row, 1);
-    'lengths: for length in number_at(lengths, 0)?..=number_at(lengths, 1)? {
+    'lengths: for length in number_at(lengths, 0)?..number_at(lengths, 1)? {
         let beginning = file.as_slice().get(..length as usize)?;
         if !is_answered_so(beginning, part(row, 2))? {
             return Some(false);
@@ -155,12 +160,12 @@ fn are_beginnings_so(row: &str) -> Option<bool> {
     Some(true)
 }
 
-/// The bytes that are put at places of the worked file; the least and the greatest length of its
-/// beginnings; their refusal; what the row is.
+/// The bytes that are put at places of the worked file; the least length of some beginnings, and
+/// the one behind the greatest; their refusal; what the row is.
 const BEGINNINGS: &str = "\
-| 0 53 | Truncated | in the headers
-| 54 5F | SegmentOutsideFile | in the segment
-2C:41 | 34 5F | TooManySegments | e_phnum 65";
+| 0 54 | Truncated | in the headers
+| 54 60 | SegmentOutsideFile | in the segment
+2C:41 | 34 60 | TooManySegments | e_phnum 65";
 
 #[test]
 fn beginnings_of_files(rt: HostRuntime) {
@@ -211,7 +216,7 @@ fn pairs_of_segments(rt: HostRuntime) {
 /// Puts a program header of the four bytes at 834 behind a file.
 fn push_program_header(file: &mut File, address: u8) -> Option<()> {
     push_bytes(file, "01 00 00 00 34 08 00 00 00 00 00 00", ' ')?;
-    file.try_push(address).ok()?;
+    push_byte(file, address)?;
     push_bytes(
         file,
         "00 00 00 04 00 00 00 00 00 00 00 00 00 00 00 00 00 00 00",

@@ -281,7 +281,15 @@ const TICK_LINES: &str = "\
 7 O A0
 ";
 
-/// Whether a page and a tick that were in use give these lines of the events of some ticks.
+/// Whether the lines of an event and of a stop stand on the page, which may have had others.
+fn is_begun(page: &mut Page<1024>, tick: &mut Tick) -> bool {
+    page.clear();
+    page.put_event(tick, &console(8));
+    page.put_stop(&Stop::StepLimit);
+    page.as_slice() == b"8 O A0\nstop steps\n".as_slice() && page.len() == 18
+}
+
+/// Whether these lines stand on the page, which may have had others, for the events of some ticks.
 fn are_lines_so(page: &mut Page<1024>, tick: &mut Tick, ticks: &str, lines: &str) -> Option<bool> {
     let events = consoles(ticks)?;
     page.clear();
@@ -291,13 +299,10 @@ fn are_lines_so(page: &mut Page<1024>, tick: &mut Tick, ticks: &str, lines: &str
 
 #[test]
 fn ticks_after_one_another(rt: HostRuntime) {
-    let mut page = Page::<1024>::new();
+    let mut page = Page::new();
     let mut tick = Tick::new();
-    assert!(rt; page.is_empty());
-    page.put_event(&mut tick, &console(8));
-    page.put_stop(&Stop::StepLimit);
-    assert_eq!(rt; page.as_slice(), b"8 O A0\nstop steps\n".as_slice());
-    assert_eq!(rt; page.len(), 18);
+    assert!(rt; page.is_empty(), "a new page");
+    assert!(rt; is_begun(&mut page, &mut tick), "an event and a stop");
     let answer = are_lines_so(&mut page, &mut tick, TICKS, TICK_LINES);
     assert!(rt; answer == Some(true), "the ticks after one another");
 }
