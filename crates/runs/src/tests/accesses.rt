@@ -1,7 +1,6 @@
 //! What decides each access: regions and rules around them, and the bus behind them.
 
-use super::machines::scripted;
-use super::run::goes_so;
+use super::run::first_wrong;
 use std::test::*;
 
 /// STR R1, [R0] is 6001, and LDR R1, [R0] is 6801.
@@ -108,9 +107,7 @@ trace stop outofprofile unbuilt";
 
 #[test]
 fn each_access_names_what_decided_it(rt: HostRuntime) -> Result<(), Fail> {
-    'runs: for text in ACCESSES.split("\n\n") {
-        let machine = scripted(rt.alloc(), text).ok_or("a machine")?;
-        assert!(rt; goes_so(machine, text) == Some(true), "{text}");
-    }
+    let wrong = first_wrong(rt.alloc(), ACCESSES)?;
+    assert!(rt; wrong.is_empty(), "{wrong}");
     Ok(())
 }

@@ -1,7 +1,6 @@
 //! Instructions in their steps: IT blocks, long instructions, and code that is written over.
 
-use super::machines::scripted;
-use super::run::goes_so;
+use super::run::first_wrong;
 use std::test::*;
 
 /// In an IT block CMP R0, #0, ITE EQ, MOV R1, #1 and MOV R2, #2 stand at 100. In the last run STRH R1,
@@ -127,9 +126,7 @@ after reg lr 20000007";
 
 #[test]
 fn instructions_in_their_steps(rt: HostRuntime) -> Result<(), Fail> {
-    'runs: for text in INSTRUCTIONS.split("\n\n") {
-        let machine = scripted(rt.alloc(), text).ok_or("a machine")?;
-        assert!(rt; goes_so(machine, text) == Some(true), "{text}");
-    }
+    let wrong = first_wrong(rt.alloc(), INSTRUCTIONS)?;
+    assert!(rt; wrong.is_empty(), "{wrong}");
     Ok(())
 }

@@ -1,7 +1,6 @@
 //! Places that are taken, and places that are refused.
 
-use super::machines::scripted;
-use super::run::goes_so;
+use super::run::first_wrong;
 use std::test::*;
 
 /// One machine, which stops at BKPT 0 in the end.
@@ -38,7 +37,7 @@ refused stopped reg 0 0";
 
 #[test]
 fn places_are_taken_or_refused(rt: HostRuntime) -> Result<(), Fail> {
-    let machine = scripted(rt.alloc(), PLACES).ok_or("a machine")?;
-    assert!(rt; goes_so(machine, PLACES) == Some(true));
+    let wrong = first_wrong(rt.alloc(), PLACES)?;
+    assert!(rt; wrong.is_empty(), "{wrong}");
     Ok(())
 }

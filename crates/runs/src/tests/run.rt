@@ -14,10 +14,12 @@
 //! | `after region NUMBER RBAR RASR` | what the region holds now, or `none` |
 
 use super::cut::{Cut, ROOM, run};
-use super::machines::{event, place};
+use super::machines::{event, place, scripted};
 use arrayvec::ArrayVec;
 use machine::{PlaceFault, RegValues, Slow, Stop};
 use reference::stop::{LeftOut, UnpredictableCase};
+use std::alloc::Global;
+use std::test::Fail;
 use tables::{byte_at, number, number_at, word};
 
 /// What steps are to write.
@@ -33,9 +35,21 @@ struct Run {
     wanted: Wanted,
 }
 
+/// The first run of a table that doesn't go as its text says, or the empty text where there is none.
+/// The runs stand with a blank line between them.
+pub(super) fn first_wrong(alloc: Global, table: &str) -> Result<&str, Fail> {
+    'runs: for text in table.split("\n\n") {
+        let machine = scripted(alloc, text).ok_or("a machine")?;
+        if goes_so(machine, text) != Some(true) {
+            return Ok(text);
+        }
+    }
+    Ok("")
+}
+
 /// Whether a run goes as its text says, from a machine with the script of the text. None where a line
 /// can't be read.
-pub(super) fn goes_so(machine: Slow, text: &str) -> Option<bool> {
+fn goes_so(machine: Slow, text: &str) -> Option<bool> {
     let mut run = Run {
         machine,
         out: Cut::whole(),

@@ -1,7 +1,6 @@
 //! Short runs, and runs beside a script.
 
-use super::machines::scripted;
-use super::run::goes_so;
+use super::run::first_wrong;
 use std::test::*;
 
 /// MOV R0, #5 and BKPT 0 at 8; and MOV R0, #7, STR R0, [R1], LDR R2, [R1] and B to itself at 100.
@@ -101,18 +100,14 @@ trace stop steps";
 
 #[test]
 fn short_runs(rt: HostRuntime) -> Result<(), Fail> {
-    'runs: for text in TRACES.split("\n\n") {
-        let machine = scripted(rt.alloc(), text).ok_or("a machine")?;
-        assert!(rt; goes_so(machine, text) == Some(true), "{text}");
-    }
+    let wrong = first_wrong(rt.alloc(), TRACES)?;
+    assert!(rt; wrong.is_empty(), "{wrong}");
     Ok(())
 }
 
 #[test]
 fn a_machine_stops_where_an_event_would_apply(rt: HostRuntime) -> Result<(), Fail> {
-    'runs: for text in EVENTS.split("\n\n") {
-        let machine = scripted(rt.alloc(), text).ok_or("a machine")?;
-        assert!(rt; goes_so(machine, text) == Some(true), "{text}");
-    }
+    let wrong = first_wrong(rt.alloc(), EVENTS)?;
+    assert!(rt; wrong.is_empty(), "{wrong}");
     Ok(())
 }

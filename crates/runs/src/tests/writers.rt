@@ -1,6 +1,6 @@
 //! Writers that fail, take little, or gather.
 
-ghost use Rattle.std.specs.Prelude.{◌≡◌};
+ghost use Rattle.std.specs.Prelude.{◌≡◌, ◌≤◌};
 
 use super::cut::{Cut, run};
 use super::machines::machine_with;
@@ -17,19 +17,20 @@ reg F 8
 reg E FFFFFFFF";
 
 /// What it writes: lines of 24, 24 and 18 bytes.
-const FIRST_TRACE: &str = "\
-1 F 00000008 2 p ok off
-2 F 0000000A 2 p ok off
-stop breakpoint 0
-";
+static FIRST_TRACE: [u8; 66] =
+    *b"1 F 00000008 2 p ok off\n2 F 0000000A 2 p ok off\nstop breakpoint 0\n";
 
 /// Whether a writer got so many bytes of the trace.
-fn got(out: &Cut, bytes: usize) -> bool {
-    out.text.len() == bytes && FIRST_TRACE.as_bytes().starts_with(out.text.as_slice())
+fn got(out: &Cut, bytes: usize) -> bool
+    requires { bytes ≤ 66 }
+{
+    out.text.as_slice() == &FIRST_TRACE[..bytes]
 }
 
 /// Whether a writer of so many bytes breaks a machine, in the step whose line it cuts.
-fn breaks(machine: &mut Slow, left: usize, fails: bool) -> bool {
+fn breaks(machine: &mut Slow, left: usize, fails: bool) -> bool
+    requires { left ≤ 66 }
+{
     let mut out = Cut::new(left, 512, fails);
     let wanted = if left < 24 { 1 } else { 2 };
     match run(machine, 10, &mut out) {
@@ -46,7 +47,7 @@ fn is_broken(machine: &mut Slow) -> bool {
 
 #[test]
 fn a_writer_that_fails_breaks_the_machine(rt: HostRuntime) -> Result<(), Fail> {
-    'bytes: for left in 0..66 {
+    'bytes: for left in 0..66usize {
         'ways: for fails in [true, false] {
             let mut machine = machine_with(rt.alloc(), FIRST).ok_or("a machine")?;
             assert!(rt; breaks(&mut machine, left, fails), "after {left}");
