@@ -1,7 +1,8 @@
 //! Lines of the trace against the texts that they must have, written out.
 
+use super::words::{kind, size};
 use arrayvec::ArrayVec;
-use reference::access::{Access, Kind, Outcome, Rule, Size};
+use reference::access::{Access, Outcome, Rule};
 use reference::event::{Event, Happening, RecordedFault};
 use reference::stop::{LeftOut, Stop, UnpredictableCase};
 use std::test::*;
@@ -9,54 +10,6 @@ use tables::{byte_at, is_first, number_at, part, word};
 use trace::lines::{event_line, stop_line};
 use trace::page::Page;
 use trace::tick::Tick;
-
-const KINDS: [Kind; 6] = [
-    Kind::Fetch,
-    Kind::Load,
-    Kind::Store,
-    Kind::Push,
-    Kind::Pop,
-    Kind::Vector,
-];
-
-fn name_of_kind(kind: Kind) -> &'static str {
-    match kind {
-        Kind::Fetch => "fetch",
-        Kind::Load => "load",
-        Kind::Store => "store",
-        Kind::Push => "push",
-        Kind::Pop => "pop",
-        Kind::Vector => "vector",
-    }
-}
-
-fn kind(word: &str) -> Option<Kind> {
-    'kinds: for kind in KINDS {
-        if name_of_kind(kind) == word {
-            return Some(kind);
-        }
-    }
-    None
-}
-
-const SIZES: [Size; 3] = [Size::Byte, Size::Halfword, Size::Word];
-
-fn name_of_size(size: Size) -> &'static str {
-    match size {
-        Size::Byte => "byte",
-        Size::Halfword => "halfword",
-        Size::Word => "word",
-    }
-}
-
-fn size(word: &str) -> Option<Size> {
-    'sizes: for size in SIZES {
-        if name_of_size(size) == word {
-            return Some(size);
-        }
-    }
-    None
-}
 
 const OUTCOMES: [Outcome; 3] = [Outcome::Done, Outcome::RefusedByMpu, Outcome::RefusedByBus];
 
@@ -172,17 +125,17 @@ fn is_event_line_so(row: &str) -> Option<bool> {
 
 /// The line of an event; the event: its tick, what happens, and the numbers and words of that.
 const EVENTS: &str = "\
-1 F 00000008 2 p ok off   | 1 fetch 8 halfword p done mpu-off
-2 S 2000037E 1 u ok r0    | 2 store 2000037E byte u done region 0
-1 S 20000380 1 u mpu none | 1 store 20000380 byte u refused-by-mpu no-region
+1 F 00000008 2 p ok off   | 1 F 8 halfword p done mpu-off
+2 S 2000037E 1 u ok r0    | 2 S 2000037E byte u done region 0
+1 S 20000380 1 u mpu none | 1 S 20000380 byte u refused-by-mpu no-region
 7 K 20000FD8 4 p ok off   | 7 push 20000FD8 word p done mpu-off
 8 U 20000FD8 4 p ok r15   | 8 pop 20000FD8 word p done region F
-3 V 0000000C 4 p ok vec   | 3 vector C word p done vector-read
-2 F E0001000 2 p mpu xn   | 2 fetch E0001000 halfword p refused-by-mpu never-execute
-1 L E000ED94 4 u bus ppb  | 1 load E000ED94 word u refused-by-bus private-peripheral-bus
-4 F 00000200 2 p ok neg   | 4 fetch 200 halfword p done negative-priority
-1 F 00000100 2 p ok bg    | 1 fetch 100 halfword p done background
-5 L FEDCBA98 4 p bus r9   | 5 load FEDCBA98 word p refused-by-bus region 9
+3 V 0000000C 4 p ok vec   | 3 V C word p done vector-read
+2 F E0001000 2 p mpu xn   | 2 F E0001000 halfword p refused-by-mpu never-execute
+1 L E000ED94 4 u bus ppb  | 1 L E000ED94 word u refused-by-bus private-peripheral-bus
+4 F 00000200 2 p ok neg   | 4 F 200 halfword p done negative-priority
+1 F 00000100 2 p ok bg    | 1 F 100 halfword p done background
+5 L FEDCBA98 4 p bus r9   | 5 L FEDCBA98 word p refused-by-bus region 9
 2 O 07                    | 2 console 7
 3 R FFFFFFF9              | 3 return FFFFFFF9
 2 X 16                    | 2 handler 10

@@ -61,7 +61,7 @@ pub(super) fn kind(word: &str) -> Option<Kind> {
 }
 
 /// How wide an access is, by its word.
-fn size(word: &str) -> Option<Size> {
+pub(super) fn size(word: &str) -> Option<Size> {
     for size in SIZES {
         if size_word(size) == word {
             return Some(size);
