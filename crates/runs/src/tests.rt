@@ -1,6 +1,6 @@
 mod accesses;
-mod command;
 mod cut;
+mod files;
 mod instructions;
 mod machines;
 mod places;
