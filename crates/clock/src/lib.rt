@@ -141,6 +141,21 @@ impl<U: DueTicks> Clock<U> {
         due
     }
 
+    /// The next tick, in which no event of the script applies.
+    #[inline]
+    #[tactic(auto, using(crate::proofs::Quiet::no_event_next))]
+    pub fn pass(&mut self)
+        requires bounded { self.old.time.ticks < 2 ^ 48 }
+        requires quiet { event_applies_next self.old.time ≡ false }
+        ensures time { self.new.time ≡ after_tick self.old.time }
+        ensures right { IsRight self.new }
+    {
+        let mut counted = self.systick();
+        counted.count();
+        self.ticks += 1;
+        self.set_systick(counted);
+    }
+
     /// A tick that isn't passed over.
     #[tactic(auto, unfolding(reference::specs::Time::after_tick))]
     fn count(&mut self)
@@ -215,6 +230,7 @@ impl<U: DueTicks> Clock<U> {
     }
 
     /// SysTick as it stands.
+    #[inline]
     fn systick(&self) -> SysTick
         ensures { result ≡ self.now.time.systick }
     {
@@ -222,6 +238,7 @@ impl<U: DueTicks> Clock<U> {
     }
 
     /// SysTick is given new values.
+    #[inline]
     fn set_systick(&mut self, systick: SysTick)
         ensures time { self.new.time ≡ record self.old.time { systick = systick } }
         ensures right { IsRight self.new }

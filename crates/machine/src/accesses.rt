@@ -46,7 +46,7 @@ pub fn serve<D: Decider, U: DueTicks>(
 }
 
 /// One access, and its lines.
-#[inline]
+#[inline(always)]
 pub fn access<D: Decider, U: DueTicks>(
     bus: &mut Bus<D, U>,
     tick: u64,

@@ -21,7 +21,8 @@ impl Regs {
     pub fn condition_passed(&self) -> bool
         ensures { result ≡ passed_of self.now.it self.now.flags }
     {
-        self.condition(self.current_condition())
+        // Most instructions stand outside an IT block, so that is asked first.
+        !self.in_it_block() || self.condition(self.current_condition())
     }
 
     /// `CurrentCond()` of an instruction that has none of its own: bits 7:4 of IT in an IT block,
