@@ -11,7 +11,7 @@ use crate::special::is_program_status;
 use crate::transfers::{
     immediate_address, is_made_privileged, literal_address, load, register_address, transfer,
 };
-use arrayvec::ArrayVec;
+use bounded::Bounded;
 use reference::access::{Kind, Request};
 use reference::instruction::{BlockPlace, CodedInstruction, Hint, Instruction};
 use reference::operands::{
@@ -25,7 +25,7 @@ use regs::Regs;
 pub const MOST_REQUESTS: usize = 16;
 
 /// The accesses that an instruction asks for, in their order.
-pub type Requests = ArrayVec<Request, MOST_REQUESTS>;
+pub type Requests = Bounded<Request, MOST_REQUESTS>;
 
 /// `requests` becomes the accesses that an instruction asks for, unless it stops. Where its condition
 /// fails it asks for none.

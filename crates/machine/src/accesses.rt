@@ -7,17 +7,17 @@ ghost use Rattle.reference.specs.declared.event.Happening.TheVariants.{ConsoleBy
 ghost use Rattle.reference.specs.Kinds.{bytes_in};
 
 use access::{Bus, Decider, DueTicks, is_out};
-use arrayvec::ArrayVec;
+use bounded::Bounded;
 use exec::MOST_REQUESTS;
 use output::MOST_EVENTS;
 use reference::access::{Access, Cause, Denial, Failure, Outcome, Performed, Request, Rule};
 use reference::event::{Event, Happening};
 
 /// The events of one step, in their order.
-pub type Events = ArrayVec<Event, MOST_EVENTS>;
+pub type Events = Bounded<Event, MOST_EVENTS>;
 
 /// The values that an instruction read, in the order of its accesses.
-pub type Values = ArrayVec<u32, MOST_REQUESTS>;
+pub type Values = Bounded<u32, MOST_REQUESTS>;
 
 /// Accesses, one by one, each in the state that the one before left, to the first failure. `values`
 /// becomes what they read.

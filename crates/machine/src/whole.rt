@@ -19,6 +19,7 @@ use crate::start::start_core;
 use crate::stepping::Core;
 use access::{Counting, Decider, DueTicks, Search};
 use board::Board;
+use decode::Memo;
 use elf::Image;
 use output::{MOST_EVENTS, Out};
 use reference::fault::{PlaceFault, StartFault};
@@ -40,6 +41,7 @@ pub enum RunFault {
 #[derive(Drop)]
 pub struct Machine<D: Decider, U: DueTicks> {
     core: Core<D, U>,
+    memo: Memo,
     broken: bool,
 }
 
@@ -64,6 +66,7 @@ impl<D: Decider, U: DueTicks> Machine<D, U> {
         let core = start_core(alloc, image, board)?;
         Ok(Machine {
             core,
+            memo: Memo::new(),
             broken: false,
         })
     }
@@ -75,7 +78,7 @@ impl<D: Decider, U: DueTicks> Machine<D, U> {
         ensures stop { result ≡ self.new.state.stop }
         ensures few { length events.new.items ≤ MOST_EVENTS }
     {
-        self.core.step(events);
+        self.core.step(events, &mut self.memo);
         // The list has no room for more: this tells the clause so.
         let _ = events.len();
         self.core.stop()
@@ -98,7 +101,7 @@ impl<D: Decider, U: DueTicks> Machine<D, U> {
         if self.broken {
             return Err(RunFault::Broken);
         }
-        match run_core(&mut self.core, limit, out) {
+        match run_core(&mut self.core, &mut self.memo, limit, out) {
             Ok(stop) => Ok(stop),
             Err(steps) => {
                 self.broken = true;
