@@ -21,7 +21,7 @@ pub type Values = Bounded<u32, MOST_REQUESTS>;
 
 /// Accesses, one by one, each in the state that the one before left, to the first failure. `values`
 /// becomes what they read.
-#[inline]
+#[inline(always)]
 pub fn serve<D: Decider, U: DueTicks>(
     bus: &mut Bus<D, U>,
     tick: u64,
