@@ -64,8 +64,8 @@ no_text bytes true e other = absurd (other (IsUtf8-from_is_utf8 bytes e))
 no_text bytes false e other = rw e refl
 
 -- other bytes aren't
-pub bytes_refused : (bytes : List ℕ) → ¬ IsUtf8 bytes → Reads (board_in_file bytes) (Err NotToml)
-bytes_refused bytes other = inl (no_text bytes (is_utf8 bytes) refl other)
+pub bytes_refused : (bytes : List ℕ) (fault : BoardFault) → ¬ IsUtf8 bytes → fault ≡ NotToml → Reads (board_in_file bytes) (Err fault)
+bytes_refused bytes fault other same = rw same (inl (no_text bytes (is_utf8 bytes) refl other))
 
 -- a board that isn't read ends the run
 pub board_ends : (image : List Segment) (board : Result Described BoardFault) (steps : ℕ) (fault : BoardFault) → Reads board (Err fault) → Executes (Ok image) board steps (Err (Board fault))

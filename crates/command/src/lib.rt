@@ -2,12 +2,12 @@
 //! a board to the bytes of a trace.
 #![tactic(auto)]
 
-mod command_line;
 mod engine;
 mod fault;
 mod files;
+mod request;
 
-pub use command_line::{Request, read_words};
 pub use engine::go;
 pub use fault::{Fault, tell};
 pub use files::{read_file, words};
+pub use request::{Request, read_words};

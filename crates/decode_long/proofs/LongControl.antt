@@ -1,14 +1,30 @@
--- LongControl: what two halfwords mean by the tests that the code makes, one lemma for each row and way to it.
+-- LongControl: what two halfwords mean by the tests that the code makes, one lemma for each row and way to it; and the
+-- coprocessors' row.
 use Rattle.std.proofs.Common.{◌≡◌, ◌≢◌, ℕ, ◌+◌, ◌*◌, true, ◌==◌, [], ◌∷◌, refl}
-use Rattle.reference.specs.declared.instruction.Decoded.TheVariants.{Undefined}
+use Rattle.reference.specs.declared.instruction.Decoded.TheVariants.{Undefined, NoCoprocessor}
 use Rattle.reference.specs.declared.instruction.Hint.TheVariants as hint
 use Rattle.reference.specs.declared.instruction.Instruction.TheVariants.{ClearExclusive, Hint}
 use Rattle.reference.specs.Rows.{as_told, long}
 use Rattle.reference.specs.Words.{bits}
 use Rattle.reference.specs.Decoding.{long_meaning}
+use Rattle.reference.specs.LongRegister.{coprocessor}
 use Rattle.reference.specs.LongControl.{wide_offset, conditional_offset, branch_with_link, branch_wide, branch_wide_if, move_to_special, move_from_special, long_hint_of, msr_t1, mrs_t1, nop_t2, clrex_t1, dsb_t1, dmb_t1, isb_t1, bl_t1, b_t4, unallocated_control, b_t3}
 use Rattle.encodings.proofs.Known.{test}
 use Rattle.encodings.proofs.Pairs.{long_row, long_none}
+
+pub coprocessor_means_29 : (x : ℕ)
+    → bits x 27 5 ≡ 29
+    → bits x 26 1 ≡ 1
+    → long_meaning x ≡ NoCoprocessor
+coprocessor_means_29 x q1 q2 =
+    long_row coprocessor (test 27 5 29 ∷ test 26 1 1 ∷ []) [] x refl refl (q1, (q2, tt)) tt
+
+pub coprocessor_means_31 : (x : ℕ)
+    → bits x 27 5 ≡ 31
+    → bits x 26 1 ≡ 1
+    → long_meaning x ≡ NoCoprocessor
+coprocessor_means_31 x q1 q2 =
+    long_row coprocessor (test 27 5 31 ∷ test 26 1 1 ∷ []) [] x refl refl (q1, (q2, tt)) tt
 
 pub msr_t1_means : (x : ℕ)
     → bits x 27 5 ≡ 30

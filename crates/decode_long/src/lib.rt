@@ -4,10 +4,5 @@
 
 mod long;
 mod long_control;
-mod long_data;
-mod long_memory;
-mod long_plain;
-mod long_register;
-mod long_several;
 
 pub use long::decode_long;

@@ -5,11 +5,10 @@ ghost use Rattle.reference.specs.Decoding.{long_meaning};
 ghost use Rattle.reference.specs.Words.{bits};
 
 use crate::long_control::branches_and_control;
-use crate::long_data::{modified_immediates, shifted_registers};
-use crate::long_memory::{loads, stores};
-use crate::long_plain::plain_immediates;
-use crate::long_register::{multiplies, register_rows};
-use crate::long_several::{duals_and_exclusives, lists};
+use decode_long_data::{
+    modified_immediates, multiplies, plain_immediates, register_rows, shifted_registers,
+};
+use decode_long_memory::{duals_and_exclusives, lists, loads, stores};
 use encodings::fields::bits;
 use reference::instruction::Decoded;
 

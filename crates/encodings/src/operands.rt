@@ -1,10 +1,11 @@
-//! Operands that rows of 16 and of 32 bits have in common.
+//! Operands that several families of rows have in common.
 
 ghost use Rattle.std.specs.Prelude.{◌≡◌, ◌<◌, ◌^◌};
+ghost use Rattle.reference.specs.LongData.{operand_of};
 ghost use Rattle.reference.specs.ShortControl.{hint_of};
 ghost use Rattle.reference.specs.ShortData.{number};
 ghost use Rattle.reference.specs.ShortMemory.{at_offset};
-ghost use Rattle.reference.specs.Words.{is_bit, sign_extended};
+ghost use Rattle.reference.specs.Words.{is_bit, negated, sign_extended};
 
 use reference::instruction::Hint;
 use reference::operands::{Immediate, ImmediateAddress, Indexing};
@@ -45,6 +46,28 @@ pub fn number(value: u32) -> Immediate
     ensures { result ≡ number value }
 {
     Immediate { value, carry: None }
+}
+
+/// A modified immediate as an operand, from its twelve bits and what they expand to: the carry stays
+/// in the byte patterns, and otherwise is what came out last.
+#[inline]
+pub fn operand_of(imm12: u16, expanded: Option<(u32, bool)>) -> Option<Immediate>
+    ensures { result ≡ operand_of imm12 expanded }
+{
+    let (value, carry) = expanded?;
+    Some(Immediate {
+        value,
+        carry: if imm12 < 1 << 10 { None } else { Some(carry) },
+    })
+}
+
+/// The word that added to a word takes the other away: its two's complement.
+#[inline]
+#[tactic(auto, unfolding(reference::specs::Words::negated))]
+pub fn negated(offset: u32) -> u32
+    ensures { result ≡ negated offset }
+{
+    offset.wrapping_neg()
 }
 
 /// A base and an offset, where the base stays.

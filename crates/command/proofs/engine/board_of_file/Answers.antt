@@ -5,4 +5,4 @@ pub returns-in-Ok : goal.returns-in-Ok
 returns-in-Ok c = text_read _ _ _ c.in-Ok.ensures.cases.1 c.in-Ok.ensures.cases.0 c.read_board.ensures.answer
 
 pub returns-in-Err : goal.returns-in-Err
-returns-in-Err c = bytes_refused _ c.in-Err.ensures.cases.0
+returns-in-Err c = bytes_refused _ _ c.in-Err.ensures.cases.0 cc

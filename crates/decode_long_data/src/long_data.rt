@@ -8,6 +8,7 @@ ghost use Rattle.reference.specs.Words.{bits};
 
 use encodings::fields::{bits, imm5, imm12, is_set, register};
 use encodings::given::{as_told, is_bad, long, long_unless, unless_refused};
+use encodings::operands::operand_of;
 use reference::instruction::{BlockPlace, Decoded, Instruction};
 use reference::operands::{
     CompareImmediate, CompareRegister, Comparison, DataImmediate, DataOperation, DataRegister,
@@ -19,8 +20,8 @@ use reference::stop::UnpredictableCase;
 use regs::{decode_imm_shift, expand_imm};
 
 /// The operations on a register and a modified immediate.
-#[tactic(auto, using(crate::proofs::LongTop::modified_immediate_lemmas))]
-pub(crate) fn modified_immediates(x: u32) -> Decoded
+#[tactic(auto, using(crate::proofs::DataTop::modified_immediate_lemmas))]
+pub fn modified_immediates(x: u32) -> Decoded
     requires top { bits x 27 5 ≡ 30 }
     requires second { bits x 15 1 ≡ 0 }
     requires modified { bits x 25 1 ≡ 0 }
@@ -50,8 +51,8 @@ pub(crate) fn modified_immediates(x: u32) -> Decoded
 }
 
 /// The operations on two registers, the second shifted.
-#[tactic(auto, using(crate::proofs::LongTop::shifted_register_lemmas))]
-pub(crate) fn shifted_registers(x: u32) -> Decoded
+#[tactic(auto, using(crate::proofs::DataTop::shifted_register_lemmas))]
+pub fn shifted_registers(x: u32) -> Decoded
     requires top { bits x 27 5 ≡ 29 }
     requires processor { bits x 26 1 ≡ 0 }
     requires data { bits x 25 1 ≡ 1 }
@@ -140,17 +141,12 @@ pub(crate) fn flags_if(sets: bool) -> FlagSetting
     }
 }
 
-/// `ThumbExpandImm_C(imm12, ..)`, where it isn't UNPREDICTABLE: the carry stays in the byte
-/// patterns, and otherwise is what came out last.
+/// `ThumbExpandImm_C(imm12, ..)`, where it isn't UNPREDICTABLE.
 #[tactic(auto, unfolding(reference::specs::LongData::modified_immediate))]
 fn modified_immediate(imm12: u16) -> Option<Immediate>
     ensures { result ≡ expanded imm12 }
 {
-    let (value, carry) = expand_imm(imm12, false)?;
-    Some(Immediate {
-        value,
-        carry: if imm12 < 1 << 10 { None } else { Some(carry) },
-    })
+    operand_of(imm12, expand_imm(imm12, false))
 }
 
 /// An operation on a register and a modified immediate.

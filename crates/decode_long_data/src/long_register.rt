@@ -18,8 +18,8 @@ use reference::registers::Register;
 use reference::shift::ShiftType;
 
 /// Shifts by a register, extensions, REV, REV16, RBIT, REVSH and CLZ.
-#[tactic(auto, using(crate::proofs::LongTop::register_rows_lemmas))]
-pub(crate) fn register_rows(x: u32) -> Decoded
+#[tactic(auto, using(crate::proofs::DataTop::register_rows_lemmas))]
+pub fn register_rows(x: u32) -> Decoded
     requires top { bits x 27 5 ≡ 31 }
     requires processor { bits x 26 1 ≡ 0 }
     requires registers { bits x 25 1 ≢ 0 }
@@ -47,7 +47,7 @@ pub(crate) fn register_rows(x: u32) -> Decoded
 }
 
 /// Shifts by a register, SXTB, SXTH, UXTB and UXTH.
-#[tactic(auto, using(crate::proofs::LongTop::register_rows_lemmas))]
+#[tactic(auto, using(crate::proofs::DataTop::register_rows_lemmas))]
 fn shifts_and_extends(x: u32) -> Decoded
     requires top { bits x 27 5 ≡ 31 }
     requires processor { bits x 26 1 ≡ 0 }
@@ -77,7 +77,7 @@ fn shifts_and_extends(x: u32) -> Decoded
 }
 
 /// REV, REV16, RBIT and REVSH.
-#[tactic(auto, using(crate::proofs::LongTop::register_rows_lemmas))]
+#[tactic(auto, using(crate::proofs::DataTop::register_rows_lemmas))]
 fn reverses(x: u32) -> Decoded
     requires top { bits x 27 5 ≡ 31 }
     requires processor { bits x 26 1 ≡ 0 }
@@ -99,8 +99,8 @@ fn reverses(x: u32) -> Decoded
 }
 
 /// Multiplication and division.
-#[tactic(auto, using(crate::proofs::LongTop::multiply_lemmas))]
-pub(crate) fn multiplies(x: u32) -> Decoded
+#[tactic(auto, using(crate::proofs::DataTop::multiply_lemmas))]
+pub fn multiplies(x: u32) -> Decoded
     requires top { bits x 27 5 ≡ 31 }
     requires processor { bits x 26 1 ≡ 0 }
     requires registers { bits x 25 1 ≢ 0 }
@@ -124,7 +124,7 @@ pub(crate) fn multiplies(x: u32) -> Decoded
 }
 
 /// Products of 64 bits, and quotients.
-#[tactic(auto, using(crate::proofs::LongTop::multiply_lemmas))]
+#[tactic(auto, using(crate::proofs::DataTop::multiply_lemmas))]
 fn long_multiplies(x: u32) -> Decoded
     requires top { bits x 27 5 ≡ 31 }
     requires processor { bits x 26 1 ≡ 0 }

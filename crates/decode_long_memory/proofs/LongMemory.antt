@@ -7,8 +7,8 @@ use Rattle.reference.specs.LongSeveral.{signed_offset, indexing_of}
 use Rattle.reference.specs.Words.{bits}
 use Rattle.reference.specs.Decoding.{long_meaning}
 use Rattle.reference.specs.LongMemory.{size_of, narrow_form, word_form, load_literal, load_at, load_unprivileged, load_indexed, store_at, store_unprivileged, store_indexed, memory_hint, memory_hint_indexed, size_none, store_pc_none, hint_literal, ldr_narrow_literal, ldr_literal_t2, hint_immediate_up, hint_register, hint_immediate_down, strt, ldrt_narrow, ldrt_t1, str_immediate_up, str_register_wide, str_immediate_pre, str_immediate_post, ldr_narrow_immediate_up, ldr_narrow_register, ldr_narrow_immediate_pre, ldr_narrow_immediate_post, ldr_wide_immediate_up, ldr_wide_register, ldr_wide_immediate_pre, ldr_wide_immediate_post}
-use Rattle.decode_long.specs.NumberForms.{number_form}
-use Rattle.decode_long.specs.declared.long_memory.NumberForm.TheVariants as form
+use Rattle.decode_long_memory.specs.NumberForms.{number_form}
+use Rattle.decode_long_memory.specs.declared.long_memory.NumberForm.TheVariants as form
 use Rattle.encodings.proofs.Known.{test, bits_small, both_pass, not_both}
 use Rattle.encodings.proofs.Pairs.{long_row, long_none}
 

@@ -1,12 +1,12 @@
 -- LongRegister: what two halfwords mean by the tests that the code makes, one lemma for each row and way to it.
 use Rattle.std.proofs.Common.{◌≡◌, ◌≢◌, ℕ, ◌<◌, true, ◌==◌, [], ◌∷◌, refl, arith}
-use Rattle.reference.specs.declared.instruction.Decoded.TheVariants.{Undefined, NoCoprocessor}
+use Rattle.reference.specs.declared.instruction.Decoded.TheVariants.{Undefined}
 use Rattle.reference.specs.declared.operands.Accumulation.TheVariants as sum
 use Rattle.reference.specs.declared.operands.Rearrangement.TheVariants.{ReverseWord, ReverseHalfwords, ReverseSignedHalfword, ReverseBits, CountLeadingZeros}
 use Rattle.reference.specs.Rows.{as_told}
 use Rattle.reference.specs.Words.{bits}
 use Rattle.reference.specs.Decoding.{long_meaning}
-use Rattle.reference.specs.LongRegister.{shift_by_register, extended_size, extend_turned, rearrange_wide, multiply_wide, multiply_accumulate, multiply_long, divide, shift_register_t2, extend_t2, rev_t2, rev16_t2, rbit_t1, revsh_t2, clz_t1, mul_t2, mla_t1, mls_t1, mull_t1, div_t1, coprocessor}
+use Rattle.reference.specs.LongRegister.{shift_by_register, extended_size, extend_turned, rearrange_wide, multiply_wide, multiply_accumulate, multiply_long, divide, shift_register_t2, extend_t2, rev_t2, rev16_t2, rbit_t1, revsh_t2, clz_t1, mul_t2, mla_t1, mls_t1, mull_t1, div_t1}
 use Rattle.encodings.proofs.Known.{test, bits_small}
 use Rattle.encodings.proofs.Pairs.{long_row, long_none}
 
@@ -210,20 +210,6 @@ div_t1_means x q1 q2 q3 q4 q5 q6 q7 q8 =
     let small : bits x 20 1 < 2 = bits_small x 20 1 in
     let e6 : bits x 20 1 ≡ 1 = omega arith in
     long_row div_t1 (test 27 5 31 ∷ test 26 1 0 ∷ test 25 1 1 ∷ test 24 1 1 ∷ test 23 1 1 ∷ test 20 1 1 ∷ test 22 1 0 ∷ test 4 4 15 ∷ []) [] x refl refl (q1, (q2, (e3, (e4, (e5, (e6, (q7, (q8, tt)))))))) tt
-
-pub coprocessor_means_29 : (x : ℕ)
-    → bits x 27 5 ≡ 29
-    → bits x 26 1 ≡ 1
-    → long_meaning x ≡ NoCoprocessor
-coprocessor_means_29 x q1 q2 =
-    long_row coprocessor (test 27 5 29 ∷ test 26 1 1 ∷ []) [] x refl refl (q1, (q2, tt)) tt
-
-pub coprocessor_means_31 : (x : ℕ)
-    → bits x 27 5 ≡ 31
-    → bits x 26 1 ≡ 1
-    → long_meaning x ≡ NoCoprocessor
-coprocessor_means_31 x q1 q2 =
-    long_row coprocessor (test 27 5 31 ∷ test 26 1 1 ∷ []) [] x refl refl (q1, (q2, tt)) tt
 
 pub register_row_none : (x : ℕ)
     → bits x 27 5 ≡ 31

@@ -7,10 +7,9 @@ ghost use Rattle.reference.specs.LongSeveral.{has_few, store_list, load_list, by
 ghost use Rattle.reference.specs.Rows.{as_told};
 ghost use Rattle.reference.specs.Words.{bits};
 
-use crate::long_plain::negated;
 use encodings::fields::{bits, is_set, register};
 use encodings::given::{as_told, is_bad, last_only_if, long, long_unless, placed_unless, unless};
-use encodings::operands::is_in_list;
+use encodings::operands::{is_in_list, negated};
 use reference::access::Size;
 use reference::instruction::{BlockPlace, Decoded, Instruction};
 use reference::operands::{
@@ -21,8 +20,8 @@ use reference::registers::{Register, RegisterList};
 use reference::stop::UnpredictableCase;
 
 /// STM, LDM, STMDB and LDMDB.
-#[tactic(auto, using(crate::proofs::LongTop::several_list_lemmas))]
-pub(crate) fn lists(x: u32) -> Decoded
+#[tactic(auto, using(crate::proofs::MemoryTop::several_list_lemmas))]
+pub fn lists(x: u32) -> Decoded
     requires top { bits x 27 5 ≡ 29 }
     requires processor { bits x 26 1 ≡ 0 }
     requires several { bits x 25 1 ≡ 0 }
@@ -58,8 +57,8 @@ fn list_store(x: u32, order: ListOrder) -> Decoded
 }
 
 /// STRD, LDRD, the exclusive accesses, TBB and TBH.
-#[tactic(auto, using(crate::proofs::LongTop::dual_or_exclusive_lemmas))]
-pub(crate) fn duals_and_exclusives(x: u32) -> Decoded
+#[tactic(auto, using(crate::proofs::MemoryTop::dual_or_exclusive_lemmas))]
+pub fn duals_and_exclusives(x: u32) -> Decoded
     requires top { bits x 27 5 ≡ 29 }
     requires processor { bits x 26 1 ≡ 0 }
     requires several { bits x 25 1 ≡ 0 }
@@ -81,7 +80,7 @@ pub(crate) fn duals_and_exclusives(x: u32) -> Decoded
 }
 
 /// STRD and LDRD that index before the access.
-#[tactic(auto, using(crate::proofs::LongTop::dual_or_exclusive_lemmas))]
+#[tactic(auto, using(crate::proofs::MemoryTop::dual_or_exclusive_lemmas))]
 fn indexed_duals(x: u32) -> Decoded
     requires top { bits x 27 5 ≡ 29 }
     requires processor { bits x 26 1 ≡ 0 }
@@ -103,7 +102,7 @@ fn indexed_duals(x: u32) -> Decoded
 }
 
 /// STREX, STREXB and STREXH.
-#[tactic(auto, using(crate::proofs::LongTop::dual_or_exclusive_lemmas))]
+#[tactic(auto, using(crate::proofs::MemoryTop::dual_or_exclusive_lemmas))]
 fn store_exclusives(x: u32) -> Decoded
     requires top { bits x 27 5 ≡ 29 }
     requires processor { bits x 26 1 ≡ 0 }
@@ -126,7 +125,7 @@ fn store_exclusives(x: u32) -> Decoded
 }
 
 /// LDREX, LDREXB and LDREXH; TBB and TBH.
-#[tactic(auto, using(crate::proofs::LongTop::dual_or_exclusive_lemmas))]
+#[tactic(auto, using(crate::proofs::MemoryTop::dual_or_exclusive_lemmas))]
 fn load_exclusives(x: u32) -> Decoded
     requires top { bits x 27 5 ≡ 29 }
     requires processor { bits x 26 1 ≡ 0 }

@@ -1,62 +1,64 @@
-//! The command line: `marm run --board FILE --steps N IMAGE`.
+//! The words after the program's name, as `clap` reads them.
 
-ghost use Rattle.std.specs.Prelude.{◌^◌, ◌≤◌, IfOk};
-
-use crate::fault::Fault;
 use clap::builder::ValueParser;
 use clap::error::ErrorKind;
 use clap::{Arg, ArgAction, Command, Error};
 use std::alloc::{AllocError, Global};
 
 /// How many steps a run has at most.
-const MOST_STEPS: u64 = 0x1_0000_0000;
+pub const MOST_STEPS: u64 = 0x1_0000_0000;
 
-/// What the words ask for.
+/// What the words say.
 #[derive(Clone, Copy)]
-pub struct Request<'a> {
+pub struct Words<'a> {
     /// The path of the board file.
     pub board: &'a str,
-    pub steps: u64,
+    /// How many steps, in digits.
+    pub steps: &'a str,
     /// The path of the image file.
     pub image: &'a str,
 }
 
-/// Reads the words, of which the first is the program's name.
-pub fn read_words<'a>(alloc: Global, words: &'a [String]) -> Result<Request<'a>, Fault>
-    ensures { IfOk result (λ request. request.steps ≤ 2 ^ 32) }
-{
+/// Why the words say nothing.
+#[derive(Clone, Copy)]
+pub enum WordsFault {
+    /// They are wrong.
+    Usage,
+    /// There was no memory to read them.
+    OutOfMemory,
+}
+
+/// What the words say, of which the first is the program's name.
+pub fn words_of<'a>(alloc: Global, words: &'a [String]) -> Result<Words<'a>, WordsFault> {
     let Ok(command) = marm(alloc) else {
-        return Err(Fault::Io);
+        return Err(WordsFault::OutOfMemory);
     };
     let matches = match command.try_get_matches_from(words) {
         Ok(matches) => matches,
         Err(error) => return Err(fault_of(&error)),
     };
     let Some((_, run)) = matches.subcommand() else {
-        return Err(Fault::Usage);
+        return Err(WordsFault::Usage);
     };
     let (Some(board), Some(steps), Some(image)) = (
         run.get_str("board"),
         run.get_str("steps"),
         run.get_str("image"),
     ) else {
-        return Err(Fault::Usage);
+        return Err(WordsFault::Usage);
     };
-    match steps.parse::<u64>() {
-        Ok(steps) if steps <= MOST_STEPS => Ok(Request {
-            board,
-            steps,
-            image,
-        }),
-        _ => Err(Fault::Usage),
-    }
+    Ok(Words {
+        board,
+        steps,
+        image,
+    })
 }
 
 /// Want of memory is no fault of the words.
-fn fault_of(error: &Error) -> Fault {
+fn fault_of(error: &Error) -> WordsFault {
     match error.kind() {
-        ErrorKind::OutOfMemory => Fault::Io,
-        _ => Fault::Usage,
+        ErrorKind::OutOfMemory => WordsFault::OutOfMemory,
+        _ => WordsFault::Usage,
     }
 }
 

@@ -1,7 +1,7 @@
 //! The rows of 32 bits that load and store one register.
 
 ghost use Rattle.std.specs.Prelude.{◌≡◌, ◌≢◌, ◌==◌, ◌&&◌, ◌||◌};
-ghost use Rattle.decode_long.specs.NumberForms.{number_form};
+ghost use Rattle.decode_long_memory.specs.NumberForms.{number_form};
 ghost use Rattle.reference.specs.Decoding.{long_meaning};
 ghost use Rattle.reference.specs.LongMemory.{size_of, narrow_form, word_form, place_of_load, is_refused_load, is_refused_store, load_literal, load_at, load_unprivileged, load_indexed, store_at, store_unprivileged, store_indexed, memory_hint, memory_hint_indexed};
 ghost use Rattle.reference.specs.Words.{bits};
@@ -19,8 +19,8 @@ use reference::operands::{
 use reference::registers::Register;
 
 /// STR, STRB and STRH.
-#[tactic(auto, using(crate::proofs::LongTop::store_lemmas))]
-pub(crate) fn stores(x: u32) -> Decoded
+#[tactic(auto, using(crate::proofs::MemoryTop::store_lemmas))]
+pub fn stores(x: u32) -> Decoded
     requires top { bits x 27 5 ≡ 31 }
     requires processor { bits x 26 1 ≡ 0 }
     requires one { bits x 25 1 ≡ 0 }
@@ -58,8 +58,8 @@ pub(crate) fn stores(x: u32) -> Decoded
 }
 
 /// LDR, LDRB, LDRSB, LDRH and LDRSH; PLD, PLI and the free places beside them.
-#[tactic(auto, using(crate::proofs::LongTop::load_word_lemmas))]
-pub(crate) fn loads(x: u32) -> Decoded
+#[tactic(auto, using(crate::proofs::MemoryTop::load_word_lemmas))]
+pub fn loads(x: u32) -> Decoded
     requires top { bits x 27 5 ≡ 31 }
     requires processor { bits x 26 1 ≡ 0 }
     requires one { bits x 25 1 ≡ 0 }
@@ -79,7 +79,7 @@ pub(crate) fn loads(x: u32) -> Decoded
 }
 
 /// LDR.
-#[tactic(auto, using(crate::proofs::LongTop::load_word_lemmas))]
+#[tactic(auto, using(crate::proofs::MemoryTop::load_word_lemmas))]
 fn word_loads(x: u32) -> Decoded
     requires top { bits x 27 5 ≡ 31 }
     requires processor { bits x 26 1 ≡ 0 }
@@ -115,7 +115,7 @@ fn word_loads(x: u32) -> Decoded
 }
 
 /// LDRB, LDRSB, LDRH and LDRSH; PLD, PLI and the free places beside them, which stand for t = 15.
-#[tactic(auto, using(crate::proofs::LongTop::load_narrow_lemmas))]
+#[tactic(auto, using(crate::proofs::MemoryTop::load_narrow_lemmas))]
 fn narrow_loads(x: u32) -> Decoded
     requires top { bits x 27 5 ≡ 31 }
     requires processor { bits x 26 1 ≡ 0 }
@@ -148,7 +148,7 @@ fn narrow_loads(x: u32) -> Decoded
 }
 
 /// The same at a register and a number of eight bits.
-#[tactic(auto, using(crate::proofs::LongTop::load_narrow_lemmas))]
+#[tactic(auto, using(crate::proofs::MemoryTop::load_narrow_lemmas))]
 fn narrow_indexed(x: u32) -> Decoded
     requires top { bits x 27 5 ≡ 31 }
     requires processor { bits x 26 1 ≡ 0 }

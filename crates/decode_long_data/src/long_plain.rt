@@ -4,14 +4,14 @@ ghost use Rattle.std.specs.Prelude.{◌≡◌, ◌≢◌, ◌==◌, ◌<◌, ◌
 ghost use Rattle.reference.specs.Decoding.{long_meaning};
 ghost use Rattle.reference.specs.LongData.{add_wide, address_wide, halfword, move_wide, move_top, saturate, extract_field, insert_field, clear_field};
 ghost use Rattle.reference.specs.Rows.{long, unless};
-ghost use Rattle.reference.specs.Words.{bits, negated};
+ghost use Rattle.reference.specs.Words.{bits};
 ghost use Rattle.reference.specs.declared.instruction.BlockPlace.TheVariants.{Anywhere};
 ghost use Rattle.reference.specs.declared.stop.UnpredictableCase.TheVariants.{BitField};
 
 use crate::long_data::{is_refused_destination, shifted};
 use encodings::fields::{bits, five, four, imm5, imm12, register};
 use encodings::given::{as_told, is_bad, long, long_unless, unless, unless_refused};
-use encodings::operands::number;
+use encodings::operands::{negated, number};
 use reference::instruction::{BlockPlace, Decoded, Instruction};
 use reference::operands::{
     Address, ClearField, DataImmediate, DataOperation, ExtractField, FlagSetting, InsertField,
@@ -21,8 +21,8 @@ use reference::registers::Register;
 use reference::stop::UnpredictableCase;
 
 /// The operations with a plain immediate, and those on bit fields.
-#[tactic(auto, using(crate::proofs::LongTop::plain_immediate_lemmas))]
-pub(crate) fn plain_immediates(x: u32) -> Decoded
+#[tactic(auto, using(crate::proofs::DataTop::plain_immediate_lemmas))]
+pub fn plain_immediates(x: u32) -> Decoded
     requires top { bits x 27 5 ≡ 30 }
     requires second { bits x 15 1 ≡ 0 }
     requires plain { bits x 25 1 ≡ 1 }
@@ -41,7 +41,7 @@ pub(crate) fn plain_immediates(x: u32) -> Decoded
 }
 
 /// The operations on bit fields.
-#[tactic(auto, using(crate::proofs::LongTop::plain_immediate_lemmas))]
+#[tactic(auto, using(crate::proofs::DataTop::plain_immediate_lemmas))]
 fn bit_fields(x: u32) -> Decoded
     requires top { bits x 27 5 ≡ 30 }
     requires second { bits x 15 1 ≡ 0 }
@@ -78,15 +78,6 @@ fn is_unshifted(x: u32) -> bool
 }
 
 // ---- what the rows give
-
-/// The word that added to a word takes the other away: its two's complement.
-#[inline]
-#[tactic(auto, unfolding(reference::specs::Words::negated))]
-pub(crate) fn negated(offset: u32) -> u32
-    ensures { result ≡ negated offset }
-{
-    offset.wrapping_neg()
-}
 
 /// `imm4:i:imm3:imm8`, a halfword of which the top four bits stand apart.
 #[inline]

@@ -1,0 +1,3 @@
+pub mod LongData
+pub mod LongRegister
+pub mod DataTop

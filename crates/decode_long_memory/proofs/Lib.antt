@@ -1,0 +1,3 @@
+pub mod LongSeveral
+pub mod LongMemory
+pub mod MemoryTop
