@@ -10,7 +10,7 @@ use regs::Regs;
 /// ADR.
 #[inline]
 #[tactic(auto, unfolding(reference::specs::DataProcessing::address))]
-pub fn address(operands: &Address, regs: &mut Regs)
+pub(crate) fn address(operands: &Address, regs: &mut Regs)
     ensures { regs.new ≡ address operands.now regs.old }
 {
     let base = regs.get(Register::PC) & !3;

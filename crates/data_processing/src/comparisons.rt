@@ -23,7 +23,7 @@ fn compared_by(comparison: Comparison) -> DataOperation
 /// TST, TEQ, CMP and CMN (immediate).
 #[inline]
 #[tactic(auto, unfolding(reference::specs::DataProcessing::compare_immediate))]
-pub fn compare_immediate(operands: &CompareImmediate, regs: &mut Regs)
+pub(crate) fn compare_immediate(operands: &CompareImmediate, regs: &mut Regs)
     ensures { regs.new ≡ compare_immediate operands.now regs.old }
 {
     let operation = compared_by(operands.operation);
@@ -34,7 +34,7 @@ pub fn compare_immediate(operands: &CompareImmediate, regs: &mut Regs)
 /// TST, TEQ, CMP and CMN (register).
 #[inline]
 #[tactic(auto, unfolding(reference::specs::DataProcessing::compare_register))]
-pub fn compare_register(operands: &CompareRegister, regs: &mut Regs)
+pub(crate) fn compare_register(operands: &CompareRegister, regs: &mut Regs)
     ensures { regs.new ≡ compare_register operands.now regs.old }
 {
     let operation = compared_by(operands.operation);

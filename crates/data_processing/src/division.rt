@@ -26,7 +26,7 @@ fn quotient(signed: bool, x: u32, y: u32) -> u32
 /// SDIV and UDIV.
 #[inline]
 #[tactic(auto, unfolding(reference::specs::Products::divide))]
-pub fn divide(operands: &Divide, regs: &mut Regs)
+pub(crate) fn divide(operands: &Divide, regs: &mut Regs)
     ensures { regs.new ≡ divide operands.now regs.old }
 {
     let (x, y) = (regs.get(operands.dividend), regs.get(operands.divisor));

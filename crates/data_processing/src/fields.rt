@@ -64,7 +64,7 @@ pub fn extended(is_signed: bool, width: u8, x: u32) -> u32
 /// SBFX and UBFX.
 #[inline]
 #[tactic(auto, unfolding(reference::specs::Fields::extract_field))]
-pub fn extract_field(operands: &ExtractField, regs: &mut Regs)
+pub(crate) fn extract_field(operands: &ExtractField, regs: &mut Regs)
     ensures { regs.new ≡ extract_field operands.now regs.old }
 {
     let field = down(regs.get(operands.source), operands.low);
@@ -93,7 +93,7 @@ fn inserted(x: u32, y: u32, low: u8, width: u8) -> u32
 /// BFI.
 #[inline]
 #[tactic(auto, unfolding(reference::specs::Fields::insert_field))]
-pub fn insert_field(operands: &InsertField, regs: &mut Regs)
+pub(crate) fn insert_field(operands: &InsertField, regs: &mut Regs)
     ensures { regs.new ≡ insert_field operands.now regs.old }
 {
     let (x, y) = (regs.get(operands.destination), regs.get(operands.source));
@@ -106,7 +106,7 @@ pub fn insert_field(operands: &InsertField, regs: &mut Regs)
 /// BFC.
 #[inline]
 #[tactic(auto, unfolding(reference::specs::Fields::clear_field))]
-pub fn clear_field(operands: &ClearField, regs: &mut Regs)
+pub(crate) fn clear_field(operands: &ClearField, regs: &mut Regs)
     ensures { regs.new ≡ clear_field operands.now regs.old }
 {
     let x = regs.get(operands.destination);

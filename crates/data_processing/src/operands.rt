@@ -9,7 +9,7 @@ use regs::{Regs, shift_c};
 
 /// The carry that a number gives: where its expansion gives none, C as it is.
 #[inline]
-pub fn immediate_carry(immediate: Immediate, flags: Flags) -> bool
+pub(crate) fn immediate_carry(immediate: Immediate, flags: Flags) -> bool
     ensures { result ≡ immediate_carry immediate flags }
 {
     match immediate.carry {
@@ -20,7 +20,7 @@ pub fn immediate_carry(immediate: Immediate, flags: Flags) -> bool
 
 /// A shifted register, and its carry.
 #[inline]
-pub fn shifted(operand: ShiftedRegister, regs: &Regs) -> (u32, bool)
+pub(crate) fn shifted(operand: ShiftedRegister, regs: &Regs) -> (u32, bool)
     ensures { result ≡ shifted operand regs.now }
 {
     let value = regs.get(operand.register);

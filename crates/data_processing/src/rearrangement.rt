@@ -34,7 +34,7 @@ fn ror(x: u32, rotation: u8) -> u32
 /// SXTB, SXTH, UXTB and UXTH.
 #[inline]
 #[tactic(auto, unfolding(reference::specs::Fields::extend))]
-pub fn extend(operands: &Extend, regs: &mut Regs)
+pub(crate) fn extend(operands: &Extend, regs: &mut Regs)
     ensures { regs.new ≡ extend operands.now regs.old }
 {
     let rotated = ror(regs.get(operands.source), operands.rotation);
@@ -65,7 +65,7 @@ fn rearranged(operation: Rearrangement, x: u32) -> u32
 /// REV, REV16, REVSH, RBIT and CLZ.
 #[inline]
 #[tactic(auto, unfolding(reference::specs::Fields::rearrange))]
-pub fn rearrange(operands: &Rearrange, regs: &mut Regs)
+pub(crate) fn rearrange(operands: &Rearrange, regs: &mut Regs)
     ensures { regs.new ≡ rearrange operands.now regs.old }
 {
     let value = rearranged(operands.operation, regs.get(operands.source));

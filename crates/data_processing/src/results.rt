@@ -10,7 +10,7 @@ use regs::Regs;
 
 /// The flags, with N and Z of a result.
 #[inline]
-pub fn with_result(flags: Flags, value: u32) -> Flags
+pub(crate) fn with_result(flags: Flags, value: u32) -> Flags
     ensures { result ≡ with_result flags value }
 {
     Flags {
@@ -22,7 +22,7 @@ pub fn with_result(flags: Flags, value: u32) -> Flags
 
 /// A logical result and its flags: N and Z of it, and C of the shifter.
 #[inline]
-pub fn logical(flags: Flags, value: u32, carry: bool) -> (u32, Flags)
+pub(crate) fn logical(flags: Flags, value: u32, carry: bool) -> (u32, Flags)
     ensures { result ≡ logical flags value carry }
 {
     let flags = Flags {
@@ -34,7 +34,7 @@ pub fn logical(flags: Flags, value: u32, carry: bool) -> (u32, Flags)
 
 /// A sum and its flags: N, Z, C and V.
 #[inline]
-pub fn summed(flags: Flags, sum: (u32, bool, bool)) -> (u32, Flags)
+pub(crate) fn summed(flags: Flags, sum: (u32, bool, bool)) -> (u32, Flags)
     ensures { result ≡ summed flags sum }
 {
     let (value, carry, overflow) = sum;
@@ -61,7 +61,12 @@ fn sets_flags(setting: FlagSetting, regs: &Regs) -> bool
 /// The destination is given the result, and where the instruction sets flags, they are the ones
 /// given.
 #[inline]
-pub fn write(setting: FlagSetting, destination: Register, given: (u32, Flags), regs: &mut Regs)
+pub(crate) fn write(
+    setting: FlagSetting,
+    destination: Register,
+    given: (u32, Flags),
+    regs: &mut Regs,
+)
     ensures { regs.new ≡ written setting destination given regs.old }
 {
     let (value, flags) = given;

@@ -117,7 +117,7 @@ fn saturated(is_signed: bool, bits: u8, word: u32) -> (u32, bool)
 /// SSAT and USAT.
 #[inline]
 #[tactic(auto, unfolding(reference::specs::Fields::saturate))]
-pub fn saturate(operands: &Saturate, regs: &mut Regs)
+pub(crate) fn saturate(operands: &Saturate, regs: &mut Regs)
     ensures { regs.new ≡ saturate operands.now regs.old }
 {
     let (word, _) = shifted(operands.source, regs);

@@ -24,7 +24,7 @@ fn shifted_by_register(operands: &ShiftByRegister, regs: &Regs) -> (u32, bool)
 /// LSL, LSR, ASR and ROR (register).
 #[inline]
 #[tactic(auto, unfolding(reference::specs::DataProcessing::shift_by_register))]
-pub fn shift_by_register(operands: &ShiftByRegister, regs: &mut Regs)
+pub(crate) fn shift_by_register(operands: &ShiftByRegister, regs: &mut Regs)
     ensures { regs.new ≡ shift_by_register operands.now regs.old }
 {
     let (value, carry) = shifted_by_register(operands, regs);

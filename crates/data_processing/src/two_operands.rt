@@ -31,7 +31,7 @@ fn computed(operation: DataOperation, x: u32, y: u32, carry: bool, flags: Flags)
 
 /// The operation on a register and a number.
 #[inline]
-pub fn with_immediate(
+pub(crate) fn with_immediate(
     operation: DataOperation,
     first: Register,
     second: Immediate,
@@ -51,7 +51,7 @@ pub fn with_immediate(
 
 /// The operation on a register and a shifted one.
 #[inline]
-pub fn with_shifted(
+pub(crate) fn with_shifted(
     operation: DataOperation,
     first: Register,
     second: ShiftedRegister,
@@ -66,7 +66,7 @@ pub fn with_shifted(
 /// AND, BIC, ORR, ORN, EOR, ADD, ADC, SBC, SUB and RSB (immediate).
 #[inline]
 #[tactic(auto, unfolding(reference::specs::DataProcessing::data_immediate))]
-pub fn data_immediate(operands: &DataImmediate, regs: &mut Regs)
+pub(crate) fn data_immediate(operands: &DataImmediate, regs: &mut Regs)
     ensures { regs.new ≡ data_immediate operands.now regs.old }
 {
     let given = with_immediate(operands.operation, operands.first, operands.second, regs);

@@ -14,11 +14,10 @@ use crate::branches::{
     load_into, move_on, proceed, table_branch,
 };
 use crate::planning::is_carried_out;
-use crate::processing::process;
 use crate::several::{load_dual, load_multiple, move_base};
 use crate::special::program_status;
 use crate::transfers::{joined, loaded_value, write_base};
-use data_processing::{data_register, move_register};
+use data_processing::{data_register, move_register, process};
 use reference::instruction::{CodedInstruction, Ending, Instruction};
 use reference::operands::{
     DataRegister, ImmediateAddress, LoadDual, LoadDualLiteral, LoadForm, LoadImmediate,

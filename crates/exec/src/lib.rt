@@ -5,7 +5,6 @@
 mod branches;
 mod finishing;
 mod planning;
-mod processing;
 mod several;
 mod special;
 mod transfers;
