@@ -47,6 +47,13 @@ fault_goes (Ok image) (Err refusal) steps fault status (inl refused) e = let sam
 fault_goes (Ok image) (Err refusal) steps fault status (inr wanting) e = let same : fault ≡ Board OutOfMemory = cc in e ∙ ap fault_status same
 fault_goes (Err refusal) board steps fault status ends e = let same : fault ≡ Load refusal = cc in e ∙ ap fault_status same
 
+-- the same, of an image that was found to be the one that was read
+pub stop_goes_as : (image read : Result (List Segment) LoadFault) (board : Result Described BoardFault) (steps : ℕ) (stop : Stop) (status : ℕ) → Executes read board steps (Ok stop) → status ≡ stop_status stop → image ≡ read → GoesTo image board steps status
+stop_goes_as image read board steps stop status ends e same = rw same (stop_goes read board steps stop status ends e)
+
+pub fault_goes_as : (image read : Result (List Segment) LoadFault) (board : Result Described BoardFault) (steps : ℕ) (fault : Fault) (status : ℕ) → Executes read board steps (Err fault) → status ≡ fault_status fault → image ≡ read → GoesTo image board steps status
+fault_goes_as image read board steps fault status ends e same = rw same (fault_goes read board steps fault status ends e)
+
 -- what the reader of boards answers is what is read here
 pub read_as : (read : Result Described BoardFault) (result : Result TheBoard BoardFault) → Answers described result read ⊎ (result ≡ Err OutOfMemory) → Reads read result
 read_as read (Ok board) (inl same) = same

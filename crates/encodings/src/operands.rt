@@ -1,4 +1,4 @@
-//! Operands that several families of rows have in common.
+//! Operands that several rows have in common.
 
 ghost use Rattle.std.specs.Prelude.{◌≡◌, ◌<◌, ◌^◌};
 ghost use Rattle.reference.specs.LongData.{operand_of};
