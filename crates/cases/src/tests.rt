@@ -19,7 +19,7 @@ use regs::Regs;
 use short_data::SHORT_DATA;
 use short_others::SHORT_OTHERS;
 use std::test::*;
-use tables::{Rows, check_all, check_between};
+use tables::{Rows, check_between};
 
 mod data_edges_fields;
 mod data_edges_moves;
@@ -112,7 +112,10 @@ fn edges_worked_by_hand() -> Result<(), Fail> {
 
 #[test]
 fn edges_of_data_processing() -> Result<(), Fail> {
-    check_all(&[SUMS, MOVES, PRODUCTS, FIELDS], BETWEEN, &mut Cases)
+    for table in [SUMS, MOVES, PRODUCTS, FIELDS] {
+        check_between(table, BETWEEN, &mut Cases)?;
+    }
+    Ok(())
 }
 
 #[test]
@@ -125,7 +128,10 @@ fn cases_of_other_machines() -> Result<(), Fail> {
         LONG_OTHERS_FIRST,
         LONG_OTHERS_SECOND,
     ];
-    check_all(&tables, BETWEEN, &mut Cases)
+    for table in tables {
+        check_between(table, BETWEEN, &mut Cases)?;
+    }
+    Ok(())
 }
 
 /// The name of a stop, where it is one of these.

@@ -20,14 +20,6 @@ pub fn check_between<R: Rows>(table: &str, between: &str, rows: &mut R) -> Resul
     Ok(())
 }
 
-/// Fails with the first row that doesn't hold, of tables with this between their rows.
-pub fn check_all<R: Rows>(tables: &[&str], between: &str, rows: &mut R) -> Result<(), Fail> {
-    'tables: for table in tables {
-        check_between(table, between, rows)?;
-    }
-    Ok(())
-}
-
 /// Fails with the first line of a table that doesn't hold.
 pub fn check<R: Rows>(table: &str, rows: &mut R) -> Result<(), Fail> {
     check_between(table, "\n", rows)

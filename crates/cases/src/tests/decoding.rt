@@ -7,7 +7,7 @@ use decode::{CodeLines, Decoded, Reread, decode, length};
 use encodings::laws;
 use std::test::*;
 use stops::STOPS;
-use tables::{Rows, byte_at, check, check_all, halfword_at, numbers, part};
+use tables::{Rows, byte_at, check, halfword_at, numbers, part};
 use told::told_operands;
 
 mod assembled;
@@ -55,8 +55,10 @@ impl Rows for Coded {
 
 #[test]
 fn instructions() -> Result<(), Fail> {
-    let tables = [SHORT, LONG_DATA, LONG_CONTROL, LONG_OTHERS];
-    check_all(&tables, "\n", &mut Coded)
+    for table in [SHORT, LONG_DATA, LONG_CONTROL, LONG_OTHERS] {
+        check(table, &mut Coded)?;
+    }
+    Ok(())
 }
 
 /// Encodings that stop for their cause, at their place in an IT block, and neighbours that don't.

@@ -340,14 +340,11 @@ fn a_disabled_line_waits(rt: HostRuntime) {
     let mut levels = after_reset();
     levels.pend(16);
     assert!(rt; levels.is_interrupt_pending());
-    assert_eq!(rt; levels.best(), None);
-    assert_eq!(rt; levels.candidate(), None);
+    assert!(rt; levels.best().is_none() && levels.candidate().is_none());
     levels.enable(16);
     levels.activate(3);
-    assert_eq!(rt; levels.best(), Some(16));
-    assert_eq!(rt; levels.candidate(), None);
-    assert!(rt; !levels.is_other_active(3));
-    assert!(rt; levels.is_other_active(16));
+    assert!(rt; levels.best() == Some(16) && levels.candidate().is_none());
+    assert!(rt; !levels.is_other_active(3) && levels.is_other_active(16));
     levels.clear(16);
     levels.pend(15);
     assert!(rt; !levels.is_interrupt_pending());
@@ -361,8 +358,7 @@ fn are_highest(masks: Masks) -> bool {
 #[test]
 fn what_a_board_keeps(rt: HostRuntime) {
     let mut levels = PlainLevels::fresh(255, 3);
-    assert!(rt; levels.lines() == 240 && levels.priority_bits() == 3);
-    assert!(rt; levels.group() == 0);
+    assert!(rt; levels.lines() == 240 && levels.priority_bits() == 3 && levels.group() == 0);
     levels.set_group(0xFD);
     assert!(rt; levels.group() == 5);
     levels.set_basepri(0xFF);

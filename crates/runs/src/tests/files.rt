@@ -60,12 +60,20 @@ impl Case {
     fn read(&mut self, line: &str) -> Option<()> {
         let (word, rest) = line.split_once(' ')?;
         match word {
-            "byte" => *self.image.get_mut(number_at(rest, 0)? as usize)? = byte_at(rest, 1)?,
-            "length" => self.length = number_at(rest, 0)? as usize,
-            "board" => push_line(&mut self.board, rest)?,
-            "ends" => self.status = byte_at(rest, 0),
-            "out" => push_line(&mut self.out, rest)?,
-            "err" => push_line(&mut self.err, rest)?,
+            "board" => push_line(&mut self.board, rest),
+            "out" => push_line(&mut self.out, rest),
+            "err" => push_line(&mut self.err, rest),
+            _ => self.read_numbers(word, rest),
+        }
+    }
+
+    /// A line of numbers is read.
+    fn read_numbers(&mut self, word: &str, numbers: &str) -> Option<()> {
+        let number = number_at(numbers, 0)? as usize;
+        match word {
+            "byte" => *self.image.get_mut(number)? = byte_at(numbers, 1)?,
+            "length" => self.length = number,
+            "ends" => self.status = byte_at(numbers, 0),
             _ => return None,
         }
         Some(())

@@ -62,31 +62,24 @@ pub(super) fn check_runs(alloc: Global, table: &str) -> Result<(), Fail> {
 impl Run {
     /// Whether a line holds, which is followed if it asks for something.
     fn follow(&mut self, line: &str) -> Option<bool> {
-        match word(line, 0) {
-            "trace" => Some(push_line(&mut self.wanted, behind(line)).is_some()),
-            "steps" => Some(run(&mut self.machine, number_at(line, 1)?, &mut self.out).is_ok()),
-            "refused" => self.refuses(line),
+        let (name, rest) = line.split_once(' ')?;
+        match name {
+            "trace" => Some(push_line(&mut self.wanted, rest).is_some()),
+            "steps" => Some(run(&mut self.machine, number_at(rest, 0)?, &mut self.out).is_ok()),
+            "refused" => self.refuses(rest),
             "event" => Some(event(line).is_some()),
-            "after" => holds(&self.machine, behind(line)),
+            "after" => holds(&self.machine, rest),
             _ => Some(self.machine.place(place(line)?).is_ok()),
         }
     }
 
-    /// Whether a place is refused as its line says.
-    fn refuses(&mut self, line: &str) -> Option<bool> {
-        let place = place(behind(behind(line)))?;
-        match self.machine.place(place) {
+    /// Whether a place is refused, for the reason that stands before it.
+    fn refuses(&mut self, refused: &str) -> Option<bool> {
+        let (why, place_of) = refused.split_once(' ')?;
+        match self.machine.place(place(place_of)?) {
             Ok(()) => Some(false),
-            Err(fault) => Some(name_of(fault) == word(line, 1)),
+            Err(fault) => Some(name_of(fault) == why),
         }
-    }
-}
-
-/// What a line says behind its first word.
-fn behind(line: &str) -> &str {
-    match line.split_once(' ') {
-        Some((_, rest)) => rest,
-        None => "",
     }
 }
 
