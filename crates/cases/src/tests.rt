@@ -19,6 +19,7 @@ use regs::Regs;
 use short_data::SHORT_DATA;
 use short_others::SHORT_OTHERS;
 use std::test::*;
+use tables::{Rows, check_between};
 
 mod data_edges_fields;
 mod data_edges_moves;
@@ -85,55 +86,40 @@ fn has_status(case: &Case) -> bool {
         && case.regs.is_thumb() == case.wanted.thumb
 }
 
-/// What of a case isn't as wanted, if anything.
-fn difference(case: &mut Case) -> Option<&'static str> {
-    if !runs(case) {
-        return Some("it should go on");
-    }
-    if !has_registers(case) {
-        return Some("the registers");
-    }
-    if !has_status(case) {
-        return Some("the flags, IT or T");
-    }
-    if !case.memory.agrees_with(&case.wanted.memory) {
-        return Some("the memory");
-    }
-    None
-}
+/// What is between two cases.
+const BETWEEN: &str = "\n\n";
 
-/// Whether a case leaves what it says.
-fn is_right(text: &str) -> bool {
-    difference(&mut Case::of(text)).is_none()
-}
+/// Cases, and what they leave.
+#[derive(Drop)]
+struct Cases;
 
-/// The first case of a table that doesn't, and otherwise nothing.
-fn first_wrong(table: &str) -> &str {
-    for text in table.split("\n\n") {
-        if !is_right(text) {
-            return text;
-        }
-    }
-    ""
-}
-
-#[test]
-fn edges_worked_by_hand(rt: HostRuntime) {
-    for text in EDGES.split("\n\n") {
-        assert!(rt; is_right(text), "{text}");
+impl Rows for Cases {
+    fn holds(&mut self, text: &str) -> Option<bool> {
+        let mut case = Case::of(text)?;
+        Some(
+            runs(&mut case)
+                && has_registers(&case)
+                && has_status(&case)
+                && case.memory.agrees_with(&case.wanted.memory),
+        )
     }
 }
 
 #[test]
-fn edges_of_data_processing(rt: HostRuntime) {
+fn edges_worked_by_hand() -> Result<(), Fail> {
+    check_between(EDGES, BETWEEN, &mut Cases)
+}
+
+#[test]
+fn edges_of_data_processing() -> Result<(), Fail> {
     for table in [SUMS, MOVES, PRODUCTS, FIELDS] {
-        let text = first_wrong(table);
-        assert!(rt; text.is_empty(), "{text}");
+        check_between(table, BETWEEN, &mut Cases)?;
     }
+    Ok(())
 }
 
 #[test]
-fn cases_of_other_machines(rt: HostRuntime) {
+fn cases_of_other_machines() -> Result<(), Fail> {
     let tables = [
         SHORT_DATA,
         SHORT_OTHERS,
@@ -143,27 +129,9 @@ fn cases_of_other_machines(rt: HostRuntime) {
         LONG_OTHERS_SECOND,
     ];
     for table in tables {
-        let text = first_wrong(table);
-        assert!(rt; text.is_empty(), "{text}");
+        check_between(table, BETWEEN, &mut Cases)?;
     }
-}
-
-/// How the first instruction of a case stops, if it does.
-fn stop_of(text: &str) -> Option<Stop> {
-    let mut case = Case::of(text);
-    step(&mut case.regs, &mut case.memory).err()
-}
-
-/// Whether a case stops since its instruction isn't built.
-fn is_unbuilt(text: &str) -> bool {
-    matches!(stop_of(text), Some(Stop::OutOfProfile(LeftOut::Unbuilt)))
-}
-
-#[test]
-fn cases_that_stop_today(rt: HostRuntime) {
-    for text in LATER.split("\n\n") {
-        assert!(rt; is_unbuilt(text), "{text}");
-    }
+    Ok(())
 }
 
 /// The name of a stop, where it is one of these.
@@ -179,17 +147,41 @@ fn name_of(stop: Stop) -> &'static str {
     }
 }
 
-/// Whether a case stops as its first word says, or goes on.
-fn stops_so(text: &str) -> bool {
-    match stop_of(text) {
-        Some(stop) => text.starts_with(name_of(stop)),
-        None => text.starts_with("goes on"),
+/// How the first instruction of a case ends: the name of its stop, or that it goes on.
+fn end_of(text: &str) -> Option<&'static str> {
+    let mut case = Case::of(text)?;
+    match step(&mut case.regs, &mut case.memory) {
+        Ok(_) => Some("goes on"),
+        Err(stop) => Some(name_of(stop)),
+    }
+}
+
+/// Cases whose instruction isn't built.
+#[derive(Drop)]
+struct Unbuilt;
+
+impl Rows for Unbuilt {
+    fn holds(&mut self, text: &str) -> Option<bool> {
+        Some(end_of(text)? == "unbuilt")
     }
 }
 
 #[test]
-fn named_stops(rt: HostRuntime) {
-    for text in STOPS.split("\n\n") {
-        assert!(rt; stops_so(text), "{text}");
+fn cases_that_stop_today() -> Result<(), Fail> {
+    check_between(LATER, BETWEEN, &mut Unbuilt)
+}
+
+/// Cases that stop as their first word says, or go on.
+#[derive(Drop)]
+struct Ends;
+
+impl Rows for Ends {
+    fn holds(&mut self, text: &str) -> Option<bool> {
+        Some(text.starts_with(end_of(text)?))
     }
+}
+
+#[test]
+fn named_stops() -> Result<(), Fail> {
+    check_between(STOPS, BETWEEN, &mut Ends)
 }

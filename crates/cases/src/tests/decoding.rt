@@ -7,17 +7,12 @@ use decode::{CodeLines, Decoded, Reread, decode, length};
 use encodings::laws;
 use std::test::*;
 use stops::STOPS;
-use tables::{byte_at, number_at, part};
-use told::{Told, told_operands};
+use tables::{Rows, byte_at, check, halfword_at, numbers, part};
+use told::told_operands;
 
 mod assembled;
 mod stops;
 mod told;
-
-/// A halfword at a place of a line.
-fn halfword_at(line: &str, place: usize) -> Option<u16> {
-    u16::try_from(number_at(line, place)?).ok()
-}
 
 /// The two halfwords that stand in a line from that place on.
 fn halfwords_at(line: &str, place: usize) -> Option<(u16, u16)>
@@ -26,101 +21,102 @@ fn halfwords_at(line: &str, place: usize) -> Option<(u16, u16)>
     Some((halfword_at(line, place)?, halfword_at(line, place + 1)?))
 }
 
-/// The number of the variant and the operands that a line wants.
-fn wanted(line: &str) -> Option<Told> {
-    let mut all = [0; 8];
-    all[0] = number_at(line, 2)?;
-    for at in 1..8 {
-        all[at] = number_at(line, 4 + at)?;
+/// What the two halfwords mean that stand in a line from that place on, in a word.
+fn meaning_at(line: &str, place: usize) -> Option<&'static str>
+    requires { place < 8 }
+{
+    let (hw1, hw2) = halfwords_at(line, place)?;
+    match decode(hw1, hw2) {
+        Decoded::Instr(_) => Some("instruction"),
+        Decoded::Unpredictable(_, _) => Some("stop"),
+        Decoded::Undefined => Some("undefined"),
+        Decoded::NoCoprocessor => Some("coprocessor"),
     }
-    Some(all)
 }
 
-/// Whether a line says what its halfwords mean.
-fn is_told(line: &str) -> Option<bool> {
-    let (hw1, hw2) = halfwords_at(line, 0)?;
-    let Decoded::Instr(coded) = decode(hw1, hw2) else {
-        return None;
-    };
-    Some(
-        byte_at(line, 3) == Some(coded.length)
-            && byte_at(line, 4) == Some(coded.place as u8)
-            && wanted(line)? == told_operands(&coded.instruction)?,
-    )
-}
+/// Encodings of instructions, and what they say.
+#[derive(Drop)]
+struct Coded;
 
-/// Whether the halfwords of a line stop for its cause, at its place in an IT block.
-fn is_stopped(line: &str) -> Option<bool> {
-    let (hw1, hw2) = halfwords_at(line, 0)?;
-    let (place, cause) = match decode(hw1, hw2) {
-        Decoded::Unpredictable(place, cause) => (place as u8, cause as u8),
-        _ => return None,
-    };
-    Some(byte_at(line, 2) == Some(place) && byte_at(line, 3) == Some(cause))
-}
-
-/// Whether the neighbour of a line that stops is an instruction.
-fn is_beside_an_instruction(line: &str) -> Option<bool> {
-    let (hw1, hw2) = halfwords_at(line, 4)?;
-    Some(matches!(decode(hw1, hw2), Decoded::Instr(_)))
-}
-
-/// The first line that isn't told so, and otherwise nothing.
-fn first_not_told(table: &str) -> &str {
-    for line in table.lines() {
-        if is_told(line) != Some(true) {
-            return line;
-        }
+impl Rows for Coded {
+    fn holds(&mut self, line: &str) -> Option<bool> {
+        let (hw1, hw2) = halfwords_at(line, 0)?;
+        let Decoded::Instr(coded) = decode(hw1, hw2) else {
+            return None;
+        };
+        let [_, _, variant, length, place, a, b, c, d, e, f, g] = numbers::<12>(line)?;
+        Some(
+            length == u32::from(coded.length)
+                && place == coded.place as u32
+                && told_operands(&coded.instruction) == Some([variant, a, b, c, d, e, f, g]),
+        )
     }
-    ""
 }
 
 #[test]
-fn instructions(rt: HostRuntime) {
+fn instructions() -> Result<(), Fail> {
     for table in [SHORT, LONG_DATA, LONG_CONTROL, LONG_OTHERS] {
-        let line = first_not_told(table);
-        assert!(rt; line.is_empty(), "{line}");
+        check(table, &mut Coded)?;
+    }
+    Ok(())
+}
+
+/// Encodings that stop for their cause, at their place in an IT block, and neighbours that don't.
+#[derive(Drop)]
+struct Stopped;
+
+impl Rows for Stopped {
+    fn holds(&mut self, line: &str) -> Option<bool> {
+        let (hw1, hw2) = halfwords_at(line, 0)?;
+        let Decoded::Unpredictable(place, cause) = decode(hw1, hw2) else {
+            return None;
+        };
+        Some(
+            byte_at(line, 2) == Some(place as u8)
+                && byte_at(line, 3) == Some(cause as u8)
+                && meaning_at(line, 4)? == "instruction",
+        )
     }
 }
 
 #[test]
-fn named_stops(rt: HostRuntime) {
-    for line in STOPS.lines() {
-        let is_so = is_stopped(line) == Some(true) && is_beside_an_instruction(line) == Some(true);
-        assert!(rt; is_so, "{line}");
-    }
+fn named_stops() -> Result<(), Fail> {
+    check(STOPS, &mut Stopped)
 }
 
-/// Whether the halfwords of a line are undefined.
-fn is_undefined(line: &str) -> Option<bool> {
-    let (hw1, hw2) = halfwords_at(line, 0)?;
-    Some(matches!(decode(hw1, hw2), Decoded::Undefined))
+/// Encodings with one meaning.
+#[derive(Drop)]
+struct Meant {
+    meaning: &'static str,
+}
+
+impl Rows for Meant {
+    fn holds(&mut self, line: &str) -> Option<bool> {
+        Some(meaning_at(line, 0)? == self.meaning)
+    }
 }
 
 #[test]
-fn what_is_undefined(rt: HostRuntime) {
-    for line in UNDEFINED.lines() {
-        assert!(rt; is_undefined(line) == Some(true), "{line}");
-    }
-}
-
-/// Whether the halfwords of a line are a coprocessor's.
-fn is_a_coprocessors(line: &str) -> Option<bool> {
-    let (hw1, hw2) = halfwords_at(line, 0)?;
-    Some(matches!(decode(hw1, hw2), Decoded::NoCoprocessor))
+fn what_is_undefined() -> Result<(), Fail> {
+    let meaning = "undefined";
+    check(UNDEFINED, &mut Meant { meaning })
 }
 
 #[test]
-fn what_is_a_coprocessors(rt: HostRuntime) {
-    for line in COPROCESSORS.lines() {
-        assert!(rt; is_a_coprocessors(line) == Some(true), "{line}");
-    }
+fn what_is_a_coprocessors() -> Result<(), Fail> {
+    let meaning = "coprocessor";
+    check(COPROCESSORS, &mut Meant { meaning })
 }
 
-/// Whether an instruction that begins with the halfword of a row has its length.
-fn is_of_length(row: &str) -> Option<bool> {
-    let hw1 = halfword_at(part(row, 0), 0)?;
-    Some(byte_at(part(row, 1), 0) == Some(length(hw1)))
+/// First halfwords, and the lengths of their instructions.
+#[derive(Drop)]
+struct FirstHalfwords;
+
+impl Rows for FirstHalfwords {
+    fn holds(&mut self, row: &str) -> Option<bool> {
+        let hw1 = halfword_at(part(row, 0), 0)?;
+        Some(byte_at(part(row, 1), 0) == Some(length(hw1)))
+    }
 }
 
 /// The first halfword; how many bytes its instruction has; what the row is.
@@ -135,10 +131,8 @@ F800 | 4 | 11111
 FFFF | 4 | the greatest";
 
 #[test]
-fn lengths(rt: HostRuntime) {
-    for row in LENGTHS.lines() {
-        assert!(rt; is_of_length(row) == Some(true), "{row}");
-    }
+fn lengths() -> Result<(), Fail> {
+    check(LENGTHS, &mut FirstHalfwords)
 }
 
 #[test]

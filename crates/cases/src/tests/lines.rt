@@ -19,6 +19,7 @@ use super::memory::Memory;
 use arrayvec::ArrayVec;
 use reference::registers::Register;
 use regs::{Regs, flags_of};
+use tables::{number, word};
 
 /// What is to be there afterwards.
 #[derive(Drop)]
@@ -44,19 +45,12 @@ pub(super) struct Case {
 type Numbers = ArrayVec<u32, 24>;
 
 /// The numbers behind the first word of a line.
-fn numbers_of(line: &str) -> Numbers {
+fn numbers_of(line: &str) -> Option<Numbers> {
     let mut numbers = Numbers::new();
-    'words: for (place, word) in line.split(' ').enumerate() {
-        if place > 0 {
-            let _ = numbers.try_push(u32::from_str_radix(word, 16).unwrap_or(0));
-        }
+    'words: for word in line.split_whitespace().skip(1) {
+        numbers.try_push(number(word)?).ok()?;
     }
-    numbers
-}
-
-/// The first word of a line.
-fn word_of(line: &str) -> &str {
-    line.split(' ').next().unwrap_or("")
+    Some(numbers)
 }
 
 /// The number at a place of a line, 0 where it has none.
@@ -87,53 +81,49 @@ impl Case {
     }
 
     /// The case of a text whose first line is a name.
-    pub(super) fn of(text: &str) -> Self {
+    pub(super) fn of(text: &str) -> Option<Self> {
         let mut case = Case::new();
-        'lines: for line in text.lines() {
-            case.read(line);
+        'lines: for line in text.lines().skip(1) {
+            case.read(line)?;
         }
-        case
+        Some(case)
     }
 
     /// A line is read.
-    fn read(&mut self, line: &str) {
-        let word = word_of(line);
-        let numbers = numbers_of(line);
-        if word == "code" {
-            self.read_code(&numbers);
-        } else if word == "registers" {
-            self.read_registers(0, &numbers);
-        } else if word == "higher" {
-            self.read_registers(8, &numbers);
-        } else if word == "before" {
-            self.read_before(&numbers);
-        } else if word == "after" {
-            self.read_after(&numbers);
-        } else if word == "memory" || word == "memory_after" {
-            self.read_words(word == "memory", &numbers);
-        } else if word == "bytes" {
-            self.read_bytes(&numbers);
-        } else {
-            self.read_status(word, number_at(&numbers, 0));
+    fn read(&mut self, line: &str) -> Option<()> {
+        let numbers = numbers_of(line)?;
+        match word(line, 0) {
+            "code" => self.read_code(&numbers),
+            "registers" => self.read_registers(0, &numbers),
+            "higher" => self.read_registers(8, &numbers),
+            "before" => self.read_before(&numbers),
+            "after" => self.read_after(&numbers),
+            "memory" => self.read_words(true, &numbers),
+            "memory_after" => self.read_words(false, &numbers),
+            "bytes" => self.read_bytes(&numbers),
+            word => return self.read_status(word, number_at(&numbers, 0)),
         }
+        Some(())
     }
 
     /// Flags, IT and T.
-    fn read_status(&mut self, word: &str, value: u32) {
+    fn read_status(&mut self, word: &str, value: u32) -> Option<()> {
         let byte = (value & 0xFF) as u8;
-        if word == "flags" {
-            self.regs.set_flags(flags_of(value));
-            self.wanted.flags = value;
-        } else if word == "flags_after" {
-            self.wanted.flags = value;
-        } else if word == "it" {
-            self.regs.set_it(byte);
-            self.wanted.it = byte;
-        } else if word == "it_after" {
-            self.wanted.it = byte;
-        } else if word == "thumb_after" {
-            self.wanted.thumb = value == 1;
+        match word {
+            "flags" => {
+                self.regs.set_flags(flags_of(value));
+                self.wanted.flags = value;
+            }
+            "flags_after" => self.wanted.flags = value,
+            "it" => {
+                self.regs.set_it(byte);
+                self.wanted.it = byte;
+            }
+            "it_after" => self.wanted.it = byte,
+            "thumb_after" => self.wanted.thumb = value == 1,
+            _ => return None,
         }
+        Some(())
     }
 
     /// The code, behind which the PC is to stand.
@@ -141,9 +131,7 @@ impl Case {
         let mut at = number_at(numbers, 0);
         self.regs.branch(at);
         'halfwords: for halfword in numbers.as_slice().iter().skip(1) {
-            let [low, high, _, _] = halfword.to_le_bytes();
-            self.memory.put(at, low);
-            self.memory.put(at.wrapping_add(1), high);
+            self.memory.put_halfword(at, *halfword);
             at = at.wrapping_add(2);
         }
         self.halfwords = numbers.len().saturating_sub(1);

@@ -1,7 +1,7 @@
 //! A memory of a few bytes, and what it answers.
 
 use arrayvec::ArrayVec;
-use reference::access::Request;
+use reference::access::{Request, Size};
 
 /// A byte at an address.
 #[derive(Clone, Copy)]
@@ -37,13 +37,17 @@ impl Memory {
         let _ = self.cells.try_push(Cell { address, byte });
     }
 
+    /// The lower halfword of a word is put there.
+    pub(super) fn put_halfword(&mut self, address: u32, word: u32) {
+        let [first, second, _, _] = word.to_le_bytes();
+        self.put(address, first);
+        self.put(address.wrapping_add(1), second);
+    }
+
     /// A word is put there.
     pub(super) fn put_word(&mut self, address: u32, word: u32) {
-        let [a, b, c, d] = word.to_le_bytes();
-        self.put(address, a);
-        self.put(address.wrapping_add(1), b);
-        self.put(address.wrapping_add(2), c);
-        self.put(address.wrapping_add(3), d);
+        self.put_halfword(address, word);
+        self.put_halfword(address.wrapping_add(2), word >> 16);
     }
 
     /// The byte at an address.
@@ -72,21 +76,34 @@ impl Memory {
         true
     }
 
-    /// An access is carried out; a load gives its value, a store 0.
-    pub(super) fn carry_out(&mut self, request: &Request) -> u32 {
-        let address = request.address;
-        let mut bytes = [0, 0, 0, 0];
-        let stored = request.value.to_le_bytes();
-        'places: for place in 0..4 {
-            let at = address.wrapping_add(place as u32);
-            if (place as u32) < request.size.bytes() {
-                if request.kind.is_store() {
-                    self.put(at, stored[place]);
-                } else {
-                    bytes[place] = self.byte(at);
-                }
+    /// A value of that size is stored.
+    fn store(&mut self, address: u32, value: u32, size: Size) {
+        match size {
+            Size::Byte => self.put(address, value.to_le_bytes()[0]),
+            Size::Halfword => self.put_halfword(address, value),
+            Size::Word => self.put_word(address, value),
+        }
+    }
+
+    /// A value of that size is loaded.
+    fn load(&self, address: u32, size: Size) -> u32 {
+        match size {
+            Size::Byte => u32::from(self.byte(address)),
+            Size::Halfword => u32::from(self.halfword(address)),
+            Size::Word => {
+                let lower = u32::from(self.halfword(address));
+                lower | u32::from(self.halfword(address.wrapping_add(2))) << 16
             }
         }
-        u32::from_le_bytes(bytes)
+    }
+
+    /// An access is carried out; a load gives its value, a store 0.
+    pub(super) fn carry_out(&mut self, request: &Request) -> u32 {
+        if request.kind.is_store() {
+            self.store(request.address, request.value, request.size);
+            0
+        } else {
+            self.load(request.address, request.size)
+        }
     }
 }

@@ -9,7 +9,9 @@ use regs::{
     shift_c,
 };
 use std::test::*;
-use tables::{byte_at, is_first, number_at, part, word};
+use tables::{
+    Rows, byte_at, check, halfword_at, is_first, meaning, number_at, numbers, part, word,
+};
 
 /// The registers after a reset.
 fn after_reset() -> Regs {
@@ -18,11 +20,14 @@ fn after_reset() -> Regs {
 
 /// Whether the stack pointers, LR and PC are those.
 fn has_addresses(registers: &Regs, wanted: &str) -> bool {
-    number_at(wanted, 0) == Some(registers.sp())
-        && number_at(wanted, 1) == Some(registers.main_stack())
-        && number_at(wanted, 2) == Some(registers.process_stack())
-        && number_at(wanted, 3) == Some(registers.link())
-        && number_at(wanted, 4) == Some(registers.pc())
+    numbers(wanted)
+        == Some([
+            registers.sp(),
+            registers.main_stack(),
+            registers.process_stack(),
+            registers.link(),
+            registers.pc(),
+        ])
 }
 
 /// Whether T, IT and the mode are those.
@@ -33,17 +38,20 @@ fn has_mode(registers: &Regs, wanted: &str) -> bool {
         && is_first(word(wanted, 3), "handler", "-") == Some(registers.is_handler())
 }
 
-/// Whether the registers after a reset are those of a row.
-fn is_reset_so(row: &str) -> Option<bool> {
-    let table = part(row, 0);
-    let registers = Regs::reset(number_at(table, 0)?, number_at(table, 1)?);
-    let words = part(row, 3);
-    Some(
-        has_addresses(&registers, part(row, 1))
-            && has_mode(&registers, part(row, 2))
-            && number_at(words, 0) == Some(registers.xpsr())
-            && number_at(words, 1) == Some(registers.control()),
-    )
+/// The registers after a reset.
+#[derive(Drop)]
+struct AfterReset;
+
+impl Rows for AfterReset {
+    fn holds(&mut self, row: &str) -> Option<bool> {
+        let [stack, entry] = numbers::<2>(part(row, 0))?;
+        let registers = Regs::reset(stack, entry);
+        Some(
+            has_addresses(&registers, part(row, 1))
+                && has_mode(&registers, part(row, 2))
+                && numbers(part(row, 3)) == Some([registers.xpsr(), registers.control()]),
+        )
+    }
 }
 
 /// The stack and the entry that a reset takes; SP, MSP, PSP, LR and PC; T, IT, whether it is
@@ -52,23 +60,24 @@ const RESETS: &str = "\
 20001003 101 | 20001000 20001000 0 FFFFFFFF 100 | T 0 privileged - | 1000000 0 | a reset takes the vector table";
 
 #[test]
-fn resets(rt: HostRuntime) {
-    for row in RESETS.lines() {
-        assert!(rt; is_reset_so(row) == Some(true), "{row}");
-    }
+fn resets() -> Result<(), Fail> {
+    check(RESETS, &mut AfterReset)
 }
 
-/// Whether a register reads as its row says.
-fn is_kept_so(row: &str) -> Option<bool> {
-    let given = part(row, 0);
-    let number = byte_at(given, 0)?;
-    if number > 15 {
-        return None;
+/// Registers, and what they read as.
+#[derive(Drop)]
+struct Kept;
+
+impl Rows for Kept {
+    fn holds(&mut self, row: &str) -> Option<bool> {
+        let number = byte_at(part(row, 0), 0)?;
+        if number > 15 {
+            return None;
+        }
+        let mut registers = after_reset();
+        registers.set(Register::new(number), number_at(part(row, 0), 1)?);
+        Some(number_at(part(row, 1), 0) == Some(registers.get(Register::new(number))))
     }
-    let mut registers = after_reset();
-    registers.set(Register::new(number), number_at(given, 1)?);
-    let kept = registers.get(Register::new(number));
-    Some(number_at(part(row, 1), 0) == Some(kept))
 }
 
 /// A register's number and the value that it is given; what it reads as; what the row is.
@@ -80,23 +89,25 @@ E 201 | 201 | LR
 F 201 | 204 | PC branches, and reads as 4 more";
 
 #[test]
-fn registers_keep_what_they_are_given(rt: HostRuntime) {
-    for row in KEPT.lines() {
-        assert!(rt; is_kept_so(row) == Some(true), "{row}");
-    }
+fn registers_keep_what_they_are_given() -> Result<(), Fail> {
+    check(KEPT, &mut Kept)
 }
 
-/// Whether PC goes on or branches as its row says.
-fn goes_so(row: &str) -> Option<bool> {
-    let mut registers = Regs::reset(0, number_at(part(row, 0), 0)?);
-    let step = part(row, 1);
-    let number = number_at(step, 1)?;
-    if is_first(word(step, 0), "on", "to")? {
-        registers.go_on(number);
-    } else {
-        registers.branch(number);
+/// PC, which goes on or branches.
+#[derive(Drop)]
+struct Next;
+
+impl Rows for Next {
+    fn holds(&mut self, row: &str) -> Option<bool> {
+        let mut registers = Regs::reset(0, number_at(part(row, 0), 0)?);
+        let number = number_at(part(row, 1), 1)?;
+        if is_first(word(part(row, 1), 0), "on", "to")? {
+            registers.go_on(number);
+        } else {
+            registers.branch(number);
+        }
+        Some(number_at(part(row, 2), 0) == Some(registers.pc()))
     }
-    Some(number_at(part(row, 2), 0) == Some(registers.pc()))
 }
 
 /// PC; how many bytes it goes on, or the address that it branches to; PC then; what the row is.
@@ -106,10 +117,8 @@ const NEXT: &str = "\
 FFFFFFFE | on 2 | 0 | goes on across the end";
 
 #[test]
-fn next_instructions(rt: HostRuntime) {
-    for row in NEXT.lines() {
-        assert!(rt; goes_so(row) == Some(true), "{row}");
-    }
+fn next_instructions() -> Result<(), Fail> {
+    check(NEXT, &mut Next)
 }
 
 /// Whether the flags are those of a part, in which each has its letter or a line.
@@ -121,16 +130,17 @@ fn are_flags(flags: Flags, wanted: &str) -> bool {
         && is_first(word(wanted, 4), "Q", "-") == Some(flags.saturated)
 }
 
-/// Whether a word has the flags of its row, and so have the registers that are given them.
-fn has_flags_so(row: &str) -> Option<bool> {
-    let mut registers = after_reset();
-    registers.set_flags(flags_of(number_at(part(row, 0), 0)?));
-    let words = part(row, 2);
-    Some(
-        are_flags(registers.flags(), part(row, 1))
-            && number_at(words, 0) == Some(registers.apsr())
-            && number_at(words, 1) == Some(registers.xpsr()),
-    )
+/// Words, and the flags in them.
+#[derive(Drop)]
+struct InWords;
+
+impl Rows for InWords {
+    fn holds(&mut self, row: &str) -> Option<bool> {
+        let mut registers = after_reset();
+        registers.set_flags(flags_of(number_at(part(row, 0), 0)?));
+        let is_so = are_flags(registers.flags(), part(row, 1));
+        Some(is_so && numbers(part(row, 2)) == Some([registers.apsr(), registers.xpsr()]))
+    }
 }
 
 /// A word; its flags; APSR, and xPSR after a reset with these flags; what the row is.
@@ -145,10 +155,8 @@ const FLAGS: &str = "\
 FFFFFFFF | N Z C V Q | F8000000 F9000000 | all bits";
 
 #[test]
-fn flags_of_words(rt: HostRuntime) {
-    for row in FLAGS.lines() {
-        assert!(rt; has_flags_so(row) == Some(true), "{row}");
-    }
+fn flags_of_words() -> Result<(), Fail> {
+    check(FLAGS, &mut InWords)
 }
 
 /// The carry at a place of a part, set or clear.
@@ -156,17 +164,26 @@ fn carry(part: &str, place: usize) -> Option<bool> {
     is_first(word(part, place), "C", "-")
 }
 
-/// Whether two words and a carry have the sum of their row.
-fn is_sum(row: &str) -> Option<bool> {
-    let given = part(row, 0);
-    let (x, y) = (number_at(given, 0)?, number_at(given, 1)?);
-    let (result, carry_out, overflow) = add_with_carry(x, y, carry(given, 2)?);
-    let wanted = part(row, 1);
-    Some(
-        number_at(wanted, 0) == Some(result)
-            && carry(wanted, 1) == Some(carry_out)
-            && is_first(word(wanted, 2), "V", "-") == Some(overflow),
-    )
+/// Whether a word and a carry are those.
+fn is_word_and_carry(told: (u32, bool), wanted: &str) -> bool {
+    number_at(wanted, 0) == Some(told.0) && carry(wanted, 1) == Some(told.1)
+}
+
+/// Two words and a carry, and their sum.
+#[derive(Drop)]
+struct Sums;
+
+impl Rows for Sums {
+    fn holds(&mut self, row: &str) -> Option<bool> {
+        let given = part(row, 0);
+        let [first, second] = numbers::<2>(given)?;
+        let (result, carry_out, overflow) = add_with_carry(first, second, carry(given, 2)?);
+        let wanted = part(row, 1);
+        Some(
+            is_word_and_carry((result, carry_out), wanted)
+                && is_first(word(wanted, 2), "V", "-") == Some(overflow),
+        )
+    }
 }
 
 /// Two words and the carry in; the result, the carry out and the overflow; what the row is.
@@ -186,55 +203,30 @@ FFFFFFFF FFFFFFFF C | FFFFFFFF C - | all ones
 3 FFFFFFFA C | FFFFFFFE - - | 3 - 5, a borrow";
 
 #[test]
-fn sums_of_words(rt: HostRuntime) {
-    for row in SUMS.lines() {
-        assert!(rt; is_sum(row) == Some(true), "{row}");
+fn sums_of_words() -> Result<(), Fail> {
+    check(SUMS, &mut Sums)
+}
+
+const SHIFT_TYPES: [(&str, ShiftType); 5] = [
+    ("Lsl", ShiftType::Lsl),
+    ("Lsr", ShiftType::Lsr),
+    ("Asr", ShiftType::Asr),
+    ("Ror", ShiftType::Ror),
+    ("Rrx", ShiftType::Rrx),
+];
+
+/// Shifts of words.
+#[derive(Drop)]
+struct Shifted;
+
+impl Rows for Shifted {
+    fn holds(&mut self, row: &str) -> Option<bool> {
+        let given = part(row, 0);
+        let shift_type = meaning(&SHIFT_TYPES, word(given, 1))?;
+        let amount = byte_at(given, 2)?;
+        let shifted = shift_c(number_at(given, 0)?, shift_type, amount, carry(given, 3)?);
+        Some(is_word_and_carry(shifted, part(row, 1)))
     }
-}
-
-/// The word of a shift.
-fn name_of(shift_type: ShiftType) -> &'static str {
-    match shift_type {
-        ShiftType::Lsl => "Lsl",
-        ShiftType::Lsr => "Lsr",
-        ShiftType::Asr => "Asr",
-        ShiftType::Ror => "Ror",
-        ShiftType::Rrx => "Rrx",
-    }
-}
-
-/// The shift that a word names.
-fn shift_type(word: &str) -> Option<ShiftType> {
-    let all = [
-        ShiftType::Lsl,
-        ShiftType::Lsr,
-        ShiftType::Asr,
-        ShiftType::Ror,
-        ShiftType::Rrx,
-    ];
-    for shift_type in all {
-        if word == name_of(shift_type) {
-            return Some(shift_type);
-        }
-    }
-    None
-}
-
-/// Whether a shifted word and its carry are those.
-fn is_word_and_carry(shifted: (u32, bool), wanted: &str) -> bool {
-    number_at(wanted, 0) == Some(shifted.0) && carry(wanted, 1) == Some(shifted.1)
-}
-
-/// Whether a word is shifted as its row says.
-fn is_shifted_so(row: &str) -> Option<bool> {
-    let given = part(row, 0);
-    let shifted = shift_c(
-        number_at(given, 0)?,
-        shift_type(word(given, 1))?,
-        byte_at(given, 2)?,
-        carry(given, 3)?,
-    );
-    Some(is_word_and_carry(shifted, part(row, 1)))
 }
 
 /// A word, a shift, its amount and the carry in; the result and the carry out; what the row is.
@@ -268,18 +260,21 @@ FFFFFFFF Lsr FF C | 0 - | LSR 255
 80000002 Rrx 1 C | C0000001 - | RRX with C set";
 
 #[test]
-fn shifts_of_words(rt: HostRuntime) {
-    for row in SHIFTS.lines() {
-        assert!(rt; is_shifted_so(row) == Some(true), "{row}");
-    }
+fn shifts_of_words() -> Result<(), Fail> {
+    check(SHIFTS, &mut Shifted)
 }
 
-/// Whether the bits of a row mean the shift of its line.
-fn is_decoded_so(row: &str) -> Option<bool> {
-    let given = part(row, 0);
-    let shift = decode_imm_shift(byte_at(given, 0)?, byte_at(given, 1)?);
-    let shifted = shift_c(0x8000_0001, shift.shift_type, shift.amount, true);
-    Some(is_word_and_carry(shifted, part(row, 1)))
+/// The bits of shifts, and what they mean.
+#[derive(Drop)]
+struct CodedShifts;
+
+impl Rows for CodedShifts {
+    fn holds(&mut self, row: &str) -> Option<bool> {
+        let given = part(row, 0);
+        let shift = decode_imm_shift(byte_at(given, 0)?, byte_at(given, 1)?);
+        let shifted = shift_c(0x8000_0001, shift.shift_type, shift.amount, true);
+        Some(is_word_and_carry(shifted, part(row, 1)))
+    }
 }
 
 /// The two and the five bits of a row; what they make of 80000001 with C set, and the carry out;
@@ -295,21 +290,22 @@ const ROW_SHIFTS: &str = "\
 3 0 | C0000000 C | RRX";
 
 #[test]
-fn shifts_of_a_row(rt: HostRuntime) {
-    for row in ROW_SHIFTS.lines() {
-        assert!(rt; is_decoded_so(row) == Some(true), "{row}");
-    }
+fn shifts_of_a_row() -> Result<(), Fail> {
+    check(ROW_SHIFTS, &mut CodedShifts)
 }
 
-/// Whether twelve bits mean the word of their row.
-fn is_expanded_so(row: &str) -> Option<bool> {
-    let given = part(row, 0);
-    let bits = u16::try_from(number_at(given, 0)?).ok()?;
-    let wanted = part(row, 1);
-    Some(match expand_imm(bits, carry(given, 1)?) {
-        Some(expanded) => is_word_and_carry(expanded, wanted),
-        None => wanted == "none",
-    })
+/// Twelve bits, and the words that they mean.
+#[derive(Drop)]
+struct Immediates;
+
+impl Rows for Immediates {
+    fn holds(&mut self, row: &str) -> Option<bool> {
+        let given = part(row, 0);
+        match expand_imm(halfword_at(given, 0)?, carry(given, 1)?) {
+            Some(expanded) => Some(is_word_and_carry(expanded, part(row, 1))),
+            None => Some(part(row, 1) == "none"),
+        }
+    }
 }
 
 /// Twelve bits and the carry in; the word and the carry out, or `none`; what the row is.
@@ -330,10 +326,8 @@ const IMMEDIATES: &str = "\
 FFF C | 1FE - | FF turned by 31";
 
 #[test]
-fn modified_immediates(rt: HostRuntime) {
-    for row in IMMEDIATES.lines() {
-        assert!(rt; is_expanded_so(row) == Some(true), "{row}");
-    }
+fn modified_immediates() -> Result<(), Fail> {
+    check(IMMEDIATES, &mut Immediates)
 }
 
 /// Whether a condition holds just where its bit is set.
@@ -343,16 +337,21 @@ fn holds_so(registers: &Regs, condition: u8, holding: u16) -> bool
     registers.condition(condition) == (holding >> condition & 1 == 1)
 }
 
-/// Whether the conditions of a row hold, and no others.
-fn conditions_hold_so(row: &str) -> Option<bool> {
-    let mut registers = after_reset();
-    registers.set_flags(flags_of(number_at(part(row, 0), 0)?));
-    let holding = u16::try_from(number_at(part(row, 1), 0)?).ok()?;
-    let mut all_hold_so = true;
-    for condition in 0..16u8 {
-        all_hold_so = all_hold_so && holds_so(&registers, condition, holding);
+/// Flags, and the conditions that hold with them, and no others.
+#[derive(Drop)]
+struct Holding;
+
+impl Rows for Holding {
+    fn holds(&mut self, row: &str) -> Option<bool> {
+        let mut registers = after_reset();
+        registers.set_flags(flags_of(number_at(part(row, 0), 0)?));
+        let holding = halfword_at(part(row, 1), 0)?;
+        let mut all_hold_so = true;
+        for condition in 0..16u8 {
+            all_hold_so = all_hold_so && holds_so(&registers, condition, holding);
+        }
+        Some(all_hold_so)
     }
-    Some(all_hold_so)
 }
 
 /// A word with the flags; a bit for each condition that holds, from 15 down to 0; what the row is.
@@ -367,10 +366,8 @@ const CONDITIONS: &str = "\
 F0000000 | E655 | all four";
 
 #[test]
-fn conditions(rt: HostRuntime) {
-    for row in CONDITIONS.lines() {
-        assert!(rt; conditions_hold_so(row) == Some(true), "{row}");
-    }
+fn conditions() -> Result<(), Fail> {
+    check(CONDITIONS, &mut Holding)
 }
 
 /// Whether registers are in an IT block as a part says.
@@ -381,14 +378,19 @@ fn is_in_block(registers: &Regs, wanted: &str) -> bool {
         && is_first(word(wanted, 3), "passed", "-") == Some(registers.condition_passed())
 }
 
-/// Whether IT says what its row does.
-fn is_it_so(row: &str) -> Option<bool> {
-    let mut registers = after_reset();
-    registers.set_flags(flags_of(0x4000_0000));
-    registers.set_it(byte_at(part(row, 0), 0)?);
-    let is_so = is_in_block(&registers, part(row, 1));
-    registers.it_advance();
-    Some(is_so && byte_at(part(row, 2), 0) == Some(registers.it()))
+/// IT, and what it says.
+#[derive(Drop)]
+struct Blocks;
+
+impl Rows for Blocks {
+    fn holds(&mut self, row: &str) -> Option<bool> {
+        let mut registers = after_reset();
+        registers.set_flags(flags_of(0x4000_0000));
+        registers.set_it(byte_at(part(row, 0), 0)?);
+        let is_so = is_in_block(&registers, part(row, 1));
+        registers.it_advance();
+        Some(is_so && byte_at(part(row, 2), 0) == Some(registers.it()))
+    }
 }
 
 /// IT; whether that is in a block and last there, its condition, and whether that holds with Z
@@ -407,8 +409,6 @@ F4 | block - F passed | E8 | 15 before AL
 50 | - - E passed | 50 | outside a block, high bits set";
 
 #[test]
-fn it_blocks(rt: HostRuntime) {
-    for row in IT.lines() {
-        assert!(rt; is_it_so(row) == Some(true), "{row}");
-    }
+fn it_blocks() -> Result<(), Fail> {
+    check(IT, &mut Blocks)
 }

@@ -4,7 +4,7 @@ use super::memory::blank;
 use super::words::{request, rule_word};
 use access::{Bus, Cause, Counting, Performed, Search};
 use std::test::*;
-use tables::{part, word};
+use tables::{Rows, check, part, word};
 
 /// What an access was told to be: the rule's word, and its outcome.
 fn told(performed: Performed) -> (&'static str, &'static str) {
@@ -16,11 +16,19 @@ fn told(performed: Performed) -> (&'static str, &'static str) {
     }
 }
 
-/// Whether the next access is told to be what its row says.
-fn is_performed_so(bus: &mut Bus<Search, Counting>, row: &str) -> Option<bool> {
-    let (rule, outcome) = told(bus.perform(&request(part(row, 0))?));
-    let wanted = part(row, 1);
-    Some(rule == word(wanted, 0) && outcome == word(wanted, 1))
+/// The bus that the accesses of rows go to.
+#[derive(Drop)]
+struct Accesses {
+    bus: Bus<Search, Counting>,
+}
+
+impl Rows for Accesses {
+    /// Whether the next access is told to be what its row says.
+    fn holds(&mut self, row: &str) -> Option<bool> {
+        let (rule, outcome) = told(self.bus.perform(&request(part(row, 0))?));
+        let wanted = part(row, 1);
+        Some(rule == word(wanted, 0) && outcome == word(wanted, 1))
+    }
 }
 
 /// The access; the rule that decides it, and its outcome; what the row is.
@@ -40,12 +48,12 @@ L word E000ED00 00000000 p | - stop | a register that isn't built
 S word E000ED98 00000008 p | - stop | a region number that isn't there";
 
 #[test]
-fn each_access_is_decided_in_the_state_before_it(rt: HostRuntime) {
-    let space = blank(rt.alloc()).expect(&rt, "memory");
-    let mut bus: Bus<Search, Counting> = Bus::new(space, Vec::new(rt.alloc()));
-    for row in ACCESSES.lines() {
-        assert!(rt; is_performed_so(&mut bus, row) == Some(true), "{row}");
-    }
-    assert!(rt; bus.region(3) == Some((0x2000_0403, 0x0600_0013)));
-    assert!(rt; bus.space().byte(0x2000_0000) == Some(0));
+fn each_access_is_decided_in_the_state_before_it(rt: HostRuntime) -> Result<(), Fail> {
+    let space = blank(rt.alloc()).ok_or("memory")?;
+    let bus = Bus::new(space, Vec::new(rt.alloc()));
+    let mut accesses = Accesses { bus };
+    check(ACCESSES, &mut accesses)?;
+    assert!(rt; accesses.bus.region(3) == Some((0x2000_0403, 0x0600_0013)));
+    assert!(rt; accesses.bus.space().byte(0x2000_0000) == Some(0));
+    Ok(())
 }

@@ -5,7 +5,7 @@ use board::{Board, BoardFault, Layout, ScriptedEvent, Signal, read_board};
 use reference::board::SMALL_BOARD;
 use std::alloc::Global;
 use std::test::*;
-use tables::{byte_at, number_at, part, word};
+use tables::{Rows, byte_at, check, check_between, long_at, number_at, part, word};
 
 /// The five lines of the small board.
 const SMALL: &str = "\
@@ -72,10 +72,20 @@ fn answer(alloc: Global, text: &str) -> &'static str {
     }
 }
 
-/// Whether the small board with the line of a row is what the row says.
-fn is_line_so(alloc: Global, row: &str) -> Option<bool> {
-    let text = text_of(alloc, number_at(part(row, 0), 0)?, part(row, 2), "")?;
-    Some(answer(alloc, text.as_str()) == part(row, 1))
+/// What is between two rows of several lines.
+const BETWEEN: &str = "\n---\n";
+
+/// The small board with another line.
+#[derive(Drop)]
+struct Lines {
+    alloc: Global,
+}
+
+impl Rows for Lines {
+    fn holds(&mut self, row: &str) -> Option<bool> {
+        let text = text_of(self.alloc, number_at(part(row, 0), 0)?, part(row, 2), "")?;
+        Some(answer(self.alloc, text.as_str()) == part(row, 1))
+    }
 }
 
 /// A place, 0 to 4 for the lines of the small board, and 5 for one behind them; what the text is; the
@@ -170,17 +180,22 @@ const LINES: &str = "\
 5 | MissingKey | [[event]]";
 
 #[test]
-fn boards_with_another_line(rt: HostRuntime) {
-    for row in LINES.lines() {
-        assert!(rt; is_line_so(rt.alloc(), row) == Some(true), "{row}");
-    }
+fn boards_with_another_line(rt: HostRuntime) -> Result<(), Fail> {
+    check(LINES, &mut Lines { alloc: rt.alloc() })
 }
 
-/// Whether the small board with the lines of a row is what the row says.
-fn are_lines_so(alloc: Global, row: &str) -> Option<bool> {
-    let (head, lines) = row.split_once('\n')?;
-    let text = text_of(alloc, number_at(head, 0)?, lines, "")?;
-    Some(answer(alloc, text.as_str()) == word(head, 1))
+/// The small board with other lines.
+#[derive(Drop)]
+struct MoreLines {
+    alloc: Global,
+}
+
+impl Rows for MoreLines {
+    fn holds(&mut self, row: &str) -> Option<bool> {
+        let (head, lines) = row.split_once('\n')?;
+        let text = text_of(self.alloc, number_at(head, 0)?, lines, "")?;
+        Some(answer(self.alloc, text.as_str()) == word(head, 1))
+    }
 }
 
 /// The same, where several lines stand at a place, or a line ends in another way: the place and what
@@ -206,17 +221,22 @@ event = []
 [event]";
 
 #[test]
-fn boards_with_more_lines(rt: HostRuntime) {
-    for row in MORE_LINES.split("\n---\n") {
-        assert!(rt; are_lines_so(rt.alloc(), row) == Some(true), "{row}");
-    }
+fn boards_with_more_lines(rt: HostRuntime) -> Result<(), Fail> {
+    check_between(MORE_LINES, BETWEEN, &mut MoreLines { alloc: rt.alloc() })
 }
 
-/// Whether the small board with the event of a row is what the row says.
-fn is_event_so(alloc: Global, row: &str) -> Option<bool> {
-    let (wanted, event) = row.split_once('\n')?;
-    let text = text_of(alloc, 5, "[[event]]", event)?;
-    Some(answer(alloc, text.as_str()) == wanted)
+/// The small board with an event.
+#[derive(Drop)]
+struct Events {
+    alloc: Global,
+}
+
+impl Rows for Events {
+    fn holds(&mut self, row: &str) -> Option<bool> {
+        let (wanted, event) = row.split_once('\n')?;
+        let text = text_of(self.alloc, 5, "[[event]]", event)?;
+        Some(answer(self.alloc, text.as_str()) == wanted)
+    }
 }
 
 /// What the small board with an event is, and then the lines of the event.
@@ -410,16 +430,21 @@ nmi = true
 at = 0";
 
 #[test]
-fn boards_with_an_event(rt: HostRuntime) {
-    for row in EVENTS.split("\n---\n") {
-        assert!(rt; is_event_so(rt.alloc(), row) == Some(true), "{row}");
-    }
+fn boards_with_an_event(rt: HostRuntime) -> Result<(), Fail> {
+    check_between(EVENTS, BETWEEN, &mut Events { alloc: rt.alloc() })
 }
 
-/// Whether the text of a row is what the row says.
-fn is_text_so(alloc: Global, row: &str) -> Option<bool> {
-    let (wanted, text) = row.split_once('\n')?;
-    Some(answer(alloc, text) == wanted)
+/// Texts of boards.
+#[derive(Drop)]
+struct Texts {
+    alloc: Global,
+}
+
+impl Rows for Texts {
+    fn holds(&mut self, row: &str) -> Option<bool> {
+        let (wanted, text) = row.split_once('\n')?;
+        Some(answer(self.alloc, text) == wanted)
+    }
 }
 
 /// What a text is, and then the whole text.
@@ -501,10 +526,8 @@ event = 1
 x =\x20";
 
 #[test]
-fn whole_texts(rt: HostRuntime) {
-    for row in TEXTS.split("\n---\n") {
-        assert!(rt; is_text_so(rt.alloc(), row) == Some(true), "{row}");
-    }
+fn whole_texts(rt: HostRuntime) -> Result<(), Fail> {
+    check_between(TEXTS, BETWEEN, &mut Texts { alloc: rt.alloc() })
 }
 
 const WORKED: &str = "
@@ -558,29 +581,25 @@ fn line_of(signal: Signal) -> Option<u8> {
 }
 
 /// Whether an event is that of a row.
-fn is_event(event: &ScriptedEvent, row: &str) -> Option<bool> {
-    let at = u64::from_str_radix(word(row, 0), 16).ok()?;
-    Some(
-        event.at == at
-            && word_of(event.what) == word(row, 1)
-            && line_of(event.what) == byte_at(row, 2),
-    )
+fn is_event(event: &ScriptedEvent, row: &str) -> bool {
+    long_at(row, 0) == Some(event.at)
+        && word_of(event.what) == word(row, 1)
+        && line_of(event.what) == byte_at(row, 2)
 }
 
 /// Whether the events are those of the rows, in this order.
-fn are_events(events: &[ScriptedEvent], rows: &str) -> Option<bool> {
-    'rows: for (place, row) in rows.lines().enumerate() {
-        if !is_event(events.get(place)?, row)? {
-            return Some(false);
-        }
+fn are_events(events: &[ScriptedEvent], rows: &str) -> bool {
+    let mut agrees = events.len() == rows.lines().count();
+    'events: for (event, row) in events.iter().zip(rows.lines()) {
+        agrees &= is_event(event, row);
     }
-    Some(events.len() == rows.lines().count())
+    agrees
 }
 
 /// Whether a text is a board with these numbers and events.
 fn is_board(alloc: Global, text: &str, wanted: [u32; 5], events: &str) -> Option<bool> {
     let board = read(alloc, text).ok()?;
-    Some(numbers(board.layout) == wanted && are_events(board.events.as_slice(), events)?)
+    Some(numbers(board.layout) == wanted && are_events(board.events.as_slice(), events))
 }
 
 #[test]
@@ -613,10 +632,17 @@ fn crowded(alloc: Global, count: u32) -> Option<String> {
     Some(text)
 }
 
-/// Whether the small board with so many empty events as a row says is what it says.
-fn is_crowd_so(alloc: Global, row: &str) -> Option<bool> {
-    let text = crowded(alloc, number_at(part(row, 0), 0)?)?;
-    Some(answer(alloc, text.as_str()) == part(row, 1))
+/// The small board with so many empty events.
+#[derive(Drop)]
+struct Crowds {
+    alloc: Global,
+}
+
+impl Rows for Crowds {
+    fn holds(&mut self, row: &str) -> Option<bool> {
+        let text = crowded(self.alloc, number_at(part(row, 0), 0)?)?;
+        Some(answer(self.alloc, text.as_str()) == part(row, 1))
+    }
 }
 
 /// How many empty events there are; what the text is; what the row is.
@@ -625,8 +651,6 @@ const CROWDS: &str = "\
 10001 | OutOfRange | one more, so none is looked at";
 
 #[test]
-fn most_events(rt: HostRuntime) {
-    for row in CROWDS.lines() {
-        assert!(rt; is_crowd_so(rt.alloc(), row) == Some(true), "{row}");
-    }
+fn most_events(rt: HostRuntime) -> Result<(), Fail> {
+    check(CROWDS, &mut Crowds { alloc: rt.alloc() })
 }

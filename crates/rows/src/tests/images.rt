@@ -4,7 +4,7 @@
 use arrayvec::ArrayVec;
 use elf::{LoadFault, Segment, load};
 use std::test::*;
-use tables::{byte_at, number, number_at, part};
+use tables::{Rows, byte_at, check, number, numbers, pair, part};
 
 /// The bytes of a file.
 type File = ArrayVec<u8, 2104>;
@@ -31,10 +31,10 @@ fn file_of(listing: &str) -> Option<File> {
     Some(file)
 }
 
-/// Puts a byte at a place of a file, if it has the place.
-fn put(file: &mut File, place: u32, byte: u8) -> Option<()> {
-    let slot = file.get_mut(place as usize)?;
-    *slot = byte;
+/// Puts a byte at a place of a file, if it has the place: both stand in a word.
+fn put(file: &mut File, word: &str) -> Option<()> {
+    let (place, byte) = pair(word)?;
+    *file.get_mut(place as usize)? = u8::try_from(byte).ok()?;
     Some(())
 }
 
@@ -42,8 +42,7 @@ fn put(file: &mut File, place: u32, byte: u8) -> Option<()> {
 fn edited(listing: &str, edits: &str) -> Option<File> {
     let mut file = file_of(listing)?;
     'edits: for edit in edits.split_whitespace() {
-        let (place, byte) = edit.split_once(':')?;
-        put(&mut file, number(place)?, byte_at(byte, 0)?)?;
+        put(&mut file, edit)?;
     }
     Some(file)
 }
@@ -68,31 +67,40 @@ fn is_segment(segment: &Segment<'_>, word: &str) -> Option<bool> {
     let (address, text) = word.split_once(':')?;
     let mut bytes = File::new();
     push_bytes(&mut bytes, text, '.')?;
-    Some(segment.address == number(address)? && segment.bytes == bytes.as_slice())
+    Some(number(address) == Some(segment.address) && segment.bytes == bytes.as_slice())
 }
 
 /// Whether the segments are those of the words, in this order.
-fn are_segments(segments: &[Segment<'_>], words: &str) -> Option<bool> {
-    'words: for (place, word) in words.split_whitespace().enumerate() {
-        if !is_segment(segments.get(place)?, word)? {
-            return Some(false);
-        }
+fn are_segments(segments: &[Segment<'_>], words: &str) -> bool {
+    let mut agrees = segments.len() == words.split_whitespace().count();
+    'segments: for (segment, word) in segments.iter().zip(words.split_whitespace()) {
+        agrees &= is_segment(segment, word) == Some(true);
     }
-    Some(segments.len() == words.split_whitespace().count())
+    agrees
 }
 
 /// Whether a file is refused by this name, or is taken and brings these segments.
-fn is_answered_so(file: &[u8], wanted: &str) -> Option<bool> {
+fn is_answered_so(file: &[u8], wanted: &str) -> bool {
     match load(file) {
-        Err(fault) => Some(name(fault) == wanted),
-        Ok(image) => are_segments(image.segments(), wanted.strip_prefix("taken")?),
+        Err(fault) => name(fault) == wanted,
+        Ok(image) => match wanted.strip_prefix("taken") {
+            Some(words) => are_segments(image.segments(), words),
+            None => false,
+        },
     }
 }
 
-/// Whether the file of a listing, with the edits of a row, is answered as the row says.
-fn is_file_so(listing: &str, row: &str) -> Option<bool> {
-    let file = edited(listing, part(row, 0))?;
-    is_answered_so(file.as_slice(), part(row, 1))
+/// Files of a listing with other bytes, and how they are answered.
+#[derive(Drop)]
+struct Answered {
+    listing: &'static str,
+}
+
+impl Rows for Answered {
+    fn holds(&mut self, row: &str) -> Option<bool> {
+        let file = edited(self.listing, part(row, 0))?;
+        Some(is_answered_so(file.as_slice(), part(row, 1)))
+    }
 }
 
 /// A header at 0, one program header at 34, and its segment's 12 bytes from 54 on.
@@ -141,23 +149,26 @@ const FILES: &str = "\
 38:FC 39:FF 3A:FF 3B:FF 44:08 | SegmentOutsideFile | p_offset FFFFFFFC, p_filesz 8";
 
 #[test]
-fn files(rt: HostRuntime) {
-    for row in FILES.lines() {
-        assert!(rt; is_file_so(WORKED, row) == Some(true), "{row}");
-    }
+fn files() -> Result<(), Fail> {
+    check(FILES, &mut Answered { listing: WORKED })
 }
 
-/// Whether each beginning that a row tells is refused as it says.
-fn are_beginnings_so(row: &str) -> Option<bool> {
-    let file = edited(WORKED, part(row, 0))?;
-    let lengths = part(row, 1);
-    'lengths: for length in number_at(lengths, 0)?..number_at(lengths, 1)? {
-        let beginning = file.as_slice().get(..length as usize)?;
-        if !is_answered_so(beginning, part(row, 2))? {
-            return Some(false);
+/// Beginnings of the worked file with other bytes, and how they are refused.
+#[derive(Drop)]
+struct Beginnings;
+
+impl Rows for Beginnings {
+    fn holds(&mut self, row: &str) -> Option<bool> {
+        let file = edited(WORKED, part(row, 0))?;
+        let [least, behind] = numbers::<2>(part(row, 1))?;
+        'lengths: for length in least..behind {
+            let beginning = file.as_slice().get(..length as usize)?;
+            if !is_answered_so(beginning, part(row, 2)) {
+                return Some(false);
+            }
         }
+        Some(true)
     }
-    Some(true)
 }
 
 /// The bytes that are put at places of the worked file; the least length of some beginnings, and
@@ -168,10 +179,8 @@ const BEGINNINGS: &str = "\
 2C:41 | 34 60 | TooManySegments | e_phnum 65";
 
 #[test]
-fn beginnings_of_files(rt: HostRuntime) {
-    for row in BEGINNINGS.lines() {
-        assert!(rt; are_beginnings_so(row) == Some(true), "{row}");
-    }
+fn beginnings_of_files() -> Result<(), Fail> {
+    check(BEGINNINGS, &mut Beginnings)
 }
 
 /// A header at 0, two program headers from 34 on, and the four bytes of both segments at 74.
@@ -207,10 +216,8 @@ const PAIRS: &str = "\
 40:FF 41:FF 42:FF 43:FF 44:02 63:00 | taken FFFFFFFF:01.02 0:01.02.03.04 | FFFFFFFF with two bytes, and 0";
 
 #[test]
-fn pairs_of_segments(rt: HostRuntime) {
-    for row in PAIRS.lines() {
-        assert!(rt; is_file_so(PAIRED, row) == Some(true), "{row}");
-    }
+fn pairs_of_segments() -> Result<(), Fail> {
+    check(PAIRS, &mut Answered { listing: PAIRED })
 }
 
 /// Puts a program header of the four bytes at 834 behind a file.
@@ -253,7 +260,7 @@ fn are_64_taken() -> Option<bool> {
     let apart = crowded(252)?;
     let overlapped = crowded(249)?;
     let image = load(apart.as_slice()).ok()?;
-    Some(are_64(image.segments()) && is_answered_so(overlapped.as_slice(), "SegmentOverlap")?)
+    Some(are_64(image.segments()) && is_answered_so(overlapped.as_slice(), "SegmentOverlap"))
 }
 
 #[test]
@@ -319,7 +326,7 @@ const LINKED_SEGMENTS: &str = "taken \
 /// Whether the linker's file brings its segments.
 fn is_linked_file_taken() -> Option<bool> {
     let file = file_of(LINKED)?;
-    is_answered_so(file.as_slice(), LINKED_SEGMENTS)
+    Some(is_answered_so(file.as_slice(), LINKED_SEGMENTS))
 }
 
 #[test]

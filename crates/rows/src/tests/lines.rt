@@ -1,186 +1,127 @@
 //! Lines of the trace against the texts that they must have, written out.
 
-use super::words::{kind, size};
+use super::words::{request, rule};
 use arrayvec::ArrayVec;
-use reference::access::{Access, Outcome, Rule};
+use reference::access::{Access, Outcome};
 use reference::event::{Event, Happening, RecordedFault};
 use reference::stop::{LeftOut, Stop, UnpredictableCase};
 use std::test::*;
-use tables::{byte_at, is_first, number_at, part, word};
+use tables::{Rows, byte_at, check, halfword_at, long_at, meaning, number_at, part, word};
 use trace::lines::{event_line, stop_line};
 use trace::page::Page;
 use trace::tick::Tick;
 
-const OUTCOMES: [Outcome; 3] = [Outcome::Done, Outcome::RefusedByMpu, Outcome::RefusedByBus];
-
-fn name_of_outcome(outcome: Outcome) -> &'static str {
-    match outcome {
-        Outcome::Done => "done",
-        Outcome::RefusedByMpu => "refused-by-mpu",
-        Outcome::RefusedByBus => "refused-by-bus",
-    }
-}
-
-fn outcome(word: &str) -> Option<Outcome> {
-    'outcomes: for outcome in OUTCOMES {
-        if name_of_outcome(outcome) == word {
-            return Some(outcome);
-        }
-    }
-    None
-}
-
-/// The rules but for those of regions.
-const RULES: [Rule; 7] = [
-    Rule::NeverExecute,
-    Rule::VectorRead,
-    Rule::PrivatePeripheralBus,
-    Rule::MpuOff,
-    Rule::NegativePriority,
-    Rule::Background,
-    Rule::NoRegion,
+const OUTCOMES: [(&str, Outcome); 3] = [
+    ("done", Outcome::Done),
+    ("refused-by-mpu", Outcome::RefusedByMpu),
+    ("refused-by-bus", Outcome::RefusedByBus),
 ];
 
-fn name_of_rule(rule: Rule) -> &'static str {
-    match rule {
-        Rule::NeverExecute => "never-execute",
-        Rule::VectorRead => "vector-read",
-        Rule::PrivatePeripheralBus => "private-peripheral-bus",
-        Rule::MpuOff => "mpu-off",
-        Rule::NegativePriority => "negative-priority",
-        Rule::Region(_) => "region",
-        Rule::Background => "background",
-        Rule::NoRegion => "no-region",
-    }
-}
-
-/// A rule, with the number behind its name where it is that of a region.
-fn rule(name: &str, number: Option<u8>) -> Option<Rule> {
-    if name == "region" {
-        return Some(Rule::Region(number?));
-    }
-    'rules: for rule in RULES {
-        if name_of_rule(rule) == name {
-            return Some(rule);
-        }
-    }
-    None
-}
-
-/// An access: its kind, address and size, `p` or `u`, what became of it, and the rule.
-fn access(part: &str) -> Option<Access> {
+/// An access: what is asked for, what became of it, and the rule.
+fn access(asked: &str, became: &str) -> Option<Access> {
+    let request = request(asked)?;
     Some(Access {
-        kind: kind(word(part, 1))?,
-        address: number_at(part, 2)?,
-        size: size(word(part, 3))?,
-        privileged: is_first(word(part, 4), "p", "u")?,
-        outcome: outcome(word(part, 5))?,
-        rule: rule(word(part, 6), byte_at(part, 7))?,
+        kind: request.kind,
+        address: request.address,
+        size: request.size,
+        privileged: request.privileged,
+        outcome: meaning(&OUTCOMES, word(became, 0))?,
+        rule: rule(word(became, 1))?,
     })
 }
 
 /// A recorded fault: its exception, CFSR and HFSR.
 fn fault(part: &str) -> Option<RecordedFault> {
     Some(RecordedFault {
-        exception: u16::try_from(number_at(part, 2)?).ok()?,
-        cfsr: number_at(part, 3)?,
-        hfsr: number_at(part, 4)?,
+        exception: halfword_at(part, 0)?,
+        cfsr: number_at(part, 1)?,
+        hfsr: number_at(part, 2)?,
     })
 }
 
-/// What a part tells behind its tick.
-fn happening(part: &str) -> Option<Happening> {
-    let name = word(part, 1);
-    if name == "console" {
-        Some(Happening::ConsoleByte(byte_at(part, 2)?))
-    } else if name == "return" {
-        Some(Happening::ReturnBegan(number_at(part, 2)?))
-    } else if name == "handler" {
-        Some(Happening::HandlerEntered(u16::try_from(number_at(part, 2)?).ok()?))
-    } else if name == "fault" {
-        Some(Happening::FaultRecorded(fault(part)?))
-    } else {
-        Some(Happening::Accessed(access(part)?))
+/// What a row tells behind its tick.
+fn happening(row: &str) -> Option<Happening> {
+    let what = part(row, 2);
+    match word(part(row, 1), 1) {
+        "console" => Some(Happening::ConsoleByte(byte_at(what, 0)?)),
+        "return" => Some(Happening::ReturnBegan(number_at(what, 0)?)),
+        "handler" => Some(Happening::HandlerEntered(halfword_at(what, 0)?)),
+        "fault" => Some(Happening::FaultRecorded(fault(what)?)),
+        "access" => Some(Happening::Accessed(access(what, part(row, 3))?)),
+        _ => None,
     }
-}
-
-fn tick(word: &str) -> Option<u64> {
-    u64::from_str_radix(word, 16).ok()
 }
 
 /// Whether a text is this one line.
-fn is_line(text: &[u8], line: &str) -> Option<bool> {
-    let (end, rest) = text.split_last()?;
-    Some(*end == b'\n' && rest == line.as_bytes())
+fn is_line(text: &[u8], line: &str) -> bool {
+    match text.strip_suffix(b"\n") {
+        Some(text) => text == line.as_bytes(),
+        None => false,
+    }
 }
 
-/// Whether the event of a row has its line.
-fn is_event_line_so(row: &str) -> Option<bool> {
-    let event = Event {
-        tick: tick(word(part(row, 1), 0))?,
-        what: happening(part(row, 1))?,
-    };
-    is_line(event_line(&event).as_slice(), part(row, 0))
+/// The events of rows, and their lines.
+#[derive(Drop)]
+struct EventLines;
+
+impl Rows for EventLines {
+    fn holds(&mut self, row: &str) -> Option<bool> {
+        let tick = long_at(part(row, 1), 0)?;
+        let what = happening(row)?;
+        let line = event_line(&Event { tick, what });
+        Some(is_line(line.as_slice(), part(row, 0)))
+    }
 }
 
-/// The line of an event; the event: its tick, what happens, and the numbers and words of that.
+/// The line of an event; its tick and what happens; the access, or the numbers of something else;
+/// what became of the access, and the rule.
 const EVENTS: &str = "\
-1 F 00000008 2 p ok off   | 1 F 8 halfword p done mpu-off
-2 S 2000037E 1 u ok r0    | 2 S 2000037E byte u done region 0
-1 S 20000380 1 u mpu none | 1 S 20000380 byte u refused-by-mpu no-region
-7 K 20000FD8 4 p ok off   | 7 push 20000FD8 word p done mpu-off
-8 U 20000FD8 4 p ok r15   | 8 pop 20000FD8 word p done region F
-3 V 0000000C 4 p ok vec   | 3 V C word p done vector-read
-2 F E0001000 2 p mpu xn   | 2 F E0001000 halfword p refused-by-mpu never-execute
-1 L E000ED94 4 u bus ppb  | 1 L E000ED94 word u refused-by-bus private-peripheral-bus
-4 F 00000200 2 p ok neg   | 4 F 200 halfword p done negative-priority
-1 F 00000100 2 p ok bg    | 1 F 100 halfword p done background
-5 L FEDCBA98 4 p bus r9   | 5 L FEDCBA98 word p refused-by-bus region 9
-2 O 07                    | 2 console 7
-3 R FFFFFFF9              | 3 return FFFFFFF9
-2 X 16                    | 2 handler 10
-1 ! 3 00000001 40000000   | 1 fault 3 1 40000000";
+1 F 00000008 2 p ok off   | 1 access | F halfword 8 0 p | done off
+2 S 2000037E 1 u ok r0    | 2 access | S byte 2000037E 0 u | done r0
+1 S 20000380 1 u mpu none | 1 access | S byte 20000380 0 u | refused-by-mpu none
+7 K 20000FD8 4 p ok off   | 7 access | push word 20000FD8 0 p | done off
+8 U 20000FD8 4 p ok r15   | 8 access | pop word 20000FD8 0 p | done rF
+3 V 0000000C 4 p ok vec   | 3 access | V word C 0 p | done vec
+2 F E0001000 2 p mpu xn   | 2 access | F halfword E0001000 0 p | refused-by-mpu xn
+1 L E000ED94 4 u bus ppb  | 1 access | L word E000ED94 0 u | refused-by-bus ppb
+4 F 00000200 2 p ok neg   | 4 access | F halfword 200 0 p | done neg
+1 F 00000100 2 p ok bg    | 1 access | F halfword 100 0 p | done bg
+5 L FEDCBA98 4 p bus r9   | 5 access | L word FEDCBA98 0 p | refused-by-bus r9
+2 O 07                    | 2 console | 7
+3 R FFFFFFF9              | 3 return | FFFFFFF9
+2 X 16                    | 2 handler | 10
+1 ! 3 00000001 40000000   | 1 fault | 3 1 40000000";
 
 #[test]
-fn lines_of_events(rt: HostRuntime) {
-    for row in EVENTS.lines() {
-        assert!(rt; is_event_line_so(row) == Some(true), "{row}");
-    }
+fn lines_of_events() -> Result<(), Fail> {
+    check(EVENTS, &mut EventLines)
 }
 
 /// The stops that the rows name.
-const STOPS: [Stop; 6] = [
-    Stop::StepLimit,
-    Stop::Breakpoint(0),
-    Stop::Lockup,
-    Stop::ResetRequested,
-    Stop::Unpredictable(UnpredictableCase::MpuRegion),
-    Stop::OutOfProfile(LeftOut::Unbuilt),
+const STOPS: [(&str, Stop); 6] = [
+    ("StepLimit", Stop::StepLimit),
+    ("Breakpoint(0)", Stop::Breakpoint(0)),
+    ("Lockup", Stop::Lockup),
+    ("ResetRequested", Stop::ResetRequested),
+    (
+        "Unpredictable(MpuRegion)",
+        Stop::Unpredictable(UnpredictableCase::MpuRegion),
+    ),
+    (
+        "OutOfProfile(Unbuilt)",
+        Stop::OutOfProfile(LeftOut::Unbuilt),
+    ),
 ];
 
-fn name_of_stop(stop: Stop) -> &'static str {
-    match stop {
-        Stop::StepLimit => "StepLimit",
-        Stop::Breakpoint(_) => "Breakpoint(0)",
-        Stop::Lockup => "Lockup",
-        Stop::ResetRequested => "ResetRequested",
-        Stop::Unpredictable(_) => "Unpredictable(MpuRegion)",
-        Stop::OutOfProfile(_) => "OutOfProfile(Unbuilt)",
-    }
-}
+/// The stops of rows, and their lines.
+#[derive(Drop)]
+struct StopLines;
 
-fn stop(word: &str) -> Option<Stop> {
-    'stops: for stop in STOPS {
-        if name_of_stop(stop) == word {
-            return Some(stop);
-        }
+impl Rows for StopLines {
+    fn holds(&mut self, row: &str) -> Option<bool> {
+        let line = stop_line(&meaning(&STOPS, part(row, 1))?);
+        Some(is_line(line.as_slice(), part(row, 0)))
     }
-    None
-}
-
-/// Whether the stop of a row has its line.
-fn is_stop_line_so(row: &str) -> Option<bool> {
-    is_line(stop_line(&stop(part(row, 1))?).as_slice(), part(row, 0))
 }
 
 /// The line of a stop; the stop.
@@ -193,10 +134,8 @@ stop unpredictable mpu-region | Unpredictable(MpuRegion)
 stop outofprofile unbuilt     | OutOfProfile(Unbuilt)";
 
 #[test]
-fn lines_of_stops(rt: HostRuntime) {
-    for row in STOP_LINES.lines() {
-        assert!(rt; is_stop_line_so(row) == Some(true), "{row}");
-    }
+fn lines_of_stops() -> Result<(), Fail> {
+    check(STOP_LINES, &mut StopLines)
 }
 
 /// A byte that goes out to the console.
@@ -211,7 +150,7 @@ fn console(tick: u64) -> Event {
 fn consoles(ticks: &str) -> Option<ArrayVec<Event, 16>> {
     let mut events = ArrayVec::new();
     'ticks: for word in ticks.split_whitespace() {
-        events.try_push(console(tick(word)?)).ok()?;
+        events.try_push(console(long_at(word, 0)?)).ok()?;
     }
     Some(events)
 }

@@ -3,101 +3,83 @@
 
 use nvic::{Escalation, Levels, Masks, PlainLevels, laws};
 use std::test::*;
-use tables::{byte_at, is_first, part, word};
+use tables::{Rows, byte_at, check, halfword_at, is_first, part, word};
 
 /// After a reset, on a board of 8 lines whose priorities have 4 bits.
 fn after_reset() -> PlainLevels {
     PlainLevels::fresh(8, 4)
 }
 
-/// The number of an exception.
-fn exception(word: &str) -> Option<u16> {
-    u16::from_str_radix(word, 16).ok()
-}
-
 /// An exception, whose number and priority byte have a colon between them, gets that byte; its number.
-fn prioritize<L: Levels>(levels: &mut L, word: &str) -> Option<u16> {
+fn prioritize(levels: &mut PlainLevels, word: &str) -> Option<u16> {
     let (number, byte) = word.split_once(':')?;
-    let number = exception(number)?;
+    let number = halfword_at(number, 0)?;
     levels.set_priority(number, byte_at(byte, 0)?);
     Some(number)
 }
 
-/// Each of these exceptions gets its priority byte and becomes active.
-fn activate<L: Levels>(levels: &mut L, exceptions: &str) -> Option<()> {
+/// Each of these exceptions gets its priority byte, and becomes active, or is enabled and pending.
+fn add(levels: &mut PlainLevels, exceptions: &str, is_active: bool) -> Option<()> {
     for word in exceptions.split_whitespace() {
         let number = prioritize(levels, word)?;
-        levels.activate(number);
+        if is_active {
+            levels.activate(number);
+        } else {
+            levels.enable(number);
+            levels.pend(number);
+        }
     }
     Some(())
 }
 
-/// Each of these exceptions gets its priority byte, is enabled and becomes pending.
-fn pend<L: Levels>(levels: &mut L, exceptions: &str) -> Option<()> {
-    for word in exceptions.split_whitespace() {
-        let number = prioritize(levels, word)?;
-        levels.enable(number);
-        levels.pend(number);
+/// A mask is set: nothing, `primask`, `faultmask`, or `basepri` and its priority byte.
+fn mask(levels: &mut PlainLevels, part: &str) -> Option<()> {
+    match word(part, 0) {
+        "" => {}
+        "primask" => levels.set_primask(true),
+        "faultmask" => levels.set_faultmask(true),
+        "basepri" => levels.set_basepri(byte_at(part, 1)?),
+        _ => return None,
     }
     Some(())
 }
 
-/// The masks: nothing, `primask`, `faultmask`, or `basepri` and its priority byte.
-fn masks(part: &str) -> Option<Masks> {
-    let name = word(part, 0);
-    let primask = name == "primask";
-    let faultmask = name == "faultmask";
-    let basepri = if primask || faultmask || part.is_empty() {
-        0
-    } else if name == "basepri" {
-        byte_at(part, 1)?
-    } else {
-        return None;
-    };
-    Some(Masks {
-        primask,
-        faultmask,
-        basepri,
-    })
-}
-
-/// On the same board: PRIGROUP, what is active, what is pending and enabled, and the masks.
-fn levels<L: Levels>(row: &str) -> Option<L> {
-    let mut levels = L::fresh(8, 4);
+/// On the same board: PRIGROUP, what is active, what is pending and enabled, and the mask.
+fn levels(row: &str) -> Option<PlainLevels> {
+    let mut levels = after_reset();
     levels.set_group(byte_at(part(row, 0), 0)?);
-    activate(&mut levels, part(row, 1))?;
-    pend(&mut levels, part(row, 2))?;
-    let masks = masks(part(row, 3))?;
-    levels.set_primask(masks.primask);
-    levels.set_faultmask(masks.faultmask);
-    levels.set_basepri(masks.basepri);
+    add(&mut levels, part(row, 1), true)?;
+    add(&mut levels, part(row, 2), false)?;
+    mask(&mut levels, part(row, 3))?;
     Some(levels)
 }
 
-/// The number of the execution priority where line 0, of the priority byte FF, is active.
-fn group_of(priority_bits: u8, group: u8) -> i16 {
+/// Whether the execution priority is the one wanted.
+fn has_priority(levels: &PlainLevels, wanted: &str) -> bool {
+    i16::from_str_radix(wanted, 16).ok() == Some(levels.execution_priority().number())
+}
+
+/// Whether the group of the byte FF is the one wanted, where so many bits are kept.
+fn is_group(priority_bits: u8, group: u8, wanted: &str) -> bool {
     let mut levels = PlainLevels::fresh(8, priority_bits);
     levels.set_group(group);
     levels.set_priority(16, 0xFF);
     levels.activate(16);
-    levels.execution_priority().number()
+    has_priority(&levels, wanted)
 }
 
-/// Whether the group of the byte FF is the one wanted.
-fn is_group(priority_bits: u8, group: u8, wanted: &str) -> bool {
-    match byte_at(wanted, 0) {
-        Some(byte) => group_of(priority_bits, group) == byte as i16,
-        None => false,
+/// The groups of the byte FF.
+#[derive(Drop)]
+struct Groups;
+
+impl Rows for Groups {
+    fn holds(&mut self, row: &str) -> Option<bool> {
+        let group = byte_at(part(row, 0), 0)?;
+        let wanted = part(row, 1);
+        let three = is_group(3, group, word(wanted, 0));
+        let four = is_group(4, group, word(wanted, 1));
+        Some(three && four && is_group(8, group, word(wanted, 2)))
     }
-}
-
-/// Whether the groups of the byte FF are those of its row.
-fn is_grouped_so(row: &str) -> Option<bool> {
-    let group = byte_at(part(row, 0), 0)?;
-    let wanted = part(row, 1);
-    let three = is_group(3, group, word(wanted, 0));
-    let four = is_group(4, group, word(wanted, 1));
-    Some(three && four && is_group(8, group, word(wanted, 2)))
 }
 
 /// PRIGROUP; the group of the byte FF where 3, 4 and 8 of its bits are kept; what the row is.
@@ -112,24 +94,23 @@ const GROUPS: &str = "\
 7 | 00 00 00 | no bit is the group's";
 
 #[test]
-fn groups_of_a_priority(rt: HostRuntime) {
-    for row in GROUPS.lines() {
-        assert!(rt; is_grouped_so(row) == Some(true), "{row}");
-    }
+fn groups_of_a_priority() -> Result<(), Fail> {
+    check(GROUPS, &mut Groups)
 }
 
 /// Whether an exception is the one wanted, or there is none and none is wanted.
 fn is_wanted(found: Option<u16>, wanted: &str) -> bool {
-    match found {
-        Some(number) => exception(wanted) == Some(number),
-        None => wanted == "none",
-    }
+    found == halfword_at(wanted, 0) && found.is_none() == (wanted == "none")
 }
 
-/// Whether the candidate is that of its row.
-fn is_taken_so(row: &str) -> Option<bool> {
-    let levels: PlainLevels = levels(row)?;
-    Some(is_wanted(levels.candidate(), part(row, 4)))
+/// Exceptions, and which of them is taken.
+#[derive(Drop)]
+struct Taken;
+
+impl Rows for Taken {
+    fn holds(&mut self, row: &str) -> Option<bool> {
+        Some(is_wanted(levels(row)?.candidate(), part(row, 4)))
+    }
 }
 
 /// PRIGROUP; what is active; what is pending and enabled; the masks; the candidate; what the row is.
@@ -148,10 +129,8 @@ const CANDIDATES: &str = "\
 5 | | 10:30 11:20 | | 11 | but it decides between two";
 
 #[test]
-fn candidates(rt: HostRuntime) {
-    for row in CANDIDATES.lines() {
-        assert!(rt; is_taken_so(row) == Some(true), "{row}");
-    }
+fn candidates() -> Result<(), Fail> {
+    check(CANDIDATES, &mut Taken)
 }
 
 /// The same parts.
@@ -169,17 +148,18 @@ const CANDIDATES_UNDER_MASKS: &str = "\
 0 | | 3:00 2:00 | faultmask | 2 | and not NMI";
 
 #[test]
-fn candidates_under_masks(rt: HostRuntime) {
-    for row in CANDIDATES_UNDER_MASKS.lines() {
-        assert!(rt; is_taken_so(row) == Some(true), "{row}");
-    }
+fn candidates_under_masks() -> Result<(), Fail> {
+    check(CANDIDATES_UNDER_MASKS, &mut Taken)
 }
 
-/// Whether the execution priority is that of its row.
-fn is_held_so(row: &str) -> Option<bool> {
-    let levels: PlainLevels = levels(row)?;
-    let wanted = i16::from_str_radix(part(row, 4), 16).ok()?;
-    Some(levels.execution_priority().number() == wanted)
+/// Exceptions, and the execution priority.
+#[derive(Drop)]
+struct ExecutionPriorities;
+
+impl Rows for ExecutionPriorities {
+    fn holds(&mut self, row: &str) -> Option<bool> {
+        Some(has_priority(&levels(row)?, part(row, 4)))
+    }
 }
 
 /// PRIGROUP; what is active; what is pending; the masks; the execution priority; what the row is.
@@ -199,10 +179,8 @@ const EXECUTION_PRIORITIES: &str = "\
 0 | 2:00 | | faultmask | -2 | NMI is above FAULTMASK";
 
 #[test]
-fn execution_priorities(rt: HostRuntime) {
-    for row in EXECUTION_PRIORITIES.lines() {
-        assert!(rt; is_held_so(row) == Some(true), "{row}");
-    }
+fn execution_priorities() -> Result<(), Fail> {
+    check(EXECUTION_PRIORITIES, &mut ExecutionPriorities)
 }
 
 /// What becomes of a fault, as a word.
@@ -214,13 +192,18 @@ fn word_of(escalation: Escalation) -> &'static str {
     }
 }
 
-/// Whether a fault is escalated as its row says.
-fn is_escalated_so(row: &str) -> Option<bool> {
-    let mut levels: PlainLevels = levels(row)?;
-    let numbers = part(row, 4);
-    levels.enable(exception(word(numbers, 1))?);
-    let escalation = levels.escalate(exception(word(numbers, 0))?);
-    Some(word_of(escalation) == part(row, 5))
+/// Faults, and what becomes of them.
+#[derive(Drop)]
+struct Escalated;
+
+impl Rows for Escalated {
+    fn holds(&mut self, row: &str) -> Option<bool> {
+        let mut levels = levels(row)?;
+        let numbers = part(row, 4);
+        levels.enable(halfword_at(numbers, 1)?);
+        let escalation = levels.escalate(halfword_at(numbers, 0)?);
+        Some(word_of(escalation) == part(row, 5))
+    }
 }
 
 /// PRIGROUP; what is active; what is pending; the masks; the fault and what is enabled; what becomes
@@ -238,10 +221,8 @@ const ESCALATIONS: &str = "\
 0 | | | faultmask | 4 4 | lockup | MemManage under FAULTMASK";
 
 #[test]
-fn escalations(rt: HostRuntime) {
-    for row in ESCALATIONS.lines() {
-        assert!(rt; is_escalated_so(row) == Some(true), "{row}");
-    }
+fn escalations() -> Result<(), Fail> {
+    check(ESCALATIONS, &mut Escalated)
 }
 
 /// The set with one exception in it: bit n mod 32 of word n / 32 is that of n.
@@ -251,20 +232,25 @@ fn set_of(number: u8) -> [u32; 8] {
     due
 }
 
-/// Whether the candidate after a tick is that of its row: as it's foreseen, and once it's pending.
-fn is_taken_after_a_tick(row: &str) -> Option<bool> {
-    let number = byte_at(part(row, 0), 0)?;
-    let primask = is_first(part(row, 2), "primask", "")?;
-    let wanted = part(row, 3);
-    let due = set_of(number);
-    let mut levels = PlainLevels::fresh(240, 4);
-    levels.enable(exception(part(row, 1))?);
-    levels.set_primask(!primask);
-    let foreseen = is_wanted(levels.candidate_after(&due, primask), wanted);
-    let waits = !levels.is_pending(number as u16);
-    levels.pend_due(&due);
-    levels.set_primask(primask);
-    Some(foreseen && waits && is_wanted(levels.candidate(), wanted))
+/// Candidates after a tick: as they're foreseen, and once they're pending.
+#[derive(Drop)]
+struct AfterATick;
+
+impl Rows for AfterATick {
+    fn holds(&mut self, row: &str) -> Option<bool> {
+        let number = byte_at(part(row, 0), 0)?;
+        let primask = is_first(part(row, 2), "primask", "")?;
+        let wanted = part(row, 3);
+        let due = set_of(number);
+        let mut levels = PlainLevels::fresh(240, 4);
+        levels.enable(halfword_at(part(row, 1), 0)?);
+        levels.set_primask(!primask);
+        let foreseen = is_wanted(levels.candidate_after(&due, primask), wanted);
+        let waits = !levels.is_pending(u16::from(number));
+        levels.pend_due(&due);
+        levels.set_primask(primask);
+        Some(foreseen && waits && is_wanted(levels.candidate(), wanted))
+    }
 }
 
 /// What is due; what is enabled; the mask; what would be the candidate then; what the row is.
@@ -278,25 +264,19 @@ FF | FF | | FF | the last line
 0 | 10 | | none | no exception has this number";
 
 #[test]
-fn candidates_after_a_tick(rt: HostRuntime) {
-    for row in CANDIDATES_AFTER_A_TICK.lines() {
-        assert!(rt; is_taken_after_a_tick(row) == Some(true), "{row}");
-    }
-}
-
-/// An answer as a word.
-fn answer(is_so: bool) -> &'static str {
-    if is_so { "yes" } else { "no" }
+fn candidates_after_a_tick() -> Result<(), Fail> {
+    check(CANDIDATES_AFTER_A_TICK, &mut AfterATick)
 }
 
 /// Whether an exception is enabled as the words say: at last, after a reset, and once it's disabled.
 fn is_enabled_so(levels: &mut PlainLevels, number: u16, words: &str) -> bool {
-    let first = answer(levels.is_enabled(number)) == word(words, 1);
+    let first = levels.is_enabled(number);
     levels.disable(number);
-    let second = answer(levels.is_enabled(number)) == word(words, 2);
+    let second = levels.is_enabled(number);
     levels.enable(number);
-    let last = answer(levels.is_enabled(number)) == word(words, 0);
-    first && second && last
+    is_first(word(words, 1), "yes", "no") == Some(first)
+        && is_first(word(words, 2), "yes", "no") == Some(second)
+        && is_first(word(words, 0), "yes", "no") == Some(levels.is_enabled(number))
 }
 
 /// Whether an exception becomes pending and active where it exists, and then neither.
@@ -309,16 +289,21 @@ fn is_listed_so(levels: &mut PlainLevels, number: u16, exists: bool) -> bool {
     listed && !levels.is_pending(number) && !levels.is_active(number)
 }
 
-/// Whether a number counts as its row says.
-fn counts_so(row: &str) -> Option<bool> {
-    let number = exception(part(row, 0))?;
-    let words = part(row, 1);
-    let mut levels = after_reset();
-    let enabled = is_enabled_so(&mut levels, number, words);
-    levels.set_priority(number, 0xFF);
-    let prioritized = levels.priority(number) == byte_at(part(row, 2), 0)?;
-    let exists = is_first(word(words, 0), "yes", "no")?;
-    Some(enabled && prioritized && is_listed_so(&mut levels, number, exists))
+/// Numbers, and which of them count.
+#[derive(Drop)]
+struct Numbers;
+
+impl Rows for Numbers {
+    fn holds(&mut self, row: &str) -> Option<bool> {
+        let number = halfword_at(part(row, 0), 0)?;
+        let words = part(row, 1);
+        let exists = is_first(word(words, 0), "yes", "no")?;
+        let mut levels = after_reset();
+        let enabled = is_enabled_so(&mut levels, number, words);
+        levels.set_priority(number, 0xFF);
+        let prioritized = byte_at(part(row, 2), 0) == Some(levels.priority(number));
+        Some(enabled && prioritized && is_listed_so(&mut levels, number, exists))
+    }
 }
 
 /// A number; whether it can be pending, active and enabled, whether it's enabled after a reset, and
@@ -346,10 +331,8 @@ FF | no no no | 00 | the last number of a byte
 1FF | no no no | 00 | the last number of nine bits";
 
 #[test]
-fn which_numbers_count(rt: HostRuntime) {
-    for row in NUMBERS.lines() {
-        assert!(rt; counts_so(row) == Some(true), "{row}");
-    }
+fn which_numbers_count() -> Result<(), Fail> {
+    check(NUMBERS, &mut Numbers)
 }
 
 #[test]
@@ -357,14 +340,11 @@ fn a_disabled_line_waits(rt: HostRuntime) {
     let mut levels = after_reset();
     levels.pend(16);
     assert!(rt; levels.is_interrupt_pending());
-    assert_eq!(rt; levels.best(), None);
-    assert_eq!(rt; levels.candidate(), None);
+    assert!(rt; levels.best().is_none() && levels.candidate().is_none());
     levels.enable(16);
     levels.activate(3);
-    assert_eq!(rt; levels.best(), Some(16));
-    assert_eq!(rt; levels.candidate(), None);
-    assert!(rt; !levels.is_other_active(3));
-    assert!(rt; levels.is_other_active(16));
+    assert!(rt; levels.best() == Some(16) && levels.candidate().is_none());
+    assert!(rt; !levels.is_other_active(3) && levels.is_other_active(16));
     levels.clear(16);
     levels.pend(15);
     assert!(rt; !levels.is_interrupt_pending());
@@ -378,8 +358,7 @@ fn are_highest(masks: Masks) -> bool {
 #[test]
 fn what_a_board_keeps(rt: HostRuntime) {
     let mut levels = PlainLevels::fresh(255, 3);
-    assert!(rt; levels.lines() == 240 && levels.priority_bits() == 3);
-    assert!(rt; levels.group() == 0);
+    assert!(rt; levels.lines() == 240 && levels.priority_bits() == 3 && levels.group() == 0);
     levels.set_group(0xFD);
     assert!(rt; levels.group() == 5);
     levels.set_basepri(0xFF);

@@ -1,84 +1,81 @@
 //! The registers of the MPU (ARM DDI 0403, "Protected Memory System Architecture, PMSAv7").
 
 use super::regions::{decision, is_told};
-use super::settings::{setting, write};
-use super::words::wanted;
+use super::settings::{setting, write_pairs};
+use super::words::is_number;
 use mpu::{Decider, MpuRegs, MpuStop, Search, register_at, stop_of};
 use reference::stop::{Stop, UnpredictableCase};
 use std::test::*;
-use tables::{byte_at, number, number_at, part, word};
-
-/// The registers of a name, after the writes behind it: an address and the value each.
-fn written(part: &str) -> Option<MpuRegs> {
-    let mut registers = setting(word(part, 0))?;
-    for pair in part.split_whitespace().skip(1) {
-        let (address, value) = pair.split_once(':')?;
-        write(&mut registers, number(address)?, number(value)?)?;
-    }
-    Some(registers)
-}
+use tables::{Rows, byte_at, check, number_at, numbers, part, word};
 
 /// What the register at an address reads as.
 fn read(registers: &MpuRegs, address: u32) -> Option<u32> {
     Some(registers.read_reg(register_at(address)?))
 }
 
-/// Whether a register reads as its row says.
-fn is_read_so(row: &str) -> Option<bool> {
-    let registers = written(part(row, 0))?;
-    let address = number_at(part(row, 1), 0)?;
-    Some(read(&registers, address) == wanted(part(row, 2))?)
-}
+/// Registers, and what they read as.
+#[derive(Drop)]
+struct ReadBack;
 
-/// The name of the registers, and the words that are written then; the address that is read; the word
-/// there, or none where no register stands; what the row is.
-const READ_BACK: &str = "\
-blank | E000ED90 | 00000800 | MPU_TYPE
-blank E000ED90:00000000 | E000ED90 | 00000800 | MPU_TYPE ignores writes
-blank | E000ED94 | 00000000 | MPU_CTRL after a reset
-blank E000ED94:FFFFFFFD | E000ED94 | 00000005 | MPU_CTRL keeps three bits
-blank E000ED98:00000006 | E000ED98 | 00000006 | RNR
-blank | E000ED9C | 00000000 | RBAR after a reset
-blank E000ED9C:20000035 | E000ED98 | 00000005 | VALID 1 sets RNR
-blank E000ED9C:20000035 | E000ED9C | 20000025 | VALID reads 0
-blank E000ED98:00000002 E000ED9C:20000025 | E000ED98 | 00000002 | VALID 0 leaves RNR
-blank E000ED9C:FFFFFFEF | E000ED9C | FFFFFFE0 | ADDR is bits 31:5
-blank E000ED9C:20000035 E000ED98:00000003 | E000ED9C | 00000003 | REGION reads RNR
-blank E000EDA0:FFFFFFFE | E000EDA0 | 173FFF3E | RASR keeps its fields
-blank E000EDA0:00000002 E000ED98:00000001 | E000EDA0 | 00000000 | RASR is of the region that RNR holds
-blank E000EDA0:00000002 E000ED9C:00000011 E000ED9C:00000010 | E000EDA0 | 00000002 | RASR of another region stays
-blank E000EDA4:20000035 | E000EDAC | 20000025 | RBAR's first alias
-blank E000EDB4:20000035 | E000ED9C | 20000025 | RBAR's last alias
-blank E000EDA8:03000013 | E000EDA0 | 03000013 | RASR's first alias
-blank E000EDB0:03000013 | E000EDB8 | 03000013 | RASR's other aliases
-sixteen | E000ED90 | 00001000 | MPU_TYPE of sixteen regions
-blank | E000ED8C | none | below MPU_TYPE
-blank | E000ED92 | none | the middle of a word
-blank | E000EDBC | none | above the last alias";
-
-#[test]
-fn registers_read_back(rt: HostRuntime) {
-    for row in READ_BACK.lines() {
-        assert!(rt; is_read_so(row) == Some(true), "{row}");
+impl Rows for ReadBack {
+    fn holds(&mut self, row: &str) -> Option<bool> {
+        let mut registers = setting(part(row, 0))?;
+        write_pairs(&mut registers, part(row, 1))?;
+        let address = number_at(part(row, 2), 0)?;
+        Some(is_number(read(&registers, address), part(row, 3)))
     }
 }
 
-/// Whether RBAR and RASR are the wanted ones, or there is none where none is wanted.
-fn is_wanted(shown: Option<(u32, u32)>, wanted: &str) -> Option<bool> {
-    let Some((base, attributes)) = shown else {
-        return Some(wanted == "none");
-    };
-    let wanted_base = number_at(wanted, 0)?;
-    let wanted_attributes = number_at(wanted, 1)?;
-    Some(base == wanted_base && attributes == wanted_attributes)
+/// The name of the registers; the words that are written then; the address that is read; the word
+/// there, or none where no register stands; what the row is.
+const READ_BACK: &str = "\
+blank | | E000ED90 | 00000800 | MPU_TYPE
+blank | E000ED90:00000000 | E000ED90 | 00000800 | MPU_TYPE ignores writes
+blank | | E000ED94 | 00000000 | MPU_CTRL after a reset
+blank | E000ED94:FFFFFFFD | E000ED94 | 00000005 | MPU_CTRL keeps three bits
+blank | E000ED98:00000006 | E000ED98 | 00000006 | RNR
+blank | | E000ED9C | 00000000 | RBAR after a reset
+blank | E000ED9C:20000035 | E000ED98 | 00000005 | VALID 1 sets RNR
+blank | E000ED9C:20000035 | E000ED9C | 20000025 | VALID reads 0
+blank | E000ED98:00000002 E000ED9C:20000025 | E000ED98 | 00000002 | VALID 0 leaves RNR
+blank | E000ED9C:FFFFFFEF | E000ED9C | FFFFFFE0 | ADDR is bits 31:5
+blank | E000ED9C:20000035 E000ED98:00000003 | E000ED9C | 00000003 | REGION reads RNR
+blank | E000EDA0:FFFFFFFE | E000EDA0 | 173FFF3E | RASR keeps its fields
+blank | E000EDA0:00000002 E000ED98:00000001 | E000EDA0 | 00000000 | RASR is of the region that RNR holds
+blank | E000EDA0:00000002 E000ED9C:00000011 E000ED9C:00000010 | E000EDA0 | 00000002 | RASR of another region stays
+blank | E000EDA4:20000035 | E000EDAC | 20000025 | RBAR's first alias
+blank | E000EDB4:20000035 | E000ED9C | 20000025 | RBAR's last alias
+blank | E000EDA8:03000013 | E000EDA0 | 03000013 | RASR's first alias
+blank | E000EDB0:03000013 | E000EDB8 | 03000013 | RASR's other aliases
+sixteen | | E000ED90 | 00001000 | MPU_TYPE of sixteen regions
+blank | | E000ED8C | none | below MPU_TYPE
+blank | | E000ED92 | none | the middle of a word
+blank | | E000EDBC | none | above the last alias";
+
+#[test]
+fn registers_read_back() -> Result<(), Fail> {
+    check(READ_BACK, &mut ReadBack)
 }
 
-/// Whether a region is shown as its row says.
-fn is_shown_so(row: &str) -> Option<bool> {
-    let registers = setting(word(part(row, 0), 0))?;
-    let is_counted = registers.count() == byte_at(part(row, 0), 1)?;
-    let shown = registers.region(byte_at(part(row, 1), 0)?);
-    Some(is_counted && is_wanted(shown, part(row, 2))?)
+/// Whether RBAR and RASR are the wanted ones, or there is none where none is wanted.
+fn is_wanted(shown: Option<(u32, u32)>, wanted: &str) -> bool {
+    match shown {
+        Some((base, attributes)) => numbers(wanted) == Some([base, attributes]),
+        None => wanted == "none",
+    }
+}
+
+/// Registers, and the regions that they show.
+#[derive(Drop)]
+struct Shown;
+
+impl Rows for Shown {
+    fn holds(&mut self, row: &str) -> Option<bool> {
+        let registers = setting(word(part(row, 0), 0))?;
+        let shown = registers.region(byte_at(part(row, 1), 0)?);
+        let is_counted = byte_at(part(row, 0), 1) == Some(registers.count());
+        Some(is_counted && is_wanted(shown, part(row, 2)))
+    }
 }
 
 /// The name of the registers, and how many regions they have; the number of a region; its RBAR and
@@ -92,21 +89,25 @@ sixteen 10 | F | 0000000F 00000000 | the last of sixteen
 sixteen 10 | 10 | none | behind the last of sixteen";
 
 #[test]
-fn regions_that_are_shown(rt: HostRuntime) {
-    for row in SHOWN.lines() {
-        assert!(rt; is_shown_so(row) == Some(true), "{row}");
-    }
+fn regions_that_are_shown() -> Result<(), Fail> {
+    check(SHOWN, &mut Shown)
 }
 
-/// Whether a decider goes by new registers once it is told of them, and not before.
-fn is_reloaded_so(row: &str) -> Option<bool> {
-    let registers = setting(part(row, 0))?;
-    let mut search = Search::fresh(&MpuRegs::new(registers.count()));
-    let before = is_told(decision(&search, part(row, 1))?, part(row, 2))?;
-    search.reload(&registers);
-    let after = is_told(decision(&search, part(row, 1))?, part(row, 3))?;
-    let owner = registers.owner(number_at(part(row, 1), 1)?);
-    Some(before && after && owner == Some(byte_at(part(row, 4), 0)?))
+/// Deciders, which go by new registers once they are told of them, and not before.
+#[derive(Drop)]
+struct Reloaded;
+
+impl Rows for Reloaded {
+    fn holds(&mut self, row: &str) -> Option<bool> {
+        let registers = setting(part(row, 0))?;
+        let access = part(row, 1);
+        let mut search = Search::fresh(&MpuRegs::new(registers.count()));
+        let before = is_told(decision(&search, access)?, part(row, 2));
+        search.reload(&registers);
+        let after = is_told(decision(&search, access)?, part(row, 3));
+        let owner = registers.owner(number_at(access, 1)?);
+        Some(before && after && owner == Some(byte_at(part(row, 4), 0)?))
+    }
 }
 
 /// The name of the registers; an access; what decides it before the decider is told of them, and what
@@ -117,35 +118,19 @@ sixteen | L 20000000 p | off ok | r9 ok | 9 | privileged code
 sixteen | S 200003FF u | off ok | r9 mpu | 9 | the last byte of regions 2 and 9";
 
 #[test]
-fn sixteen_regions(rt: HostRuntime) {
-    for row in SIXTEEN.lines() {
-        assert!(rt; is_reloaded_so(row) == Some(true), "{row}");
-    }
-}
-
-/// The word of a case at which a write stops.
-fn case_word(case: UnpredictableCase) -> &'static str {
-    match case {
-        UnpredictableCase::MpuRegion => "region",
-        UnpredictableCase::MpuControl => "control",
-        _ => "another case",
-    }
-}
-
-/// The word of a stop.
-fn stop_word(stop: Stop) -> &'static str {
-    if let Stop::Unpredictable(case) = stop {
-        case_word(case)
-    } else {
-        "another stop"
-    }
+fn sixteen_regions() -> Result<(), Fail> {
+    check(SIXTEEN, &mut Reloaded)
 }
 
 /// The word of what became of a write.
 fn word_of(written: Result<(), MpuStop>) -> &'static str {
-    match written {
-        Ok(()) => "taken",
-        Err(stop) => stop_word(stop_of(stop)),
+    let Err(stop) = written else {
+        return "taken";
+    };
+    match stop_of(stop) {
+        Stop::Unpredictable(UnpredictableCase::MpuRegion) => "region",
+        Stop::Unpredictable(UnpredictableCase::MpuControl) => "control",
+        _ => "another stop",
     }
 }
 
@@ -160,13 +145,18 @@ fn are_same(registers: &MpuRegs, before: &MpuRegs) -> bool {
     registers.control() == before.control() && read(registers, number) == read(before, number)
 }
 
-/// Whether a write is taken or stops as its row says, and changes nothing where it stops.
-fn is_written_so(row: &str) -> Option<bool> {
-    let before = setting("task")?;
-    let mut registers = before;
-    let register = register_at(number_at(part(row, 0), 0)?)?;
-    let became = word_of(registers.write_reg(register, number_at(part(row, 0), 1)?));
-    Some(became == part(row, 1) && (became == "taken" || are_same(&registers, &before)))
+/// Writes that are taken, and writes that stop, which change nothing.
+#[derive(Drop)]
+struct Writes;
+
+impl Rows for Writes {
+    fn holds(&mut self, row: &str) -> Option<bool> {
+        let before = setting("task")?;
+        let mut registers = before;
+        let register = register_at(number_at(part(row, 0), 0)?)?;
+        let became = word_of(registers.write_reg(register, number_at(part(row, 0), 1)?));
+        Some(became == part(row, 1) && (became == "taken" || are_same(&registers, &before)))
+    }
 }
 
 /// The address and the word that is written, to the registers `task`; that it's taken, or the case at
@@ -196,8 +186,6 @@ E000ED94 00000007 | taken | all three
 E000ED90 FFFFFFFF | taken | MPU_TYPE";
 
 #[test]
-fn writes_that_stop(rt: HostRuntime) {
-    for row in WRITES.lines() {
-        assert!(rt; is_written_so(row) == Some(true), "{row}");
-    }
+fn writes_that_stop() -> Result<(), Fail> {
+    check(WRITES, &mut Writes)
 }

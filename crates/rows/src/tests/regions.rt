@@ -4,19 +4,7 @@ use super::settings::{registers_of, setting};
 use super::words::{kind, rule_word};
 use mpu::{Decider, Decision, Kind, Search};
 use std::test::*;
-use tables::{is_first, number_at, part, word};
-
-/// What decides an access of that kind to an address, by code of that privilege, at a priority that is
-/// or isn't below 0.
-fn decided(
-    search: &Search,
-    address: u32,
-    kind: Kind,
-    privileged: bool,
-    below_zero: bool,
-) -> Decision {
-    search.decide(address, kind, privileged, below_zero)
-}
+use tables::{Rows, check, is_first, number_at, part, word};
 
 /// What decides an access: its kind, address and privilege, and `neg` at a negative priority.
 pub(super) fn decision(search: &Search, access: &str) -> Option<Decision> {
@@ -24,19 +12,24 @@ pub(super) fn decision(search: &Search, access: &str) -> Option<Decision> {
     let address = number_at(access, 1)?;
     let privileged = is_first(word(access, 2), "p", "u")?;
     let below_zero = is_first(word(access, 3), "neg", "")?;
-    Some(decided(search, address, kind, privileged, below_zero))
+    Some(search.decide(address, kind, privileged, below_zero))
 }
 
 /// Whether that rule decided, and granted or refused it.
-pub(super) fn is_told(decision: Decision, wanted: &str) -> Option<bool> {
-    let granted = is_first(word(wanted, 1), "ok", "mpu")?;
-    Some(rule_word(decision.rule) == word(wanted, 0) && decision.granted == granted)
+pub(super) fn is_told(decision: Decision, wanted: &str) -> bool {
+    rule_word(decision.rule) == word(wanted, 0)
+        && is_first(word(wanted, 1), "ok", "mpu") == Some(decision.granted)
 }
 
-/// Whether an access is decided as its row says.
-fn is_decided_so(row: &str) -> Option<bool> {
-    let search = Search::fresh(&setting(part(row, 0))?);
-    is_told(decision(&search, part(row, 1))?, part(row, 2))
+/// Accesses, and what decides them.
+#[derive(Drop)]
+struct Decisions;
+
+impl Rows for Decisions {
+    fn holds(&mut self, row: &str) -> Option<bool> {
+        let search = Search::fresh(&setting(part(row, 0))?);
+        Some(is_told(decision(&search, part(row, 1))?, part(row, 2)))
+    }
 }
 
 /// The name of the registers; the access of unprivileged code; what decides, and whether it grants;
@@ -66,10 +59,8 @@ disabled | L 20000000 u | none mpu | a region that isn't enabled
 background | L 20000400 u | none mpu | the background isn't for all";
 
 #[test]
-fn regions_of_an_address(rt: HostRuntime) {
-    for row in REGIONS.lines() {
-        assert!(rt; is_decided_so(row) == Some(true), "{row}");
-    }
+fn regions_of_an_address() -> Result<(), Fail> {
+    check(REGIONS, &mut Decisions)
 }
 
 /// The name of the registers; the access; what decides, and whether it grants; what the row is.
@@ -103,32 +94,33 @@ background | L 00000000 u | none mpu | a region before the background
 task | L 20000380 p | none mpu | no background";
 
 #[test]
-fn rules_around_the_regions(rt: HostRuntime) {
-    for row in RULES.lines() {
-        assert!(rt; is_decided_so(row) == Some(true), "{row}");
-    }
+fn rules_around_the_regions() -> Result<(), Fail> {
+    check(RULES, &mut Decisions)
 }
 
 /// The kinds of a row of permissions, in its order.
 const KINDS: [Kind; 5] = [Kind::Fetch, Kind::Load, Kind::Store, Kind::Push, Kind::Pop];
 
 /// Whether region 0 grants and refuses these kinds.
-fn grants(search: &Search, privileged: bool, wanted: &str) -> Option<bool> {
+fn grants(search: &Search, privileged: bool, wanted: &str) -> bool {
     let mut agrees = true;
     for (place, kind) in KINDS.iter().enumerate() {
-        let granted = is_first(word(wanted, place), "yes", "no")?;
-        let decision = decided(search, 0x2000_0000, *kind, privileged, false);
-        agrees &= rule_word(decision.rule) == "r0" && decision.granted == granted;
+        let decision = search.decide(0x2000_0000, *kind, privileged, false);
+        agrees &= rule_word(decision.rule) == "r0"
+            && is_first(word(wanted, place), "yes", "no") == Some(decision.granted);
     }
-    Some(agrees)
+    agrees
 }
 
-/// Whether a region grants what its row says.
-fn is_permitted_so(row: &str) -> Option<bool> {
-    let search = Search::fresh(&registers_of(part(row, 0))?);
-    let privileged = grants(&search, true, part(row, 1))?;
-    let unprivileged = grants(&search, false, part(row, 2))?;
-    Some(privileged && unprivileged)
+/// Regions, and what they grant.
+#[derive(Drop)]
+struct Permissions;
+
+impl Rows for Permissions {
+    fn holds(&mut self, row: &str) -> Option<bool> {
+        let search = Search::fresh(&registers_of(part(row, 0))?);
+        Some(grants(&search, true, part(row, 1)) && grants(&search, false, part(row, 2)))
+    }
 }
 
 /// How many regions there are, MPU_CTRL, RBAR and RASR; whether fetch, load, store, push and pop of
@@ -150,31 +142,33 @@ const PERMISSIONS: &str = "\
 8 1 20000010:17000013 | no yes no no yes | no yes no no yes | all read, by AP 111, and XN";
 
 #[test]
-fn access_permissions(rt: HostRuntime) {
-    for row in PERMISSIONS.lines() {
-        assert!(rt; is_permitted_so(row) == Some(true), "{row}");
-    }
+fn access_permissions() -> Result<(), Fail> {
+    check(PERMISSIONS, &mut Permissions)
 }
 
 /// Whether an eighth belongs to the region, at its first and at its last byte, where it's switched on,
 /// and to none where it's switched off.
 fn is_eighth_so(search: &Search, first: u32, is_off: bool) -> bool {
     let wanted = if is_off { "none mpu" } else { "r0 ok" };
-    let at_first = decided(search, first, Kind::Store, false, false);
-    let at_last = decided(search, first | 31, Kind::Store, false, false);
-    is_told(at_first, wanted) == Some(true) && is_told(at_last, wanted) == Some(true)
+    is_told(search.decide(first, Kind::Store, false, false), wanted)
+        && is_told(search.decide(first | 31, Kind::Store, false, false), wanted)
 }
 
-/// Whether the eighth of a row is switched off, and no other one.
-fn is_switched_off_so(row: &str) -> Option<bool> {
-    let search = Search::fresh(&registers_of(part(row, 0))?);
-    let off = number_at(part(row, 1), 0)?;
-    let mut agrees = true;
-    for other in EIGHTHS.lines() {
-        let first = number_at(part(other, 1), 0)?;
-        agrees &= is_eighth_so(&search, first, first == off);
+/// Regions with one eighth that is switched off.
+#[derive(Drop)]
+struct Eighths;
+
+impl Rows for Eighths {
+    fn holds(&mut self, row: &str) -> Option<bool> {
+        let search = Search::fresh(&registers_of(part(row, 0))?);
+        let off = number_at(part(row, 1), 0)?;
+        let mut agrees = true;
+        for eighth in 0..8 {
+            let first = 0x2000_0100 + 32 * eighth;
+            agrees &= is_eighth_so(&search, first, first == off);
+        }
+        Some(agrees)
     }
-    Some(agrees)
 }
 
 /// How many regions there are, MPU_CTRL, RBAR and RASR, whose SRD switches off one eighth of 256 bytes;
@@ -190,8 +184,6 @@ const EIGHTHS: &str = "\
 8 1 20000110:0300800F | 200001E0 | the last eighth";
 
 #[test]
-fn eighths_of_256_bytes(rt: HostRuntime) {
-    for row in EIGHTHS.lines() {
-        assert!(rt; is_switched_off_so(row) == Some(true), "{row}");
-    }
+fn eighths_of_256_bytes() -> Result<(), Fail> {
+    check(EIGHTHS, &mut Eighths)
 }

@@ -1,7 +1,7 @@
 //! Registers of the MPU that rows call by a name.
 
 use mpu::{MpuRegs, register_at};
-use tables::{byte_at, number, number_at, part, word};
+use tables::{byte_at, number_at, pair, part, row_of};
 
 /// The name; how many regions there are, MPU_CTRL, and RBAR and RASR of each region that is set; what
 /// the registers say.
@@ -20,19 +20,27 @@ off | 8 0 20000010:00000013 | the MPU is off
 sixteen | 10 1 20000012:03000013 20000019:01000013 | region 9, for privileged code, above region 2, for all";
 
 /// A write to the register at an address, which has to be taken.
-pub(super) fn write(registers: &mut MpuRegs, address: u32, value: u32) -> Option<()> {
-    let register = register_at(address)?;
-    match registers.write_reg(register, value) {
-        Ok(()) => Some(()),
-        Err(_) => None,
-    }
+fn write(registers: &mut MpuRegs, address: u32, value: u32) -> Option<()> {
+    registers.write_reg(register_at(address)?, value).ok()
 }
 
-/// RBAR and RASR are written, as a word has them.
-fn write_region(registers: &mut MpuRegs, word: &str) -> Option<()> {
-    let (base, attributes) = word.split_once(':')?;
-    write(registers, 0xE000_ED9C, number(base)?)?;
-    write(registers, 0xE000_EDA0, number(attributes)?)
+/// The words of a part are written: an address and the value each.
+pub(super) fn write_pairs(registers: &mut MpuRegs, pairs: &str) -> Option<()> {
+    for word in pairs.split_whitespace() {
+        let (address, value) = pair(word)?;
+        write(registers, address, value)?;
+    }
+    Some(())
+}
+
+/// RBAR and RASR of each region are written.
+fn write_regions(registers: &mut MpuRegs, regions: &str) -> Option<()> {
+    for word in regions.split_whitespace().skip(2) {
+        let (base, attributes) = pair(word)?;
+        write(registers, 0xE000_ED9C, base)?;
+        write(registers, 0xE000_EDA0, attributes)?;
+    }
+    Some(())
 }
 
 /// The registers after a reset, with 8 or 16 regions.
@@ -47,19 +55,12 @@ fn fresh(count: u8) -> Option<MpuRegs> {
 /// The registers of a part: how many regions there are, MPU_CTRL, and RBAR and RASR of each region.
 pub(super) fn registers_of(part: &str) -> Option<MpuRegs> {
     let mut registers = fresh(byte_at(part, 0)?)?;
-    for region in part.split_whitespace().skip(2) {
-        write_region(&mut registers, region)?;
-    }
+    write_regions(&mut registers, part)?;
     write(&mut registers, 0xE000_ED94, number_at(part, 1)?)?;
     Some(registers)
 }
 
 /// The registers of this name.
 pub(super) fn setting(name: &str) -> Option<MpuRegs> {
-    for row in SETTINGS.lines() {
-        if word(part(row, 0), 0) == name {
-            return registers_of(part(row, 1));
-        }
-    }
-    None
+    registers_of(part(row_of(SETTINGS, name)?, 1))
 }

@@ -5,7 +5,7 @@ use clock::{Clock, Counting, Due, laws};
 use reference::script::{InterruptLine, ScriptedEvent, Signal};
 use std::alloc::Global;
 use std::test::*;
-use tables::{byte_at, is_first, number, number_at, part};
+use tables::{Rows, byte_at, check, is_first, long_at, number, number_at, numbers, part};
 
 /// The tick at which a clock ends.
 const LAST: u64 = 1 << 48;
@@ -40,14 +40,11 @@ fn signal(word: &str) -> Option<Signal> {
     }
     let (name, number) = word.split_once(':')?;
     let line = line(number)?;
-    if name == "rise" {
-        Some(Signal::Rise(line))
-    } else if name == "fall" {
-        Some(Signal::Fall(line))
-    } else if name == "pulse" {
-        Some(Signal::Pulse(line))
-    } else {
-        None
+    match name {
+        "rise" => Some(Signal::Rise(line)),
+        "fall" => Some(Signal::Fall(line)),
+        "pulse" => Some(Signal::Pulse(line)),
+        _ => None,
     }
 }
 
@@ -55,30 +52,24 @@ fn signal(word: &str) -> Option<Signal> {
 fn add(script: &mut Vec<ScriptedEvent>, word: &str) -> Option<()> {
     let (at, what) = word.split_once(':')?;
     let event = ScriptedEvent {
-        at: number(at)? as u64,
+        at: long_at(at, 0)?,
         what: signal(what)?,
     };
     script.push(event).ok()
 }
 
-/// A script of these events.
-fn script(alloc: Global, events: &str) -> Option<Vec<ScriptedEvent>> {
+/// A clock before its first tick, with a script of these events.
+fn scripted(alloc: Global, events: &str) -> Option<Clock<Counting>> {
     let mut script = Vec::new(alloc);
     for word in events.split_whitespace() {
         add(&mut script, word)?;
     }
-    Some(script)
-}
-
-/// A clock before its first tick, with a script of these events.
-fn scripted(alloc: Global, events: &str) -> Option<Clock<Counting>> {
-    Some(Clock::new(script(alloc, events)?))
+    Some(Clock::new(script))
 }
 
 /// SYST_RVR and SYST_CSR are written, and the values are SYST_CSR and SYST_RVR.
 fn write(clock: &mut Clock<Counting>, values: &str) -> Option<()> {
-    let csr = number_at(values, 0)?;
-    let rvr = number_at(values, 1)?;
+    let [csr, rvr] = numbers::<2>(values)?;
     clock.write_rvr(rvr);
     clock.write_csr(csr);
     Some(())
@@ -120,12 +111,19 @@ fn counts_down(clock: &mut Clock<Counting>, values: &str) -> Option<bool> {
     Some(true)
 }
 
-/// Whether the counter counts as its row says.
-fn counts_so(alloc: Global, row: &str) -> Option<bool> {
-    let mut clock = counting(alloc, part(row, 0))?;
-    let begins = clock.read_cvr() == 0;
-    let follows = counts_down(&mut clock, part(row, 1))?;
-    Some(begins && follows && clock.now() == 6)
+/// Counters, and how they count.
+#[derive(Drop)]
+struct Counts {
+    alloc: Global,
+}
+
+impl Rows for Counts {
+    fn holds(&mut self, row: &str) -> Option<bool> {
+        let mut clock = counting(self.alloc, part(row, 0))?;
+        let begins = clock.read_cvr() == 0;
+        let follows = counts_down(&mut clock, part(row, 1))?;
+        Some(begins && follows && clock.now() == 6)
+    }
 }
 
 /// SYST_CSR and SYST_RVR; SYST_CVR after each of six ticks; what the row is.
@@ -139,16 +137,21 @@ const COUNTS: &str = "\
 0 2 | 0 0 0 0 0 0 | switched off";
 
 #[test]
-fn the_counter_counts(rt: HostRuntime) {
-    for row in COUNTS.lines() {
-        assert!(rt; counts_so(rt.alloc(), row) == Some(true), "{row}");
-    }
+fn the_counter_counts(rt: HostRuntime) -> Result<(), Fail> {
+    check(COUNTS, &mut Counts { alloc: rt.alloc() })
 }
 
-/// Whether a tick goes as its row says.
-fn falls_so(clock: &mut Clock<Counting>, row: &str) -> Option<bool> {
-    let pends = tick(clock)? == set_of(part(row, 1))?;
-    Some(pends && clock.read_cvr() == number_at(part(row, 0), 0)?)
+/// The clock that the ticks of rows go on.
+#[derive(Drop)]
+struct Falls {
+    clock: Clock<Counting>,
+}
+
+impl Rows for Falls {
+    fn holds(&mut self, row: &str) -> Option<bool> {
+        let pends = tick(&mut self.clock)? == set_of(part(row, 1))?;
+        Some(pends && number_at(part(row, 0), 0) == Some(self.clock.read_cvr()))
+    }
 }
 
 /// The ticks after SYST_RVR became 0 while SYST_CVR was 3: SYST_CVR; what the tick pends; what the
@@ -163,13 +166,10 @@ const FALLS: &str = "\
 #[test]
 fn a_counter_whose_reload_value_is_0_still_counts_down(rt: HostRuntime) -> Result<(), Fail> {
     let mut clock = counting(rt.alloc(), "3 3").ok_or("no memory")?;
-    assert_eq!(rt; counts_down(&mut clock, "3"), Some(true));
+    assert!(rt; counts_down(&mut clock, "3") == Some(true));
     clock.write_rvr(0);
-    assert_eq!(rt; clock.read_rvr(), 0);
-    for row in FALLS.lines() {
-        assert!(rt; falls_so(&mut clock, row) == Some(true), "{row}");
-    }
-    Ok(())
+    assert!(rt; clock.read_rvr() == 0);
+    check(FALLS, &mut Falls { clock })
 }
 
 /// A number of ticks.
@@ -180,13 +180,18 @@ fn ticks(clock: &mut Clock<Counting>, count: u8) -> Option<()> {
     Some(())
 }
 
-/// Whether SYST_CSR reads as its row says.
-fn reads_so(alloc: Global, row: &str) -> Option<bool> {
-    let mut clock = counting(alloc, part(row, 0))?;
-    ticks(&mut clock, byte_at(part(row, 1), 0)?)?;
-    let wanted = part(row, 2);
-    let first = clock.read_csr() == number_at(wanted, 0)?;
-    Some(first && clock.read_csr() == number_at(wanted, 1)?)
+/// Clocks, and what SYST_CSR reads.
+#[derive(Drop)]
+struct Reads {
+    alloc: Global,
+}
+
+impl Rows for Reads {
+    fn holds(&mut self, row: &str) -> Option<bool> {
+        let mut clock = counting(self.alloc, part(row, 0))?;
+        ticks(&mut clock, byte_at(part(row, 1), 0)?)?;
+        Some(numbers(part(row, 2)) == Some([clock.read_csr(), clock.read_csr()]))
+    }
 }
 
 /// SYST_CSR and SYST_RVR; the ticks that are made; what SYST_CSR reads then, and what it reads after
@@ -202,16 +207,8 @@ FFFFFFFF 0 | 0 | 00000007 00000007 | ENABLE and TICKINT are kept
 1 0 | 5 | 00000005 00000005 | no count without a reload value";
 
 #[test]
-fn the_registers_of_systick(rt: HostRuntime) {
-    for row in READS.lines() {
-        assert!(rt; reads_so(rt.alloc(), row) == Some(true), "{row}");
-    }
-}
-
-/// Whether SYST_RVR keeps 24 bits.
-fn keeps_24_bits(alloc: Global) -> Option<bool> {
-    let clock = counting(alloc, "0 FFFFFFFF")?;
-    Some(clock.read_rvr() == 0x00FF_FFFF)
+fn the_registers_of_systick(rt: HostRuntime) -> Result<(), Fail> {
+    check(READS, &mut Reads { alloc: rt.alloc() })
 }
 
 /// Whether a write to SYST_CVR clears it, and COUNTFLAG.
@@ -224,12 +221,14 @@ fn is_cleared(alloc: Global) -> Option<bool> {
 }
 
 #[test]
-fn writes_to_rvr_and_cvr(rt: HostRuntime) {
-    assert!(rt; keeps_24_bits(rt.alloc()) == Some(true), "RVR has 24 bits");
+fn writes_to_rvr_and_cvr(rt: HostRuntime) -> Result<(), Fail> {
+    let clock = counting(rt.alloc(), "0 FFFFFFFF").ok_or("no memory")?;
+    assert!(rt; clock.read_rvr() == 0x00FF_FFFF, "RVR has 24 bits");
     assert!(rt;
         is_cleared(rt.alloc()) == Some(true),
         "a write to CVR clears it and COUNTFLAG"
     );
+    Ok(())
 }
 
 /// Whether a tick pends what is wanted, as it's foreseen and as it's done.
@@ -253,11 +252,18 @@ fn pends_each(clock: &mut Clock<Counting>, words: &str) -> Option<bool> {
     Some(true)
 }
 
-/// Whether SysTick pends its exception as its row says.
-fn pends_so(alloc: Global, row: &str) -> Option<bool> {
-    let mut clock = counting(alloc, part(row, 0))?;
-    let follows = pends_each(&mut clock, part(row, 1))?;
-    Some(follows && clock.now() == 6)
+/// Clocks, and when SysTick's exception pends.
+#[derive(Drop)]
+struct Pending {
+    alloc: Global,
+}
+
+impl Rows for Pending {
+    fn holds(&mut self, row: &str) -> Option<bool> {
+        let mut clock = counting(self.alloc, part(row, 0))?;
+        let follows = pends_each(&mut clock, part(row, 1))?;
+        Some(follows && clock.now() == 6)
+    }
 }
 
 /// SYST_CSR and SYST_RVR; what each of six ticks pends, exception F or nothing; what the row is.
@@ -269,21 +275,25 @@ const PENDS: &str = "\
 2 1 | - - - - - - | the counter is switched off";
 
 #[test]
-fn systick_pends_its_exception(rt: HostRuntime) {
-    for row in PENDS.lines() {
-        assert!(rt; pends_so(rt.alloc(), row) == Some(true), "{row}");
-    }
+fn systick_pends_its_exception(rt: HostRuntime) -> Result<(), Fail> {
+    check(PENDS, &mut Pending { alloc: rt.alloc() })
 }
 
-/// Whether the second tick goes as its row says.
-fn goes_so(alloc: Global, row: &str) -> Option<bool> {
-    let mut clock = scripted(alloc, part(row, 0))?;
-    let due = set_of(part(row, 1))?;
-    let high = is_first(part(row, 2), "high", "low")?;
-    tick(&mut clock)?;
-    let foreseen = peek(&clock)? == due && clock.now() == 1;
-    let pends = tick(&mut clock)? == due;
-    Some(foreseen && pends && clock.high(0) == high && !clock.high(255))
+/// Scripts, and how the second tick goes.
+#[derive(Drop)]
+struct SecondTicks {
+    alloc: Global,
+}
+
+impl Rows for SecondTicks {
+    fn holds(&mut self, row: &str) -> Option<bool> {
+        let mut clock = scripted(self.alloc, part(row, 0))?;
+        let due = set_of(part(row, 1))?;
+        let high = is_first(part(row, 2), "high", "low")?;
+        tick(&mut clock)?;
+        let first = clock.now() == 1 && pends(&mut clock, due)?;
+        Some(first && clock.high(0) == high && !clock.high(255))
+    }
 }
 
 /// The events; what the second tick pends; line 0 after it; what the row is.
@@ -303,10 +313,8 @@ const SECOND_TICKS: &str = "\
 2:pulse:EF 2:rise:10 2:nmi 3:rise:0 | FF 20 2 | low | the last line, line 16 and NMI, before a later event";
 
 #[test]
-fn the_second_tick_of_a_script(rt: HostRuntime) {
-    for row in SECOND_TICKS.lines() {
-        assert!(rt; goes_so(rt.alloc(), row) == Some(true), "{row}");
-    }
+fn the_second_tick_of_a_script(rt: HostRuntime) -> Result<(), Fail> {
+    check(SECOND_TICKS, &mut SecondTicks { alloc: rt.alloc() })
 }
 
 /// Whether SysTick's exception, NMI and line 3's, 13, pend in the second tick, and nothing in the first.

@@ -1,37 +1,33 @@
 //! The words of the rows: what an access is for, how wide it is, and what decided it.
 
 use reference::access::{Kind, Request, Rule, Size};
-use tables::{is_first, number, number_at, word};
+use tables::{byte_at, is_first, meaning, number, number_at, word};
 
-const KINDS: [Kind; 6] = [
-    Kind::Fetch,
-    Kind::Load,
-    Kind::Store,
-    Kind::Push,
-    Kind::Pop,
-    Kind::Vector,
+const KINDS: [(&str, Kind); 6] = [
+    ("F", Kind::Fetch),
+    ("L", Kind::Load),
+    ("S", Kind::Store),
+    ("push", Kind::Push),
+    ("pop", Kind::Pop),
+    ("V", Kind::Vector),
 ];
 
-const SIZES: [Size; 3] = [Size::Byte, Size::Halfword, Size::Word];
+const SIZES: [(&str, Size); 3] = [
+    ("byte", Size::Byte),
+    ("halfword", Size::Halfword),
+    ("word", Size::Word),
+];
 
-fn kind_word(kind: Kind) -> &'static str {
-    match kind {
-        Kind::Fetch => "F",
-        Kind::Load => "L",
-        Kind::Store => "S",
-        Kind::Push => "push",
-        Kind::Pop => "pop",
-        Kind::Vector => "V",
-    }
-}
-
-fn size_word(size: Size) -> &'static str {
-    match size {
-        Size::Byte => "byte",
-        Size::Halfword => "halfword",
-        Size::Word => "word",
-    }
-}
+/// The rules but for those of regions.
+const RULES: [Rule; 7] = [
+    Rule::NeverExecute,
+    Rule::VectorRead,
+    Rule::PrivatePeripheralBus,
+    Rule::MpuOff,
+    Rule::NegativePriority,
+    Rule::Background,
+    Rule::NoRegion,
+];
 
 /// The words of regions, by their numbers.
 const REGIONS: &str = "r0 r1 r2 r3 r4 r5 r6 r7 r8 r9 rA rB rC rD rE rF";
@@ -50,24 +46,22 @@ pub(super) fn rule_word(rule: Rule) -> &'static str {
     }
 }
 
-/// What an access is for, by its word.
-pub(super) fn kind(word: &str) -> Option<Kind> {
-    for kind in KINDS {
-        if kind_word(kind) == word {
-            return Some(kind);
+/// The rule of a word, which is `r` and the number for that of a region.
+pub(super) fn rule(word: &str) -> Option<Rule> {
+    if let Some(number) = word.strip_prefix("r") {
+        return Some(Rule::Region(byte_at(number, 0)?));
+    }
+    'rules: for rule in RULES {
+        if rule_word(rule) == word {
+            return Some(rule);
         }
     }
     None
 }
 
-/// How wide an access is, by its word.
-pub(super) fn size(word: &str) -> Option<Size> {
-    for size in SIZES {
-        if size_word(size) == word {
-            return Some(size);
-        }
-    }
-    None
+/// What an access is for, by its word.
+pub(super) fn kind(word: &str) -> Option<Kind> {
+    meaning(&KINDS, word)
 }
 
 /// The access of a part: its kind and width, its address, what it writes, and `p` or `u` for the
@@ -75,18 +69,14 @@ pub(super) fn size(word: &str) -> Option<Size> {
 pub(super) fn request(part: &str) -> Option<Request> {
     Some(Request {
         kind: kind(word(part, 0))?,
-        size: size(word(part, 1))?,
+        size: meaning(&SIZES, word(part, 1))?,
         address: number_at(part, 2)?,
         value: number_at(part, 3)?,
         privileged: is_first(word(part, 4), "p", "u")?,
     })
 }
 
-/// What a word wants: a number, or that there is `none`.
-pub(super) fn wanted(word: &str) -> Option<Option<u32>> {
-    if word == "none" {
-        Some(None)
-    } else {
-        Some(Some(number(word)?))
-    }
+/// Whether a number is the one that a word writes, or there is none and the word is `none`.
+pub(super) fn is_number(found: Option<u32>, word: &str) -> bool {
+    found == number(word) && found.is_none() == (word == "none")
 }

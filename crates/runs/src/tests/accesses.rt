@@ -1,6 +1,6 @@
 //! What decides each access: regions and rules around them, and the bus behind them.
 
-use super::run::first_wrong;
+use super::run::check_runs;
 use std::test::*;
 
 /// STR R1, [R0] is 6001, and LDR R1, [R0] is 6801.
@@ -107,7 +107,5 @@ trace stop outofprofile unbuilt";
 
 #[test]
 fn each_access_names_what_decided_it(rt: HostRuntime) -> Result<(), Fail> {
-    let wrong = first_wrong(rt.alloc(), ACCESSES)?;
-    assert!(rt; wrong.is_empty(), "{wrong}");
-    Ok(())
+    check_runs(rt.alloc(), ACCESSES)
 }

@@ -10,12 +10,21 @@ use std::marker::Brand;
 use std::sync::ledger::{Blank, Ledger};
 
 /// How many bytes a run of a test writes at most.
-pub(super) const ROOM: usize = 512;
+const ROOM: usize = 512;
+
+/// What a run writes.
+pub(super) type Text = ArrayVec<u8, ROOM>;
+
+/// Puts a line behind a text.
+pub(super) fn push_line(text: &mut Text, line: &str) -> Option<()> {
+    text.try_extend_from_slice(line.as_bytes()).ok()?;
+    text.try_push(b'\n').ok()
+}
 
 /// A writer that takes `most` bytes a call and `left` in all, and then fails or takes none.
 #[derive(Drop)]
 pub(super) struct Cut {
-    pub(super) text: ArrayVec<u8, ROOM>,
+    pub(super) text: Text,
     left: usize,
     most: usize,
     fails: bool,
@@ -24,7 +33,7 @@ pub(super) struct Cut {
 impl Cut {
     pub(super) fn new(left: usize, most: usize, fails: bool) -> Self {
         Cut {
-            text: ArrayVec::new(),
+            text: Text::new(),
             left,
             most,
             fails,

@@ -1,11 +1,10 @@
 //! The command: runs from the bytes of files, what it tells, and its words.
 
+use super::cut::{Cut, Text, push_line};
 use command::{Fault, go, read_words, tell};
 use std::alloc::Global;
-use std::io::Write;
 use std::test::*;
-use std::{io, str};
-use tables::{number_at, part};
+use tables::{Rows, byte_at, check, check_between, number_at, part};
 
 /// The file examples/first.elf: MOV R0, #5 and BKPT 0 at address 8.
 static FIRST: [u8; 96] =
@@ -15,106 +14,108 @@ static FIRST: [u8; 96] =
 const SMALL: &str =
     "flash_base = 0\nflash_size = 4096\nram_size = 8192\npriority_bits = 4\nlines = 8\n";
 
-/// A writer into memory that fails once it holds `most` bytes.
+/// A run's files, and how it is to end.
 #[derive(Drop)]
-struct Cut<'a> {
-    text: &'a mut Vec<u8>,
-    most: usize,
+struct Case {
+    image: [u8; 96],
+    /// How many bytes of the image there are.
+    length: usize,
+    board: Text,
+    /// The status, once a line has it.
+    status: Option<u8>,
+    /// The trace.
+    out: Text,
+    /// What standard error has.
+    err: Text,
 }
 
-impl Write for Cut<'_> {
-    fn write(&mut self, buf: &[u8]) -> io::Result<usize> {
-        let room = self.most.saturating_sub(self.text.len());
-        let taken = buf.len().min(room);
-        if taken == 0 || self.text.extend_from_slice(&buf[..taken]).is_err() {
-            return Err(io::Error::from(io::ErrorKind::BrokenPipe));
-        }
-        Ok(taken)
-    }
-
-    fn flush(&mut self) -> io::Result<()> {
-        Ok(())
-    }
-}
-
-/// The number behind a word, in the first line that begins with it.
-fn number_of(case: &str, word: &str) -> Option<u32> {
-    for line in case.lines() {
-        if let Some(rest) = line.strip_prefix(word) {
-            return number_at(rest, 0);
+impl Case {
+    /// A run of the first image on no board.
+    fn new() -> Self {
+        Case {
+            image: FIRST,
+            length: 96,
+            board: Text::new(),
+            status: None,
+            out: Text::new(),
+            err: Text::new(),
         }
     }
-    None
-}
 
-/// The first image with the bytes of a case in it.
-fn image_of(case: &str) -> Option<[u8; 96]> {
-    let mut image = FIRST;
-    for line in case.lines() {
-        if let Some(rest) = line.strip_prefix("byte ") {
-            let place = number_at(rest, 0)? as usize;
-            *image.get_mut(place)? = (number_at(rest, 1)? & 0xFF) as u8;
+    /// A run of the first image on the small board, but for what the lines of a case say behind its
+    /// name.
+    fn of(text: &str) -> Option<Self> {
+        let mut case = Case::new();
+        'lines: for line in text.lines().skip(1) {
+            case.read(line)?;
+        }
+        if case.board.is_empty() {
+            case.board.try_extend_from_slice(SMALL.as_bytes()).ok()?;
+        }
+        Some(case)
+    }
+
+    /// A line is read: `byte` with a place and a byte of the image, `length` of the image, `board` with
+    /// a line of the board, `ends` with the status, and `out` and `err` with the lines that are told.
+    fn read(&mut self, line: &str) -> Option<()> {
+        let (word, rest) = line.split_once(' ')?;
+        match word {
+            "board" => push_line(&mut self.board, rest),
+            "out" => push_line(&mut self.out, rest),
+            "err" => push_line(&mut self.err, rest),
+            _ => self.read_numbers(word, rest),
         }
     }
-    Some(image)
-}
 
-/// The board of a case, which is the small one where the case has none.
-fn board_of(alloc: Global, case: &str) -> Option<String> {
-    let mut board = String::new(alloc);
-    for line in case.lines() {
-        if let Some(rest) = line.strip_prefix("board ") {
-            board.push_str(rest).ok()?;
-            board.push_str("\n").ok()?;
+    /// A line of numbers is read.
+    fn read_numbers(&mut self, word: &str, numbers: &str) -> Option<()> {
+        let number = number_at(numbers, 0)? as usize;
+        match word {
+            "byte" => *self.image.get_mut(number)? = byte_at(numbers, 1)?,
+            "length" => self.length = number,
+            "ends" => self.status = byte_at(numbers, 0),
+            _ => return None,
         }
+        Some(())
     }
-    if board.is_empty() {
-        board.push_str(SMALL).ok()?;
-    }
-    Some(board)
 }
 
-/// Whether a text has the lines of a case that begin with a word, each ended, and no others.
-fn has_lines(text: &[u8], case: &str, word: &str) -> bool {
-    let Ok(text) = str::from_utf8(text) else {
-        return false;
-    };
-    let mut told = text.lines();
-    for line in case.lines() {
-        if let Some(wanted) = line.strip_prefix(word) {
-            if told.next() != Some(wanted) {
-                return false;
-            }
-        }
-    }
-    told.next().is_none() && (text.is_empty() || text.ends_with("\n"))
+/// How a run ended: its status, and what it told.
+#[derive(Drop)]
+struct Ended {
+    status: u8,
+    out: Cut,
+    err: Cut,
 }
 
-/// Whether a run ends as its case says. The case has a name and then lines: `byte` with a place and a byte
-/// of the image, `length` of the image, `board` with a line of the board, `ends` with the status, and `out`
-/// and `err` with the lines that are told.
-fn ends_so(alloc: Global, case: &str) -> Option<bool> {
-    let image = image_of(case)?;
-    let length = number_of(case, "length ").unwrap_or(96) as usize;
-    let board = board_of(alloc, case)?;
-    let mut text = Vec::new(alloc);
-    let mut err = Vec::new(alloc);
-    let out = Cut {
-        text: &mut text,
-        most: 512,
-    };
-    let status = go(
-        alloc,
-        image.get(..length)?,
-        board.as_bytes(),
-        10,
-        out,
-        &mut err,
-    );
-    let is_so = u32::from(status) == number_of(case, "ends ")?
-        && has_lines(text.as_slice(), case, "out ")
-        && has_lines(err.as_slice(), case, "err ");
-    Some(is_so)
+impl Ended {
+    /// A run of at most ten steps, with room for so many bytes of the trace.
+    fn of(alloc: Global, image: &[u8], board: &[u8], room: usize) -> Self {
+        let mut out = Cut::new(room, room, true);
+        let mut err = Cut::whole();
+        let status = go(alloc, image, board, 10, &mut out, &mut err);
+        Ended { status, out, err }
+    }
+
+    /// Whether it ended with this status, this trace and this on standard error.
+    fn is(&self, status: u8, out: &[u8], err: &[u8]) -> bool {
+        self.status == status && self.out.text.as_slice() == out && self.err.text.as_slice() == err
+    }
+}
+
+/// Runs of files, and how they end.
+#[derive(Drop)]
+struct Ends {
+    alloc: Global,
+}
+
+impl Rows for Ends {
+    fn holds(&mut self, text: &str) -> Option<bool> {
+        let case = Case::of(text)?;
+        let image = case.image.get(..case.length)?;
+        let ended = Ended::of(self.alloc, image, case.board.as_slice(), 512);
+        Some(ended.is(case.status?, case.out.as_slice(), case.err.as_slice()))
+    }
 }
 
 const RUNS: &str = "\
@@ -208,48 +209,33 @@ ends 3
 err marm: load 1 Truncated";
 
 #[test]
-fn runs_of_files(rt: HostRuntime) {
-    for case in RUNS.split("\n\n") {
-        assert!(rt; ends_so(rt.alloc(), case) == Some(true), "{case}");
-    }
-}
-
-/// Runs the first image on a board with room for so many bytes of the trace. Answers the status, and
-/// whether the trace and standard error are those.
-fn goes(alloc: Global, board: &[u8], most: usize, wanted: &[u8], told: &[u8]) -> (u8, bool) {
-    let mut text = Vec::new(alloc);
-    let mut err = Vec::new(alloc);
-    let out = Cut {
-        text: &mut text,
-        most,
-    };
-    let status = go(alloc, &FIRST, board, 10, out, &mut err);
-    (status, text.as_slice() == wanted && err.as_slice() == told)
+fn runs_of_files(rt: HostRuntime) -> Result<(), Fail> {
+    check_between(RUNS, "\n\n", &mut Ends { alloc: rt.alloc() })
 }
 
 #[test]
 fn a_writer_that_fails_ends_the_run(rt: HostRuntime) {
-    let ended = goes(rt.alloc(), SMALL.as_bytes(), 7, b"1 F 000", b"marm: io\n");
-    assert!(rt; ended == (5, true));
+    let ended = Ended::of(rt.alloc(), &FIRST, SMALL.as_bytes(), 7);
+    assert!(rt; ended.is(5, b"1 F 000", b"marm: io\n"));
 }
 
 #[test]
 fn a_board_that_is_no_text_is_refused(rt: HostRuntime) {
-    let ended = goes(rt.alloc(), b"# \xFF", 512, b"", b"marm: board 1 NotToml\n");
-    assert!(rt; ended == (3, true));
+    let ended = Ended::of(rt.alloc(), &FIRST, b"# \xFF", 512);
+    assert!(rt; ended.is(3, b"", b"marm: board 1 NotToml\n"));
 }
 
 /// Whether a fault's line and status are these.
-fn is_told(alloc: Global, fault: Fault, line: &[u8], status: u8) -> bool {
-    let mut err = Vec::new(alloc);
-    tell(fault, &mut err) == status && err.as_slice() == line
+fn is_told(fault: Fault, line: &[u8], status: u8) -> bool {
+    let mut err = Cut::whole();
+    tell(fault, &mut err) == status && err.text.as_slice() == line
 }
 
 #[test]
 fn each_fault_has_its_line(rt: HostRuntime) {
-    assert!(rt; is_told(rt.alloc(), Fault::Usage, b"marm: usage\n", 2));
-    assert!(rt; is_told(rt.alloc(), Fault::Size, b"marm: size\n", 3));
-    assert!(rt; is_told(rt.alloc(), Fault::Io, b"marm: io\n", 5));
+    assert!(rt; is_told(Fault::Usage, b"marm: usage\n", 2));
+    assert!(rt; is_told(Fault::Size, b"marm: size\n", 3));
+    assert!(rt; is_told(Fault::Io, b"marm: io\n", 5));
 }
 
 /// The steps that a command line asks for: none where it is refused, or where memory was wanting.
@@ -260,6 +246,20 @@ fn steps_of(alloc: Global, line: &str) -> Option<u64> {
     }
     let request = read_words(alloc, words.as_slice()).ok()?;
     Some(request.steps)
+}
+
+/// Command lines, and the steps that they ask for.
+#[derive(Drop)]
+struct Lines {
+    alloc: Global,
+}
+
+impl Rows for Lines {
+    fn holds(&mut self, row: &str) -> Option<bool> {
+        let steps = steps_of(self.alloc, part(row, 0));
+        let wanted = part(row, 1);
+        Some(steps == wanted.parse::<u64>().ok() && steps.is_none() == (wanted == "-"))
+    }
 }
 
 /// A command line, and the steps that it asks for, `-` where it is refused.
@@ -276,9 +276,6 @@ marm run --frob --board b.toml --steps 10 first.elf | -
 marm | -";
 
 #[test]
-fn words_are_taken_or_refused(rt: HostRuntime) {
-    for row in WORDS.lines() {
-        let wanted = part(row, 1).parse::<u64>().ok();
-        assert!(rt; steps_of(rt.alloc(), part(row, 0)) == wanted, "{row}");
-    }
+fn words_are_taken_or_refused(rt: HostRuntime) -> Result<(), Fail> {
+    check(WORDS, &mut Lines { alloc: rt.alloc() })
 }

@@ -1,6 +1,6 @@
 //! Instructions in their steps: IT blocks, long instructions, and code that is written over.
 
-use super::run::first_wrong;
+use super::run::check_runs;
 use std::test::*;
 
 /// In an IT block CMP R0, #0, ITE EQ, MOV R1, #1 and MOV R2, #2 stand at 100. In the last run STRH R1,
@@ -126,7 +126,5 @@ after reg lr 20000007";
 
 #[test]
 fn instructions_in_their_steps(rt: HostRuntime) -> Result<(), Fail> {
-    let wrong = first_wrong(rt.alloc(), INSTRUCTIONS)?;
-    assert!(rt; wrong.is_empty(), "{wrong}");
-    Ok(())
+    check_runs(rt.alloc(), INSTRUCTIONS)
 }

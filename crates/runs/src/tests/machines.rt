@@ -3,14 +3,15 @@
 use elf::load;
 use machine::{Board, InterruptLine, Place, SMALL_BOARD, ScriptedEvent, Signal, Slow};
 use std::alloc::{AllocError, Global};
-use tables::{byte_at, is_first, number_at, word};
+use tables::{byte_at, number_at, word};
 
 /// An ELF file without program headers: all of flash is 0xFF.
 pub(super) static NO_SEGMENTS: [u8; 52] =
     *b"\x7fELF\x01\x01\x01\0\0\0\0\0\0\0\0\0\x02\0\x28\0\x01\0\0\0\0\0\0\0\x34\0\0\0\0\0\0\0\0\0\0\x05\x34\0\x20\0\0\0\0\0\0\0\0\0";
 
-/// The interrupt line of this number, if there can be one.
-fn interrupt_line(number: u8) -> Option<InterruptLine> {
+/// The interrupt line that an event is on, if there can be one of its number.
+fn interrupt_line(line: &str) -> Option<InterruptLine> {
+    let number = byte_at(line, 3)?;
     if number < InterruptLine::MOST {
         Some(InterruptLine::new(number))
     } else {
@@ -18,24 +19,14 @@ fn interrupt_line(number: u8) -> Option<InterruptLine> {
     }
 }
 
-/// What a signal's word says of a line.
-fn signal(name: &str, line: InterruptLine) -> Option<Signal> {
-    if name == "fall" {
-        Some(Signal::Fall(line))
-    } else if name == "pulse" {
-        Some(Signal::Pulse(line))
-    } else {
-        None
-    }
-}
-
 /// What happens by the words behind the tick of an event.
-fn what_happens(line: &str) -> Option<Signal> {
-    let name = word(line, 2);
-    if name == "nmi" {
-        return Some(Signal::Nmi);
+fn signal(line: &str) -> Option<Signal> {
+    match word(line, 2) {
+        "nmi" => Some(Signal::Nmi),
+        "fall" => Some(Signal::Fall(interrupt_line(line)?)),
+        "pulse" => Some(Signal::Pulse(interrupt_line(line)?)),
+        _ => None,
     }
-    signal(name, interrupt_line(byte_at(line, 3)?)?)
 }
 
 /// The event of a line `event TICK SIGNAL LINE`.
@@ -45,24 +36,20 @@ pub(super) fn event(line: &str) -> Option<ScriptedEvent> {
     }
     Some(ScriptedEvent {
         at: u64::from(number_at(line, 1)?),
-        what: what_happens(line)?,
+        what: signal(line)?,
     })
 }
 
 /// The place and the value of a line `word ADDRESS VALUE`, `reg NUMBER VALUE` or `special NUMBER
 /// VALUE`.
 pub(super) fn place(line: &str) -> Option<Place> {
-    let kind = word(line, 0);
     let at = number_at(line, 1)?;
     let value = number_at(line, 2)?;
-    if kind == "word" {
-        return Some(Place::Word(at, value));
-    }
-    let number = byte_at(line, 1)?;
-    if is_first(kind, "reg", "special")? {
-        Some(Place::Reg(number, value))
-    } else {
-        Some(Place::Special(number, value))
+    match word(line, 0) {
+        "word" => Some(Place::Word(at, value)),
+        "reg" => Some(Place::Reg(byte_at(line, 1)?, value)),
+        "special" => Some(Place::Special(byte_at(line, 1)?, value)),
+        _ => None,
     }
 }
 

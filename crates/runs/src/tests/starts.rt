@@ -6,7 +6,7 @@ use elf::{Image, load};
 use machine::{Board, Layout, Slow};
 use std::alloc::Global;
 use std::test::*;
-use tables::part;
+use tables::{Rows, check, part};
 
 /// Flash that begins at 0x10000, and RAM of 1 KiB.
 const HIGH_FLASH: Layout = Layout {
@@ -16,6 +16,18 @@ const HIGH_FLASH: Layout = Layout {
     priority_bits: 3,
     lines: 0,
 };
+
+/// The machine that holds the bytes of rows.
+#[derive(Drop)]
+struct Bytes {
+    machine: Slow,
+}
+
+impl Rows for Bytes {
+    fn holds(&mut self, row: &str) -> Option<bool> {
+        holds_byte(&self.machine, part(row, 0))
+    }
+}
 
 /// The byte at an address, or `none`; what the row is.
 const BYTES: &str = "\
@@ -39,10 +51,7 @@ fn high_machine(alloc: Global) -> Option<Slow> {
 #[test]
 fn flash_and_ram_are_those_of_the_board(rt: HostRuntime) -> Result<(), Fail> {
     let machine = high_machine(rt.alloc()).ok_or("a machine")?;
-    'rows: for row in BYTES.lines() {
-        assert!(rt; holds_byte(&machine, part(row, 0)) == Some(true), "{row}");
-    }
-    Ok(())
+    check(BYTES, &mut Bytes { machine })
 }
 
 /// Whether a board with an event is made, the second time at the latest.
@@ -63,7 +72,7 @@ fn starts(alloc: Global, image: &Image<'_>) -> bool {
 /// Under `rt try --test --fail-alloc N` one growth is refused: the next call finds memory.
 #[test]
 fn a_refused_growth_is_told_and_leaves_nothing_behind(rt: HostRuntime) -> Result<(), Fail> {
-    let image = load(&NO_SEGMENTS).map_err(|_| "an image")?;
+    let image = load(&NO_SEGMENTS).ok().ok_or("an image")?;
     assert!(rt; is_made(rt.alloc()));
     assert!(rt; starts(rt.alloc(), &image));
     Ok(())

@@ -1,6 +1,6 @@
 //! Short runs, and runs beside a script.
 
-use super::run::first_wrong;
+use super::run::check_runs;
 use std::test::*;
 
 /// MOV R0, #5 and BKPT 0 at 8; and MOV R0, #7, STR R0, [R1], LDR R2, [R1] and B to itself at 100.
@@ -100,14 +100,10 @@ trace stop steps";
 
 #[test]
 fn short_runs(rt: HostRuntime) -> Result<(), Fail> {
-    let wrong = first_wrong(rt.alloc(), TRACES)?;
-    assert!(rt; wrong.is_empty(), "{wrong}");
-    Ok(())
+    check_runs(rt.alloc(), TRACES)
 }
 
 #[test]
 fn a_machine_stops_where_an_event_would_apply(rt: HostRuntime) -> Result<(), Fail> {
-    let wrong = first_wrong(rt.alloc(), EVENTS)?;
-    assert!(rt; wrong.is_empty(), "{wrong}");
-    Ok(())
+    check_runs(rt.alloc(), EVENTS)
 }

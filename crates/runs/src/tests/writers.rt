@@ -1,6 +1,6 @@
 //! Writers that fail, take little, or gather.
 
-ghost use Rattle.std.specs.Prelude.{◌≡◌, ◌≤◌};
+ghost use Rattle.std.specs.Prelude.{◌≡◌};
 
 use super::cut::{Cut, run};
 use super::machines::machine_with;
@@ -21,16 +21,12 @@ static FIRST_TRACE: [u8; 66] =
     *b"1 F 00000008 2 p ok off\n2 F 0000000A 2 p ok off\nstop breakpoint 0\n";
 
 /// Whether a writer got so many bytes of the trace.
-fn got(out: &Cut, bytes: usize) -> bool
-    requires { bytes ≤ 66 }
-{
-    out.text.as_slice() == &FIRST_TRACE[..bytes]
+fn got(out: &Cut, bytes: usize) -> bool {
+    out.text.len() == bytes && FIRST_TRACE.starts_with(out.text.as_slice())
 }
 
 /// Whether a writer of so many bytes breaks a machine, in the step whose line it cuts.
-fn breaks(machine: &mut Slow, left: usize, fails: bool) -> bool
-    requires { left ≤ 66 }
-{
+fn breaks(machine: &mut Slow, left: usize, fails: bool) -> bool {
     let mut out = Cut::new(left, 512, fails);
     let wanted = if left < 24 { 1 } else { 2 };
     match run(machine, 10, &mut out) {

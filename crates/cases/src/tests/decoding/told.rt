@@ -130,26 +130,14 @@ fn told_comparisons(instruction: &Instruction) -> Option<Told> {
 /// Products and quotients.
 fn told_products(instruction: &Instruction) -> Option<Told> {
     match instruction {
-        Instruction::Multiply(o) => Some([
-            9,
-            o.flags as u32,
-            number(o.destination),
-            number(o.first),
-            number(o.second),
-            0,
-            0,
-            0,
-        ]),
-        Instruction::MultiplyAccumulate(o) => Some([
-            10,
-            o.operation as u32,
-            number(o.destination),
-            number(o.first),
-            number(o.second),
-            number(o.addend),
-            0,
-            0,
-        ]),
+        Instruction::Multiply(o) => {
+            let (d, n, m) = (number(o.destination), number(o.first), number(o.second));
+            Some([9, o.flags as u32, d, n, m, 0, 0, 0])
+        }
+        Instruction::MultiplyAccumulate(o) => {
+            let (d, n, m) = (number(o.destination), number(o.first), number(o.second));
+            Some([10, o.operation as u32, d, n, m, number(o.addend), 0, 0])
+        }
         Instruction::MultiplyLong(o) => {
             let (low, high) = (number(o.low), number(o.high));
             let (n, m) = (number(o.first), number(o.second));
@@ -164,16 +152,10 @@ fn told_products(instruction: &Instruction) -> Option<Told> {
                 0,
             ])
         }
-        Instruction::Divide(o) => Some([
-            12,
-            o.signed as u32,
-            number(o.destination),
-            number(o.dividend),
-            number(o.divisor),
-            0,
-            0,
-            0,
-        ]),
+        Instruction::Divide(o) => {
+            let (d, n, m) = (number(o.destination), number(o.dividend), number(o.divisor));
+            Some([12, o.signed as u32, d, n, m, 0, 0, 0])
+        }
         _ => None,
     }
 }
@@ -338,50 +320,22 @@ fn told_exclusive(instruction: &Instruction) -> Option<Told> {
 fn told_branches(instruction: &Instruction) -> Option<Told> {
     match instruction {
         Instruction::Branch(o) => Some([32, o.offset, 0, 0, 0, 0, 0, 0]),
-        Instruction::ConditionalBranch(o) => Some([
-            33,
-            o.condition as u32,
-            o.offset,
-            0,
-            0,
-            0,
-            0,
-            0,
-        ]),
+        Instruction::ConditionalBranch(o) => {
+            let condition = o.condition as u32;
+            Some([33, condition, o.offset, 0, 0, 0, 0, 0])
+        }
         Instruction::BranchWithLink(o) => Some([34, o.offset, 0, 0, 0, 0, 0, 0]),
-        Instruction::BranchExchange(o) => Some([
-            35,
-            o.links as u32,
-            number(o.target),
-            0,
-            0,
-            0,
-            0,
-            0,
-        ]),
+        Instruction::BranchExchange(o) => {
+            let (links, target) = (o.links as u32, number(o.target));
+            Some([35, links, target, 0, 0, 0, 0, 0])
+        }
         Instruction::CompareAndBranch(o) => {
-            Some([
-                36,
-                o.nonzero as u32,
-                number(o.register),
-                o.offset,
-                0,
-                0,
-                0,
-                0,
-            ])
+            let (nonzero, register) = (o.nonzero as u32, number(o.register));
+            Some([36, nonzero, register, o.offset, 0, 0, 0, 0])
         }
         Instruction::TableBranch(o) => {
-            Some([
-                37,
-                o.size as u32,
-                number(o.base),
-                number(o.index),
-                0,
-                0,
-                0,
-                0,
-            ])
+            let (n, m) = (number(o.base), number(o.index));
+            Some([37, o.size as u32, n, m, 0, 0, 0, 0])
         }
         _ => None,
     }
