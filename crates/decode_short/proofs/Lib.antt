@@ -1,4 +1,2 @@
-pub mod ShortData
-pub mod ShortMemory
 pub mod ShortControl
 pub mod ShortTop

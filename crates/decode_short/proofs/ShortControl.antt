@@ -175,16 +175,6 @@ pub cps_none : (x : ℕ)
 cps_none x q1 q2 q3 =
     short_none (test 11 5 22 ∷ test 8 3 6 ∷ []) ((test 5 3 3 ∷ []) ∷ []) x refl refl (q1, (q2, tt)) ((λ p. q3 p.0), tt)
 
-pub reverse_none : (x : ℕ)
-    → bits x 11 5 ≡ 23
-    → bits x 8 3 ≡ 2
-    → bits x 6 2 ≢ 0
-    → bits x 6 2 ≢ 1
-    → bits x 6 2 ≢ 3
-    → short_meaning x ≡ Undefined
-reverse_none x q1 q2 q3 q4 q5 =
-    short_none (test 11 5 23 ∷ test 8 3 2 ∷ []) ((test 6 2 0 ∷ []) ∷ (test 6 2 1 ∷ []) ∷ (test 6 2 3 ∷ []) ∷ []) x refl refl (q1, (q2, tt)) ((λ p. q3 p.0), ((λ p. q4 p.0), ((λ p. q5 p.0), tt)))
-
 pub misc_low_none : (x : ℕ)
     → bits x 11 5 ≡ 22
     → bits x 8 3 ≢ 0

@@ -4,7 +4,5 @@
 
 mod short;
 mod short_control;
-mod short_data;
-mod short_memory;
 
 pub use short::decode_short;

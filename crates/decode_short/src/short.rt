@@ -5,18 +5,16 @@ ghost use Rattle.reference.specs.Decoding.{short_meaning};
 ghost use Rattle.reference.specs.Words.{bits};
 
 use crate::short_control::{
-    branch_if, branch_short, branches_and_calls, breakpoint, changes_state, compares_and_branches,
-    hints_and_it,
+    branch_exchanges, branch_if, branch_short, branches_and_calls, breakpoint, changes_state,
+    compares_and_branches, hints_and_it,
 };
-use crate::short_data::{
-    add_subtract, address, adjust_sp, compare_number, data_number, data_processing, extends,
-    move_number, rearranges, shift_left, shift_number, sp_number, special_data,
-};
-use crate::short_memory::{
-    load_list, load_literal_word, load_number, loads_at_registers, pop, push, store_list,
+use decode_short_rows::{
+    add_high, address, adjust_sp, compare_high, compare_number, data_number, data_processing,
+    data_registers, extends, load_list, load_literal_word, load_number, loads_at_registers,
+    move_high, move_number, pop, push, rearranges, shift_left, shift_number, sp_number, store_list,
     store_number, stores_at_registers,
 };
-use encodings::fields::{bits, eight, five, four, low_register};
+use encodings::fields::{bits, eight, five, four, low_register, register, split_register};
 use reference::access::Size;
 use reference::instruction::Decoded;
 use reference::operands::DataOperation;
@@ -65,6 +63,21 @@ pub fn decode_short(x: u32) -> Decoded
     }
 }
 
+/// ADD and SUB of two registers, or of a register and a number of three bits.
+#[tactic(auto, using(crate::proofs::ShortTop::add_subtract_lemmas))]
+fn add_subtract(x: u32) -> Decoded
+    requires { bits x 11 5 ≡ 3 }
+    ensures { result ≡ short_meaning x }
+{
+    let (d, n) = (low_register(x, 0), low_register(x, 3));
+    match bits(x, 9, 2) {
+        0b00 => data_registers(DataOperation::Add, d, n, low_register(x, 6)),
+        0b01 => data_registers(DataOperation::Subtract, d, n, low_register(x, 6)),
+        0b10 => data_number(DataOperation::Add, d, n, bits(x, 6, 3)),
+        _ => data_number(DataOperation::Subtract, d, n, bits(x, 6, 3)),
+    }
+}
+
 /// The data-processing rows of registers, and those of any registers.
 fn data_or_special(x: u32) -> Decoded
     requires { bits x 11 5 ≡ 8 }
@@ -74,6 +87,22 @@ fn data_or_special(x: u32) -> Decoded
         data_processing(x)
     } else {
         special_data(x)
+    }
+}
+
+/// ADD, CMP and MOV of any two registers; BX and BLX.
+#[tactic(auto, using(crate::proofs::ShortTop::special_data_lemmas))]
+fn special_data(x: u32) -> Decoded
+    requires top { bits x 11 5 ≡ 8 }
+    requires high { bits x 10 1 ≡ 1 }
+    ensures { result ≡ short_meaning x }
+{
+    let (d, m) = (split_register(x), register(x, 3));
+    match bits(x, 8, 2) {
+        0b00 => add_high(d, m),
+        0b01 => compare_high(d, m),
+        0b10 => move_high(d, m),
+        _ => branch_exchanges(x),
     }
 }
 

@@ -4,7 +4,7 @@ ghost use Rattle.std.specs.Prelude.{◌≡◌, ◌<◌, ◌^◌};
 ghost use Rattle.reference.specs.LongData.{operand_of};
 ghost use Rattle.reference.specs.ShortControl.{hint_of};
 ghost use Rattle.reference.specs.ShortData.{number};
-ghost use Rattle.reference.specs.ShortMemory.{at_offset};
+ghost use Rattle.reference.specs.ShortMemory.{at_offset, is_above_lowest};
 ghost use Rattle.reference.specs.Words.{is_bit, negated, sign_extended};
 
 use reference::instruction::Hint;
@@ -86,4 +86,11 @@ pub fn is_in_list(n: Register, list: u16) -> bool
     ensures { result ≡ is_bit list n }
 {
     (list >> n.number()) % 2 == 1
+}
+
+/// Whether a register is in a list, and not its lowest.
+pub fn is_above_lowest(n: Register, list: u16) -> bool
+    ensures { result ≡ is_above_lowest n list }
+{
+    is_in_list(n, list) && list % (1 << n.number()) != 0
 }

@@ -5,8 +5,7 @@ ghost use Rattle.reference.specs.Decoding.{short_meaning};
 ghost use Rattle.reference.specs.ShortData.{unshifted, number, move_low, shift_number, shift_register, data_registers, data_number, move_number, move_not, compare_number, compare_registers, multiply, add_high, compare_high, move_high, address, sp_number, extend, rearrange};
 ghost use Rattle.reference.specs.Words.{bits};
 
-use crate::short_control::branch_exchanges;
-use encodings::fields::{bits, five, low_register, register, seven, split_register};
+use encodings::fields::{bits, five, low_register, seven};
 use encodings::given::{last_only_if, placed, placed_unless, short, unless_refused};
 use encodings::operands::number;
 use reference::access::Size;
@@ -21,8 +20,8 @@ use reference::shift::{Shift, ShiftType};
 use regs::decode_imm_shift;
 
 /// LSL (immediate), and MOV (register) that stands for LSL by 0.
-#[tactic(auto, using(crate::proofs::ShortTop::shift_left_lemmas))]
-pub(crate) fn shift_left(x: u32) -> Decoded
+#[tactic(auto, using(crate::proofs::RowsTop::shift_left_lemmas))]
+pub fn shift_left(x: u32) -> Decoded
     requires { bits x 11 5 ≡ 0 }
     ensures { result ≡ short_meaning x }
 {
@@ -33,24 +32,9 @@ pub(crate) fn shift_left(x: u32) -> Decoded
     }
 }
 
-/// ADD and SUB of two registers, or of a register and a number of three bits.
-#[tactic(auto, using(crate::proofs::ShortTop::add_subtract_lemmas))]
-pub(crate) fn add_subtract(x: u32) -> Decoded
-    requires { bits x 11 5 ≡ 3 }
-    ensures { result ≡ short_meaning x }
-{
-    let (d, n) = (low_register(x, 0), low_register(x, 3));
-    match bits(x, 9, 2) {
-        0b00 => data_registers(DataOperation::Add, d, n, low_register(x, 6)),
-        0b01 => data_registers(DataOperation::Subtract, d, n, low_register(x, 6)),
-        0b10 => data_number(DataOperation::Add, d, n, bits(x, 6, 3)),
-        _ => data_number(DataOperation::Subtract, d, n, bits(x, 6, 3)),
-    }
-}
-
 /// The operations on two low registers.
-#[tactic(auto, using(crate::proofs::ShortTop::data_processing_lemmas))]
-pub(crate) fn data_processing(x: u32) -> Decoded
+#[tactic(auto, using(crate::proofs::RowsTop::data_processing_lemmas))]
+pub fn data_processing(x: u32) -> Decoded
     requires top { bits x 11 5 ≡ 8 }
     requires low { bits x 10 1 ≡ 0 }
     ensures { result ≡ short_meaning x }
@@ -76,25 +60,9 @@ pub(crate) fn data_processing(x: u32) -> Decoded
     }
 }
 
-/// ADD, CMP and MOV of any two registers; BX and BLX.
-#[tactic(auto, using(crate::proofs::ShortTop::special_data_lemmas))]
-pub(crate) fn special_data(x: u32) -> Decoded
-    requires top { bits x 11 5 ≡ 8 }
-    requires high { bits x 10 1 ≡ 1 }
-    ensures { result ≡ short_meaning x }
-{
-    let (d, m) = (split_register(x), register(x, 3));
-    match bits(x, 8, 2) {
-        0b00 => add_high(d, m),
-        0b01 => compare_high(d, m),
-        0b10 => move_high(d, m),
-        _ => branch_exchanges(x),
-    }
-}
-
 /// ADD and SUB of SP and a number.
-#[tactic(auto, using(crate::proofs::ShortTop::miscellaneous_low_lemmas))]
-pub(crate) fn adjust_sp(x: u32) -> Decoded
+#[tactic(auto, using(crate::proofs::RowsTop::low_lemmas))]
+pub fn adjust_sp(x: u32) -> Decoded
     requires top { bits x 11 5 ≡ 22 }
     requires middle { bits x 8 3 ≡ 0 }
     ensures { result ≡ short_meaning x }
@@ -107,8 +75,8 @@ pub(crate) fn adjust_sp(x: u32) -> Decoded
 }
 
 /// SXTH, SXTB, UXTH and UXTB.
-#[tactic(auto, using(crate::proofs::ShortTop::miscellaneous_low_lemmas))]
-pub(crate) fn extends(x: u32) -> Decoded
+#[tactic(auto, using(crate::proofs::RowsTop::low_lemmas))]
+pub fn extends(x: u32) -> Decoded
     requires top { bits x 11 5 ≡ 22 }
     requires middle { bits x 8 3 ≡ 2 }
     ensures { result ≡ short_meaning x }
@@ -123,8 +91,8 @@ pub(crate) fn extends(x: u32) -> Decoded
 }
 
 /// REV, REV16 and REVSH.
-#[tactic(auto, using(crate::proofs::ShortTop::miscellaneous_high_lemmas))]
-pub(crate) fn rearranges(x: u32) -> Decoded
+#[tactic(auto, using(crate::proofs::RowsTop::high_lemmas))]
+pub fn rearranges(x: u32) -> Decoded
     requires top { bits x 11 5 ≡ 23 }
     requires middle { bits x 8 3 ≡ 2 }
     ensures { result ≡ short_meaning x }
@@ -170,7 +138,7 @@ fn move_low(d: Register, m: Register) -> Decoded
 
 /// A shift by a number: MOV of a shifted register.
 #[tactic(auto, unfolding(reference::specs::ShortData::shift_number))]
-pub(crate) fn shift_number(kind: u8, amount: u8, d: Register, m: Register) -> Decoded
+pub fn shift_number(kind: u8, amount: u8, d: Register, m: Register) -> Decoded
     ensures { result ≡ shift_number kind amount d m }
 {
     short(Instruction::MoveRegister(MoveRegister {
@@ -200,7 +168,7 @@ fn shift_register(shift_type: ShiftType, d: Register, m: Register) -> Decoded
 
 /// An operation on two registers.
 #[tactic(auto, unfolding(reference::specs::ShortData::data_registers))]
-fn data_registers(operation: DataOperation, d: Register, n: Register, m: Register) -> Decoded
+pub fn data_registers(operation: DataOperation, d: Register, n: Register, m: Register) -> Decoded
     ensures { result ≡ data_registers operation d n m }
 {
     short(Instruction::DataRegister(DataRegister {
@@ -214,7 +182,7 @@ fn data_registers(operation: DataOperation, d: Register, n: Register, m: Registe
 
 /// An operation on a register and a number.
 #[tactic(auto, unfolding(reference::specs::ShortData::data_number))]
-pub(crate) fn data_number(operation: DataOperation, d: Register, n: Register, value: u32) -> Decoded
+pub fn data_number(operation: DataOperation, d: Register, n: Register, value: u32) -> Decoded
     ensures { result ≡ data_number operation d n value }
 {
     short(Instruction::DataImmediate(DataImmediate {
@@ -228,7 +196,7 @@ pub(crate) fn data_number(operation: DataOperation, d: Register, n: Register, va
 
 /// MOV of a number.
 #[tactic(auto, unfolding(reference::specs::ShortData::move_number))]
-pub(crate) fn move_number(d: Register, value: u32) -> Decoded
+pub fn move_number(d: Register, value: u32) -> Decoded
     ensures { result ≡ move_number d value }
 {
     short(Instruction::MoveImmediate(MoveImmediate {
@@ -254,7 +222,7 @@ fn move_not(d: Register, m: Register) -> Decoded
 
 /// CMP with a number.
 #[tactic(auto, unfolding(reference::specs::ShortData::compare_number))]
-pub(crate) fn compare_number(n: Register, value: u32) -> Decoded
+pub fn compare_number(n: Register, value: u32) -> Decoded
     ensures { result ≡ compare_number n value }
 {
     short(Instruction::CompareImmediate(CompareImmediate {
@@ -291,7 +259,7 @@ fn multiply(d: Register, m: Register) -> Decoded
 
 /// ADD of any registers, without flags.
 #[tactic(auto, unfolding(reference::specs::ShortData::add_high))]
-fn add_high(d: Register, m: Register) -> Decoded
+pub fn add_high(d: Register, m: Register) -> Decoded
     ensures { result ≡ add_high d m }
 {
     let place = last_only_if(d.number() == 15);
@@ -307,7 +275,7 @@ fn add_high(d: Register, m: Register) -> Decoded
 
 /// CMP of any registers, of which one is above R7.
 #[tactic(auto, unfolding(reference::specs::ShortData::compare_high))]
-fn compare_high(n: Register, m: Register) -> Decoded
+pub fn compare_high(n: Register, m: Register) -> Decoded
     ensures { result ≡ compare_high n m }
 {
     let instruction = Instruction::CompareRegister(CompareRegister {
@@ -323,7 +291,7 @@ fn compare_high(n: Register, m: Register) -> Decoded
 
 /// MOV of any registers, without flags.
 #[tactic(auto, unfolding(reference::specs::ShortData::move_high))]
-fn move_high(d: Register, m: Register) -> Decoded
+pub fn move_high(d: Register, m: Register) -> Decoded
     ensures { result ≡ move_high d m }
 {
     let instruction = Instruction::MoveRegister(MoveRegister {
@@ -337,7 +305,7 @@ fn move_high(d: Register, m: Register) -> Decoded
 
 /// ADR: the offset counts words.
 #[tactic(auto, unfolding(reference::specs::ShortData::address))]
-pub(crate) fn address(d: Register, words: u8) -> Decoded
+pub fn address(d: Register, words: u8) -> Decoded
     ensures { result ≡ address d words }
 {
     short(Instruction::Address(Address {
@@ -348,7 +316,7 @@ pub(crate) fn address(d: Register, words: u8) -> Decoded
 
 /// ADD and SUB of SP and a number, which counts words; no flags.
 #[tactic(auto, unfolding(reference::specs::ShortData::sp_number))]
-pub(crate) fn sp_number(operation: DataOperation, d: Register, words: u8) -> Decoded
+pub fn sp_number(operation: DataOperation, d: Register, words: u8) -> Decoded
     ensures { result ≡ sp_number operation d words }
 {
     short(Instruction::DataImmediate(DataImmediate {

@@ -7,7 +7,7 @@ ghost use Rattle.reference.specs.Words.{bits, is_bit};
 
 use encodings::fields::{bits, eight, low_register};
 use encodings::given::{last_only_if, placed, short, unless};
-use encodings::operands::{at_offset, is_in_list};
+use encodings::operands::{at_offset, is_above_lowest, is_in_list};
 use reference::access::Size;
 use reference::instruction::{BlockPlace, Decoded, Instruction};
 use reference::operands::{
@@ -18,8 +18,8 @@ use reference::registers::{Register, RegisterList};
 use reference::stop::UnpredictableCase;
 
 /// STR, STRH, STRB and LDRSB at two registers.
-#[tactic(auto, using(crate::proofs::ShortTop::register_address_lemmas))]
-pub(crate) fn stores_at_registers(x: u32) -> Decoded
+#[tactic(auto, using(crate::proofs::RowsTop::register_address_lemmas))]
+pub fn stores_at_registers(x: u32) -> Decoded
     requires { bits x 11 5 ≡ 10 }
     ensures { result ≡ short_meaning x }
 {
@@ -33,8 +33,8 @@ pub(crate) fn stores_at_registers(x: u32) -> Decoded
 }
 
 /// LDR, LDRH, LDRB and LDRSH at two registers.
-#[tactic(auto, using(crate::proofs::ShortTop::register_address_lemmas))]
-pub(crate) fn loads_at_registers(x: u32) -> Decoded
+#[tactic(auto, using(crate::proofs::RowsTop::register_address_lemmas))]
+pub fn loads_at_registers(x: u32) -> Decoded
     requires { bits x 11 5 ≡ 11 }
     ensures { result ≡ short_meaning x }
 {
@@ -51,7 +51,7 @@ pub(crate) fn loads_at_registers(x: u32) -> Decoded
 
 /// LDR at the PC and an offset, which counts words.
 #[tactic(auto, unfolding(reference::specs::ShortMemory::load_literal_word))]
-pub(crate) fn load_literal_word(t: Register, words: u8) -> Decoded
+pub fn load_literal_word(t: Register, words: u8) -> Decoded
     ensures { result ≡ load_literal_word t words }
 {
     short(Instruction::LoadLiteral(LoadLiteral {
@@ -98,7 +98,7 @@ fn load_register(size: Size, signed: bool, t: Register, n: Register, m: Register
 
 /// A store at a register and an offset.
 #[tactic(auto, unfolding(reference::specs::ShortMemory::store_number))]
-pub(crate) fn store_number(size: Size, t: Register, n: Register, offset: u32) -> Decoded
+pub fn store_number(size: Size, t: Register, n: Register, offset: u32) -> Decoded
     ensures { result ≡ store_number size t n offset }
 {
     short(Instruction::StoreImmediate(StoreImmediate {
@@ -111,7 +111,7 @@ pub(crate) fn store_number(size: Size, t: Register, n: Register, offset: u32) ->
 
 /// A load at a register and an offset.
 #[tactic(auto, unfolding(reference::specs::ShortMemory::load_number))]
-pub(crate) fn load_number(size: Size, t: Register, n: Register, offset: u32) -> Decoded
+pub fn load_number(size: Size, t: Register, n: Register, offset: u32) -> Decoded
     ensures { result ≡ load_number size t n offset }
 {
     short(Instruction::LoadImmediate(LoadImmediate {
@@ -127,7 +127,7 @@ pub(crate) fn load_number(size: Size, t: Register, n: Register, offset: u32) -> 
 
 /// PUSH of registers from R0 to R7, and of LR.
 #[tactic(auto, unfolding(reference::specs::ShortMemory::push))]
-pub(crate) fn push(lr: u16, list: u8) -> Decoded
+pub fn push(lr: u16, list: u8) -> Decoded
     requires { lr < 2 }
     ensures { result ≡ push lr list }
 {
@@ -148,7 +148,7 @@ pub(crate) fn push(lr: u16, list: u8) -> Decoded
 
 /// POP of registers from R0 to R7, and of PC.
 #[tactic(auto, unfolding(reference::specs::ShortMemory::pop))]
-pub(crate) fn pop(pc: u16, list: u8) -> Decoded
+pub fn pop(pc: u16, list: u8) -> Decoded
     requires { pc < 2 }
     ensures { result ≡ pop pc list }
 {
@@ -168,16 +168,9 @@ pub(crate) fn pop(pc: u16, list: u8) -> Decoded
     )
 }
 
-/// Whether a register is in a list, and not its lowest.
-fn is_above_lowest(n: Register, list: u16) -> bool
-    ensures { result ≡ is_above_lowest n list }
-{
-    is_in_list(n, list) && list % (1 << n.number()) != 0
-}
-
 /// STM, which writes back always.
 #[tactic(auto, unfolding(reference::specs::ShortMemory::store_list))]
-pub(crate) fn store_list(n: Register, list: u8) -> Decoded
+pub fn store_list(n: Register, list: u8) -> Decoded
     ensures { result ≡ store_list n list }
 {
     let instruction = Instruction::StoreMultiple(StoreMultiple {
@@ -201,7 +194,7 @@ pub(crate) fn store_list(n: Register, list: u8) -> Decoded
 
 /// LDM, which writes back where the base isn't in the list.
 #[tactic(auto, unfolding(reference::specs::ShortMemory::load_list))]
-pub(crate) fn load_list(n: Register, list: u8) -> Decoded
+pub fn load_list(n: Register, list: u8) -> Decoded
     ensures { result ≡ load_list n list }
 {
     let instruction = Instruction::LoadMultiple(LoadMultiple {

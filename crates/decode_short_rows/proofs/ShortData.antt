@@ -1,6 +1,7 @@
 -- ShortData: what a halfword means by the tests that the code makes, one lemma for each row and way to it.
 use Rattle.std.proofs.Common.{◌≡◌, ◌≢◌, ℕ, ◌+◌, ◌*◌, ◌<◌, true, false, [], ◌∷◌, refl, arith}
 use Rattle.reference.specs.declared.access.Size.TheVariants.{Byte, Halfword}
+use Rattle.reference.specs.declared.instruction.Decoded.TheVariants.{Undefined}
 use Rattle.reference.specs.declared.operands.Comparison.TheVariants.{Test, Compare, CompareNegative}
 use Rattle.reference.specs.declared.operands.DataOperation.TheVariants.{And, BitClear, Or, ExclusiveOr, Add, AddWithCarry, SubtractWithCarry, Subtract, ReverseSubtract}
 use Rattle.reference.specs.declared.operands.Rearrangement.TheVariants.{ReverseWord, ReverseHalfwords, ReverseSignedHalfword}
@@ -9,7 +10,7 @@ use Rattle.reference.specs.Words.{bits}
 use Rattle.reference.specs.Decoding.{short_meaning}
 use Rattle.reference.specs.ShortData.{move_low, shift_number, shift_register, data_registers, data_number, move_number, move_not, compare_number, compare_registers, multiply, add_high, compare_high, move_high, address, sp_number, extend, rearrange, mov_register_t2, lsl_immediate_t1, lsr_immediate_t1, asr_immediate_t1, add_register_t1, sub_register_t1, add_immediate_t1, sub_immediate_t1, mov_immediate_t1, cmp_immediate_t1, add_immediate_t2, sub_immediate_t2, and_register_t1, eor_register_t1, lsl_register_t1, lsr_register_t1, asr_register_t1, adc_register_t1, sbc_register_t1, ror_register_t1, tst_register_t1, rsb_immediate_t1, cmp_register_t1, cmn_register_t1, orr_register_t1, mul_t1, bic_register_t1, mvn_register_t1, add_register_t2, cmp_register_t2, mov_register_t1, adr_t1, add_sp_immediate_t1, add_sp_immediate_t2, sub_sp_immediate_t1, sxth_t1, sxtb_t1, uxth_t1, uxtb_t1, rev_t1, rev16_t1, revsh_t1}
 use Rattle.encodings.proofs.Known.{test, bits_small}
-use Rattle.encodings.proofs.Halfwords.{short_row}
+use Rattle.encodings.proofs.Halfwords.{short_row, short_none}
 
 pub mov_register_t2_means : (x : ℕ)
     → bits x 11 5 ≡ 0
@@ -350,3 +351,13 @@ pub revsh_t1_means : (x : ℕ)
     → short_meaning x ≡ rearrange ReverseSignedHalfword (bits x 0 3) (bits x 3 3)
 revsh_t1_means x q1 q2 q3 =
     short_row revsh_t1 (test 11 5 23 ∷ test 8 3 2 ∷ test 6 2 3 ∷ []) [] x refl refl (q1, (q2, (q3, tt))) tt
+
+pub reverse_none : (x : ℕ)
+    → bits x 11 5 ≡ 23
+    → bits x 8 3 ≡ 2
+    → bits x 6 2 ≢ 0
+    → bits x 6 2 ≢ 1
+    → bits x 6 2 ≢ 3
+    → short_meaning x ≡ Undefined
+reverse_none x q1 q2 q3 q4 q5 =
+    short_none (test 11 5 23 ∷ test 8 3 2 ∷ []) ((test 6 2 0 ∷ []) ∷ (test 6 2 1 ∷ []) ∷ (test 6 2 3 ∷ []) ∷ []) x refl refl (q1, (q2, tt)) ((λ p. q3 p.0), ((λ p. q4 p.0), ((λ p. q5 p.0), tt)))

@@ -1,0 +1,3 @@
+pub mod ShortData
+pub mod ShortMemory
+pub mod RowsTop
