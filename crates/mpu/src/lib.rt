@@ -11,6 +11,4 @@ mod rules;
 pub use decider::{Decider, Search};
 pub use reference::access::{Decision, Kind, Rule};
 pub use reference::mpu::{MpuRegister, MpuStop, Region};
-pub use regions::{matches, size};
 pub use registers::{MpuRegs, register_at, stop_of};
-pub use rules::{Rights, before_regions, by_region, without_region};
