@@ -6,9 +6,11 @@ use std::test::*;
 
 /// Whether a machine goes on by a step that tells one event, of this line.
 fn tells(machine: &mut Slow, events: &mut Events, line: &str) -> bool {
-    machine.step(events).is_none()
-        && events.len() == 1
-        && event_line(&events[0]).as_slice() == line.as_bytes()
+    if machine.step(events).is_some() || events.len() != 1 {
+        return false;
+    }
+    let told = events.as_slice();
+    event_line(&told[0]).as_slice() == line.as_bytes()
 }
 
 /// Whether a machine stops, or has stopped, by a step that tells so many events.
