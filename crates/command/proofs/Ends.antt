@@ -73,10 +73,3 @@ no_text bytes false e other = rw e refl
 -- other bytes aren't
 pub bytes_refused : (bytes : List ℕ) (fault : BoardFault) → ¬ IsUtf8 bytes → fault ≡ NotToml → Reads (board_in_file bytes) (Err fault)
 bytes_refused bytes fault other same = rw same (inl (no_text bytes (is_utf8 bytes) refl other))
-
--- a board that isn't read ends the run
-pub board_ends : (image : List Segment) (board : Result Described BoardFault) (steps : ℕ) (fault : BoardFault) → Reads board (Err fault) → Executes (Ok image) board steps (Err (Board fault))
-board_ends image (Ok board) steps fault (inl other) = absurd cc
-board_ends image (Ok board) steps fault (inr wanting) = inr cc
-board_ends image (Err refusal) steps fault (inl same) = inl cc
-board_ends image (Err refusal) steps fault (inr wanting) = inr cc
