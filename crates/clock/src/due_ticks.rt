@@ -1,8 +1,8 @@
 //! How a clock counts: on each tick, or only where something is due.
 
-ghost use Rattle.std.specs.Prelude.{◌≡◌, ℕ, ◌+◌, ◌^◌, ◌≤◌, Option, None, true, IfSome};
+ghost use Rattle.std.specs.Prelude.{◌≡◌, ℕ, ◌+◌, ◌^◌, ◌<◌, ◌≤◌, Option, None, true, IfSome};
 ghost use Rattle.clock.specs.Kept.{is_before};
-ghost use Rattle.reference.specs.Time.{SysTick as Timer, next_current, next_due, reset_systick};
+ghost use Rattle.reference.specs.Time.{SysTick as Timer, counted, next_current, next_due, reset_systick};
 
 use crate::timer::SysTick;
 use std::marker::Model;
@@ -40,6 +40,14 @@ pub trait DueTicks: Drop {
         requires bounded { now ≤ 2 ^ 48 }
         ensures { result ≡ systick_at self.now now };
 
+    /// SysTick counts once, to the tick after this one. The script goes on at `next_event`.
+    fn count(&mut self, now: u64, next_event: u64)
+        requires known { since self.old ≤ now }
+        requires bounded { now < 2 ^ 48 }
+        ensures systick { systick_at self.new (now + 1) ≡ counted (systick_at self.old now) }
+        ensures since { since self.new ≤ now + 1 }
+        ensures due { IfSome (due self.new) (λ tick. tick ≡ next_due (now + 1) (counted (systick_at self.old now)) next_event) };
+
     /// SysTick is what is given at a tick, and the script goes on at another.
     fn set(&mut self, now: u64, systick: SysTick, next_event: u64)
         requires { now ≤ 2 ^ 48 }
@@ -75,6 +83,11 @@ impl DueTicks for Counting {
     #[inline]
     fn systick(&self, _now: u64) -> SysTick {
         self.systick
+    }
+
+    #[inline]
+    fn count(&mut self, _now: u64, _next_event: u64) {
+        self.systick.count();
     }
 
     #[inline]

@@ -2,9 +2,9 @@
 //! timer, SysTick"; the rest is this project's profile).
 #![tactic(auto)]
 
-ghost use Rattle.std.specs.Prelude.{◌≡◌, ◌^◌, ◌<◌, ◌≤◌, false};
+ghost use Rattle.std.specs.Prelude.{◌≡◌, ◌+◌, ◌^◌, ◌<◌, ◌≤◌, false};
 ghost use Rattle.clock.specs.Kept.{IsRight, IsQuiet};
-ghost use Rattle.reference.specs.Time.{after_tick, tick_pends, event_applies_next, passed, is_high, start_time, csr, after_csr_read, with_csr, with_rvr, with_cvr_cleared, IsSetOf};
+ghost use Rattle.reference.specs.Time.{after_tick, counted, tick_pends, event_applies_next, passed, is_high, start_time, csr, after_csr_read, with_csr, with_rvr, with_cvr_cleared, IsSetOf};
 
 mod due_ticks;
 pub mod laws;
@@ -89,7 +89,10 @@ impl<U: DueTicks> Clock<U> {
         requires { self.now.time.ticks < 2 ^ 48 }
         ensures { result ≡ event_applies_next self.now.time }
     {
-        script::script_due(&self.script[self.done..]) <= self.ticks + 1
+        match self.script[self.done..].first() {
+            Some(event) => event.at <= self.ticks + 1,
+            None => false,
+        }
     }
 
     /// What the next tick would pend. It is asked of a clock that isn't at its end, as is `tick`.
@@ -150,10 +153,7 @@ impl<U: DueTicks> Clock<U> {
         ensures time { self.new.time ≡ after_tick self.old.time }
         ensures right { IsRight self.new }
     {
-        let mut counted = self.systick();
-        counted.count();
-        self.ticks += 1;
-        self.set_systick(counted);
+        self.count_on();
     }
 
     /// A tick that isn't passed over.
@@ -163,13 +163,22 @@ impl<U: DueTicks> Clock<U> {
         ensures time { self.new.time ≡ after_tick self.old.time }
         ensures right { IsRight self.new }
     {
-        let mut systick = self.systick();
-        systick.count();
-        self.ticks += 1;
-        let count = script::due_count(self.ticks, &self.script[self.done..]);
+        let count = script::due_count(self.ticks + 1, &self.script[self.done..]);
         lines::take_events(&mut self.high, &self.script[self.done..self.done + count]);
         self.done += count;
-        self.set_systick(systick);
+        self.count_on();
+    }
+
+    /// The clock and SysTick go on by one, after the events of that tick.
+    #[inline]
+    fn count_on(&mut self)
+        requires { self.old.time.ticks < 2 ^ 48 }
+        ensures time { self.new.time ≡ record self.old.time { ticks = self.old.time.ticks + 1; systick = counted self.old.time.systick } }
+        ensures right { IsRight self.new }
+    {
+        let next_event = script::script_due(&self.script[self.done..]);
+        self.timer.count(self.ticks, next_event);
+        self.ticks += 1;
     }
 
     /// A read of SYST_CSR, SysTick's Control and Status Register. It clears COUNTFLAG.

@@ -67,10 +67,12 @@ impl SysTick {
     pub(crate) fn count(&mut self)
         ensures { self.new ≡ counted self.old }
     {
-        if self.reaches_zero() {
-            self.countflag = true;
+        if self.enable {
+            if self.reaches_zero() {
+                self.countflag = true;
+            }
+            self.current = self.next_current();
         }
-        self.current = self.next_current();
     }
 
     /// CVR after the next count.

@@ -1,6 +1,8 @@
 -- The values that were read, joined from the last one on.
-use Rattle.std.proofs.Common.{◌≡◌, ℕ, suc, ◌+◌, ◌*◌, ◌%◌, ◌^◌, ◌<◌, List, ◌∷◌, length, drop, get_or, refl, arith}
+use Rattle.std.proofs.Common.{Bool, true, false, ◌≡◌, ℕ, suc, ◌+◌, ◌*◌, ◌%◌, ◌^◌, ◌<◌, List, [], ◌∷◌, length, drop, get_or, refl, arith}
 use Rattle.std.proofs.Math.Seq.{drop-cons, drop-length}
+use Rattle.std.specs.Prelude.{nat_lt, if◌then◌else◌}
+use Rattle.reference.specs.Fields.{extended}
 use Rattle.reference.specs.Transfers.{joined}
 
 -- none of them makes 0
@@ -19,3 +21,21 @@ front_joined value values = refl
 pub next_joined : (values : List ℕ) (place number d : ℕ) → place < length values → number ≡ joined (drop (suc place) values) → (number * 256 % 2 ^ 32 + get_or values place d) % 2 ^ 32 ≡ joined (drop place values)
 next_joined values place number d below e =
     rw (drop-cons values place d below, front_joined, e, sum_joined) refl
+
+-- one value makes itself
+pub one_joined : (values : List ℕ) → length values ≡ 1 → get_or values 0 0 < 2 ^ 32 → get_or values 0 0 ≡ joined values
+unfolding joined
+one_joined [] one small = absurd (omega arith)
+one_joined (value ∷ []) one small = omega arith
+one_joined (value ∷ (other ∷ values)) one small = absurd (omega arith)
+
+both_same : (b : Bool) (number : ℕ) → (if b then number else number + 0) ≡ number
+both_same true number = refl
+both_same false number = omega arith
+
+-- a word is extended by no bit
+pub whole_word : (is_signed : Bool) (number : ℕ) → number < 2 ^ 32 → extended is_signed 32 number ≡ number
+whole_word true number small =
+    let whole : number % 2 ^ 32 ≡ number = omega arith in
+    rw whole (both_same (nat_lt number (2 ^ 31)) number)
+whole_word false number small = omega arith

@@ -101,7 +101,7 @@ fn by_register(regs: &mut Regs, length: u8, operands: &MoveRegister) -> Ending
 // ---- loads and stores
 
 /// A load that leaves its base.
-#[inline]
+#[inline(always)]
 fn load(regs: &mut Regs, length: u8, form: LoadForm, target: Register, values: &[u32]) -> Ending
     ensures { finished_as regs.new result ≡ loads_into length target (loaded_value form values.now) regs.old }
 {

@@ -4,6 +4,8 @@
 ghost use Rattle.std.specs.Prelude.{◌≡◌, ◌≤◌, [], length};
 ghost use Rattle.exec.specs.Plans.{planned};
 ghost use Rattle.reference.specs.LongSeveral.{writes_back};
+ghost use Rattle.reference.specs.Kinds.{bytes_in};
+ghost use Rattle.reference.specs.Memory.{bytes_of};
 ghost use Rattle.reference.specs.Transfers.{offset_address, immediate_address, with_base, register_address, literal_address, transfer, byte_requests, unaligned, meets_device, is_made_privileged, load, joined, loaded_value};
 
 use crate::planning::Requests;
@@ -106,9 +108,8 @@ pub fn load(
     transfer(Kind::Load, privileged, form.size, address, 0, requests)
 }
 
-/// The accesses of a load or a store. An unaligned one is made byte by byte, and stops before any
-/// byte where it meets a device.
-#[inline]
+/// The accesses of a load or a store.
+#[inline(always)]
 #[tactic(auto, unfolding(reference::specs::Transfers::transfer))]
 pub fn transfer(
     kind: Kind,
@@ -121,16 +122,34 @@ pub fn transfer(
     requires { requests.old.items ≡ [] }
     ensures { planned requests.new result ≡ transfer kind privileged size address value }
 {
-    if address % size.bytes() == 0 {
-        requests.push(Request {
-            address,
-            value,
-            kind,
-            size,
-            privileged,
-        });
-        return Ok(());
+    if address % size.bytes() != 0 {
+        return transfer_by_bytes(kind, privileged, size, address, value, requests);
     }
+    requests.push(Request {
+        address,
+        value,
+        kind,
+        size,
+        privileged,
+    });
+    Ok(())
+}
+
+/// The accesses of an unaligned load or store, which is made byte by byte. It stops before any byte
+/// where it meets a device.
+#[cold]
+#[inline(never)]
+fn transfer_by_bytes(
+    kind: Kind,
+    privileged: bool,
+    size: Size,
+    address: u32,
+    value: u32,
+    requests: &mut Requests,
+) -> Result<(), Stop>
+    requires { requests.old.items ≡ [] }
+    ensures { planned requests.new result ≡ unaligned (byte_requests kind privileged address (bytes_of (bytes_in size) value)) }
+{
     let bytes = value.to_le_bytes();
     match size {
         Size::Byte => ask_for_bytes(kind, privileged, address, &bytes[..1], requests),
@@ -185,7 +204,20 @@ fn meets_device(requests: &[Request]) -> bool
 
 /// The number that the values read make: one value, or bytes of which the lowest stands first.
 #[inline]
+#[tactic(auto, using(crate::proofs::Joining::one_joined))]
 pub fn joined(values: &[u32]) -> u32
+    ensures { result ≡ joined values.now }
+{
+    if values.len() == 1 {
+        return values[0];
+    }
+    joined_bytes(values)
+}
+
+/// The number of bytes, of which the lowest stands first.
+#[cold]
+#[inline(never)]
+fn joined_bytes(values: &[u32]) -> u32
     ensures { result ≡ joined values.now }
 {
     let mut number: u32 = 0;
@@ -195,11 +227,15 @@ pub fn joined(values: &[u32]) -> u32
     number
 }
 
-/// What a load gives its register.
+/// What a load gives its register. A word has no bit that is extended.
 #[inline]
-#[tactic(auto, unfolding(reference::specs::Transfers::loaded_value))]
+#[tactic(auto, unfolding(reference::specs::Transfers::loaded_value), using(crate::proofs::Joining::whole_word))]
 pub fn loaded_value(form: LoadForm, values: &[u32]) -> u32
     ensures { result ≡ loaded_value form values.now }
 {
-    extended(form.signed, width_of(form.size), joined(values))
+    let number = joined(values);
+    if form.size.is_word() {
+        return number;
+    }
+    extended(form.signed, width_of(form.size), number)
 }

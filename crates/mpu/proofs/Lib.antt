@@ -1,5 +1,6 @@
 pub mod Belonging
 pub mod Cases
+pub mod Eighths
 pub mod Owner
 mod Sound
 pub mod Writes

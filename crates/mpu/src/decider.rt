@@ -1,8 +1,8 @@
 //! What decides an access by the registers of the MPU, however it keeps them.
 
 ghost use Rattle.std.specs.Prelude.{◌≡◌};
-ghost use Rattle.reference.specs.Regions.{Mpu};
-ghost use Rattle.reference.specs.Rules.{decision_of};
+ghost use Rattle.reference.specs.Regions.{Mpu, owner};
+ghost use Rattle.reference.specs.Rules.{by_owner, decision_of};
 
 use crate::registers::MpuRegs;
 use crate::rules::{Rights, before_regions, by_region, without_region};
@@ -46,20 +46,28 @@ impl Decider for Search {
         self.registers = *registers;
     }
 
-    #[inline]
+    #[inline(always)]
     #[tactic(auto, unfolding(reference::specs::Rules::decision_of))]
     fn decide(&self, address: u32, kind: Kind, privileged: bool, below_zero: bool) -> Decision {
         let registers = &self.registers;
-        let control = registers.control();
-        if let Some(decision) = before_regions(control, address, kind, below_zero) {
-            return decision;
+        match before_regions(registers.control(), address, kind, below_zero) {
+            Some(decision) => decision,
+            None => by_regions(registers, address, kind, privileged),
         }
-        match registers.owner(address) {
-            Some(number) => {
-                let rights = Rights::of(registers.at(number).attributes);
-                by_region(number, rights, kind, privileged)
-            }
-            None => without_region(control, address, kind, privileged),
+    }
+}
+
+/// The decision of the regions: of the highest one to which an address belongs, or of what is behind
+/// them.
+#[inline(never)]
+fn by_regions(registers: &MpuRegs, address: u32, kind: Kind, privileged: bool) -> Decision
+    ensures { result ≡ by_owner registers.now kind address privileged (owner registers.now address) }
+{
+    match registers.owner(address) {
+        Some(number) => {
+            let rights = Rights::of(registers.at(number).attributes);
+            by_region(number, rights, kind, privileged)
         }
+        None => without_region(registers.control(), address, kind, privileged),
     }
 }

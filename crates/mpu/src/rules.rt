@@ -14,6 +14,9 @@ use reference::map::is_in_ppb;
 /// Where the system address space begins, in which no code stands.
 const SYSTEM_BASE: u32 = 0xE000_0000;
 
+/// The eighths of the address space in which the default memory map lets code stand, a bit for each.
+const EXECUTABLE: u32 = 0b0001_1011;
+
 /// The bit of RASR for XN.
 const XN: u32 = 28;
 
@@ -61,10 +64,11 @@ fn default_map(address: u32, kind: Kind) -> bool
 
 /// Whether the default memory map lets code stand at an address, by bits 31:29.
 #[inline]
+#[tactic(auto, using(crate::proofs::Eighths::executable_bits))]
 fn is_executable(address: u32) -> bool
     ensures { result ≡ is_executable address }
 {
-    matches!(address >> 29, 0 | 1 | 3 | 4)
+    is_bit(EXECUTABLE, address >> 29)
 }
 
 /// What a region grants: the fields AP and XN of its RASR.

@@ -82,7 +82,7 @@ impl<O: Out + Drop> Out for Paged<O> {
         if events.is_empty() {
             return Ok(());
         }
-        if self.at != 0 || self.page.len() > ALMOST_FULL {
+        if self.page.len() > ALMOST_FULL {
             match self.flush() {
                 Ok(()) => {}
                 Err(fault) => return Err(fault),

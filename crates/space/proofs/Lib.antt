@@ -1,1 +1,2 @@
+pub mod Apart
 mod Blocks

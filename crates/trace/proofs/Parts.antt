@@ -14,9 +14,9 @@ pub tick_and_tail : (page : List ℕ) (e : Event) → (page ++ decimal e.tick) +
 unfolding line tail
 tick_and_tail page e = simp append_assoc
 
--- the tail of an access is its head, its outcome and its rule
+-- the tail of an access is its head with its outcome, and its rule
 pub head_and_rule : (page : List ℕ) (a : Access) →
-    ((page ++ access_head a) ++ (outcome_text a.outcome ++ codes " ")) ++ (rule_text a.rule ++ line_feed) ≡ page ++ tail (Accessed a)
+    (page ++ (access_head a ++ (outcome_text a.outcome ++ codes " "))) ++ (rule_text a.rule ++ line_feed) ≡ page ++ tail (Accessed a)
 unfolding access_head tail
 head_and_rule page a = simp append_assoc
 

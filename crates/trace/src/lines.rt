@@ -16,6 +16,9 @@ use reference::stop::Stop;
 /// The most bytes behind the tick of a line. A tick takes 21 bytes at most, so a line takes 64.
 const TAIL_ROOM: usize = 43;
 
+/// The most bytes between the tick of an access and its rule.
+const HEAD_ROOM: usize = 20;
+
 /// The most bytes of a rule and the line feed behind it.
 const RULE_ROOM: usize = 22;
 
@@ -57,7 +60,8 @@ impl<const ROOM: usize> Page<ROOM> {
         }
     }
 
-    /// Appends the line of an event. The digits of its tick are counted on from those in `tick`.
+    /// Appends the line of an event. Most are accesses, so these are asked for first. `tick` keeps the
+    /// digits of its tick for the next line.
     #[inline(always)]
     #[tactic(auto, using(crate::proofs::Parts::tick_and_tail))]
     pub fn put_event(&mut self, tick: &mut Tick, event: &Event)
@@ -65,9 +69,11 @@ impl<const ROOM: usize> Page<ROOM> {
         ensures text { self.new ≡ self.old ++ line event.now }
         ensures short { length self.new ≤ length self.old + 64 }
     {
-        tick.set(event.tick);
-        tick.put_on(self);
-        self.put_tail(&event.what);
+        tick.put_on(event.tick, self);
+        match &event.what {
+            Happening::Accessed(access) => self.put_access(access),
+            what => self.put_tail(what),
+        }
     }
 
     /// Appends the line of a stop.
@@ -108,7 +114,8 @@ impl<const ROOM: usize> Page<ROOM> {
     }
 
     /// Appends all of a line but its tick.
-    #[inline(always)]
+    #[cold]
+    #[inline(never)]
     fn put_tail(&mut self, what: &Happening)
         requires { length self.old + TAIL_ROOM ≤ ROOM }
         ensures text { self.new ≡ self.old ++ tail what.now }
@@ -131,9 +138,35 @@ impl<const ROOM: usize> Page<ROOM> {
         ensures text { self.new ≡ self.old ++ tail (Accessed access.now) }
         ensures short { length self.new ≤ length self.old + TAIL_ROOM }
     {
+        self.put_head(access);
+        self.put_rule(access.rule);
+    }
+
+    /// Appends what stands between the tick and the rule in the line of an access. Most accesses are
+    /// done, so that is one piece of text.
+    #[inline(always)]
+    fn put_head(&mut self, access: &Access)
+        requires { length self.old + HEAD_ROOM ≤ ROOM }
+        ensures text { self.new ≡ self.old ++ (access_head access.now ++ (outcome_text access.now.outcome ++ codes " ")) }
+        ensures short { length self.new ≤ length self.old + HEAD_ROOM }
+    {
+        match access.outcome {
+            Outcome::Done => self.put(&done_head_of(access)),
+            _ => self.put_rare_head(access),
+        }
+    }
+
+    /// Appends what stands between the tick and the rule in the line of any access.
+    #[cold]
+    #[inline(never)]
+    #[tactic(auto, using(std::proofs::lemmas::List::append_assoc))]
+    fn put_rare_head(&mut self, access: &Access)
+        requires { length self.old + HEAD_ROOM ≤ ROOM }
+        ensures text { self.new ≡ self.old ++ (access_head access.now ++ (outcome_text access.now.outcome ++ codes " ")) }
+        ensures short { length self.new ≤ length self.old + HEAD_ROOM }
+    {
         self.put(&head_of(access));
         self.put_outcome(access.outcome);
-        self.put_rule(access.rule);
     }
 
     /// Appends an outcome and a space.
@@ -150,40 +183,43 @@ impl<const ROOM: usize> Page<ROOM> {
         }
     }
 
-    /// Appends a rule and a line feed.
+    /// Appends a rule and a line feed. The MPU is off, or a region below 10 decides, in most lines.
     #[inline(always)]
+    #[tactic(auto, using(std::proofs::lemmas::Fmt::decimal_digit))]
     fn put_rule(&mut self, rule: Rule)
         requires { length self.old + RULE_ROOM ≤ ROOM }
         ensures text { self.new ≡ self.old ++ (rule_text rule ++ line_feed) }
         ensures short { length self.new ≤ length self.old + RULE_ROOM }
     {
         match rule {
-            Rule::NeverExecute => self.put(b"xn\n"),
-            Rule::VectorRead => self.put(b"vec\n"),
-            Rule::PrivatePeripheralBus => self.put(b"ppb\n"),
             Rule::MpuOff => self.put(b"off\n"),
-            Rule::NegativePriority => self.put(b"neg\n"),
-            Rule::Region(number) => self.put_region(number),
-            Rule::Background => self.put(b"bg\n"),
-            Rule::NoRegion => self.put(b"none\n"),
+            Rule::Region(number) if number < 10 => self.put(&[b'r', b'0' + number, b'\n']),
+            _ => self.put_rare_rule(rule),
         }
     }
 
-    /// Appends a region's number and a line feed.
-    #[inline(always)]
-    #[tactic(auto, using(std::proofs::lemmas::Fmt::decimal_digit))]
-    fn put_region(&mut self, number: u8)
+    /// Appends any rule and a line feed.
+    #[cold]
+    #[inline(never)]
+    fn put_rare_rule(&mut self, rule: Rule)
         requires { length self.old + RULE_ROOM ≤ ROOM }
-        ensures text { self.new ≡ self.old ++ ((codes "r" ++ decimal number) ++ line_feed) }
+        ensures text { self.new ≡ self.old ++ (rule_text rule ++ line_feed) }
         ensures short { length self.new ≤ length self.old + RULE_ROOM }
     {
-        if number < 10 {
-            self.put(&[b'r', b'0' + number, b'\n']);
-        } else {
-            self.put(b"r");
-            self.put_decimal(number as u64);
-            self.put(b"\n");
+        match rule {
+            Rule::NeverExecute => self.put(b"xn"),
+            Rule::VectorRead => self.put(b"vec"),
+            Rule::PrivatePeripheralBus => self.put(b"ppb"),
+            Rule::MpuOff => self.put(b"off"),
+            Rule::NegativePriority => self.put(b"neg"),
+            Rule::Region(number) => {
+                self.put(b"r");
+                self.put_decimal(number as u64);
+            }
+            Rule::Background => self.put(b"bg"),
+            Rule::NoRegion => self.put(b"none"),
         }
+        self.put(b"\n");
     }
 
     /// Appends the line of a byte that went out, but for its tick.
@@ -241,7 +277,6 @@ impl<const ROOM: usize> Page<ROOM> {
 
 /// What has the same length in the line of each access, from the space behind the tick to the one
 /// before the outcome.
-#[inline(always)]
 fn head_of(access: &Access) -> [u8; 16]
     ensures { result ≡ access_head access.now }
 {
@@ -252,5 +287,20 @@ fn head_of(access: &Access) -> [u8; 16]
     [
         b' ', kind, b' ', a[0], a[1], a[2], a[3], a[4], a[5], a[6], a[7], b' ', size, b' ',
         privilege, b' ',
+    ]
+}
+
+/// The same of an access that was done, with its outcome and the space behind it.
+#[inline(always)]
+fn done_head_of(access: &Access) -> [u8; 19]
+    ensures { result ≡ access_head access.now ++ (codes "ok" ++ codes " ") }
+{
+    let kind = kind_letter(access.kind);
+    let a = hex::word(access.address);
+    let size = size_digit(access.size);
+    let privilege = privilege_letter(access.privileged);
+    [
+        b' ', kind, b' ', a[0], a[1], a[2], a[3], a[4], a[5], a[6], a[7], b' ', size, b' ',
+        privilege, b' ', b'o', b'k', b' ',
     ]
 }

@@ -77,7 +77,7 @@ impl<const ROOM: usize> Page<ROOM> {
     {
         let at = self.len;
         let bytes = &mut self.bytes[..];
-        bytes[at..at + COUNT].copy_from_slice(text);
+        write_over(&mut bytes[at..at + COUNT], text);
         self.len = at + COUNT;
     }
 
@@ -92,7 +92,7 @@ impl<const ROOM: usize> Page<ROOM> {
     {
         let at = self.len;
         let bytes = &mut self.bytes[..];
-        bytes[at..at + COUNT].copy_from_slice(text);
+        write_over(&mut bytes[at..at + COUNT], text);
         self.len = at + count;
     }
 
@@ -115,5 +115,16 @@ impl<const ROOM: usize> Page<ROOM> {
     {
         let mut buffer = Buffer::new();
         self.put_slice(buffer.format(number).as_bytes());
+    }
+}
+
+/// Writes text over as many bytes. The number is known when the program is built, so a few stores do it.
+#[inline(always)]
+fn write_over<const COUNT: usize>(bytes: &mut [u8], text: &[u8; COUNT])
+    requires { length bytes.old ≡ COUNT }
+    ensures { bytes.new ≡ text.now }
+{
+    if let Some(whole) = bytes.as_mut_array::<COUNT>() {
+        *whole = *text;
     }
 }
