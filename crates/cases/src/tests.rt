@@ -105,64 +105,33 @@ impl Rows for Cases {
     }
 }
 
-/// Fails with the first case of a table that leaves something else.
-fn check_cases(table: &str) -> Result<(), Fail> {
-    check_between(table, BETWEEN, &mut Cases)
-}
-
 #[test]
 fn edges_worked_by_hand() -> Result<(), Fail> {
-    check_cases(EDGES)
+    check_between(EDGES, BETWEEN, &mut Cases)
 }
 
 #[test]
-fn edges_of_sums() -> Result<(), Fail> {
-    check_cases(SUMS)
+fn edges_of_data_processing() -> Result<(), Fail> {
+    for table in [SUMS, MOVES, PRODUCTS, FIELDS] {
+        check_between(table, BETWEEN, &mut Cases)?;
+    }
+    Ok(())
 }
 
 #[test]
-fn edges_of_moves() -> Result<(), Fail> {
-    check_cases(MOVES)
-}
-
-#[test]
-fn edges_of_products() -> Result<(), Fail> {
-    check_cases(PRODUCTS)
-}
-
-#[test]
-fn edges_of_fields() -> Result<(), Fail> {
-    check_cases(FIELDS)
-}
-
-#[test]
-fn short_data_of_other_machines() -> Result<(), Fail> {
-    check_cases(SHORT_DATA)
-}
-
-#[test]
-fn short_others_of_other_machines() -> Result<(), Fail> {
-    check_cases(SHORT_OTHERS)
-}
-
-#[test]
-fn long_data_of_other_machines_first() -> Result<(), Fail> {
-    check_cases(LONG_DATA_FIRST)
-}
-
-#[test]
-fn long_data_of_other_machines_second() -> Result<(), Fail> {
-    check_cases(LONG_DATA_SECOND)
-}
-
-#[test]
-fn long_others_of_other_machines_first() -> Result<(), Fail> {
-    check_cases(LONG_OTHERS_FIRST)
-}
-
-#[test]
-fn long_others_of_other_machines_second() -> Result<(), Fail> {
-    check_cases(LONG_OTHERS_SECOND)
+fn cases_of_other_machines() -> Result<(), Fail> {
+    let tables = [
+        SHORT_DATA,
+        SHORT_OTHERS,
+        LONG_DATA_FIRST,
+        LONG_DATA_SECOND,
+        LONG_OTHERS_FIRST,
+        LONG_OTHERS_SECOND,
+    ];
+    for table in tables {
+        check_between(table, BETWEEN, &mut Cases)?;
+    }
+    Ok(())
 }
 
 /// The name of a stop, where it is one of these.

@@ -54,23 +54,11 @@ impl Rows for Coded {
 }
 
 #[test]
-fn short_instructions() -> Result<(), Fail> {
-    check(SHORT, &mut Coded)
-}
-
-#[test]
-fn long_instructions_that_compute() -> Result<(), Fail> {
-    check(LONG_DATA, &mut Coded)
-}
-
-#[test]
-fn long_instructions_of_control() -> Result<(), Fail> {
-    check(LONG_CONTROL, &mut Coded)
-}
-
-#[test]
-fn other_long_instructions() -> Result<(), Fail> {
-    check(LONG_OTHERS, &mut Coded)
+fn instructions() -> Result<(), Fail> {
+    for table in [SHORT, LONG_DATA, LONG_CONTROL, LONG_OTHERS] {
+        check(table, &mut Coded)?;
+    }
+    Ok(())
 }
 
 /// Encodings that stop for their cause, at their place in an IT block, and neighbours that don't.
