@@ -1,8 +1,10 @@
 //! The numbers of a board.
 
-ghost use Rattle.std.specs.Prelude.{◌≡◌, ◌<◌, ◌+◌, ◌^◌};
+ghost use Rattle.std.specs.Prelude.{◌≡◌, ◌<◌, ◌≤◌, ◌+◌, ◌%◌, ◌^◌};
+ghost use Rattle.std.specs.Bool.{OnTrue};
+ghost use Rattle.reference.specs.Map.{ram_base};
 ghost use Rattle.toml.specs.View.{table_view};
-ghost use Rattle.reference.specs.Boards.{is_whole, is_size, is_flash, numbers_of};
+ghost use Rattle.reference.specs.Boards.{is_whole, is_size, is_flash, is_priority_bits, is_line_count, numbers_of};
 ghost use Rattle.board.specs.Seen.{Gives};
 ghost use Rattle.board.specs.Texts.{numbers_in};
 
@@ -37,11 +39,11 @@ pub fn layout_of(document: &Table) -> Result<Layout, BoardFault>
         return Err(BoardFault::OutOfRange);
     }
     let priority_bits = number(find(document, "priority_bits"))?;
-    if !(3..=8).contains(&priority_bits) {
+    if !is_priority_bits(priority_bits) {
         return Err(BoardFault::OutOfRange);
     }
     let lines = number(find(document, "lines"))?;
-    if lines > MOST_LINES {
+    if !is_line_count(lines) {
         return Err(BoardFault::OutOfRange);
     }
     Ok(Layout {
@@ -55,14 +57,18 @@ pub fn layout_of(document: &Table) -> Result<Layout, BoardFault>
 
 // Whether a number of bytes is one of whole blocks.
 fn is_whole(bytes: u64) -> bool
-    ensures { result ≡ is_whole bytes }
+    ensures test { result ≡ is_whole bytes }
+    ensures whole { OnTrue result (bytes % 1024 ≡ 0) }
 {
     bytes % BLOCK == 0
 }
 
 // Whether flash or RAM can have this many bytes.
 fn is_size(bytes: u64) -> bool
-    ensures { result ≡ is_size bytes }
+    ensures test { result ≡ is_size bytes }
+    ensures whole { OnTrue result (bytes % 1024 ≡ 0) }
+    ensures least { OnTrue result (1024 ≤ bytes) }
+    ensures most { OnTrue result (bytes ≤ 0x10_0000) }
 {
     is_whole(bytes) && BLOCK <= bytes && bytes <= MOST_BYTES
 }
@@ -70,7 +76,28 @@ fn is_size(bytes: u64) -> bool
 // Whether flash can have this many bytes at a base.
 fn is_flash(base: u64, bytes: u64) -> bool
     requires { base < 2 ^ 63 }
-    ensures { result ≡ is_flash base bytes }
+    ensures test { result ≡ is_flash base bytes }
+    ensures apart { OnTrue result (base + bytes ≤ ram_base) }
+    ensures whole { OnTrue result (bytes % 1024 ≡ 0) }
+    ensures least { OnTrue result (1024 ≤ bytes) }
+    ensures most { OnTrue result (bytes ≤ 0x10_0000) }
 {
     is_size(bytes) && base + bytes <= u64::from(RAM_BASE)
+}
+
+// Whether so many bits of a priority can be kept.
+fn is_priority_bits(bits: u64) -> bool
+    ensures test { result ≡ is_priority_bits bits }
+    ensures enough { OnTrue result (3 ≤ bits) }
+    ensures few { OnTrue result (bits ≤ 8) }
+{
+    (3..=8).contains(&bits)
+}
+
+// Whether there can be so many lines.
+fn is_line_count(lines: u64) -> bool
+    ensures test { result ≡ is_line_count lines }
+    ensures few { OnTrue result (lines ≤ 32) }
+{
+    lines <= MOST_LINES
 }
