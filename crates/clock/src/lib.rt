@@ -143,7 +143,6 @@ impl<U: DueTicks> Clock<U> {
 
     /// The next tick, in which no event of the script applies.
     #[inline]
-    #[tactic(auto, using(crate::proofs::Quiet::no_event_next))]
     pub fn pass(&mut self)
         requires bounded { self.old.time.ticks < 2 ^ 48 }
         requires quiet { event_applies_next self.old.time ≡ false }
