@@ -1,7 +1,6 @@
-use Rattle.std.proofs.Common.{rules}
 use Rattle.reference.specs.Products.{divide}
 use Rattle.data_processing.proofs.division.divide.Goals as goal
 
 pub returns : goal.returns
 unfolding divide
-returns c = search rules
+returns c = cc
