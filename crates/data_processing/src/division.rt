@@ -25,7 +25,6 @@ fn quotient(signed: bool, x: u32, y: u32) -> u32
 
 /// SDIV and UDIV.
 #[inline]
-#[tactic(auto, unfolding(reference::specs::Products::divide))]
 pub(crate) fn divide(operands: &Divide, regs: &mut Regs)
     ensures { regs.new ≡ divide operands.now regs.old }
 {

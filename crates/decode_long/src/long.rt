@@ -1,5 +1,6 @@
 //! What two halfwords mean, by the top five bits of the first.
 
+ghost use Rattle.std.specs.Bool.{OnTrue, OnFalse};
 ghost use Rattle.std.specs.Prelude.{◌≡◌, ◌≤◌};
 ghost use Rattle.reference.specs.Decoding.{long_meaning};
 ghost use Rattle.reference.specs.Words.{bits};
@@ -25,13 +26,21 @@ pub fn decode_long(x: u32) -> Decoded
     }
 }
 
+/// Whether a coprocessor would carry it out.
+fn is_of_coprocessor(x: u32) -> bool
+    ensures yes { OnTrue result (bits x 26 1 ≡ 1) }
+    ensures no { OnFalse result (bits x 26 1 ≡ 0) }
+{
+    bits(x, 26, 1) == 1
+}
+
 /// Loads and stores of several registers, and operations on shifted registers.
 #[tactic(auto, using(crate::proofs::LongTop::long_top_lemmas))]
 fn lists_and_registers(x: u32) -> Decoded
     requires { bits x 27 5 ≡ 29 }
     ensures { result ≡ long_meaning x }
 {
-    if bits(x, 26, 1) == 1 {
+    if is_of_coprocessor(x) {
         Decoded::NoCoprocessor
     } else if bits(x, 25, 1) == 1 {
         shifted_registers(x)
@@ -62,7 +71,7 @@ fn single_accesses_and_registers(x: u32) -> Decoded
     requires { bits x 27 5 ≡ 31 }
     ensures { result ≡ long_meaning x }
 {
-    if bits(x, 26, 1) == 1 {
+    if is_of_coprocessor(x) {
         Decoded::NoCoprocessor
     } else if bits(x, 25, 1) == 0 {
         if bits(x, 20, 1) == 1 {

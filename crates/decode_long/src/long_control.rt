@@ -125,7 +125,6 @@ fn barriers(x: u32) -> Decoded
 // ---- what the rows give
 
 /// The offset of BL and of the longer B: `S:I1:I2:imm10:imm11:'0'`.
-#[tactic(auto, unfolding(reference::specs::LongControl::wide_offset))]
 fn wide_offset(x: u32) -> u32
     ensures { result ≡ wide_offset (bits x 26 1) (bits x 13 1) (bits x 11 1) (bits x 16 10) (bits x 0 11) }
 {
@@ -137,7 +136,6 @@ fn wide_offset(x: u32) -> u32
 }
 
 /// The offset of B with a condition: `S:J2:J1:imm6:imm11:'0'`.
-#[tactic(auto, unfolding(reference::specs::LongControl::conditional_offset))]
 fn conditional_offset(x: u32) -> u32
     ensures { result ≡ conditional_offset (bits x 26 1) (bits x 13 1) (bits x 11 1) (bits x 16 6) (bits x 0 11) }
 {

@@ -1,6 +1,6 @@
 //! What a halfword means, by its top five bits.
 
-ghost use Rattle.std.specs.Prelude.{◌≡◌, ◌<◌};
+ghost use Rattle.std.specs.Prelude.{◌≡◌, ◌<◌, ◌*◌};
 ghost use Rattle.reference.specs.Decoding.{short_meaning};
 ghost use Rattle.reference.specs.Words.{bits};
 
@@ -42,8 +42,8 @@ pub fn decode_short(x: u32) -> Decoded
         0b01001 => load_literal_word(high, number),
         0b01010 => stores_at_registers(x),
         0b01011 => loads_at_registers(x),
-        0b01100 => store_number(Size::Word, d, m, bits(x, 6, 5) * 4),
-        0b01101 => load_number(Size::Word, d, m, bits(x, 6, 5) * 4),
+        0b01100 => store_number(Size::Word, d, m, word_offset(x)),
+        0b01101 => load_number(Size::Word, d, m, word_offset(x)),
         0b01110 => store_number(Size::Byte, d, m, bits(x, 6, 5)),
         0b01111 => load_number(Size::Byte, d, m, bits(x, 6, 5)),
         0b10000 => store_number(Size::Halfword, d, m, bits(x, 6, 5) * 2),
@@ -61,6 +61,13 @@ pub fn decode_short(x: u32) -> Decoded
         // 0b11100: above it are the first halfwords of two.
         _ => branch_short(bits(x, 0, 11)),
     }
+}
+
+/// The offset of STR and LDR at a register, which counts words.
+fn word_offset(x: u32) -> u32
+    ensures { result ≡ bits x 6 5 * 4 }
+{
+    bits(x, 6, 5) * 4
 }
 
 /// ADD and SUB of two registers, or of a register and a number of three bits.

@@ -16,8 +16,6 @@ short_general_whole = all_have_places 16 short_general refl
 pub short_general_apart : AreApart short_general
 short_general_apart = all_apart short_general refl
 
-pub ruleset short_laws = (short_special_whole, short_special_apart, short_general_whole, short_general_apart)
-
 pub long_first_whole : HavePlaces 32 long_first
 long_first_whole = all_have_places 32 long_first refl
 
@@ -47,5 +45,3 @@ long_last_whole = all_have_places 32 long_last refl
 
 pub long_last_apart : AreApart long_last
 long_last_apart = all_apart long_last refl
-
-pub ruleset long_laws = (long_first_whole, long_first_apart, long_second_whole, long_second_apart, long_third_whole, long_third_apart, long_general_whole, long_general_apart, long_last_whole, long_last_apart)

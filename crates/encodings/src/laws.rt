@@ -5,21 +5,18 @@ ghost use Rattle.reference.specs.Decoding.{short_special, short_general, long_fi
 ghost use Rattle.encodings.specs.Laws.{HavePlaces, AreApart};
 
 /// Each row of 16 bits has a place for each bit of a halfword.
-#[tactic(auto, using(crate::proofs::RowLaws::short_laws))]
 pub fn short_rows_are_whole()
     ensures special { HavePlaces 16 short_special }
     ensures general { HavePlaces 16 short_general }
 {}
 
 /// No halfword fits two rows of one rank.
-#[tactic(auto, using(crate::proofs::RowLaws::short_laws))]
 pub fn short_rows_are_apart()
     ensures special { AreApart short_special }
     ensures general { AreApart short_general }
 {}
 
 /// Each row of 32 bits has a place for each bit of two halfwords.
-#[tactic(auto, using(crate::proofs::RowLaws::long_laws))]
 pub fn long_rows_are_whole()
     ensures first { HavePlaces 32 long_first }
     ensures second { HavePlaces 32 long_second }
@@ -29,7 +26,6 @@ pub fn long_rows_are_whole()
 {}
 
 /// No two halfwords fit two rows of one rank.
-#[tactic(auto, using(crate::proofs::RowLaws::long_laws))]
 pub fn long_rows_are_apart()
     ensures first { AreApart long_first }
     ensures second { AreApart long_second }
