@@ -156,16 +156,21 @@ impl<const ROOM: usize> Page<ROOM> {
         }
     }
 
-    /// Appends what stands between the tick and the rule in the line of any access.
+    /// Appends what stands between the tick and the rule in the line of any access, piece by piece.
     #[cold]
     #[inline(never)]
-    #[tactic(auto, using(std::proofs::lemmas::List::append_assoc))]
+    #[tactic(auto, unfolding(crate::specs::Tails::access_head))]
     fn put_rare_head(&mut self, access: &Access)
         requires { length self.old + HEAD_ROOM ≤ ROOM }
         ensures text { self.new ≡ self.old ++ (access_head access.now ++ (outcome_text access.now.outcome ++ codes " ")) }
         ensures short { length self.new ≤ length self.old + HEAD_ROOM }
     {
-        self.put(&head_of(access));
+        let kind = kind_letter(access.kind);
+        let size = size_digit(access.size);
+        let privilege = privilege_letter(access.privileged);
+        self.put(&[b' ', kind, b' ']);
+        self.put(&hex::word(access.address));
+        self.put(&[b' ', size, b' ', privilege, b' ']);
         self.put_outcome(access.outcome);
     }
 
@@ -275,22 +280,8 @@ impl<const ROOM: usize> Page<ROOM> {
     }
 }
 
-/// What has the same length in the line of each access, from the space behind the tick to the one
-/// before the outcome.
-fn head_of(access: &Access) -> [u8; 16]
-    ensures { result ≡ access_head access.now }
-{
-    let kind = kind_letter(access.kind);
-    let a = hex::word(access.address);
-    let size = size_digit(access.size);
-    let privilege = privilege_letter(access.privileged);
-    [
-        b' ', kind, b' ', a[0], a[1], a[2], a[3], a[4], a[5], a[6], a[7], b' ', size, b' ',
-        privilege, b' ',
-    ]
-}
-
-/// The same of an access that was done, with its outcome and the space behind it.
+/// What has the same length in the line of each access that was done, from the space behind the tick
+/// to the one before the rule.
 #[inline(always)]
 fn done_head_of(access: &Access) -> [u8; 19]
     ensures { result ≡ access_head access.now ++ (codes "ok" ++ codes " ") }
