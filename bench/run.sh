@@ -1,7 +1,7 @@
 #!/usr/bin/env bash
 # Prints how many steps and lines a second the proved program makes: on two loops, beside a plain C program that does no
-# more than format such lines, and on a real program, beside the same machine without a trace.
-# Usage: bench/run.sh [STEPS] [ROUNDS]
+# more than format such lines, and on a real program, beside the same machine without a trace. Then, by bench/parts.sh,
+# what part of a step decoding and deciding take. Usage: bench/run.sh [STEPS] [ROUNDS]
 set -euo pipefail
 top=$(cd "$(dirname "${BASH_SOURCE[0]}")/.." && pwd)
 folder=$(mktemp -d)
@@ -13,3 +13,4 @@ gcc -O2 -o "$folder/format" "$top/bench/format.c"
 python3 -B "$top/bench/rounds.py" "$top/crates/marm/out/marm" "$top/crates/firmware/out/firmware" "$folder/format" \
     "$top/examples/boards/small.toml" "$top/examples/firmware/board.toml" "$top/examples/firmware/crc32-loop.elf" \
     "$folder" "${1:-3000000}" "${2:-15}"
+"$top/bench/parts.sh" "$((10 * ${1:-3000000}))" "${2:-9}"
