@@ -4,7 +4,7 @@
 
 ghost use Rattle.std.specs.Prelude.{◌≡◌, ◌+◌, ◌^◌, ◌<◌, ◌≤◌, false};
 ghost use Rattle.clock.specs.Kept.{IsRight, IsQuiet};
-ghost use Rattle.reference.specs.Time.{after_tick, counted, tick_pends, event_applies_next, passed, is_high, start_time, csr, after_csr_read, with_csr, with_rvr, with_cvr_cleared, IsSetOf};
+ghost use Rattle.reference.specs.Time.{after_tick, counted, tick_pends, script_due, event_applies_next, passed, is_high, start_time, csr, after_csr_read, with_csr, with_rvr, with_cvr_cleared, IsSetOf};
 
 mod due_ticks;
 pub mod laws;
@@ -89,10 +89,7 @@ impl<U: DueTicks> Clock<U> {
         requires { self.now.time.ticks < 2 ^ 48 }
         ensures { result ≡ event_applies_next self.now.time }
     {
-        match self.script[self.done..].first() {
-            Some(event) => event.at <= self.ticks + 1,
-            None => false,
-        }
+        self.next_event() <= self.ticks + 1
     }
 
     /// What the next tick would pend. It is asked of a clock that isn't at its end, as is `tick`.
@@ -176,7 +173,7 @@ impl<U: DueTicks> Clock<U> {
         ensures time { self.new.time ≡ record self.old.time { ticks = self.old.time.ticks + 1; systick = counted self.old.time.systick } }
         ensures right { IsRight self.new }
     {
-        let next_event = script::script_due(&self.script[self.done..]);
+        let next_event = self.next_event();
         self.timer.count(self.ticks, next_event);
         self.ticks += 1;
     }
@@ -252,7 +249,15 @@ impl<U: DueTicks> Clock<U> {
         ensures time { self.new.time ≡ record self.old.time { systick = systick } }
         ensures right { IsRight self.new }
     {
-        let next_event = script::script_due(&self.script[self.done..]);
+        let next_event = self.next_event();
         self.timer.set(self.ticks, systick, next_event);
+    }
+
+    /// The tick at which the script goes on.
+    #[inline]
+    fn next_event(&self) -> u64
+        ensures { result ≡ script_due self.now.time.script }
+    {
+        script::script_due(&self.script[self.done..])
     }
 }

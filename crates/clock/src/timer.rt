@@ -2,7 +2,7 @@
 
 ghost use Rattle.std.specs.Prelude.{◌≡◌, ◌&&◌, ◌^◌, ◌<◌};
 ghost use Rattle.reference.specs.Registers.{weighed as weighed_of};
-ghost use Rattle.reference.specs.Time.{counted, next_current, reaches_zero, csr as csr_of, after_csr_read, with_csr, with_rvr, with_cvr_cleared, reset_systick};
+ghost use Rattle.reference.specs.Time.{counted, reaches_zero, csr as csr_of, after_csr_read, with_csr, with_rvr, with_cvr_cleared, reset_systick};
 
 use std::marker::Model;
 
@@ -68,25 +68,14 @@ impl SysTick {
         ensures { self.new ≡ counted self.old }
     {
         if self.enable {
-            if self.reaches_zero() {
+            if self.current == 1 {
                 self.countflag = true;
             }
-            self.current = self.next_current();
-        }
-    }
-
-    /// CVR after the next count.
-    #[inline]
-    fn next_current(&self) -> u32
-        ensures value { result ≡ next_current self.now }
-        ensures small { result < 2 ^ 24 }
-    {
-        if !self.enable {
-            self.current
-        } else if self.current == 0 {
-            self.reload
-        } else {
-            self.current - 1
+            self.current = if self.current == 0 {
+                self.reload
+            } else {
+                self.current - 1
+            };
         }
     }
 
