@@ -1,0 +1,94 @@
+"""Carries out random instructions on marm and on QEMU's Cortex-M3, and compares digests of what they leave. Those that marm
+stops at, or after which it doesn't come back to the harness, are left out."""
+
+import collections
+import functools
+import itertools
+import os
+import random
+import struct
+import sys
+from concurrent.futures import ThreadPoolExecutor
+
+import random_code
+from machines import LAST, harness, on_marm, on_qemu, put_out
+
+COUNT, SEED = int(sys.argv[5]), int(sys.argv[6])
+
+# The bytes of an entry, and of what stands before its code; how many entries a run has, how many steps one takes at most,
+# and how many that differ are looked for.
+ENTRY, BEFORE = 112, 72
+PART = 1500
+STEPS = 20_000
+ENOUGH = 10
+
+FINISH = struct.unpack_from("<I", harness, 8)[0] & ~1
+
+
+def branch_to_finish(at):
+    """B.W from an address."""
+    offset = FINISH - (at + 4)
+    sign = offset >> 24 & 1
+    first, second = (~(offset >> bit ^ sign) & 1 for bit in (23, 22))
+    hw1 = 0xF000 | sign << 10 | offset >> 12 & 0x3FF
+    return struct.pack("<HH", hw1, 0x9000 | first << 13 | second << 11 | offset >> 1 & 0x7FF)
+
+
+def random_case(source):
+    """Code, the registers R0 to R12 and LR, a seed for the memory, and the flags."""
+    registers = [random_code.value(source) for _ in range(14)]
+    return random_code.code(source), registers, source.getrandbits(32), source.getrandbits(5) << 27
+
+
+def entry(case, at):
+    """The entry of a case at an address: NOPs stand behind the code."""
+    text, registers, seed, flags = case
+    start = at + BEFORE
+    end = at + ENTRY - 4
+    behind = b"\x00\xbf" * ((end - start - len(text)) // 2)
+    words = [start | 1, seed, flags, *registers, start | 1]
+    return struct.pack("<18I", *words) + text + behind + branch_to_finish(end)
+
+
+def entries(cases):
+    return [functools.partial(entry, case) for case in cases]
+
+
+def told(case):
+    """A case for a reader: its bytes, the registers and the flags."""
+    text, registers, _, flags = case
+    return f"{text.hex()}  R0.. {' '.join(f'{register:08X}' for register in registers)}  flags {flags:08X}"
+
+
+def ended(numbered):
+    """How a case ends on marm, alone."""
+    number, case = numbered
+    trace = on_marm(entries([case]), f"case{number}", STEPS)
+    return "lost" if trace[-1] == LAST and len(put_out(trace)) != 1 else trace[-1]
+
+
+def differing(cases):
+    """The first cases that don't agree, found in parts; behind one that differs a new part begins."""
+    found = []
+    while cases and len(found) < ENOUGH:
+        part = cases[:PART]
+        ours = put_out(on_marm(entries(part), "part", STEPS * len(part)))
+        pairs = itertools.zip_longest(part, ours, on_qemu(entries(part)))
+        agreed = next((at for at, (_, left, right) in enumerate(pairs) if left != right or left is None), len(part))
+        found += part[agreed : agreed + 1]
+        cases = cases[agreed + 1 :] if agreed < len(part) else cases[PART:]
+    return found
+
+
+source = random.Random(SEED)
+cases = [random_case(source) for _ in range(COUNT)]
+with ThreadPoolExecutor(os.cpu_count()) as pool:
+    endings = list(pool.map(ended, enumerate(cases)))
+taken = [case for case, ending in zip(cases, endings) if ending == LAST]
+for ending, count in collections.Counter(endings).most_common():
+    print(f"{count:7} {ending}")
+differ = differing(taken)
+for case in differ:
+    print(told(case))
+print(f"{len(taken)} carried out, {len(differ)} differ" + (" at least" if len(differ) == ENOUGH else ""))
+sys.exit(1 if differ else 0)
