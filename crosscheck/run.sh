@@ -3,6 +3,9 @@
 # Cortex-M3, and compares what they leave and which were granted. It needs qemu-system-arm, clang, lld and llvm-objcopy.
 # Usage: crosscheck/run.sh [COUNT] [SEED]
 set -euo pipefail
+for name in qemu-system-arm clang ld.lld llvm-objcopy; do
+    command -v "$name" >/dev/null || { echo "crosscheck: $name isn't there" >&2; exit 1; }
+done
 top=$(cd "$(dirname "${BASH_SOURCE[0]}")/.." && pwd)
 folder=$(mktemp -d)
 trap 'rm -rf "$folder"' EXIT
