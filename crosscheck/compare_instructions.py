@@ -2,25 +2,18 @@
 stops at, or after which it doesn't come back to the harness, are left out."""
 
 import collections
-import functools
-import itertools
-import os
 import random
 import struct
 import sys
-from concurrent.futures import ThreadPoolExecutor
 
 import random_code
-from machines import LAST, harness, on_marm, on_qemu, put_out
+from machines import LAST, each, harness, in_parts, on_marm, on_qemu, put_out
 
 COUNT, SEED = int(sys.argv[5]), int(sys.argv[6])
 
-# The bytes of an entry, and of what stands before its code; how many entries a run has, how many steps one takes at most,
-# and how many that differ are looked for.
+# The bytes of an entry, and of what stands before its code; and how many steps one takes at most.
 ENTRY, BEFORE = 112, 72
-PART = 1500
 STEPS = 20_000
-ENOUGH = 10
 
 FINISH = struct.unpack_from("<I", harness, 8)[0] & ~1
 
@@ -50,45 +43,33 @@ def entry(case, at):
     return struct.pack("<18I", *words) + text + behind + branch_to_finish(end)
 
 
-def entries(cases):
-    return [functools.partial(entry, case) for case in cases]
-
-
 def told(case):
     """A case for a reader: its bytes, the registers and the flags."""
     text, registers, _, flags = case
     return f"{text.hex()}  R0.. {' '.join(f'{register:08X}' for register in registers)}  flags {flags:08X}"
 
 
-def ended(numbered):
+def ended(number, case):
     """How a case ends on marm, alone."""
-    number, case = numbered
-    trace = on_marm(entries([case]), f"case{number}", STEPS)
+    trace = on_marm(entry, [case], f"case{number}", STEPS)
     return "lost" if trace[-1] == LAST and len(put_out(trace)) != 1 else trace[-1]
 
 
-def differing(cases):
-    """The first cases that don't agree, found in parts; behind one that differs a new part begins."""
-    found = []
-    while cases and len(found) < ENOUGH:
-        part = cases[:PART]
-        ours = put_out(on_marm(entries(part), "part", STEPS * len(part)))
-        pairs = itertools.zip_longest(part, ours, on_qemu(entries(part)))
-        agreed = next((at for at, (_, left, right) in enumerate(pairs) if left != right or left is None), len(part))
-        found += part[agreed : agreed + 1]
-        cases = cases[agreed + 1 :] if agreed < len(part) else cases[PART:]
-    return found
+def put_out_by_marm(entry, cases):
+    """The lines that marm puts out for some cases."""
+    return put_out(on_marm(entry, cases, "part", STEPS * len(cases)))
 
 
 source = random.Random(SEED)
 cases = [random_case(source) for _ in range(COUNT)]
-with ThreadPoolExecutor(os.cpu_count()) as pool:
-    endings = list(pool.map(ended, enumerate(cases)))
+endings = each(ended, cases)
 taken = [case for case, ending in zip(cases, endings) if ending == LAST]
 for ending, count in collections.Counter(endings).most_common():
     print(f"{count:7} {ending}")
-differ = differing(taken)
-for case in differ:
+ours = in_parts(put_out_by_marm, entry, taken)
+theirs = in_parts(on_qemu, entry, taken)
+differ = [case for case, left, right in zip(taken, ours, theirs) if left != right or left == "nothing"]
+for case in differ[:10]:
     print(told(case))
-print(f"{len(taken)} carried out, {len(differ)} differ" + (" at least" if len(differ) == ENOUGH else ""))
+print(f"{len(taken)} carried out, {len(differ)} differ")
 sys.exit(1 if differ else 0)

@@ -1,20 +1,16 @@
 """Makes random accesses under random regions of the MPU on marm and on QEMU's Cortex-M3, and compares which were granted."""
 
 import collections
-import functools
 import itertools
-import os
 import random
 import struct
 import sys
-from concurrent.futures import ThreadPoolExecutor
 
-from machines import LAST, on_marm, on_qemu
+from machines import LAST, each, in_parts, on_marm, on_qemu
 
 COUNT, SEED = int(sys.argv[5]), int(sys.argv[6])
 
-# How many accesses a run of QEMU has, how many steps one takes at most on marm, and what stands before an entry's code.
-PART = 2000
+# How many steps an access takes at most on marm, and what stands before an entry's code.
 STEPS = 1000
 BEFORE = 76
 
@@ -23,25 +19,25 @@ BEFORE = 76
 LOWEST, HIGHEST = 0x20000100, 0x2000E000
 OWN = [(0x2000E016, 0x13020019), (0x00000017, 0x06020027)]
 
-# BX LR; and for a fetch MOV R8, LR; BLX R1; BX R8.
+# BX LR, which stands behind each access; and for a fetch MOV R8, LR; BLX R1; MOV LR, R8.
 RETURN = b"\x70\x47"
-FETCH = b"\xf0\x46\x88\x47\x40\x47"
+FETCH = b"\xf0\x46\x88\x47\xc6\x46"
 
 # The letter of an access in a trace, the bytes that it moves, and its code: loads and stores of R2 at R1, as privileged and
 # as unprivileged code, and three times as often a fetch.
 ACCESSES = [
-    ("L", 4, b"\x0a\x68" + RETURN),
-    ("L", 2, b"\x0a\x88" + RETURN),
-    ("L", 1, b"\x0a\x78" + RETURN),
-    ("S", 4, b"\x0a\x60" + RETURN),
-    ("S", 2, b"\x0a\x80" + RETURN),
-    ("S", 1, b"\x0a\x70" + RETURN),
-    ("L", 4, b"\x51\xf8\x00\x2e" + RETURN),
-    ("L", 2, b"\x31\xf8\x00\x2e" + RETURN),
-    ("L", 1, b"\x11\xf8\x00\x2e" + RETURN),
-    ("S", 4, b"\x41\xf8\x00\x2e" + RETURN),
-    ("S", 2, b"\x21\xf8\x00\x2e" + RETURN),
-    ("S", 1, b"\x01\xf8\x00\x2e" + RETURN),
+    ("L", 4, b"\x0a\x68"),
+    ("L", 2, b"\x0a\x88"),
+    ("L", 1, b"\x0a\x78"),
+    ("S", 4, b"\x0a\x60"),
+    ("S", 2, b"\x0a\x80"),
+    ("S", 1, b"\x0a\x70"),
+    ("L", 4, b"\x51\xf8\x00\x2e"),
+    ("L", 2, b"\x31\xf8\x00\x2e"),
+    ("L", 1, b"\x11\xf8\x00\x2e"),
+    ("S", 4, b"\x41\xf8\x00\x2e"),
+    ("S", 2, b"\x21\xf8\x00\x2e"),
+    ("S", 1, b"\x01\xf8\x00\x2e"),
     ("F", 2, FETCH),
     ("F", 2, FETCH),
     ("F", 2, FETCH),
@@ -82,14 +78,13 @@ def entry(case, at):
     """The entry of a case at an address. A fetch goes to the address with bit 0 set."""
     (letter, _, code), address, control, regions = case
     words = [at + BEFORE | 1, address | (letter == "F"), control, *itertools.chain(*regions)]
-    return struct.pack("<19I", *words) + code.ljust(16, b"\0")
+    return struct.pack("<19I", *words) + (code + RETURN).ljust(16, b"\0")
 
 
-def granted(numbered):
+def granted(number, case):
     """1 or 0, whether marm grants an access; or how its run ends otherwise. A refusal is the last access of its trace."""
-    number, case = numbered
     (letter, _, _), address, _, _ = case
-    trace = on_marm([functools.partial(entry, case)], f"case{number}", STEPS)
+    trace = on_marm(entry, [case], f"case{number}", STEPS)
     if trace[-1] == LAST:
         return "1"
     _, kind, at, _, _, outcome, _ = trace[-2].split()
@@ -105,13 +100,8 @@ def told(case):
 
 source = random.Random(SEED)
 cases = [random_case(source) for _ in range(COUNT)]
-with ThreadPoolExecutor(os.cpu_count()) as pool:
-    ours = list(pool.map(granted, enumerate(cases)))
-theirs = []
-for first in range(0, COUNT, PART):
-    part = cases[first : first + PART]
-    lines = on_qemu([functools.partial(entry, case) for case in part])[: len(part)]
-    theirs += lines + ["nothing"] * (len(part) - len(lines))
+ours = each(granted, cases)
+theirs = in_parts(on_qemu, entry, cases)
 differ = [(case, left, right) for case, left, right in zip(cases, ours, theirs) if left != right]
 for case, left, right in differ[:10]:
     print(f"{told(case)}  marm {left}, QEMU {right}")

@@ -10,6 +10,16 @@
         .equ STACK, 0x2000EF80          @ the memory around the code's SP
         .equ STACK_END, 0x2000F080
 
+        @ Calls a routine for both parts of the memory.
+        .macro  for_memory routine
+        ldr     r0, =WINDOW
+        ldr     r1, =WINDOW_END
+        bl      \routine
+        ldr     r0, =STACK
+        ldr     r1, =STACK_END
+        bl      \routine
+        .endm
+
         .text
         .word   TOP
         .word   start + 1
@@ -18,12 +28,7 @@
 start:  begin
 next:   take_entry
         ldr     r3, [r4, #4]
-        ldr     r0, =WINDOW
-        ldr     r1, =WINDOW_END
-        bl      fill
-        ldr     r0, =STACK
-        ldr     r1, =STACK_END
-        bl      fill
+        for_memory fill
         @ The registers and the address of the code are put below TOP, and popped.
         add     r0, r4, #12
         ldr     r1, =TOP - 60
@@ -44,14 +49,7 @@ finish: push    {r0-r12, lr}
         mov     r1, sp
         eor     r3, r3, r1, ror #7
         ldr     r6, =0x9E3779B1
-        ldr     r0, =TOP
-        mov     sp, r0
-        ldr     r0, =WINDOW
-        ldr     r1, =WINDOW_END
-        bl      digest
-        ldr     r0, =STACK
-        ldr     r1, =STACK_END
-        bl      digest
+        for_memory digest
         movs    r0, #8
 1:      ror     r3, r3, #28
         and     r1, r3, #15

@@ -4,6 +4,7 @@ import os
 import struct
 import subprocess
 import sys
+from concurrent.futures import ThreadPoolExecutor
 
 from loops import elf, traced, written
 
@@ -14,22 +15,24 @@ TABLE = 0x1000
 UART_PLACE, UART = 0xFFFF0, 0x40004000
 LAST = "stop breakpoint 171"
 
+# How many cases a run has at most.
+PART = 1500
+
 with open(HARNESS, "rb") as file:
     harness = file.read()
 
 
-def flash_with(entries):
-    """The harness and its table; an entry is given the address that it stands at."""
-    flash = harness.ljust(TABLE, b"\0")
-    table = bytearray()
-    for entry in entries:
-        table += entry(len(flash) + len(table))
-    return flash + table + bytes(4)
+def flash_with(entry, cases):
+    """The harness and its table, which has the entry of each case, given the address that it stands at."""
+    flash = bytearray(harness.ljust(TABLE, b"\0"))
+    for case in cases:
+        flash += entry(case, len(flash))
+    return bytes(flash) + bytes(4)
 
 
-def on_marm(entries, name, steps):
+def on_marm(entry, cases, name, steps):
     """The lines of a trace."""
-    path = written(FOLDER, name, elf(flash_with(entries)))
+    path = written(FOLDER, name, elf(flash_with(entry, cases)))
     trace = subprocess.run(traced(MARM, BOARD, steps, path), stdout=subprocess.PIPE).stdout
     os.unlink(path)
     return trace.decode().splitlines()
@@ -40,9 +43,9 @@ def put_out(trace):
     return bytes(int(line[-2:], 16) for line in trace if " O " in line).decode().splitlines()
 
 
-def on_qemu(entries):
+def on_qemu(entry, cases):
     """The lines that QEMU puts out. Flash is as blank as on marm."""
-    flash = flash_with(entries).ljust(UART_PLACE, b"\xff") + struct.pack("<I", UART).ljust(16, b"\xff")
+    flash = flash_with(entry, cases).ljust(UART_PLACE, b"\xff") + struct.pack("<I", UART).ljust(16, b"\xff")
     path, output = written(FOLDER, "flash", flash), os.path.join(FOLDER, "output")
     words = ["qemu-system-arm", "-M", "mps2-an385", "-display", "none", "-monitor", "none", "-semihosting"]
     words += ["-serial", f"file:{output}", "-device", f"loader,file={path},addr=0,force-raw=on"]
@@ -52,3 +55,19 @@ def on_qemu(entries):
         pass
     with open(output, errors="replace") as file:
         return file.read().splitlines()
+
+
+def in_parts(run, entry, cases):
+    """The line that a machine puts out for each case, in runs of some; "nothing" where one ended early."""
+    lines = []
+    for first in range(0, len(cases), PART):
+        part = cases[first : first + PART]
+        found = run(entry, part)[: len(part)]
+        lines += found + ["nothing"] * (len(part) - len(found))
+    return lines
+
+
+def each(judge, cases):
+    """What is judged of each case, given its number too, side by side."""
+    with ThreadPoolExecutor(os.cpu_count()) as pool:
+        return list(pool.map(judge, range(len(cases)), cases))

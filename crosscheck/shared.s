@@ -49,8 +49,6 @@
         ldr     r4, [r1]
         add     r4, r4, #ENTRY
         str     r4, [r1]
-        ldr     r1, =TOP
-        mov     sp, r1
         .endm
 
         @ The end, which for a machine with semihosting is SYS_EXIT.
