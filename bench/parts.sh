@@ -9,7 +9,7 @@ folder=$(mktemp -d)
 trap 'rm -rf "$folder"' EXIT
 # The program that is timed stands in a repository of its own, on copies of the crates and of what was proved of them.
 mkdir -p "$folder/top/crates/rate/src"
-for name in reference regs mpu encodings decode_short_rows decode_short decode_long_data decode_long_memory decode_long decode; do
+for name in reference regs mpu encodings decode; do
     cp -r "$top/crates/$name" "$folder/top/crates/$name"
     grep "^$name:" "$top/crates.txt" >>"$folder/top/crates.txt"
 done
@@ -21,5 +21,5 @@ head -c 4 /dev/zero >"$folder/four"
 clang --target=thumbv7m-none-eabi -mcpu=cortex-m3 -O2 -ffreestanding -c -o "$folder/mix.o" "$top/bench/mix.c" &&
     llvm-objdump -d "$folder/mix.o" >"$folder/listing" || : >"$folder/listing"
 python3 -B "$top/bench/parts.py" "$folder/top/crates/rate/out/rate" "$top/crates/marm/out/marm" \
-    "$top/examples/boards/small.toml" "$top/examples/firmware/board.toml" "$top/examples/firmware/crc32-loop.elf" \
+    "$top/examples/boards/small.toml" "$top/crates/test_firmware/data/board.toml" "$top/examples/firmware/crc32-loop.elf" \
     "$folder/listing" "$folder" "${1:-30000000}" "${2:-9}"

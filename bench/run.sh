@@ -8,9 +8,9 @@ folder=$(mktemp -d)
 trap 'rm -rf "$folder"' EXIT
 "$top/marm" run --board "$top/examples/boards/small.toml" --steps 0 "$top/examples/first.elf" >"$folder/stop"
 # The program that runs images without a trace.
-(cd "$top/crates/firmware" && rt run -- data/board.toml) >"$folder/log" 2>&1 || { cat "$folder/log" >&2; exit 1; }
+(cd "$top/crates/test_firmware" && rt run -- data/board.toml) >"$folder/log" 2>&1 || { cat "$folder/log" >&2; exit 1; }
 gcc -O2 -o "$folder/format" "$top/bench/format.c"
-python3 -B "$top/bench/rounds.py" "$top/crates/marm/out/marm" "$top/crates/firmware/out/firmware" "$folder/format" \
-    "$top/examples/boards/small.toml" "$top/examples/firmware/board.toml" "$top/examples/firmware/crc32-loop.elf" \
+python3 -B "$top/bench/rounds.py" "$top/crates/marm/out/marm" "$top/crates/test_firmware/out/test_firmware" "$folder/format" \
+    "$top/examples/boards/small.toml" "$top/crates/test_firmware/data/board.toml" "$top/examples/firmware/crc32-loop.elf" \
     "$folder" "${1:-3000000}" "${2:-15}"
 "$top/bench/parts.sh" "$((10 * ${1:-3000000}))" "${2:-9}"

@@ -1,5 +1,6 @@
 """Carries out random instructions on marm and on QEMU's Cortex-M3, and compares digests of what they leave. Those that marm
-stops at, or after which it doesn't come back to the harness, are left out."""
+stops at, or after which it doesn't come back to the harness, are left out: those that do so alone, and those that do so only
+ahead of other entries, from which they load or to which they go."""
 
 import collections
 import random
@@ -7,7 +8,7 @@ import struct
 import sys
 
 import random_code
-from machines import LAST, each, harness, in_parts, on_marm, on_qemu, put_out
+from machines import LAST, NOTHING, each, harness, on_marm, on_qemu, put_out, side_by_side
 
 COUNT, SEED = int(sys.argv[5]), int(sys.argv[6])
 
@@ -43,8 +44,8 @@ def entry(case, at):
     return struct.pack("<18I", *words) + text + behind + branch_to_finish(end)
 
 
-def told(case):
-    """A case for a reader: its bytes, the registers and the flags."""
+def described(case):
+    """Returns a case as text: its bytes, the registers and the flags."""
     text, registers, _, flags = case
     return f"{text.hex()}  R0.. {' '.join(f'{register:08X}' for register in registers)}  flags {flags:08X}"
 
@@ -66,10 +67,11 @@ endings = each(ended, cases)
 taken = [case for case, ending in zip(cases, endings) if ending == LAST]
 for ending, count in collections.Counter(endings).most_common():
     print(f"{count:7} {ending}")
-ours = in_parts(put_out_by_marm, entry, taken)
-theirs = in_parts(on_qemu, entry, taken)
-differ = [case for case, left, right in zip(taken, ours, theirs) if left != right or left == "nothing"]
+ours, theirs = side_by_side(put_out_by_marm, on_qemu, entry, taken)
+lost = ours.count(NOTHING)
+differ = [case for case, left, right in zip(taken, ours, theirs) if NOTHING != left != right]
 for case in differ[:10]:
-    print(told(case))
-print(f"{len(taken)} carried out, {len(differ)} differ")
+    print(described(case))
+print(f"{lost:7} lost ahead of other entries")
+print(f"{len(taken) - lost} carried out, {len(differ)} differ")
 sys.exit(1 if differ else 0)

@@ -91,8 +91,8 @@ def granted(number, case):
     return "0" if (kind, int(at, 16), outcome) == (letter, address, "mpu") else trace[-2]
 
 
-def told(case):
-    """A case for a reader."""
+def described(case):
+    """Returns a case as text."""
     (letter, size, code), address, control, regions = case
     text = "  ".join(f"{base:08X} {attributes:08X}" for base, attributes in regions)
     return f"{letter} {address:08X} {size} by {code.hex()}  MPU_CTRL {control}  {text}"
@@ -104,7 +104,7 @@ ours = each(granted, cases)
 theirs = in_parts(on_qemu, entry, cases)
 differ = [(case, left, right) for case, left, right in zip(cases, ours, theirs) if left != right]
 for case, left, right in differ[:10]:
-    print(f"{told(case)}  marm {left}, QEMU {right}")
+    print(f"{described(case)}  marm {left}, QEMU {right}")
 counts = collections.Counter(ours)
 print(f"{counts['1']} accesses granted, {counts['0']} refused, {len(differ)} differ")
 sys.exit(1 if differ else 0)

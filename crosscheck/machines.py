@@ -15,8 +15,12 @@ TABLE = 0x1000
 UART_PLACE, UART = 0xFFFF0, 0x40004000
 LAST = "stop breakpoint 171"
 
-# How many cases a run has at most.
+# How many cases a run has at most, and how many runs may end early.
 PART = 1500
+MOST_ENDED_EARLY = 100
+
+# The line of a case that has none.
+NOTHING = "nothing"
 
 with open(HARNESS, "rb") as file:
     harness = file.read()
@@ -50,7 +54,7 @@ def on_qemu(entry, cases):
     words = ["qemu-system-arm", "-M", "mps2-an385", "-display", "none", "-monitor", "none", "-semihosting"]
     words += ["-serial", f"file:{output}", "-device", f"loader,file={path},addr=0,force-raw=on"]
     try:
-        subprocess.run(words, stdout=subprocess.DEVNULL, stderr=subprocess.DEVNULL, timeout=60)
+        subprocess.run(words, stdout=subprocess.DEVNULL, stderr=subprocess.DEVNULL, timeout=30)
     except subprocess.TimeoutExpired:
         pass
     with open(output, errors="replace") as file:
@@ -63,8 +67,27 @@ def in_parts(run, entry, cases):
     for first in range(0, len(cases), PART):
         part = cases[first : first + PART]
         found = run(entry, part)[: len(part)]
-        lines += found + ["nothing"] * (len(part) - len(found))
+        lines += found + [NOTHING] * (len(part) - len(found))
     return lines
+
+
+def side_by_side(run, other_run, entry, cases, most=PART):
+    """Returns the lines that two machines put out for each case, in runs of at most `most` cases. Both machines have the same
+    runs, so that a case has the same address and the same entries after it. Where a machine ends early, its line of the case
+    at which it ended is "nothing", and both machines go on after that case in a new run."""
+    lines, other_lines, ended_early = [], [], 0
+    while len(lines) < len(cases):
+        part = cases[len(lines) : len(lines) + most]
+        found, other_found = run(entry, part)[: len(part)], other_run(entry, part)[: len(part)]
+        both = min(len(found), len(other_found))
+        if both < len(part):
+            ended_early += 1
+            found, other_found = (list(left[: both + 1]) + [NOTHING] * (both >= len(left)) for left in (found, other_found))
+        if ended_early > MOST_ENDED_EARLY:
+            sys.exit(f"{ended_early} runs ended early: one of the machines doesn't run its harness")
+        lines += found
+        other_lines += other_found
+    return lines, other_lines
 
 
 def each(judge, cases):

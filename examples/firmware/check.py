@@ -9,11 +9,17 @@ from console import bytes_of
 MARM, NAMES = sys.argv[1], sys.argv[2:]
 STEPS = 20_000_000
 HERE = os.path.dirname(os.path.abspath(__file__))
+DATA = f"{HERE}/../../crates/test_firmware/data"
+
+
+def elf_of(name):
+    """The file of a program: CI's, but for the loop that is too long for it."""
+    return f"{HERE}/{name}.elf" if name == "crc32-loop" else f"{DATA}/{name}.elf"
 
 
 def run(name):
     """What a program prints, how many steps it makes, and the trace's last line."""
-    words = [MARM, "run", "--board", f"{HERE}/board.toml", "--steps", str(STEPS), f"{HERE}/{name}.elf"]
+    words = [MARM, "run", "--board", f"{DATA}/board.toml", "--steps", str(STEPS), elf_of(name)]
     text, before, last = bytearray(), "0", "no trace"
     with subprocess.Popen(words, stdout=subprocess.PIPE, text=True) as marm:
         for line in marm.stdout:

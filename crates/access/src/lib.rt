@@ -8,6 +8,8 @@ pub mod laws;
 pub use bus::Bus;
 pub use clock::{Counting, DueTicks, ScriptedEvent};
 pub use mpu::{Decider, Search};
+pub use nvic::{Levels, PlainLevels};
 pub use reference::access::{Answer, Cause, Decision, Kind, Performed, Request, Rule, Size};
 pub use reference::stop::Stop;
+pub use scs::System;
 pub use space::{Layout, Space, is_out};

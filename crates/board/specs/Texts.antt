@@ -9,7 +9,7 @@ use Rattle.reference.specs.declared.fault.BoardFault.TheVariants.{NotToml, Missi
 use Rattle.reference.specs.declared.script.ScriptedEvent.{ScriptedEvent}
 use Rattle.reference.specs.declared.script.Signal.{Signal}
 use Rattle.reference.specs.declared.script.Signal.TheVariants.{Rise, Fall, Pulse, Nmi}
-use Rattle.reference.specs.Boards.{Numbers, Described, is_whole, is_size, is_flash, is_priority_bits, is_line_count, is_tick, first_tick, most_events}
+use Rattle.reference.specs.Boards.{Numbers, Described, is_whole, is_size, is_flash, is_priority_bits, is_line_count, is_region_count, default_regions, is_tick, first_tick, most_events}
 
 -- one step, and then another with what it gave
 infixl 10 ◌>>=◌
@@ -33,6 +33,11 @@ abbrev pub number : Option Data → Result ℕ BoardFault
 number None = Err MissingKey
 number (Some value) = whole (as_integer value)
 
+-- the same of a key that may be missing
+abbrev pub number_or : ℕ → Option Data → Result ℕ BoardFault
+number_or default None = Ok default
+number_or default (Some value) = whole (as_integer value)
+
 -- what stands at a key is a word
 abbrev pub word : Option Data → Result (List ℕ) BoardFault
 word None = Err MissingKey
@@ -53,7 +58,8 @@ only known fields = if has_only known fields then Ok fields else Err UnknownKey
 
 abbrev pub board_keys : List (List ℕ)
 board_keys =
-    codes "flash_base" ∷ codes "flash_size" ∷ codes "ram_size" ∷ codes "priority_bits" ∷ codes "lines" ∷ codes "event" ∷ []
+    codes "flash_base" ∷ codes "flash_size" ∷ codes "ram_size" ∷ codes "priority_bits" ∷ codes "lines" ∷ codes "regions"
+    ∷ codes "event" ∷ []
 
 abbrev pub line_keys : List (List ℕ)
 line_keys = codes "at" ∷ codes "line" ∷ codes "what" ∷ []
@@ -61,7 +67,7 @@ line_keys = codes "at" ∷ codes "line" ∷ codes "what" ∷ []
 abbrev pub nmi_keys : List (List ℕ)
 nmi_keys = codes "at" ∷ codes "nmi" ∷ []
 
--- the five numbers, one after another
+-- the six numbers, one after another
 unfoldable pub numbers_in : Members → Result Numbers BoardFault
 numbers_in document = do
   flash_base ← where_ok is_whole (number (get_member (codes "flash_base") document))
@@ -69,12 +75,14 @@ numbers_in document = do
   ram_size ← where_ok is_size (number (get_member (codes "ram_size") document))
   priority_bits ← where_ok is_priority_bits (number (get_member (codes "priority_bits") document))
   lines ← where_ok is_line_count (number (get_member (codes "lines") document))
+  regions ← where_ok is_region_count (number_or default_regions (get_member (codes "regions") document))
   Ok (record {
     flash_base = flash_base;
     flash_size = flash_size;
     ram_size = ram_size;
     priority_bits = priority_bits;
     lines = lines;
+    regions = regions;
   })
 
 -- the signal on a line that a word names

@@ -53,14 +53,14 @@ fn are_tables(values: &[Value]) -> bool
     true
 }
 
-// The events of a list of tables, on a board of so many lines. What is refused is told before the
-// want of memory: where an event has no room, those behind it are looked at all the same.
+// The events of a list of tables, on a board of so many lines. A refusal is answered before
+// out of memory: where an event has no room, those after it are looked at all the same.
 pub fn script_of(
     alloc: Global,
     lines: u8,
     values: &[Value],
 ) -> Result<Vec<ScriptedEvent>, BoardFault>
-    requires { lines ≤ 32 }
+    requires { lines ≤ 240 }
     ensures { Answers (λ events. events.items) result (script_in lines FIRST_TICK (items_view values.now)) }
 {
     let mut events = Vec::new(alloc);
@@ -95,7 +95,7 @@ fn gather(events: &mut Vec<ScriptedEvent>, is_complete: bool, event: ScriptedEve
 // An event that is no earlier than a tick.
 #[tactic(auto, unfolding(crate::specs::Texts::timely_event))]
 fn timely_event(lines: u8, before: u64, value: &Value) -> Result<ScriptedEvent, BoardFault>
-    requires { lines ≤ 32 }
+    requires { lines ≤ 240 }
     ensures { result ≡ timely_event lines before (view value.now) }
 {
     let Some(fields) = value.as_table() else {
@@ -111,7 +111,7 @@ fn timely_event(lines: u8, before: u64, value: &Value) -> Result<ScriptedEvent, 
 // One event.
 #[tactic(auto, unfolding(crate::specs::Texts::event_in))]
 fn event_of(lines: u8, event: &Table) -> Result<ScriptedEvent, BoardFault>
-    requires { lines ≤ 32 }
+    requires { lines ≤ 240 }
     ensures { result ≡ event_in lines (table_view event.now) }
 {
     let at = number(find(event, "at"))?;
@@ -124,7 +124,7 @@ fn event_of(lines: u8, event: &Table) -> Result<ScriptedEvent, BoardFault>
 
 // The signal of an event, by whether it has `nmi`.
 fn signal_of(lines: u8, event: &Table, value: Option<&Value>) -> Result<Signal, BoardFault>
-    requires { lines ≤ 32 }
+    requires { lines ≤ 240 }
     ensures { result ≡ signal_in lines (table_view event.now) (option_map (λ v. view v.now) value.entry) }
 {
     match value {
@@ -136,7 +136,7 @@ fn signal_of(lines: u8, event: &Table, value: Option<&Value>) -> Result<Signal, 
 // The signal of an event that names a line of the board.
 #[tactic(auto, unfolding(crate::specs::Texts::line_signal))]
 fn line_signal(lines: u8, event: &Table) -> Result<Signal, BoardFault>
-    requires { lines ≤ 32 }
+    requires { lines ≤ 240 }
     ensures { result ≡ line_signal lines (table_view event.now) }
 {
     let line = number(find(event, "line"))?;

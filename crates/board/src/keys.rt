@@ -8,12 +8,13 @@ ghost use Rattle.board.specs.Texts.{has_only};
 use toml::Table;
 
 // The keys of a board.
-pub const BOARD_KEYS: [&str; 6] = [
+pub const BOARD_KEYS: [&str; 7] = [
     "flash_base",
     "flash_size",
     "ram_size",
     "priority_bits",
     "lines",
+    "regions",
     "event",
 ];
 

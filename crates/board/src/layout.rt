@@ -1,17 +1,19 @@
 //! The numbers of a board.
 
-ghost use Rattle.std.specs.Prelude.{◌≡◌, ◌<◌, ◌≤◌, ◌+◌, ◌%◌, ◌^◌};
+ghost use Rattle.std.specs.Prelude.{◌≡◌, ◌<◌, ◌≤◌, ◌+◌, ◌%◌, ◌^◌, Ok};
 ghost use Rattle.std.specs.Bool.{OnTrue};
 ghost use Rattle.reference.specs.Map.{ram_base};
 ghost use Rattle.toml.specs.View.{table_view};
-ghost use Rattle.reference.specs.Boards.{is_whole, is_size, is_flash, is_priority_bits, is_line_count, numbers_of};
+ghost use Rattle.reference.specs.Boards.{is_whole, is_size, is_flash, is_priority_bits, is_line_count, is_region_count, numbers_of};
+ghost use Rattle.reference.specs.Regions.{region_number};
 ghost use Rattle.board.specs.Seen.{Gives};
-ghost use Rattle.board.specs.Texts.{numbers_in};
+ghost use Rattle.board.specs.Texts.{numbers_in, where_ok};
 
-use crate::values::{find, number};
+use crate::values::{find, number, number_or};
 use reference::board::Layout;
 use reference::fault::BoardFault;
 use reference::map::RAM_BASE;
+use reference::mpu::RegionCount;
 use toml::Table;
 
 // Flash and RAM come in blocks of this many bytes, and have a mebibyte at most.
@@ -19,9 +21,12 @@ const BLOCK: u64 = 1024;
 
 const MOST_BYTES: u64 = 0x10_0000;
 
-const MOST_LINES: u64 = 32;
+const MOST_LINES: u64 = 240;
 
-// The five numbers, one after another.
+// How many regions there are where the text doesn't say it.
+const DEFAULT_REGIONS: u64 = 8;
+
+// The six numbers, one after another.
 #[tactic(auto, unfolding(crate::specs::Texts::numbers_in))]
 pub fn layout_of(document: &Table) -> Result<Layout, BoardFault>
     ensures { Gives numbers_of result (numbers_in (table_view document.now)) }
@@ -46,12 +51,15 @@ pub fn layout_of(document: &Table) -> Result<Layout, BoardFault>
     if !is_line_count(lines) {
         return Err(BoardFault::OutOfRange);
     }
+    let regions = number_or(find(document, "regions"), DEFAULT_REGIONS)?;
+    let regions = region_count(regions)?;
     Ok(Layout {
         flash_base: flash_base as u32,
         flash_size: flash_size as u32,
         ram_size: ram_size as u32,
         priority_bits: priority_bits as u8,
         lines: lines as u8,
+        regions,
     })
 }
 
@@ -97,7 +105,18 @@ fn is_priority_bits(bits: u64) -> bool
 // Whether there can be so many lines.
 fn is_line_count(lines: u64) -> bool
     ensures test { result ≡ is_line_count lines }
-    ensures few { OnTrue result (lines ≤ 32) }
+    ensures few { OnTrue result (lines ≤ 240) }
 {
     lines <= MOST_LINES
+}
+
+// The number of regions that the MPU can have.
+fn region_count(regions: u64) -> Result<RegionCount, BoardFault>
+    ensures { Gives region_number result (where_ok is_region_count (Ok regions)) }
+{
+    match regions {
+        8 => Ok(RegionCount::Eight),
+        16 => Ok(RegionCount::Sixteen),
+        _ => Err(BoardFault::OutOfRange),
+    }
 }

@@ -4,7 +4,7 @@ ghost use Rattle.std.specs.Prelude.{◌≡◌, ◌<◌, ◌^◌, option_map, IfO
 ghost use Rattle.toml.specs.Data.{get_member};
 ghost use Rattle.toml.specs.View.{table_view, view};
 ghost use Rattle.board.specs.Seen.{Gives};
-ghost use Rattle.board.specs.Texts.{number, whole, word};
+ghost use Rattle.board.specs.Texts.{number, number_or, whole, word};
 
 use reference::fault::BoardFault;
 use toml::{Table, Value};
@@ -23,6 +23,16 @@ pub fn number(value: Option<&Value>) -> Result<u64, BoardFault>
 {
     match value {
         None => Err(BoardFault::MissingKey),
+        Some(value) => whole(value.as_integer()),
+    }
+}
+
+// The whole number of a key that may be missing, which then is the default.
+pub fn number_or(value: Option<&Value>, default: u64) -> Result<u64, BoardFault>
+    ensures { result ≡ number_or default (option_map (λ v. view v.now) value.entry) }
+{
+    match value {
+        None => Ok(default),
         Some(value) => whole(value.as_integer()),
     }
 }

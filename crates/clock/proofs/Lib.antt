@@ -1,3 +1,4 @@
+pub mod Counts
 pub mod Periods
 pub mod Quiet
 pub mod Scripts

@@ -4,8 +4,9 @@
 
 ghost use Rattle.std.specs.Prelude.{◌≡◌, ◌+◌, ◌^◌, ◌<◌, ◌≤◌, false};
 ghost use Rattle.clock.specs.Kept.{IsRight, IsQuiet};
-ghost use Rattle.reference.specs.Time.{after_tick, counted, tick_pends, script_due, event_applies_next, passed, is_high, start_time, csr, after_csr_read, with_csr, with_rvr, with_cvr_cleared, IsSetOf};
+ghost use Rattle.reference.specs.Time.{after_tick, counted, timer_pends, tick_pends, script_due, event_applies_next, passed, is_high, start_time, csr, after_csr_read, with_csr, with_rvr, with_cvr_cleared, IsSetOf};
 
+mod ahead;
 mod due_ticks;
 pub mod laws;
 mod lines;
@@ -13,6 +14,7 @@ mod script;
 mod sets;
 mod timer;
 
+pub use ahead::Ahead;
 pub use due_ticks::{Counting, DueTicks};
 use lines::Levels;
 pub use reference::script::{InterruptLine, ScriptedEvent, Signal};
@@ -85,7 +87,7 @@ impl<U: DueTicks> Clock<U> {
 
     /// Whether an event of the script applies in the next tick.
     #[inline]
-    pub fn event_applies_next(&self) -> bool
+    fn event_applies_next(&self) -> bool
         requires { self.now.time.ticks < 2 ^ 48 }
         ensures { result ≡ event_applies_next self.now.time }
     {
@@ -136,21 +138,37 @@ impl<U: DueTicks> Clock<U> {
             self.ticks += 1;
             return NOTHING;
         }
+        if !self.event_applies_next() {
+            return self.pass();
+        }
         let due = self.due_next();
         self.count();
         due
     }
 
-    /// The next tick, in which no event of the script applies.
+    /// The next tick, in which no event of the script applies. Gives the exceptions that it pends.
     #[inline]
-    #[tactic(auto, using(crate::proofs::Quiet::no_event_next))]
-    pub fn pass(&mut self)
+    #[tactic(auto, using(crate::proofs::Quiet::no_event_next, crate::proofs::Quiet::no_event_pends))]
+    fn pass(&mut self) -> Due
         requires bounded { self.old.time.ticks < 2 ^ 48 }
         requires quiet { event_applies_next self.old.time ≡ false }
         ensures time { self.new.time ≡ after_tick self.old.time }
+        ensures due { IsSetOf result (tick_pends self.old.time) }
         ensures right { IsRight self.new }
     {
+        let due = self.due_of_timer();
         self.count_on();
+        due
+    }
+
+    /// What SysTick's next count pends.
+    #[inline]
+    fn due_of_timer(&self) -> Due
+        ensures { IsSetOf result (timer_pends self.now.time.systick) }
+    {
+        let mut due = NOTHING;
+        sets::put_timer(&mut due, &self.systick());
+        due
     }
 
     /// A tick that isn't passed over.

@@ -1,10 +1,9 @@
 //! Sets of exceptions, and what a tick puts into one.
 
-ghost use Rattle.std.specs.Prelude.{◌≡◌, ◌==◌, ◌||◌, ◌&&◌, ◌<◌, ℕ};
+ghost use Rattle.std.specs.Prelude.{◌≡◌, ◌==◌, ◌||◌, ◌<◌, ℕ};
 ghost use Rattle.std.specs.List.{list_any};
-ghost use Rattle.reference.specs.declared.exception.TheConstants.{SYS_TICK};
 ghost use Rattle.reference.specs.Priorities.{is_due};
-ghost use Rattle.reference.specs.Time.{pends, line_exception, reaches_zero};
+ghost use Rattle.reference.specs.Time.{pends, line_exception, timer_pends};
 
 use crate::timer::SysTick;
 use reference::exception::{FIRST_LINE, NMI, SYS_TICK};
@@ -56,7 +55,7 @@ pub fn put_events(due: &mut Due, events: &[ScriptedEvent])
 /// Puts SysTick's exception into a set, where its next count pends it.
 #[inline]
 pub fn put_timer(due: &mut Due, timer: &SysTick)
-    ensures { (n : ℕ) → n < 256 → is_due due.new n ≡ ((reaches_zero timer.now && timer.now.tickint && (n == SYS_TICK)) || is_due due.old n) }
+    ensures { (n : ℕ) → n < 256 → is_due due.new n ≡ (timer_pends timer.now n || is_due due.old n) }
 {
     if timer.will_pend() {
         put(due, SYS_TICK as u8);

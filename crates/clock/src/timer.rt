@@ -1,9 +1,11 @@
 //! SysTick (ARM DDI 0403, "System timer, SysTick"): its registers, and how it counts.
 
-ghost use Rattle.std.specs.Prelude.{◌≡◌, ◌&&◌, ◌^◌, ◌<◌};
+ghost use Rattle.std.specs.Prelude.{◌≡◌, ◌&&◌, ◌^◌, ◌<◌, ◌≤◌};
+ghost use Rattle.clock.specs.Later.{current_after, later};
 ghost use Rattle.reference.specs.Registers.{weighed as weighed_of};
-ghost use Rattle.reference.specs.Time.{counted, reaches_zero, csr as csr_of, after_csr_read, with_csr, with_rvr, with_cvr_cleared, reset_systick};
+ghost use Rattle.reference.specs.Time.{counted, reaches_zero, csr as csr_of, after_csr_read, with_csr, with_rvr, with_cvr_cleared, reset_systick, timer_due};
 
+use crate::script::NEVER;
 use std::marker::Model;
 
 /// The bits that RVR and CVR have.
@@ -79,6 +81,33 @@ impl SysTick {
         }
     }
 
+    /// SysTick some ticks later, at none of which anything is due.
+    pub(crate) fn later(&self, ticks: u64) -> Self
+        ensures { result ≡ later self.now ticks }
+    {
+        let mut later = *self;
+        if self.enable {
+            later.current = current_after(self.reload, self.current, ticks);
+        }
+        later
+    }
+
+    /// The tick at which the counter will go from 1 to 0, if no register is written before.
+    pub(crate) fn due(&self, now: u64) -> u64
+        requires { now ≤ 2 ^ 48 }
+        ensures { result ≡ timer_due now self.now }
+    {
+        if !self.enable {
+            NEVER
+        } else if self.current > 0 {
+            now + u64::from(self.current)
+        } else if self.reload > 0 {
+            now + u64::from(self.reload) + 1
+        } else {
+            NEVER
+        }
+    }
+
     /// SYST_CSR, as a read finds it.
     pub(crate) fn csr(&self) -> u32
         ensures { result ≡ csr_of self.now }
@@ -139,4 +168,23 @@ fn weighed(bit: bool, weight: u32) -> u32
     ensures { result ≡ weighed_of bit weight }
 {
     if bit { weight } else { 0 }
+}
+
+/// The counter some counts after it had a value.
+fn current_after(reload: u32, current: u32, counts: u64) -> u32
+    requires reload { reload < 2 ^ 24 }
+    requires current { current < 2 ^ 24 }
+    ensures value { result ≡ current_after reload current counts }
+    ensures small { result < 2 ^ 24 }
+{
+    if counts <= u64::from(current) {
+        return current - counts as u32;
+    }
+    let period = u64::from(reload) + 1;
+    let phase = (counts - u64::from(current)) % period;
+    if phase == 0 {
+        0
+    } else {
+        (period - phase) as u32
+    }
 }

@@ -1,58 +1,27 @@
--- How a run's status follows from its end.
-use Rattle.std.proofs.Common.{◌≡◌, ◌⊎◌, inl, inr, ℕ, Bool, true, false, List, Result, Ok, Err, refl, ◌∙◌, ap}
+-- What a run that failed put, and how files are read.
+use Rattle.std.proofs.Common.{◌≡◌, ◌⊎◌, inl, inr, ℕ, ◌+◌, Bool, true, false, List, Option, Result, Ok, Err, refl, sym, ◌∙◌}
 use Rattle.std.specs.Str.{IsUtf8, is_utf8}
 use Rattle.std.proofs.lemmas.Str.{IsUtf8-from_is_utf8, is_utf8-from_IsUtf8}
 use Rattle.board.specs.declared.whole.Board.{Board as TheBoard}
 use Rattle.board.specs.Seen.{Answers, described}
 use Rattle.board.specs.Texts.{board_of}
-use Rattle.command.specs.declared.fault.Fault.{Fault}
-use Rattle.command.specs.declared.fault.Fault.TheVariants.{Load, Board, Start}
-use Rattle.command.specs.Statuses.{GoesTo, Executes, Ends, EndsWith, Reads, board_in_file, stop_status, fault_status}
+use Rattle.command.specs.Statuses.{Reads, board_in_file}
+use Rattle.machine.proofs.Running.{left_prefix}
+use Rattle.machine.specs.declared.whole.RunFault.{RunFault}
+use Rattle.machine.specs.declared.whole.RunFault.TheVariants.{Write, Broken}
+use Rattle.machine.specs.Runs.{Fails}
+use Rattle.machine.specs.Whole.{Whole}
+use Rattle.output.specs.Gathered.{GrowsByPrefix}
 use Rattle.reference.specs.declared.fault.BoardFault.{BoardFault}
 use Rattle.reference.specs.declared.fault.BoardFault.TheVariants.{NotToml, OutOfMemory}
-use Rattle.reference.specs.declared.fault.LoadFault.{LoadFault}
-use Rattle.reference.specs.declared.fault.StartFault.{StartFault}
-use Rattle.reference.specs.declared.stop.Stop.{Stop}
 use Rattle.reference.specs.Boards.{Described}
-use Rattle.reference.specs.Images.{Segment}
-use Rattle.reference.specs.Start.{start}
-use Rattle.reference.specs.State.{State}
+use Rattle.reference.specs.Run.{trace}
 
-stop_ends : (steps : ℕ) (started : Result State StartFault) (stop : Stop) (status : ℕ) → Ends steps started (Ok stop) → status ≡ stop_status stop → EndsWith steps started status
-stop_ends steps (Ok s) stop status ends e = inl (e ∙ ap stop_status ends)
-stop_ends steps (Err refusal) stop status ends e = absurd cc
-
-fault_ends : (steps : ℕ) (started : Result State StartFault) (fault : Fault) (status : ℕ) → Ends steps started (Err fault) → status ≡ fault_status fault → EndsWith steps started status
-fault_ends steps (Ok s) fault status (inl memory) e = inr (inl (e ∙ ap fault_status memory))
-fault_ends steps (Ok s) fault status (inr writer) e = inr (inr (e ∙ ap fault_status writer))
-fault_ends steps (Err refusal) fault status ends e = let same : fault ≡ Start refusal = cc in e ∙ ap fault_status same
-
--- want of memory has status 3, whatever was started
-wanting_ends : (steps : ℕ) (started : Result State StartFault) (fault : Fault) (status : ℕ) → fault ≡ Board OutOfMemory → status ≡ fault_status fault → EndsWith steps started status
-wanting_ends steps (Ok s) fault status same e = inr (inl (e ∙ ap fault_status same))
-wanting_ends steps (Err refusal) fault status same e = e ∙ ap fault_status same
-
-pub stop_goes : (image : Result (List Segment) LoadFault) (board : Result Described BoardFault) (steps : ℕ) (stop : Stop) (status : ℕ) → Executes image board steps (Ok stop) → status ≡ stop_status stop → GoesTo image board steps status
-stop_goes (Ok image) (Ok board) steps stop status (inl ends) e = stop_ends steps (start board image) stop status ends e
-stop_goes (Ok image) (Ok board) steps stop status (inr other) e = absurd cc
-stop_goes (Ok image) (Err refusal) steps stop status (inl other) e = absurd cc
-stop_goes (Ok image) (Err refusal) steps stop status (inr other) e = absurd cc
-stop_goes (Err refusal) board steps stop status ends e = absurd cc
-
-pub fault_goes : (image : Result (List Segment) LoadFault) (board : Result Described BoardFault) (steps : ℕ) (fault : Fault) (status : ℕ) → Executes image board steps (Err fault) → status ≡ fault_status fault → GoesTo image board steps status
-fault_goes (Ok image) (Ok board) steps fault status (inl ends) e = fault_ends steps (start board image) fault status ends e
-fault_goes (Ok image) (Ok board) steps fault status (inr wanting) e =
-    let same : fault ≡ Board OutOfMemory = cc in wanting_ends steps (start board image) fault status same e
-fault_goes (Ok image) (Err refusal) steps fault status (inl refused) e = let same : fault ≡ Board refusal = cc in e ∙ ap fault_status same
-fault_goes (Ok image) (Err refusal) steps fault status (inr wanting) e = let same : fault ≡ Board OutOfMemory = cc in e ∙ ap fault_status same
-fault_goes (Err refusal) board steps fault status ends e = let same : fault ≡ Load refusal = cc in e ∙ ap fault_status same
-
--- the same, of an image that was found to be the one that was read
-pub stop_goes_as : (image read : Result (List Segment) LoadFault) (board : Result Described BoardFault) (steps : ℕ) (stop : Stop) (status : ℕ) → Executes read board steps (Ok stop) → status ≡ stop_status stop → image ≡ read → GoesTo image board steps status
-stop_goes_as image read board steps stop status ends e same = rw same (stop_goes read board steps stop status ends e)
-
-pub fault_goes_as : (image read : Result (List Segment) LoadFault) (board : Result Described BoardFault) (steps : ℕ) (fault : Fault) (status : ℕ) → Executes read board steps (Err fault) → status ≡ fault_status fault → image ≡ read → GoesTo image board steps status
-fault_goes_as image read board steps fault status ends e same = rw same (fault_goes read board steps fault status ends e)
+-- a run that failed in a machine whose writers hadn't failed before put a prefix of the trace
+pub failed_cut : (n : ℕ) (old new : Whole) (put put' : Option (List ℕ)) (faults faults' : ℕ) (fault : RunFault) → Fails n old new put put' faults faults' fault → (fault ≡ Broken → old.broken ≡ true) → old.broken ≡ false → GrowsByPrefix put put' (trace n old.state) × (faults' ≡ faults + 1)
+failed_cut n old new put put' faults faults' (Write steps) fails broken whole =
+    (left_prefix n old.state steps put put' new.state fails.0, fails.2)
+failed_cut n old new put put' faults faults' Broken fails broken whole = absurd (let wrong : true ≡ false = sym (broken refl) ∙ whole in cc)
 
 -- what the reader of boards answers is what is read here
 pub read_as : (read : Result Described BoardFault) (result : Result TheBoard BoardFault) → Answers described result read ⊎ (result ≡ Err OutOfMemory) → Reads read result

@@ -1,4 +1,4 @@
--- The exit statuses of the program.
+-- The exit statuses of the program, and what it writes.
 use Rattle.std.specs.Prelude.{◌≡◌, ◌⊎◌, ℕ, if◌then◌else◌, List, Result, Ok, Err}
 use Rattle.std.specs.Str.{is_utf8}
 use Rattle.board.specs.declared.whole.Board.{Board as TheBoard}
@@ -15,7 +15,8 @@ use Rattle.reference.specs.declared.stop.Stop.{Stop}
 use Rattle.reference.specs.declared.stop.Stop.TheVariants as stop
 use Rattle.reference.specs.Boards.{Described}
 use Rattle.reference.specs.Images.{Segment}
-use Rattle.reference.specs.Run.{ending_of}
+use Rattle.output.specs.Gathered.{Gathered, IsCut, SendsAll}
+use Rattle.reference.specs.Run.{ending_of, trace}
 use Rattle.reference.specs.Start.{start}
 use Rattle.reference.specs.State.{State}
 
@@ -44,26 +45,37 @@ abbrev pub Reads : Result Described BoardFault → Result TheBoard BoardFault �
 Reads read (Ok board) = read ≡ Ok (described board)
 Reads read (Err fault) = (read ≡ Err fault) ⊎ (fault ≡ OutOfMemory)
 
--- a run from a start state ends as the reference machine's; otherwise memory was wanting or the writer failed
-abbrev pub Ends : ℕ → Result State StartFault → Result Stop Fault → Type 0
-Ends steps (Ok s) (Ok why) = why ≡ ending_of steps s
-Ends steps (Ok s) (Err fault) = (fault ≡ Start NoMemory) ⊎ (fault ≡ Io)
-Ends steps (Err refusal) result = result ≡ Err (Start refusal)
+-- a run from a state ends with the reference machine's stop, and its whole trace went out; or a call of the writer failed,
+-- and what was put is a prefix of the trace
+abbrev pub Runs : ℕ → State → Gathered → Gathered → Result Stop Fault → Type 0
+Runs steps s old new (Ok why) = (why ≡ ending_of steps s) × SendsAll (trace steps s) old new
+Runs steps s old new (Err fault) = (fault ≡ Io) × IsCut (trace steps s) old new
+
+-- a refusal, with which nothing is put
+abbrev pub Refuses : Fault → Gathered → Gathered → Result Stop Fault → Type 0
+Refuses fault old new result = (result ≡ Err fault) × (new ≡ old)
+
+-- a run from a start state, for which memory may be wanting, or the refusal of the start
+abbrev pub Starts : ℕ → Result State StartFault → Gathered → Gathered → Result Stop Fault → Type 0
+Starts steps (Ok s) old new result = Runs steps s old new result ⊎ Refuses (Start NoMemory) old new result
+Starts steps (Err refusal) old new result = Refuses (Start refusal) old new result
 
 -- an image or a board that is refused is refused as the definition refuses it, the image first; memory for the board may
 -- be wanting in place of what comes behind the image
-abbrev pub Executes : Result (List Segment) LoadFault → Result Described BoardFault → ℕ → Result Stop Fault → Type 0
-Executes (Ok image) (Ok board) steps result = Ends steps (start board image) result ⊎ (result ≡ Err (Board OutOfMemory))
-Executes (Ok image) (Err refusal) steps result = (result ≡ Err (Board refusal)) ⊎ (result ≡ Err (Board OutOfMemory))
-Executes (Err refusal) board steps result = result ≡ Err (Load refusal)
+abbrev pub Executes : Result (List Segment) LoadFault → Result Described BoardFault → ℕ → Gathered → Gathered → Result Stop Fault → Type 0
+Executes (Ok image) (Ok board) steps old new result =
+    Starts steps (start board image) old new result ⊎ Refuses (Board OutOfMemory) old new result
+Executes (Ok image) (Err refusal) steps old new result =
+    Refuses (Board refusal) old new result ⊎ Refuses (Board OutOfMemory) old new result
+Executes (Err refusal) board steps old new result = Refuses (Load refusal) old new result
 
--- the status of a run from a start state
-abbrev pub EndsWith : ℕ → Result State StartFault → ℕ → Type 0
-EndsWith steps (Ok s) status = (status ≡ stop_status (ending_of steps s)) ⊎ ((status ≡ 3) ⊎ (status ≡ 5))
-EndsWith steps (Err refusal) status = status ≡ 3
+-- the status of a stop or of a fault
+abbrev pub status_of : Result Stop Fault → ℕ
+status_of (Ok why) = stop_status why
+status_of (Err fault) = fault_status fault
 
--- the status of a run of an image on a board
-abbrev pub GoesTo : Result (List Segment) LoadFault → Result Described BoardFault → ℕ → ℕ → Type 0
-GoesTo (Ok image) (Ok board) steps status = EndsWith steps (start board image) status
-GoesTo (Ok image) (Err refusal) steps status = status ≡ 3
-GoesTo (Err refusal) board steps status = status ≡ 3
+-- an image is run on a board, and the status is that of its end
+pub record GoesTo (image : Result (List Segment) LoadFault) (board : Result Described BoardFault) (steps : ℕ) (old new : Gathered) (status : ℕ) : Type 0 where
+  pub result : Result Stop Fault
+  pub executed : Executes image board steps old new result
+  pub is : status ≡ status_of result

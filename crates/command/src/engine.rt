@@ -1,59 +1,70 @@
 //! A run from the bytes of an image and of a board to the bytes of a trace.
 
-ghost use Rattle.std.specs.Prelude.{◌≡◌, ◌^◌, ◌≤◌};
-ghost use Rattle.command.specs.Statuses.{GoesTo, Executes, Reads, board_in_file};
+ghost use Rattle.std.specs.Prelude.{◌≡◌, ◌⊎◌, false};
+ghost use Rattle.command.specs.Statuses.{GoesTo, Executes, Reads, Runs, board_in_file};
+ghost use Rattle.output.specs.Gathered.{gathered};
 ghost use Rattle.reference.specs.Images.{image_of};
 
+use crate::explanations::explain;
 use crate::fault::{Fault, stop_status, tell};
+use crate::files::InputFile;
 use board::{Board, BoardFault, read_board};
 use elf::load;
-use machine::{Out, Over, Paged, Slow, Stop};
+use machine::{Out, Paged, Slow, Stop};
 use std::alloc::Global;
 use std::io::Write;
-use std::marker::Brand;
 use std::str;
-use std::sync::ledger::{Blank, Ledger};
 
-/// Runs an image on a board for at most `steps` steps (at most 2^32) and writes its trace to `out`,
-/// or why there is none to `err`. Answers the exit status: 0 where the steps were made or a breakpoint
-/// was met, 3 for a refused image or board, 4 for another stop, 5 where `out` failed.
-pub fn go<W: Write + Drop, E: Write>(
+/// Runs an image on a board for at most `steps` steps and writes its trace to `out`, or why there is
+/// none to `err`, the fault first and then its reason. Returns the exit status: 0 after all steps or at
+/// a breakpoint, 3 for a refused image or board, 4 at another stop, 5 where `out` failed.
+pub fn go<O: Out + Drop, E: Write>(
     alloc: Global,
-    image: &[u8],
-    board: &[u8],
+    image: InputFile<'_>,
+    board: InputFile<'_>,
     steps: u64,
-    out: W,
+    out: &mut Paged<O>,
     err: &mut E,
 ) -> u8
-    requires { steps ≤ 2 ^ 32 }
-    ensures { GoesTo (image_of image.now) (board_in_file board.now) steps result }
+    ensures goes { GoesTo (image_of image.entry.bytes.now) (board_in_file board.entry.bytes.now) steps (gathered out.old) (gathered out.new) result }
+    ensures quiet { (result ≡ 0) ⊎ (result ≡ 4) → err.new ≡ err.old }
 {
-    match execute::<W, Brand>(alloc, image, board, steps, out, Blank::new(1)) {
+    match execute(alloc, image.bytes, board.bytes, steps, out) {
         Ok(stop) => stop_status(stop),
-        Err(fault) => tell(fault, err),
+        Err(fault) => {
+            let status = tell(fault, err);
+            let _ = explain(alloc, fault, image, board, err);
+            status
+        }
     }
 }
 
-/// Runs an image on a board and writes its trace. `blank` counts the calls of `out` that fail.
-fn execute<W: Write + Drop, K: Ledger>(
+/// Runs an image on a board and writes its trace.
+fn execute<O: Out + Drop>(
     alloc: Global,
     image: &[u8],
     board: &[u8],
     steps: u64,
-    out: W,
-    blank: Blank,
+    out: &mut Paged<O>,
 ) -> Result<Stop, Fault>
-    requires few { steps ≤ 2 ^ 32 }
-    requires name { blank.name ≡ K.name }
-    requires parts { blank.parts ≡ K.parts }
-    requires some { blank.parts ≡ 1 }
-    ensures { Executes (image_of image.now) (board_in_file board.now) steps result }
+    ensures { Executes (image_of image.now) (board_in_file board.now) steps (gathered out.old) (gathered out.new) result }
 {
     let image = load(image).map_err(Fault::Load)?;
     let board = board_of_file(alloc, board).map_err(Fault::Board)?;
     let mut machine = Slow::new(alloc, &image, &board).map_err(Fault::Start)?;
-    let mut out: Paged<Over<W, K>> = Paged::new(Over::new(out, blank));
-    match machine.run(steps, &mut out) {
+    run_through(&mut machine, steps, out)
+}
+
+/// Runs a machine and hands its whole trace on.
+fn run_through<O: Out + Drop>(
+    machine: &mut Slow,
+    steps: u64,
+    out: &mut Paged<O>,
+) -> Result<Stop, Fault>
+    requires { machine.old.broken ≡ false }
+    ensures { Runs steps machine.old.state (gathered out.old) (gathered out.new) result }
+{
+    match machine.run(steps, out) {
         Ok(stop) => match out.flush() {
             Ok(()) => Ok(stop),
             Err(_) => Err(Fault::Io),
@@ -62,8 +73,8 @@ fn execute<W: Write + Drop, K: Ledger>(
     }
 }
 
-/// The board that the bytes of a file describe.
-fn board_of_file(alloc: Global, bytes: &[u8]) -> Result<Board, BoardFault>
+/// Returns the board that the bytes of a file describe.
+pub fn board_of_file(alloc: Global, bytes: &[u8]) -> Result<Board, BoardFault>
     ensures { Reads (board_in_file bytes.now) result }
 {
     match str::from_utf8(bytes) {

@@ -5,12 +5,12 @@ ghost use Rattle.std.specs.Prelude.{◌≤◌, IfOk, vec_len};
 use crate::fault::Fault;
 use std::io::Read;
 use std::rt::{Env, Files};
-use std::{env, fs};
+use std::{env, fs, io};
 
-/// How many bytes a file may have: 16 MiB.
+/// The most bytes of a file: 16 MiB.
 const LIMIT: u64 = 0x100_0000;
 
-/// All words, the program's name among them.
+/// Returns all words, the program's name among them.
 pub fn words<R: Env + AllocGlobal>(rt: &R) -> Result<Vec<String>, Fault> {
     let mut words = Vec::new(rt.alloc());
     let Ok(given) = env::args(rt) else {
@@ -24,19 +24,37 @@ pub fn words<R: Env + AllocGlobal>(rt: &R) -> Result<Vec<String>, Fault> {
     Ok(words)
 }
 
-/// The bytes of a file, of which there are at most 16 MiB.
-pub fn read_file<R: Files + AllocGlobal>(rt: &R, path: &str) -> Result<Vec<u8>, Fault>
+/// A file that was read.
+#[derive(Clone, Copy)]
+pub struct InputFile<'a> {
+    pub path: &'a str,
+    pub bytes: &'a [u8],
+}
+
+/// Why a file isn't read.
+#[derive(Drop)]
+pub enum FileFault {
+    /// It has more than 16 MiB.
+    Size,
+    /// The system refuses, or memory ran out.
+    Read(io::Error),
+}
+
+/// Returns the bytes of a file, at most 16 MiB.
+pub fn read_file<R: Files + AllocGlobal>(rt: &R, path: &str) -> Result<Vec<u8>, FileFault>
     ensures { IfOk result (λ bytes. vec_len bytes ≤ 0x100_0000) }
 {
     let mut bytes = Vec::new(rt.alloc());
-    let Ok(file) = fs::open(rt, path) else {
-        return Err(Fault::Io);
+    let file = match fs::open(rt, path) {
+        Ok(file) => file,
+        Err(error) => return Err(FileFault::Read(error)),
     };
-    if file.take(LIMIT + 1).read_to_end(&mut bytes).is_err() {
-        return Err(Fault::Io);
+    match file.take(LIMIT + 1).read_to_end(&mut bytes) {
+        Ok(_) => {}
+        Err(error) => return Err(FileFault::Read(error)),
     }
     if bytes.len() as u64 > LIMIT {
-        return Err(Fault::Size);
+        return Err(FileFault::Size);
     }
     Ok(bytes)
 }

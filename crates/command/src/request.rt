@@ -2,7 +2,6 @@
 
 ghost use Rattle.std.specs.Prelude.{◌^◌, ◌≤◌, IfOk};
 
-use crate::fault::Fault;
 use command_line::{MOST_STEPS, WordsFault, words_of};
 use std::alloc::Global;
 
@@ -17,12 +16,12 @@ pub struct Request<'a> {
 }
 
 /// Reads the words, of which the first is the program's name.
-pub fn read_words<'a>(alloc: Global, words: &'a [String]) -> Result<Request<'a>, Fault>
+pub fn read_words<'a>(alloc: Global, words: &'a [String]) -> Result<Request<'a>, WordsFault>
     ensures { IfOk result (λ request. request.steps ≤ 2 ^ 32) }
 {
     let said = match words_of(alloc, words) {
         Ok(said) => said,
-        Err(fault) => return Err(fault_of(fault)),
+        Err(fault) => return Err(fault),
     };
     match said.steps.parse::<u64>() {
         Ok(steps) if steps <= MOST_STEPS => Ok(Request {
@@ -30,14 +29,6 @@ pub fn read_words<'a>(alloc: Global, words: &'a [String]) -> Result<Request<'a>,
             steps,
             image: said.image,
         }),
-        _ => Err(Fault::Usage),
-    }
-}
-
-/// Want of memory is no fault of the words.
-fn fault_of(fault: WordsFault) -> Fault {
-    match fault {
-        WordsFault::OutOfMemory => Fault::Io,
-        WordsFault::Usage => Fault::Usage,
+        _ => Err(WordsFault::Wrong(String::new(alloc))),
     }
 }

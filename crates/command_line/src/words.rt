@@ -2,11 +2,14 @@
 
 use clap::builder::ValueParser;
 use clap::error::ErrorKind;
-use clap::{Arg, ArgAction, Command, Error};
+use clap::{Arg, ArgAction, ArgMatches, Command, Error};
 use std::alloc::{AllocError, Global};
 
-/// How many steps a run has at most.
+/// The most steps of a run.
 pub const MOST_STEPS: u64 = 0x1_0000_0000;
+
+/// The program's version.
+const VERSION: &str = "0.1.0";
 
 /// What the words say.
 #[derive(Clone, Copy)]
@@ -19,79 +22,150 @@ pub struct Words<'a> {
     pub image: &'a str,
 }
 
-/// Why the words say nothing.
-#[derive(Clone, Copy)]
+/// Why the words name no run.
+#[derive(Drop)]
 pub enum WordsFault {
-    /// They are wrong.
-    Usage,
+    /// They are wrong: why, and the usage.
+    Wrong(String),
+    /// They ask for help: its text.
+    Help(String),
+    /// They ask for the version: its text.
+    Version(String),
     /// There was no memory to read them.
     OutOfMemory,
 }
 
-/// What the words say, of which the first is the program's name.
+/// Returns what the words say, of which the first is the program's name.
 pub fn words_of<'a>(alloc: Global, words: &'a [String]) -> Result<Words<'a>, WordsFault> {
     let Ok(command) = marm(alloc) else {
         return Err(WordsFault::OutOfMemory);
     };
     let matches = match command.try_get_matches_from(words) {
         Ok(matches) => matches,
-        Err(error) => return Err(fault_of(&error)),
+        Err(error) => return Err(fault_of(alloc, &error)),
     };
-    let Some((_, run)) = matches.subcommand() else {
-        return Err(WordsFault::Usage);
-    };
-    let (Some(board), Some(steps), Some(image)) = (
-        run.get_str("board"),
-        run.get_str("steps"),
-        run.get_str("image"),
-    ) else {
-        return Err(WordsFault::Usage);
-    };
-    Ok(Words {
-        board,
-        steps,
-        image,
-    })
-}
-
-/// Want of memory is no fault of the words.
-fn fault_of(error: &Error) -> WordsFault {
-    match error.kind() {
-        ErrorKind::OutOfMemory => WordsFault::OutOfMemory,
-        _ => WordsFault::Usage,
+    match matches.subcommand() {
+        Some((_, run)) => words_in(alloc, run),
+        None => Err(WordsFault::Wrong(String::new(alloc))),
     }
 }
 
-/// The command `marm`, with its one subcommand.
-fn marm<'a>(alloc: Global) -> Result<Command<'a>, AllocError> {
-    let run = Command::new(alloc, "run").arg(board(alloc))?;
-    let run = run.arg(steps(alloc))?;
-    let run = run.arg(image(alloc))?;
-    Command::new(alloc, "marm")
-        .subcommand_required(true)
-        .subcommand(run)
+/// Returns the values of the words after `run`. `clap` has found all three.
+fn words_in<'a>(alloc: Global, run: &ArgMatches<'a>) -> Result<Words<'a>, WordsFault> {
+    match (
+        run.get_str("board"),
+        run.get_str("steps"),
+        run.get_str("image"),
+    ) {
+        (Some(board), Some(steps), Some(image)) => Ok(Words {
+            board,
+            steps,
+            image,
+        }),
+        _ => Err(WordsFault::Wrong(String::new(alloc))),
+    }
 }
 
-/// `--board FILE`.
+/// Returns the fault of an error of `clap`, with its text.
+fn fault_of(alloc: Global, error: &Error) -> WordsFault {
+    let Ok(text) = error.to_string(alloc) else {
+        return WordsFault::OutOfMemory;
+    };
+    match error.kind() {
+        ErrorKind::OutOfMemory => WordsFault::OutOfMemory,
+        ErrorKind::DisplayHelp | ErrorKind::DisplayHelpOnMissingArgumentOrSubcommand => {
+            WordsFault::Help(text)
+        }
+        ErrorKind::DisplayVersion => WordsFault::Version(text),
+        ErrorKind::InvalidValue
+        | ErrorKind::UnknownArgument
+        | ErrorKind::InvalidSubcommand
+        | ErrorKind::NoEquals
+        | ErrorKind::ValueValidation
+        | ErrorKind::TooManyValues
+        | ErrorKind::TooFewValues
+        | ErrorKind::WrongNumberOfValues
+        | ErrorKind::ArgumentConflict
+        | ErrorKind::MissingRequiredArgument
+        | ErrorKind::MissingSubcommand
+        | ErrorKind::Io
+        | ErrorKind::Format => WordsFault::Wrong(text),
+    }
+}
+
+/// What the program's help says of its statuses and messages.
+const AFTER_MARM: &str = "\
+Exit status:
+  0  all steps were made, or a breakpoint was met; or the version was asked for
+  2  the words are wrong, or help was asked for (marm: usage)
+  3  the image or the board is refused (marm: load, board, start, size)
+  4  the machine stopped otherwise: the trace's last line says why
+  5  reading or writing failed, or memory ran out (marm: io)
+
+Example:
+  marm run --board examples/boards/small.toml --steps 10 examples/first.elf";
+
+/// What the help of `run` says of the trace and of the statuses.
+const AFTER_RUN: &str = "\
+The trace has one line for each access: its tick, kind, address, size in bytes, privilege, outcome,
+and the rule or region that decided it. Its last line says why the run ended.
+
+Exit status:
+  0  all steps were made, or a breakpoint was met
+  2  the words are wrong, or help was asked for (marm: usage)
+  3  the image or the board is refused (marm: load, board, start, size)
+  4  the machine stopped otherwise: the trace's last line says why
+  5  reading or writing failed, or memory ran out (marm: io)
+
+Example:
+  marm run --board examples/boards/small.toml --steps 10 examples/first.elf";
+
+/// Returns the command `marm`, with its one subcommand.
+fn marm<'a>(alloc: Global) -> Result<Command<'a>, AllocError> {
+    Command::new(alloc, "marm")
+        .about("An ARMv7-M machine that writes a proved trace of its memory accesses")
+        .version(VERSION)
+        .after_help(AFTER_MARM)
+        .subcommand_required(true)
+        .subcommand(run(alloc)?)
+}
+
+/// Returns the subcommand `run`, with its three arguments.
+fn run<'a>(alloc: Global) -> Result<Command<'a>, AllocError> {
+    let run = Command::new(alloc, "run")
+        .about("Runs an image on a board and writes the trace to standard output")
+        .after_help(AFTER_RUN);
+    let run = run.arg(board(alloc))?;
+    let run = run.arg(steps(alloc))?;
+    run.arg(image(alloc))
+}
+
+/// Returns `--board FILE`.
 fn board<'a>(alloc: Global) -> Arg<'a> {
     Arg::new(alloc, "board")
         .long("board")
+        .value_name("FILE")
+        .help("The board: a TOML file of at most 16 MiB with the memory, the lines and the events")
         .required(true)
         .action(ArgAction::Set)
 }
 
-/// `--steps N`, from 0 to 4294967296.
+/// Returns `--steps N`, from 0 to 4294967296.
 fn steps<'a>(alloc: Global) -> Arg<'a> {
     Arg::new(alloc, "steps")
         .long("steps")
+        .value_name("N")
+        .help("The most steps (instructions, entries, idle ticks) to make, from 0 to 4294967296")
         .required(true)
         .action(ArgAction::Set)
         .value_parser(ValueParser::unsigned(0, MOST_STEPS))
 }
 
-/// The image's path.
+/// Returns the image's path.
 fn image<'a>(alloc: Global) -> Arg<'a> {
     Arg::new(alloc, "image")
+        .value_name("IMAGE")
+        .help("The image: an ELF file for ARM of at most 16 MiB, linked to run")
         .required(true)
         .action(ArgAction::Set)
 }

@@ -1,7 +1,7 @@
 //! ADR: an address beside the instruction.
 
 ghost use Rattle.std.specs.Prelude.{◌≡◌};
-ghost use Rattle.reference.specs.DataProcessing.{address};
+ghost use Rattle.reference.specs.TwoOperands.{address};
 
 use reference::operands::Address;
 use reference::registers::Register;
@@ -9,7 +9,7 @@ use regs::Regs;
 
 /// ADR.
 #[inline]
-#[tactic(auto, unfolding(reference::specs::DataProcessing::address))]
+#[tactic(auto, unfolding(reference::specs::TwoOperands::address))]
 pub(crate) fn address(operands: &Address, regs: &mut Regs)
     ensures { regs.new ≡ address operands.now regs.old }
 {

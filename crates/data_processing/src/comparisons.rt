@@ -1,7 +1,7 @@
 //! Comparisons, which give flags alone: TST, TEQ, CMP and CMN.
 
 ghost use Rattle.std.specs.Prelude.{◌≡◌};
-ghost use Rattle.reference.specs.DataProcessing.{compared_by, compare_immediate, compare_register};
+ghost use Rattle.reference.specs.TwoOperands.{compared_by, compare_immediate, compare_register};
 
 use crate::two_operands::{with_immediate, with_shifted};
 use reference::operands::{CompareImmediate, CompareRegister, Comparison, DataOperation};
@@ -22,7 +22,7 @@ fn compared_by(comparison: Comparison) -> DataOperation
 
 /// TST, TEQ, CMP and CMN (immediate).
 #[inline]
-#[tactic(auto, unfolding(reference::specs::DataProcessing::compare_immediate))]
+#[tactic(auto, unfolding(reference::specs::TwoOperands::compare_immediate))]
 pub(crate) fn compare_immediate(operands: &CompareImmediate, regs: &mut Regs)
     ensures { regs.new ≡ compare_immediate operands.now regs.old }
 {
@@ -33,7 +33,7 @@ pub(crate) fn compare_immediate(operands: &CompareImmediate, regs: &mut Regs)
 
 /// TST, TEQ, CMP and CMN (register).
 #[inline]
-#[tactic(auto, unfolding(reference::specs::DataProcessing::compare_register))]
+#[tactic(auto, unfolding(reference::specs::TwoOperands::compare_register))]
 pub(crate) fn compare_register(operands: &CompareRegister, regs: &mut Regs)
     ensures { regs.new ≡ compare_register operands.now regs.old }
 {

@@ -18,7 +18,5 @@ mod shifts;
 mod two_operands;
 
 pub use fields::extended;
-pub use moves::move_register;
-pub use processing::process;
+pub use processing::{divides_by_zero, process, writes_pc};
 pub use rearrangement::width_of;
-pub use two_operands::data_register;

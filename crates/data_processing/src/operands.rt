@@ -1,7 +1,7 @@
 //! The second operand: a number and its carry, or a shifted register.
 
 ghost use Rattle.std.specs.Prelude.{◌≡◌};
-ghost use Rattle.reference.specs.DataProcessing.{immediate_carry, shifted};
+ghost use Rattle.reference.specs.TwoOperands.{immediate_carry, shifted};
 
 use reference::operands::{Immediate, ShiftedRegister};
 use reference::registers::Flags;

@@ -1,7 +1,7 @@
 //! What becomes of a result: the register that is given it, and the flags.
 
 ghost use Rattle.std.specs.Prelude.{◌≡◌};
-ghost use Rattle.reference.specs.DataProcessing.{sets_flags, logical, summed, written};
+ghost use Rattle.reference.specs.TwoOperands.{sets_flags, logical, summed, written};
 ghost use Rattle.reference.specs.Registers.{with_result};
 
 use reference::operands::FlagSetting;

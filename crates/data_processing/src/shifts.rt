@@ -1,7 +1,7 @@
 //! Shifts by the low byte of a register: LSL, LSR, ASR and ROR.
 
 ghost use Rattle.std.specs.Prelude.{◌≡◌};
-ghost use Rattle.reference.specs.DataProcessing.{shifted_by_register, shift_by_register};
+ghost use Rattle.reference.specs.TwoOperands.{shifted_by_register, shift_by_register};
 
 use crate::results::{logical, write};
 use reference::operands::ShiftByRegister;
@@ -23,7 +23,7 @@ fn shifted_by_register(operands: &ShiftByRegister, regs: &Regs) -> (u32, bool)
 
 /// LSL, LSR, ASR and ROR (register).
 #[inline]
-#[tactic(auto, unfolding(reference::specs::DataProcessing::shift_by_register))]
+#[tactic(auto, unfolding(reference::specs::TwoOperands::shift_by_register))]
 pub(crate) fn shift_by_register(operands: &ShiftByRegister, regs: &mut Regs)
     ensures { regs.new ≡ shift_by_register operands.now regs.old }
 {

@@ -1,7 +1,7 @@
 //! Operations on two operands: AND, BIC, ORR, ORN, EOR, ADD, ADC, SBC, SUB and RSB.
 
 ghost use Rattle.std.specs.Prelude.{◌≡◌};
-ghost use Rattle.reference.specs.DataProcessing.{computed, with_immediate, with_shifted, data_immediate, data_register};
+ghost use Rattle.reference.specs.TwoOperands.{computed, with_immediate, with_shifted, data_immediate, data_register};
 
 use crate::operands::{immediate_carry, shifted};
 use crate::results::{logical, summed, write};
@@ -11,7 +11,7 @@ use regs::{Regs, add_with_carry};
 
 /// What an operation makes of two operands, and the flags. The carry is the second operand's.
 #[inline]
-#[tactic(auto, unfolding(reference::specs::DataProcessing::computed))]
+#[tactic(auto, unfolding(reference::specs::TwoOperands::computed))]
 fn computed(operation: DataOperation, x: u32, y: u32, carry: bool, flags: Flags) -> (u32, Flags)
     ensures { result ≡ computed operation x y carry flags }
 {
@@ -65,7 +65,7 @@ pub(crate) fn with_shifted(
 
 /// AND, BIC, ORR, ORN, EOR, ADD, ADC, SBC, SUB and RSB (immediate).
 #[inline]
-#[tactic(auto, unfolding(reference::specs::DataProcessing::data_immediate))]
+#[tactic(auto, unfolding(reference::specs::TwoOperands::data_immediate))]
 pub(crate) fn data_immediate(operands: &DataImmediate, regs: &mut Regs)
     ensures { regs.new ≡ data_immediate operands.now regs.old }
 {
@@ -75,7 +75,7 @@ pub(crate) fn data_immediate(operands: &DataImmediate, regs: &mut Regs)
 
 /// AND, BIC, ORR, ORN, EOR, ADD, ADC, SBC, SUB and RSB (register).
 #[inline]
-#[tactic(auto, unfolding(reference::specs::DataProcessing::data_register))]
+#[tactic(auto, unfolding(reference::specs::TwoOperands::data_register))]
 pub fn data_register(operands: &DataRegister, regs: &mut Regs)
     ensures { regs.new ≡ data_register operands.now regs.old }
 {

@@ -1,7 +1,5 @@
-pub mod Texts
+pub mod Letters
+pub mod Masks
+pub mod Places
 pub mod Runs
-pub mod Known
-pub mod Verdicts
-pub mod Halfwords
-pub mod Pairs
-pub mod RowLaws
+pub mod Tables

@@ -3,31 +3,8 @@ use Rattle.std.proofs.Common.{◌≡◌, ℕ, ◌+◌, ◌*◌, ◌/◌, ◌%◌
 use Rattle.std.proofs.lemmas.Bool.{eqb-true}
 use Rattle.std.proofs.lemmas.Nat.{shr-shr, mod-pow-add, pow-add}
 use Rattle.reference.specs.Words.{bit_at, bits}
-use Rattle.reference.specs.Patterns.{joined, field}
-
--- places of one letter, side by side: how many places stand below them, and how many they are
-pub record Run : Type 0 where
-  pub low : ℕ
-  pub width : ℕ
-
--- the runs with one more place above them, if it is one of the letter's
-abbrev pub with_place : Bool → ℕ → List Run → List Run
-with_place false at runs = runs
-with_place true at [] = record { low = at; width = 1 } ∷ []
-with_place true at (run ∷ runs) =
-    if at == run.low + run.width
-    then record run { width = 1 + run.width } ∷ runs
-    else record { low = at; width = 1 } ∷ (run ∷ runs)
-
--- the runs of a letter in a text, from the highest
-abbrev pub runs_of : ℕ → List ℕ → List Run
-runs_of letter [] = []
-runs_of letter (place ∷ places) = with_place (place == letter) (length places) (runs_of letter places)
-
--- how many places the runs have
-abbrev pub width_of : List Run → ℕ
-width_of [] = 0
-width_of (run ∷ runs) = run.width + width_of runs
+use Rattle.reference.specs.Patterns.{joined_field, field}
+use Rattle.encodings.specs.Runs.{Run, with_place, runs_of, width_of, joined_runs, value_at}
 
 -- the bits of the runs, joined
 abbrev pub joined_bits : List Run → ℕ → ℕ
@@ -77,37 +54,28 @@ placed true x at before (run ∷ runs) =
     placed_above (at == run.low + run.width) x at before run runs (eqb-true at (run.low + run.width))
 
 -- a field is the bits of its letter's runs, behind those that stood before
-pub joined_runs : (letter : ℕ) (places : List ℕ) (x before : ℕ)
-    → joined letter places x before ≡ before * 2 ^ width_of (runs_of letter places) + joined_bits (runs_of letter places) x
-unfolding joined
-joined_runs letter [] x before = omega arith
-joined_runs letter (place ∷ places) x before =
-    joined_runs letter places x (if place == letter then before * 2 + bit_at x (length places) else before)
+joined_are : (letter : ℕ) (places : List ℕ) (x before : ℕ)
+    → joined_field letter places x before ≡ before * 2 ^ width_of (runs_of letter places) + joined_bits (runs_of letter places) x
+unfolding joined_field
+joined_are letter [] x before = omega arith
+joined_are letter (place ∷ places) x before =
+    joined_are letter places x (if place == letter then before * 2 + bit_at x (length places) else before)
     ∙ placed (place == letter) x (length places) before (runs_of letter places)
 
 -- ---- the same, as code writes it
-
-abbrev pub value_of : List Run → ℕ → ℕ
-value_of [] x = 0
-value_of (run ∷ []) x = bits x run.low run.width
-value_of (run ∷ (next ∷ runs)) x = bits x run.low run.width * 2 ^ width_of (next ∷ runs) + value_of (next ∷ runs) x
 
 bits_are : (x low width : ℕ) → x / 2 ^ low % 2 ^ width ≡ bits x low width
 unfolding bits
 bits_are x low width = refl
 
-value_is : (runs : List Run) (x : ℕ) → joined_bits runs x ≡ value_of runs x
+value_is : (runs : List Run) (x : ℕ) → joined_bits runs x ≡ joined_runs runs x
 value_is [] x = refl
 value_is (run ∷ []) x = omega (arith, bits_are x run.low run.width)
 value_is (run ∷ (next ∷ runs)) x = rw (bits_are x run.low run.width, value_is (next ∷ runs) x) refl
 
--- the field of a letter, read off the text
-abbrev pub value_at : List ℕ → ℕ → ℕ → ℕ
-value_at places x letter = value_of (runs_of letter places) x
-
 pub field_is : (places : List ℕ) (x letter : ℕ) → field places x letter ≡ value_at places x letter
 field_is places x letter =
-    let all : joined letter places x 0
+    let all : joined_field letter places x 0
     ≡ 0 * 2 ^ width_of (runs_of letter places) + joined_bits (runs_of letter places) x =
-    joined_runs letter places x 0 in
+    joined_are letter places x 0 in
     all ∙ omega (arith, value_is (runs_of letter places) x)

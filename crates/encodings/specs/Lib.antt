@@ -1,3 +1,5 @@
--- What the laws of the rows say. What a halfword means stands in the crate `reference`.
+-- How the code reads a row: the bits that its text fixes as masks, and its fields as runs of bits. The rows are in the crate
+-- `reference`.
 pub use Rattle.reference.specs.Decoding
-pub mod Laws
+pub mod Runs
+pub mod Masks

@@ -1,8 +1,7 @@
-//! What the decoders of 16 and of 32 bits share (ARM DDI 0403, "The Thumb instruction set encoding"): the
-//! fields of halfwords, what a row gives, and the laws of the rows.
+//! How a row of the instruction set is read (ARM DDI 0403, "The Thumb instruction set encoding"):
+//! its text, its fields, and what rows have in common.
 #![tactic(auto)]
 
-pub mod fields;
-pub mod given;
-pub mod laws;
 pub mod operands;
+pub mod outcomes;
+pub mod pattern;

@@ -1,18 +1,21 @@
 //! Operands that several rows have in common.
 
-ghost use Rattle.std.specs.Prelude.{◌≡◌, ◌<◌, ◌^◌};
-ghost use Rattle.reference.specs.LongData.{operand_of};
-ghost use Rattle.reference.specs.ShortControl.{hint_of};
-ghost use Rattle.reference.specs.ShortData.{number};
-ghost use Rattle.reference.specs.ShortMemory.{at_offset, is_above_lowest};
+ghost use Rattle.std.specs.Prelude.{◌≡◌, ◌==◌, ◌<◌, ◌^◌};
+ghost use Rattle.reference.specs.LongImmediate.{operand_of};
+ghost use Rattle.reference.specs.LoadStore.{writes_back};
+ghost use Rattle.reference.specs.RowOperands.{unshifted, shifted_by_number, number, flags_if, at_offset, signed_offset, indexing_of, byte_or_halfword, hint_of};
+ghost use Rattle.reference.specs.ShortLoadStore.{is_above_lowest};
 ghost use Rattle.reference.specs.Words.{is_bit, negated, sign_extended};
 
+use reference::access::Size;
 use reference::instruction::Hint;
-use reference::operands::{Immediate, ImmediateAddress, Indexing};
+use reference::operands::{FlagSetting, Immediate, ImmediateAddress, Indexing, ShiftedRegister};
 use reference::registers::Register;
+use reference::shift::{Shift, ShiftType};
+use regs::decode_imm_shift;
 
-/// The hints by their number.
-#[tactic(auto, unfolding(reference::specs::ShortControl::hint_of))]
+/// Returns the hints by their number.
+#[tactic(auto, unfolding(reference::specs::RowOperands::hint_of))]
 pub fn hint(number: u8) -> Hint
     ensures { result ≡ hint_of number }
 {
@@ -26,7 +29,7 @@ pub fn hint(number: u8) -> Hint
     }
 }
 
-/// `SignExtend(number, 32)` of so many bits.
+/// Returns `SignExtend(number, 32)` of a number of `bits` bits.
 pub fn sign_extend(bits: u8, number: u32) -> u32
     requires some { 0 < bits }
     requires narrow { bits < 32 }
@@ -40,7 +43,7 @@ pub fn sign_extend(bits: u8, number: u32) -> u32
     }
 }
 
-/// A number that keeps the carry.
+/// Returns a number that keeps the carry.
 #[inline]
 pub fn number(value: u32) -> Immediate
     ensures { result ≡ number value }
@@ -48,8 +51,8 @@ pub fn number(value: u32) -> Immediate
     Immediate { value, carry: None }
 }
 
-/// A modified immediate as an operand, from its twelve bits and what they expand to: the carry stays
-/// in the byte patterns, and otherwise is what came out last.
+/// Returns a modified immediate as an operand, from its twelve bits and what they expand to: the
+/// carry stays in the byte patterns, and otherwise is what came out last.
 #[inline]
 pub fn operand_of(imm12: u16, expanded: Option<(u32, bool)>) -> Option<Immediate>
     ensures { result ≡ operand_of imm12 expanded }
@@ -61,7 +64,7 @@ pub fn operand_of(imm12: u16, expanded: Option<(u32, bool)>) -> Option<Immediate
     })
 }
 
-/// The word that added to a word takes the other away: its two's complement.
+/// Returns the word that added to a word takes the other away: its two's complement.
 #[inline]
 #[tactic(auto, unfolding(reference::specs::Words::negated))]
 pub fn negated(offset: u32) -> u32
@@ -70,7 +73,7 @@ pub fn negated(offset: u32) -> u32
     offset.wrapping_neg()
 }
 
-/// A base and an offset, where the base stays.
+/// Returns a base and an offset, where the base stays.
 pub fn at_offset(n: Register, offset: u32) -> ImmediateAddress
     ensures { result ≡ at_offset n offset }
 {
@@ -81,16 +84,97 @@ pub fn at_offset(n: Register, offset: u32) -> ImmediateAddress
     }
 }
 
-/// Whether a register is in a list.
+/// Returns whether a register is in a list.
 pub fn is_in_list(n: Register, list: u16) -> bool
     ensures { result ≡ is_bit list n }
 {
     (list >> n.number()) % 2 == 1
 }
 
-/// Whether a register is in a list, and not its lowest.
+/// Returns whether a register is in a list, and not its lowest.
 pub fn is_above_lowest(n: Register, list: u16) -> bool
     ensures { result ≡ is_above_lowest n list }
 {
     is_in_list(n, list) && list % (1 << n.number()) != 0
+}
+
+/// Returns a register that isn't shifted.
+#[inline]
+pub fn unshifted(m: Register) -> ShiftedRegister
+    ensures { result ≡ unshifted m }
+{
+    ShiftedRegister {
+        register: m,
+        shift: Shift {
+            shift_type: ShiftType::Lsl,
+            amount: 0,
+        },
+    }
+}
+
+/// Returns a register shifted by a number.
+#[inline]
+#[tactic(auto, unfolding(reference::specs::RowOperands::shifted_by_number))]
+pub fn shifted(m: Register, shift_type: u8, imm5: u8) -> ShiftedRegister
+    ensures { result ≡ shifted_by_number m shift_type imm5 }
+{
+    ShiftedRegister {
+        register: m,
+        shift: decode_imm_shift(shift_type, imm5),
+    }
+}
+
+/// Returns when flags are set by `S`.
+pub fn flags_if(sets: bool) -> FlagSetting
+    ensures { result ≡ flags_if sets }
+{
+    if sets {
+        FlagSetting::Always
+    } else {
+        FlagSetting::Never
+    }
+}
+
+/// Returns a base, an offset, and what becomes of the base.
+pub fn indexed(base: Register, offset: u32, indexing: Indexing) -> ImmediateAddress
+    ensures { result ≡ record { base = base; offset = offset; indexing = indexing } }
+{
+    ImmediateAddress {
+        base,
+        offset,
+        indexing,
+    }
+}
+
+/// Returns an offset that is added where U is 1, and otherwise subtracted.
+#[tactic(auto, unfolding(reference::specs::RowOperands::signed_offset))]
+pub fn signed_offset(up: u32, offset: u32) -> u32
+    ensures { result ≡ signed_offset up offset }
+{
+    if up == 1 { offset } else { negated(offset) }
+}
+
+/// Returns the form of an index: P is before the access, W writes it back.
+pub fn indexing_of(before: u32, write_back: u32) -> Indexing
+    ensures { result ≡ indexing_of before write_back }
+{
+    match (before == 1, write_back == 1) {
+        (true, true) => Indexing::PreIndexed,
+        (true, false) => Indexing::Offset,
+        (false, _) => Indexing::PostIndexed,
+    }
+}
+
+/// Returns whether the base register is written.
+pub fn writes_back(indexing: Indexing) -> bool
+    ensures { result ≡ writes_back indexing }
+{
+    !matches!(indexing, Indexing::Offset)
+}
+
+/// Returns byte, or halfword where the bit is 1.
+pub fn byte_or_halfword(bit: u32) -> Size
+    ensures { result ≡ byte_or_halfword bit }
+{
+    if bit == 1 { Size::Halfword } else { Size::Byte }
 }

@@ -3,7 +3,7 @@ use Rattle.std.proofs.Common.{Bool, true, false, ◌≡◌, ℕ, suc, ◌+◌, �
 use Rattle.std.proofs.Math.Seq.{drop-cons, drop-length}
 use Rattle.std.specs.Prelude.{nat_lt, if◌then◌else◌}
 use Rattle.reference.specs.Fields.{extended}
-use Rattle.reference.specs.Transfers.{joined}
+use Rattle.reference.specs.LoadStore.{joined}
 
 -- none of them makes 0
 pub none_joined : (values : List ℕ) → 0 ≡ joined (drop (length values) values)

@@ -5,7 +5,7 @@ use Rattle.std.proofs.lemmas.List.{drop-drop, get_or-drop}
 use Rattle.reference.specs.declared.access.Kind.{Kind}
 use Rattle.reference.specs.declared.access.Request.{Request}
 use Rattle.reference.specs.Registers.{Registers, with_register}
-use Rattle.reference.specs.Several.{registers_below, registers_of, word_request, word_requests, loaded}
+use Rattle.reference.specs.LoadStoreMultiple.{registers_below, registers_of, word_request, word_requests, loaded}
 use Rattle.reference.specs.Words.{word_sum, is_bit}
 
 -- the registers of a list from one number on, below another

@@ -1,11 +1,16 @@
-//! Where the step goes on (ARM DDI 0403, BranchWritePC(), BXWritePC(), BLXWritePC() and
-//! LoadWritePC(); the operation of B, BL, BX, BLX, CBZ, CBNZ, TBB, TBH and IT).
+//! The branches and IT (ARM DDI 0403, the operation of B, BL, BX, BLX, CBZ, CBNZ, TBB, TBH and IT).
 
-ghost use Rattle.std.specs.Prelude.{◌≡◌, ◌==◌};
-ghost use Rattle.exec.specs.Plans.{finished_as};
-ghost use Rattle.reference.specs.Branches.{moves_on, branches, proceeds, branches_by, is_exception_return, exchanges, loads_into, conditional_branch, with_link, branch_exchange, is_taken, compare_and_branch, entry_address, table_branch, begun, if_then};
+ghost use Rattle.std.specs.Prelude.{◌≡◌, []};
+ghost use Rattle.exec.specs.Plans.{finished_as, planned};
+ghost use Rattle.reference.specs.Branches.{branch_requests, branch_effect, conditional_branch, with_link, branch_exchange, takes_branch, compare_and_branch, entry_address, table_branch, begun, if_then};
+ghost use Rattle.reference.specs.ProgramCounter.{branches_by};
 
-use reference::instruction::Ending;
+use crate::load_store::{joined, transfer};
+use crate::planning::Requests;
+use crate::program_counter::{branch_by, branched, exchange, move_on};
+use reference::access::{Access, Kind};
+use reference::failure::{Failure, Traps};
+use reference::instruction::{Branch, Ending};
 use reference::operands::{
     BranchExchange, CompareAndBranch, ConditionalBranch, IfThen, TableBranch,
 };
@@ -15,95 +20,61 @@ use regs::Regs;
 /// The number of the link register.
 const LR: u8 = 14;
 
-// ---- the end of an instruction
+// ---- the family
 
-/// The PC goes on by the length of the instruction.
+/// Appends what a branch asks for: the entry of the table for TBB and TBH.
 #[inline]
-pub fn move_on(regs: &mut Regs, length: u8) -> Ending
-    ensures { finished_as regs.new result ≡ moves_on length regs.old }
+#[tactic(auto, unfolding(reference::specs::Branches::branch_requests))]
+pub fn plan(
+    branch: &Branch,
+    regs: &Regs,
+    traps: Traps,
+    requests: &mut Requests,
+) -> Result<(), Failure>
+    requires { requests.old.items ≡ [] }
+    ensures { planned requests.new result ≡ branch_requests traps branch.now regs.now }
 {
-    regs.it_advance();
-    regs.go_on(u32::from(length));
-    Ending::Next
-}
-
-/// The PC was written.
-#[inline]
-fn branched(regs: &mut Regs) -> Ending
-    ensures { finished_as regs.new result ≡ branches regs.old }
-{
-    regs.it_advance();
-    Ending::Next
-}
-
-/// A register was written, which for the PC is a branch.
-#[inline]
-pub fn proceed(regs: &mut Regs, length: u8, destination: Register) -> Ending
-    ensures { finished_as regs.new result ≡ proceeds length destination regs.old }
-{
-    if is_pc(destination) {
-        return branched(regs);
+    match branch {
+        Branch::Table(operands) => {
+            let access = Access {
+                address: entry_address(operands, regs),
+                kind: Kind::Load,
+                size: operands.size,
+                privileged: regs.is_privileged(),
+            };
+            transfer(access, 0, traps, requests)
+        }
+        Branch::Immediate(_)
+        | Branch::Conditional(_)
+        | Branch::WithLink(_)
+        | Branch::Exchange(_)
+        | Branch::CompareAndBranch(_)
+        | Branch::IfThen(_) => Ok(()),
     }
-    move_on(regs, length)
 }
 
-/// Whether a register is the PC.
+/// Carries out a branch of `length` bytes.
 #[inline]
-pub fn is_pc(register: Register) -> bool
-    ensures { result ≡ (register == 15) }
+#[tactic(auto, unfolding(reference::specs::Branches::branch_effect))]
+pub fn finish(length: u8, branch: &Branch, regs: &mut Regs, values: &[u32]) -> Ending
+    ensures { finished_as regs.new result ≡ branch_effect length branch.now regs.old values.now }
 {
-    register.number() == 15
-}
-
-// ---- writes of the PC
-
-/// A branch by an offset to the PC as an operand.
-#[inline]
-pub fn branch_by(regs: &mut Regs, offset: u32) -> Ending
-    ensures { finished_as regs.new result ≡ branches_by offset regs.old }
-{
-    let from = regs.get(Register::PC);
-    regs.branch(from.wrapping_add(offset));
-    branched(regs)
-}
-
-/// Whether a value returns from the exception: in Handler mode, where its bits 31:28 are all ones.
-#[inline]
-fn is_exception_return(value: u32, regs: &Regs) -> bool
-    ensures { result ≡ is_exception_return value regs.now }
-{
-    regs.is_handler() && value >> 28 == 15
-}
-
-/// `BXWritePC(value)` and `LoadWritePC(value)`.
-#[inline]
-pub fn exchange(regs: &mut Regs, value: u32) -> Ending
-    ensures { finished_as regs.new result ≡ exchanges value regs.old }
-{
-    if is_exception_return(value, regs) {
-        return Ending::ExceptionReturn(value);
+    match branch {
+        Branch::Immediate(operands) => branch_by(regs, operands.offset),
+        Branch::Conditional(operands) => conditional_branch(regs, length, operands),
+        Branch::WithLink(operands) => branch_with_link(regs, length, operands.offset),
+        Branch::Exchange(operands) => branch_exchange(regs, length, operands),
+        Branch::CompareAndBranch(operands) => compare_and_branch(regs, length, operands),
+        Branch::Table(_) => table_branch(regs, joined(values)),
+        Branch::IfThen(operands) => if_then(regs, length, operands),
     }
-    regs.branch_exchange(value);
-    branched(regs)
-}
-
-/// A register is given a value that was loaded.
-#[inline]
-pub fn load_into(regs: &mut Regs, length: u8, target: Register, value: u32) -> Ending
-    ensures { finished_as regs.new result ≡ loads_into length target value regs.old }
-{
-    if is_pc(target) {
-        return exchange(regs, value);
-    }
-    regs.set(target, value);
-    move_on(regs, length)
 }
 
 // ---- branches
 
 /// B with a condition of its own.
 #[inline]
-pub fn conditional_branch(regs: &mut Regs, length: u8, operands: &ConditionalBranch) -> Ending
+fn conditional_branch(regs: &mut Regs, length: u8, operands: &ConditionalBranch) -> Ending
     ensures { finished_as regs.new result ≡ conditional_branch length operands.now regs.old }
 {
     if regs.condition(operands.condition) {
@@ -123,7 +94,7 @@ fn link(regs: &mut Regs, length: u8)
 
 /// BL.
 #[inline]
-pub fn branch_with_link(regs: &mut Regs, length: u8, offset: u32) -> Ending
+fn branch_with_link(regs: &mut Regs, length: u8, offset: u32) -> Ending
     ensures { finished_as regs.new result ≡ branches_by offset (with_link length regs.old) }
 {
     link(regs, length);
@@ -132,7 +103,7 @@ pub fn branch_with_link(regs: &mut Regs, length: u8, offset: u32) -> Ending
 
 /// BX, and BLX, which never returns from an exception.
 #[inline]
-pub fn branch_exchange(regs: &mut Regs, length: u8, operands: &BranchExchange) -> Ending
+fn branch_exchange(regs: &mut Regs, length: u8, operands: &BranchExchange) -> Ending
     ensures { finished_as regs.new result ≡ branch_exchange length operands.now regs.old }
 {
     let target = regs.get(operands.target);
@@ -146,8 +117,8 @@ pub fn branch_exchange(regs: &mut Regs, length: u8, operands: &BranchExchange) -
 
 /// Whether CBZ or CBNZ is taken.
 #[inline]
-fn is_taken(operands: &CompareAndBranch, regs: &Regs) -> bool
-    ensures { result ≡ is_taken operands.now regs.now }
+fn takes_branch(operands: &CompareAndBranch, regs: &Regs) -> bool
+    ensures { result ≡ takes_branch operands.now regs.now }
 {
     let is_zero = regs.get(operands.register) == 0;
     if operands.nonzero { !is_zero } else { is_zero }
@@ -155,10 +126,10 @@ fn is_taken(operands: &CompareAndBranch, regs: &Regs) -> bool
 
 /// CBZ and CBNZ.
 #[inline]
-pub fn compare_and_branch(regs: &mut Regs, length: u8, operands: &CompareAndBranch) -> Ending
+fn compare_and_branch(regs: &mut Regs, length: u8, operands: &CompareAndBranch) -> Ending
     ensures { finished_as regs.new result ≡ compare_and_branch length operands.now regs.old }
 {
-    if is_taken(operands, regs) {
+    if takes_branch(operands, regs) {
         return branch_by(regs, operands.offset);
     }
     move_on(regs, length)
@@ -166,7 +137,7 @@ pub fn compare_and_branch(regs: &mut Regs, length: u8, operands: &CompareAndBran
 
 /// The address of an entry of a table.
 #[inline]
-pub fn entry_address(operands: &TableBranch, regs: &Regs) -> u32
+fn entry_address(operands: &TableBranch, regs: &Regs) -> u32
     ensures { result ≡ entry_address operands.now regs.now }
 {
     let offset = operands.size.bytes().wrapping_mul(regs.get(operands.index));
@@ -175,7 +146,7 @@ pub fn entry_address(operands: &TableBranch, regs: &Regs) -> u32
 
 /// TBB and TBH, of the entry that was read.
 #[inline]
-pub fn table_branch(regs: &mut Regs, halfwords: u32) -> Ending
+fn table_branch(regs: &mut Regs, halfwords: u32) -> Ending
     ensures { finished_as regs.new result ≡ table_branch halfwords regs.old }
 {
     branch_by(regs, halfwords.wrapping_mul(2))
@@ -193,7 +164,7 @@ fn begun(operands: &IfThen) -> u8
 
 /// IT: the block begins with the next instruction, so nothing is advanced.
 #[inline]
-pub fn if_then(regs: &mut Regs, length: u8, operands: &IfThen) -> Ending
+fn if_then(regs: &mut Regs, length: u8, operands: &IfThen) -> Ending
     ensures { finished_as regs.new result ≡ if_then length operands.now regs.old }
 {
     regs.set_it(begun(operands));

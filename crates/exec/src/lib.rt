@@ -4,14 +4,17 @@
 
 mod branches;
 mod finishing;
+mod load_store;
+mod load_store_multiple;
 mod planning;
-mod several;
-mod special;
-mod transfers;
+mod processing;
+mod program_counter;
+mod system;
 
-pub use branches::move_on;
 pub use finishing::finish;
-pub use planning::{MOST_REQUESTS, Requests, is_misplaced, plan};
+pub use planning::{Requests, is_misplaced, plan};
+pub use program_counter::move_on;
 pub use reference::access::Request;
+pub use reference::failure::{Failure, Traps};
 pub use reference::instruction::{CodedInstruction, Ending, Instruction};
 pub use reference::stop::Stop;

@@ -1,3 +1,3 @@
 mod Loading
-mod Running
-mod Serving
+pub mod Running
+mod Room

@@ -10,6 +10,7 @@ use Rattle.reference.specs.Run.{after, events_of, ending_of, trace}
 use Rattle.reference.specs.State.{State}
 use Rattle.reference.specs.Step.{step, unless_stopped}
 use Rattle.reference.specs.Text.{lines, line, stop_line}
+use Rattle.output.specs.Gathered.{GrowsByPrefix}
 use Rattle.output.specs.Output.{IsCutAfter, IsCutShort}
 use Rattle.machine.specs.Runs.{Leaves}
 
@@ -135,3 +136,46 @@ after_on n s core now = rw (now, after_more n s) refl
 -- the stop that is told is that of the whole run
 pub ends_so : (limit : ℕ) (s core : State) (shown : Stop) → shown ≡ unwrap_or core.stop StepLimit → core ≡ after limit s → shown ≡ ending_of limit s
 ends_so limit s core shown same now = rw (← now) same
+
+-- the events of a run begin with those of its first steps
+record Continues (m k : ℕ) (s : State) : Type 0 where
+  others : List Event
+  whole : events_of (m + k) s ≡ events_of m s ++ others
+
+continues : (m k : ℕ) (s : State) → Continues m k s
+continues m zero s = record { others = []; whole = rw (add-zero, append-nil) refl }
+continues m (suc k) s =
+    let before = continues m k s in
+    let e : m + suc k ≡ (m + k) + 1 = omega arith in
+    record {
+      others = before.others ++ (step (after (m + k) s)).events;
+      whole = rw (e, events_more (m + k) s, before.whole, append_assoc) refl;
+    }
+
+-- the lines of a run begin with those of its first steps
+lines_continue : (m n : ℕ) (s : State) → m + 1 ≤ n → (others : List Event) × (lines (events_of n s) ≡ lines (events_of m s) ++ lines (step (after m s)).events ++ lines others)
+lines_continue m n s few =
+    let e : (m + 1) + (n - (m + 1)) ≡ n = omega arith in
+    let all = continues (m + 1) (n - (m + 1)) s in
+    let whole : events_of n s ≡ events_of (m + 1) s ++ all.others = rw e at all.whole in
+    (all.others, rw (whole, lines-append (events_of (m + 1) s) all.others, told_more m s, append_assoc) refl)
+
+-- what went out before a text that was cut short is a prefix of what begins so
+prefix_of : (old new : Option (List ℕ)) (before text behind all : List ℕ) → IsCutAfter old new before text → all ≡ before ++ text ++ behind → GrowsByPrefix old new all
+prefix_of old new before text behind all cut e = record {
+  front = before ++ cut.front;
+  behind = cut.byte ∷ (cut.behind ++ behind);
+  whole = rw (e, cut.whole) (simp append_assoc refl);
+  grew = cut.went;
+}
+
+-- what a run that was cut short put is a prefix of the trace
+pub left_prefix : (n : ℕ) (s : State) (steps : ℕ) (old new : Option (List ℕ)) (last : State) → Leaves n s steps old new last → GrowsByPrefix old new (trace n s)
+unfolding trace
+left_prefix n s steps old new last left = elim left.cut [
+  | inl in_step ↦
+      let few : steps - 1 + 1 ≤ n = omega (arith, in_step.0, left.few) in
+      let all = lines_continue (steps - 1) n s few in
+      prefix_of old new _ _ (lines all.0 ++ stop_line (ending_of n s)) _ in_step.1 (rw (all.1, append_assoc) refl)
+  | inr in_stop ↦ prefix_of old new _ _ [] _ in_stop.1 (rw append-nil refl)
+]

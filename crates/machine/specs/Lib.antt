@@ -1,5 +1,5 @@
+pub mod Room
 pub mod Runs
-pub mod Serving
 pub mod Starts
 pub mod Values
 pub mod Whole

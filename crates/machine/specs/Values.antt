@@ -1,9 +1,10 @@
--- The values of the registers, as a debugger shows them. The masks are 0 until priorities are built.
+-- The values of the registers, as a debugger shows them.
 use Rattle.machine.specs.declared.readers.RegValues.{RegValues}
-use Rattle.reference.specs.Registers.{Registers, xpsr, control}
+use Rattle.reference.specs.declared.exception.Masks.{Masks}
+use Rattle.reference.specs.Registers.{Registers, xpsr, control, weighed}
 
-abbrev pub values_of : Registers → RegValues
-values_of r = record {
+abbrev pub values_of : Registers → Masks → RegValues
+values_of r m = record {
   general = r.general;
   msp = r.msp;
   psp = r.psp;
@@ -11,7 +12,7 @@ values_of r = record {
   pc = r.pc;
   xpsr = xpsr r;
   control = control r;
-  primask = 0;
-  faultmask = 0;
-  basepri = 0;
+  primask = weighed m.primask 1;
+  faultmask = weighed m.faultmask 1;
+  basepri = m.basepri;
 }

@@ -1,7 +1,6 @@
 //! The machine: steps, runs and their traces.
 #![tactic(auto)]
 
-mod accesses;
 mod placing;
 pub mod readers;
 mod run;
@@ -10,13 +9,14 @@ mod stepping;
 mod whole;
 
 pub use access::{Counting, Decider, DueTicks, Search};
-pub use accesses::Events;
 pub use board::{Board, InterruptLine, ScriptedEvent, Signal};
-pub use output::{IoFault, MOST_EVENTS, Out, Over, Paged};
+pub use exceptions::Events;
+pub use output::{IoFault, Out, Over, Paged};
 pub use readers::RegValues;
 pub use reference::board::{Layout, SMALL_BOARD};
-pub use reference::event::Event;
+pub use reference::event::{Event, MOST_EVENTS};
 pub use reference::fault::{PlaceFault, StartFault};
+pub use reference::mpu::RegionCount;
 pub use reference::place::Place;
 pub use reference::stop::Stop;
 pub use trace::lines::{Text, event_line, stop_line};

@@ -4,20 +4,19 @@ ghost use Rattle.std.specs.Prelude.{◌≡◌, true};
 ghost use Rattle.machine.specs.Starts.{PlacesAt};
 ghost use Rattle.reference.specs.declared.place.Place.TheVariants.{Word};
 ghost use Rattle.reference.specs.Map.{is_in_ppb};
-ghost use Rattle.reference.specs.Places.{place, is_special, is_there, is_word_aligned, special_taken, store_of, taken};
+ghost use Rattle.reference.specs.Places.{place, is_there, is_word_aligned, special_taken, store_of, taken};
+ghost use Rattle.reference.specs.SpecialRegisters.{special_of};
 
-use crate::stepping::{Core, UNBUILT};
-use access::{Decider, DueTicks};
-use reference::access::{Answer, Kind, Request, Size};
+use crate::stepping::Processor;
+use access::{Decider, DueTicks, Levels};
+use reference::access::{Access, Answer, Kind, Request, Size};
 use reference::fault::PlaceFault;
 use reference::map::is_in_ppb;
+use reference::operands::SpecialRegister;
 use reference::place::Place;
 use reference::registers::Register;
 
-/// The number of CONTROL among the special registers.
-const CONTROL: u8 = 20;
-
-impl<D: Decider, U: DueTicks> Core<D, U> {
+impl<D: Decider, L: Levels, U: DueTicks> Processor<D, L, U> {
     /// Puts a value into a register or a word.
     #[tactic(auto, unfolding(reference::specs::Places::place))]
     pub fn place(&mut self, value: Place) -> Result<(), PlaceFault>
@@ -29,7 +28,7 @@ impl<D: Decider, U: DueTicks> Core<D, U> {
         if !self.is_there(value) {
             return Err(PlaceFault::NoSuchPlace);
         }
-        if self.stop().is_some() || self.registers().is_handler() {
+        if self.stop().is_some() || self.is_in_entry() || self.registers().is_handler() {
             return Err(PlaceFault::Stopped);
         }
         self.take(value)
@@ -41,7 +40,7 @@ impl<D: Decider, U: DueTicks> Core<D, U> {
     {
         match value {
             Place::Reg(number, _) => number < 16,
-            Place::Special(number, _) => is_special(number),
+            Place::Special(number, _) => SpecialRegister::of(number).is_some(),
             Place::Word(address, _) => {
                 let space = self.bus().space();
                 space.is_in_flash(address, 4) || space.is_in_ram(address, 4) || is_in_ppb(address)
@@ -70,14 +69,14 @@ impl<D: Decider, U: DueTicks> Core<D, U> {
         }
     }
 
-    /// MSR by privileged code in Thread mode; CONTROL is the special register that is built.
+    /// Writes a special register as MSR by privileged code in Thread mode does.
     fn take_special(&mut self, number: u8, value: u32) -> Result<(), PlaceFault>
-        ensures { PlacesAt (special_taken self.old number value) self.old self.new result }
+        ensures { PlacesAt (special_taken self.old (special_of number) value) self.old self.new result }
     {
-        if number != CONTROL {
-            return Err(PlaceFault::Refused(UNBUILT));
-        }
-        self.set_control(value);
+        let Some(special) = SpecialRegister::of(number) else {
+            return Err(PlaceFault::NoSuchPlace);
+        };
+        self.set_special(special, value);
         Ok(())
     }
 
@@ -103,22 +102,17 @@ fn is_word_aligned(value: Place) -> bool
     }
 }
 
-/// Whether MSR and MRS know a special register of this number.
-fn is_special(number: u8) -> bool
-    ensures { result ≡ is_special number }
-{
-    matches!(number, 0..=3 | 5..=9 | 16..=20)
-}
-
 /// A store of a word by privileged code.
 fn store_of(address: u32, value: u32) -> Request
     ensures { result ≡ store_of address value }
 {
     Request {
-        address,
+        access: Access {
+            address,
+            kind: Kind::Store,
+            size: Size::Word,
+            privileged: true,
+        },
         value,
-        kind: Kind::Store,
-        size: Size::Word,
-        privileged: true,
     }
 }

@@ -4,8 +4,8 @@ ghost use Rattle.std.specs.Prelude.{◌≡◌};
 ghost use Rattle.reference.specs.Memory.{byte_at};
 ghost use Rattle.reference.specs.Regions.{shown};
 
-use crate::stepping::Core;
-use access::{Decider, DueTicks};
+use crate::stepping::Processor;
+use access::{Decider, DueTicks, Levels};
 
 /// The values of the core registers, each as a word.
 #[derive(Clone, Copy)]
@@ -24,14 +24,15 @@ pub struct RegValues {
     pub basepri: u32,
 }
 
-impl<D: Decider, U: DueTicks> Core<D, U> {
+impl<D: Decider, L: Levels, U: DueTicks> Processor<D, L, U> {
     ghost use Rattle.machine.specs.Values.{values_of};
 
     /// The values of the core registers.
     pub fn regs(&self) -> RegValues
-        ensures { result ≡ values_of self.now.registers }
+        ensures { result ≡ values_of self.now.registers self.now.bus.system.nvic.masks }
     {
         let regs = self.registers();
+        let masks = self.bus().system.masks();
         RegValues {
             general: regs.general(),
             msp: regs.main_stack(),
@@ -40,9 +41,9 @@ impl<D: Decider, U: DueTicks> Core<D, U> {
             pc: regs.pc(),
             xpsr: regs.xpsr(),
             control: regs.control(),
-            primask: 0,
-            faultmask: 0,
-            basepri: 0,
+            primask: u32::from(masks.primask),
+            faultmask: u32::from(masks.faultmask),
+            basepri: u32::from(masks.basepri),
         }
     }
 
@@ -55,8 +56,8 @@ impl<D: Decider, U: DueTicks> Core<D, U> {
 
     /// RBAR and RASR of a region, if there is one of that number.
     pub fn region(&self, number: u8) -> Option<(u32, u32)>
-        ensures { result ≡ shown self.now.bus.mpu number }
+        ensures { result ≡ shown self.now.bus.system.mpu number }
     {
-        self.bus().region(number)
+        self.bus().system.region(number)
     }
 }

@@ -7,8 +7,8 @@ ghost use Rattle.reference.specs.Boards.{numbers_of};
 ghost use Rattle.reference.specs.Start.{start, blank, are_placed, is_placed, loaded, vector};
 ghost use Rattle.elf.specs.Segment.{segment_of};
 
-use crate::stepping::Core;
-use access::{Bus, Decider, DueTicks};
+use crate::stepping::Processor;
+use access::{Bus, Decider, DueTicks, Levels, System};
 use board::Board;
 use elf::{Image, Segment};
 use reference::board::Layout;
@@ -21,11 +21,11 @@ use std::alloc::Global;
 /// The core of a board, with an image in its memory, before the first step. The segments are looked
 /// at before any memory is taken.
 #[tactic(auto, unfolding(reference::specs::Start::start))]
-pub fn start_core<D: Decider, U: DueTicks>(
+pub fn start_core<D: Decider, L: Levels, U: DueTicks>(
     alloc: Global,
     image: &Image<'_>,
     board: &Board,
-) -> Result<Core<D, U>, StartFault>
+) -> Result<Processor<D, L, U>, StartFault>
     ensures { StartsAt (start (described board.now) image.now) result }
 {
     if !are_placed(&board.layout, image.segments()) {
@@ -40,7 +40,14 @@ pub fn start_core<D: Decider, U: DueTicks>(
     }
     load_segments(&mut space, image.segments());
     let regs = Regs::reset(space.vector(0), space.vector(1));
-    Ok(Core::new(regs, Bus::new(space, script)))
+    let system = System::reset(
+        board.layout.flash_base,
+        board.layout.lines,
+        board.layout.priority_bits,
+        board.layout.regions.number(),
+        script,
+    );
+    Ok(Processor::new(regs, Bus::new(space, system)))
 }
 
 /// Whether each segment lies wholly in flash or wholly in RAM.

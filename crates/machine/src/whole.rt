@@ -1,6 +1,6 @@
 //! The machine that a user has: a core, and whether its trace is still whole.
 
-ghost use Rattle.std.specs.Prelude.{◌≡◌, length, ◌↔◌, ◌^◌, ◌≤◌, false, true, Ok, Err, IfOk, IfErr, OnOk};
+ghost use Rattle.std.specs.Prelude.{◌≡◌, length, ◌↔◌, ◌≤◌, false, true, Ok, Err, IfOk, IfErr, OnOk};
 ghost use Rattle.board.specs.Seen.{described};
 ghost use Rattle.machine.specs.Runs.{Fails};
 ghost use Rattle.machine.specs.Starts.{Starts, Places};
@@ -12,16 +12,17 @@ ghost use Rattle.reference.specs.Start.{start};
 ghost use Rattle.reference.specs.Step.{step};
 ghost use Rattle.std.specs.Io.KnownBytes.{Appends};
 
-use crate::accesses::Events;
 use crate::readers::RegValues;
 use crate::run::run_core;
 use crate::start::start_core;
-use crate::stepping::Core;
-use access::{Counting, Decider, DueTicks, Search};
+use crate::stepping::Processor;
+use access::{Counting, Decider, DueTicks, Levels, PlainLevels, Search};
 use board::Board;
 use decode::Memo;
 use elf::Image;
-use output::{MOST_EVENTS, Out};
+use exceptions::Events;
+use output::Out;
+use reference::event::MOST_EVENTS;
 use reference::fault::{PlaceFault, StartFault};
 use reference::place::Place;
 use reference::stop::Stop;
@@ -31,24 +32,26 @@ use std::marker::Model;
 /// Why a run didn't end.
 #[derive(Clone, Copy)]
 pub enum RunFault {
-    /// The writer failed. So many steps of this call were made.
+    /// The writer failed after `steps` steps of this call.
     Write { steps: u64 },
     /// The writer failed in an earlier run.
     Broken,
 }
 
-/// A machine, whose accesses are decided by a `D`, and whose ticks are counted by a `U`.
+/// A machine, whose accesses are decided by a `D`, whose exceptions are kept by an `L`, and whose
+/// ticks are counted by a `U`.
 #[derive(Drop)]
-pub struct Machine<D: Decider, U: DueTicks> {
-    core: Core<D, U>,
+pub struct Machine<D: Decider, L: Levels, U: DueTicks> {
+    core: Processor<D, L, U>,
     memo: Memo,
     broken: bool,
 }
 
-/// The machine that searches the regions at each access, and counts each tick.
-pub type Slow = Machine<Search, Counting>;
+/// The machine that searches the regions at each access, looks at each exception, and counts each
+/// tick.
+pub type Slow = Machine<Search, PlainLevels, Counting>;
 
-impl<D: Decider, U: DueTicks> Model for Machine<D, U> {
+impl<D: Decider, L: Levels, U: DueTicks> Model for Machine<D, L, U> {
     ghost use Rattle.machine.specs.Whole.{Whole};
 
     ghost Value = { Whole };
@@ -56,7 +59,7 @@ impl<D: Decider, U: DueTicks> Model for Machine<D, U> {
     ghost view = { λ m. record { state = m.core; broken = m.broken } };
 }
 
-impl<D: Decider, U: DueTicks> Machine<D, U> {
+impl<D: Decider, L: Levels, U: DueTicks> Machine<D, L, U> {
     ghost use Rattle.machine.specs.Values.{values_of};
 
     /// The machine of a board, with an image in its memory, before the first step.
@@ -86,8 +89,6 @@ impl<D: Decider, U: DueTicks> Machine<D, U> {
 
     /// Makes at most `limit` steps, up to the first stop, and writes their trace.
     pub fn run<W: Out>(&mut self, limit: u64, out: &mut W) -> Result<Stop, RunFault>
-        requires { limit ≤ 2 ^ 32 }
-
         // The whole trace of the reference machine went out, and the machine is in its state.
         ensures written { OnOk result (Appends (W.written out.old) (W.written out.new) (trace limit self.old.state)) }
         ensures state { OnOk result (self.new ≡ record self.old { state = after limit self.old.state }) }
@@ -126,7 +127,7 @@ impl<D: Decider, U: DueTicks> Machine<D, U> {
 
     /// The values of the core registers.
     pub fn regs(&self) -> RegValues
-        ensures { result ≡ values_of self.now.state.registers }
+        ensures { result ≡ values_of self.now.state.registers self.now.state.bus.system.nvic.masks }
     {
         self.core.regs()
     }
@@ -140,7 +141,7 @@ impl<D: Decider, U: DueTicks> Machine<D, U> {
 
     /// RBAR (with VALID 0 and REGION as given) and RASR of a region, if there is one of that number.
     pub fn region(&self, number: u8) -> Option<(u32, u32)>
-        ensures { result ≡ shown self.now.state.bus.mpu number }
+        ensures { result ≡ shown self.now.state.bus.system.mpu number }
     {
         self.core.region(number)
     }

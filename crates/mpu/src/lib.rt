@@ -11,4 +11,6 @@ mod rules;
 pub use decider::{Decider, Search};
 pub use reference::access::{Decision, Kind, Rule};
 pub use reference::mpu::{MpuRegister, MpuStop, Region};
+pub use regions::{is_enabled, size, switched_off};
 pub use registers::{MpuRegs, register_at, stop_of};
+pub use rules::{Rights, before_regions, by_region, without_region};

@@ -17,7 +17,7 @@ pub(crate) fn is_bit(word: u32, bit: u32) -> bool
 
 /// RASR.ENABLE.
 #[inline]
-fn is_enabled(attributes: u32) -> bool
+pub fn is_enabled(attributes: u32) -> bool
     ensures { result ≡ is_enabled attributes }
 {
     is_bit(attributes, 0)
@@ -32,8 +32,9 @@ pub fn size(attributes: u32) -> u32
     attributes >> 1 & 31
 }
 
+#[inline]
 /// RASR.SRD: a bit for each of eight subregions.
-fn switched_off(attributes: u32) -> u32
+pub fn switched_off(attributes: u32) -> u32
     ensures { result ≡ switched_off attributes }
 {
     attributes >> 8 & 0xFF

@@ -1,5 +1,5 @@
 -- The best of the exceptions that are pending and enabled, and the candidate.
-use Rattle.std.proofs.Common.{◌≡◌, ℕ, zero, suc, ◌+◌, ◌*◌, ◌/◌, ◌^◌, ◌<◌, ◌≤◌, ◌⊎◌, ◌↔◌, inr, Bool, true, false, nat_lt, if◌then◌else◌, slice_index, Option, Some, None, refl, arith, below_more}
+use Rattle.std.proofs.Common.{◌≡◌, ℕ, zero, suc, ◌+◌, ◌*◌, ◌/◌, ◌^◌, ◌<◌, ◌≤◌, ◌⊎◌, ◌↔◌, inr, Bool, true, false, nat_lt, if◌then◌else◌, slice_index, Option, Some, None, refl, subst, arith, below_more}
 use Rattle.std.proofs.Math.Nat.{div-mul-le_self, mul-le-mul_right}
 use Rattle.std.proofs.lemmas.Nat.{le-div, pow_pos}
 use Rattle.std.proofs.lemmas.Bool.{ltb-true, ltb-false}
@@ -121,16 +121,20 @@ preempting n (Some x) f = split (nat_lt (group_priority n x) (execution_priority
         omega (arith, above, more)
 
 -- the candidate is the best exception, where it preempts
-candidate_is : (n : Nvic) → IsCandidate n (candidate n)
+pub candidate_is : (n : Nvic) → IsCandidate n (candidate n)
 unfolding candidate
 candidate_is n = preempting n (best n) (best_is n)
 
 -- and two candidates are one
-only_candidate : (n : Nvic) (o p : Option ℕ) → IsCandidate n o → IsCandidate n p → o ≡ p
+pub only_candidate : (n : Nvic) (o p : Option ℕ) → IsCandidate n o → IsCandidate n p → o ≡ p
 only_candidate n None None f g = refl
 only_candidate n None (Some y) f g = let h = f y g.0.0 in let k = g.1 in absurd (omega (arith, h, k))
 only_candidate n (Some x) None f g = let h = g x f.0.0 in let k = f.1 in absurd (omega (arith, h, k))
 only_candidate n (Some x) (Some y) f g = only_best n (Some x) (Some y) f.0 g.0
+
+-- the number of the best exception is one that an exception can have
+pub best_small : (n : Nvic) (x : ℕ) → best n ≡ Some x → x < EXCEPTIONS
+best_small n x e = (subst (IsBest n) e (best_is n)).0.in_range
 
 -- ---- they alone are
 

@@ -10,7 +10,7 @@ use Rattle.nvic.specs.Laws.{IsSetOf, AreKept, IsOfBoard}
 -- ---- lists
 
 -- what holds at each place of a list, and of what is written at one, holds at each place afterwards
-at_each : {A : Type 0} (P : ℕ → A → Type 0) (xs : List A) (i : ℕ) (v d : A)
+pub at_each : {A : Type 0} (P : ℕ → A → Type 0) (xs : List A) (i : ℕ) (v d : A)
     → P i v → ((j : ℕ) → P j (get_or xs j d)) → (j : ℕ) → P j (get_or (set xs i v) j d)
 at_each P [] i v d p h j = h j
 at_each P (x ∷ xs) zero v d p h zero = p
@@ -19,7 +19,7 @@ at_each P (x ∷ xs) (suc i) v d p h zero = h zero
 at_each P (x ∷ xs) (suc i) v d p h (suc j) = at_each (λ k a. P (suc k) a) xs i v d p (λ k. h (suc k)) j
 
 -- a list of one value has it at each place, and behind it stands what is asked for
-same_each : {A : Type 0} (n : ℕ) (v : A) (j : ℕ) → get_or (replicate n v) j v ≡ v
+pub same_each : {A : Type 0} (n : ℕ) (v : A) (j : ℕ) → get_or (replicate n v) j v ≡ v
 same_each zero v j = refl
 same_each (suc n) v zero = refl
 same_each (suc n) v (suc j) = same_each n v j

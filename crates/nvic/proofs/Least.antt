@@ -34,7 +34,7 @@ lessened_le n k p = grind arith
 lessened_here : (n : Nvic) (k p : ℕ) → is_in n.active k ≡ true → lessened n k p ≤ group_priority n k
 lessened_here n k p e = rw e (omega arith)
 
-at_most_lowest : (n : Nvic) (k : ℕ) → least_active n k ≤ lowest
+pub at_most_lowest : (n : Nvic) (k : ℕ) → least_active n k ≤ lowest
 unfolding least_active
 at_most_lowest n zero = omega arith
 at_most_lowest n (suc k) = let h = lessened_le n k (least_active n k) in let i = at_most_lowest n k in omega (arith, h, i)
@@ -45,7 +45,7 @@ at_most_next n k p before =
     or_last (λ x. is_in n.active x ≡ true → lessened n k p ≤ group_priority n x) k
     (λ x h e. let less = lessened_le n k p in let i = before x h e in omega (arith, less, i)) (lessened_here n k p)
 
-at_most_active : (n : Nvic) (k x : ℕ) → x < k → is_in n.active x ≡ true → least_active n k ≤ group_priority n x
+pub at_most_active : (n : Nvic) (k x : ℕ) → x < k → is_in n.active x ≡ true → least_active n k ≤ group_priority n x
 unfolding least_active
 at_most_active n zero x h e = absurd (omega arith)
 at_most_active n (suc k) x h e = at_most_next n k (least_active n k) (at_most_active n k) x h e

@@ -1,9 +1,12 @@
 //! What the machine asks of its exceptions, however they are kept.
 
-ghost use Rattle.std.specs.Prelude.{◌≡◌, true, false, slice_index};
-ghost use Rattle.reference.specs.Priorities.{Nvic, is_in, is_enabled as is_enabled_of, best as best_of, is_interrupt_pending as is_interrupt_pending_of, is_other_active as is_other_active_of, execution_priority as execution_priority_of, candidate as candidate_of, candidate_after as candidate_after_of, escalation, with_pending, with_active, with_enabled, with_priority, with_group, with_primask, with_faultmask, with_basepri, with_due, reset_nvic};
+ghost use Rattle.std.specs.Prelude.{◌≡◌, ◌<◌, true, false, min, nat_lt, slice_index, IfSome};
+ghost use Rattle.reference.specs.declared.exception.TheConstants.{EXCEPTIONS};
+ghost use Rattle.reference.specs.Priorities.{Nvic, is_in, is_enabled as is_enabled_of, best as best_of, is_interrupt_pending as is_interrupt_pending_of, is_other_active as is_other_active_of, least_active, group_priority as group_priority_of, is_below_zero as is_below_zero_of, execution_priority as execution_priority_of, candidate as candidate_of, candidate_unmasked as candidate_unmasked_of, boosted as boosted_of, candidate_after as candidate_after_of, escalation, with_pending, with_active, with_enabled, with_priority, with_group, with_primask, with_faultmask, with_basepri, with_due, with_due_at, reset_nvic};
 
-use reference::exception::{Escalation, Masks, Priority};
+use crate::numbers::{is_due, is_interrupt};
+use crate::priorities::{boosted, fixed_or, grouped};
+use reference::exception::{EXCEPTIONS, Escalation, HARD_FAULT, Masks, NMI, Priority};
 
 /// The exceptions of a board: which are pending, enabled and active, their priorities, the masks.
 ///
@@ -24,10 +27,6 @@ pub trait Levels: Drop {
     /// The exception isn't pending any more.
     fn clear(&mut self, number: u16)
         ensures { content self.new ≡ with_pending (content self.old) number false };
-
-    /// Each exception that is due becomes pending: bit n mod 32 of word n / 32 is that of n.
-    fn pend_due(&mut self, due: &[u32; 8])
-        ensures { content self.new ≡ with_due (content self.old) due.now };
 
     /// MemManage, BusFault, UsageFault or a line is enabled. The others always are.
     fn enable(&mut self, number: u16)
@@ -84,7 +83,8 @@ pub trait Levels: Drop {
 
     /// AIRCR.PRIGROUP, from 0 to 7.
     fn group(&self) -> u8
-        ensures { result ≡ (content self.now).group };
+        ensures value { result ≡ (content self.now).group }
+        ensures small { result < 8 };
 
     /// PRIMASK, FAULTMASK and BASEPRI.
     fn masks(&self) -> Masks
@@ -98,32 +98,174 @@ pub trait Levels: Drop {
     fn priority_bits(&self) -> u8
         ensures { result ≡ (content self.now).priority_bits };
 
-    /// Whether an interrupt is pending, enabled or not: ICSR.ISRPENDING.
-    fn is_interrupt_pending(&self) -> bool
-        ensures { result ≡ is_interrupt_pending_of (content self.now) };
-
-    /// Whether an exception is active that hasn't this number.
-    fn is_other_active(&self, number: u16) -> bool
-        ensures { result ≡ is_other_active_of (content self.now) number };
-
-    /// `ExecutionPriority()`.
-    fn execution_priority(&self) -> Priority
-        ensures { result ≡ execution_priority_of (content self.now) };
+    /// The least group priority of the active exceptions, and the lowest priority where none is
+    /// active.
+    fn active_priority(&self) -> Priority
+        ensures { result ≡ least_active (content self.now) EXCEPTIONS };
 
     /// The best of the exceptions that are pending and enabled, whatever is active or masked.
     fn best(&self) -> Option<u16>
         ensures { result ≡ best_of (content self.now) };
 
-    /// The exception that is taken next: the best one, where it preempts.
-    fn candidate(&self) -> Option<u16>
-        ensures { result ≡ candidate_of (content self.now) };
+    /// A copy.
+    fn copied(&self) -> Self
+        ensures { content result ≡ content self.now };
+
+    /// Each exception that is due becomes pending: bit n mod 32 of word n / 32 is that of n.
+    #[tactic(auto, using(crate::proofs::Waiting::nothing_added), unfolding(reference::specs::Priorities::with_due))]
+    fn pend_due(&mut self, due: &[u32; 8])
+        ensures { content self.new ≡ with_due (content self.old) due.now }
+    {
+        if *due == [0; 8] {
+            return;
+        }
+        #[tactic(auto, unfolding(reference::specs::Priorities::with_due_below))]
+        'each: for number in 0..EXCEPTIONS {
+            self.pend_if_due(due, number);
+        }
+    }
+
+    /// The exception becomes pending where it's due.
+    #[tactic(auto, unfolding(reference::specs::Priorities::with_due_at))]
+    #[inline]
+    fn pend_if_due(&mut self, due: &[u32; 8], number: u16)
+        requires { number < 256 }
+        ensures { content self.new ≡ with_due_at (content self.old) due.now number }
+    {
+        if is_due(due, number) {
+            self.pend(number);
+        }
+    }
+
+    /// Whether an interrupt is pending, enabled or not: ICSR.ISRPENDING.
+    #[tactic(auto, unfolding(reference::specs::Priorities::is_interrupt_pending))]
+    fn is_interrupt_pending(&self) -> bool
+        ensures { result ≡ is_interrupt_pending_of (content self.now) }
+    {
+        let mut found = false;
+        #[tactic(auto, unfolding(reference::specs::Priorities::some_below))]
+        'each: for number in 0..EXCEPTIONS {
+            found = found || (is_interrupt(self.lines(), number) && self.is_pending(number));
+        }
+        found
+    }
+
+    /// Whether an exception is active that hasn't this number.
+    #[tactic(auto, unfolding(reference::specs::Priorities::is_other_active))]
+    fn is_other_active(&self, number: u16) -> bool
+        ensures { result ≡ is_other_active_of (content self.now) number }
+    {
+        let mut found = false;
+        #[tactic(auto, unfolding(reference::specs::Priorities::some_below))]
+        'each: for other in 0..EXCEPTIONS {
+            found = found || (other != number && self.is_active(other));
+        }
+        found
+    }
 
     /// What would be the candidate with these pending too, bit n mod 32 of word n / 32 being that
     /// of n, and with this PRIMASK.
+    #[tactic(auto, unfolding(reference::specs::Priorities::candidate_after))]
     fn candidate_after(&self, due: &[u32; 8], primask: bool) -> Option<u16>
-        ensures { result ≡ candidate_after_of (content self.now) due.now primask };
+        ensures { result ≡ candidate_after_of (content self.now) due.now primask }
+    {
+        let mut after = self.copied();
+        after.pend_due(due);
+        after.set_primask(primask);
+        after.candidate()
+    }
+
+    /// `ExecutionPriority()`.
+    #[tactic(auto, unfolding(reference::specs::Priorities::execution_priority))]
+    fn execution_priority(&self) -> Priority
+        ensures { result ≡ execution_priority_of (content self.now) }
+    {
+        self.priority_under(self.masks())
+    }
+
+    /// The execution priority under these masks.
+    fn priority_under(&self, masks: Masks) -> Priority
+        ensures { result ≡ min (least_active (content self.now) EXCEPTIONS) (boosted_of (content self.now).group masks) }
+    {
+        let held = self.active_priority();
+        let masked = boosted(self.group(), masks);
+        if masked.is_below(held) { masked } else { held }
+    }
+
+    /// Whether the execution priority is below 0, which FAULTMASK, NMI and HardFault alone make it.
+    #[tactic(auto, using(crate::proofs::BelowZero::below_zero))]
+    fn is_below_zero(&self) -> bool
+        ensures { result ≡ is_below_zero_of (content self.now) }
+    {
+        self.masks().faultmask || self.is_active(NMI) || self.is_active(HARD_FAULT)
+    }
+
+    /// The group priority of an exception.
+    fn group_priority(&self, number: u16) -> Priority
+        ensures { result ≡ group_priority_of (content self.now) number }
+    {
+        fixed_or(number, grouped(self.group(), self.priority(number)))
+    }
+
+    /// Whether the group priority of an exception is below the execution priority.
+    fn preempts(&self, number: u16) -> bool
+        ensures { result ≡ nat_lt (group_priority_of (content self.now) number) (execution_priority_of (content self.now)) }
+    {
+        let limit = self.execution_priority();
+        self.group_priority(number).is_below(limit)
+    }
+
+    /// The exception that is taken next: the best one, where it preempts.
+    #[tactic(auto, unfolding(reference::specs::Priorities::candidate))]
+    fn candidate(&self) -> Option<u16>
+        ensures value { result ≡ candidate_of (content self.now) }
+        ensures small { IfSome result (λ number. number < EXCEPTIONS) }
+    {
+        let best = self.best()?;
+        if self.preempts(best) {
+            Some(best)
+        } else {
+            None
+        }
+    }
+
+    /// What would be the candidate were PRIMASK 0. Below 0 only NMI can be, so the other exceptions
+    /// aren't asked there.
+    #[tactic(auto, using(crate::proofs::Unmasked::unmasked, crate::proofs::Unmasked::below_zero_nmi))]
+    fn candidate_unmasked(&self) -> Option<u16>
+        ensures { result ≡ candidate_unmasked_of (content self.now) }
+    {
+        if self.is_below_zero() {
+            return if self.is_pending(NMI) && !self.is_active(NMI) {
+                Some(NMI)
+            } else {
+                None
+            };
+        }
+        let best = self.best()?;
+        let mut masks = self.masks();
+        masks.primask = false;
+        if self
+            .group_priority(best)
+            .is_below(self.priority_under(masks))
+        {
+            Some(best)
+        } else {
+            None
+        }
+    }
 
     /// What becomes of a fault or of SVC whose exception has this number.
+    #[tactic(auto, unfolding(reference::specs::Priorities::escalation))]
     fn escalate(&self, number: u16) -> Escalation
-        ensures { result ≡ escalation (content self.now) number };
+        ensures { result ≡ escalation (content self.now) number }
+    {
+        if self.is_enabled(number) && self.preempts(number) {
+            Escalation::Itself
+        } else if self.is_below_zero() {
+            Escalation::Lockup
+        } else {
+            Escalation::HardFault
+        }
+    }
 }

@@ -9,5 +9,7 @@ mod plain;
 mod priorities;
 
 pub use levels::Levels;
+pub use numbers::{has_byte, is_always_enabled, is_exception, is_switched};
 pub use plain::PlainLevels;
+pub use priorities::{grouped, kept};
 pub use reference::exception::{Escalation, Masks, Priority};

@@ -1,12 +1,10 @@
 //! The exceptions as plain sets: each question looks at all of them.
 
-ghost use Rattle.std.specs.Prelude.{◌≡◌, ◌<◌, nat_lt};
-ghost use Rattle.reference.specs.Priorities.{priority_of as priority_of_number, group_priority as group_priority_of, is_ready as is_ready_of, least_active as least_active_of, execution_priority as execution_priority_of, better_of as better_of_both, with_ready as with_ready_of, with_due_at};
+ghost use Rattle.std.specs.Prelude.{◌≡◌, ◌<◌, slice_set};
+ghost use Rattle.reference.specs.Priorities.{priority_of as priority_of_number, group_priority as group_priority_of, is_ready as is_ready_of, least_active as least_active_of, execution_priority as execution_priority_of, better_of as better_of_both, with_ready as with_ready_of};
 
 use crate::levels::Levels;
-use crate::numbers::{
-    has_byte, is_always_enabled, is_due, is_exception, is_interrupt, is_switched,
-};
+use crate::numbers::{has_byte, is_always_enabled, is_exception, is_switched};
 use crate::priorities::{boosted, fixed_or, grouped, kept};
 use reference::exception::{EXCEPTIONS, Escalation, MOST_LINES, Masks, Priority};
 use std::marker::Model;
@@ -22,10 +20,13 @@ pub struct PlainLevels {
     masks: Masks,
     lines: u8,
     priority_bits: u8,
+    /// The number of pending exceptions.
+    waiting: u16,
 }
 
 impl Model for PlainLevels {
-    ghost use Rattle.std.specs.Prelude.{◌<◌, ◌≤◌};
+    ghost use Rattle.std.specs.Prelude.{◌≡◌, ◌<◌, ◌≤◌};
+    ghost use Rattle.nvic.specs.Waiting.{count_in};
     ghost use Rattle.reference.specs.Priorities.{Nvic};
 
     ghost Value = { Nvic };
@@ -41,12 +42,13 @@ impl Model for PlainLevels {
       priority_bits = l.priority_bits;
     } };
 
-    ghost invariant = { λ l. (l.group < 8) × (l.lines ≤ 240) };
+    ghost invariant = { λ l. (l.group < 8) × (l.lines ≤ 240) × (l.waiting ≡ count_in l.pending) };
 }
 
 impl Levels for PlainLevels {
     ghost content = { λ l. l };
 
+    #[tactic(auto, using(crate::proofs::Waiting::none_at_first))]
     fn fresh(lines: u8, priority_bits: u8) -> Self {
         PlainLevels {
             pending: [false; EXCEPTIONS as usize],
@@ -61,27 +63,20 @@ impl Levels for PlainLevels {
             },
             lines: lines.min(MOST_LINES),
             priority_bits,
+            waiting: 0,
         }
     }
 
     #[inline]
     fn pend(&mut self, number: u16) {
         if is_exception(self.lines, number) {
-            self.pending[number as usize] = true;
+            self.put(number as u8, true);
         }
     }
 
     fn clear(&mut self, number: u16) {
         if is_exception(self.lines, number) {
-            self.pending[number as usize] = false;
-        }
-    }
-
-    #[tactic(auto, unfolding(reference::specs::Priorities::with_due))]
-    fn pend_due(&mut self, due: &[u32; 8]) {
-        #[tactic(auto, unfolding(reference::specs::Priorities::with_due_below))]
-        'each: for number in 0..EXCEPTIONS {
-            self.pend_if_due(due, number);
+            self.put(number as u8, false);
         }
     }
 
@@ -170,78 +165,7 @@ impl Levels for PlainLevels {
         self.priority_bits
     }
 
-    #[tactic(auto, unfolding(reference::specs::Priorities::is_interrupt_pending))]
-    fn is_interrupt_pending(&self) -> bool {
-        let mut found = false;
-        #[tactic(auto, unfolding(reference::specs::Priorities::some_below))]
-        'each: for number in 0..EXCEPTIONS {
-            found = found || (is_interrupt(self.lines, number) && self.pending[number as usize]);
-        }
-        found
-    }
-
-    #[tactic(auto, unfolding(reference::specs::Priorities::is_other_active))]
-    fn is_other_active(&self, number: u16) -> bool {
-        let mut found = false;
-        #[tactic(auto, unfolding(reference::specs::Priorities::some_below))]
-        'each: for other in 0..EXCEPTIONS {
-            found = found || (other != number && self.active[other as usize]);
-        }
-        found
-    }
-
-    #[tactic(auto, unfolding(reference::specs::Priorities::execution_priority))]
-    fn execution_priority(&self) -> Priority {
-        let held = self.least_active();
-        let masked = boosted(self.group, self.masks);
-        if masked.is_below(held) { masked } else { held }
-    }
-
-    #[tactic(auto, unfolding(reference::specs::Priorities::best))]
-    fn best(&self) -> Option<u16> {
-        let mut best: Option<u16> = None;
-        #[tactic(auto, unfolding(reference::specs::Priorities::best_below))]
-        'each: for number in 0..EXCEPTIONS {
-            best = self.with_ready(best, number);
-        }
-        best
-    }
-
-    #[tactic(auto, unfolding(reference::specs::Priorities::candidate))]
-    fn candidate(&self) -> Option<u16> {
-        let best = self.best()?;
-        if self.preempts(best) {
-            Some(best)
-        } else {
-            None
-        }
-    }
-
-    #[tactic(auto, unfolding(reference::specs::Priorities::candidate_after))]
-    fn candidate_after(&self, due: &[u32; 8], primask: bool) -> Option<u16> {
-        let mut after = self.copied();
-        after.pend_due(due);
-        after.set_primask(primask);
-        after.candidate()
-    }
-
-    #[tactic(auto, unfolding(reference::specs::Priorities::escalation))]
-    fn escalate(&self, number: u16) -> Escalation {
-        if self.is_enabled(number) && self.preempts(number) {
-            Escalation::Itself
-        } else if self.execution_priority().is_negative() {
-            Escalation::Lockup
-        } else {
-            Escalation::HardFault
-        }
-    }
-}
-
-impl PlainLevels {
-    /// The least group priority of the active exceptions.
-    fn least_active(&self) -> Priority
-        ensures { result ≡ least_active_of self.now 256 }
-    {
+    fn active_priority(&self) -> Priority {
         let mut least = Priority::LOWEST;
         #[tactic(auto, unfolding(reference::specs::Priorities::least_active))]
         'each: for number in 0..EXCEPTIONS {
@@ -255,6 +179,45 @@ impl PlainLevels {
         least
     }
 
+    #[tactic(auto, using(crate::proofs::Waiting::none_best), unfolding(reference::specs::Priorities::best))]
+    fn best(&self) -> Option<u16> {
+        if self.waiting == 0 {
+            return None;
+        }
+        let mut best: Option<u16> = None;
+        #[tactic(auto, unfolding(reference::specs::Priorities::best_below))]
+        'each: for number in 0..EXCEPTIONS {
+            best = self.with_ready(best, number);
+        }
+        best
+    }
+
+    fn copied(&self) -> Self {
+        PlainLevels {
+            pending: self.pending,
+            enabled: self.enabled,
+            active: self.active,
+            priorities: self.priorities,
+            group: self.group,
+            masks: self.masks,
+            lines: self.lines,
+            priority_bits: self.priority_bits,
+            waiting: self.waiting,
+        }
+    }
+}
+
+impl PlainLevels {
+    /// Makes an exception pending, or not pending any more.
+    #[tactic(auto, using(crate::proofs::Waiting::waiting_set, crate::proofs::Waiting::waiting_room))]
+    fn put(&mut self, number: u8, on: bool)
+        ensures { self.new ≡ record self.old { pending = slice_set self.old.pending number on } }
+    {
+        self.waiting += u16::from(on);
+        self.waiting -= u16::from(self.pending[number as usize]);
+        self.pending[number as usize] = on;
+    }
+
     /// The priority of an exception.
     #[inline]
     fn priority_of(&self, number: u16) -> Priority
@@ -263,28 +226,12 @@ impl PlainLevels {
         fixed_or(number, self.priority(number))
     }
 
-    /// The group priority of an exception.
-    #[inline]
-    fn group_priority(&self, number: u16) -> Priority
-        ensures { result ≡ group_priority_of self.now number }
-    {
-        fixed_or(number, grouped(self.group, self.priority(number)))
-    }
-
     /// Whether the exception is pending and enabled.
     #[inline]
     fn is_ready(&self, number: u16) -> bool
         ensures { result ≡ is_ready_of self.now number }
     {
         self.is_pending(number) && self.is_enabled(number)
-    }
-
-    /// Whether the group priority of the exception is below the execution priority.
-    fn preempts(&self, number: u16) -> bool
-        ensures { result ≡ nat_lt (group_priority_of self.now number) (execution_priority_of self.now) }
-    {
-        let limit = self.execution_priority();
-        self.group_priority(number).is_below(limit)
     }
 
     /// The better of one exception, if there is one, and another with a higher number, where that
@@ -309,34 +256,6 @@ impl PlainLevels {
         match before {
             Some(first) if !self.priority_of(number).is_below(self.priority_of(first)) => before,
             _ => Some(number),
-        }
-    }
-
-    /// The exception becomes pending where it's due.
-    #[tactic(auto, unfolding(reference::specs::Priorities::with_due_at))]
-    #[inline]
-    fn pend_if_due(&mut self, due: &[u32; 8], number: u16)
-        requires { number < 256 }
-        ensures { self.new ≡ with_due_at self.old due.now number }
-    {
-        if is_due(due, number) {
-            self.pend(number);
-        }
-    }
-
-    /// A copy.
-    fn copied(&self) -> Self
-        ensures { result ≡ self.now }
-    {
-        PlainLevels {
-            pending: self.pending,
-            enabled: self.enabled,
-            active: self.active,
-            priorities: self.priorities,
-            group: self.group,
-            masks: self.masks,
-            lines: self.lines,
-            priority_bits: self.priority_bits,
         }
     }
 }

@@ -5,4 +5,4 @@ mod paged;
 mod writer;
 
 pub use paged::Paged;
-pub use writer::{IoFault, MOST_EVENTS, Out, Over, StepPage};
+pub use writer::{IoFault, Out, Over, StepPage};

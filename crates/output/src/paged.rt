@@ -4,8 +4,8 @@ ghost use Rattle.std.specs.Prelude.{◌≡◌, ◌+◌, ◌≤◌, [], length, d
 ghost use Rattle.reference.specs.Text.{lines};
 ghost use Rattle.std.specs.Io.KnownBytes.{append_known, Keeps};
 
-use crate::writer::{IoFault, MOST_EVENTS, Out, StepPage};
-use reference::event::Event;
+use crate::writer::{IoFault, Out, StepPage};
+use reference::event::{Event, MOST_EVENTS};
 use trace::page::Page;
 use trace::tick::Tick;
 
@@ -37,6 +37,18 @@ impl<O: Out + Drop> Paged<O> {
             page: Page::new(),
             at: 0,
         }
+    }
+
+    /// Returns the writer below. What still waits on the page is lost: call `flush` before.
+    pub fn into_inner(self) -> O
+        ensures { result ≡ self.inner }
+    {
+        let Paged {
+            inner,
+            page: _,
+            at: _,
+        } = self;
+        inner
     }
 
     /// Hands the page on. After a fault a beginning of it went on, and the rest is still there.

@@ -4,16 +4,13 @@ ghost use Rattle.std.specs.Prelude.{◌≡◌, ℕ, ◌+◌, ◌<◌, ◌≤◌,
 ghost use Rattle.output.specs.Output.{Took, Put};
 ghost use Rattle.reference.specs.Text.{lines};
 
-use reference::event::Event;
+use reference::event::{Event, MOST_EVENTS};
 use std::io::Write;
 use std::marker::Model;
 use std::sync::ledger::{Blank, Book, Ledger, Share};
 use thiserror::Error;
 use trace::page::Page;
 use trace::tick::Tick;
-
-/// How many events a step has at most.
-pub const MOST_EVENTS: usize = 40;
 
 /// Room for the lines of a step, each of at most 64 bytes.
 pub type StepPage = Page<2560>;
@@ -88,6 +85,18 @@ impl<W: Write + Drop, K: Ledger> Over<W, K> {
     {
         let (book, share) = blank.open();
         Over { inner, book, share }
+    }
+
+    /// Returns the standard library's writer.
+    pub fn into_inner(self) -> W
+        ensures { result ≡ self.inner }
+    {
+        let Over {
+            inner,
+            book: _,
+            share: _,
+        } = self;
+        inner
     }
 }
 

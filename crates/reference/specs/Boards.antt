@@ -1,11 +1,12 @@
 -- What a board is (profile): its numbers, each with its range, and the script of what happens on its lines. What the
 -- text of a board means stands in the crate `board`, over the `toml` crate's meaning of a document.
-use Rattle.std.specs.Prelude.{ℕ, ◌+◌, ◌%◌, ◌<◌, ◌≤◌, Bool, ◌&&◌, nat_le, ◌==◌, List, [], ◌∷◌}
+use Rattle.std.specs.Prelude.{ℕ, ◌+◌, ◌%◌, ◌<◌, ◌≤◌, Bool, ◌&&◌, ◌||◌, nat_le, ◌==◌, List, [], ◌∷◌}
 use Rattle.reference.specs.declared.board.Layout.{Layout}
 use Rattle.reference.specs.declared.script.ScriptedEvent.{ScriptedEvent}
 use Rattle.reference.specs.declared.script.Signal.{Signal}
 use Rattle.reference.specs.declared.script.Signal.TheVariants.{Rise, Fall, Pulse, Nmi}
 use Rattle.reference.specs.Map.{ram_base}
+use Rattle.reference.specs.Regions.{region_number}
 use Rattle.reference.specs.Time.{last_tick}
 
 -- the numbers of a board
@@ -15,6 +16,7 @@ pub record Numbers : Type 0 where
   pub ram_size : ℕ
   pub priority_bits : ℕ
   pub lines : ℕ
+  pub regions : ℕ
 
 -- a board: its numbers, and its script in the order of the text
 pub record Described : Type 0 where
@@ -29,6 +31,7 @@ numbers_of layout = record {
   ram_size = layout.ram_size;
   priority_bits = layout.priority_bits;
   lines = layout.lines;
+  regions = region_number layout.regions;
 }
 
 -- flash and RAM come in blocks of 1,024 bytes
@@ -40,7 +43,7 @@ abbrev pub most_bytes : ℕ
 most_bytes = 0x10_0000
 
 abbrev pub most_lines : ℕ
-most_lines = 32
+most_lines = 240
 
 abbrev pub most_events : ℕ
 most_events = 65536
@@ -68,6 +71,14 @@ is_priority_bits bits = nat_le 3 bits && nat_le bits 8
 -- a number of lines
 abbrev pub is_line_count : ℕ → Bool
 is_line_count lines = nat_le lines most_lines
+
+-- a number of MPU regions
+abbrev pub is_region_count : ℕ → Bool
+is_region_count regions = (regions == 8) || (regions == 16)
+
+-- how many regions there are where the text doesn't say it
+abbrev pub default_regions : ℕ
+default_regions = 8
 
 -- a tick in which an event can apply
 abbrev pub is_tick : ℕ → Bool

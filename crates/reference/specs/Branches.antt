@@ -1,61 +1,24 @@
--- Where the step goes on (ARM DDI 0403, BranchWritePC(), BXWritePC(), BLXWritePC() and LoadWritePC(); the operation of B,
--- BL, BX, BLX, CBZ, CBNZ, TBB, TBH and IT).
-use Rattle.std.specs.Prelude.{ℕ, ◌+◌, ◌*◌, ◌/◌, ◌%◌, ◌^◌, Bool, not, ◌&&◌, ◌==◌, if◌then◌else◌}
-use Rattle.reference.specs.declared.instruction.Ending.{Ending}
-use Rattle.reference.specs.declared.instruction.Ending.TheVariants.{Next, ExceptionReturn}
+-- The branches and IT (ARM DDI 0403, the operation of B, BL, BX, BLX, CBZ, CBNZ, TBB, TBH and IT): what each asks for,
+-- and where it goes on.
+use Rattle.std.specs.Prelude.{ℕ, ◌+◌, ◌*◌, ◌/◌, ◌%◌, ◌^◌, Bool, not, ◌==◌, if◌then◌else◌, List, [], Result, Ok}
+use Rattle.reference.specs.declared.access.Kind.TheVariants.{Load}
+use Rattle.reference.specs.declared.access.Request.{Request}
+use Rattle.reference.specs.declared.failure.Failure.{Failure}
+use Rattle.reference.specs.declared.failure.Traps.{Traps}
+use Rattle.reference.specs.declared.instruction.Branch.{Branch}
+use Rattle.reference.specs.declared.instruction.Branch.TheVariants as branch
+use Rattle.reference.specs.declared.instruction.Ending.TheVariants.{Next}
 use Rattle.reference.specs.declared.operands.BranchExchange.{BranchExchange}
 use Rattle.reference.specs.declared.operands.CompareAndBranch.{CompareAndBranch}
 use Rattle.reference.specs.declared.operands.ConditionalBranch.{ConditionalBranch}
 use Rattle.reference.specs.declared.operands.IfThen.{IfThen}
 use Rattle.reference.specs.declared.operands.TableBranch.{TableBranch}
-use Rattle.reference.specs.Arithmetic.{condition_holds, it_advance}
+use Rattle.reference.specs.Arithmetic.{condition_holds}
 use Rattle.reference.specs.Kinds.{bytes_in}
-use Rattle.reference.specs.Registers.{Registers, register, with_register, with_pc, with_exchange, is_handler}
+use Rattle.reference.specs.LoadStore.{transfer, joined}
+use Rattle.reference.specs.ProgramCounter.{Finished, moves_on, branches, branches_by, exchanges}
+use Rattle.reference.specs.Registers.{Registers, register, with_register, with_exchange, is_privileged}
 use Rattle.reference.specs.Words.{word_sum}
-
--- ---- the end of an instruction
-
--- the registers that an instruction leaves, and what else it does
-pub record Finished : Type 0 where
-  pub registers : Registers
-  pub ending : Ending
-
--- ITAdvance()
-abbrev pub advanced : Registers → Registers
-advanced r = record r { it = it_advance r.it }
-
--- the PC goes on by the length of the instruction
-abbrev pub moves_on : ℕ → Registers → Finished
-moves_on length r = record { registers = record (advanced r) { pc = word_sum r.pc length }; ending = Next }
-
--- the PC was written
-abbrev pub branches : Registers → Finished
-branches r = record { registers = advanced r; ending = Next }
-
--- R[d] was written, which for the PC is a branch
-abbrev pub proceeds : ℕ → ℕ → Registers → Finished
-proceeds length d r = if d == 15 then branches r else moves_on length r
-
--- ---- writes of the PC
-
--- a branch by an offset to PC: BranchWritePC(PC + imm32)
-abbrev pub branches_by : ℕ → Registers → Finished
-branches_by offset r = branches (with_pc r (word_sum (register r 15) offset))
-
--- in Handler mode a value whose bits 31:28 are all ones returns from the exception
-abbrev pub is_exception_return : ℕ → Registers → Bool
-is_exception_return v r = is_handler r && (v / 2 ^ 28 == 15)
-
--- BXWritePC(v) and LoadWritePC(v): a return from an exception writes neither PC nor T, and doesn't advance IT
-abbrev pub exchanges : ℕ → Registers → Finished
-exchanges v r =
-    if is_exception_return v r
-    then record { registers = r; ending = ExceptionReturn v }
-    else branches (with_exchange r v)
-
--- R[t] = value, which for the PC is LoadWritePC(value)
-abbrev pub loads_into : ℕ → ℕ → ℕ → Registers → Finished
-loads_into length t value r = if t == 15 then exchanges value r else moves_on length (with_register r t value)
 
 -- ---- branches
 
@@ -76,12 +39,12 @@ branch_exchange length o r =
     else exchanges (register r o.target) r
 
 -- whether CBZ or CBNZ is taken: nonzero EOR IsZero(R[n])
-abbrev pub is_taken : CompareAndBranch → Registers → Bool
-is_taken o r = if o.nonzero then not (register r o.register == 0) else register r o.register == 0
+abbrev pub takes_branch : CompareAndBranch → Registers → Bool
+takes_branch o r = if o.nonzero then not (register r o.register == 0) else register r o.register == 0
 
 -- CBZ and CBNZ
 abbrev pub compare_and_branch : ℕ → CompareAndBranch → Registers → Finished
-compare_and_branch length o r = if is_taken o r then branches_by o.offset r else moves_on length r
+compare_and_branch length o r = if takes_branch o r then branches_by o.offset r else moves_on length r
 
 -- the entry of a table: the byte at R[n] + R[m], or the halfword at R[n] + LSL(R[m], 1)
 abbrev pub entry_address : TableBranch → Registers → ℕ
@@ -100,3 +63,25 @@ begun o = o.condition % 2 ^ 4 * 2 ^ 4 + o.mask % 2 ^ 4
 -- IT: the block begins with the next instruction, so nothing is advanced
 abbrev pub if_then : ℕ → IfThen → Registers → Finished
 if_then length o r = record { registers = record r { it = begun o; pc = word_sum r.pc length }; ending = Next }
+
+-- ---- the family
+
+-- what a branch asks for: TBB and TBH read the entry of the table
+unfoldable pub branch_requests : Traps → Branch → Registers → Result (List Request) Failure
+branch_requests traps (branch.Immediate o) r = Ok []
+branch_requests traps (branch.Conditional o) r = Ok []
+branch_requests traps (branch.WithLink o) r = Ok []
+branch_requests traps (branch.Exchange o) r = Ok []
+branch_requests traps (branch.CompareAndBranch o) r = Ok []
+branch_requests traps (branch.Table o) r = transfer traps Load (is_privileged r) o.size (entry_address o r) 0
+branch_requests traps (branch.IfThen o) r = Ok []
+
+-- what a branch of that many bytes does
+unfoldable pub branch_effect : ℕ → Branch → Registers → List ℕ → Finished
+branch_effect length (branch.Immediate o) r values = branches_by o.offset r
+branch_effect length (branch.Conditional o) r values = conditional_branch length o r
+branch_effect length (branch.WithLink o) r values = branches_by o.offset (with_link length r)
+branch_effect length (branch.Exchange o) r values = branch_exchange length o r
+branch_effect length (branch.CompareAndBranch o) r values = compare_and_branch length o r
+branch_effect length (branch.Table o) r values = table_branch (joined values) r
+branch_effect length (branch.IfThen o) r values = if_then length o r

@@ -16,7 +16,7 @@ use Rattle.reference.specs.declared.operands.Rearrangement.TheVariants.{ReverseW
 use Rattle.reference.specs.declared.operands.Saturate.{Saturate}
 use Rattle.reference.specs.declared.shift.ShiftType.TheVariants.{Ror}
 use Rattle.reference.specs.Arithmetic.{signed, shift_c}
-use Rattle.reference.specs.DataProcessing.{shifted}
+use Rattle.reference.specs.TwoOperands.{shifted}
 use Rattle.reference.specs.Products.{low_bits}
 use Rattle.reference.specs.Registers.{Registers, register, with_register}
 use Rattle.reference.specs.Words.{bits, bit_at, is_bit, sign_extended}

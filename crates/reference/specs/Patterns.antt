@@ -1,32 +1,66 @@
--- A row of the instruction set is text, as the manual prints it: its places stand from the highest bit down. A place
--- `0` or `1` is a bit that has to be so. A letter is a bit of the field of that name; where a letter stands in several
--- runs, they are joined from the highest. Two letters say more: a bit at a place `z` should be 0, and one at a place `o`
--- should be 1. (A bit at a place `x` is in most rows of no field, and means nothing.) The row fits whatever stands there, and where something else does, the encoding is UNPREDICTABLE.
-use Rattle.std.specs.Prelude.{ℕ, ◌+◌, ◌*◌, Bool, true, ◌&&◌, ◌==◌, if◌then◌else◌, List, [], ◌∷◌, length}
+-- The text of a row, as the manual prints it: its places are bits, from the highest down. A place `0` or `1` is a bit
+-- that has to have this value. A letter is a bit of the field of that name; where a letter has several runs, they are
+-- joined from the highest. A bit at a place `z` should be 0, and one at a place `o` should be 1: the row fits whatever the
+-- bit is, and where it has the other value, the encoding is UNPREDICTABLE. A bit at a place `x` is ignored. Blanks are for
+-- the eye alone.
+use Rattle.std.specs.Prelude.{ℕ, ◌+◌, ◌*◌, Bool, true, false, ◌&&◌, ◌==◌, if◌then◌else◌, List, [], ◌∷◌, length}
 use Rattle.reference.specs.Words.{bit_at}
 
--- the places `0` and `1`
+-- ---- the characters that are no letter of a field
+
+-- a blank
+abbrev pub no_place : ℕ
+no_place = 32
+
 abbrev pub place_0 : ℕ
 place_0 = 48
 
 abbrev pub place_1 : ℕ
 place_1 = 49
 
--- whether a place allows the bit that stands there
-abbrev pub allows : ℕ → ℕ → Bool
-allows place bit = if place == place_0 then bit == 0 else if place == place_1 then bit == 1 else true
+abbrev pub place_z : ℕ
+place_z = 122
 
--- whether each fixed place of the row is that bit of the number
-unfoldable pub fits : List ℕ → ℕ → Bool
-fits [] x = true
-fits (place ∷ places) x = allows place (bit_at x (length places)) && fits places x
+abbrev pub place_o : ℕ
+place_o = 111
 
--- the bits of the number at the letter's places, joined behind those that stood before
-unfoldable pub joined : ℕ → List ℕ → ℕ → ℕ → ℕ
-joined letter [] x before = before
-joined letter (place ∷ places) x before =
-    joined letter places x (if place == letter then before * 2 + bit_at x (length places) else before)
+-- ---- places
+
+-- the places with one more character before them, unless that is a blank
+abbrev pub with_character : Bool → ℕ → List ℕ → List ℕ
+with_character true character places = places
+with_character false character places = character ∷ places
+
+-- the places of a text
+abbrev pub unspaced : List ℕ → List ℕ
+unspaced [] = []
+unspaced (character ∷ text) = with_character (character == no_place) character (unspaced text)
+
+-- whether a place allows a bit, where `clear` marks the places of a 0 and `set` those of a 1
+abbrev pub allows : ℕ → ℕ → ℕ → ℕ → Bool
+allows clear set place bit = if place == clear then bit == 0 else if place == set then bit == 1 else true
+
+-- whether the number has a 0 at each place `clear` and a 1 at each place `set`
+unfoldable pub has_bits : ℕ → ℕ → List ℕ → ℕ → Bool
+has_bits clear set [] x = true
+has_bits clear set (place ∷ places) x = allows clear set place (bit_at x (length places)) && has_bits clear set places x
+
+-- whether the number has each bit that has to be so
+abbrev pub fits : List ℕ → ℕ → Bool
+fits places x = has_bits place_0 place_1 places x
+
+-- whether it has each bit that should be so
+abbrev pub is_as_printed : List ℕ → ℕ → Bool
+is_as_printed places x = has_bits place_z place_o places x
+
+-- ---- fields
+
+-- the bits of the number at the letter's places, joined after those that were before
+unfoldable pub joined_field : ℕ → List ℕ → ℕ → ℕ → ℕ
+joined_field letter [] x before = before
+joined_field letter (place ∷ places) x before =
+    joined_field letter places x (if place == letter then before * 2 + bit_at x (length places) else before)
 
 -- the field of that letter
 abbrev pub field : List ℕ → ℕ → ℕ → ℕ
-field places x letter = joined letter places x 0
+field places x letter = joined_field letter places x 0

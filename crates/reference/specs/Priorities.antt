@@ -146,6 +146,10 @@ if_preempts n (Some x) = if nat_lt (group_priority n x) (execution_priority n) t
 unfoldable pub candidate : Nvic → Option ℕ
 candidate n = if_preempts n (best n)
 
+-- whether the execution priority is below 0
+abbrev pub is_below_zero : Nvic → Bool
+is_below_zero n = is_negative (execution_priority n)
+
 -- what becomes of a fault or of SVC whose exception is x: its own exception where that is enabled and preempts,
 -- otherwise lockup where the execution priority is below 0, and otherwise HardFault
 unfoldable pub escalation : Nvic → ℕ → Escalation
@@ -228,6 +232,10 @@ with_due n due = with_due_below n due EXCEPTIONS
 -- the candidate with these pending too, and PRIMASK as given
 unfoldable pub candidate_after : Nvic → List ℕ → Bool → Option ℕ
 candidate_after n due primask = candidate (with_primask (with_due n due) primask)
+
+-- what would be the candidate were PRIMASK 0
+unfoldable pub candidate_unmasked : Nvic → Option ℕ
+candidate_unmasked n = candidate (with_primask n false)
 
 -- after a reset: nothing is pending, enabled or active, no priority is raised, and nothing is masked
 abbrev pub reset_nvic : ℕ → ℕ → Nvic

@@ -8,7 +8,7 @@ use Rattle.reference.specs.declared.operands.Multiply.{Multiply}
 use Rattle.reference.specs.declared.operands.MultiplyAccumulate.{MultiplyAccumulate}
 use Rattle.reference.specs.declared.operands.MultiplyLong.{MultiplyLong}
 use Rattle.reference.specs.Arithmetic.{signed}
-use Rattle.reference.specs.DataProcessing.{written}
+use Rattle.reference.specs.TwoOperands.{written}
 use Rattle.reference.specs.Registers.{Registers, register, with_register, with_result}
 use Rattle.reference.specs.Words.{word_sum, negated}
 

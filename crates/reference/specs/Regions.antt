@@ -6,11 +6,18 @@ use Rattle.reference.specs.declared.mpu.MpuRegister.{MpuRegister}
 use Rattle.reference.specs.declared.mpu.MpuRegister.TheVariants as register
 use Rattle.reference.specs.declared.mpu.MpuStop.{MpuStop}
 use Rattle.reference.specs.declared.mpu.MpuStop.TheVariants as stop
+use Rattle.reference.specs.declared.mpu.RegionCount.{RegionCount}
+use Rattle.reference.specs.declared.mpu.RegionCount.TheVariants.{Eight, Sixteen}
 use Rattle.reference.specs.declared.mpu.Region.{Region}
 use Rattle.reference.specs.declared.stop.Stop.{Stop}
 use Rattle.reference.specs.declared.stop.Stop.TheVariants.{Unpredictable}
 use Rattle.reference.specs.declared.stop.UnpredictableCase.TheVariants.{MpuRegion, MpuControl}
 use Rattle.reference.specs.Words.{bit_at, is_bit}
+
+-- how many regions an MPU has: MPU_TYPE.DREGION
+abbrev pub region_number : RegionCount → ℕ
+region_number Eight = 8
+region_number Sixteen = 16
 
 pub record Mpu : Type 0 where
   -- MPU_CTRL

@@ -99,10 +99,6 @@ xpsr r = apsr r.flags + r.it % 4 * 2 ^ 25 + weighed r.thumb (2 ^ 24) + r.it / 4 
 abbrev pub control : Registers → ℕ
 control r = weighed r.unprivileged 1 + weighed r.process_stack 2
 
--- CONTROL is given a value
-abbrev pub with_control : Registers → ℕ → Registers
-with_control r v = record r { unprivileged = is_bit v 0; process_stack = is_bit v 1 }
-
 -- the registers after a reset, from the first two entries of the vector table: MSP, and PC with T as its bit 0; those
 -- that TakeReset() leaves UNKNOWN are 0 (profile)
 abbrev pub reset_registers : ℕ → ℕ → Registers

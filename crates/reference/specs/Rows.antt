@@ -1,6 +1,7 @@
 -- What a row of the instruction set is, and what a number means by a list of rows (ARM DDI 0403, "The Thumb
 -- instruction set encoding").
-use Rattle.std.specs.Prelude.{ℕ, ◌-◌, ◌^◌, Bool, true, false, ◌||◌, ◌==◌, if◌then◌else◌, List, Option, Some, None, find, count_by}
+use Rattle.std.specs.Prelude.{ℕ, Bool, true, false, not, ◌&&◌, ◌||◌, ◌==◌, if◌then◌else◌, List, Option, Some, None, find}
+use Rattle.std.specs.List.{list_any}
 use Rattle.reference.specs.declared.instruction.BlockPlace.{BlockPlace}
 use Rattle.reference.specs.declared.instruction.BlockPlace.TheVariants.{Anywhere, LastOnly}
 use Rattle.reference.specs.declared.instruction.Decoded.{Decoded}
@@ -8,147 +9,107 @@ use Rattle.reference.specs.declared.instruction.Decoded.TheVariants.{Instr, Unpr
 use Rattle.reference.specs.declared.instruction.Instruction.{Instruction}
 use Rattle.reference.specs.declared.stop.UnpredictableCase.{UnpredictableCase}
 use Rattle.reference.specs.declared.stop.UnpredictableCase.TheVariants.{Encoding}
-use Rattle.reference.specs.Patterns.{fits, field}
-
--- ---- the letters of the rows
-
-abbrev pub a : ℕ
-a = 97
-
-abbrev pub b : ℕ
-b = 98
-
-abbrev pub c : ℕ
-c = 99
-
-abbrev pub d : ℕ
-d = 100
-
-abbrev pub e : ℕ
-e = 101
-
-abbrev pub h : ℕ
-h = 104
-
-abbrev pub i : ℕ
-i = 105
-
-abbrev pub j : ℕ
-j = 106
-
-abbrev pub l : ℕ
-l = 108
-
-abbrev pub m : ℕ
-m = 109
-
-abbrev pub n : ℕ
-n = 110
-
-abbrev pub o : ℕ
-o = 111
-
-abbrev pub p : ℕ
-p = 112
-
-abbrev pub r : ℕ
-r = 114
-
-abbrev pub s : ℕ
-s = 115
-
-abbrev pub t : ℕ
-t = 116
-
-abbrev pub u : ℕ
-u = 117
-
-abbrev pub v : ℕ
-v = 118
-
-abbrev pub w : ℕ
-w = 119
-
-abbrev pub x : ℕ
-x = 120
-
-abbrev pub big_f : ℕ
-big_f = 70
-
-abbrev pub big_i : ℕ
-big_i = 73
-
-abbrev pub big_m : ℕ
-big_m = 77
-
-abbrev pub big_p : ℕ
-big_p = 80
-
-abbrev pub big_s : ℕ
-big_s = 83
-
-abbrev pub big_u : ℕ
-big_u = 85
-
-abbrev pub big_w : ℕ
-big_w = 87
-
-abbrev pub big_h : ℕ
-big_h = 72
-
-abbrev pub big_k : ℕ
-big_k = 75
-
-abbrev pub big_j : ℕ
-big_j = 74
-
-abbrev pub big_r : ℕ
-big_r = 82
-
-abbrev pub big_v : ℕ
-big_v = 86
-
-abbrev pub big_x : ℕ
-big_x = 88
-
-abbrev pub big_l : ℕ
-big_l = 76
-
-abbrev pub z : ℕ
-z = 122
+use Rattle.reference.specs.Patterns.{fits, is_as_printed, field}
 
 -- ---- a row
 
--- a row's text, and what it gives from the field of each letter
+-- the fields of a number by the letters of a row; a letter that the row hasn't is 0
+pub record Letters : Type 0 where
+  pub a : ℕ
+  pub b : ℕ
+  pub c : ℕ
+  pub d : ℕ
+  pub e : ℕ
+  pub h : ℕ
+  pub i : ℕ
+  pub j : ℕ
+  pub k : ℕ
+  pub l : ℕ
+  pub m : ℕ
+  pub n : ℕ
+  pub p : ℕ
+  pub r : ℕ
+  pub s : ℕ
+  pub t : ℕ
+  pub u : ℕ
+  pub w : ℕ
+  pub A : ℕ
+  pub F : ℕ
+  pub H : ℕ
+  pub I : ℕ
+  pub J : ℕ
+  pub K : ℕ
+  pub M : ℕ
+  pub P : ℕ
+  pub S : ℕ
+  pub U : ℕ
+  pub W : ℕ
+  pub X : ℕ
+
+-- a row's text, the exceptions to it, as texts with the same places, and what it makes of its fields
 pub record Row : Type 0 where
   pub places : List ℕ
-  pub gives : (ℕ → ℕ) → Decoded
+  pub except : List (List ℕ)
+  pub gives : Letters → Decoded
 
--- what a row gives, if each bit that should be 0 is 0, and each that should be 1 is 1
-abbrev pub as_told : Bool → Bool → Decoded → Decoded
-as_told true true decoded = decoded
-as_told true false decoded = Unpredictable Anywhere Encoding
-as_told false ones decoded = Unpredictable Anywhere Encoding
+-- the fields by their letters' characters
+abbrev pub letters : (ℕ → ℕ) → Letters
+letters value = record {
+  a = value 97;
+  b = value 98;
+  c = value 99;
+  d = value 100;
+  e = value 101;
+  h = value 104;
+  i = value 105;
+  j = value 106;
+  k = value 107;
+  l = value 108;
+  m = value 109;
+  n = value 110;
+  p = value 112;
+  r = value 114;
+  s = value 115;
+  t = value 116;
+  u = value 117;
+  w = value 119;
+  A = value 65;
+  F = value 70;
+  H = value 72;
+  I = value 73;
+  J = value 74;
+  K = value 75;
+  M = value 77;
+  P = value 80;
+  S = value 83;
+  U = value 85;
+  W = value 87;
+  X = value 88;
+}
 
--- how many bits a row says should be 1
-abbrev pub ones_of : Row → ℕ
-ones_of row = count_by (λ place. place == o) row.places
+-- whether a number is the row's: its text fits, and none of the exceptions does
+abbrev pub applies : Row → ℕ → Bool
+applies row number = fits row.places number && not (list_any (λ text. fits text number) row.except)
 
--- what a row that fits makes of the number
+-- what a row makes of a number, unless a bit isn't what it should be
+abbrev pub as_printed : Bool → Decoded → Decoded
+as_printed true decoded = decoded
+as_printed false decoded = Unpredictable Anywhere Encoding
+
+-- what a row that applies makes of the number
 abbrev pub by_row : Row → ℕ → Decoded
-by_row row number =
-    as_told (field row.places number z == 0) (field row.places number o == 2 ^ ones_of row - 1) (row.gives (field row.places number))
+by_row row number = as_printed (is_as_printed row.places number) (row.gives (letters (field row.places number)))
 
--- what the row that fits makes of it, if one does
+-- what the row that applies makes of it, if one does
 abbrev pub by_found : Decoded → ℕ → Option Row → Decoded
 by_found otherwise number None = otherwise
 by_found otherwise number (Some row) = by_row row number
 
--- what a number means by the first row of a list that fits
+-- what a number means by the row of a list that applies; no number has two of them
 unfoldable pub meaning : List Row → Decoded → ℕ → Decoded
-meaning rows otherwise number = by_found otherwise number (find (λ row. fits row.places number) rows)
+meaning rows otherwise number = by_found otherwise number (find (λ row. applies row number) rows)
 
--- ---- what rows give
+-- ---- what rows make of their fields
 
 -- an instruction of two bytes
 abbrev pub short : Instruction → Decoded
@@ -158,7 +119,7 @@ short instruction = Instr (record { instruction = instruction; length = 2; place
 abbrev pub long : Instruction → Decoded
 long instruction = Instr (record { instruction = instruction; length = 4; place = Anywhere })
 
--- an instruction of that many bytes that may stand there in an IT block
+-- an instruction of that many bytes at that place in an IT block
 abbrev pub placed : ℕ → BlockPlace → Instruction → Decoded
 placed length place instruction = Instr (record { instruction = instruction; length = length; place = place })
 
@@ -166,7 +127,7 @@ placed length place instruction = Instr (record { instruction = instruction; len
 abbrev pub last_only_if : Bool → BlockPlace
 last_only_if writes_pc = if writes_pc then LastOnly else Anywhere
 
--- what a row gives unless it is UNPREDICTABLE for that cause
+-- what a row says unless it is UNPREDICTABLE for that cause
 abbrev pub unless : Bool → BlockPlace → UnpredictableCase → Decoded → Decoded
 unless true place cause decoded = Unpredictable place cause
 unless false place cause decoded = decoded

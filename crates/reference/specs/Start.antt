@@ -1,16 +1,15 @@
 -- The state in which a machine starts (ARM DDI 0403, TakeReset()). What flash and RAM hold where no segment goes, and the
 -- registers that TakeReset() leaves UNKNOWN, are the profile's.
-use Rattle.std.specs.Prelude.{ℕ, ◌+◌, ◌*◌, Bool, true, ◌&&◌, ◌||◌, if◌then◌else◌, List, [], ◌∷◌, length, replicate, None, Result, Ok, Err, unwrap_or}
+use Rattle.std.specs.Prelude.{ℕ, ◌+◌, ◌*◌, Bool, true, false, ◌&&◌, ◌||◌, if◌then◌else◌, List, [], ◌∷◌, length, replicate, None, Result, Ok, Err, unwrap_or}
 use Rattle.reference.specs.declared.fault.StartFault.{StartFault}
 use Rattle.reference.specs.declared.fault.StartFault.TheVariants.{SegmentOutsideMemory}
 use Rattle.reference.specs.declared.script.ScriptedEvent.{ScriptedEvent}
 use Rattle.reference.specs.Boards.{Described, Numbers}
 use Rattle.reference.specs.Images.{Segment}
 use Rattle.reference.specs.Memory.{Memory, is_in_flash, is_in_ram, overwritten, number_at}
-use Rattle.reference.specs.Regions.{fresh}
 use Rattle.reference.specs.Registers.{reset_registers}
 use Rattle.reference.specs.State.{State}
-use Rattle.reference.specs.Time.{start_time}
+use Rattle.reference.specs.System.{reset_system}
 
 -- flash is 0xFF and RAM is 0 where nothing was loaded
 abbrev pub blank : Numbers → Memory
@@ -37,15 +36,16 @@ are_placed m (s ∷ segments) = is_placed m s && are_placed m segments
 abbrev pub vector : Memory → ℕ → ℕ
 vector m number = unwrap_or (number_at m (m.flash_base + 4 * number) 4) 0
 
--- how many regions the MPU has
-abbrev pub region_count : ℕ
-region_count = 8
-
--- the first entry is the main stack pointer, the second is where the first instruction stands
-abbrev pub reset : Memory → List ScriptedEvent → State
-reset m script = record {
+-- the first entry is the main stack pointer, the second is the address of the first instruction
+abbrev pub reset : Numbers → Memory → List ScriptedEvent → State
+reset board m script = record {
   registers = reset_registers (vector m 0) (vector m 1);
-  bus = record { memory = m; mpu = fresh region_count; time = start_time script };
+  bus = record {
+    memory = m;
+    system = reset_system board.flash_base board.lines board.priority_bits board.regions script;
+  };
+  asleep = false;
+  entry = None;
   stop = None;
 }
 
@@ -53,5 +53,5 @@ reset m script = record {
 unfoldable pub start : Described → List Segment → Result State StartFault
 start board image =
     if are_placed (blank board.numbers) image
-    then Ok (reset (loaded (blank board.numbers) image) board.script)
+    then Ok (reset board.numbers (loaded (blank board.numbers) image) board.script)
     else Err SegmentOutsideMemory

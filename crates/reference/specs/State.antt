@@ -1,39 +1,49 @@
 -- The state of the machine: a record of chapters, each of which has its own file or crate. Nothing that can be worked
--- out from it stands in it.
-use Rattle.std.specs.Prelude.{List, Option, Some}
+-- out from it is kept in it.
+use Rattle.std.specs.Prelude.{ℕ, Bool, List, Option, Some}
 use Rattle.reference.specs.declared.event.Event.{Event}
 use Rattle.reference.specs.declared.stop.Stop.{Stop}
 use Rattle.reference.specs.Memory.{Memory}
-use Rattle.reference.specs.Regions.{Mpu}
+use Rattle.reference.specs.Priorities.{Nvic}
 use Rattle.reference.specs.Registers.{Registers}
-use Rattle.reference.specs.Time.{Time, after_tick}
+use Rattle.reference.specs.System.{System, after_tick}
 
 -- what an access can see and change
 pub record Bus : Type 0 where
   pub memory : Memory
-  pub mpu : Mpu
-  pub time : Time
+  pub system : System
 
 pub record State : Type 0 where
   pub registers : Registers
   pub bus : Bus
+  -- whether WFI has put the processor to sleep
+  pub asleep : Bool
+  -- between the two steps of an exception entry: the EXC_RETURN that the handler will get
+  pub entry : Option ℕ
   -- why the machine has stopped, if it has
   pub stop : Option Stop
 
--- what a step makes of a state: the next one, and the lines that it tells
+-- what a step makes of a state: the next one, and the lines of the step
 pub record Stepped : Type 0 where
   pub state : State
   pub events : List Event
-
--- time goes on by one tick
-abbrev pub ticked : State → State
-ticked s = record s { bus = record s.bus { time = after_tick s.bus.time } }
 
 abbrev pub with_bus : State → Bus → State
 with_bus s b = record s { bus = b }
 
 abbrev pub with_registers : State → Registers → State
 with_registers s r = record s { registers = r }
+
+abbrev pub with_system : State → System → State
+with_system s system = with_bus s (record s.bus { system = system })
+
+-- other exceptions or masks
+abbrev pub with_exceptions : State → Nvic → State
+with_exceptions s n = with_system s (record s.bus.system { nvic = n })
+
+-- a tick
+abbrev pub ticked : State → State
+ticked s = with_system s (after_tick s.bus.system)
 
 -- the step ends in a stop, which the state records
 abbrev pub stopped : State → List Event → Stop → Stepped

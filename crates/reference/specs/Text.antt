@@ -1,11 +1,12 @@
 -- The text of the trace (profile): one line for each event, and one for the stop. Each line ends with a line feed. Ticks
 -- and the numbers of exceptions and breakpoints are decimal, all other numbers hexadecimal, in upper case.
-use Rattle.std.specs.Prelude.{ℕ, ◌+◌, ◌/◌, ◌%◌, nat_lt, Bool, true, false, if◌then◌else◌, List, [], ◌∷◌, ◌++◌, codes, decimal}
+use Rattle.std.specs.Prelude.{ℕ, ◌+◌, ◌/◌, ◌%◌, nat_lt, Bool, true, false, if◌then◌else◌, List, [], ◌∷◌, ◌++◌, Option, Some, None, codes, decimal}
 use Rattle.reference.specs.declared.access.Access.{Access}
+use Rattle.reference.specs.declared.access.Cause.{Cause}
+use Rattle.reference.specs.declared.access.Cause.TheVariants.{Mpu, Bus}
+use Rattle.reference.specs.declared.access.DecidedAccess.{DecidedAccess}
 use Rattle.reference.specs.declared.access.Kind.{Kind}
 use Rattle.reference.specs.declared.access.Kind.TheVariants.{Fetch, Load, Store, Push, Pop, Vector}
-use Rattle.reference.specs.declared.access.Outcome.{Outcome}
-use Rattle.reference.specs.declared.access.Outcome.TheVariants.{Done, RefusedByMpu, RefusedByBus}
 use Rattle.reference.specs.declared.access.Rule.{Rule}
 use Rattle.reference.specs.declared.access.Rule.TheVariants.{NeverExecute, VectorRead, PrivatePeripheralBus, MpuOff, NegativePriority, Region, Background, NoRegion}
 use Rattle.reference.specs.declared.event.Event.{Event}
@@ -13,7 +14,7 @@ use Rattle.reference.specs.declared.event.Happening.{Happening}
 use Rattle.reference.specs.declared.event.Happening.TheVariants.{Accessed, ConsoleByte, ReturnBegan, HandlerEntered, FaultRecorded}
 use Rattle.reference.specs.declared.event.RecordedFault.{RecordedFault}
 use Rattle.reference.specs.declared.stop.LeftOut.{LeftOut}
-use Rattle.reference.specs.declared.stop.LeftOut.TheVariants.{Unbuilt, Exclusive, ExclusiveDevice, UnalignedDevice, RegisterWidth, ActiveBit, IgnoredBusFaults, SleepOnExit, ResetControl, ClockEnd}
+use Rattle.reference.specs.declared.stop.LeftOut.TheVariants.{Exclusive, ExclusiveDevice, UnalignedDevice, RegisterWidth, ActiveBit, IgnoredBusFaults, SleepOnExit, ResetControl, ClockEnd}
 use Rattle.reference.specs.declared.stop.Stop.{Stop}
 use Rattle.reference.specs.declared.stop.Stop.TheVariants.{StepLimit, Breakpoint, Lockup, Unpredictable, OutOfProfile, ResetRequested}
 use Rattle.reference.specs.declared.stop.UnpredictableCase.{UnpredictableCase}
@@ -47,10 +48,11 @@ abbrev pub privilege_text : Bool → List ℕ
 privilege_text true = codes "p"
 privilege_text false = codes "u"
 
-abbrev pub outcome_text : Outcome → List ℕ
-outcome_text Done = codes "ok"
-outcome_text RefusedByMpu = codes "mpu"
-outcome_text RefusedByBus = codes "bus"
+-- what refused an access, or that it was carried out
+abbrev pub outcome_text : Option Cause → List ℕ
+outcome_text None = codes "ok"
+outcome_text (Some Mpu) = codes "mpu"
+outcome_text (Some Bus) = codes "bus"
 
 abbrev pub rule_text : Rule → List ℕ
 rule_text NeverExecute = codes "xn"
@@ -62,11 +64,16 @@ rule_text (Region number) = codes "r" ++ decimal number
 rule_text Background = codes "bg"
 rule_text NoRegion = codes "none"
 
--- kind, address, size, privilege, outcome and rule
-abbrev pub access_text : Access → List ℕ
-access_text a =
-    (((((((((kind_text a.kind ++ codes " ") ++ hex_word a.address) ++ codes " ") ++ decimal (bytes_in a.size)) ++ codes " ")
-    ++ privilege_text a.privileged) ++ codes " ") ++ outcome_text a.outcome) ++ codes " ") ++ rule_text a.rule
+-- kind, address, size and privilege
+abbrev pub asked_text : Access → List ℕ
+asked_text a =
+    (((((kind_text a.kind ++ codes " ") ++ hex_word a.address) ++ codes " ") ++ decimal (bytes_in a.size)) ++ codes " ")
+    ++ privilege_text a.privileged
+
+-- the access, what became of it, and the rule
+abbrev pub access_text : DecidedAccess → List ℕ
+access_text d =
+    (((asked_text d.access ++ codes " ") ++ outcome_text d.refused) ++ codes " ") ++ rule_text d.rule
 
 -- the exception, CFSR and HFSR
 abbrev pub fault_text : RecordedFault → List ℕ
@@ -106,7 +113,6 @@ unpredictable_text ExceptionReturn = codes "exc-return"
 unpredictable_text PoppedPc = codes "popped-pc"
 
 abbrev pub left_out_text : LeftOut → List ℕ
-left_out_text Unbuilt = codes "unbuilt"
 left_out_text Exclusive = codes "exclusive"
 left_out_text ExclusiveDevice = codes "exclusive-device"
 left_out_text UnalignedDevice = codes "unaligned-device"

@@ -124,10 +124,14 @@ after_tick t = record {
   script = events_after (t.ticks + 1) t.script;
 }
 
+-- what SysTick's next count makes pending: whether n is its exception
+abbrev pub timer_pends : SysTick → ℕ → Bool
+timer_pends t n = reaches_zero t && t.tickint && (n == SYS_TICK)
+
 -- the set of exceptions that the next tick makes pending: whether n is one of them
 unfoldable pub tick_pends : Time → ℕ → Bool
 tick_pends t n =
-    (reaches_zero t.systick && t.systick.tickint && (n == SYS_TICK))
+    timer_pends t.systick n
     || list_any (λ e. pends e.what n) (events_at (t.ticks + 1) t.script)
 
 -- time at the start

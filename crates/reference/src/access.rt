@@ -5,6 +5,9 @@ ghost use Rattle.reference.specs.Kinds.{bytes_in, is_fetch, is_load, is_store, i
 
 use crate::stop::Stop;
 
+/// The most accesses that one instruction asks for.
+pub const MOST_REQUESTS: usize = 16;
+
 /// What an access is for.
 #[derive(Clone, Copy)]
 pub enum Kind {
@@ -108,17 +111,6 @@ pub enum Rule {
     NoRegion,
 }
 
-/// What became of an access.
-#[derive(Clone, Copy)]
-pub enum Outcome {
-    /// The rule granted it, and it was carried out.
-    Done,
-    /// The rule refused it.
-    RefusedByMpu,
-    /// The rule granted it, and the bus refused it.
-    RefusedByBus,
-}
-
 /// What the rules say of an access.
 #[derive(Clone, Copy)]
 pub struct Decision {
@@ -126,26 +118,31 @@ pub struct Decision {
     pub granted: bool,
 }
 
-/// An access that is asked for.
-#[derive(Clone, Copy)]
-pub struct Request {
-    pub address: u32,
-    /// What a store or a push writes, in its low bytes. Otherwise 0.
-    pub value: u32,
-    pub kind: Kind,
-    pub size: Size,
-    pub privileged: bool,
-}
-
-/// An access that was decided, as its line of the trace names it.
+/// An access: where it is, what it is for, how wide it is, and for whom it is made.
 #[derive(Clone, Copy)]
 pub struct Access {
     pub address: u32,
     pub kind: Kind,
     pub size: Size,
     pub privileged: bool,
-    pub outcome: Outcome,
+}
+
+/// An access that is asked for.
+#[derive(Clone, Copy)]
+pub struct Request {
+    pub access: Access,
+    /// What a store or a push writes, in its low bytes. Otherwise 0.
+    pub value: u32,
+}
+
+/// An access that was decided, as its line of the trace names it.
+#[derive(Clone, Copy)]
+pub struct DecidedAccess {
+    pub access: Access,
+    /// The rule that decided it.
     pub rule: Rule,
+    /// What refused it, if it was refused.
+    pub refused: Option<Cause>,
 }
 
 /// What the bus answers to an access that a rule granted.
@@ -179,32 +176,17 @@ pub enum Performed {
     Stop(Stop),
 }
 
-/// An access that was refused.
-#[derive(Clone, Copy)]
-pub struct Denial {
-    pub address: u32,
-    pub kind: Kind,
-    pub cause: Cause,
-}
-
-/// Why a step doesn't go on behind an access.
-#[derive(Clone, Copy)]
-pub enum Failure {
-    /// The access was refused, which is a fault.
-    Denied(Denial),
-    /// The machine stops by name.
-    Stop(Stop),
-}
-
 // A list of a fixed capacity is made of blank requests.
 impl Default for Request {
     fn default() -> Self {
         Request {
-            address: 0,
+            access: Access {
+                address: 0,
+                kind: Kind::Load,
+                size: Size::Byte,
+                privileged: false,
+            },
             value: 0,
-            kind: Kind::Load,
-            size: Size::Byte,
-            privileged: false,
         }
     }
 }

@@ -3,6 +3,8 @@
 ghost use Rattle.std.specs.Prelude.{◌≡◌, ◌+◌, ◌%◌, ◌≤◌};
 ghost use Rattle.reference.specs.Map.{ram_base};
 
+use crate::mpu::RegionCount;
+
 /// The sizes and numbers that differ from one board to the next (profile).
 #[derive(Clone, Copy)]
 pub struct Layout {
@@ -14,8 +16,10 @@ pub struct Layout {
     pub ram_size: u32,
     /// How many of the top bits of a priority byte are kept, 3 to 8.
     pub priority_bits: u8,
-    /// How many external interrupt lines there are, 0 to 32.
+    /// How many external interrupt lines there are, 0 to 240.
     pub lines: u8,
+    /// How many regions the MPU has.
+    pub regions: RegionCount,
 
     // Flash ends where RAM begins, or before.
     pub ghost apart: { flash_base + flash_size ≤ ram_base },
@@ -29,7 +33,7 @@ pub struct Layout {
     pub ghost small: { ram_size ≤ 0x10_0000 },
     pub ghost bits_are_enough: { 3 ≤ priority_bits },
     pub ghost bits_are_few: { priority_bits ≤ 8 },
-    pub ghost lines_are_few: { lines ≤ 32 },
+    pub ghost lines_are_few: { lines ≤ 240 },
 }
 
 /// The layout of the small board: 4 KiB of flash at 0 and 8 KiB of RAM.
@@ -39,4 +43,5 @@ pub const SMALL_BOARD: Layout = Layout {
     ram_size: 8192,
     priority_bits: 4,
     lines: 8,
+    regions: RegionCount::Eight,
 };

@@ -1,6 +1,9 @@
 //! What a step tells: the lines of the trace as data.
 
-use crate::access::Access;
+use crate::access::DecidedAccess;
+
+/// The most lines of one step.
+pub const MOST_EVENTS: usize = 40;
 
 /// One line of the trace.
 #[derive(Clone, Copy)]
@@ -14,7 +17,7 @@ pub struct Event {
 #[derive(Clone, Copy)]
 pub enum Happening {
     /// An access was decided.
-    Accessed(Access),
+    Accessed(DecidedAccess),
     /// A byte went out to the console.
     ConsoleByte(u8),
     /// An exception return began, with this EXC_RETURN value.

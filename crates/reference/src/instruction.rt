@@ -1,5 +1,5 @@
-//! The instructions: one variant for each shape of operands, so that every encoding of one
-//! operation gives the same variant.
+//! The instructions, by family: one variant for each shape of operands, so that every encoding of
+//! one operation gives the same variant.
 
 use crate::operands::{
     Address, BranchExchange, ChangeProcessorState, ClearField, CompareAndBranch, CompareImmediate,
@@ -7,8 +7,8 @@ use crate::operands::{
     IfThen, InsertField, LoadDual, LoadDualLiteral, LoadExclusive, LoadImmediate, LoadLiteral,
     LoadMultiple, LoadRegister, MoveFromSpecial, MoveImmediate, MoveRegister, MoveToSpecial,
     MoveTop, Multiply, MultiplyAccumulate, MultiplyLong, Offset, Rearrange, Saturate,
-    ShiftByRegister, StoreDual, StoreExclusive, StoreImmediate, StoreMultiple, StoreRegister,
-    TableBranch,
+    ShiftByRegister, SpecialRegister, StoreDual, StoreExclusive, StoreImmediate, StoreMultiple,
+    StoreRegister, TableBranch,
 };
 use crate::stop::UnpredictableCase;
 
@@ -44,12 +44,23 @@ pub enum BlockPlace {
     Never,
 }
 
-/// An instruction with its operands.
+/// An instruction with its operands, in the family that says what it does.
 #[derive(Clone, Copy)]
 pub enum Instruction {
+    DataProcessing(DataProcessing),
+    LoadStore(LoadStore),
+    LoadStoreMultiple(LoadStoreMultiple),
+    Exclusive(Exclusive),
+    Branch(Branch),
+    System(System),
+}
+
+/// The instructions that compute from registers and make no access.
+#[derive(Clone, Copy)]
+pub enum DataProcessing {
     /// AND, BIC, ORR, ORN, EOR, ADD, ADC, SBC, SUB and RSB of a register and a number.
     DataImmediate(DataImmediate),
-    /// The same of two registers, the second shifted.
+    /// The same operations of two registers, the second shifted.
     DataRegister(DataRegister),
     /// MOV and MVN of a number.
     MoveImmediate(MoveImmediate),
@@ -59,7 +70,7 @@ pub enum Instruction {
     MoveTop(MoveTop),
     /// TST, TEQ, CMP and CMN of a register and a number.
     CompareImmediate(CompareImmediate),
-    /// The same of two registers, the second shifted.
+    /// The same comparisons of two registers, the second shifted.
     CompareRegister(CompareRegister),
     /// LSL, LSR, ASR and ROR by a register.
     ShiftByRegister(ShiftByRegister),
@@ -85,17 +96,27 @@ pub enum Instruction {
     Extend(Extend),
     /// REV, REV16, REVSH, RBIT and CLZ.
     Rearrange(Rearrange),
+}
+
+/// The loads and stores of one register.
+#[derive(Clone, Copy)]
+pub enum LoadStore {
     /// LDR, LDRB, LDRH, LDRSB and LDRSH at a base register and a number, and their unprivileged
     /// forms.
     LoadImmediate(LoadImmediate),
-    /// The same at a base register and another, shifted.
+    /// The same loads at a base register and another, shifted.
     LoadRegister(LoadRegister),
-    /// The same at the PC and a number.
+    /// The same loads at the PC and a number.
     LoadLiteral(LoadLiteral),
     /// STR, STRB and STRH at a base register and a number, and their unprivileged forms.
     StoreImmediate(StoreImmediate),
-    /// The same at a base register and another, shifted.
+    /// The same stores at a base register and another, shifted.
     StoreRegister(StoreRegister),
+}
+
+/// The loads and stores of several registers, a word each.
+#[derive(Clone, Copy)]
+pub enum LoadStoreMultiple {
     /// LDRD.
     LoadDual(LoadDual),
     /// LDRD at the PC and a number.
@@ -106,26 +127,41 @@ pub enum Instruction {
     LoadMultiple(LoadMultiple),
     /// STM, STMDB and PUSH.
     StoreMultiple(StoreMultiple),
+}
+
+/// The exclusive loads and stores, and CLREX.
+#[derive(Clone, Copy)]
+pub enum Exclusive {
     /// LDREX, LDREXB and LDREXH.
-    LoadExclusive(LoadExclusive),
+    Load(LoadExclusive),
     /// STREX, STREXB and STREXH.
-    StoreExclusive(StoreExclusive),
+    Store(StoreExclusive),
     /// CLREX.
-    ClearExclusive,
+    Clear,
+}
+
+/// The instructions that decide where the next one is, and IT.
+#[derive(Clone, Copy)]
+pub enum Branch {
     /// B.
-    Branch(Offset),
+    Immediate(Offset),
     /// B with a condition.
-    ConditionalBranch(ConditionalBranch),
+    Conditional(ConditionalBranch),
     /// BL.
-    BranchWithLink(Offset),
+    WithLink(Offset),
     /// BX and BLX.
-    BranchExchange(BranchExchange),
+    Exchange(BranchExchange),
     /// CBZ and CBNZ.
     CompareAndBranch(CompareAndBranch),
     /// TBB and TBH.
-    TableBranch(TableBranch),
+    Table(TableBranch),
     /// IT.
     IfThen(IfThen),
+}
+
+/// The instructions for special registers, the hints, SVC and BKPT.
+#[derive(Clone, Copy)]
+pub enum System {
     /// CPS.
     ChangeProcessorState(ChangeProcessorState),
     /// MSR.
@@ -158,11 +194,21 @@ pub enum Hint {
     Unallocated,
 }
 
-/// What an instruction does beside its registers.
+/// What an instruction does beside the core registers that it writes itself.
 #[derive(Clone, Copy)]
 pub enum Ending {
-    /// The step is over, and the PC is where the next one begins.
+    /// Nothing: the step is over, and the PC is at the next instruction.
     Next,
+    /// MRS: a special register is read into a register.
+    ReadSpecial(MoveFromSpecial),
+    /// MSR: a special register is written with this value.
+    WriteSpecial(SpecialRegister, u32),
+    /// CPS.
+    ChangeState(ChangeProcessorState),
+    /// WFI: the processor sleeps.
+    Sleep,
+    /// SVC with this number, at which the PC still is.
+    SupervisorCall(u8),
     /// A breakpoint with this number.
     Breakpoint(u8),
     /// A return from an exception, with this EXC_RETURN value.

@@ -1,5 +1,8 @@
 //! The words for the registers of the Memory Protection Unit.
 
+ghost use Rattle.std.specs.Prelude.{◌≡◌, ◌⊎◌};
+ghost use Rattle.reference.specs.Regions.{region_number};
+
 /// A register of the MPU. RBAR and RASR have three aliases each.
 #[derive(Clone, Copy)]
 pub enum MpuRegister {
@@ -31,4 +34,24 @@ pub struct Region {
     pub base: u32,
     /// RASR.
     pub attributes: u32,
+}
+
+/// How many regions an MPU has: MPU_TYPE.DREGION.
+#[derive(Clone, Copy)]
+pub enum RegionCount {
+    Eight,
+    Sixteen,
+}
+
+impl RegionCount {
+    /// The number, 8 or 16.
+    pub fn number(self) -> u8
+        ensures value { result ≡ region_number self }
+        ensures either { (result ≡ 8) ⊎ (result ≡ 16) }
+    {
+        match self {
+            RegionCount::Eight => 8,
+            RegionCount::Sixteen => 16,
+        }
+    }
 }

@@ -1,6 +1,9 @@
 //! The operands of the instructions, one struct for each shape. Immediates are scaled and expanded,
 //! as the manual's decode pseudocode gives them (`imm32`); registers are numbers from 0 to 15.
 
+ghost use Rattle.std.specs.Prelude.{◌≡◌};
+ghost use Rattle.reference.specs.SpecialRegisters.{special_of};
+
 use crate::access::Size;
 use crate::registers::{Register, RegisterList};
 use crate::shift::{Shift, ShiftType};
@@ -513,6 +516,31 @@ pub enum SpecialRegister {
     BasepriMax,
     Faultmask,
     Control,
+}
+
+impl SpecialRegister {
+    /// Returns the special register of a number, SYSm, if there is one (ARM DDI 0403, MRS).
+    pub fn of(number: u8) -> Option<Self>
+        ensures { result ≡ special_of number }
+    {
+        Some(match number {
+            0 => SpecialRegister::Apsr,
+            1 => SpecialRegister::Iapsr,
+            2 => SpecialRegister::Eapsr,
+            3 => SpecialRegister::Xpsr,
+            5 => SpecialRegister::Ipsr,
+            6 => SpecialRegister::Epsr,
+            7 => SpecialRegister::Iepsr,
+            8 => SpecialRegister::Msp,
+            9 => SpecialRegister::Psp,
+            16 => SpecialRegister::Primask,
+            17 => SpecialRegister::Basepri,
+            18 => SpecialRegister::BasepriMax,
+            19 => SpecialRegister::Faultmask,
+            20 => SpecialRegister::Control,
+            _ => return None,
+        })
+    }
 }
 
 #[derive(Clone, Copy)]

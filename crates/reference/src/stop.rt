@@ -55,8 +55,6 @@ pub enum UnpredictableCase {
 /// What this project's profile leaves out.
 #[derive(Clone, Copy)]
 pub enum LeftOut {
-    /// What later versions of this machine will do.
-    Unbuilt,
     /// An exclusive access.
     Exclusive,
     /// An exclusive access to the device window or the Private Peripheral Bus.

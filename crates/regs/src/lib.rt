@@ -2,8 +2,9 @@
 //! stack pointers, LR, PC, and what xPSR and CONTROL hold.
 #![tactic(auto)]
 
-ghost use Rattle.std.specs.Prelude.{◌≡◌, ◌<◌, ◌≤◌, ◌-◌, ◌^◌};
-ghost use Rattle.reference.specs.Registers.{register as register_of, with_register, with_pc, with_exchange, sp as sp_of, is_handler as is_handler_of, is_privileged as is_privileged_of, apsr as apsr_of, flags_of, xpsr as xpsr_of, control as control_of, weighed as weighed_of, uses_psp as uses_psp_of, with_sp, with_control, reset_registers};
+ghost use Rattle.std.specs.Prelude.{◌≡◌, ◌<◌, ◌≤◌, ◌-◌, ◌*◌, ◌/◌, ◌^◌};
+ghost use Rattle.reference.specs.Registers.{register as register_of, with_register, with_pc, with_exchange, sp as sp_of, is_handler as is_handler_of, is_privileged as is_privileged_of, apsr as apsr_of, flags_of, xpsr as xpsr_of, control as control_of, weighed as weighed_of, uses_psp as uses_psp_of, with_sp, reset_registers};
+ghost use Rattle.reference.specs.SpecialRegisters.{control_written};
 ghost use Rattle.reference.specs.Words.{word_sum};
 
 pub use reference::registers::{Flags, Register};
@@ -11,8 +12,10 @@ use std::marker::Model;
 
 mod arithmetic;
 mod conditions;
+mod frames;
 
 pub use arithmetic::{Shift, ShiftType, add_with_carry, decode_imm_shift, expand_imm, shift_c};
+pub use frames::{returns_on_psp, returns_to_handler};
 
 /// The number of the stack pointer.
 const SP: u8 = 13;
@@ -236,6 +239,13 @@ impl Regs {
         self.is_handler() || !self.unprivileged
     }
 
+    /// CONTROL.nPRIV.
+    pub fn npriv(&self) -> bool
+        ensures { result ≡ self.now.unprivileged }
+    {
+        self.unprivileged
+    }
+
     /// EPSR.T.
     #[inline]
     pub fn is_thumb(&self) -> bool
@@ -278,7 +288,8 @@ impl Regs {
 
     /// xPSR: APSR, EPSR and IPSR in one word.
     pub fn xpsr(&self) -> u32
-        ensures { result ≡ xpsr_of self.now }
+        ensures value { result ≡ xpsr_of self.now }
+        ensures room { result < 2 ^ 32 - 2 ^ 9 }
     {
         let it = self.it as u32;
         self.apsr()
@@ -307,12 +318,28 @@ impl Regs {
         weighed(self.unprivileged, 1) + weighed(self.process_stack, 2)
     }
 
-    /// CONTROL is given a value, of which nPRIV (bit 0) and SPSEL (bit 1) are kept.
-    pub fn set_control(&mut self, value: u32)
-        ensures { self.new ≡ with_control self.old value }
+    /// Sets MSP to a value, whose bits 1:0 are cleared.
+    pub fn set_main_stack(&mut self, value: u32)
+        ensures { self.new ≡ record self.old { msp = value / 4 * 4 } }
+    {
+        self.msp = value & !3;
+    }
+
+    /// Sets PSP to a value, whose bits 1:0 are cleared.
+    pub fn set_process_stack(&mut self, value: u32)
+        ensures { self.new ≡ record self.old { psp = value / 4 * 4 } }
+    {
+        self.psp = value & !3;
+    }
+
+    /// Writes CONTROL as MSR does: nPRIV (bit 0), and in Thread mode SPSEL (bit 1).
+    pub fn write_control(&mut self, value: u32)
+        ensures { self.new ≡ control_written self.old value }
     {
         self.unprivileged = value & 1 == 1;
-        self.process_stack = value >> 1 & 1 == 1;
+        if self.exception == 0 {
+            self.process_stack = value >> 1 & 1 == 1;
+        }
     }
 }
 

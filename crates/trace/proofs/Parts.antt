@@ -3,7 +3,7 @@ use Rattle.std.proofs.Common.{◌≡◌, ℕ, ◌+◌, ◌<◌, ◌≤◌, List,
 use Rattle.std.proofs.lemmas.List.{drop_all, append-nil}
 use Rattle.std.specs.Fmt.{decimal}
 use Rattle.std.specs.Prelude.{codes}
-use Rattle.reference.specs.declared.access.Access.{Access}
+use Rattle.reference.specs.declared.access.DecidedAccess.{DecidedAccess}
 use Rattle.reference.specs.declared.event.Event.{Event}
 use Rattle.reference.specs.declared.event.Happening.TheVariants.{Accessed}
 use Rattle.reference.specs.Text.{line, lines, line_feed, outcome_text, rule_text}
@@ -15,10 +15,10 @@ unfolding line tail
 tick_and_tail page e = simp append_assoc
 
 -- the tail of an access is its head with its outcome, and its rule
-pub head_and_rule : (page : List ℕ) (a : Access) →
-    (page ++ (access_head a ++ (outcome_text a.outcome ++ codes " "))) ++ (rule_text a.rule ++ line_feed) ≡ page ++ tail (Accessed a)
+pub head_and_rule : (page : List ℕ) (d : DecidedAccess) →
+    (page ++ (access_head d.access ++ (outcome_text d.refused ++ codes " "))) ++ (rule_text d.rule ++ line_feed) ≡ page ++ tail (Accessed d)
 unfolding access_head tail
-head_and_rule page a = simp append_assoc
+head_and_rule page d = simp append_assoc
 
 -- one more line is on the page, and one fewer is to come
 pub one_line : (page : List ℕ) (events : List Event) (i : ℕ) (d : Event) → i < length events →

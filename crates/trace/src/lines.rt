@@ -9,7 +9,7 @@ use crate::hex;
 use crate::page::Page;
 use crate::tick::Tick;
 use crate::words::{kind_letter, left_out_word, privilege_letter, size_digit, unpredictable_word};
-use reference::access::{Access, Outcome, Rule};
+use reference::access::{Access, Cause, DecidedAccess, Rule};
 use reference::event::{Event, Happening, RecordedFault};
 use reference::stop::Stop;
 
@@ -133,26 +133,26 @@ impl<const ROOM: usize> Page<ROOM> {
     /// Appends the line of an access but for its tick. Most lines are of this kind.
     #[inline(always)]
     #[tactic(auto, using(crate::proofs::Parts::head_and_rule))]
-    fn put_access(&mut self, access: &Access)
+    fn put_access(&mut self, decided: &DecidedAccess)
         requires { length self.old + TAIL_ROOM ≤ ROOM }
-        ensures text { self.new ≡ self.old ++ tail (Accessed access.now) }
+        ensures text { self.new ≡ self.old ++ tail (Accessed decided.now) }
         ensures short { length self.new ≤ length self.old + TAIL_ROOM }
     {
-        self.put_head(access);
-        self.put_rule(access.rule);
+        self.put_head(decided);
+        self.put_rule(decided.rule);
     }
 
     /// Appends what stands between the tick and the rule in the line of an access. Most accesses are
     /// done, so that is one piece of text.
     #[inline(always)]
-    fn put_head(&mut self, access: &Access)
+    fn put_head(&mut self, decided: &DecidedAccess)
         requires { length self.old + HEAD_ROOM ≤ ROOM }
-        ensures text { self.new ≡ self.old ++ (access_head access.now ++ (outcome_text access.now.outcome ++ codes " ")) }
+        ensures text { self.new ≡ self.old ++ (access_head decided.now.access ++ (outcome_text decided.now.refused ++ codes " ")) }
         ensures short { length self.new ≤ length self.old + HEAD_ROOM }
     {
-        match access.outcome {
-            Outcome::Done => self.put(&done_head_of(access)),
-            _ => self.put_rare_head(access),
+        match decided.refused {
+            None => self.put(&done_head_of(&decided.access)),
+            Some(_) => self.put_rare_head(decided),
         }
     }
 
@@ -160,31 +160,32 @@ impl<const ROOM: usize> Page<ROOM> {
     #[cold]
     #[inline(never)]
     #[tactic(auto, unfolding(crate::specs::Tails::access_head))]
-    fn put_rare_head(&mut self, access: &Access)
+    fn put_rare_head(&mut self, decided: &DecidedAccess)
         requires { length self.old + HEAD_ROOM ≤ ROOM }
-        ensures text { self.new ≡ self.old ++ (access_head access.now ++ (outcome_text access.now.outcome ++ codes " ")) }
+        ensures text { self.new ≡ self.old ++ (access_head decided.now.access ++ (outcome_text decided.now.refused ++ codes " ")) }
         ensures short { length self.new ≤ length self.old + HEAD_ROOM }
     {
+        let access = &decided.access;
         let kind = kind_letter(access.kind);
         let size = size_digit(access.size);
         let privilege = privilege_letter(access.privileged);
         self.put(&[b' ', kind, b' ']);
         self.put(&hex::word(access.address));
         self.put(&[b' ', size, b' ', privilege, b' ']);
-        self.put_outcome(access.outcome);
+        self.put_outcome(decided.refused);
     }
 
-    /// Appends an outcome and a space.
+    /// Appends what refused an access, or `ok`, and a space.
     #[inline(always)]
-    fn put_outcome(&mut self, outcome: Outcome)
+    fn put_outcome(&mut self, refused: Option<Cause>)
         requires { length self.old + 4 ≤ ROOM }
-        ensures text { self.new ≡ self.old ++ (outcome_text outcome ++ codes " ") }
+        ensures text { self.new ≡ self.old ++ (outcome_text refused ++ codes " ") }
         ensures short { length self.new ≤ length self.old + 4 }
     {
-        match outcome {
-            Outcome::Done => self.put(b"ok "),
-            Outcome::RefusedByMpu => self.put(b"mpu "),
-            Outcome::RefusedByBus => self.put(b"bus "),
+        match refused {
+            None => self.put(b"ok "),
+            Some(Cause::Mpu) => self.put(b"mpu "),
+            Some(Cause::Bus) => self.put(b"bus "),
         }
     }
 

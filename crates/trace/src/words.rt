@@ -73,7 +73,6 @@ pub(crate) fn left_out_word(case: LeftOut) -> &'static [u8]
     ensures short { length result.now ≤ 16 }
 {
     match case {
-        LeftOut::Unbuilt => b"unbuilt",
         LeftOut::Exclusive => b"exclusive",
         LeftOut::ExclusiveDevice => b"exclusive-device",
         LeftOut::UnalignedDevice => b"unaligned-device",

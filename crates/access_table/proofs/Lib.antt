@@ -1,0 +1,4 @@
+pub mod Cuts
+pub mod Owned
+pub mod Halves
+pub mod Deciding

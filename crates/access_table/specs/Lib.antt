@@ -1,0 +1,3 @@
+pub mod Boundaries
+pub mod Intervals
+pub mod Tables

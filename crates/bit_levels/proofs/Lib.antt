@@ -1,0 +1,5 @@
+pub mod Bits
+pub mod First
+pub mod Kept
+pub mod Lists
+pub mod Spaced

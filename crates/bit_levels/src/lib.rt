@@ -1,0 +1,9 @@
+//! The exceptions as sets of bits, one for each priority byte (ARM DDI 0403, "Exception priorities
+//! and preemption").
+#![tactic(auto)]
+
+mod levels;
+mod sets;
+
+pub use levels::BitLevels;
+pub use nvic::Levels;

@@ -1,0 +1,105 @@
+-- The counter after many counts is the counter after one more than one fewer.
+use Rattle.std.proofs.Common.{◌≡◌, ℕ, ◌+◌, ◌-◌, ◌%◌, ◌<◌, ◌≤◌, ◌⊎◌, Bool, true, false, ◌==◌, nat_le, if◌then◌else◌, arith, refl, sym, ap, ◌∙◌, inl, inr, add-one}
+use Rattle.std.proofs.Math.Nat.{suc-mod, mod_self, mod-eq_of_lt, zero-mod}
+use Rattle.std.proofs.lemmas.Bool.{cases_lt}
+use Rattle.std.proofs.lemmas.Bool.Decides.{nat_tests}
+use Rattle.clock.specs.Later.{from_zero, current_after, later}
+use Rattle.reference.specs.Time.{SysTick, next_current}
+
+-- one count of the counter
+abbrev counted_once : ℕ → ℕ → ℕ
+counted_once reload current = if current == 0 then reload else current - 1
+
+-- over the remainder p and the one after it
+from_zero_next : (reload p q : ℕ) → p < reload + 1 → ((q ≡ p + 1) × (p < reload)) ⊎ ((q ≡ 0) × (p ≡ reload))
+    → (if q == 0 then 0 else reload + 1 - q) ≡ counted_once reload (if p == 0 then 0 else reload + 1 - p)
+from_zero_next reload p q small (inl next) = let e = next.0 in let f = next.1 in grind (arith, nat_tests)
+from_zero_next reload p q small (inr wraps) = let e = wraps.0 in let f = wraps.1 in grind (arith, nat_tests)
+
+remainder_next : (reload n : ℕ)
+    → (((n + 1) % (reload + 1) ≡ n % (reload + 1) + 1) × (n % (reload + 1) < reload))
+    ⊎ (((n + 1) % (reload + 1) ≡ 0) × (n % (reload + 1) ≡ reload))
+remainder_next reload n = lead (cases_lt (n % (reload + 1)) reload)
+  where
+    small : n % (reload + 1) < reload + 1
+    small = omega arith
+
+    step : (n + 1) % (reload + 1) ≡ (n % (reload + 1) + 1) % (reload + 1)
+    step =
+        ap (λ k. k % (reload + 1)) (add-one n)
+        ∙ suc-mod n (reload + 1)
+        ∙ ap (λ k. k % (reload + 1)) (sym (add-one (n % (reload + 1))))
+
+    lead : ((n % (reload + 1) < reload) ⊎ (reload ≤ n % (reload + 1)))
+        → (((n + 1) % (reload + 1) ≡ n % (reload + 1) + 1) × (n % (reload + 1) < reload))
+        ⊎ (((n + 1) % (reload + 1) ≡ 0) × (n % (reload + 1) ≡ reload))
+    lead (inl under) = inl (step ∙ mod-eq_of_lt (let wide : n % (reload + 1) + 1 < reload + 1 = omega arith in wide), under)
+    lead (inr over) =
+        let s = small in
+        let e : n % (reload + 1) ≡ reload = omega (arith, s, over) in
+        inr (step ∙ ap (λ p. (p + 1) % (reload + 1)) e ∙ mod_self (reload + 1), e)
+
+-- a counter that has just fallen to 0
+at_zero : (reload : ℕ) → from_zero reload 0 ≡ 0
+at_zero reload = rw (zero-mod (reload + 1)) refl
+
+fallen : (reload current : ℕ) → current_after reload current current ≡ from_zero reload (current - current)
+fallen reload current = let z : current - current ≡ 0 = omega arith in rw z (both (nat_le current current))
+  where
+    both : (b : Bool) → (if b then 0 else from_zero reload 0) ≡ from_zero reload 0
+    both true = sym (at_zero reload)
+    both false = refl
+
+current_next : (reload current n : ℕ)
+    → current_after reload current (n + 1) ≡ counted_once reload (current_after reload current n)
+current_next reload current n = lead (cases_lt n current)
+  where
+    falls : n < current → current_after reload current (n + 1) ≡ counted_once reload (current_after reload current n)
+    falls h = grind (arith, nat_tests)
+
+    lead : ((n < current) ⊎ (current ≤ n)) → current_after reload current (n + 1) ≡ counted_once reload (current_after reload current n)
+    lead (inl h) = falls h
+    lead (inr h) = counts h
+      where
+        past : (m : ℕ) → current ≤ m → current_after reload current m ≡ from_zero reload (m - current)
+        past m k = split (cases_lt current m)
+          where
+            split : ((current < m) ⊎ (m ≤ current)) → current_after reload current m ≡ from_zero reload (m - current)
+            split (inl over) = grind (arith, nat_tests)
+            split (inr same) = let e : m ≡ current = omega arith in rw e (fallen reload current)
+
+        counts : current ≤ n → current_after reload current (n + 1) ≡ counted_once reload (current_after reload current n)
+        counts k =
+            let e : n + 1 - current ≡ n - current + 1 = omega arith in
+            past (n + 1) (omega arith)
+            ∙ ap (from_zero reload) e
+            ∙ from_zero_next reload ((n - current) % (reload + 1)) ((n - current + 1) % (reload + 1)) (omega arith) (remainder_next reload (n - current))
+            ∙ ap (counted_once reload) (sym (past n k))
+
+-- SysTick, whether it's enabled or not
+pub later_next : (t : SysTick) (n : ℕ) → later t (n + 1) ≡ record (later t n) { current = next_current (later t n) }
+later_next t n = ap (λ (c : ℕ). record t { current = c }) (split t.enable)
+  where
+    split : (on : Bool) → (if on then current_after t.reload t.current (n + 1) else t.current)
+        ≡ (if on then counted_once t.reload (if on then current_after t.reload t.current n else t.current)
+        else (if on then current_after t.reload t.current n else t.current))
+    split true = current_next t.reload t.current n
+    split false = refl
+
+pub later_none : (t : SysTick) → later t 0 ≡ t
+later_none t = ap (λ (c : ℕ). record t { current = c }) (split t.enable)
+  where
+    split : (on : Bool) → (if on then current_after t.reload t.current 0 else t.current) ≡ t.current
+    split true = grind (arith, nat_tests)
+    split false = refl
+
+-- the next tick after some ticks since another one
+pub later_after : (t : SysTick) (since now : ℕ) → since ≤ now
+    → later t (now + 1 - since) ≡ record (later t (now - since)) { current = next_current (later t (now - since)) }
+later_after t since now h =
+    let e : now + 1 - since ≡ now - since + 1 = omega arith in
+    rw e (later_next t (now - since))
+
+-- none has passed at the tick itself
+pub later_now : (t : SysTick) (now : ℕ) → later t (now - now) ≡ t
+later_now t now = let e : now - now ≡ 0 = omega arith in rw e (later_none t)

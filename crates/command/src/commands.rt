@@ -1,0 +1,140 @@
+//! The whole command: from the words to the exit status.
+
+ghost use Rattle.std.specs.Prelude.{◌≡◌, ◌⊎◌};
+
+use crate::engine::go;
+use crate::fault::{Fault, tell};
+use crate::files::{FileFault, InputFile, read_file};
+use crate::noting::Noting;
+use crate::request::{Request, read_words};
+use command_line::WordsFault;
+use machine::{Over, Paged};
+use std::alloc::Global;
+use std::io;
+use std::io::Write;
+use std::marker::Brand;
+use std::rt::Files;
+use std::sync::ledger::{Blank, Ledger};
+
+/// Carries out what the words ask for, of which the first is the program's name. Reads the image, then
+/// the board, and writes the trace to `out`, or why there is none to `err`. Returns the exit status.
+/// Help and the version go to `out`.
+pub fn program<R: Files + AllocGlobal, W: Write + Drop, E: Write>(
+    rt: &R,
+    words: &[String],
+    out: W,
+    err: &mut E,
+) -> u8 {
+    match read_words(rt.alloc(), words) {
+        Ok(request) => run(rt, request, out, err),
+        Err(fault) => answer(fault, out, err),
+    }
+}
+
+/// Writes the answer to words that name no run. Returns 2, 0 for the version, 5 where that fails.
+fn answer<W: Write + Drop, E: Write>(fault: WordsFault, mut out: W, err: &mut E) -> u8
+    ensures { (result ≡ 2) ⊎ ((result ≡ 0) ⊎ (result ≡ 5)) }
+{
+    match fault {
+        WordsFault::Wrong(text) => {
+            let status = tell(Fault::Usage, err);
+            let _ = err.write_all(text.as_bytes());
+            status
+        }
+        WordsFault::Help(text) => {
+            let _ = out.write_all(text.as_bytes());
+            tell(Fault::Usage, err)
+        }
+        WordsFault::Version(text) => match out.write_all(text.as_bytes()) {
+            Ok(()) => 0,
+            Err(error) => tell_io("standard output", &error, err),
+        },
+        WordsFault::OutOfMemory => {
+            let status = tell(Fault::Io, err);
+            let _ = writeln!(err, "  no memory was found for the words");
+            status
+        }
+    }
+}
+
+/// Reads the image, then the board, and runs the image.
+fn run<R: Files + AllocGlobal, W: Write + Drop, E: Write>(
+    rt: &R,
+    request: Request<'_>,
+    out: W,
+    err: &mut E,
+) -> u8 {
+    let image = match read_file(rt, request.image) {
+        Ok(bytes) => bytes,
+        Err(fault) => return tell_file(request.image, &fault, err),
+    };
+    let board = match read_file(rt, request.board) {
+        Ok(bytes) => bytes,
+        Err(fault) => return tell_file(request.board, &fault, err),
+    };
+    let image = InputFile {
+        path: request.image,
+        bytes: image.as_slice(),
+    };
+    let board = InputFile {
+        path: request.board,
+        bytes: board.as_slice(),
+    };
+    run_files::<W, E, Brand>(
+        rt.alloc(),
+        image,
+        board,
+        request.steps,
+        out,
+        err,
+        Blank::new(1),
+    )
+}
+
+/// Runs an image on a board. `blank` counts the calls of `out` that fail.
+fn run_files<W: Write + Drop, E: Write, K: Ledger>(
+    alloc: Global,
+    image: InputFile<'_>,
+    board: InputFile<'_>,
+    steps: u64,
+    out: W,
+    err: &mut E,
+    blank: Blank,
+) -> u8
+    requires name { blank.name ≡ K.name }
+    requires parts { blank.parts ≡ K.parts }
+    requires some { blank.parts ≡ 1 }
+{
+    let mut out: Paged<Over<Noting<W>, K>> = Paged::new(Over::new(Noting::new(out), blank));
+    let status = go(alloc, image, board, steps, &mut out, err);
+    if let Some(error) = out.into_inner().into_inner().error() {
+        let _ = writeln!(err, "  standard output: {error}");
+    }
+    status
+}
+
+/// Writes why a file isn't read, and returns the status.
+fn tell_file<E: Write>(path: &str, fault: &FileFault, err: &mut E) -> u8
+    ensures { (result ≡ 3) ⊎ (result ≡ 5) }
+{
+    match fault {
+        FileFault::Size => {
+            let status = tell(Fault::Size, err);
+            let _ = writeln!(
+                err,
+                "  {path}: the file has more than 16777216 bytes (16 MiB)"
+            );
+            status
+        }
+        FileFault::Read(error) => tell_io(path, error, err),
+    }
+}
+
+/// Writes what the system says of a file or a stream, and returns the status.
+fn tell_io<E: Write>(path: &str, error: &io::Error, err: &mut E) -> u8
+    ensures { result ≡ 5 }
+{
+    let status = tell(Fault::Io, err);
+    let _ = writeln!(err, "  {path}: {error}");
+    status
+}

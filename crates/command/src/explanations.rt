@@ -1,0 +1,55 @@
+//! Why a run is refused, for a person: lines after the fault's own.
+
+use crate::engine::board_of_file;
+use crate::fault::Fault;
+use crate::files::InputFile;
+use reasons::{write_board_reason, write_image_reason, write_start_reason};
+use reference::fault::StartFault;
+use std::alloc::Global;
+use std::io;
+use std::io::Write;
+
+/// Writes the file of a fault and what is wrong in it: a field, a key or an event, its value, and
+/// what it takes.
+pub fn explain<E: Write>(
+    alloc: Global,
+    fault: Fault,
+    image: InputFile<'_>,
+    board: InputFile<'_>,
+    err: &mut E,
+) -> io::Result<()> {
+    match fault {
+        Fault::Load(fault) => {
+            write_path(image.path, err)?;
+            write_image_reason(err, image.bytes, fault)
+        }
+        Fault::Board(fault) => {
+            write_path(board.path, err)?;
+            write_board_reason(alloc, err, board.bytes, fault)
+        }
+        Fault::Start(fault) => {
+            write_path(image.path, err)?;
+            explain_start(alloc, fault, image.bytes, board.bytes, err)
+        }
+        Fault::Usage | Fault::Size | Fault::Io => Ok(()),
+    }
+}
+
+/// Writes why a machine of a board doesn't start with an image.
+fn explain_start<E: Write>(
+    alloc: Global,
+    fault: StartFault,
+    image: &[u8],
+    board: &[u8],
+    err: &mut E,
+) -> io::Result<()> {
+    match board_of_file(alloc, board) {
+        Ok(board) => write_start_reason(err, image, &board.layout, fault),
+        Err(_) => writeln!(err, "{fault}"),
+    }
+}
+
+/// Writes the path that a reason begins with.
+fn write_path<E: Write>(path: &str, err: &mut E) -> io::Result<()> {
+    write!(err, "  {path}: ")
+}

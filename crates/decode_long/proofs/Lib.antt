@@ -1,2 +1,0 @@
-pub mod LongControl
-pub mod LongTop

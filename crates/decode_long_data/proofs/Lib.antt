@@ -1,3 +1,0 @@
-pub mod LongData
-pub mod LongRegister
-pub mod DataTop

@@ -1,3 +1,0 @@
-pub mod LongSeveral
-pub mod LongMemory
-pub mod MemoryTop

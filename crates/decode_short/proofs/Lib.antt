@@ -1,2 +1,0 @@
-pub mod ShortControl
-pub mod ShortTop

@@ -1,3 +1,0 @@
-pub mod ShortData
-pub mod ShortMemory
-pub mod RowsTop

@@ -1,0 +1,55 @@
+-- What a number means by the rows of a table, if one of them applies: each text as a mask and a value.
+use Rattle.std.specs.Prelude.{ℕ, ◌+◌, ◌*◌, ◌^◌, Bool, not, ◌&&◌, ◌||◌, ◌==◌, if◌then◌else◌, List, [], ◌∷◌, length, Option, Some, None, bit_and, false}
+use Rattle.reference.specs.declared.instruction.Decoded.{Decoded}
+use Rattle.reference.specs.Patterns.{place_0, place_1, place_z, place_o}
+use Rattle.reference.specs.Rows.{Row, letters, as_printed}
+use Rattle.encodings.specs.Runs.{value_at}
+
+-- whether a place fixes its bit, and whether to 1, as digits
+abbrev pub mask_bit : ℕ → ℕ → ℕ → ℕ
+mask_bit clear set place = if place == clear then 1 else if place == set then 1 else 0
+
+abbrev pub value_bit : ℕ → ℕ → ℕ → ℕ
+value_bit clear set place = if place == clear then 0 else if place == set then 1 else 0
+
+-- the bits that a text fixes
+abbrev pub mask_of : ℕ → ℕ → List ℕ → ℕ
+mask_of clear set [] = 0
+mask_of clear set (place ∷ places) = mask_bit clear set place * 2 ^ length places + mask_of clear set places
+
+-- the values that it fixes them to
+abbrev pub value_of : ℕ → ℕ → List ℕ → ℕ
+value_of clear set [] = 0
+value_of clear set (place ∷ places) = value_bit clear set place * 2 ^ length places + value_of clear set places
+
+-- whether the bits of the mask are those of the value
+unfoldable pub masked : ℕ → ℕ → ℕ → Bool
+masked x mask value = bit_and x mask == value
+
+-- the same by the text
+abbrev pub by_text : ℕ → ℕ → List ℕ → ℕ → Bool
+by_text clear set places x = masked x (mask_of clear set places) (value_of clear set places)
+
+-- whether one of the exceptions fits
+abbrev pub excepted : List (List ℕ) → ℕ → Bool
+excepted [] x = false
+excepted (text ∷ texts) x = by_text place_0 place_1 text x || excepted texts x
+
+-- whether a row applies, whose text fits or not, and its exceptions
+unfoldable pub chosen : Bool → Bool → Bool
+chosen fits except = fits && not except
+
+-- what a row makes of the number
+abbrev pub outcome_of : Row → ℕ → Decoded
+outcome_of row x = as_printed (by_text place_z place_o row.places x) (row.gives (letters (value_at row.places x)))
+
+-- what the first row that applies makes of the number
+unfoldable pub by_masks : List Row → ℕ → Option Decoded
+by_masks [] x = None
+by_masks (row ∷ rows) x =
+    if chosen (by_text place_0 place_1 row.places x) (excepted row.except x) then Some (outcome_of row x) else by_masks rows x
+
+-- what a table makes of a number, and otherwise the next
+abbrev pub first_of : Option Decoded → Decoded → Decoded
+first_of None otherwise = otherwise
+first_of (Some decoded) otherwise = decoded

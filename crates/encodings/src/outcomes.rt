@@ -1,0 +1,128 @@
+//! What a row says: an instruction, or the cause for which it is UNPREDICTABLE.
+
+ghost use Rattle.std.specs.Prelude.{◌≡◌, ◌==◌};
+ghost use Rattle.reference.specs.Rows.{as_printed, short, long, placed, last_only_if, unless, is_bad};
+ghost use Rattle.reference.specs.declared.instruction.BlockPlace.TheVariants.{Anywhere};
+ghost use Rattle.reference.specs.declared.stop.UnpredictableCase.TheVariants.{Registers};
+
+use reference::instruction::{BlockPlace, CodedInstruction, Decoded, Instruction};
+use reference::registers::Register;
+use reference::stop::UnpredictableCase;
+
+/// Returns an instruction of two bytes at any position in an IT block.
+#[inline]
+pub fn short(instruction: Instruction) -> Decoded
+    ensures { result ≡ short instruction }
+{
+    placed(2, BlockPlace::Anywhere, instruction)
+}
+
+/// Returns an instruction of four bytes at any position in an IT block.
+#[inline]
+pub fn long(instruction: Instruction) -> Decoded
+    ensures { result ≡ long instruction }
+{
+    placed(4, BlockPlace::Anywhere, instruction)
+}
+
+/// Returns whether a register is SP or PC: `BadReg()`.
+#[inline]
+pub fn is_bad(register: Register) -> bool
+    ensures { result ≡ is_bad register }
+{
+    register.number() == 13 || register.number() == 15
+}
+
+/// Returns an instruction of that many bytes at that position in an IT block.
+#[inline]
+pub fn placed(length: u8, place: BlockPlace, instruction: Instruction) -> Decoded
+    ensures { result ≡ placed length place instruction }
+{
+    Decoded::Instr(CodedInstruction {
+        instruction,
+        length,
+        place,
+    })
+}
+
+/// Returns an instruction that writes the PC may only be the last of an IT block.
+#[inline]
+pub fn last_only_if(writes_pc: bool) -> BlockPlace
+    ensures { result ≡ last_only_if writes_pc }
+{
+    if writes_pc {
+        BlockPlace::LastOnly
+    } else {
+        BlockPlace::Anywhere
+    }
+}
+
+/// Returns what a row says unless it is UNPREDICTABLE for that cause.
+#[inline]
+pub fn unless(
+    refused: bool,
+    place: BlockPlace,
+    cause: UnpredictableCase,
+    decoded: Decoded,
+) -> Decoded
+    ensures { result ≡ unless refused place cause decoded }
+{
+    if refused {
+        Decoded::Unpredictable(place, cause)
+    } else {
+        decoded
+    }
+}
+
+/// Returns what a row says that may be anywhere in an IT block, unless it refuses its registers.
+#[inline]
+pub fn unless_refused(refused: bool, decoded: Decoded) -> Decoded
+    ensures { result ≡ unless refused Anywhere Registers decoded }
+{
+    unless(
+        refused,
+        BlockPlace::Anywhere,
+        UnpredictableCase::Registers,
+        decoded,
+    )
+}
+
+/// Returns an instruction of four bytes at any position in an IT block, unless it refuses its
+/// registers.
+#[inline]
+pub fn long_unless(refused: bool, instruction: Instruction) -> Decoded
+    ensures { result ≡ unless refused Anywhere Registers (long instruction) }
+{
+    unless_refused(refused, long(instruction))
+}
+
+/// Returns an instruction of that many bytes at that position in an IT block, unless it refuses its
+/// registers.
+#[inline]
+pub fn placed_unless(
+    refused: bool,
+    length: u8,
+    place: BlockPlace,
+    instruction: Instruction,
+) -> Decoded
+    ensures { result ≡ unless refused place Registers (placed length place instruction) }
+{
+    unless(
+        refused,
+        place,
+        UnpredictableCase::Registers,
+        placed(length, place, instruction),
+    )
+}
+
+/// Returns what a row says, or that a bit isn't what it should be.
+#[inline]
+pub fn as_printed(printed: bool, decoded: Decoded) -> Decoded
+    ensures { result ≡ as_printed printed decoded }
+{
+    if printed {
+        decoded
+    } else {
+        Decoded::Unpredictable(BlockPlace::Anywhere, UnpredictableCase::Encoding)
+    }
+}

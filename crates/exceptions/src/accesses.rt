@@ -1,0 +1,109 @@
+//! The accesses of a step, one by one, and their lines.
+
+ghost use Rattle.std.specs.Prelude.{◌≡◌, ◌+◌, ◌≤◌, ◌<◌, ◌^◌, ◌%◌, ◌++◌, length, IfOk};
+ghost use Rattle.exceptions.specs.Room.{lines_of, most_lines};
+ghost use Rattle.exceptions.specs.Serving.{Serves};
+ghost use Rattle.reference.specs.Accesses.{accessed, told, value_of, perform, perform_all};
+ghost use Rattle.reference.specs.declared.event.Happening.TheVariants.{ConsoleByte};
+ghost use Rattle.reference.specs.Kinds.{bytes_in};
+
+use access::{Bus, Decider, DueTicks, Levels, is_out};
+use bounded::Bounded;
+use reference::access::{Cause, DecidedAccess, MOST_REQUESTS, Performed, Request, Rule};
+use reference::event::{Event, Happening, MOST_EVENTS};
+use reference::failure::Failure;
+
+/// The events of one step, in their order.
+pub type Events = Bounded<Event, MOST_EVENTS>;
+
+/// The accesses that an instruction, or a frame, asks for, in their order.
+pub type Requests = Bounded<Request, MOST_REQUESTS>;
+
+/// The values that an instruction read, in the order of its accesses.
+pub type Values = Bounded<u32, MOST_REQUESTS>;
+
+/// Makes accesses one by one, each in the state that the one before left, to the first failure.
+/// `exception` is the number of the exception that runs. `values` becomes what they read.
+#[inline(always)]
+pub fn serve<D: Decider, L: Levels, U: DueTicks>(
+    exception: u16,
+    bus: &mut Bus<D, L, U>,
+    tick: u64,
+    events: &mut Events,
+    requests: &[Request],
+    values: &mut Values,
+) -> Result<(), Failure>
+    requires room { length events.old.items + most_lines requests.now ≤ MOST_EVENTS }
+    requires few { length requests.now ≤ MOST_REQUESTS }
+    ensures bus { bus.new ≡ (perform_all exception tick bus.old requests.now).bus }
+    ensures events { events.new.items ≡ events.old.items ++ (perform_all exception tick bus.old requests.now).events }
+    ensures answer { Serves (perform_all exception tick bus.old requests.now) values.new result }
+    ensures room { length events.new.items ≤ length events.old.items + most_lines requests.now }
+    ensures whole { IfOk result (λ done. length values.new.items ≡ length requests.now) }
+{
+    values.clear();
+    'requests: for request in requests {
+        match access(exception, bus, tick, events, request) {
+            Ok(value) => values.push(value),
+            Err(failure) => return Err(failure),
+        }
+    }
+    Ok(())
+}
+
+/// Makes one access, and appends its lines.
+#[inline(always)]
+pub fn access<D: Decider, L: Levels, U: DueTicks>(
+    exception: u16,
+    bus: &mut Bus<D, L, U>,
+    tick: u64,
+    events: &mut Events,
+    request: &Request,
+) -> Result<u32, Failure>
+    requires { length events.old.items + lines_of request.now ≤ MOST_EVENTS }
+    ensures bus { bus.new ≡ (perform exception bus.old request.now).bus }
+    ensures events { events.new.items ≡ events.old.items ++ told tick request.now (perform exception bus.old request.now).performed }
+    ensures room { length events.new.items ≤ length events.old.items + lines_of request.now }
+    ensures answer { result ≡ value_of request.now (perform exception bus.old request.now).performed }
+    ensures narrow { IfOk result (λ value. value < 256 ^ bytes_in request.now.access.size) }
+{
+    match bus.perform(exception, request) {
+        Performed::Done(rule, value) => {
+            events.push(accessed(tick, request, rule, None));
+            if is_out(request) {
+                events.push(console_line(tick, request.value));
+            }
+            Ok(value)
+        }
+        Performed::Denied(rule, cause) => {
+            events.push(accessed(tick, request, rule, Some(cause)));
+            Err(Failure::Refused(request.access, cause))
+        }
+        Performed::Stop(why) => Err(Failure::Stop(why)),
+    }
+}
+
+/// The line of an access that was decided.
+#[inline]
+fn accessed(tick: u64, request: &Request, rule: Rule, refused: Option<Cause>) -> Event
+    ensures { result ≡ accessed tick request.now rule refused }
+{
+    Event {
+        tick,
+        what: Happening::Accessed(DecidedAccess {
+            access: request.access,
+            rule,
+            refused,
+        }),
+    }
+}
+
+/// The line of a word whose low byte goes to the console.
+fn console_line(tick: u64, word: u32) -> Event
+    ensures { result ≡ record { tick = tick; what = ConsoleByte (word % 256) } }
+{
+    Event {
+        tick,
+        what: Happening::ConsoleByte((word % 256) as u8),
+    }
+}

@@ -1,0 +1,161 @@
+//! Exception entry in two steps (ARM DDI 0403, `PushStack()` and `ExceptionTaken()`).
+
+ghost use Rattle.std.specs.Prelude.{◌≡◌, ◌<◌, ◌≤◌, [], length};
+ghost use Rattle.reference.specs.declared.access.Size.TheVariants.{Word};
+ghost use Rattle.reference.specs.LoadStore.{request};
+ghost use Rattle.reference.specs.ExceptionEntry.{words_from as words_from_of, pushes as pushes_of, vector_read as vector_read_of, handler_entered, vector_refused, exception_taken, begin_entry, take_vector};
+
+use crate::accesses::{Events, Requests, Values, serve};
+use crate::faults::vector_fault;
+use crate::state::Core;
+use access::{Decider, DueTicks, Levels};
+use reference::access::{Access, Kind, Request, Size};
+use reference::event::{Event, Happening, MOST_EVENTS};
+use reference::exception::{HARD_FAULT, NMI};
+use reference::failure::Failure;
+use regs::Regs;
+
+/// Returns accesses to words that follow one another upward from an address.
+pub fn words_from(kind: Kind, privileged: bool, address: u32, values: &[u32]) -> Requests
+    requires { length values.now ≤ 8 }
+    ensures { result.items ≡ words_from_of kind privileged address values.now }
+{
+    let mut requests = Requests::new();
+    let mut next = address;
+    'values: for &value in values {
+        requests.push(word(kind, privileged, next, value));
+        next = next.wrapping_add(4);
+    }
+    requests
+}
+
+/// Returns an access to a word.
+fn word(kind: Kind, privileged: bool, address: u32, value: u32) -> Request
+    ensures { result ≡ request kind privileged Word address value }
+{
+    Request {
+        access: Access {
+            address,
+            kind,
+            size: Size::Word,
+            privileged,
+        },
+        value,
+    }
+}
+
+/// Returns the pushes of a frame, with the privilege of the code that is interrupted.
+#[tactic(auto, unfolding(reference::specs::ExceptionEntry::pushes))]
+fn pushes(regs: &Regs) -> Requests
+    ensures { result.items ≡ pushes_of regs.now }
+{
+    let frame = regs.frame();
+    words_from(
+        Kind::Push,
+        regs.is_privileged(),
+        regs.frame_address(),
+        frame.as_slice(),
+    )
+}
+
+impl<D: Decider, L: Levels, U: DueTicks> Core<D, L, U> {
+    /// Pushes the frame: a Stack step.
+    #[tactic(auto, using(crate::proofs::Room::pushed_lines, crate::proofs::Room::pushed_words), unfolding(reference::specs::ExceptionEntry::begin_entry))]
+    pub fn begin_entry(&mut self, events: &mut Events)
+        requires { events.old.items ≡ [] }
+        ensures state { self.new ≡ (begin_entry self.old).state }
+        ensures events { events.new.items ≡ (begin_entry self.old).events }
+    {
+        let requests = pushes(&self.regs);
+        let tick = self.bus.system.ticks();
+        let exception = self.regs.exception();
+        self.entry = Some(self.regs.exc_return());
+        self.regs.reserve_frame();
+        self.asleep = false;
+        let mut values = Values::new();
+        let pushed = serve(
+            exception,
+            &mut self.bus,
+            tick,
+            events,
+            requests.as_slice(),
+            &mut values,
+        );
+        if let Err(failure) = pushed {
+            self.fail(events, failure);
+        }
+    }
+
+    /// Takes the candidate of this moment: a Vector step.
+    #[tactic(auto, unfolding(reference::specs::ExceptionEntry::take_vector))]
+    pub fn take_vector(&mut self, events: &mut Events, exc_return: u32)
+        requires { events.old.items ≡ [] }
+        ensures state { self.new ≡ (take_vector self.old exc_return).state }
+        ensures events { events.new.items ≡ (take_vector self.old exc_return).events }
+    {
+        if let Some(exception) = self.candidate() {
+            self.take_exception(events, exc_return, exception);
+        }
+    }
+
+    /// Reads the vector of an exception, and begins its handler.
+    #[tactic(auto, unfolding(reference::specs::ExceptionEntry::exception_taken))]
+    fn take_exception(&mut self, events: &mut Events, exc_return: u32, exception: u16)
+        requires empty { events.old.items ≡ [] }
+        requires small { exception < 256 }
+        ensures state { self.new ≡ (exception_taken self.old exc_return exception).state }
+        ensures events { events.new.items ≡ (exception_taken self.old exc_return exception).events }
+    {
+        let request = self.vector_read(exception);
+        match self.access(events, &request) {
+            Ok(vector) => self.enter_handler(events, exc_return, exception, vector),
+            Err(Failure::Refused(_, _)) => self.refuse_vector(events, exception),
+            Err(failure) => self.fail(events, failure),
+        }
+    }
+
+    /// Returns the read of the vector of an exception.
+    fn vector_read(&self, exception: u16) -> Request
+        requires { exception < 256 }
+        ensures { result ≡ vector_read_of self.now exception }
+    {
+        let address = self
+            .bus
+            .system
+            .status()
+            .vtor()
+            .wrapping_add(4 * u32::from(exception));
+        word(Kind::Vector, true, address, 0)
+    }
+
+    /// Begins the handler of an exception at its vector.
+    fn enter_handler(&mut self, events: &mut Events, exc_return: u32, exception: u16, vector: u32)
+        requires room { length events.old.items < MOST_EVENTS }
+        requires small { exception < 256 }
+        ensures state { self.new ≡ (handler_entered self.old events.old.items exception exc_return vector).state }
+        ensures events { events.new.items ≡ (handler_entered self.old events.old.items exception exc_return vector).events }
+    {
+        events.push(Event {
+            tick: self.bus.system.ticks(),
+            what: Happening::HandlerEntered(exception),
+        });
+        self.regs.enter_handler(exception, exc_return, vector);
+        self.bus.system.clear(exception);
+        self.bus.system.activate(exception);
+        self.entry = None;
+    }
+
+    /// Makes HardFault pending where a vector is refused; it is lockup for NMI and HardFault.
+    fn refuse_vector(&mut self, events: &mut Events, exception: u16)
+        requires { length events.old.items < MOST_EVENTS }
+        ensures state { self.new ≡ (vector_refused self.old events.old.items exception).state }
+        ensures events { events.new.items ≡ (vector_refused self.old events.old.items exception).events }
+    {
+        self.record(vector_fault());
+        if exception == NMI || exception == HARD_FAULT {
+            self.lock_up(events);
+        } else {
+            self.pend_by_fault(events, HARD_FAULT);
+        }
+    }
+}

@@ -1,0 +1,212 @@
+//! What faults set and pend (ARM DDI 0403, "Fault behavior" and "Priority escalation"), and SVC.
+
+ghost use Rattle.std.specs.Prelude.{◌≡◌, ◌<◌, ◌++◌, ◌∷◌, [], length};
+ghost use Rattle.reference.specs.Faults.{access_fault, fault_of as fault_of_access, usage_fault_of as usage_fault_of_word, mem_manage as mem_manage_of, bus_fault as bus_fault_of, usage_fault as usage_fault_of_bit, vector_fault as vector_fault_of, fault_line as fault_line_of, recorded, pended_by_fault, forced, locked_up, escalated, faulted, failed, supervisor_called};
+
+use crate::accesses::Events;
+use crate::state::Core;
+use access::{Decider, DueTicks, Levels};
+use reference::access::{Access, Cause, Kind};
+use reference::event::{Event, Happening, MOST_EVENTS, RecordedFault};
+use reference::exception::{BUS_FAULT, Escalation, HARD_FAULT, MEM_MANAGE, SV_CALL, USAGE_FAULT};
+use reference::failure::{Failure, UsageFault};
+use reference::fault_status::{
+    BFARVALID, DACCVIOL, DIVBYZERO, FORCED, FaultAddress, FaultEffect, IACCVIOL, IBUSERR, INVPC,
+    INVSTATE, MMARVALID, MSTKERR, MUNSTKERR, NOCP, PRECISERR, STKERR, UNALIGNED, UNDEFINSTR,
+    UNSTKERR, VECTTBL,
+};
+use reference::stop::Stop;
+
+/// The length of SVC in bytes.
+const SVC_LENGTH: u32 = 2;
+
+/// A fault of MemManage.
+fn mem_manage(bits: u32, address: FaultAddress) -> FaultEffect
+    ensures { result ≡ mem_manage_of bits address }
+{
+    FaultEffect {
+        exception: MEM_MANAGE,
+        cfsr: bits,
+        hfsr: 0,
+        address,
+    }
+}
+
+/// A fault of BusFault.
+fn bus_fault(bits: u32, address: FaultAddress) -> FaultEffect
+    ensures { result ≡ bus_fault_of bits address }
+{
+    FaultEffect {
+        exception: BUS_FAULT,
+        cfsr: bits,
+        hfsr: 0,
+        address,
+    }
+}
+
+/// A fault of UsageFault.
+fn usage_fault(bit: u32) -> FaultEffect
+    ensures { result ≡ usage_fault_of_bit bit }
+{
+    FaultEffect {
+        exception: USAGE_FAULT,
+        cfsr: bit,
+        hfsr: 0,
+        address: FaultAddress::NotKept,
+    }
+}
+
+/// The fault of a vector that can't be read.
+pub fn vector_fault() -> FaultEffect
+    ensures { result ≡ vector_fault_of }
+{
+    FaultEffect {
+        exception: HARD_FAULT,
+        cfsr: 0,
+        hfsr: VECTTBL,
+        address: FaultAddress::NotKept,
+    }
+}
+
+/// Returns the fault of a refused access, by what the access was for and what refused it.
+pub fn fault_of(access: &Access, cause: Cause) -> FaultEffect
+    ensures { result ≡ fault_of_access access.now cause }
+{
+    let address = access.address;
+    match (access.kind, cause) {
+        (Kind::Fetch, Cause::Mpu) => mem_manage(IACCVIOL, FaultAddress::NotKept),
+        (Kind::Load | Kind::Store, Cause::Mpu) => {
+            mem_manage(DACCVIOL + MMARVALID, FaultAddress::Mmfar(address))
+        }
+        (Kind::Push, Cause::Mpu) => mem_manage(MSTKERR, FaultAddress::NotKept),
+        (Kind::Pop, Cause::Mpu) => mem_manage(MUNSTKERR, FaultAddress::NotKept),
+        (Kind::Fetch, Cause::Bus) => bus_fault(IBUSERR, FaultAddress::NotKept),
+        (Kind::Load | Kind::Store, Cause::Bus) => {
+            bus_fault(PRECISERR + BFARVALID, FaultAddress::Bfar(address))
+        }
+        (Kind::Push, Cause::Bus) => bus_fault(STKERR, FaultAddress::NotKept),
+        (Kind::Pop, Cause::Bus) => bus_fault(UNSTKERR, FaultAddress::NotKept),
+        (Kind::Vector, _) => vector_fault(),
+    }
+}
+
+/// Returns the fault of an instruction, or of a return.
+pub fn usage_fault_of(fault: UsageFault) -> FaultEffect
+    ensures { result ≡ usage_fault_of_word fault }
+{
+    usage_fault(match fault {
+        UsageFault::UndefinedInstruction => UNDEFINSTR,
+        UsageFault::InvalidState => INVSTATE,
+        UsageFault::InvalidReturn => INVPC,
+        UsageFault::NoCoprocessor => NOCP,
+        UsageFault::Unaligned => UNALIGNED,
+        UsageFault::DivideByZero => DIVBYZERO,
+    })
+}
+
+impl<D: Decider, L: Levels, U: DueTicks> Core<D, L, U> {
+    /// Sets the bits and the address of a fault.
+    pub fn record(&mut self, fault: FaultEffect)
+        ensures { self.new ≡ recorded self.old fault }
+    {
+        self.bus.system.set_fault_bits(fault.cfsr, fault.hfsr);
+        match fault.address {
+            FaultAddress::NotKept => {}
+            FaultAddress::Mmfar(address) => self.bus.system.set_mmfar(address),
+            FaultAddress::Bfar(address) => self.bus.system.set_bfar(address),
+        }
+    }
+
+    /// Returns the line of a fault by which this exception became pending, 0 for lockup.
+    fn fault_line(&self, exception: u16) -> Event
+        ensures { result ≡ fault_line_of self.now exception }
+    {
+        let status = self.bus.system.status();
+        Event {
+            tick: self.bus.system.ticks(),
+            what: Happening::FaultRecorded(RecordedFault {
+                cfsr: status.cfsr(),
+                hfsr: status.hfsr(),
+                exception,
+            }),
+        }
+    }
+
+    /// Makes an exception pending by a fault.
+    pub fn pend_by_fault(&mut self, events: &mut Events, exception: u16)
+        requires { length events.old.items < MOST_EVENTS }
+        ensures state { self.new ≡ (pended_by_fault self.old events.old.items exception).state }
+        ensures events { events.new.items ≡ (pended_by_fault self.old events.old.items exception).events }
+    {
+        events.push(self.fault_line(exception));
+        self.bus.system.pend(exception);
+    }
+
+    /// Makes HardFault pending in place of a fault that can't be taken.
+    fn force(&mut self, events: &mut Events)
+        requires { length events.old.items < MOST_EVENTS }
+        ensures state { self.new ≡ (forced self.old events.old.items).state }
+        ensures events { events.new.items ≡ (forced self.old events.old.items).events }
+    {
+        self.bus.system.set_fault_bits(0, FORCED);
+        self.pend_by_fault(events, HARD_FAULT);
+    }
+
+    /// Stops the core by lockup.
+    pub fn lock_up(&mut self, events: &mut Events)
+        requires { length events.old.items < MOST_EVENTS }
+        ensures state { self.new ≡ (locked_up self.old events.old.items).state }
+        ensures events { events.new.items ≡ (locked_up self.old events.old.items).events }
+    {
+        events.push(self.fault_line(0));
+        self.end(Stop::Lockup);
+    }
+
+    /// Records a fault, and pends its exception by the priority of this moment.
+    #[tactic(auto, unfolding(reference::specs::Faults::faulted))]
+    pub fn raise(&mut self, events: &mut Events, fault: FaultEffect)
+        requires { length events.old.items < MOST_EVENTS }
+        ensures state { self.new ≡ (faulted self.old events.old.items fault).state }
+        ensures events { events.new.items ≡ (faulted self.old events.old.items fault).events }
+    {
+        self.record(fault);
+        match self.escalation(fault.exception) {
+            Escalation::Itself => self.pend_by_fault(events, fault.exception),
+            Escalation::HardFault => self.force(events),
+            Escalation::Lockup => self.lock_up(events),
+        }
+    }
+
+    /// Raises the fault of an access or of an instruction, or stops.
+    #[cold]
+    #[inline(never)]
+    pub fn fail(&mut self, events: &mut Events, failure: Failure)
+        requires { length events.old.items < MOST_EVENTS }
+        ensures state { self.new ≡ (failed self.old events.old.items failure).state }
+        ensures events { events.new.items ≡ (failed self.old events.old.items failure).events }
+    {
+        match failure {
+            Failure::Refused(access, cause) => self.raise(events, fault_of(&access, cause)),
+            Failure::Usage(fault) => self.raise(events, usage_fault_of(fault)),
+            Failure::Stop(why) => self.end(why),
+        }
+    }
+
+    /// Calls the supervisor as SVC does.
+    #[tactic(auto, unfolding(reference::specs::Faults::supervisor_called))]
+    pub fn call_supervisor(&mut self, events: &mut Events)
+        requires { length events.old.items < MOST_EVENTS }
+        ensures state { self.new ≡ (supervisor_called self.old events.old.items).state }
+        ensures events { events.new.items ≡ (supervisor_called self.old events.old.items).events }
+    {
+        match self.escalation(SV_CALL) {
+            Escalation::Itself => {
+                self.regs.it_advance();
+                self.regs.go_on(SVC_LENGTH);
+                self.bus.system.pend(SV_CALL);
+            }
+            Escalation::HardFault => self.force(events),
+            Escalation::Lockup => self.lock_up(events),
+        }
+    }
+}

@@ -1,0 +1,14 @@
+//! Exceptions: faults, entry and return (ARM DDI 0403, "Exception handling": `ExceptionEntry()`,
+//! `ExceptionReturn()`, "Fault behavior" and "Priority escalation").
+#![tactic(auto)]
+
+mod accesses;
+mod entry;
+mod faults;
+mod returning;
+mod state;
+
+pub use access::{Bus, Decider, DueTicks, Levels};
+pub use accesses::{Events, Requests, Values};
+pub use faults::{fault_of, usage_fault_of};
+pub use state::Core;

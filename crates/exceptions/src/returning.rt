@@ -1,0 +1,185 @@
+//! Exception return (ARM DDI 0403, `ExceptionReturn()`, `DeActivate()` and `PopStack()`).
+
+ghost use Rattle.std.specs.Prelude.{◌≡◌, ◌+◌, ◌<◌, ◌≤◌, length};
+ghost use Rattle.reference.specs.declared.failure.Failure.TheVariants.{Usage};
+ghost use Rattle.reference.specs.declared.failure.UsageFault.TheVariants.{InvalidReturn};
+ghost use Rattle.reference.specs.ExceptionReturn.{is_allowed as is_allowed_of, exception_ended, with_entry, chained, pops as pops_of, returns_privileged as returns_privileged_of, pop_stack, fits_mode as fits_mode_of, unstacked, exception_return};
+ghost use Rattle.reference.specs.Faults.{failed};
+ghost use Rattle.reference.specs.Frames.{has_reserved_ones as has_reserved_ones_of, returns_to_thread as returns_to_thread_of};
+ghost use Rattle.reference.specs.Priorities.{candidate};
+ghost use Rattle.reference.specs.State.{with_system};
+
+use crate::accesses::{Events, Requests, Values};
+use crate::entry::words_from;
+use crate::state::Core;
+use access::{Decider, DueTicks, Levels};
+use reference::access::Kind;
+use reference::event::{Event, Happening, MOST_EVENTS};
+use reference::exception::NMI;
+use reference::failure::{Failure, UsageFault};
+use reference::stop::{Stop, UnpredictableCase};
+use regs::{Regs, returns_on_psp, returns_to_handler};
+
+/// Where the return address stands in a frame.
+const PC: usize = 6;
+
+/// Where xPSR stands in a frame.
+const XPSR: usize = 7;
+
+/// Returns whether bits 27:4 of an EXC_RETURN are ones.
+fn has_reserved_ones(exc_return: u32) -> bool
+    ensures { result ≡ has_reserved_ones_of exc_return }
+{
+    exc_return >> 4 & 0xFF_FFFF == 0xFF_FFFF
+}
+
+/// Returns whether an EXC_RETURN returns to Thread mode.
+fn returns_to_thread(exc_return: u32) -> bool
+    ensures { result ≡ returns_to_thread_of exc_return }
+{
+    exc_return & 15 == 9 || returns_on_psp(exc_return)
+}
+
+/// Returns whether a frame has an exception's number exactly where an EXC_RETURN names Handler mode.
+fn fits_mode(exc_return: u32, frame: &[u32]) -> bool
+    requires { length frame.now ≡ 8 }
+    ensures { result ≡ fits_mode_of exc_return frame.now }
+{
+    let exception = frame[XPSR] & 0x1FF;
+    if returns_to_handler(exc_return) {
+        exception != 0
+    } else {
+        exception == 0
+    }
+}
+
+/// Returns whether the code that is returned to is privileged.
+fn returns_privileged(regs: &Regs, exc_return: u32) -> bool
+    ensures { result ≡ returns_privileged_of regs.now exc_return }
+{
+    returns_to_handler(exc_return) || !regs.npriv()
+}
+
+/// Returns the pops of a frame, with the privilege of the code that is returned to.
+#[tactic(auto, unfolding(reference::specs::ExceptionReturn::pops))]
+fn pops(regs: &Regs, exc_return: u32) -> Requests
+    ensures { result.items ≡ pops_of regs.now exc_return }
+{
+    let blank = [0; 8];
+    words_from(
+        Kind::Pop,
+        returns_privileged(regs, exc_return),
+        regs.returned_stack(exc_return),
+        blank.as_slice(),
+    )
+}
+
+impl<D: Decider, L: Levels, U: DueTicks> Core<D, L, U> {
+    /// Returns from an exception.
+    #[tactic(auto, unfolding(reference::specs::ExceptionReturn::exception_return))]
+    pub fn return_from(&mut self, events: &mut Events, exc_return: u32)
+        requires { length events.old.items + 10 ≤ MOST_EVENTS }
+        ensures state { self.new ≡ (exception_return self.old events.old.items exc_return).state }
+        ensures events { events.new.items ≡ (exception_return self.old events.old.items exc_return).events }
+    {
+        events.push(Event {
+            tick: self.bus.system.ticks(),
+            what: Happening::ReturnBegan(exc_return),
+        });
+        if !has_reserved_ones(exc_return) {
+            self.end(Stop::Unpredictable(UnpredictableCase::ExceptionReturn));
+            return;
+        }
+        let is_allowed = self.is_allowed(exc_return);
+        self.end_exception();
+        if is_allowed {
+            self.chain(events, exc_return);
+        } else {
+            self.refuse_return(events, exc_return);
+        }
+    }
+
+    /// Returns whether a return is allowed: the handler's exception is active, and a return to
+    /// Thread mode leaves no other one active, unless CCR.NONBASETHRDENA is 1.
+    fn is_allowed(&self, exc_return: u32) -> bool
+        ensures { result ≡ is_allowed_of self.now exc_return }
+    {
+        let levels = self.bus.system.levels();
+        let exception = self.regs.exception();
+        levels.is_active(exception)
+            && (returns_to_handler(exc_return)
+                || returns_to_thread(exc_return)
+                    && (!levels.is_other_active(exception)
+                        || self.bus.system.status().nonbasethrdena()))
+    }
+
+    /// Ends the handler's exception: `DeActivate()`. FAULTMASK becomes 0 but after NMI.
+    fn end_exception(&mut self)
+        ensures { self.new ≡ with_system self.old (exception_ended self.old.bus.system self.old.registers.exception) }
+    {
+        let exception = self.regs.exception();
+        self.bus.system.deactivate(exception);
+        if exception != NMI {
+            self.bus.system.clear_faultmask();
+        }
+    }
+
+    /// Begins the entry of the next exception, if there is one, or pops the frame.
+    fn chain(&mut self, events: &mut Events, exc_return: u32)
+        requires { length events.old.items + 9 ≤ MOST_EVENTS }
+        ensures state { self.new ≡ (chained self.old events.old.items exc_return (candidate self.old.bus.system.nvic)).state }
+        ensures events { events.new.items ≡ (chained self.old events.old.items exc_return (candidate self.old.bus.system.nvic)).events }
+    {
+        if self.candidate().is_some() {
+            self.entry = Some(exc_return);
+        } else {
+            self.pop_stack(events, exc_return);
+        }
+    }
+
+    /// Raises the fault of a return that isn't allowed, and begins an entry.
+    fn refuse_return(&mut self, events: &mut Events, exc_return: u32)
+        requires { length events.old.items < MOST_EVENTS }
+        ensures state { self.new ≡ (failed (with_entry self.old exc_return) events.old.items (Usage InvalidReturn)).state }
+        ensures events { events.new.items ≡ (failed (with_entry self.old exc_return) events.old.items (Usage InvalidReturn)).events }
+    {
+        self.entry = Some(exc_return);
+        self.fail(events, Failure::Usage(UsageFault::InvalidReturn));
+    }
+
+    /// Pops the frame.
+    #[tactic(auto, using(crate::proofs::Room::popped_lines, crate::proofs::Room::popped_words), unfolding(reference::specs::ExceptionReturn::pop_stack))]
+    fn pop_stack(&mut self, events: &mut Events, exc_return: u32)
+        requires { length events.old.items + 9 ≤ MOST_EVENTS }
+        ensures state { self.new ≡ (pop_stack self.old events.old.items exc_return).state }
+        ensures events { events.new.items ≡ (pop_stack self.old events.old.items exc_return).events }
+    {
+        let requests = pops(&self.regs, exc_return);
+        let mut values = Values::new();
+        let served = self.serve(events, requests.as_slice(), &mut values);
+        match served {
+            Ok(()) => self.unstack(events, exc_return, values.as_slice()),
+            Err(failure) => {
+                self.entry = Some(exc_return);
+                self.fail(events, failure);
+            }
+        }
+    }
+
+    /// Takes the registers from the frame, once it's checked.
+    #[tactic(auto, unfolding(reference::specs::ExceptionReturn::unstacked))]
+    fn unstack(&mut self, events: &mut Events, exc_return: u32, frame: &[u32])
+        requires room { length events.old.items < MOST_EVENTS }
+        requires words { length frame.now ≡ 8 }
+        ensures state { self.new ≡ (unstacked self.old events.old.items exc_return frame.now).state }
+        ensures events { events.new.items ≡ (unstacked self.old events.old.items exc_return frame.now).events }
+    {
+        if !fits_mode(exc_return, frame) {
+            self.refuse_return(events, exc_return);
+        } else if frame[PC] & 1 == 1 {
+            self.end(Stop::Unpredictable(UnpredictableCase::PoppedPc));
+        } else {
+            self.regs.pop_frame(exc_return, frame);
+        }
+    }
+}

@@ -1,0 +1,83 @@
+//! How the PC goes on after an instruction (ARM DDI 0403, BranchWritePC(), BXWritePC(), BLXWritePC()
+//! and LoadWritePC()).
+
+ghost use Rattle.std.specs.Prelude.{◌≡◌, ◌==◌};
+ghost use Rattle.exec.specs.Plans.{finished_as};
+ghost use Rattle.reference.specs.ProgramCounter.{moves_on, branches, branches_by, is_exception_return, exchanges, loads_into};
+
+use reference::instruction::Ending;
+use reference::registers::Register;
+use regs::Regs;
+
+// ---- the end of an instruction
+
+/// The PC goes on by the length of the instruction, in bytes.
+#[inline]
+pub fn move_on(regs: &mut Regs, length: u8) -> Ending
+    ensures { finished_as regs.new result ≡ moves_on length regs.old }
+{
+    regs.it_advance();
+    regs.go_on(u32::from(length));
+    Ending::Next
+}
+
+/// The PC was written.
+#[inline]
+pub fn branched(regs: &mut Regs) -> Ending
+    ensures { finished_as regs.new result ≡ branches regs.old }
+{
+    regs.it_advance();
+    Ending::Next
+}
+
+/// Whether a register is the PC.
+#[inline]
+fn is_pc(register: Register) -> bool
+    ensures { result ≡ (register == 15) }
+{
+    register.number() == 15
+}
+
+// ---- writes of the PC
+
+/// A branch by an offset to the PC as an operand.
+#[inline]
+pub fn branch_by(regs: &mut Regs, offset: u32) -> Ending
+    ensures { finished_as regs.new result ≡ branches_by offset regs.old }
+{
+    let from = regs.get(Register::PC);
+    regs.branch(from.wrapping_add(offset));
+    branched(regs)
+}
+
+/// Whether a value returns from the exception: in Handler mode, where its bits 31:28 are all ones.
+#[inline]
+fn is_exception_return(value: u32, regs: &Regs) -> bool
+    ensures { result ≡ is_exception_return value regs.now }
+{
+    regs.is_handler() && value >> 28 == 15
+}
+
+/// `BXWritePC(value)` and `LoadWritePC(value)`.
+#[inline]
+pub fn exchange(regs: &mut Regs, value: u32) -> Ending
+    ensures { finished_as regs.new result ≡ exchanges value regs.old }
+{
+    if is_exception_return(value, regs) {
+        return Ending::ExceptionReturn(value);
+    }
+    regs.branch_exchange(value);
+    branched(regs)
+}
+
+/// Writes a loaded value to a register: `LoadWritePC(value)` for the PC.
+#[inline]
+pub fn load_into(regs: &mut Regs, length: u8, target: Register, value: u32) -> Ending
+    ensures { finished_as regs.new result ≡ loads_into length target value regs.old }
+{
+    if is_pc(target) {
+        return exchange(regs, value);
+    }
+    regs.set(target, value);
+    move_on(regs, length)
+}

@@ -1,0 +1,75 @@
+//! The instructions for special registers, the hints, SVC and BKPT (ARM DDI 0403, the operation of
+//! CPS, MSR, MRS, WFI, SVC, BKPT and the other hints). None asks for an access.
+
+ghost use Rattle.std.specs.Prelude.{◌≡◌};
+ghost use Rattle.exec.specs.Plans.{finished_as};
+ghost use Rattle.reference.specs.SystemInstructions.{has_no_condition, hint_ending, moves_on_and, system_effect};
+
+use crate::program_counter::move_on;
+use reference::instruction::{Ending, Hint, System};
+use regs::Regs;
+
+/// Whether an instruction has no condition, not even that of an IT block.
+#[inline]
+pub fn has_no_condition(instruction: &System) -> bool
+    ensures { result ≡ has_no_condition instruction.now }
+{
+    match instruction {
+        System::Breakpoint(_) => true,
+        System::ChangeProcessorState(_)
+        | System::MoveToSpecial(_)
+        | System::MoveFromSpecial(_)
+        | System::Hint(_)
+        | System::SupervisorCall(_) => false,
+    }
+}
+
+/// Carries out an instruction of `length` bytes. What it does beside the PC is its ending.
+#[inline]
+#[tactic(auto, unfolding(reference::specs::SystemInstructions::system_effect))]
+pub fn finish(length: u8, instruction: &System, regs: &mut Regs) -> Ending
+    ensures { finished_as regs.new result ≡ system_effect length instruction.now regs.old }
+{
+    match instruction {
+        System::ChangeProcessorState(operands) => {
+            move_on_and(Ending::ChangeState(*operands), regs, length)
+        }
+        System::MoveToSpecial(operands) => {
+            let value = regs.get(operands.source);
+            move_on_and(Ending::WriteSpecial(operands.special, value), regs, length)
+        }
+        System::MoveFromSpecial(operands) => {
+            move_on_and(Ending::ReadSpecial(*operands), regs, length)
+        }
+        System::Hint(hint) => move_on_and(hint_ending(*hint), regs, length),
+        System::SupervisorCall(number) => Ending::SupervisorCall(*number),
+        System::Breakpoint(number) => Ending::Breakpoint(*number),
+    }
+}
+
+/// The PC goes on, and something else is done.
+#[inline]
+fn move_on_and(ending: Ending, regs: &mut Regs, length: u8) -> Ending
+    ensures { finished_as regs.new result ≡ moves_on_and ending length regs.old }
+{
+    let _ = move_on(regs, length);
+    ending
+}
+
+/// WFI sleeps; all other hints do nothing.
+#[inline]
+fn hint_ending(hint: Hint) -> Ending
+    ensures { result ≡ hint_ending hint }
+{
+    match hint {
+        Hint::WaitForInterrupt => Ending::Sleep,
+        Hint::NoOperation
+        | Hint::Yield
+        | Hint::WaitForEvent
+        | Hint::SendEvent
+        | Hint::Debug
+        | Hint::Preload
+        | Hint::Barrier
+        | Hint::Unallocated => Ending::Next,
+    }
+}

@@ -1,7 +1,0 @@
-use Rattle.std.proofs.Common.{◌≡◌, not, ◌&&◌, ◌==◌}
-use Rattle.reference.specs.Priorities.{some_below, is_in}
-use Rattle.nvic.proofs.plain.PlainLevelsLevels.is_other_active.Given as goal
-
--- whether one was found among the exceptions that were looked at
-abbrev pub invariant-each : goal.invariant-each
-invariant-each l = l.found ≡ some_below (λ y. not (y == l.number) && is_in l.fn.self.active y) l.other

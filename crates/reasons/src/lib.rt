@@ -1,0 +1,14 @@
+//! Why a file is refused, for a person: the field or the key, its value, and what it takes.
+#![tactic(auto)]
+
+mod events;
+mod header;
+mod image;
+mod keys;
+mod problem;
+mod settings;
+mod start;
+
+pub use image::write_image_reason;
+pub use settings::write_board_reason;
+pub use start::write_start_reason;

@@ -1,0 +1,18 @@
+-- What holds of each answer to an access.
+use Rattle.std.specs.Prelude.{◌≡◌, ◌^◌, ◌<◌, ⊤}
+use Rattle.reference.specs.declared.access.Answer.{Answer}
+use Rattle.reference.specs.declared.access.Answer.TheVariants.{Value, Error, Stop}
+use Rattle.reference.specs.declared.access.Size.{Size}
+use Rattle.reference.specs.Kinds.{bytes_in}
+
+-- a value that was read has no more bits than the access moves
+abbrev pub IsNarrow : Size → Answer → Type 0
+IsNarrow size (Value value) = value < 256 ^ bytes_in size
+IsNarrow size Error = ⊤
+IsNarrow size (Stop why) = ⊤
+
+-- what isn't carried out changes nothing
+abbrev pub LeavesUnlessDone : {A : Type 0} → Answer → A → A → Type 0
+LeavesUnlessDone (Value value) old new = ⊤
+LeavesUnlessDone Error old new = new ≡ old
+LeavesUnlessDone (Stop why) old new = new ≡ old

@@ -1,0 +1,75 @@
+-- The registers of identification and of interrupt control (ARM DDI 0403, "CPUID Base Register", "Interrupt Control and
+-- State Register", "Application Interrupt and Reset Control Register").
+use Rattle.std.specs.Prelude.{ℕ, ◌+◌, ◌*◌, ◌/◌, ◌%◌, ◌^◌, Bool, true, false, not, ◌&&◌, ◌||◌, ◌==◌, if◌then◌else◌, Option, Some, None, Result, Ok, Err, unwrap_or}
+use Rattle.reference.specs.declared.exception.TheConstants.{NMI, PEND_SV, SYS_TICK}
+use Rattle.reference.specs.declared.stop.LeftOut.TheVariants.{ResetControl}
+use Rattle.reference.specs.declared.stop.Stop.{Stop}
+use Rattle.reference.specs.declared.stop.Stop.TheVariants.{Unpredictable, OutOfProfile, ResetRequested}
+use Rattle.reference.specs.declared.stop.UnpredictableCase.TheVariants as case
+use Rattle.reference.specs.declared.system.ControlRegister.{ControlRegister}
+use Rattle.reference.specs.declared.system.ControlRegister.TheVariants.{Cpuid, Icsr, Aircr}
+use Rattle.reference.specs.Priorities.{Nvic, is_in, best, is_interrupt_pending, is_other_active, with_pending, with_group}
+use Rattle.reference.specs.Registers.{weighed}
+use Rattle.reference.specs.Words.{is_bit}
+
+-- the registers' addresses
+unfoldable pub control_at : ℕ → Option ControlRegister
+control_at word =
+    if word == 0xE000_ED00 then Some Cpuid
+    else if word == 0xE000_ED04 then Some Icsr
+    else if word == 0xE000_ED0C then Some Aircr
+    else None
+
+-- ICSR.RETTOBASE: a handler runs, of exception x, and no other exception is active
+abbrev pub rettobase : Nvic → ℕ → Bool
+rettobase n x = not (x == 0) && not (is_other_active n x)
+
+-- ICSR while IPSR is x: VECTACTIVE, RETTOBASE, VECTPENDING (whatever is masked or active, profile), ISRPENDING,
+-- PENDSTSET, PENDSVSET and NMIPENDSET
+unfoldable pub icsr : Nvic → ℕ → ℕ
+icsr n x =
+    x % 2 ^ 9
+    + weighed (rettobase n x) (2 ^ 11)
+    + unwrap_or (best n) 0 * 2 ^ 12
+    + weighed (is_interrupt_pending n) (2 ^ 22)
+    + weighed (is_in n.pending SYS_TICK) (2 ^ 26)
+    + weighed (is_in n.pending PEND_SV) (2 ^ 28)
+    + weighed (is_in n.pending NMI) (2 ^ 31)
+
+-- an exception after a write of its set bit and its clear bit, of which at most one is 1
+abbrev pub set_or_cleared : Nvic → ℕ → Bool → Bool → Nvic
+set_or_cleared n x set clear =
+    if set then with_pending n x true else if clear then with_pending n x false else n
+
+-- NMIPENDSET, PENDSVSET and PENDSVCLR, PENDSTSET and PENDSTCLR; a set bit and its clear bit together are UNPREDICTABLE
+unfoldable pub write_icsr : Nvic → ℕ → Result Nvic Stop
+write_icsr n value =
+    if (is_bit value 28 && is_bit value 27) || (is_bit value 26 && is_bit value 25)
+    then Err (Unpredictable case.Icsr)
+    else
+    Ok
+    (set_or_cleared
+    (set_or_cleared
+    (set_or_cleared n NMI (is_bit value 31) false)
+    PEND_SV (is_bit value 28) (is_bit value 27))
+    SYS_TICK (is_bit value 26) (is_bit value 25))
+
+-- AIRCR takes a value with the key 0x05FA in VECTKEY: PRIGROUP, or SYSRESETREQ, which ends the run (profile); VECTRESET
+-- and VECTCLRACTIVE are left out (profile)
+unfoldable pub write_aircr : Nvic → ℕ → Result Nvic Stop
+write_aircr n value =
+    if not (value / 2 ^ 16 == 0x05FA) then Ok n
+    else if is_bit value 0 || is_bit value 1 then Err (OutOfProfile ResetControl)
+    else if is_bit value 2 then Err ResetRequested
+    else Ok (with_group n (value / 2 ^ 8 % 8))
+
+-- CPUID names no implementer, and the architecture as ARMv7-M (profile); AIRCR reads 0xFA05 in VECTKEYSTAT
+unfoldable pub read_control : ℕ → Nvic → ControlRegister → ℕ
+read_control x n Cpuid = 0x000F_0000
+read_control x n Icsr = icsr n x
+read_control x n Aircr = 0xFA05_0000 + n.group * 2 ^ 8
+
+unfoldable pub write_control : Nvic → ControlRegister → ℕ → Result Nvic Stop
+write_control n Cpuid value = Ok n
+write_control n Icsr value = write_icsr n value
+write_control n Aircr value = write_aircr n value

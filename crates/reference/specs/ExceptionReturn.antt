@@ -1,0 +1,98 @@
+-- Exception return (ARM DDI 0403, ExceptionReturn(), DeActivate() and PopStack(); where it stops by name, and that a fault of
+-- a return begins an entry at once, is the profile's). The phases read from the last one up.
+use Rattle.std.specs.Prelude.{ℕ, Bool, true, false, not, ◌&&◌, ◌||◌, ◌==◌, if◌then◌else◌, List, [], ◌∷◌, ◌++◌, Option, Some, None, replicate}
+use Rattle.reference.specs.declared.access.Kind.TheVariants.{Pop}
+use Rattle.reference.specs.declared.access.Request.{Request}
+use Rattle.reference.specs.declared.event.Event.{Event}
+use Rattle.reference.specs.declared.event.Happening.TheVariants.{ReturnBegan}
+use Rattle.reference.specs.declared.exception.TheConstants.{NMI}
+use Rattle.reference.specs.declared.failure.Failure.{Failure}
+use Rattle.reference.specs.declared.failure.Failure.TheVariants.{Usage}
+use Rattle.reference.specs.declared.failure.UsageFault.TheVariants.{InvalidReturn}
+use Rattle.reference.specs.declared.stop.Stop.TheVariants.{Unpredictable}
+use Rattle.reference.specs.declared.stop.UnpredictableCase.TheVariants as unpredictable
+use Rattle.reference.specs.Accesses.{Served, perform_all}
+use Rattle.reference.specs.ExceptionEntry.{words_from}
+use Rattle.reference.specs.Faults.{failed}
+use Rattle.reference.specs.Frames.{returns_to_handler, returns_to_thread, has_reserved_ones, frame_of, popped_pc, popped_exception, popped}
+use Rattle.reference.specs.Priorities.{candidate, is_in, is_other_active, with_faultmask}
+use Rattle.reference.specs.Registers.{Registers}
+use Rattle.reference.specs.State.{State, Stepped, with_bus, with_registers, with_system, stopped}
+use Rattle.reference.specs.Status.{nonbasethrdena}
+use Rattle.reference.specs.System.{System, with_nvic, deactivated}
+use Rattle.reference.specs.Words.{is_bit}
+
+-- an entry begins with the EXC_RETURN of the return
+abbrev pub with_entry : State → ℕ → State
+with_entry s e = record s { entry = Some e }
+
+-- ---- PopStack()
+
+-- the mode that EXC_RETURN names is that of the number in the frame
+abbrev pub fits_mode : ℕ → List ℕ → Bool
+fits_mode e frame =
+    if returns_to_handler e then not (popped_exception frame == 0) else popped_exception frame == 0
+
+-- the frame was read: it's checked, and the registers come from it
+unfoldable pub unstacked : State → List Event → ℕ → List ℕ → Stepped
+unstacked s events e frame =
+    if not (fits_mode e frame) then failed (with_entry s e) events (Usage InvalidReturn)
+    else if is_bit (popped_pc frame) 0 then stopped s events (Unpredictable unpredictable.PoppedPc)
+    else record { state = with_registers s (popped s.registers e frame); events = events }
+
+-- the frame was read, or a pop was refused
+abbrev pub frame_read : State → List Event → ℕ → Served → Option Failure → Stepped
+frame_read s events e all None = unstacked (with_bus s all.bus) (events ++ all.events) e all.values
+frame_read s events e all (Some why) = failed (with_entry (with_bus s all.bus) e) (events ++ all.events) why
+
+-- Handler mode is privileged, and Thread mode as CONTROL.nPRIV says
+abbrev pub returns_privileged : Registers → ℕ → Bool
+returns_privileged r e = returns_to_handler e || not r.unprivileged
+
+-- the words of the frame, popped with the privilege of the code that is returned to
+unfoldable pub pops : Registers → ℕ → List Request
+pops r e = words_from Pop (returns_privileged r e) (frame_of r e) (replicate 8 0)
+
+-- a refused pop is a fault at the priority of this moment
+unfoldable pub pop_stack : State → List Event → ℕ → Stepped
+pop_stack s events e =
+    let all = perform_all s.registers.exception s.bus.system.time.ticks s.bus (pops s.registers e) in
+    frame_read s events e all all.failure
+
+-- ---- ExceptionReturn()
+
+-- tail-chaining: where there is an exception to take, nothing is popped or pushed, and its entry begins
+abbrev pub chained : State → List Event → ℕ → Option ℕ → Stepped
+chained s events e (Some x) = record { state = with_entry s e; events = events }
+chained s events e None = pop_stack s events e
+
+-- the exception isn't active any more: a return that isn't allowed is a fault, at the priority of this moment
+abbrev pub returned : State → List Event → ℕ → Bool → Stepped
+returned s events e true = chained s events e (candidate s.bus.system.nvic)
+returned s events e false = failed (with_entry s e) events (Usage InvalidReturn)
+
+-- DeActivate(), and FAULTMASK is 0 but after NMI
+abbrev pub exception_ended : System → ℕ → System
+exception_ended t x =
+    let after = deactivated t x in
+    if x == NMI then after else with_nvic after (with_faultmask after.nvic false)
+
+-- the handler's exception is active; a return to Thread mode leaves no other one active, unless CCR.NONBASETHRDENA is 1
+abbrev pub is_allowed : State → ℕ → Bool
+is_allowed s e =
+    is_in s.bus.system.nvic.active s.registers.exception
+    && (returns_to_handler e
+    || (returns_to_thread e
+    && (not (is_other_active s.bus.system.nvic s.registers.exception) || nonbasethrdena s.bus.system.status)))
+
+-- the line of a return that begins
+abbrev pub return_line : State → ℕ → Event
+return_line s e = record { tick = s.bus.system.time.ticks; what = ReturnBegan e }
+
+-- A return with this EXC_RETURN.
+unfoldable pub exception_return : State → List Event → ℕ → Stepped
+exception_return s before e =
+    let events = before ++ return_line s e ∷ [] in
+    if has_reserved_ones e
+    then returned (with_system s (exception_ended s.bus.system s.registers.exception)) events e (is_allowed s e)
+    else stopped s events (Unpredictable unpredictable.ExceptionReturn)

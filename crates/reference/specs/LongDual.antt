@@ -1,0 +1,145 @@
+-- The rows of 32 bits in "Load/store dual or exclusive, table branch" (ARM DDI 0403, "32-bit Thumb instruction encoding").
+use Rattle.std.specs.Prelude.{ℕ, ◌*◌, Bool, ◌&&◌, ◌||◌, ◌==◌, List, [], ◌∷◌, codes}
+use Rattle.reference.specs.declared.access.Size.{Size}
+use Rattle.reference.specs.declared.access.Size.TheVariants.{Word}
+use Rattle.reference.specs.declared.instruction.BlockPlace.TheVariants as place
+use Rattle.reference.specs.declared.instruction.Branch.TheVariants as branch
+use Rattle.reference.specs.declared.instruction.Decoded.{Decoded}
+use Rattle.reference.specs.declared.instruction.Exclusive.TheVariants as exclusive
+use Rattle.reference.specs.declared.instruction.Instruction.TheVariants.{Branch, Exclusive, LoadStoreMultiple}
+use Rattle.reference.specs.declared.instruction.LoadStoreMultiple.TheVariants.{LoadDual, LoadDualLiteral, StoreDual}
+use Rattle.reference.specs.declared.operands.ImmediateAddress.{ImmediateAddress}
+use Rattle.reference.specs.declared.operands.Indexing.{Indexing}
+use Rattle.reference.specs.declared.operands.LoadDual.{LoadDual as DualLoad}
+use Rattle.reference.specs.declared.operands.LoadDualLiteral.{LoadDualLiteral as DualLiteral}
+use Rattle.reference.specs.declared.operands.LoadExclusive.{LoadExclusive}
+use Rattle.reference.specs.declared.operands.StoreDual.{StoreDual as DualStore}
+use Rattle.reference.specs.declared.operands.StoreExclusive.{StoreExclusive}
+use Rattle.reference.specs.declared.stop.UnpredictableCase.TheVariants as cause
+use Rattle.reference.specs.LoadStore.{writes_back}
+use Rattle.reference.specs.Patterns.{unspaced}
+use Rattle.reference.specs.RowOperands.{byte_or_halfword, signed_offset, indexing_of}
+use Rattle.reference.specs.Rows.{Letters, Row, long, placed, unless, is_bad}
+
+-- STREX, STREXB and STREXH
+unfoldable pub store_exclusive_row : StoreExclusive → Decoded
+store_exclusive_row o = long (Exclusive (exclusive.Store o))
+
+-- LDREX, LDREXB and LDREXH
+unfoldable pub load_exclusive_row : LoadExclusive → Decoded
+load_exclusive_row o = long (Exclusive (exclusive.Load o))
+
+-- TBB and TBH
+unfoldable pub table_branch_row : Size → ℕ → ℕ → Decoded
+table_branch_row size n m =
+    unless (n == 13 || is_bad m) place.LastOnly cause.Registers
+    (placed 4 place.LastOnly (Branch (branch.Table (record { size = size; base = n; index = m }))))
+
+-- the address of LDRD and STRD: the offset counts words
+abbrev pub dual_address : Letters → ImmediateAddress
+dual_address f = record { base = f.n; offset = signed_offset f.U (f.i * 4); indexing = indexing_of f.P f.W }
+
+-- whether two registers are refused: SP, PC, and a base that is written
+abbrev pub is_refused_pair : ℕ → ℕ → ℕ → Indexing → Bool
+is_refused_pair t u n indexing = is_bad t || (is_bad u || writes_back indexing && (n == t || n == u))
+
+-- LDRD: the two registers differ
+unfoldable pub load_dual_row : DualLoad → Decoded
+load_dual_row o =
+    unless (is_refused_pair o.first o.second o.address.base o.address.indexing || o.first == o.second) place.Anywhere cause.Registers
+    (long (LoadStoreMultiple (LoadDual o)))
+
+-- LDRD at the PC, which isn't written
+unfoldable pub load_dual_literal_row : Bool → DualLiteral → Decoded
+load_dual_literal_row write_back o =
+    unless (is_bad o.first || (is_bad o.second || (o.first == o.second || write_back))) place.Anywhere cause.Registers
+    (long (LoadStoreMultiple (LoadDualLiteral o)))
+
+-- STRD: PC isn't a base
+unfoldable pub store_dual_row : DualStore → Decoded
+store_dual_row o =
+    unless (is_refused_pair o.first o.second o.address.base o.address.indexing || o.address.base == 15) place.Anywhere cause.Registers
+    (long (LoadStoreMultiple (StoreDual o)))
+
+-- ---- the rows
+
+-- STREX, encoding T1
+abbrev pub strex_t1 : Row
+strex_t1 = record {
+  places = unspaced (codes "1110100 00100 nnnn tttt dddd iiiiiiii");
+  except = [];
+  gives = λ f. store_exclusive_row (record { size = Word; status = f.d; target = f.t; base = f.n; offset = f.i * 4 });
+}
+
+-- LDREX, encoding T1
+abbrev pub ldrex_t1 : Row
+ldrex_t1 = record {
+  places = unspaced (codes "1110100 00101 nnnn tttt oooo iiiiiiii");
+  except = [];
+  gives = λ f. load_exclusive_row (record { size = Word; target = f.t; base = f.n; offset = f.i * 4 });
+}
+
+-- STREXB and STREXH, encoding T1
+abbrev pub strexb_t1 : Row
+strexb_t1 = record {
+  places = unspaced (codes "1110100 01100 nnnn tttt oooo 010 H dddd");
+  except = [];
+  gives = λ f. store_exclusive_row (record {
+    size = byte_or_halfword f.H;
+    status = f.d;
+    target = f.t;
+    base = f.n;
+    offset = 0;
+  });
+}
+
+-- LDREXB and LDREXH, encoding T1
+abbrev pub ldrexb_t1 : Row
+ldrexb_t1 = record {
+  places = unspaced (codes "1110100 01101 nnnn tttt oooo 010 H oooo");
+  except = [];
+  gives = λ f. load_exclusive_row (record { size = byte_or_halfword f.H; target = f.t; base = f.n; offset = 0 });
+}
+
+-- TBB and TBH, encoding T1
+abbrev pub tbb_t1 : Row
+tbb_t1 = record {
+  places = unspaced (codes "1110100 01101 nnnn oooo zzzz 000 H mmmm");
+  except = [];
+  gives = λ f. table_branch_row (byte_or_halfword f.H) f.n f.m;
+}
+
+-- LDRD (literal), encoding T1; P = 0 with W = 0 are the rows above
+abbrev pub ldrd_literal_t1 : Row
+ldrd_literal_t1 = record {
+  places = unspaced (codes "1110100 P U 1 W 1 1111 tttt uuuu iiiiiiii");
+  except = unspaced (codes "xxxxxxx 0 x x 0 x xxxx xxxx xxxx xxxxxxxx") ∷ [];
+  gives = λ f. load_dual_literal_row (f.W == 1) (record {
+    first = f.t;
+    second = f.u;
+    offset = signed_offset f.U (f.i * 4);
+  });
+}
+
+-- LDRD (immediate), encoding T1; P = 0 with W = 0 are the rows above, and with n = 1111 it is LDRD (literal)
+abbrev pub ldrd_immediate_t1 : Row
+ldrd_immediate_t1 = record {
+  places = unspaced (codes "1110100 P U 1 W 1 nnnn tttt uuuu iiiiiiii");
+  except =
+      unspaced (codes "xxxxxxx 0 x x 0 x xxxx xxxx xxxx xxxxxxxx") ∷
+      unspaced (codes "xxxxxxx x x x x x 1111 xxxx xxxx xxxxxxxx") ∷ [];
+  gives = λ f. load_dual_row (record { first = f.t; second = f.u; address = dual_address f });
+}
+
+-- STRD (immediate), encoding T1; P = 0 with W = 0 are the rows above
+abbrev pub strd_immediate_t1 : Row
+strd_immediate_t1 = record {
+  places = unspaced (codes "1110100 P U 1 W 0 nnnn tttt uuuu iiiiiiii");
+  except = unspaced (codes "xxxxxxx 0 x x 0 x xxxx xxxx xxxx xxxxxxxx") ∷ [];
+  gives = λ f. store_dual_row (record { first = f.t; second = f.u; address = dual_address f });
+}
+
+abbrev pub dual_rows : List Row
+dual_rows =
+    strex_t1 ∷ ldrex_t1 ∷ strexb_t1 ∷ ldrexb_t1 ∷ tbb_t1 ∷ ldrd_literal_t1 ∷ ldrd_immediate_t1 ∷ strd_immediate_t1 ∷
+    []

@@ -1,0 +1,232 @@
+-- The System Control Space (ARM DDI 0403, "System Control Space"): its state, what an access to it does, and what a
+-- tick does to it. Each block of registers has a chapter of its own.
+use Rattle.std.specs.Prelude.{ℕ, zero, suc, ◌+◌, ◌-◌, ◌*◌, ◌/◌, ◌%◌, ◌^◌, Bool, true, false, not, ◌&&◌, ◌||◌, ◌==◌, if◌then◌else◌, List, Option, Some, None, Result, Ok, Err}
+use Rattle.reference.specs.declared.access.Answer.{Answer}
+use Rattle.reference.specs.declared.access.Answer.TheVariants as answer
+use Rattle.reference.specs.declared.access.Request.{Request}
+use Rattle.reference.specs.declared.access.Size.{Size}
+use Rattle.reference.specs.declared.access.Size.TheVariants.{Byte, Halfword, Word}
+use Rattle.reference.specs.declared.exception.TheConstants.{FIRST_LINE, EXCEPTIONS}
+use Rattle.reference.specs.declared.mpu.MpuStop.{MpuStop}
+use Rattle.reference.specs.declared.script.ScriptedEvent.{ScriptedEvent}
+use Rattle.reference.specs.declared.stop.LeftOut.TheVariants.{RegisterWidth}
+use Rattle.reference.specs.declared.stop.Stop.{Stop}
+use Rattle.reference.specs.declared.stop.Stop.TheVariants.{OutOfProfile}
+use Rattle.reference.specs.declared.system.SystemRegister.{SystemRegister}
+use Rattle.reference.specs.declared.system.SystemRegister.TheVariants as register
+use Rattle.reference.specs.Control.{control_at, read_control, write_control}
+use Rattle.reference.specs.Handlers.{handler_priority_at, read_shcsr, write_shcsr}
+use Rattle.reference.specs.Interrupts.{ictr, interrupts_at, word_number, read_interrupts, write_interrupts, interrupt_priority_at, read_priorities, write_priorities, stir_address, triggered}
+use Rattle.reference.specs.Kinds.{bytes_in, is_word, is_load, is_store}
+use Rattle.reference.specs.Priorities.{Nvic, is_interrupt, with_pending, with_active, reset_nvic}
+use Rattle.reference.specs.Regions.{Mpu, register_at as mpu_at, read as read_mpu, write as write_mpu, stop_of, fresh}
+use Rattle.reference.specs.Status.{Status, status_at, has_parts, usersetmpend, read_status, write_status, reset_status}
+use Rattle.reference.specs.SysTickRegisters.{systick_at, read_systick, after_systick_read, write_systick}
+use Rattle.reference.specs.Time.{Time, SysTick, start_time, is_high, tick_pends, after_tick as time_after_tick}
+
+pub record System : Type 0 where
+  pub mpu : Mpu
+  pub nvic : Nvic
+  pub status : Status
+  pub time : Time
+
+-- after a reset of a board: where its flash begins, its lines, the bits of a priority that it keeps, its regions, and
+-- its script
+abbrev pub reset_system : ℕ → ℕ → ℕ → ℕ → List ScriptedEvent → System
+reset_system flash_base lines bits regions script = record {
+  mpu = fresh regions;
+  nvic = reset_nvic lines bits;
+  status = reset_status flash_base;
+  time = start_time script;
+}
+
+-- ---- the register at an address
+
+-- the register that a block has at an address, or what is there where the block has none
+abbrev pub in_block : {A : Type 0} → (A → SystemRegister) → Option A → SystemRegister → SystemRegister
+in_block named (Some it) otherwise = named it
+in_block named None otherwise = otherwise
+
+-- the registers that are alone in their block
+unfoldable pub single_at : ℕ → SystemRegister
+single_at word =
+    if word == 0xE000_E004 then register.Ictr
+    else if word == 0xE000_ED24 then register.Shcsr
+    else if word == stir_address then register.Stir
+    else register.Unlisted
+
+-- the register at a word of the Private Peripheral Bus
+unfoldable pub register_at : ℕ → SystemRegister
+register_at word =
+    in_block register.SysTick (systick_at word)
+    (in_block (λ it. register.Interrupts it (word_number word)) (interrupts_at word)
+    (in_block register.Priorities (interrupt_priority_at word)
+    (in_block register.Control (control_at word)
+    (in_block register.Status (status_at word)
+    (in_block register.Priorities (handler_priority_at word)
+    (in_block register.Mpu (mpu_at word)
+    (single_at word)))))))
+
+-- whether a register takes accesses of a size: each takes words, and IPR, SHPR, CFSR and a word without a register take
+-- bytes and halfwords too
+unfoldable pub has_width : SystemRegister → Size → Bool
+has_width register.Ictr size = is_word size
+has_width (register.SysTick it) size = is_word size
+has_width (register.Interrupts it k) size = is_word size
+has_width (register.Priorities x) size = true
+has_width (register.Control it) size = is_word size
+has_width register.Shcsr size = is_word size
+has_width (register.Status it) size = is_word size || has_parts it
+has_width (register.Mpu it) size = is_word size
+has_width register.Stir size = is_word size
+has_width register.Unlisted size = true
+
+-- ---- the bytes of a word that an access takes
+
+-- the first of them; an access is aligned
+abbrev pub first_byte : Size → ℕ → ℕ
+first_byte Byte address = address % 4
+first_byte Halfword address = address / 2 % 2 * 2
+first_byte Word address = 0
+
+-- what it reads of a word
+abbrev pub part_of : Request → ℕ → ℕ
+part_of q word = word / 2 ^ (8 * first_byte q.access.size q.access.address) % 256 ^ bytes_in q.access.size
+
+-- what it writes, in its place of a word whose other bytes are 0
+abbrev pub in_place : Request → ℕ
+in_place q = q.value % 256 ^ bytes_in q.access.size * 2 ^ (8 * first_byte q.access.size q.access.address)
+
+-- ---- an access
+
+-- the state after an access, and what is answered
+pub record Replied : Type 0 where
+  pub system : System
+  pub answer : Answer
+
+-- a read is answered by a value, and a write by 0
+abbrev pub replies : System → ℕ → Replied
+replies s value = record { system = s; answer = answer.Value value }
+
+-- a bus error and a named stop change nothing
+abbrev pub errs : System → Replied
+errs s = record { system = s; answer = answer.Error }
+
+abbrev pub stops : System → Stop → Replied
+stops s why = record { system = s; answer = answer.Stop why }
+
+abbrev pub replied : System → Result System Stop → Replied
+replied s (Ok after) = replies after 0
+replied s (Err why) = stops s why
+
+abbrev pub with_systick : System → SysTick → System
+with_systick s t = record s { time = record s.time { systick = t } }
+
+abbrev pub with_nvic : System → Nvic → System
+with_nvic s n = record s { nvic = n }
+
+-- a block after a write, or the stop by name
+
+abbrev pub nvic_written : System → Result Nvic Stop → Result System Stop
+nvic_written s (Ok n) = Ok (with_nvic s n)
+nvic_written s (Err why) = Err why
+
+abbrev pub status_written : System → Result Status Stop → Result System Stop
+status_written s (Ok st) = Ok (record s { status = st })
+status_written s (Err why) = Err why
+
+abbrev pub mpu_written : System → Result Mpu MpuStop → Result System Stop
+mpu_written s (Ok m) = Ok (record s { mpu = m })
+mpu_written s (Err why) = Err (stop_of why)
+
+-- what a register reads as while IPSR is x
+unfoldable pub word_at : ℕ → System → SystemRegister → ℕ
+word_at x s register.Ictr = ictr s.nvic
+word_at x s (register.SysTick it) = read_systick s.time.systick it
+word_at x s (register.Interrupts it k) = read_interrupts s.nvic it k
+word_at x s (register.Priorities first) = read_priorities s.nvic first
+word_at x s (register.Control it) = read_control x s.nvic it
+word_at x s register.Shcsr = read_shcsr s.nvic
+word_at x s (register.Status it) = read_status s.status it
+word_at x s (register.Mpu it) = read_mpu s.mpu it
+word_at x s register.Stir = 0
+word_at x s register.Unlisted = 0
+
+-- the state after a register was read
+unfoldable pub after_read : System → SystemRegister → System
+after_read s register.Ictr = s
+after_read s (register.SysTick it) = with_systick s (after_systick_read s.time.systick it)
+after_read s (register.Interrupts it k) = s
+after_read s (register.Priorities first) = s
+after_read s (register.Control it) = s
+after_read s register.Shcsr = s
+after_read s (register.Status it) = s
+after_read s (register.Mpu it) = s
+after_read s register.Stir = s
+after_read s register.Unlisted = s
+
+-- the state after a write to a register, or the stop by name
+unfoldable pub written : System → Request → SystemRegister → Result System Stop
+written s q register.Ictr = Ok s
+written s q (register.SysTick it) = Ok (with_systick s (write_systick s.time.systick it q.value))
+written s q (register.Interrupts it k) = Ok (with_nvic s (write_interrupts s.nvic it k q.value))
+written s q (register.Priorities first) =
+    Ok (with_nvic s (write_priorities s.nvic (first + first_byte q.access.size q.access.address) q.value (bytes_in q.access.size)))
+written s q (register.Control it) = nvic_written s (write_control s.nvic it q.value)
+written s q register.Shcsr = nvic_written s (write_shcsr s.nvic q.value)
+written s q (register.Status it) = status_written s (write_status s.status it (in_place q))
+written s q (register.Mpu it) = mpu_written s (write_mpu s.mpu it q.value)
+written s q register.Stir = Ok (with_nvic s (triggered s.nvic q.value))
+written s q register.Unlisted = Ok s
+
+-- unprivileged code may store a word to STIR where CCR.USERSETMPEND is 1, and nothing else
+abbrev pub is_allowed : System → Request → Bool
+is_allowed s q =
+    q.access.privileged || (is_store q.access.kind && is_word q.access.size && (q.access.address == stir_address) && usersetmpend s.status)
+
+-- an access to a register: its privilege is asked first, then its width
+unfoldable pub register_access : ℕ → System → Request → SystemRegister → Replied
+register_access x s q it =
+    if not (is_allowed s q) then errs s
+    else if not (has_width it q.access.size) then stops s (OutOfProfile RegisterWidth)
+    else if is_store q.access.kind then replied s (written s q it)
+    else replies (after_read s it) (part_of q (word_at x s it))
+
+-- an access to the Private Peripheral Bus while IPSR is x: it takes loads and stores, and no push, pop or vector read
+unfoldable pub system_access : ℕ → System → Request → Replied
+system_access x s q =
+    if is_load q.access.kind || is_store q.access.kind
+    then register_access x s q (register_at (q.access.address / 4 * 4))
+    else errs s
+
+-- ---- a tick
+
+-- exception x becomes pending where a test holds of it
+unfoldable pub with_pended_at : Nvic → (ℕ → Bool) → ℕ → Nvic
+with_pended_at n test x = if test x then with_pending n x true else n
+
+-- the exceptions below x become pending of which a test holds
+unfoldable pub with_pended_below : Nvic → (ℕ → Bool) → ℕ → Nvic
+with_pended_below n test zero = n
+with_pended_below n test (suc x) = with_pended_at (with_pended_below n test x) test x
+
+-- all exceptions become pending of which a test holds
+unfoldable pub with_pended : Nvic → (ℕ → Bool) → Nvic
+with_pended n test = with_pended_below n test EXCEPTIONS
+
+-- the state after a tick: time goes on, and what the tick pends becomes pending
+unfoldable pub after_tick : System → System
+after_tick s = record s { nvic = with_pended s.nvic (tick_pends s.time); time = time_after_tick s.time }
+
+-- ---- handlers
+
+-- whether exception x is that of a line of the board which is high
+abbrev pub is_held : System → ℕ → Bool
+is_held s x = is_interrupt s.nvic.lines x && is_high s.time (x - FIRST_LINE)
+
+-- DeActivate(): exception x isn't active any more, and is pending again where its line is high (profile)
+unfoldable pub deactivated : System → ℕ → System
+deactivated s x =
+    if is_held s x
+    then with_nvic s (with_pending (with_active s.nvic x false) x true)
+    else with_nvic s (with_active s.nvic x false)

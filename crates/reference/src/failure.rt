@@ -1,0 +1,41 @@
+//! Why a step doesn't carry an instruction out to its end.
+
+use crate::access::{Access, Cause};
+use crate::stop::Stop;
+
+/// Why an instruction isn't carried out to its end.
+#[derive(Clone, Copy)]
+pub enum Failure {
+    /// An access was refused: a memory management fault or a bus fault.
+    Refused(Access, Cause),
+    /// A usage fault.
+    Usage(UsageFault),
+    /// The machine stops by name.
+    Stop(Stop),
+}
+
+/// The usage faults that an instruction raises, by the bits of UFSR in CFSR (ARM DDI 0403).
+#[derive(Clone, Copy)]
+pub enum UsageFault {
+    /// UNDEFINSTR: the encoding is UNDEFINED.
+    UndefinedInstruction,
+    /// INVSTATE: EPSR.T is 0.
+    InvalidState,
+    /// INVPC: a check of an exception return failed.
+    InvalidReturn,
+    /// NOCP: a coprocessor instruction.
+    NoCoprocessor,
+    /// UNALIGNED: an unaligned access that is never made or that CCR.UNALIGN_TRP traps.
+    Unaligned,
+    /// DIVBYZERO: a division by zero that CCR.DIV_0_TRP traps.
+    DivideByZero,
+}
+
+/// What CCR traps.
+#[derive(Clone, Copy)]
+pub struct Traps {
+    /// CCR.UNALIGN_TRP.
+    pub unaligned: bool,
+    /// CCR.DIV_0_TRP.
+    pub divide_by_zero: bool,
+}

@@ -1,0 +1,44 @@
+-- What holds of the rows, whatever the halfwords.
+use Rattle.std.specs.Prelude.{◌≡◌, ℕ, Bool, true, false, ◌&&◌, ◌||◌, ◌==◌, List, [], ◌∷◌, length, All, AllPairs}
+use Rattle.std.specs.List.{list_any}
+use Rattle.reference.specs.Patterns.{fits}
+use Rattle.reference.specs.Rows.{Row, applies}
+use Rattle.row_laws.specs.Overlaps.{Overlap}
+
+-- each row has that many places, one for each bit
+abbrev pub HavePlaces : ℕ → List Row → Type 0
+HavePlaces places rows = All (λ row. length row.places ≡ places) rows
+
+-- no number is that of two rows, so the order of rows is ignored
+abbrev pub AreApart : List Row → Type 0
+AreApart rows = AllPairs (λ one other. (x : ℕ) → applies one x ≡ true → applies other x ≡ true → ⊥) rows
+
+-- whether two texts have the same places
+abbrev pub are_same : List ℕ → List ℕ → Bool
+are_same [] [] = true
+are_same [] (q ∷ qs) = false
+are_same (p ∷ ps) [] = false
+are_same (p ∷ ps) (q ∷ qs) = p == q && are_same ps qs
+
+-- whether the list says that the second row wins over the first
+abbrev pub has_overlap : List Overlap → Row → Row → Bool
+has_overlap overlaps row other =
+    list_any (λ o. are_same row.places o.row.places && list_any (λ winner. are_same other.places winner.places) o.others) overlaps
+
+-- where two texts fit one number, the list has the two rows
+abbrev pub OverlapOnly : List Overlap → List Row → Type 0
+OverlapOnly overlaps rows =
+    AllPairs
+    (λ one other. (x : ℕ) → fits one.places x ≡ true → fits other.places x ≡ true
+    → (has_overlap overlaps one other || has_overlap overlaps other one) ≡ true)
+    rows
+
+-- some number fits both texts, and where the winner's fits, the other row doesn't apply
+abbrev pub WinsOver : Row → Row → Type 0
+WinsOver winner row =
+    ((x : ℕ) × (fits winner.places x ≡ true) × (fits row.places x ≡ true))
+    × ((x : ℕ) → fits winner.places x ≡ true → applies row x ≡ false)
+
+-- what the list has is so
+abbrev pub DoOverlap : List Overlap → Type 0
+DoOverlap overlaps = All (λ o. All (λ winner. WinsOver winner o.row) o.others) overlaps

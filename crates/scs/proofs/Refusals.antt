@@ -1,0 +1,32 @@
+-- What is refused, or stops, changes nothing.
+use Rattle.std.proofs.Common.{ℕ, ◌/◌, ◌*◌, ◌||◌, not, Bool, true, false, if◌then◌else◌, Result, Ok, Err, refl}
+use Rattle.reference.specs.declared.access.Request.{Request}
+use Rattle.reference.specs.declared.stop.Stop.{Stop as Why}
+use Rattle.reference.specs.declared.system.SystemRegister.{SystemRegister}
+use Rattle.reference.specs.Answers.{LeavesUnlessDone}
+use Rattle.reference.specs.Kinds.{is_load, is_store}
+use Rattle.reference.specs.System.{System, Replied, replied, is_allowed, has_width, written, register_at, register_access, system_access}
+
+abbrev Keeps : System → Replied → Type 0
+Keeps s r = LeavesUnlessDone r.answer s r.system
+
+either : (s : System) (test : Bool) (x y : Replied) → Keeps s x → Keeps s y → Keeps s (if test then x else y)
+either s true x y first second = first
+either s false x y first second = second
+
+replied_keeps : (s : System) (made : Result System Why) → Keeps s (replied s made)
+replied_keeps s (Ok after) = tt
+replied_keeps s (Err why) = refl
+
+register_keeps : (x : ℕ) (s : System) (q : Request) (it : SystemRegister) → Keeps s (register_access x s q it)
+unfolding register_access
+register_keeps x s q it =
+    either s (not (is_allowed s q)) _ _ refl
+    (either s (not (has_width it q.access.size)) _ _ refl
+    (either s (is_store q.access.kind) _ _ (replied_keeps s (written s q it)) tt))
+
+-- an access that isn't carried out leaves the system as it was
+pub system_keeps : (x : ℕ) (s : System) (q : Request) → LeavesUnlessDone (system_access x s q).answer s (system_access x s q).system
+unfolding system_access
+system_keeps x s q =
+    either s (is_load q.access.kind || is_store q.access.kind) _ _ (register_keeps x s q (register_at (q.access.address / 4 * 4))) refl

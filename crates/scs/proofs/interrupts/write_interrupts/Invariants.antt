@@ -1,0 +1,8 @@
+use Rattle.std.proofs.Common.{◌≡◌}
+use Rattle.reference.specs.Interrupts.{with_bits_below}
+use Rattle.scs.proofs.interrupts.write_interrupts.Given as goal
+
+-- the bits that were looked at have done what they do
+abbrev pub invariant-each : goal.invariant-each
+invariant-each g l =
+    g.L.Levels.content l.levels ≡ with_bits_below (g.L.Levels.content l.fn.levels) l.register l.first l.value l.bit

@@ -1,0 +1,8 @@
+use Rattle.std.proofs.Common.{◌≡◌}
+use Rattle.reference.specs.Interrupts.{write_priorities as write_priorities_of}
+use Rattle.scs.proofs.interrupts.write_priorities.Given as goal
+
+-- the exceptions that were looked at have their bytes
+abbrev pub invariant-each : goal.invariant-each
+invariant-each g l =
+    g.L.Levels.content l.levels ≡ write_priorities_of (g.L.Levels.content l.fn.levels) l.first l.value l.index

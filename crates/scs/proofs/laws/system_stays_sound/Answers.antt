@@ -1,0 +1,21 @@
+use Rattle.scs.proofs.Boards.{masks, change}
+use Rattle.scs.proofs.Sound.{nvic_changed, access_sound, tick_sound, deactivated_sound, reset_sound}
+use Rattle.scs.proofs.laws.system_stays_sound.Goals as goal
+
+pub returns-clause-reset : goal.returns-clause-reset
+returns-clause-reset c = reset_sound
+
+pub returns-clause-access : goal.returns-clause-access
+returns-clause-access c = access_sound
+
+pub returns-clause-tick : goal.returns-clause-tick
+returns-clause-tick c = tick_sound
+
+pub returns-clause-msr : goal.returns-clause-msr
+returns-clause-msr c = λ privileged s special value h. nvic_changed s _ h (masks privileged s.nvic special value h.nvic)
+
+pub returns-clause-cps : goal.returns-clause-cps
+returns-clause-cps c = λ privileged s o h. nvic_changed s _ h (change privileged s.nvic o h.nvic)
+
+pub returns-clause-deactivation : goal.returns-clause-deactivation
+returns-clause-deactivation c = deactivated_sound

@@ -1,0 +1,13 @@
+-- What a write leaves and answers, by the registers after it or its stop by name.
+use Rattle.std.specs.Prelude.{Result, Ok, Err}
+use Rattle.reference.specs.declared.stop.Stop.{Stop}
+
+-- a write that stops leaves the registers as they were
+abbrev pub left : {A : Type 0} → A → Result A Stop → A
+left old (Ok new) = new
+left old (Err why) = old
+
+-- what a write answers
+abbrev pub answered : {A : Type 0} → Result A Stop → Result (Unit {0}) Stop
+answered (Ok new) = Ok tt
+answered (Err why) = Err why

@@ -1,0 +1,128 @@
+//! CPUID, ICSR and AIRCR.
+
+ghost use Rattle.std.specs.Prelude.{◌≡◌};
+ghost use Rattle.reference.specs.Control.{control_at as control_at_of, rettobase as rettobase_of, icsr as icsr_of, set_or_cleared, write_icsr as write_icsr_of, write_aircr as write_aircr_of, read_control as read_control_of, write_control as write_control_of};
+ghost use Rattle.scs.specs.Writes.{left, answered};
+
+use crate::bits::{is_bit, weighed};
+use nvic::Levels;
+use reference::exception::{NMI, PEND_SV, SYS_TICK};
+use reference::stop::{LeftOut, Stop, UnpredictableCase};
+use reference::system::ControlRegister;
+
+/// CPUID: no implementer, and an architecture that CPUID registers describe.
+const CPUID: u32 = 0x000F_0000;
+
+/// AIRCR.VECTKEYSTAT.
+const VECTKEYSTAT: u32 = 0xFA05_0000;
+
+/// AIRCR.VECTKEY, without which a write is ignored.
+const VECTKEY: u32 = 0x05FA;
+
+/// Returns the register at the address of a word, if it is one of these.
+#[tactic(auto, unfolding(reference::specs::Control::control_at))]
+pub fn control_at(word: u32) -> Option<ControlRegister>
+    ensures { result ≡ control_at_of word }
+{
+    match word {
+        0xE000_ED00 => Some(ControlRegister::Cpuid),
+        0xE000_ED04 => Some(ControlRegister::Icsr),
+        0xE000_ED0C => Some(ControlRegister::Aircr),
+        _ => None,
+    }
+}
+
+/// Reads a register while IPSR is `exception`.
+#[tactic(auto, unfolding(reference::specs::Control::read_control))]
+pub fn read_control<L: Levels>(levels: &L, exception: u16, register: ControlRegister) -> u32
+    ensures { result ≡ read_control_of exception (L.content levels.now) register }
+{
+    match register {
+        ControlRegister::Cpuid => CPUID,
+        ControlRegister::Icsr => icsr(levels, exception),
+        ControlRegister::Aircr => VECTKEYSTAT + u32::from(levels.group()) * 256,
+    }
+}
+
+/// Writes a register. A write that stops by name changes nothing.
+#[tactic(auto, unfolding(reference::specs::Control::write_control))]
+pub fn write_control<L: Levels>(
+    levels: &mut L,
+    register: ControlRegister,
+    value: u32,
+) -> Result<(), Stop>
+    ensures state { L.content levels.new ≡ left (L.content levels.old) (write_control_of (L.content levels.old) register value) }
+    ensures answer { result ≡ answered (write_control_of (L.content levels.old) register value) }
+{
+    match register {
+        ControlRegister::Cpuid => Ok(()),
+        ControlRegister::Icsr => write_icsr(levels, value),
+        ControlRegister::Aircr => write_aircr(levels, value),
+    }
+}
+
+/// Returns ICSR.RETTOBASE: a handler runs, and no exception but its own is active.
+fn rettobase<L: Levels>(levels: &L, exception: u16) -> bool
+    ensures { result ≡ rettobase_of (L.content levels.now) exception }
+{
+    exception != 0 && !levels.is_other_active(exception)
+}
+
+/// Reads ICSR while IPSR is `exception`.
+#[tactic(auto, unfolding(reference::specs::Control::icsr))]
+fn icsr<L: Levels>(levels: &L, exception: u16) -> u32
+    ensures { result ≡ icsr_of (L.content levels.now) exception }
+{
+    u32::from(exception % 512)
+        + weighed(rettobase(levels, exception), 1 << 11)
+        + u32::from(levels.best().unwrap_or(0)) * 4096
+        + weighed(levels.is_interrupt_pending(), 1 << 22)
+        + weighed(levels.is_pending(SYS_TICK), 1 << 26)
+        + weighed(levels.is_pending(PEND_SV), 1 << 28)
+        + weighed(levels.is_pending(NMI), 1 << 31)
+}
+
+/// Makes an exception pending or clears it, by its set bit and its clear bit in ICSR.
+fn set_or_clear<L: Levels>(levels: &mut L, number: u16, set: bool, clear: bool)
+    ensures { L.content levels.new ≡ set_or_cleared (L.content levels.old) number set clear }
+{
+    if set {
+        levels.pend(number);
+    } else if clear {
+        levels.clear(number);
+    }
+}
+
+/// Writes ICSR; a set bit and its clear bit together stop.
+#[tactic(auto, unfolding(reference::specs::Control::write_icsr))]
+fn write_icsr<L: Levels>(levels: &mut L, value: u32) -> Result<(), Stop>
+    ensures state { L.content levels.new ≡ left (L.content levels.old) (write_icsr_of (L.content levels.old) value) }
+    ensures answer { result ≡ answered (write_icsr_of (L.content levels.old) value) }
+{
+    if is_bit(value, 28) && is_bit(value, 27) || is_bit(value, 26) && is_bit(value, 25) {
+        return Err(Stop::Unpredictable(UnpredictableCase::Icsr));
+    }
+    set_or_clear(levels, NMI, is_bit(value, 31), false);
+    set_or_clear(levels, PEND_SV, is_bit(value, 28), is_bit(value, 27));
+    set_or_clear(levels, SYS_TICK, is_bit(value, 26), is_bit(value, 25));
+    Ok(())
+}
+
+/// Writes AIRCR: PRIGROUP, or a request that stops.
+#[tactic(auto, unfolding(reference::specs::Control::write_aircr))]
+fn write_aircr<L: Levels>(levels: &mut L, value: u32) -> Result<(), Stop>
+    ensures state { L.content levels.new ≡ left (L.content levels.old) (write_aircr_of (L.content levels.old) value) }
+    ensures answer { result ≡ answered (write_aircr_of (L.content levels.old) value) }
+{
+    if value >> 16 != VECTKEY {
+        return Ok(());
+    }
+    if is_bit(value, 0) || is_bit(value, 1) {
+        return Err(Stop::OutOfProfile(LeftOut::ResetControl));
+    }
+    if is_bit(value, 2) {
+        return Err(Stop::ResetRequested);
+    }
+    levels.set_group((value >> 8 & 7) as u8);
+    Ok(())
+}

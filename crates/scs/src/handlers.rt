@@ -1,0 +1,127 @@
+//! SHPR1 to SHPR3, and SHCSR.
+
+ghost use Rattle.std.specs.Prelude.{◌≡◌, ◌<◌, ◌^◌};
+ghost use Rattle.reference.specs.Handlers.{handler_priority_at as handler_priority_at_of, handlers_active as handlers_active_of, handlers_pending as handlers_pending_of, handlers_enabled as handlers_enabled_of, with_handlers_pending, with_handlers_enabled, read_shcsr as read_shcsr_of, write_shcsr as write_shcsr_of};
+ghost use Rattle.reference.specs.Priorities.{with_pending, with_enabled};
+ghost use Rattle.scs.specs.Writes.{left, answered};
+
+use crate::bits::{is_bit, weighed};
+use nvic::Levels;
+use reference::exception::{BUS_FAULT, MEM_MANAGE, PEND_SV, SV_CALL, SYS_TICK, USAGE_FAULT};
+use reference::stop::{LeftOut, Stop};
+
+/// The active bits of SHCSR.
+const ACTIVE: u32 = 0xC8B;
+
+/// Returns the exception whose priority is the lowest byte of a word of SHPR1 to SHPR3.
+#[tactic(auto, unfolding(reference::specs::Handlers::handler_priority_at))]
+pub fn handler_priority_at(word: u32) -> Option<u8>
+    ensures { result ≡ handler_priority_at_of word }
+{
+    match word {
+        0xE000_ED18..=0xE000_ED23 => Some((word - 0xE000_ED18) as u8 + MEM_MANAGE as u8),
+        _ => None,
+    }
+}
+
+/// Reads the active bits of SHCSR.
+#[tactic(auto, unfolding(reference::specs::Handlers::handlers_active))]
+fn handlers_active<L: Levels>(levels: &L) -> u32
+    ensures value { result ≡ handlers_active_of (L.content levels.now) }
+    ensures small { result < 2 ^ 12 }
+{
+    weighed(levels.is_active(MEM_MANAGE), 1)
+        + weighed(levels.is_active(BUS_FAULT), 1 << 1)
+        + weighed(levels.is_active(USAGE_FAULT), 1 << 3)
+        + weighed(levels.is_active(SV_CALL), 1 << 7)
+        + weighed(levels.is_active(PEND_SV), 1 << 10)
+        + weighed(levels.is_active(SYS_TICK), 1 << 11)
+}
+
+/// Reads the pending bits of SHCSR.
+#[tactic(auto, unfolding(reference::specs::Handlers::handlers_pending))]
+fn handlers_pending<L: Levels>(levels: &L) -> u32
+    ensures value { result ≡ handlers_pending_of (L.content levels.now) }
+    ensures small { result < 2 ^ 16 }
+{
+    weighed(levels.is_pending(USAGE_FAULT), 1 << 12)
+        + weighed(levels.is_pending(MEM_MANAGE), 1 << 13)
+        + weighed(levels.is_pending(BUS_FAULT), 1 << 14)
+        + weighed(levels.is_pending(SV_CALL), 1 << 15)
+}
+
+/// Reads the enable bits of SHCSR.
+#[tactic(auto, unfolding(reference::specs::Handlers::handlers_enabled))]
+fn handlers_enabled<L: Levels>(levels: &L) -> u32
+    ensures value { result ≡ handlers_enabled_of (L.content levels.now) }
+    ensures small { result < 2 ^ 19 }
+{
+    weighed(levels.is_enabled(MEM_MANAGE), 1 << 16)
+        + weighed(levels.is_enabled(BUS_FAULT), 1 << 17)
+        + weighed(levels.is_enabled(USAGE_FAULT), 1 << 18)
+}
+
+/// Reads SHCSR.
+#[tactic(auto, unfolding(reference::specs::Handlers::read_shcsr))]
+pub fn read_shcsr<L: Levels>(levels: &L) -> u32
+    ensures { result ≡ read_shcsr_of (L.content levels.now) }
+{
+    handlers_active(levels) + handlers_pending(levels) + handlers_enabled(levels)
+}
+
+/// Makes an exception pending, or clears it.
+fn set_pending<L: Levels>(levels: &mut L, number: u16, on: bool)
+    ensures { L.content levels.new ≡ with_pending (L.content levels.old) number on }
+{
+    if on {
+        levels.pend(number);
+    } else {
+        levels.clear(number);
+    }
+}
+
+/// Enables an exception, or disables it.
+fn set_enabled<L: Levels>(levels: &mut L, number: u16, on: bool)
+    ensures { L.content levels.new ≡ with_enabled (L.content levels.old) number on }
+{
+    if on {
+        levels.enable(number);
+    } else {
+        levels.disable(number);
+    }
+}
+
+/// Writes the pending bits of SHCSR.
+#[tactic(auto, unfolding(reference::specs::Handlers::with_handlers_pending))]
+fn set_handlers_pending<L: Levels>(levels: &mut L, value: u32)
+    ensures { L.content levels.new ≡ with_handlers_pending (L.content levels.old) value }
+{
+    set_pending(levels, USAGE_FAULT, is_bit(value, 12));
+    set_pending(levels, MEM_MANAGE, is_bit(value, 13));
+    set_pending(levels, BUS_FAULT, is_bit(value, 14));
+    set_pending(levels, SV_CALL, is_bit(value, 15));
+}
+
+/// Writes the enable bits of SHCSR.
+#[tactic(auto, unfolding(reference::specs::Handlers::with_handlers_enabled))]
+fn set_handlers_enabled<L: Levels>(levels: &mut L, value: u32)
+    ensures { L.content levels.new ≡ with_handlers_enabled (L.content levels.old) value }
+{
+    set_enabled(levels, MEM_MANAGE, is_bit(value, 16));
+    set_enabled(levels, BUS_FAULT, is_bit(value, 17));
+    set_enabled(levels, USAGE_FAULT, is_bit(value, 18));
+}
+
+/// Writes SHCSR; a value with a changed active bit stops, and changes nothing.
+#[tactic(auto, unfolding(reference::specs::Handlers::write_shcsr))]
+pub fn write_shcsr<L: Levels>(levels: &mut L, value: u32) -> Result<(), Stop>
+    ensures state { L.content levels.new ≡ left (L.content levels.old) (write_shcsr_of (L.content levels.old) value) }
+    ensures answer { result ≡ answered (write_shcsr_of (L.content levels.old) value) }
+{
+    if value & ACTIVE != handlers_active(levels) {
+        return Err(Stop::OutOfProfile(LeftOut::ActiveBit));
+    }
+    set_handlers_pending(levels, value);
+    set_handlers_enabled(levels, value);
+    Ok(())
+}

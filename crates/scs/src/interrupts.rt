@@ -1,0 +1,166 @@
+//! ICTR, ISER, ICER, ISPR, ICPR, IABR, IPR and STIR.
+
+ghost use Rattle.std.specs.Prelude.{◌≡◌, ◌<◌, ◌^◌};
+ghost use Rattle.reference.specs.Interrupts.{ictr as ictr_of, interrupts_at as interrupts_at_of, word_number as word_number_of, first_exception as first_exception_of, is_shown as is_shown_of, with_one, with_bit as with_bit_of, read_interrupts as read_interrupts_of, write_interrupts as write_interrupts_of, interrupt_priority_at as interrupt_priority_at_of, read_priorities as read_priorities_of, write_priorities as write_priorities_of, triggered};
+
+use crate::bits::is_bit;
+use nvic::Levels;
+use reference::exception::FIRST_LINE;
+use reference::system::InterruptRegister;
+
+/// Reads ICTR.
+pub fn ictr<L: Levels>(levels: &L) -> u32
+    ensures { result ≡ ictr_of (L.content levels.now) }
+{
+    u32::from(levels.lines().saturating_sub(1)) / 32
+}
+
+/// Returns the register that has a word at this address, if it is one of these.
+#[tactic(auto, unfolding(reference::specs::Interrupts::interrupts_at))]
+pub fn interrupts_at(word: u32) -> Option<InterruptRegister>
+    ensures { result ≡ interrupts_at_of word }
+{
+    match word / 32 * 32 {
+        0xE000_E100 => Some(InterruptRegister::Iser),
+        0xE000_E180 => Some(InterruptRegister::Icer),
+        0xE000_E200 => Some(InterruptRegister::Ispr),
+        0xE000_E280 => Some(InterruptRegister::Icpr),
+        0xE000_E300 => Some(InterruptRegister::Iabr),
+        _ => None,
+    }
+}
+
+/// Returns the number of a word in its register, from 0 to 7.
+pub fn word_number(word: u32) -> u8
+    ensures { result ≡ word_number_of word }
+{
+    (word / 4 % 8) as u8
+}
+
+/// Returns the exception of bit 0 in a word.
+fn first_exception(word: u8) -> u16
+    ensures value { result ≡ first_exception_of word }
+    ensures small { result < 2 ^ 15 }
+{
+    FIRST_LINE + 32 * u16::from(word)
+}
+
+/// Returns whether a register reads 1 at an exception.
+fn is_shown<L: Levels>(levels: &L, register: InterruptRegister, number: u16) -> bool
+    ensures { result ≡ is_shown_of (L.content levels.now) register number }
+{
+    match register {
+        InterruptRegister::Iser | InterruptRegister::Icer => levels.is_enabled(number),
+        InterruptRegister::Ispr | InterruptRegister::Icpr => levels.is_pending(number),
+        InterruptRegister::Iabr => levels.is_active(number),
+    }
+}
+
+/// Reads a word of a register.
+#[tactic(auto, unfolding(reference::specs::Interrupts::read_interrupts))]
+pub fn read_interrupts<L: Levels>(levels: &L, register: InterruptRegister, word: u8) -> u32
+    ensures { result ≡ read_interrupts_of (L.content levels.now) register word }
+{
+    let first = first_exception(word);
+    let mut value = 0;
+    #[tactic(auto, unfolding(reference::specs::Interrupts::shown_below))]
+    'each: for bit in 0..32u16 {
+        if is_shown(levels, register, first + bit) {
+            value += 1 << bit;
+        }
+    }
+    value
+}
+
+/// Writes a 1 at an exception.
+#[tactic(auto, unfolding(reference::specs::Interrupts::with_one))]
+fn write_one<L: Levels>(levels: &mut L, register: InterruptRegister, number: u16)
+    ensures { L.content levels.new ≡ with_one (L.content levels.old) register number }
+{
+    match register {
+        InterruptRegister::Iser => levels.enable(number),
+        InterruptRegister::Icer => levels.disable(number),
+        InterruptRegister::Ispr => levels.pend(number),
+        InterruptRegister::Icpr => levels.clear(number),
+        InterruptRegister::Iabr => {}
+    }
+}
+
+/// Writes one bit of a value, whose bit 0 is at the exception `first`.
+#[tactic(auto, unfolding(reference::specs::Interrupts::with_bit))]
+fn write_bit<L: Levels>(
+    levels: &mut L,
+    register: InterruptRegister,
+    first: u16,
+    value: u32,
+    bit: u16,
+)
+    requires of_word { bit < 32 }
+    requires small { first < 2 ^ 15 }
+    ensures { L.content levels.new ≡ with_bit_of (L.content levels.old) register first value bit }
+{
+    if is_bit(value, u32::from(bit)) {
+        write_one(levels, register, first + bit);
+    }
+}
+
+/// Writes a word of a register.
+#[tactic(auto, unfolding(reference::specs::Interrupts::write_interrupts))]
+pub fn write_interrupts<L: Levels>(
+    levels: &mut L,
+    register: InterruptRegister,
+    word: u8,
+    value: u32,
+)
+    ensures { L.content levels.new ≡ write_interrupts_of (L.content levels.old) register word value }
+{
+    let first = first_exception(word);
+    #[tactic(auto, unfolding(reference::specs::Interrupts::with_bits_below))]
+    'each: for bit in 0..32u16 {
+        write_bit(levels, register, first, value, bit);
+    }
+}
+
+/// Returns the exception whose priority is the lowest byte of a word of IPR.
+#[tactic(auto, unfolding(reference::specs::Interrupts::interrupt_priority_at))]
+pub fn interrupt_priority_at(word: u32) -> Option<u8>
+    ensures { result ≡ interrupt_priority_at_of word }
+{
+    match word {
+        0xE000_E400..=0xE000_E4EF => Some((word - 0xE000_E400) as u8 + FIRST_LINE as u8),
+        _ => None,
+    }
+}
+
+/// Reads the priority bytes of four exceptions, the first of them lowest.
+#[tactic(auto, unfolding(reference::specs::Interrupts::read_priorities))]
+pub fn read_priorities<L: Levels>(levels: &L, first: u8) -> u32
+    ensures { result ≡ read_priorities_of (L.content levels.now) first }
+{
+    let first = u16::from(first);
+    u32::from(levels.priority(first))
+        + u32::from(levels.priority(first + 1)) * 0x100
+        + u32::from(levels.priority(first + 2)) * 0x1_0000
+        + u32::from(levels.priority(first + 3)) * 0x100_0000
+}
+
+/// Writes the priorities of `count` exceptions from `first` on, the first from the lowest byte.
+pub fn write_priorities<L: Levels>(levels: &mut L, first: u16, value: u32, count: u32)
+    requires small { first < 2 ^ 15 }
+    requires few { count < 5 }
+    ensures { L.content levels.new ≡ write_priorities_of (L.content levels.old) first value count }
+{
+    #[tactic(auto, unfolding(reference::specs::Interrupts::write_priorities))]
+    'each: for index in 0..count {
+        let byte = (value >> (8 * index) & 0xFF) as u8;
+        levels.set_priority(first + index as u16, byte);
+    }
+}
+
+/// Writes STIR: the interrupt whose number is in bits 8:0 becomes pending.
+#[tactic(auto, unfolding(reference::specs::Interrupts::triggered))]
+pub fn trigger<L: Levels>(levels: &mut L, value: u32)
+    ensures { L.content levels.new ≡ triggered (L.content levels.old) value }
+{
+    levels.pend(FIRST_LINE + (value % 512) as u16);
+}

@@ -1,0 +1,21 @@
+//! The System Control Space (ARM DDI 0403, "System Control Space"): the system registers, and what
+//! a tick does to them.
+#![tactic(auto)]
+
+mod addresses;
+mod bits;
+mod control;
+mod handlers;
+mod interrupts;
+pub mod laws;
+mod special;
+mod status;
+mod system;
+mod systick;
+
+pub use reference::system::{
+    ControlRegister, InterruptRegister, StatusRegister, SysTickRegister, SystemRegister,
+};
+pub use special::{change_state, read_special, write_mask, write_special};
+pub use status::Status;
+pub use system::System;

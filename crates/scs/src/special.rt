@@ -1,0 +1,186 @@
+//! The special registers: what MRS reads, and what MSR and CPS write.
+
+ghost use Rattle.std.specs.Prelude.{◌≡◌};
+ghost use Rattle.reference.specs.Priorities.{kept as kept_of};
+ghost use Rattle.reference.specs.SpecialRegisters.{is_hidden as is_hidden_of, special_value as special_value_of, read_special as read_special_of, is_open as is_open_of, with_special, write_special as write_special_of, faultmask_written, is_tighter as is_tighter_of, basepri_max_written, with_mask as with_mask_of, write_mask as write_mask_of, change_state as change_state_of};
+
+use nvic::{Levels, Masks, Priority};
+use reference::operands::{ChangeProcessorState, SpecialRegister};
+use regs::{Regs, flags_of};
+
+/// Returns whether unprivileged code reads a register as 0.
+fn is_hidden(special: SpecialRegister) -> bool
+    ensures { result ≡ is_hidden_of special }
+{
+    matches!(
+        special,
+        SpecialRegister::Msp
+            | SpecialRegister::Psp
+            | SpecialRegister::Primask
+            | SpecialRegister::Basepri
+            | SpecialRegister::BasepriMax
+            | SpecialRegister::Faultmask
+    )
+}
+
+/// Reads a register as MRS does.
+#[tactic(auto, unfolding(reference::specs::SpecialRegisters::read_special))]
+pub fn read_special(regs: &Regs, masks: Masks, special: SpecialRegister) -> u32
+    ensures { result ≡ read_special_of regs.now masks special }
+{
+    if is_hidden(special) && !regs.is_privileged() {
+        return 0;
+    }
+    special_value(regs, masks, special)
+}
+
+/// Reads a register as privileged code does.
+#[tactic(auto, unfolding(reference::specs::SpecialRegisters::special_value))]
+fn special_value(regs: &Regs, masks: Masks, special: SpecialRegister) -> u32
+    ensures { result ≡ special_value_of regs.now masks special }
+{
+    let exception = u32::from(regs.exception());
+    match special {
+        SpecialRegister::Apsr | SpecialRegister::Eapsr => regs.apsr(),
+        SpecialRegister::Iapsr | SpecialRegister::Xpsr => regs.apsr() + exception,
+        SpecialRegister::Ipsr | SpecialRegister::Iepsr => exception,
+        SpecialRegister::Epsr => 0,
+        SpecialRegister::Msp => regs.main_stack(),
+        SpecialRegister::Psp => regs.process_stack(),
+        SpecialRegister::Primask => u32::from(masks.primask),
+        SpecialRegister::Basepri | SpecialRegister::BasepriMax => u32::from(masks.basepri),
+        SpecialRegister::Faultmask => u32::from(masks.faultmask),
+        SpecialRegister::Control => regs.control(),
+    }
+}
+
+/// Returns whether unprivileged code writes a register: APSR, alone or with others.
+fn is_open(special: SpecialRegister) -> bool
+    ensures { result ≡ is_open_of special }
+{
+    matches!(
+        special,
+        SpecialRegister::Apsr
+            | SpecialRegister::Iapsr
+            | SpecialRegister::Eapsr
+            | SpecialRegister::Xpsr
+    )
+}
+
+/// Writes the core registers as MSR does.
+#[tactic(auto, unfolding(reference::specs::SpecialRegisters::write_special))]
+pub fn write_special(regs: &mut Regs, special: SpecialRegister, value: u32)
+    ensures { regs.new ≡ write_special_of regs.old special value }
+{
+    if regs.is_privileged() || is_open(special) {
+        set_special(regs, special, value);
+    }
+}
+
+/// Writes the core registers as MSR of privileged code does.
+#[tactic(auto, unfolding(reference::specs::SpecialRegisters::with_special))]
+pub fn set_special(regs: &mut Regs, special: SpecialRegister, value: u32)
+    ensures { regs.new ≡ with_special regs.old special value }
+{
+    match special {
+        SpecialRegister::Apsr
+        | SpecialRegister::Iapsr
+        | SpecialRegister::Eapsr
+        | SpecialRegister::Xpsr => regs.set_flags(flags_of(value)),
+        SpecialRegister::Msp => regs.set_main_stack(value),
+        SpecialRegister::Psp => regs.set_process_stack(value),
+        SpecialRegister::Control => regs.write_control(value),
+        SpecialRegister::Ipsr
+        | SpecialRegister::Epsr
+        | SpecialRegister::Iepsr
+        | SpecialRegister::Primask
+        | SpecialRegister::Basepri
+        | SpecialRegister::BasepriMax
+        | SpecialRegister::Faultmask => {}
+    }
+}
+
+/// Writes the masks as MSR does, by code that is privileged or not.
+#[tactic(auto, unfolding(reference::specs::SpecialRegisters::write_mask))]
+pub fn write_mask<L: Levels>(levels: &mut L, privileged: bool, special: SpecialRegister, value: u32)
+    ensures { L.content levels.new ≡ write_mask_of privileged (L.content levels.old) special value }
+{
+    if privileged {
+        set_mask(levels, special, value);
+    }
+}
+
+/// Writes the masks as MSR of privileged code does.
+#[tactic(auto, unfolding(reference::specs::SpecialRegisters::with_mask))]
+pub fn set_mask<L: Levels>(levels: &mut L, special: SpecialRegister, value: u32)
+    ensures { L.content levels.new ≡ with_mask_of (L.content levels.old) special value }
+{
+    match special {
+        SpecialRegister::Primask => levels.set_primask(value & 1 == 1),
+        SpecialRegister::Basepri => levels.set_basepri((value & 0xFF) as u8),
+        SpecialRegister::BasepriMax => write_basepri_max(levels, (value & 0xFF) as u8),
+        SpecialRegister::Faultmask => write_faultmask(levels, value & 1 == 1),
+        SpecialRegister::Apsr
+        | SpecialRegister::Iapsr
+        | SpecialRegister::Eapsr
+        | SpecialRegister::Xpsr
+        | SpecialRegister::Ipsr
+        | SpecialRegister::Epsr
+        | SpecialRegister::Iepsr
+        | SpecialRegister::Msp
+        | SpecialRegister::Psp
+        | SpecialRegister::Control => {}
+    }
+}
+
+/// Writes FAULTMASK, which becomes 1 only at an execution priority above -1.
+#[tactic(auto, unfolding(reference::specs::SpecialRegisters::faultmask_written))]
+fn write_faultmask<L: Levels>(levels: &mut L, on: bool)
+    ensures { L.content levels.new ≡ faultmask_written (L.content levels.old) on }
+{
+    if !on || Priority::HARD_FAULT.is_below(levels.execution_priority()) {
+        levels.set_faultmask(on);
+    }
+}
+
+/// Returns whether BASEPRI_MAX takes a value while BASEPRI has another.
+fn is_tighter(basepri: u8, value: u8) -> bool
+    ensures { result ≡ is_tighter_of basepri value }
+{
+    value != 0 && (value < basepri || basepri == 0)
+}
+
+/// Writes BASEPRI_MAX, which only makes BASEPRI mask more.
+#[tactic(auto, unfolding(reference::specs::SpecialRegisters::basepri_max_written))]
+fn write_basepri_max<L: Levels>(levels: &mut L, byte: u8)
+    ensures { L.content levels.new ≡ basepri_max_written (L.content levels.old) byte }
+{
+    let value = kept(levels.priority_bits(), byte);
+    if is_tighter(levels.masks().basepri, value) {
+        levels.set_basepri(byte);
+    }
+}
+
+/// Returns the top bits of a priority byte that a board keeps.
+fn kept(priority_bits: u8, byte: u8) -> u8
+    ensures { result ≡ kept_of priority_bits byte }
+{
+    let dropped = 8u8.saturating_sub(priority_bits);
+    (byte as u16 >> dropped << dropped) as u8
+}
+
+/// Changes the masks as CPS does, by code that is privileged or not.
+#[tactic(auto, unfolding(reference::specs::SpecialRegisters::change_state))]
+pub fn change_state<L: Levels>(levels: &mut L, privileged: bool, operands: &ChangeProcessorState)
+    ensures { L.content levels.new ≡ change_state_of privileged (L.content levels.old) operands.now }
+{
+    if !privileged {
+        return;
+    }
+    if operands.primask {
+        levels.set_primask(operands.disables);
+    }
+    if operands.faultmask {
+        write_faultmask(levels, operands.disables);
+    }
+}

@@ -1,0 +1,402 @@
+//! The state of the System Control Space, accesses to it, and ticks.
+
+ghost use Rattle.std.specs.Prelude.{◌≡◌, ◌+◌, ◌^◌, ◌<◌, ◌≤◌, ◌⊎◌, ℕ, true, false};
+ghost use Rattle.clock.specs.Kept.{IsRight};
+ghost use Rattle.reference.specs.Answers.{IsNarrow, LeavesUnlessDone};
+ghost use Rattle.reference.specs.System.{reset_system, after_tick, deactivated, is_held as is_held_of, is_allowed as is_allowed_of, word_at as word_at_of, after_read, written, register_access, system_access, with_nvic, mpu_written, first_byte as first_byte_of};
+ghost use Rattle.reference.specs.Interrupts.{write_priorities as write_priorities_of};
+ghost use Rattle.reference.specs.Kinds.{bytes_in};
+ghost use Rattle.reference.specs.Regions.{shown, write as write_mpu_of};
+ghost use Rattle.reference.specs.Priorities.{is_due, with_due, with_pending, with_active, with_faultmask};
+ghost use Rattle.reference.specs.Registers.{is_privileged};
+ghost use Rattle.reference.specs.SpecialRegisters.{read_special as read_special_of, write_special as write_special_of, write_mask as write_mask_of, change_state as change_state_of, with_special, with_mask};
+ghost use Rattle.reference.specs.Status.{with_fault_bits, with_mmfar, with_bfar};
+ghost use Rattle.scs.specs.Writes.{left, answered};
+
+use crate::addresses::{first_byte, has_width, in_place, part_of, register_at};
+use crate::control::{read_control, write_control};
+use crate::handlers::{read_shcsr, write_shcsr};
+use crate::interrupts::{
+    ictr, read_interrupts, read_priorities, trigger, write_interrupts, write_priorities,
+};
+use crate::special;
+use crate::status::Status;
+use crate::systick::{read_systick, write_systick};
+use clock::{Clock, Due, DueTicks, ScriptedEvent};
+use mpu::{Decider, MpuRegister, MpuRegs, stop_of};
+use nvic::{Levels, Masks};
+use reference::access::{Answer, Request};
+use reference::exception::FIRST_LINE;
+use reference::operands::{ChangeProcessorState, SpecialRegister};
+use reference::stop::{LeftOut, Stop};
+use reference::system::SystemRegister;
+use regs::Regs;
+use std::marker::Model;
+
+/// The address of STIR.
+const STIR: u32 = 0xE000_EF00;
+
+/// The MPU with what decides by it, the exceptions, the status registers, and time.
+#[derive(Drop)]
+pub struct System<D: Decider, L: Levels, U: DueTicks> {
+    mpu: MpuRegs,
+    decider: D,
+    levels: L,
+    status: Status,
+    clock: Clock<U>,
+}
+
+impl<D: Decider, L: Levels, U: DueTicks> Model for System<D, L, U> {
+    ghost use Rattle.clock.specs.Kept.{IsRight};
+    ghost use Rattle.reference.specs.System.{System as SystemState};
+
+    ghost Value = { SystemState };
+
+    ghost view = { λ s. record { mpu = s.mpu; nvic = L.content s.levels; status = s.status; time = s.clock.time } };
+
+    ghost invariant = { λ s. D.stands_for s.decider s.mpu × IsRight s.clock };
+}
+
+impl<D: Decider, L: Levels, U: DueTicks> System<D, L, U> {
+    /// Returns the system after a reset: with flash at `flash_base`, `lines` external lines, of which
+    /// the first 240 count, `priority_bits` bits of a priority, 8 or 16 regions, and a script.
+    pub fn reset(
+        flash_base: u32,
+        lines: u8,
+        priority_bits: u8,
+        regions: u8,
+        script: Vec<ScriptedEvent>,
+    ) -> Self
+        requires { (regions ≡ 8) ⊎ (regions ≡ 16) }
+        ensures { result ≡ reset_system flash_base lines priority_bits regions script.items }
+    {
+        let mpu = MpuRegs::new(regions);
+        let decider = D::fresh(&mpu);
+        System {
+            mpu,
+            decider,
+            levels: L::fresh(lines, priority_bits),
+            status: Status::reset(flash_base),
+            clock: Clock::new(script),
+        }
+    }
+
+    /// Makes the next tick: time goes on, and what the tick pends becomes pending.
+    #[inline]
+    #[tactic(auto, using(crate::proofs::Due::due_is_pended), unfolding(reference::specs::System::after_tick))]
+    pub fn tick(&mut self)
+        requires { self.old.time.ticks < 2 ^ 48 }
+        ensures { self.new ≡ after_tick self.old }
+    {
+        let due = self.clock.tick();
+        pend_due(&mut self.levels, &due);
+    }
+
+    /// Returns the number of ticks that have gone by, at most 2^48.
+    #[inline]
+    pub fn ticks(&self) -> u64
+        ensures value { result ≡ self.now.time.ticks }
+        ensures small { result ≤ 2 ^ 48 }
+    {
+        self.clock.now()
+    }
+
+    /// Returns time.
+    pub fn clock(&self) -> &Clock<U>
+        ensures value { result.now.time ≡ self.now.time }
+        ensures right { IsRight result.now }
+    {
+        &self.clock
+    }
+
+    /// Returns the exceptions.
+    #[inline]
+    pub fn levels(&self) -> &L
+        ensures { L.content result.now ≡ self.now.nvic }
+    {
+        &self.levels
+    }
+
+    /// Returns PRIMASK, FAULTMASK and BASEPRI.
+    pub fn masks(&self) -> Masks
+        ensures { result ≡ self.now.nvic.masks }
+    {
+        self.levels.masks()
+    }
+
+    /// Returns what decides accesses by the registers of the MPU.
+    #[inline]
+    pub fn decider(&self) -> &D
+        ensures { D.stands_for result.now self.now.mpu }
+    {
+        &self.decider
+    }
+
+    /// Returns VTOR, SCR, CCR and the registers of faults.
+    #[inline]
+    pub fn status(&self) -> &Status
+        ensures { result.now ≡ self.now.status }
+    {
+        &self.status
+    }
+
+    /// Returns RBAR (with VALID 0 and REGION `number`) and RASR of a region, if there is one.
+    pub fn region(&self, number: u8) -> Option<(u32, u32)>
+        ensures { result ≡ shown self.now.mpu number }
+    {
+        self.mpu.region(number)
+    }
+
+    /// Reads a special register as MRS does.
+    pub fn read_special(&self, regs: &Regs, register: SpecialRegister) -> u32
+        ensures { result ≡ read_special_of regs.now self.now.nvic.masks register }
+    {
+        special::read_special(regs, self.levels.masks(), register)
+    }
+
+    /// Writes a special register as MSR does, with the privilege of the code that `regs` is of.
+    pub fn write_special(&mut self, regs: &mut Regs, register: SpecialRegister, value: u32)
+        ensures registers { regs.new ≡ write_special_of regs.old register value }
+        ensures system { self.new ≡ with_nvic self.old (write_mask_of (is_privileged regs.old) self.old.nvic register value) }
+    {
+        special::write_mask(&mut self.levels, regs.is_privileged(), register, value);
+        special::write_special(regs, register, value);
+    }
+
+    /// Writes a special register as MSR by privileged code does, whatever code `regs` is of.
+    pub fn place_special(&mut self, regs: &mut Regs, register: SpecialRegister, value: u32)
+        ensures registers { regs.new ≡ with_special regs.old register value }
+        ensures system { self.new ≡ with_nvic self.old (with_mask self.old.nvic register value) }
+    {
+        special::set_mask(&mut self.levels, register, value);
+        special::set_special(regs, register, value);
+    }
+
+    /// Changes the masks as CPS does, by code that is privileged or not.
+    pub fn change_state(&mut self, privileged: bool, operands: &ChangeProcessorState)
+        ensures { self.new ≡ with_nvic self.old (change_state_of privileged self.old.nvic operands.now) }
+    {
+        special::change_state(&mut self.levels, privileged, operands);
+    }
+
+    /// Makes an exception pending.
+    pub fn pend(&mut self, number: u16)
+        ensures { self.new ≡ with_nvic self.old (with_pending self.old.nvic number true) }
+    {
+        self.levels.pend(number);
+    }
+
+    /// Makes an exception no longer pending.
+    pub fn clear(&mut self, number: u16)
+        ensures { self.new ≡ with_nvic self.old (with_pending self.old.nvic number false) }
+    {
+        self.levels.clear(number);
+    }
+
+    /// Makes an exception active.
+    pub fn activate(&mut self, number: u16)
+        ensures { self.new ≡ with_nvic self.old (with_active self.old.nvic number true) }
+    {
+        self.levels.activate(number);
+    }
+
+    /// Makes an exception inactive, and pending again where its line is high: `DeActivate()`.
+    #[tactic(auto, unfolding(reference::specs::System::deactivated))]
+    pub fn deactivate(&mut self, number: u16)
+        ensures { self.new ≡ deactivated self.old number }
+    {
+        let is_held = self.is_held(number);
+        self.levels.deactivate(number);
+        if is_held {
+            self.pend(number);
+        }
+    }
+
+    /// Returns whether an exception is that of a line of the board which is high.
+    fn is_held(&self, number: u16) -> bool
+        ensures { result ≡ is_held_of self.now number }
+    {
+        number >= FIRST_LINE
+            && number - FIRST_LINE < u16::from(self.levels.lines())
+            && self.clock.high((number - FIRST_LINE) as u8)
+    }
+
+    /// Sets FAULTMASK to 0.
+    pub fn clear_faultmask(&mut self)
+        ensures { self.new ≡ with_nvic self.old (with_faultmask self.old.nvic false) }
+    {
+        self.levels.set_faultmask(false);
+    }
+
+    /// Sets bits of CFSR and HFSR, as a fault does.
+    pub fn set_fault_bits(&mut self, cfsr: u32, hfsr: u32)
+        ensures { self.new ≡ record self.old { status = with_fault_bits self.old.status cfsr hfsr } }
+    {
+        self.status.set_fault_bits(cfsr, hfsr);
+    }
+
+    /// Sets MMFAR, as a MemManage fault does.
+    pub fn set_mmfar(&mut self, address: u32)
+        ensures { self.new ≡ record self.old { status = with_mmfar self.old.status address } }
+    {
+        self.status.set_mmfar(address);
+    }
+
+    /// Sets BFAR, as a BusFault does.
+    pub fn set_bfar(&mut self, address: u32)
+        ensures { self.new ≡ record self.old { status = with_bfar self.old.status address } }
+    {
+        self.status.set_bfar(address);
+    }
+
+    /// Carries out a load or a store in the Private Peripheral Bus while IPSR is `exception`, or
+    /// answers why not.
+    #[tactic(auto, unfolding(reference::specs::System::system_access))]
+    pub fn access(&mut self, exception: u16, request: &Request) -> Answer
+        ensures system { self.new ≡ (system_access exception self.old request.now).system }
+        ensures answer { result ≡ (system_access exception self.old request.now).answer }
+        ensures narrow { IsNarrow request.now.access.size result }
+        ensures refused { LeavesUnlessDone result self.old self.new }
+    {
+        if !request.access.kind.is_load() && !request.access.kind.is_store() {
+            return Answer::Error;
+        }
+        let register = register_at(request.access.address & !3);
+        self.access_register(exception, request, register)
+    }
+
+    /// Carries out an access to a register, whose privilege is checked first, then its width.
+    #[tactic(auto, using(crate::proofs::Refused::refused_leaves), unfolding(reference::specs::System::register_access))]
+    fn access_register(
+        &mut self,
+        exception: u16,
+        request: &Request,
+        register: SystemRegister,
+    ) -> Answer
+        ensures system { self.new ≡ (register_access exception self.old request.now register).system }
+        ensures answer { result ≡ (register_access exception self.old request.now register).answer }
+        ensures narrow { IsNarrow request.now.access.size result }
+        ensures refused { LeavesUnlessDone result self.old self.new }
+    {
+        if !self.is_allowed(request) {
+            return Answer::Error;
+        }
+        if !has_width(register, request.access.size) {
+            return Answer::Stop(Stop::OutOfProfile(LeftOut::RegisterWidth));
+        }
+        if !request.access.kind.is_store() {
+            let word = self.read(exception, register);
+            return Answer::Value(part_of(request, word));
+        }
+        match self.write(request, register) {
+            Ok(()) => Answer::Value(0),
+            Err(stop) => Answer::Stop(stop),
+        }
+    }
+
+    /// Returns whether the bus takes an access: one of privileged code, or a word that is stored to
+    /// STIR where CCR.USERSETMPEND is 1.
+    fn is_allowed(&self, request: &Request) -> bool
+        ensures { result ≡ is_allowed_of self.now request.now }
+    {
+        request.access.privileged
+            || (request.access.kind.is_store()
+                && request.access.size.is_word()
+                && request.access.address == STIR
+                && self.status.usersetmpend())
+    }
+
+    /// Reads a register as a word.
+    #[tactic(auto, unfolding(reference::specs::System::word_at, reference::specs::System::after_read))]
+    fn read(&mut self, exception: u16, register: SystemRegister) -> u32
+        ensures value { result ≡ word_at_of exception self.old register }
+        ensures system { self.new ≡ after_read self.old register }
+    {
+        match register {
+            SystemRegister::Ictr => ictr(&self.levels),
+            SystemRegister::SysTick(register) => read_systick(&mut self.clock, register),
+            SystemRegister::Interrupts(register, word) => {
+                read_interrupts(&self.levels, register, word)
+            }
+            SystemRegister::Priorities(first) => read_priorities(&self.levels, first),
+            SystemRegister::Control(register) => read_control(&self.levels, exception, register),
+            SystemRegister::Shcsr => read_shcsr(&self.levels),
+            SystemRegister::Status(register) => self.status.read(register),
+            SystemRegister::Mpu(register) => self.mpu.read_reg(register),
+            SystemRegister::Stir | SystemRegister::Unlisted => 0,
+        }
+    }
+
+    /// Writes a register; a write that stops by name changes nothing.
+    #[tactic(auto, unfolding(reference::specs::System::written))]
+    fn write(&mut self, request: &Request, register: SystemRegister) -> Result<(), Stop>
+        ensures system { self.new ≡ left self.old (written self.old request.now register) }
+        ensures answer { result ≡ answered (written self.old request.now register) }
+    {
+        let value = request.value;
+        match register {
+            SystemRegister::SysTick(register) => write_systick(&mut self.clock, register, value),
+            SystemRegister::Interrupts(register, word) => {
+                write_interrupts(&mut self.levels, register, word, value);
+            }
+            SystemRegister::Priorities(first) => self.write_priorities(request, first),
+            SystemRegister::Control(register) => {
+                return write_control(&mut self.levels, register, value);
+            }
+            SystemRegister::Shcsr => return write_shcsr(&mut self.levels, value),
+            SystemRegister::Status(register) => {
+                return self.status.write(register, in_place(request));
+            }
+            SystemRegister::Mpu(register) => return self.write_mpu(register, value),
+            SystemRegister::Stir => trigger(&mut self.levels, value),
+            SystemRegister::Ictr | SystemRegister::Unlisted => {}
+        }
+        Ok(())
+    }
+
+    /// Writes priority bytes, as many as the access moves.
+    fn write_priorities(&mut self, request: &Request, first: u8)
+        ensures { self.new ≡ with_nvic self.old (write_priorities_of self.old.nvic (first + first_byte_of request.now.access.size request.now.access.address) request.now.value (bytes_in request.now.access.size)) }
+    {
+        let number = u16::from(first) + first_byte(request) as u16;
+        write_priorities(
+            &mut self.levels,
+            number,
+            request.value,
+            request.access.size.bytes(),
+        );
+    }
+
+    /// Writes a register of the MPU, and reloads the decider.
+    fn write_mpu(&mut self, register: MpuRegister, value: u32) -> Result<(), Stop>
+        ensures system { self.new ≡ left self.old (mpu_written self.old (write_mpu_of self.old.mpu register value)) }
+        ensures answer { result ≡ answered (mpu_written self.old (write_mpu_of self.old.mpu register value)) }
+    {
+        match self.mpu.write_reg(register, value) {
+            Ok(()) => {
+                self.decider.reload(&self.mpu);
+                Ok(())
+            }
+            Err(stop) => Err(stop_of(stop)),
+        }
+    }
+}
+
+/// Makes the exceptions of a set pending, at no cost where the set is empty.
+#[inline]
+#[tactic(auto, using(crate::proofs::Due::nothing_is_due))]
+fn pend_due<L: Levels>(levels: &mut L, due: &Due)
+    ensures { L.content levels.new ≡ with_due (L.content levels.old) due.now }
+{
+    if !is_nothing(due) {
+        levels.pend_due(due);
+    }
+}
+
+/// Returns whether a set of exceptions is empty.
+#[inline]
+fn is_nothing(due: &Due) -> bool
+    ensures { result ≡ true → (number : ℕ) → number < 256 → is_due due.now number ≡ false }
+{
+    *due == [0; 8]
+}

@@ -1,0 +1,49 @@
+//! SYST_CSR, SYST_RVR and SYST_CVR.
+
+ghost use Rattle.std.specs.Prelude.{◌≡◌};
+ghost use Rattle.clock.specs.Kept.{IsRight};
+ghost use Rattle.reference.specs.SysTickRegisters.{systick_at as systick_at_of, read_systick as read_systick_of, after_systick_read, write_systick as write_systick_of};
+
+use clock::{Clock, DueTicks};
+use reference::system::SysTickRegister;
+
+/// Returns the register at the address of a word, if it is one of these.
+#[tactic(auto, unfolding(reference::specs::SysTickRegisters::systick_at))]
+pub fn systick_at(word: u32) -> Option<SysTickRegister>
+    ensures { result ≡ systick_at_of word }
+{
+    match word {
+        0xE000_E010 => Some(SysTickRegister::Csr),
+        0xE000_E014 => Some(SysTickRegister::Rvr),
+        0xE000_E018 => Some(SysTickRegister::Cvr),
+        _ => None,
+    }
+}
+
+/// Reads a register; a read of SYST_CSR clears COUNTFLAG.
+#[tactic(auto, unfolding(reference::specs::SysTickRegisters::read_systick, reference::specs::SysTickRegisters::after_systick_read))]
+pub fn read_systick<U: DueTicks>(clock: &mut Clock<U>, register: SysTickRegister) -> u32
+    requires { IsRight clock.old }
+    ensures value { result ≡ read_systick_of clock.old.time.systick register }
+    ensures time { clock.new.time ≡ record clock.old.time { systick = after_systick_read clock.old.time.systick register } }
+    ensures right { IsRight clock.new }
+{
+    match register {
+        SysTickRegister::Csr => clock.read_csr(),
+        SysTickRegister::Rvr => clock.read_rvr(),
+        SysTickRegister::Cvr => clock.read_cvr(),
+    }
+}
+
+/// Writes a register.
+#[tactic(auto, unfolding(reference::specs::SysTickRegisters::write_systick))]
+pub fn write_systick<U: DueTicks>(clock: &mut Clock<U>, register: SysTickRegister, value: u32)
+    ensures time { clock.new.time ≡ record clock.old.time { systick = write_systick_of clock.old.time.systick register value } }
+    ensures right { IsRight clock.new }
+{
+    match register {
+        SysTickRegister::Csr => clock.write_csr(value),
+        SysTickRegister::Rvr => clock.write_rvr(value),
+        SysTickRegister::Cvr => clock.write_cvr(),
+    }
+}

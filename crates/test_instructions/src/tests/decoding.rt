@@ -1,0 +1,143 @@
+//! What halfwords mean: encodings of an assembler (LLVM's, for ARMv7-M), and those that are none.
+
+ghost use Rattle.std.specs.Prelude.{◌<◌};
+
+use assembled::{COPROCESSORS, LONG_CONTROL, LONG_DATA, LONG_OTHERS, SHORT, UNDEFINED};
+use decode::{CodeLines, Decoded, Reread, decode, length};
+use std::test::*;
+use stops::STOPS;
+use test_tables::{Rows, byte_at, check, halfword_at, numbers, part};
+use told::told_operands;
+
+mod assembled;
+mod stops;
+mod told;
+
+/// The two halfwords that stand in a line from that place on.
+fn halfwords_at(line: &str, place: usize) -> Option<(u16, u16)>
+    requires { place < 8 }
+{
+    Some((halfword_at(line, place)?, halfword_at(line, place + 1)?))
+}
+
+/// What the two halfwords mean that stand in a line from that place on, in a word.
+fn meaning_at(line: &str, place: usize) -> Option<&'static str>
+    requires { place < 8 }
+{
+    let (hw1, hw2) = halfwords_at(line, place)?;
+    match decode(hw1, hw2) {
+        Decoded::Instr(_) => Some("instruction"),
+        Decoded::Unpredictable(_, _) => Some("stop"),
+        Decoded::Undefined => Some("undefined"),
+        Decoded::NoCoprocessor => Some("coprocessor"),
+    }
+}
+
+/// Encodings of instructions, and what they say.
+#[derive(Drop)]
+struct Coded;
+
+impl Rows for Coded {
+    fn holds(&mut self, line: &str) -> Option<bool> {
+        let (hw1, hw2) = halfwords_at(line, 0)?;
+        let Decoded::Instr(coded) = decode(hw1, hw2) else {
+            return None;
+        };
+        let [_, _, variant, length, place, a, b, c, d, e, f, g] = numbers::<12>(line)?;
+        Some(
+            length == u32::from(coded.length)
+                && place == coded.place as u32
+                && told_operands(&coded.instruction) == Some([variant, a, b, c, d, e, f, g]),
+        )
+    }
+}
+
+#[test]
+fn instructions() -> Result<(), Fail> {
+    for table in [SHORT, LONG_DATA, LONG_CONTROL, LONG_OTHERS] {
+        check(table, &mut Coded)?;
+    }
+    Ok(())
+}
+
+/// Encodings that stop for their cause, at their place in an IT block, and neighbours that don't.
+#[derive(Drop)]
+struct Stopped;
+
+impl Rows for Stopped {
+    fn holds(&mut self, line: &str) -> Option<bool> {
+        let (hw1, hw2) = halfwords_at(line, 0)?;
+        let Decoded::Unpredictable(place, cause) = decode(hw1, hw2) else {
+            return None;
+        };
+        Some(
+            byte_at(line, 2) == Some(place as u8)
+                && byte_at(line, 3) == Some(cause as u8)
+                && meaning_at(line, 4)? == "instruction",
+        )
+    }
+}
+
+#[test]
+fn named_stops() -> Result<(), Fail> {
+    check(STOPS, &mut Stopped)
+}
+
+/// Encodings with one meaning.
+#[derive(Drop)]
+struct Meant {
+    meaning: &'static str,
+}
+
+impl Rows for Meant {
+    fn holds(&mut self, line: &str) -> Option<bool> {
+        Some(meaning_at(line, 0)? == self.meaning)
+    }
+}
+
+#[test]
+fn what_is_undefined() -> Result<(), Fail> {
+    let meaning = "undefined";
+    check(UNDEFINED, &mut Meant { meaning })
+}
+
+#[test]
+fn what_is_a_coprocessors() -> Result<(), Fail> {
+    let meaning = "coprocessor";
+    check(COPROCESSORS, &mut Meant { meaning })
+}
+
+/// First halfwords, and the lengths of their instructions.
+#[derive(Drop)]
+struct FirstHalfwords;
+
+impl Rows for FirstHalfwords {
+    fn holds(&mut self, row: &str) -> Option<bool> {
+        let hw1 = halfword_at(part(row, 0), 0)?;
+        Some(byte_at(part(row, 1), 0) == Some(length(hw1)))
+    }
+}
+
+/// The first halfword; how many bytes its instruction has; what the row is.
+const LENGTHS: &str = "\
+0000 | 2 | the least
+E000 | 2 | 11100
+E7FE | 2 | the last but one of 16 bits
+E7FF | 2 | the last of 16 bits
+E800 | 4 | 11101
+F000 | 4 | 11110
+F800 | 4 | 11111
+FFFF | 4 | the greatest";
+
+#[test]
+fn lengths() -> Result<(), Fail> {
+    check(LENGTHS, &mut FirstHalfwords)
+}
+
+#[test]
+fn lines_are_read_again(rt: HostRuntime) {
+    let mut lines = Reread;
+    lines.wrote(0x100, 4);
+    let decoded = lines.fetch(0x100, 0xDE00, 0);
+    assert!(rt; matches!(decoded, Decoded::Undefined), "UDF");
+}

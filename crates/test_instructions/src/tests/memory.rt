@@ -1,0 +1,114 @@
+//! A memory of a few bytes, and what it answers.
+
+use arrayvec::ArrayVec;
+use reference::access::{Request, Size};
+
+/// A byte at an address.
+#[derive(Clone, Copy)]
+struct Cell {
+    address: u32,
+    byte: u8,
+}
+
+impl Default for Cell {
+    fn default() -> Self {
+        Cell {
+            address: 0,
+            byte: 0,
+        }
+    }
+}
+
+/// The bytes that were put there, the latest last. All others are 0.
+#[derive(Drop)]
+pub(super) struct Memory {
+    cells: ArrayVec<Cell, 256>,
+}
+
+impl Memory {
+    pub(super) fn new() -> Self {
+        Memory {
+            cells: ArrayVec::new(),
+        }
+    }
+
+    /// A byte is put there.
+    pub(super) fn put(&mut self, address: u32, byte: u8) {
+        let _ = self.cells.try_push(Cell { address, byte });
+    }
+
+    /// The lower halfword of a word is put there.
+    pub(super) fn put_halfword(&mut self, address: u32, word: u32) {
+        let [first, second, _, _] = word.to_le_bytes();
+        self.put(address, first);
+        self.put(address.wrapping_add(1), second);
+    }
+
+    /// A word is put there.
+    pub(super) fn put_word(&mut self, address: u32, word: u32) {
+        self.put_halfword(address, word);
+        self.put_halfword(address.wrapping_add(2), word >> 16);
+    }
+
+    /// The byte at an address.
+    pub(super) fn byte(&self, address: u32) -> u8 {
+        let mut byte = 0;
+        'cells: for cell in self.cells.as_slice() {
+            if cell.address == address {
+                byte = cell.byte;
+            }
+        }
+        byte
+    }
+
+    /// The halfword at an address.
+    pub(super) fn halfword(&self, address: u32) -> u16 {
+        u16::from_le_bytes([self.byte(address), self.byte(address.wrapping_add(1))])
+    }
+
+    /// Whether two memories hold the same bytes, stray ones too.
+    pub(super) fn is_same(&self, other: &Memory) -> bool {
+        self.holds(other) && other.holds(self)
+    }
+
+    /// Whether each byte that was put into another memory is here too.
+    fn holds(&self, other: &Memory) -> bool {
+        'cells: for cell in other.cells.as_slice() {
+            if self.byte(cell.address) != other.byte(cell.address) {
+                return false;
+            }
+        }
+        true
+    }
+
+    /// A value of that size is stored.
+    fn store(&mut self, address: u32, value: u32, size: Size) {
+        match size {
+            Size::Byte => self.put(address, value.to_le_bytes()[0]),
+            Size::Halfword => self.put_halfword(address, value),
+            Size::Word => self.put_word(address, value),
+        }
+    }
+
+    /// A value of that size is loaded.
+    fn load(&self, address: u32, size: Size) -> u32 {
+        match size {
+            Size::Byte => u32::from(self.byte(address)),
+            Size::Halfword => u32::from(self.halfword(address)),
+            Size::Word => {
+                let lower = u32::from(self.halfword(address));
+                lower | u32::from(self.halfword(address.wrapping_add(2))) << 16
+            }
+        }
+    }
+
+    /// An access is carried out; a load gives its value, a store 0.
+    pub(super) fn carry_out(&mut self, request: &Request) -> u32 {
+        if request.access.kind.is_store() {
+            self.store(request.access.address, request.value, request.access.size);
+            0
+        } else {
+            self.load(request.access.address, request.access.size)
+        }
+    }
+}

@@ -1,0 +1,15 @@
+mod accesses;
+mod boards;
+mod images;
+mod intervals;
+mod levels;
+mod lines;
+mod memory;
+mod priorities;
+mod region_registers;
+mod regions;
+mod settings;
+mod special_registers;
+mod system_registers;
+mod ticks;
+mod words;

@@ -1,0 +1,59 @@
+//! Accesses to one bus, one after another (ARM DDI 0403, MemA[] and MemU[]).
+
+use super::memory::blank;
+use super::words::{request, rule_word};
+use access::{Bus, Cause, Counting, Performed, PlainLevels, Search, System};
+use std::test::*;
+use test_tables::{Rows, check, part, word};
+
+/// What an access was told to be: the rule's word, and its outcome.
+fn told(performed: Performed) -> (&'static str, &'static str) {
+    match performed {
+        Performed::Done(rule, _) => (rule_word(rule), "ok"),
+        Performed::Denied(rule, Cause::Mpu) => (rule_word(rule), "mpu"),
+        Performed::Denied(rule, Cause::Bus) => (rule_word(rule), "bus"),
+        Performed::Stop(_) => ("-", "stop"),
+    }
+}
+
+/// The bus that the accesses of rows go to.
+#[derive(Drop)]
+struct Accesses {
+    bus: Bus<Search, PlainLevels, Counting>,
+}
+
+impl Rows for Accesses {
+    /// Whether the next access is told to be what its row says.
+    fn holds(&mut self, row: &str) -> Option<bool> {
+        let (rule, outcome) = told(self.bus.perform(0, &request(part(row, 0))?));
+        let wanted = part(row, 1);
+        Some(rule == word(wanted, 0) && outcome == word(wanted, 1))
+    }
+}
+
+/// The access; the rule that decides it, and its outcome; what the row is.
+const ACCESSES: &str = "\
+L word 20000000 00000000 u | off ok | RAM, with the MPU off
+S word 00000000 00000001 p | off bus | flash takes no store
+S word E000ED9C 20000013 p | ppb ok | the base of region 3
+S word E000EDA0 06000013 p | ppb ok | 1 KiB, read alone
+S word E000ED94 00000005 p | ppb ok | the MPU is on
+L word 20000000 00000000 u | r3 ok | the region decides the next access
+S word 20000000 00000001 p | r3 mpu | and refuses a store
+S word E000EDA4 20000413 p | ppb ok | an alias moves the region
+L word 20000000 00000000 u | none mpu | where it was stands nothing
+L word 20000000 00000000 p | bg ok | but for privileged code
+L word E000ED94 00000000 u | ppb bus | unprivileged code reaches no register
+L word E000ED00 00000000 p | ppb ok | privileged code reads CPUID
+S word E000ED98 00000008 p | - stop | a region number that isn't there";
+
+#[test]
+fn each_access_is_decided_in_the_state_before_it(rt: HostRuntime) -> Result<(), Fail> {
+    let space = blank(rt.alloc()).ok_or("memory")?;
+    let bus = Bus::new(space, System::reset(0, 8, 4, 8, Vec::new(rt.alloc())));
+    let mut accesses = Accesses { bus };
+    check(ACCESSES, &mut accesses)?;
+    assert!(rt; accesses.bus.system.region(3) == Some((0x2000_0403, 0x0600_0013)));
+    assert!(rt; accesses.bus.space().byte(0x2000_0000) == Some(0));
+    Ok(())
+}

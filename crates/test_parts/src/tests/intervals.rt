@@ -1,0 +1,106 @@
+//! The table of intervals beside the search, and time kept ahead beside time that is counted.
+
+use super::settings::{registers_of, write_pairs};
+use super::words::rule_word;
+use access_table::Table;
+use clock::{Ahead, Clock, Due};
+use mpu::{Decider, Decision, Kind, MpuRegs, Search};
+use std::test::*;
+use test_tables::{Rows, check, number_at, part};
+
+/// No exception.
+const NOTHING: Due = [0; 8];
+
+/// The kinds of accesses.
+const KINDS: [Kind; 6] = [
+    Kind::Fetch,
+    Kind::Load,
+    Kind::Store,
+    Kind::Push,
+    Kind::Pop,
+    Kind::Vector,
+];
+
+/// Whether two decisions are the same.
+fn is_same(one: Decision, other: Decision) -> bool {
+    rule_word(one.rule) == rule_word(other.rule) && one.granted == other.granted
+}
+
+/// Whether the table and the search decide each kind of access to an address alike.
+fn agree_at(table: &Table, search: &Search, address: u32) -> bool {
+    let mut agrees = true;
+    for kind in KINDS.iter() {
+        for privileged in [false, true].iter() {
+            let decided = table.decide(address, *kind, *privileged, false);
+            agrees &= is_same(decided, search.decide(address, *kind, *privileged, false));
+        }
+    }
+    agrees
+}
+
+/// Whether they do at both ends of each interval, which `find` gives in at most 8 looks.
+fn agree(registers: &MpuRegs, table: &Table) -> bool {
+    let search = Search::fresh(registers);
+    let mut agrees = true;
+    for (place, interval) in table.intervals().iter().enumerate() {
+        let (found, looks) = table.find(interval.last);
+        agrees &= found == place
+            && looks <= 8
+            && agree_at(table, &search, interval.first)
+            && agree_at(table, &search, interval.last);
+    }
+    agrees
+}
+
+/// Registers, and writes to them, after each of which the table is made anew.
+#[derive(Drop)]
+struct Agreements;
+
+impl Rows for Agreements {
+    fn holds(&mut self, row: &str) -> Option<bool> {
+        let mut registers = registers_of(part(row, 0))?;
+        let mut table = Table::fresh(&registers);
+        let mut agrees = agree(&registers, &table);
+        for write in part(row, 1).split_whitespace() {
+            write_pairs(&mut registers, write)?;
+            table.reload(&registers);
+            agrees &= agree(&registers, &table);
+        }
+        let count = number_at(part(row, 2), 0)?;
+        Some(agrees && table.intervals().len() == count as usize)
+    }
+}
+
+/// How many regions there are, MPU_CTRL, and RBAR and RASR of each; the writes of addresses and
+/// values; how many intervals there are after them; what the row is.
+const AGREEMENTS: &str = "\
+8 0 | | 1 | after a reset
+8 5 00000017:0300003F | | 1 | 4 GiB from 0
+8 5 20000010:03000013 | | 3 | 1 KiB in the middle
+8 5 FFFFFC10:03000013 | | 2 | 1 KiB at the end
+8 5 20000010:03000013 | E000EDA0:03000012 | 1 | a region is disabled
+8 5 | E000ED9C:00000011 E000EDA0:16000017 E000EDA4:20000010 E000EDA8:03000013 | 4 | by the aliases
+8 5 20000110:0300AA0F | | 9 | each second eighth is switched off
+8 5 00000010:0300003F 20000011:0500A50F 20000012:16000009 200000F3:13000009 | | 9 | 4 GiB, 256 bytes with eighths off, 32 bytes twice
+10 1 20000012:03000013 20000019:01000013 | | 3 | region 9 above region 2";
+
+#[test]
+fn the_table_decides_as_the_search() -> Result<(), Fail> {
+    check(AGREEMENTS, &mut Agreements)
+}
+
+#[test]
+fn nothing_is_due_before_the_tick_that_is_kept(rt: HostRuntime) -> Result<(), Fail> {
+    let mut clock = Clock::<Ahead>::new(Vec::new(rt.alloc()));
+    clock.write_rvr(2);
+    clock.write_csr(3);
+    assert!(rt; *clock.due() == 3);
+    let mut clock = clock.with_due(5);
+    for _ in 0..3 {
+        if clock.now() < 3 {
+            assert!(rt; clock.tick() == NOTHING);
+        }
+    }
+    assert!(rt; clock.read_cvr() == 0);
+    Ok(())
+}

@@ -1,0 +1,147 @@
+//! Flash, RAM and the device window.
+
+use super::words::{is_number, request};
+use reference::board::SMALL_BOARD;
+use space::{Answer, Space, is_out};
+use std::alloc::Global;
+use std::test::*;
+use test_tables::{Rows, byte_at, check, is_first, number_at, part, word};
+
+/// The memory of the small board before anything is loaded.
+pub(super) fn blank(alloc: Global) -> Option<Space> {
+    Space::blank(alloc, &SMALL_BOARD).ok()
+}
+
+/// What an access is answered, if it is answered by a value.
+fn value(answer: Answer) -> Option<u32> {
+    if let Answer::Value(value) = answer {
+        Some(value)
+    } else {
+        None
+    }
+}
+
+/// The memory that the accesses of rows go to.
+#[derive(Drop)]
+struct Accesses {
+    space: Space,
+}
+
+impl Rows for Accesses {
+    /// Whether the next access is answered as its row says.
+    fn holds(&mut self, row: &str) -> Option<bool> {
+        let answer = self.space.access(&request(part(row, 0))?, 0x1_0000_0005);
+        Some(is_number(value(answer), part(row, 1)))
+    }
+}
+
+/// The access; what it is answered after 0x1_0000_0005 ticks, or none where it isn't; what the row is.
+const ACCESSES: &str = "\
+F halfword 00000000 00000000 p | 0000FFFF | erased flash
+L word 00000FFC 00000000 p | FFFFFFFF | the last word of flash
+L word 00001000 00000000 p | none | behind flash
+S word 00000000 00000001 p | none | a store to flash
+S word 20000000 11223344 p | 00000000 | a store to RAM
+L byte 20000000 00000000 p | 00000044 | the lowest byte stands first
+L halfword 20000002 00000000 p | 00001122 | the upper halfword
+push word 20001FFC 00000007 p | 00000000 | a push to RAM
+pop word 20001FFC 00000000 p | 00000007 | a pop from RAM
+L byte 20002000 00000000 p | none | behind RAM
+S word 40000000 00000007 p | 00000000 | a word to OUT
+S byte 40000000 00000007 p | none | a byte to OUT
+L word 40000004 00000000 p | 00000005 | a word from TICK
+F halfword 40000004 00000000 p | none | a fetch from TICK";
+
+#[test]
+fn accesses_one_after_another(rt: HostRuntime) -> Result<(), Fail> {
+    let space = blank(rt.alloc()).ok_or("memory")?;
+    check(ACCESSES, &mut Accesses { space })
+}
+
+/// The memory in which the bytes of rows lie or don't.
+#[derive(Drop)]
+struct Places {
+    space: Space,
+}
+
+impl Rows for Places {
+    fn holds(&mut self, row: &str) -> Option<bool> {
+        let place = part(row, 0);
+        let address = number_at(place, 1)?;
+        let length = usize::from(byte_at(place, 2)?);
+        let is_there = if is_first(word(place, 0), "flash", "ram")? {
+            self.space.is_in_flash(address, length)
+        } else {
+            self.space.is_in_ram(address, length)
+        };
+        Some(is_first(part(row, 1), "in", "out") == Some(is_there))
+    }
+}
+
+/// Flash or RAM, an address and how many bytes; whether they lie in it; what the row is.
+const PLACES: &str = "\
+flash 00000FFE 2 | in | the last halfword of flash
+flash 00000FFF 2 | out | half behind flash
+ram 20001FFE 2 | in | the last halfword of RAM
+ram 20001FFF 2 | out | half behind RAM";
+
+#[test]
+fn places_in_flash_and_ram(rt: HostRuntime) -> Result<(), Fail> {
+    let space = blank(rt.alloc()).ok_or("memory")?;
+    check(PLACES, &mut Places { space })
+}
+
+/// The memory into which a debugger put bytes.
+#[derive(Drop)]
+struct Bytes {
+    space: Space,
+}
+
+impl Rows for Bytes {
+    fn holds(&mut self, row: &str) -> Option<bool> {
+        let place = number_at(part(row, 0), 1)?;
+        let wanted = part(row, 1);
+        if is_first(word(part(row, 0), 0), "byte", "vector")? {
+            let byte = self.space.byte(place);
+            return Some(byte == byte_at(wanted, 0) && byte.is_none() == (wanted == "none"));
+        }
+        Some(place < 256 && number_at(wanted, 0) == Some(self.space.vector(place)))
+    }
+}
+
+/// The number of a vector, or the address of a byte; its word, or the byte if there is one, once a
+/// debugger has put the bytes 1, 2, 3 and 4 from address 4 on; what the row is.
+const BYTES: &str = "\
+vector 1 | 04030201 | the bytes that were put there
+vector 0 | FFFFFFFF | erased flash before them
+byte 00000005 | 02 | the second of them
+byte 00001000 | none | behind flash";
+
+#[test]
+fn bytes_that_a_debugger_puts(rt: HostRuntime) -> Result<(), Fail> {
+    let mut space = blank(rt.alloc()).ok_or("memory")?;
+    assert!(rt; space.is_in_flash(4, 4));
+    space.overwrite(4, &[1, 2, 3, 4]);
+    check(BYTES, &mut Bytes { space })
+}
+
+/// The accesses that go to the console, and others.
+#[derive(Drop)]
+struct Out;
+
+impl Rows for Out {
+    fn holds(&mut self, row: &str) -> Option<bool> {
+        let is_out = is_out(&request(part(row, 0))?);
+        Some(is_first(part(row, 1), "out", "not") == Some(is_out))
+    }
+}
+
+/// An access of privileged code to OUT; whether it sends a byte to the console; what the row is.
+const OUT: &str = "\
+S word 40000000 00000000 p | out | a store
+L word 40000000 00000000 p | not | a load";
+
+#[test]
+fn bytes_for_the_console() -> Result<(), Fail> {
+    check(OUT, &mut Out)
+}

@@ -1,0 +1,412 @@
+//! The system registers (ARM DDI 0403, "System Control Space"), on a board with 8 lines, 4 priority
+//! bits, 8 regions and flash at 00000400.
+
+use super::words::request;
+use clock::Counting;
+use mpu::Search;
+use nvic::PlainLevels;
+use reference::access::{Access, Answer, Kind, Request, Size};
+use reference::script::{InterruptLine, ScriptedEvent, Signal};
+use reference::stop::{LeftOut, Stop, UnpredictableCase};
+use scs::{System, laws};
+use std::test::*;
+use test_tables::{Rows, check, halfword_at, number, number_at, part, word};
+
+type PlainSystem = System<Search, PlainLevels, Counting>;
+
+/// The system after a reset, with a script.
+fn reset(script: Vec<ScriptedEvent>) -> PlainSystem {
+    System::reset(0x0000_0400, 8, 4, 8, script)
+}
+
+/// An access of a size by privileged or unprivileged code.
+fn access_of(kind: Kind, size: Size, address: u32, value: u32, privileged: bool) -> Request {
+    Request {
+        access: Access {
+            address,
+            kind,
+            size,
+            privileged,
+        },
+        value,
+    }
+}
+
+/// The word of a stop, or `stop` for one that no register makes.
+fn stop_word(stop: Stop) -> &'static str {
+    match stop {
+        Stop::Unpredictable(UnpredictableCase::MpuRegion) => "mpu-region",
+        Stop::Unpredictable(UnpredictableCase::MpuControl) => "mpu-ctrl",
+        Stop::Unpredictable(UnpredictableCase::Icsr) => "icsr",
+        Stop::OutOfProfile(LeftOut::RegisterWidth) => "register-width",
+        Stop::OutOfProfile(LeftOut::ActiveBit) => "active-bit",
+        Stop::OutOfProfile(LeftOut::IgnoredBusFaults) => "bfhfnmign",
+        Stop::OutOfProfile(LeftOut::SleepOnExit) => "sleeponexit",
+        Stop::OutOfProfile(LeftOut::ResetControl) => "aircr",
+        Stop::ResetRequested => "reset",
+        _ => "stop",
+    }
+}
+
+/// Whether an answer is what a word says: a value, `bus`, or the name of a stop.
+fn is_answer(answer: Answer, wanted: &str) -> bool {
+    match answer {
+        Answer::Value(value) => number(wanted) == Some(value),
+        Answer::Error => wanted == "bus",
+        Answer::Stop(stop) => wanted == stop_word(stop),
+    }
+}
+
+/// The value that a privileged load of a word reads.
+fn loaded(system: &mut PlainSystem, address: u32) -> Option<u32> {
+    match system.access(0, &access_of(Kind::Load, Size::Word, address, 0, true)) {
+        Answer::Value(value) => Some(value),
+        _ => None,
+    }
+}
+
+/// What a load and a store of ones are answered.
+fn both(system: &mut PlainSystem, size: Size, address: u32, privileged: bool) -> (Answer, Answer) {
+    let load = access_of(Kind::Load, size, address, 0, privileged);
+    let store = access_of(Kind::Store, size, address, 0xFFFF_FFFF, privileged);
+    (system.access(0, &load), system.access(0, &store))
+}
+
+/// Whether a load and a store by unprivileged code are bus errors, whatever their size.
+fn are_refused(system: &mut PlainSystem, address: u32) -> bool {
+    let mut refused = true;
+    'sizes: for size in [Size::Byte, Size::Halfword, Size::Word] {
+        let (load, store) = both(system, size, address, false);
+        refused = refused && is_answer(load, "bus") && is_answer(store, "bus");
+    }
+    refused
+}
+
+/// Whether privileged loads and stores of bytes and halfwords stop, or all are done.
+fn have_width(system: &mut PlainSystem, address: u32, widths: &str) -> bool {
+    let mut wanted = true;
+    'sizes: for size in [Size::Byte, Size::Halfword] {
+        let (load, store) = both(system, size, address, true);
+        let stopped = is_answer(load, "register-width") && is_answer(store, "register-width");
+        let done = matches!((load, store), (Answer::Value(_), Answer::Value(_)));
+        wanted = wanted && if widths == "word" { stopped } else { done };
+    }
+    wanted
+}
+
+/// Each register: its reset value, its widths, and what a store of ones makes of it.
+#[derive(Drop)]
+struct Registers {
+    system: PlainSystem,
+}
+
+impl Rows for Registers {
+    fn holds(&mut self, row: &str) -> Option<bool> {
+        let system = &mut self.system;
+        let address = number_at(part(row, 0), 0)?;
+        let reset = loaded(system, address)? == number_at(part(row, 0), 1)?;
+        let refused = are_refused(system, address);
+        let kept = loaded(system, address)? == number_at(part(row, 0), 1)?;
+        let width = word(part(row, 1), 0) == "any" || have_width(system, address, "word");
+        let store = access_of(Kind::Store, Size::Word, address, 0xFFFF_FFFF, true);
+        let stored = is_answer(system.access(0, &store), word(part(row, 2), 0));
+        let ones = loaded(system, address)? == number_at(part(row, 2), 1)?;
+        let parts = word(part(row, 1), 0) == "word" || have_width(system, address, "any");
+        Some(reset && refused && kept && width && stored && ones && parts)
+    }
+}
+
+/// The address and the value after a reset; whether it takes words alone or any width; what a store
+/// of ones is answered, and the value then; the register. The rows come one after another on one
+/// system, so each also shows that the stores before it left this register.
+const REGISTERS: &str = "\
+E000E004 00000000 | word | 0 00000000 | ICTR
+E000E014 00000000 | word | 0 00FFFFFF | SYST_RVR
+E000E018 00000000 | word | 0 00000000 | SYST_CVR
+E000E010 00000004 | word | 0 00000007 | SYST_CSR
+E000E01C 00000000 | any | 0 00000000 | SYST_CALIB isn't listed
+E000E100 00000000 | word | 0 000000FF | ISER0
+E000E104 00000000 | word | 0 00000000 | ISER1
+E000E11C 00000000 | word | 0 00000000 | ISER7
+E000E120 00000000 | any | 0 00000000 | beyond ISER
+E000E180 000000FF | word | 0 00000000 | ICER0 reads what ISER0 enabled
+E000E19C 00000000 | word | 0 00000000 | ICER7
+E000E200 00000000 | word | 0 000000FF | ISPR0
+E000E21C 00000000 | word | 0 00000000 | ISPR7
+E000E280 000000FF | word | 0 00000000 | ICPR0 reads what ISPR0 made pending
+E000E29C 00000000 | word | 0 00000000 | ICPR7
+E000E300 00000000 | word | 0 00000000 | IABR0
+E000E31C 00000000 | word | 0 00000000 | IABR7
+E000E400 00000000 | any | 0 F0F0F0F0 | IPR0
+E000E404 00000000 | any | 0 F0F0F0F0 | IPR1
+E000E408 00000000 | any | 0 00000000 | IPR2, of lines that the board hasn't
+E000E4EC 00000000 | any | 0 00000000 | IPR59
+E000E4F0 00000000 | any | 0 00000000 | beyond IPR
+E000ED00 000F0000 | word | 0 000F0000 | CPUID
+E000ED04 00000000 | word | icsr 00000000 | ICSR
+E000ED08 00000400 | word | 0 FFFFFF80 | VTOR
+E000ED0C FA050000 | word | 0 FA050000 | AIRCR, without the key
+E000ED10 00000000 | word | sleeponexit 00000000 | SCR
+E000ED14 00000200 | word | bfhfnmign 00000200 | CCR
+E000ED18 00000000 | any | 0 00F0F0F0 | SHPR1
+E000ED1C 00000000 | any | 0 F0000000 | SHPR2
+E000ED20 00000000 | any | 0 F0F00000 | SHPR3
+E000ED24 00000000 | word | active-bit 00000000 | SHCSR
+E000ED28 00000000 | any | 0 00000000 | CFSR
+E000ED2C 00000000 | word | 0 00000000 | HFSR
+E000ED30 00000000 | any | 0 00000000 | DFSR isn't listed
+E000ED34 00000000 | word | 0 FFFFFFFF | MMFAR
+E000ED38 00000000 | word | 0 FFFFFFFF | BFAR
+E000ED3C 00000000 | any | 0 00000000 | AFSR isn't listed
+E000ED90 00000800 | word | 0 00000800 | MPU_TYPE
+E000ED94 00000000 | word | 0 00000007 | MPU_CTRL
+E000ED98 00000000 | word | mpu-region 00000000 | MPU_RNR
+E000ED9C 00000000 | word | mpu-region 00000000 | MPU_RBAR
+E000EDA0 00000000 | word | 0 173FFF3F | MPU_RASR
+E000EDA4 00000000 | word | mpu-region 00000000 | MPU_RBAR_A1
+E000EDB8 173FFF3F | word | 0 173FFF3F | MPU_RASR_A3 is MPU_RASR
+E000EDBC 00000000 | any | 0 00000000 | beyond the MPU
+E000EF00 00000000 | word | 0 00000000 | STIR
+E0042000 00000000 | any | 0 00000000 | a word far from all registers";
+
+#[test]
+fn each_register(rt: HostRuntime) -> Result<(), Fail> {
+    let system = reset(Vec::new(rt.alloc()));
+    check(REGISTERS, &mut Registers { system })
+}
+
+/// Accesses one after another, or ticks, or a change that a handler makes.
+#[derive(Drop)]
+struct Steps {
+    system: PlainSystem,
+}
+
+impl Steps {
+    /// Goes on by some ticks.
+    fn go_on(&mut self, ticks: u32) -> Option<bool> {
+        'ticks: for _ in 0..ticks {
+            if self.system.ticks() == 1 << 48 {
+                return None;
+            }
+            self.system.tick();
+        }
+        Some(true)
+    }
+
+    /// Whether an access while IPSR is a number is answered so.
+    fn is_answered(&mut self, asked: &str, wanted: &str) -> Option<bool> {
+        let exception = halfword_at(asked, 5).unwrap_or(0);
+        let answer = self.system.access(exception, &request(asked)?);
+        Some(is_answer(answer, wanted))
+    }
+}
+
+impl Rows for Steps {
+    fn holds(&mut self, row: &str) -> Option<bool> {
+        let asked = part(row, 0);
+        match word(asked, 0) {
+            "tick" => return self.go_on(number_at(asked, 1)?),
+            "activate" => self.system.activate(halfword_at(asked, 1)?),
+            "deactivate" => self.system.deactivate(halfword_at(asked, 1)?),
+            "pend" => self.system.pend(halfword_at(asked, 1)?),
+            "clear" => self.system.clear(halfword_at(asked, 1)?),
+            "fault" => {
+                let (cfsr, hfsr) = (number_at(asked, 1)?, number_at(asked, 2)?);
+                self.system.set_fault_bits(cfsr, hfsr);
+            }
+            "mmfar" => self.system.set_mmfar(number_at(asked, 1)?),
+            "bfar" => self.system.set_bfar(number_at(asked, 1)?),
+            _ => return self.is_answered(asked, part(row, 1)),
+        }
+        Some(true)
+    }
+}
+
+/// The access (with IPSR at its end, where that isn't 0), or what happens; what is answered; what the
+/// row is.
+const EXCEPTIONS: &str = "\
+S word E000ED04 10000000 p | 0 | PENDSVSET
+L word E000ED04 00000000 p | 1000E000 | PendSV is pending, and the best
+L word E000ED04 00000000 p 10 | 1000E810 | VECTACTIVE 16, and RETTOBASE
+S word E000ED04 18000000 p | icsr | PENDSVSET with PENDSVCLR
+S word E000ED04 86000000 p | icsr | PENDSTSET with PENDSTCLR
+L word E000ED04 00000000 p | 1000E000 | neither changed anything, nor did NMIPENDSET with it
+S word E000ED04 04000000 p | 0 | PENDSTSET
+L word E000ED04 00000000 p | 1400E000 | of equal priorities the lower number comes first
+S word E000ED20 00800000 p | 0 | PendSV has priority 80
+L word E000ED04 00000000 p | 1400F000 | SysTick is the best
+S word E000ED04 0A000000 p | 0 | PENDSVCLR and PENDSTCLR
+L word E000ED04 00000000 p | 00000000 | nothing is pending
+S word E000E200 00000002 p | 0 | line 1 is made pending
+L word E000ED04 00000000 p | 00400000 | ISRPENDING counts it, though it's disabled
+S word E000E100 00000003 p | 0 | lines 0 and 1 are enabled
+L word E000ED04 00000000 p | 00411000 | exception 17 is the best
+S word E000E280 00000002 p | 0 | line 1 is cleared
+S word EF000000 00000000 p | 0 | an address that isn't a register's
+S word E000EF00 00000003 p | 0 | STIR: line 3
+S word E000EF00 00000008 p | 0 | STIR: a line that the board hasn't
+S word E000EF00 FFFFFE04 p | 0 | STIR takes bits 8:0: line 4
+L word E000E200 00000000 p | 00000018 | lines 3 and 4
+S byte E000EF00 00000003 p | register-width | STIR takes words
+S word E000EF00 00000005 u | bus | unprivileged code
+S word E000ED14 00000002 p | 0 | USERSETMPEND
+S word E000EF00 00000005 u | 0 | unprivileged code may write STIR
+S byte E000EF00 00000005 u | bus | but not a byte
+L word E000EF00 00000000 u | bus | and not read
+L word E000E200 00000000 p | 00000038 | line 5 too
+L word E000ED14 00000000 p | 00000202 | CCR, with STKALIGN
+S word E000ED14 00000119 p | bfhfnmign | BFHFNMIGN
+S word E000ED14 00000019 p | 0 | NONBASETHRDENA, UNALIGN_TRP and DIV_0_TRP
+L word E000ED14 00000000 p | 00000219 | they are kept
+S word E000ED10 00000014 p | 0 | SLEEPDEEP and SEVONPEND
+S word E000ED10 00000002 p | sleeponexit | SLEEPONEXIT
+L word E000ED10 00000000 p | 00000014 | they are kept
+S word E000ED0C 05FA0500 p | 0 | PRIGROUP 5
+L word E000ED0C 00000000 p | FA050500 | it is kept
+S word E000ED0C 05FA0301 p | aircr | VECTRESET
+S word E000ED0C 05FA0302 p | aircr | VECTCLRACTIVE
+S word E000ED0C 05FA0306 p | aircr | before SYSRESETREQ
+S word E000ED0C 05FA0304 p | reset | SYSRESETREQ
+S word E000ED0C FA050304 p | 0 | another key
+L word E000ED0C 00000000 p | FA050500 | PRIGROUP is as it was
+push word E000ED00 00000000 p | bus | a push
+pop word E000ED00 00000000 p | bus | a pop
+V word E000ED00 00000000 p | bus | a vector read
+L byte E000ED0C 00000000 p | register-width | AIRCR takes words
+L byte E000ED0C 00000000 u | bus | privilege is asked first";
+
+#[test]
+fn exceptions_are_controlled(rt: HostRuntime) -> Result<(), Fail> {
+    let system = reset(Vec::new(rt.alloc()));
+    check(EXCEPTIONS, &mut Steps { system })
+}
+
+const HANDLERS: &str = "\
+S byte E000ED23 000000A5 p | 0 | the priority of SysTick
+S halfword E000ED1E 00003456 p | 0 | the priorities of 10, which has none, and SVCall
+L word E000ED20 00000000 p | A0000000 | the top four bits are kept
+L halfword E000ED22 00000000 p | 0000A000 | its halfword
+L byte E000ED23 00000000 p | 000000A0 | its byte
+L byte E000ED1F 00000000 p | 00000030 | the priority of SVCall
+S byte E000E407 000000FF p | 0 | the priority of line 7
+S byte E000E408 000000FF p | 0 | of a line that the board hasn't
+L word E000E404 00000000 p | F0000000 | that of line 7 alone
+S word E000ED24 00070000 p | 0 | the three faults are enabled
+L word E000ED24 00000000 p | 00070000 | they are
+activate 4 | |
+activate B | |
+L word E000ED24 00000000 p | 00070081 | MemManage and SVCall are active
+S word E000ED24 00000080 p | active-bit | MEMFAULTACT would change
+L word E000ED24 00000000 p | 00070081 | nothing changed, the enable bits neither
+S word E000ED24 00020881 p | active-bit | SYSTICKACT would change
+S word E000ED24 0002F081 p | 0 | BusFault alone is enabled, and four are pending
+L word E000ED24 00000000 p | 0002F081 | they are
+S word E000ED24 00025081 p | 0 | UsageFault and BusFault are pending
+L word E000ED24 00000000 p | 00025081 | the others are cleared
+clear 6 | |
+L word E000ED04 00000000 p 4 | 00005004 | BusFault is the best; SVCall is active too
+deactivate B | |
+L word E000ED04 00000000 p 4 | 00005804 | RETTOBASE in the one handler that is active
+activate 12 | |
+L word E000E300 00000000 p | 00000004 | IABR: line 2
+L word E000ED04 00000000 p 0 | 00005000 | no RETTOBASE in Thread mode
+fault 01000082 40000002 | |
+L word E000ED28 00000000 p | 01000082 | UNALIGNED, MMARVALID and DACCVIOL
+L halfword E000ED2A 00000000 p | 00000100 | the status of UsageFault
+L byte E000ED28 00000000 p | 00000082 | the status of MemManage
+S byte E000ED28 00000002 p | 0 | DACCVIOL is cleared
+S halfword E000ED2A 00000001 p | 0 | UNDEFINSTR isn't set
+S byte E000ED2B 00000001 p | 0 | UNALIGNED is cleared
+L word E000ED28 00000000 p | 00000080 | MMARVALID stays
+L word E000ED2C 00000000 p | 40000002 | FORCED and VECTTBL
+S word E000ED2C 40000000 p | 0 | FORCED is cleared
+L word E000ED2C 00000000 p | 00000002 | VECTTBL stays
+mmfar 2000037E | |
+bfar 40000008 | |
+L word E000ED34 00000000 p | 2000037E | MMFAR
+L word E000ED38 00000000 p | 40000008 | BFAR
+S word E000ED38 00000001 p | 0 | BFAR is stored
+L word E000ED38 00000000 p | 00000001 | as it is
+S word E000ED08 000001FF p | 0 | VTOR
+L word E000ED08 00000000 p | 00000180 | keeps bits 31:7";
+
+#[test]
+fn handlers_and_faults(rt: HostRuntime) -> Result<(), Fail> {
+    let system = reset(Vec::new(rt.alloc()));
+    check(HANDLERS, &mut Steps { system })
+}
+
+const TICKS: &str = "\
+S word E000E014 00000002 p | 0 | SYST_RVR
+S word E000E010 00000003 p | 0 | ENABLE and TICKINT
+S word E000E100 00000007 p | 0 | lines 0 to 2
+tick 2 | |
+L word E000E018 00000000 p | 00000001 | SYST_CVR
+L word E000ED04 00000000 p | 00000000 | nothing is pending
+tick 1 | |
+L word E000ED04 00000000 p | 0440F000 | SysTick, and line 1 by the script
+L word E000E200 00000000 p | 00000002 | its pulse
+L byte E000E010 00000000 p | register-width | a stopped read leaves COUNTFLAG
+L word E000E010 00000000 u | bus | a refused one too
+L word E000E010 00000000 p | 00010007 | COUNTFLAG
+L word E000E010 00000000 p | 00000007 | a read clears it
+S word E000ED04 02000000 p | 0 | PENDSTCLR
+S word E000E280 00000002 p | 0 | line 1 is cleared
+tick 1 | |
+L word E000E200 00000000 p | 00000004 | line 2 rose
+S word E000E280 00000004 p | 0 | it is cleared
+activate 12 | |
+L word E000E200 00000000 p | 00000000 | and not pending, though it's high
+deactivate 12 | |
+L word E000E200 00000000 p | 00000004 | but after its handler
+S word E000E280 00000004 p | 0 | it is cleared again
+tick 1 | |
+deactivate 12 | |
+L word E000E200 00000000 p | 00000000 | it fell
+L word E000ED04 00000000 p | 80002000 | NMI, which no one cleared
+clear 2 | |
+S word E000E018 00000007 p | 0 | SYST_CVR is cleared by any value
+L word E000E018 00000000 p | 00000000 | it is
+tick 1 | |
+L word E000E018 00000000 p | 00000002 | and reloaded";
+
+/// An event of a script.
+fn event(at: u64, what: Signal) -> ScriptedEvent {
+    ScriptedEvent { at, what }
+}
+
+#[test]
+fn ticks_pend_what_they_bring(rt: HostRuntime) -> Result<(), Fail> {
+    let (first, second) = (InterruptLine::new(1), InterruptLine::new(2));
+    let mut script = Vec::new(rt.alloc());
+    script.push(event(3, Signal::Pulse(first)))?;
+    script.push(event(4, Signal::Rise(second)))?;
+    script.push(event(5, Signal::Fall(second)))?;
+    script.push(event(5, Signal::Nmi))?;
+    let system = reset(script);
+    check(TICKS, &mut Steps { system })
+}
+
+#[test]
+fn sixteen_regions_and_240_lines(rt: HostRuntime) -> Result<(), Fail> {
+    let script = Vec::new(rt.alloc());
+    let mut system: PlainSystem = System::reset(0, 240, 8, 16, script);
+    assert!(rt; loaded(&mut system, 0xE000_E004) == Some(7));
+    assert!(rt; loaded(&mut system, 0xE000_ED90) == Some(0x1000));
+    let last = access_of(Kind::Store, Size::Word, 0xE000_E11C, 0xFFFF_FFFF, true);
+    assert!(rt; is_answer(system.access(0, &last), "0"));
+    assert!(rt; loaded(&mut system, 0xE000_E11C) == Some(0x0000_FFFF));
+    let byte = access_of(Kind::Store, Size::Byte, 0xE000_E4EF, 0x5A, true);
+    assert!(rt; is_answer(system.access(0, &byte), "0"));
+    assert!(rt; loaded(&mut system, 0xE000_E4EC) == Some(0x5A00_0000));
+    let base = access_of(Kind::Store, Size::Word, 0xE000_ED9C, 0x2000_001F, true);
+    assert!(rt; is_answer(system.access(0, &base), "0"));
+    assert!(rt; system.region(15) == Some((0x2000_000F, 0)));
+    Ok(())
+}
+
+#[test]
+fn the_laws_are_called() {
+    laws::refused_access_changes_nothing();
+    laws::system_stays_sound();
+}

@@ -1,0 +1,84 @@
+//! The words of the rows: what an access is for, how wide it is, and what decided it.
+
+use reference::access::{Access, Kind, Request, Rule, Size};
+use test_tables::{byte_at, is_first, meaning, number, number_at, word};
+
+const KINDS: [(&str, Kind); 6] = [
+    ("F", Kind::Fetch),
+    ("L", Kind::Load),
+    ("S", Kind::Store),
+    ("push", Kind::Push),
+    ("pop", Kind::Pop),
+    ("V", Kind::Vector),
+];
+
+const SIZES: [(&str, Size); 3] = [
+    ("byte", Size::Byte),
+    ("halfword", Size::Halfword),
+    ("word", Size::Word),
+];
+
+/// The rules but for those of regions.
+const RULES: [Rule; 7] = [
+    Rule::NeverExecute,
+    Rule::VectorRead,
+    Rule::PrivatePeripheralBus,
+    Rule::MpuOff,
+    Rule::NegativePriority,
+    Rule::Background,
+    Rule::NoRegion,
+];
+
+/// The words of regions, by their numbers.
+const REGIONS: &str = "r0 r1 r2 r3 r4 r5 r6 r7 r8 r9 rA rB rC rD rE rF";
+
+/// The word of a rule.
+pub(super) fn rule_word(rule: Rule) -> &'static str {
+    match rule {
+        Rule::NeverExecute => "xn",
+        Rule::VectorRead => "vec",
+        Rule::PrivatePeripheralBus => "ppb",
+        Rule::MpuOff => "off",
+        Rule::NegativePriority => "neg",
+        Rule::Region(number) => word(REGIONS, usize::from(number)),
+        Rule::Background => "bg",
+        Rule::NoRegion => "none",
+    }
+}
+
+/// The rule of a word, which is `r` and the number for that of a region.
+pub(super) fn rule(word: &str) -> Option<Rule> {
+    if let Some(number) = word.strip_prefix("r") {
+        return Some(Rule::Region(byte_at(number, 0)?));
+    }
+    'rules: for rule in RULES {
+        if rule_word(rule) == word {
+            return Some(rule);
+        }
+    }
+    None
+}
+
+/// What an access is for, by its word.
+pub(super) fn kind(word: &str) -> Option<Kind> {
+    meaning(&KINDS, word)
+}
+
+/// The access of a part: its kind and width, its address, what it writes, and `p` or `u` for the
+/// privilege of the code.
+pub(super) fn request(part: &str) -> Option<Request> {
+    Some(Request {
+        access: Access {
+            kind: kind(word(part, 0))?,
+            size: meaning(&SIZES, word(part, 1))?,
+            address: number_at(part, 2)?,
+            privileged: is_first(word(part, 4), "p", "u")?,
+        },
+        value: number_at(part, 3)?,
+    })
+}
+
+/// Whether a number is the one that a word writes, or there is none and the word is `none`.
+pub(super) fn is_number(found: Option<u32>, word: &str) -> bool {
+    found == number(word) && found.is_none() == (word == "none")
+}

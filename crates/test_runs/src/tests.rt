@@ -1,0 +1,13 @@
+mod accesses;
+mod cut;
+mod exceptions;
+mod files;
+mod instructions;
+mod machines;
+mod places;
+mod run;
+mod special;
+mod starts;
+mod steps;
+mod traces;
+mod writers;

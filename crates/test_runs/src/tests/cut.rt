@@ -1,0 +1,82 @@
+//! A writer that takes little, and runs that write to it.
+
+ghost use Rattle.std.specs.Prelude.{◌≡◌};
+
+use arrayvec::ArrayVec;
+use machine::{Over, RunFault, Slow, Stop};
+use std::io;
+use std::io::Write;
+use std::marker::Brand;
+use std::sync::ledger::{Blank, Ledger};
+
+/// The most bytes that a run of a test writes.
+const ROOM: usize = 4096;
+
+/// What a run writes.
+pub(super) type Text = ArrayVec<u8, ROOM>;
+
+/// Puts a line behind a text.
+pub(super) fn push_line(text: &mut Text, line: &str) -> Option<()> {
+    text.try_extend_from_slice(line.as_bytes()).ok()?;
+    text.try_push(b'\n').ok()
+}
+
+/// A writer that takes `most` bytes a call and `left` in all, and then fails or takes none.
+#[derive(Drop)]
+pub(super) struct Cut {
+    pub(super) text: Text,
+    left: usize,
+    most: usize,
+    fails: bool,
+}
+
+impl Cut {
+    pub(super) fn new(left: usize, most: usize, fails: bool) -> Self {
+        Cut {
+            text: Text::new(),
+            left,
+            most,
+            fails,
+        }
+    }
+
+    /// A writer that takes all that a run writes.
+    pub(super) fn whole() -> Self {
+        Cut::new(ROOM, ROOM, true)
+    }
+}
+
+impl Write for Cut {
+    fn write(&mut self, buf: &[u8]) -> io::Result<usize> {
+        let taken = buf.len().min(self.left).min(self.most);
+        if taken == 0 && self.fails {
+            return Err(io::Error::from(io::ErrorKind::BrokenPipe));
+        }
+        self.left -= taken;
+        let _ = self.text.try_extend_from_slice(&buf[..taken]);
+        Ok(taken)
+    }
+
+    fn flush(&mut self) -> io::Result<()> {
+        Ok(())
+    }
+}
+
+/// A run of at most so many steps.
+pub(super) fn run(machine: &mut Slow, steps: u32, out: &mut Cut) -> Result<Stop, RunFault> {
+    run_over::<Brand>(machine, steps, out, Blank::new(1))
+}
+
+fn run_over<K: Ledger>(
+    machine: &mut Slow,
+    steps: u32,
+    out: &mut Cut,
+    blank: Blank,
+) -> Result<Stop, RunFault>
+    requires name { blank.name ≡ K.name }
+    requires parts { blank.parts ≡ K.parts }
+    requires some { blank.parts ≡ 1 }
+{
+    let mut out: Over<&mut Cut, K> = Over::new(out, blank);
+    machine.run(u64::from(steps), &mut out)
+}

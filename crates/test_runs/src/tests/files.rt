@@ -1,0 +1,785 @@
+//! The command: runs from the bytes of files, what it tells, and its words.
+
+use super::cut::{Cut, Text, push_line};
+use board::BoardFault;
+use command::{Fault, FileFault, program, read_file, read_words, tell};
+use machine::StartFault;
+use std::alloc::Global;
+use std::fs::OpenFile;
+use std::test::*;
+use std::{fs, io, str};
+use test_tables::{Rows, byte_at, check, check_between, number_at, part};
+
+/// The file examples/first.elf: MOV R0, #5 and BKPT 0 at address 8.
+static FIRST: [u8; 96] =
+    *b"\x7fELF\x01\x01\x01\0\0\0\0\0\0\0\0\0\x02\0\x28\0\x01\0\0\0\0\0\0\0\x34\0\0\0\0\0\0\0\0\0\0\x05\x34\0\x20\0\x01\0\0\0\0\0\0\0\x01\0\0\0\x54\0\0\0\0\0\0\0\0\0\0\0\x0c\0\0\0\x0c\0\0\0\x05\0\0\0\x04\0\0\0\0\x10\0\x20\x09\0\0\0\x05\x20\0\xbe";
+
+/// The small board: 4 KiB of flash at 0 and 8 KiB of RAM.
+const SMALL: &str =
+    "flash_base = 0\nflash_size = 4096\nram_size = 8192\npriority_bits = 4\nlines = 8\n";
+
+/// The paths of the files of a case.
+const IMAGE_PATH: &str = "image.elf";
+
+const BOARD_PATH: &str = "board.toml";
+
+/// The words of a case that has none of its own.
+const RUN_WORDS: &str = "run --board board.toml --steps 10 image.elf";
+
+/// The words and files of a run of the program, and how it is to end.
+#[derive(Drop)]
+struct Case {
+    /// The words after the program's name, with a space between two of them.
+    words: Text,
+    image: [u8; 96],
+    /// How many bytes of the image there are.
+    length: usize,
+    board: Text,
+    /// The status, once a line has it.
+    status: Option<u8>,
+    /// The trace.
+    out: Text,
+    /// What standard error has.
+    err: Text,
+}
+
+impl Case {
+    /// A run of the first image on no board.
+    fn new() -> Self {
+        Case {
+            words: Text::new(),
+            image: FIRST,
+            length: 96,
+            board: Text::new(),
+            status: None,
+            out: Text::new(),
+            err: Text::new(),
+        }
+    }
+
+    /// A run of the first image on the small board, but for what the lines of a case say behind its
+    /// name.
+    fn of(text: &str) -> Option<Self> {
+        let mut case = Case::new();
+        'lines: for line in text.lines().skip(1) {
+            case.read(line)?;
+        }
+        if case.board.is_empty() {
+            case.board.try_extend_from_slice(SMALL.as_bytes()).ok()?;
+        }
+        if case.words.is_empty() {
+            push_line(&mut case.words, RUN_WORDS)?;
+        }
+        Some(case)
+    }
+
+    /// Reads a line: `words` after the program's name, `byte` with a place and a byte of the image,
+    /// `length` of the image, `board` with a line of the board, `with` a line after the small board's,
+    /// `ends` with the status, and `out` and `err` with the lines that are written.
+    fn read(&mut self, line: &str) -> Option<()> {
+        let (word, rest) = line.split_once(' ').unwrap_or((line, ""));
+        match word {
+            "words" => push_line(&mut self.words, rest),
+            "board" => push_line(&mut self.board, rest),
+            "with" => self.read_more(rest),
+            "out" => push_line(&mut self.out, rest),
+            "err" => push_line(&mut self.err, rest),
+            _ => self.read_numbers(word, rest),
+        }
+    }
+
+    /// Puts a line after those of the small board.
+    fn read_more(&mut self, line: &str) -> Option<()> {
+        if self.board.is_empty() {
+            self.board.try_extend_from_slice(SMALL.as_bytes()).ok()?;
+        }
+        push_line(&mut self.board, line)
+    }
+
+    /// Reads a line of numbers.
+    fn read_numbers(&mut self, word: &str, numbers: &str) -> Option<()> {
+        let number = number_at(numbers, 0)? as usize;
+        match word {
+            "byte" => *self.image.get_mut(number)? = byte_at(numbers, 1)?,
+            "length" => self.length = number,
+            "ends" => self.status = byte_at(numbers, 0),
+            _ => return None,
+        }
+        Some(())
+    }
+}
+
+/// How the program ended: its status, and what it wrote.
+#[derive(Drop)]
+struct Ended {
+    status: u8,
+    out: Cut,
+    err: Cut,
+}
+
+impl Ended {
+    /// Runs the program on files, with room for `room` bytes of standard output.
+    fn of(
+        rt: &HostRuntime,
+        words: &str,
+        image: &[u8],
+        board: &[u8],
+        room: usize,
+    ) -> io::Result<Self> {
+        let mut given = Vec::new(rt.alloc());
+        given.push("marm".to_string(rt.alloc())?)?;
+        'words: for word in words.split_whitespace() {
+            given.push(word.to_string(rt.alloc())?)?;
+        }
+        fs::write(rt, IMAGE_PATH, image)?;
+        fs::write(rt, BOARD_PATH, board)?;
+        let mut out = Cut::new(room, room, true);
+        let mut err = Cut::whole();
+        let status = program(rt, given.as_slice(), &mut out, &mut err);
+        fs::remove_file(rt, IMAGE_PATH)?;
+        fs::remove_file(rt, BOARD_PATH)?;
+        Ok(Ended { status, out, err })
+    }
+
+    /// Whether it ended with this status, this on standard output and this on standard error.
+    fn is(&self, status: u8, out: &[u8], err: &[u8]) -> bool {
+        self.status == status && self.out.text.as_slice() == out && self.err.text.as_slice() == err
+    }
+}
+
+/// Runs of the program, and how they end.
+#[derive(Drop)]
+struct Ends<'a> {
+    rt: &'a HostRuntime,
+}
+
+impl Rows for Ends<'_> {
+    fn holds(&mut self, text: &str) -> Option<bool> {
+        let case = Case::of(text)?;
+        let image = case.image.get(..case.length)?;
+        let words = str::from_utf8(case.words.as_slice()).ok()?;
+        let ended = Ended::of(self.rt, words, image, case.board.as_slice(), 4096).ok()?;
+        Some(ended.is(case.status?, case.out.as_slice(), case.err.as_slice()))
+    }
+}
+
+const RUNS: &str = "\
+the first image
+ends 0
+out 1 F 00000008 2 p ok off
+out 2 F 0000000A 2 p ok off
+out stop breakpoint 0
+
+a truncated file
+length 33
+ends 3
+err marm: load 1 Truncated
+err   image.elf: the file has 51 bytes, and an ELF header has 52
+
+no bytes
+length 0
+ends 3
+err marm: load 1 Truncated
+err   image.elf: the file has 0 bytes, and an ELF header has 52
+
+another first byte
+byte 0 7E
+ends 3
+err marm: load 2 NotElf
+err   image.elf: the file begins with 7E454C46, and an ELF file with 7F454C46
+
+64 bits
+byte 4 2
+ends 3
+err marm: load 3 NotElf32Little
+err   image.elf: e_ident[EI_CLASS] is 2 and e_ident[EI_DATA] is 1, where 1 and 1 are needed: 32 bits, little endian
+
+an object file
+byte 10 1
+ends 3
+err marm: load 4 NotExecutable
+err   image.elf: e_type is 1, where 2 is needed: link it, and not with -r, -shared or -pie
+
+another machine
+byte 12 3
+ends 3
+err marm: load 5 NotArm
+err   image.elf: e_machine is 3, where 40 is needed: ARM
+
+program headers of 40 bytes
+byte 2A 28
+ends 3
+err marm: load 6 HeaderSize
+err   image.elf: e_phentsize is 40, where 32 is needed
+
+a segment past the end
+byte 44 D
+ends 3
+err marm: load 7 SegmentOutsideFile
+err   image.elf: program header 0: p_offset is 84 and p_filesz is 13, and the file has 96 bytes
+
+two program headers, at 20 and 40: four bytes at 2, and four bytes at 5
+byte 1C 20
+byte 2C 2
+byte 20 1
+byte 27 0
+byte 30 4
+byte 40 1
+ends 3
+err marm: load 8 SegmentOverlap
+err   image.elf: program header 0 has 4 bytes at 00000002, and program header 1 has 4 bytes at 00000005
+
+65 program headers
+byte 2C 41
+ends 3
+err marm: load 9 TooManySegments
+err   image.elf: e_phnum is 65, and at most 64 program headers are read
+
+a segment outside memory
+byte 42 30
+ends 3
+err marm: start 10 SegmentOutsideMemory
+err   image.elf: program header 0 has 12 bytes at 00300000 (p_paddr), and the board has 4096 bytes of flash at 00000000 and 8192 bytes of RAM at 20000000
+
+a segment across flash's end
+byte 40 F8
+byte 41 F
+ends 3
+err marm: start 10 SegmentOutsideMemory
+err   image.elf: program header 0 has 12 bytes at 00000FF8 (p_paddr), and the board has 4096 bytes of flash at 00000000 and 8192 bytes of RAM at 20000000
+
+a segment across the last address
+byte 40 FF
+byte 41 FF
+byte 42 FF
+byte 43 FF
+byte 44 2
+ends 3
+err marm: start 10 SegmentOutsideMemory
+err   image.elf: program header 0 has 2 bytes at FFFFFFFF (p_paddr), and the board has 4096 bytes of flash at 00000000 and 8192 bytes of RAM at 20000000
+
+erased flash
+byte 2C 0
+ends 4
+out 1 F FFFFFFFE 2 p mpu xn
+out 1 ! 3 00000001 40000000
+out 2 K FFFFFFD8 4 p bus off
+out 2 ! 3 00001001 40000000
+out 3 V 0000000C 4 p ok vec
+out 3 X 3
+out 4 F FFFFFFFE 2 p mpu xn
+out 4 ! 0 00001001 40000000
+out stop lockup
+
+no TOML
+board flash_base =
+ends 3
+err marm: board 1 NotToml
+err   board.toml: line 1, column 13: invalid value, expected a string, number, boolean, date-time, array or inline table
+
+a key is missing
+board flash_base = 0
+board flash_size = 4096
+board ram_size = 8192
+board priority_bits = 4
+ends 3
+err marm: board 2 MissingKey
+err   board.toml: the key lines is missing: it takes an integer from 0 to 240
+
+a word in place of a number
+board flash_base = \"0\"
+ends 3
+err marm: board 3 WrongKind
+err   board.toml: flash_base is \"0\": it takes a multiple of 1024, at least 0
+
+an event on no line
+board flash_base = 0
+board flash_size = 4096
+board ram_size = 8192
+board priority_bits = 4
+board lines = 0
+board [[event]]
+board at = 1
+board line = 0
+board what = \"rise\"
+ends 3
+err marm: board 4 OutOfRange
+err   board.toml: event 1: line is 0: it takes an integer from 0 to lines - 1
+
+events out of order
+board flash_base = 0
+board flash_size = 4096
+board ram_size = 8192
+board priority_bits = 4
+board lines = 1
+board [[event]]
+board at = 2
+board nmi = true
+board [[event]]
+board at = 1
+board nmi = true
+ends 3
+err marm: board 5 EventsOutOfOrder
+err   board.toml: event 2: at is 1, and the event before it is at 2
+
+another key
+board flash_base = 0
+board flash_size = 4096
+board ram_size = 8192
+board priority_bits = 4
+board lines = 0
+board rom_size = 0
+ends 3
+err marm: board 6 UnknownKey
+err   board.toml: rom_size is no key here: the keys are flash_base, flash_size, ram_size, priority_bits, lines, regions and event
+
+32 lines, of which the last one rises after the end
+board flash_base = 0
+board flash_size = 4096
+board ram_size = 8192
+board priority_bits = 4
+board lines = 32
+board [[event]]
+board at = 3
+board line = 31
+board what = \"rise\"
+ends 0
+out 1 F 00000008 2 p ok off
+out 2 F 0000000A 2 p ok off
+out stop breakpoint 0
+
+a program header past the end
+byte 1C 41
+ends 3
+err marm: load 1 Truncated
+err   image.elf: e_phoff is 65: the program headers end at byte 97, and the file has 96 bytes
+
+flash that begins at 1
+board flash_base = 1
+ends 3
+err marm: board 4 OutOfRange
+err   board.toml: flash_base is 1: it takes a multiple of 1024, at least 0
+
+flash of 1000 bytes
+board flash_base = 0
+board flash_size = 1000
+ends 3
+err marm: board 4 OutOfRange
+err   board.toml: flash_size is 1000: it takes a multiple of 1024 from 1024 to 1048576, with flash_base + flash_size at most 536870912
+
+no RAM
+board flash_base = 0
+board flash_size = 4096
+board ram_size = 0
+ends 3
+err marm: board 4 OutOfRange
+err   board.toml: ram_size is 0: it takes a multiple of 1024 from 1024 to 1048576
+
+priorities in a list
+board flash_base = 0
+board flash_size = 4096
+board ram_size = 8192
+board priority_bits = [4]
+ends 3
+err marm: board 3 WrongKind
+err   board.toml: priority_bits is of the type array: it takes an integer from 3 to 8
+
+events that are no list
+with event = 1
+ends 3
+err marm: board 3 WrongKind
+err   board.toml: event is 1: it takes a list of at most 65536 tables, each written as [[event]]
+
+an event that is no table
+with event = [1]
+ends 3
+err marm: board 3 WrongKind
+err   board.toml: event 1: event is 1: it takes a table, written as [[event]]
+
+an event without a tick
+with [[event]]
+with nmi = true
+ends 3
+err marm: board 2 MissingKey
+err   board.toml: event 1: the key at is missing: it takes an integer from 1 to 281474976710656
+
+an event at 0
+with [[event]]
+with at = 0
+with nmi = true
+ends 3
+err marm: board 4 OutOfRange
+err   board.toml: event 1: at is 0: it takes an integer from 1 to 281474976710656
+
+an event on no line
+with [[event]]
+with at = 1
+ends 3
+err marm: board 2 MissingKey
+err   board.toml: event 1: the key line is missing: it takes an integer from 0 to lines - 1
+
+an event in which nothing happens
+with [[event]]
+with at = 1
+with line = 0
+ends 3
+err marm: board 2 MissingKey
+err   board.toml: event 1: the key what is missing: it takes \"rise\", \"fall\" or \"pulse\"
+
+an event in which another thing happens
+with [[event]]
+with at = 1
+with nmi = true
+with [[event]]
+with at = 1
+with line = 0
+with what = \"up\"
+ends 3
+err marm: board 4 OutOfRange
+err   board.toml: event 2: what is \"up\": it takes \"rise\", \"fall\" or \"pulse\"
+
+an event that is no NMI
+with [[event]]
+with at = 1
+with nmi = false
+ends 3
+err marm: board 4 OutOfRange
+err   board.toml: event 1: nmi is false: it takes true (or leave the key out)
+
+another key of an event
+with [[event]]
+with at = 1
+with line = 0
+with what = \"rise\"
+with colour = 1
+ends 3
+err marm: board 6 UnknownKey
+err   board.toml: event 1: colour is no key here: the keys are at, line and what
+
+a line in an event of NMI
+with [[event]]
+with at = 1
+with nmi = true
+with line = 0
+ends 3
+err marm: board 6 UnknownKey
+err   board.toml: event 1: line is no key here: the keys are at and nmi
+
+the image is looked at first
+length 0
+board flash_base =
+ends 3
+err marm: load 1 Truncated
+err   image.elf: the file has 0 bytes, and an ELF header has 52";
+
+/// Words that name no run, and words that name files that aren't there.
+const ANSWERS: &str = "\
+the version
+words --version
+ends 0
+out marm 0.1.0
+
+the help
+words --help
+ends 2
+out An ARMv7-M machine that writes a proved trace of its memory accesses
+out
+out Usage: marm <COMMAND>
+out
+out Commands:
+out   run   Runs an image on a board and writes the trace to standard output
+out   help  Print this message or the help of the given subcommand(s)
+out
+out Options:
+out   -h, --help     Print help
+out   -V, --version  Print version
+out
+out Exit status:
+out   0  all steps were made, or a breakpoint was met; or the version was asked for
+out   2  the words are wrong, or help was asked for (marm: usage)
+out   3  the image or the board is refused (marm: load, board, start, size)
+out   4  the machine stopped otherwise: the trace's last line says why
+out   5  reading or writing failed, or memory ran out (marm: io)
+out
+out Example:
+out   marm run --board examples/boards/small.toml --steps 10 examples/first.elf
+err marm: usage
+
+the help of run
+words run --help
+ends 2
+out Runs an image on a board and writes the trace to standard output
+out
+out Usage: marm run --board <FILE> --steps <N> <IMAGE>
+out
+out Arguments:
+out   <IMAGE>  The image: an ELF file for ARM of at most 16 MiB, linked to run
+out
+out Options:
+out       --board <FILE>  The board: a TOML file of at most 16 MiB with the memory, the lines and the events
+out       --steps <N>     The most steps (instructions, entries, idle ticks) to make, from 0 to 4294967296
+out   -h, --help          Print help
+out
+out The trace has one line for each access: its tick, kind, address, size in bytes, privilege, outcome,
+out and the rule or region that decided it. Its last line says why the run ended.
+out
+out Exit status:
+out   0  all steps were made, or a breakpoint was met
+out   2  the words are wrong, or help was asked for (marm: usage)
+out   3  the image or the board is refused (marm: load, board, start, size)
+out   4  the machine stopped otherwise: the trace's last line says why
+out   5  reading or writing failed, or memory ran out (marm: io)
+out
+out Example:
+out   marm run --board examples/boards/small.toml --steps 10 examples/first.elf
+err marm: usage
+
+help as a word
+words help
+ends 2
+out An ARMv7-M machine that writes a proved trace of its memory accesses
+out
+out Usage: marm <COMMAND>
+out
+out Commands:
+out   run   Runs an image on a board and writes the trace to standard output
+out   help  Print this message or the help of the given subcommand(s)
+out
+out Options:
+out   -h, --help     Print help
+out   -V, --version  Print version
+out
+out Exit status:
+out   0  all steps were made, or a breakpoint was met; or the version was asked for
+out   2  the words are wrong, or help was asked for (marm: usage)
+out   3  the image or the board is refused (marm: load, board, start, size)
+out   4  the machine stopped otherwise: the trace's last line says why
+out   5  reading or writing failed, or memory ran out (marm: io)
+out
+out Example:
+out   marm run --board examples/boards/small.toml --steps 10 examples/first.elf
+err marm: usage
+
+help as a word, of run
+words help run
+ends 2
+out Runs an image on a board and writes the trace to standard output
+out
+out Usage: marm run --board <FILE> --steps <N> <IMAGE>
+out
+out Arguments:
+out   <IMAGE>  The image: an ELF file for ARM of at most 16 MiB, linked to run
+out
+out Options:
+out       --board <FILE>  The board: a TOML file of at most 16 MiB with the memory, the lines and the events
+out       --steps <N>     The most steps (instructions, entries, idle ticks) to make, from 0 to 4294967296
+out   -h, --help          Print help
+out
+out The trace has one line for each access: its tick, kind, address, size in bytes, privilege, outcome,
+out and the rule or region that decided it. Its last line says why the run ended.
+out
+out Exit status:
+out   0  all steps were made, or a breakpoint was met
+out   2  the words are wrong, or help was asked for (marm: usage)
+out   3  the image or the board is refused (marm: load, board, start, size)
+out   4  the machine stopped otherwise: the trace's last line says why
+out   5  reading or writing failed, or memory ran out (marm: io)
+out
+out Example:
+out   marm run --board examples/boards/small.toml --steps 10 examples/first.elf
+err marm: usage
+
+an option that does not exist
+words run --frob --board board.toml --steps 10 image.elf
+ends 2
+err marm: usage
+err error: unexpected argument '--frob' found
+err
+err   tip: to pass '--frob' as a value, use '-- --frob'
+err
+err Usage: marm run --board <FILE> --steps <N> <IMAGE>
+err
+err For more information, try '--help'.
+
+an option is missing
+words run --board board.toml image.elf
+ends 2
+err marm: usage
+err error: the following required arguments were not provided:
+err   --steps <N>
+err
+err Usage: marm run --board <FILE> --steps <N> <IMAGE>
+err
+err For more information, try '--help'.
+
+no number
+words run --board board.toml --steps ten image.elf
+ends 2
+err marm: usage
+err error: invalid value 'ten' for '--steps <N>': invalid digit found in string
+err
+err For more information, try '--help'.
+
+a word that does not exist
+words frob
+ends 2
+err marm: usage
+err error: unrecognized subcommand 'frob'
+err
+err Usage: marm <COMMAND>
+err
+err For more information, try '--help'.
+
+no words
+words
+ends 2
+err marm: usage
+err error: 'marm' requires a subcommand but one was not provided
+err   [subcommands: run, help]
+err
+err Usage: marm <COMMAND>
+err
+err For more information, try '--help'.
+
+too many steps
+words run --board board.toml --steps 4294967297 image.elf
+ends 2
+err marm: usage
+err error: invalid value '4294967297' for '--steps <N>': 4294967297 is not in 0..=4294967296
+err
+err For more information, try '--help'.
+
+a file that is not there
+words run --board board.toml --steps 10 missing.elf
+ends 5
+err marm: io
+err   missing.elf: No such file or directory (os error 2)";
+
+#[test]
+fn words_are_answered(rt: HostRuntime) -> Result<(), Fail> {
+    check_between(ANSWERS, "\n\n", &mut Ends { rt: &rt })
+}
+
+#[test]
+fn runs_of_files(rt: HostRuntime) -> Result<(), Fail> {
+    check_between(RUNS, "\n\n", &mut Ends { rt: &rt })
+}
+
+#[test]
+fn a_writer_that_fails_ends_the_run(rt: HostRuntime) -> Result<(), Fail> {
+    let ended = Ended::of(&rt, RUN_WORDS, &FIRST, SMALL.as_bytes(), 7)?;
+    assert!(rt; ended.is(5, b"1 F 000", b"marm: io\n  standard output: broken pipe\n"));
+    Ok(())
+}
+
+#[test]
+fn a_board_that_is_no_text_is_refused(rt: HostRuntime) -> Result<(), Fail> {
+    let ended = Ended::of(&rt, RUN_WORDS, &FIRST, b"# \xFF", 512)?;
+    let err = b"marm: board 1 NotToml\n  board.toml: the file isn't a text in UTF-8\n";
+    assert!(rt; ended.is(3, b"", err));
+    Ok(())
+}
+
+/// Whether a fault's line and status are these.
+fn is_told(fault: Fault, line: &[u8], status: u8) -> bool {
+    let mut err = Cut::whole();
+    tell(fault, &mut err) == status && err.text.as_slice() == line
+}
+
+#[test]
+fn each_fault_has_its_line(rt: HostRuntime) {
+    assert!(rt; is_told(Fault::Usage, b"marm: usage\n", 2));
+    assert!(rt; is_told(Fault::Size, b"marm: size\n", 3));
+    assert!(rt; is_told(Fault::Io, b"marm: io\n", 5));
+    assert!(rt;
+        is_told(
+            Fault::Board(BoardFault::OutOfMemory),
+            b"marm: board 7 OutOfMemory\n",
+            3
+        )
+    );
+    assert!(rt;
+        is_told(
+            Fault::Start(StartFault::NoMemory),
+            b"marm: start 11 NoMemory\n",
+            3
+        )
+    );
+}
+
+/// A file in the folder in which the tests run.
+const BIG: &str = "big.bin";
+
+/// Reads a file of `length` bytes, and returns its length where that succeeds. Removes the file.
+fn read_big(rt: &HostRuntime, length: u64) -> io::Result<Result<usize, FileFault>> {
+    fs::create(rt, BIG)?.set_len(length)?;
+    let read = read_file(rt, BIG).map(|bytes| bytes.len());
+    fs::remove_file(rt, BIG)?;
+    Ok(read)
+}
+
+#[test]
+fn a_file_below_16_mebibytes_is_read(rt: HostRuntime) -> Result<(), Fail> {
+    assert!(rt; matches!(read_big(&rt, 0xFF_FFFF)?, Ok(0xFF_FFFF)));
+    Ok(())
+}
+
+#[test]
+fn a_file_of_16_mebibytes_is_read(rt: HostRuntime) -> Result<(), Fail> {
+    assert!(rt; matches!(read_big(&rt, 0x100_0000)?, Ok(0x100_0000)));
+    Ok(())
+}
+
+#[test]
+fn a_file_above_16_mebibytes_is_refused(rt: HostRuntime) -> Result<(), Fail> {
+    assert!(rt; matches!(read_big(&rt, 0x100_0001)?, Err(FileFault::Size)));
+    Ok(())
+}
+
+#[test]
+fn files_that_cannot_be_read_are_io(rt: HostRuntime) {
+    assert!(rt; matches!(read_file(&rt, "missing.elf"), Err(FileFault::Read(_))));
+    assert!(rt; matches!(read_file(&rt, "."), Err(FileFault::Read(_))));
+}
+
+/// The steps that a command line asks for: none where it is refused, or where memory was wanting.
+fn steps_of(alloc: Global, line: &str) -> Option<u64> {
+    let mut words = Vec::new(alloc);
+    for word in line.split_whitespace() {
+        words.push(word.to_string(alloc).ok()?).ok()?;
+    }
+    let request = read_words(alloc, words.as_slice()).ok()?;
+    Some(request.steps)
+}
+
+/// Command lines, and the steps that they ask for.
+#[derive(Drop)]
+struct Lines {
+    alloc: Global,
+}
+
+impl Rows for Lines {
+    fn holds(&mut self, row: &str) -> Option<bool> {
+        let steps = steps_of(self.alloc, part(row, 0));
+        let wanted = part(row, 1);
+        Some(steps == wanted.parse::<u64>().ok() && steps.is_none() == (wanted == "-"))
+    }
+}
+
+/// A command line, and the steps that it asks for, `-` where it is refused.
+const WORDS: &str = "\
+marm run --board b.toml --steps 10 first.elf | 10
+marm run first.elf --steps 0 --board b.toml | 0
+marm run --steps=4294967296 --board=b.toml first.elf | 4294967296
+marm run --board b.toml --steps 4294967297 first.elf | -
+marm run --board b.toml --steps ten first.elf | -
+marm run --board b.toml --steps 10 | -
+marm run --board b.toml first.elf | -
+marm run --steps 10 first.elf | -
+marm run --frob --board b.toml --steps 10 first.elf | -
+marm | -";
+
+#[test]
+fn words_are_taken_or_refused(rt: HostRuntime) -> Result<(), Fail> {
+    check(WORDS, &mut Lines { alloc: rt.alloc() })
+}

@@ -1,0 +1,133 @@
+//! Machines of the small board, with a script and with values in their places.
+
+use elf::load;
+use machine::{
+    Board, InterruptLine, Layout, Place, PlaceFault, RegionCount, SMALL_BOARD, ScriptedEvent,
+    Signal, Slow,
+};
+use std::alloc::{AllocError, Global};
+use test_tables::{byte_at, number_at, word};
+
+/// An ELF file without program headers: all of flash is 0xFF.
+pub(super) static NO_SEGMENTS: [u8; 52] =
+    *b"\x7fELF\x01\x01\x01\0\0\0\0\0\0\0\0\0\x02\0\x28\0\x01\0\0\0\0\0\0\0\x34\0\0\0\0\0\0\0\0\0\0\x05\x34\0\x20\0\0\0\0\0\0\0\0\0";
+
+/// The interrupt line that an event is on, if there can be one of its number.
+fn interrupt_line(line: &str) -> Option<InterruptLine> {
+    let number = byte_at(line, 3)?;
+    if number < InterruptLine::MOST {
+        Some(InterruptLine::new(number))
+    } else {
+        None
+    }
+}
+
+/// What happens by the words behind the tick of an event.
+fn signal(line: &str) -> Option<Signal> {
+    match word(line, 2) {
+        "nmi" => Some(Signal::Nmi),
+        "rise" => Some(Signal::Rise(interrupt_line(line)?)),
+        "fall" => Some(Signal::Fall(interrupt_line(line)?)),
+        "pulse" => Some(Signal::Pulse(interrupt_line(line)?)),
+        _ => None,
+    }
+}
+
+/// The event of a line `event TICK SIGNAL LINE`.
+pub(super) fn event(line: &str) -> Option<ScriptedEvent> {
+    if word(line, 0) != "event" {
+        return None;
+    }
+    Some(ScriptedEvent {
+        at: u64::from(number_at(line, 1)?),
+        what: signal(line)?,
+    })
+}
+
+/// The place and the value of a line `word ADDRESS VALUE`, `reg NUMBER VALUE` or `special NUMBER
+/// VALUE`.
+pub(super) fn place(line: &str) -> Option<Place> {
+    let at = number_at(line, 1)?;
+    let value = number_at(line, 2)?;
+    match word(line, 0) {
+        "word" => Some(Place::Word(at, value)),
+        "reg" => Some(Place::Reg(byte_at(line, 1)?, value)),
+        "special" => Some(Place::Special(byte_at(line, 1)?, value)),
+        _ => None,
+    }
+}
+
+/// The events of these lines.
+fn script(alloc: Global, text: &str) -> Result<Vec<ScriptedEvent>, AllocError> {
+    let mut script = Vec::new(alloc);
+    'lines: for line in text.lines() {
+        if let Some(ScriptedEvent { at, what }) = event(line) {
+            script.push(ScriptedEvent { at, what })?;
+        }
+    }
+    Ok(script)
+}
+
+/// The small board with the numbers of a line `board LINES REGIONS`, if there can be such a board.
+fn board_of(line: &str) -> Option<Layout> {
+    let lines = byte_at(line, 1)?;
+    if lines > 240 {
+        return None;
+    }
+    let regions = if byte_at(line, 2)? == 16 {
+        RegionCount::Sixteen
+    } else {
+        RegionCount::Eight
+    };
+    Some(Layout {
+        flash_base: 0,
+        flash_size: 4096,
+        ram_size: 8192,
+        priority_bits: 4,
+        lines,
+        regions,
+    })
+}
+
+/// The small board, or that of the first line.
+fn layout(text: &str) -> Layout {
+    'lines: for line in text.lines() {
+        if word(line, 0) == "board" {
+            return board_of(line).unwrap_or(SMALL_BOARD);
+        }
+    }
+    SMALL_BOARD
+}
+
+/// The small board with the events and the numbers of these lines.
+pub(super) fn small_board(alloc: Global, text: &str) -> Result<Board, AllocError> {
+    let events = script(alloc, text)?;
+    Ok(Board {
+        layout: layout(text),
+        events,
+    })
+}
+
+/// Places an address at each entry of the vector table from that of NMI to that of line 7.
+pub(super) fn place_vectors(machine: &mut Slow, address: u32) -> Result<(), PlaceFault> {
+    'entries: for entry in 2..24_u32 {
+        machine.place(Place::Word(4 * entry, address))?;
+    }
+    Ok(())
+}
+
+/// A machine of the small board with the events of these lines.
+pub(super) fn scripted(alloc: Global, text: &str) -> Option<Slow> {
+    let image = load(&NO_SEGMENTS).ok()?;
+    let board = small_board(alloc, text).ok()?;
+    Slow::new(alloc, &image, &board).ok()
+}
+
+/// A machine of the small board with the values of these lines in their places.
+pub(super) fn machine_with(alloc: Global, text: &str) -> Option<Slow> {
+    let mut machine = scripted(alloc, text)?;
+    'lines: for line in text.lines() {
+        machine.place(place(line)?).ok()?;
+    }
+    Some(machine)
+}

@@ -1,0 +1,152 @@
+//! Writers that fail, take little, or gather.
+
+ghost use Rattle.std.specs.Prelude.{◌≡◌};
+
+use super::cut::{Cut, run};
+use super::machines::machine_with;
+use machine::{Over, Paged, RunFault, Slow, Stop};
+use std::alloc::{AllocError, Global};
+use std::io::Write;
+use std::marker::Brand;
+use std::sync::ledger::{Blank, Ledger};
+use std::test::*;
+
+/// MOV R0, #5; BKPT 0 at address 8, with MSP 0x20001000: the smallest firmware.
+const FIRST: &str = "\
+word 8 BE002005
+reg D 20001000
+reg F 8
+reg E FFFFFFFF";
+
+/// What it writes: lines of 24, 24 and 18 bytes.
+static FIRST_TRACE: [u8; 66] =
+    *b"1 F 00000008 2 p ok off\n2 F 0000000A 2 p ok off\nstop breakpoint 0\n";
+
+/// Whether a writer got so many bytes of the trace.
+fn got(out: &Cut, bytes: usize) -> bool {
+    out.text.len() == bytes && FIRST_TRACE.starts_with(out.text.as_slice())
+}
+
+/// Whether a writer of so many bytes breaks a machine, in the step whose line it cuts.
+fn breaks(machine: &mut Slow, left: usize, fails: bool) -> bool {
+    let mut out = Cut::new(left, 512, fails);
+    let wanted = if left < 24 { 1 } else { 2 };
+    match run(machine, 10, &mut out) {
+        Err(RunFault::Write { steps }) => steps == wanted && got(&out, left) && machine.broken(),
+        _ => false,
+    }
+}
+
+/// Whether a machine is broken, so that a run writes nothing.
+fn is_broken(machine: &mut Slow) -> bool {
+    let mut out = Cut::whole();
+    matches!(run(machine, 10, &mut out), Err(RunFault::Broken)) && out.text.is_empty()
+}
+
+#[test]
+fn a_writer_that_fails_breaks_the_machine(rt: HostRuntime) -> Result<(), Fail> {
+    'bytes: for left in 0..66usize {
+        'ways: for fails in [true, false] {
+            let mut machine = machine_with(rt.alloc(), FIRST).ok_or("a machine")?;
+            assert!(rt; breaks(&mut machine, left, fails), "after {left}");
+            assert!(rt; is_broken(&mut machine), "after {left}");
+        }
+    }
+    Ok(())
+}
+
+/// Whether a run into a writer of one byte a call ends at the breakpoint.
+fn ends(machine: &mut Slow, out: &mut Cut) -> bool {
+    matches!(run(machine, 10, out), Ok(Stop::Breakpoint(0))) && !machine.broken()
+}
+
+/// A further run of a stopped machine writes its stop line alone.
+#[test]
+fn a_writer_that_takes_one_byte_gets_all(rt: HostRuntime) -> Result<(), Fail> {
+    let mut machine = machine_with(rt.alloc(), FIRST).ok_or("a machine")?;
+    let mut out = Cut::new(512, 1, true);
+    assert!(rt; ends(&mut machine, &mut out));
+    assert!(rt; got(&out, 66));
+    let mut again = Cut::new(512, 1, true);
+    assert!(rt; ends(&mut machine, &mut again));
+    assert!(rt; again.text.as_slice() == b"stop breakpoint 0\n".as_slice());
+    Ok(())
+}
+
+/// A run whose lines are gathered: whether it ends, and whether the lines go out then.
+fn run_gathered<W: Write + Drop>(machine: &mut Slow, steps: u64, out: W) -> (bool, bool, W) {
+    run_paged::<W, Brand>(machine, steps, out, Blank::new(1))
+}
+
+fn run_paged<W: Write + Drop, K: Ledger>(
+    machine: &mut Slow,
+    steps: u64,
+    out: W,
+    blank: Blank,
+) -> (bool, bool, W)
+    requires name { blank.name ≡ K.name }
+    requires parts { blank.parts ≡ K.parts }
+    requires some { blank.parts ≡ 1 }
+{
+    let mut out: Paged<Over<W, K>> = Paged::new(Over::new(out, blank));
+    let ran = machine.run(steps, &mut out).is_ok();
+    let flushed = out.flush().is_ok();
+    (ran, flushed, out.into_inner().into_inner())
+}
+
+#[test]
+fn gathered_lines_go_out_in_the_end(rt: HostRuntime) -> Result<(), Fail> {
+    let mut machine = machine_with(rt.alloc(), FIRST).ok_or("a machine")?;
+    let (ran, flushed, out) = run_gathered(&mut machine, 10, Cut::new(512, 5, true));
+    assert!(rt; ran && flushed);
+    assert!(rt; got(&out, 66));
+    Ok(())
+}
+
+#[test]
+fn gathered_lines_that_are_cut_are_told(rt: HostRuntime) -> Result<(), Fail> {
+    let mut machine = machine_with(rt.alloc(), FIRST).ok_or("a machine")?;
+    let (_, flushed, out) = run_gathered(&mut machine, 10, Cut::new(30, 512, true));
+    assert!(rt; !flushed);
+    assert!(rt; got(&out, 30));
+    Ok(())
+}
+
+/// B to itself at address 8: each step has one line.
+const LOOP: &str = "\
+word 8 E7FEE7FE
+reg D 20001000
+reg F 8
+reg E FFFFFFFF";
+
+/// The trace of `steps` steps of the loop.
+fn loop_trace(alloc: Global, steps: u64) -> Result<String, AllocError> {
+    let mut text = String::new(alloc);
+    for tick in 1..=steps {
+        writeln!(text, "{tick} F 00000008 2 p ok off")?;
+    }
+    text.push_str("stop steps\n")?;
+    Ok(text)
+}
+
+/// 2,000 lines of 24 to 27 bytes fill the page of 16 KiB three times.
+#[test]
+fn a_full_page_goes_out(rt: HostRuntime) -> Result<(), Fail> {
+    let mut machine = machine_with(rt.alloc(), LOOP).ok_or("a machine")?;
+    let out: Vec<u8> = Vec::new(rt.alloc());
+    let (ran, flushed, out) = run_gathered(&mut machine, 2000, out);
+    assert!(rt; ran && flushed);
+    assert!(rt; out.as_slice() == loop_trace(rt.alloc(), 2000)?.as_bytes());
+    Ok(())
+}
+
+/// A writer that fails below a full page breaks the machine, and takes a prefix of the trace.
+#[test]
+fn a_full_page_that_is_cut_ends_the_run(rt: HostRuntime) -> Result<(), Fail> {
+    let mut machine = machine_with(rt.alloc(), LOOP).ok_or("a machine")?;
+    let (ran, _, out) = run_gathered(&mut machine, 2000, Cut::new(100, 512, true));
+    assert!(rt; !ran && machine.broken());
+    let trace = loop_trace(rt.alloc(), 2000)?;
+    assert!(rt; out.text.len() == 100 && trace.as_bytes().starts_with(out.text.as_slice()));
+    Ok(())
+}

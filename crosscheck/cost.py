@@ -1,0 +1,66 @@
+"""Counts the instructions of the processor that a step of marm takes, on boards with different scripts."""
+
+import re
+import subprocess
+import sys
+from concurrent.futures import ThreadPoolExecutor
+
+from loops import LOOPS, image, traced, written
+
+MARM, PROGRAM, FOLDER = sys.argv[1:4]
+STEPS = int(sys.argv[4])
+
+# What all boards have, and how many events a script has.
+SIZES = "flash_base = 0\nflash_size = 0x10_0000\nram_size = 0x10_0000\npriority_bits = 8\n"
+EVENTS = 65_536
+
+
+def script(ticks, kinds=("rise", "fall", "pulse")):
+    """Returns a script: an event at each of some ticks, of the kinds and of the lines in turn."""
+    events = []
+    for number, tick in enumerate(ticks):
+        line, what = number // len(kinds) % 240, kinds[number % len(kinds)]
+        events.append(f'[[event]]\nat = {tick}\nline = {line}\nwhat = "{what}"\n')
+    return "".join(events)
+
+
+def boards():
+    """Returns the text of each board by its name. A fall makes nothing pending."""
+    lines = SIZES + "lines = 240\n"
+    far = range(2**47, 2**47 + EVENTS)
+    return {
+        "no script, 8 lines": SIZES + "lines = 8\n",
+        "no script, 240 lines": lines,
+        "events far off": lines + script(far),
+        "a fall each 64 ticks": lines + script(range(1, 1 + 64 * EVENTS, 64), ["fall"]),
+        "a fall each 8 ticks": lines + script(range(1, 1 + 8 * EVENTS, 8), ["fall"]),
+        "a pulse, then far off": lines + script([1, *far[1:]], ["pulse"]),
+        "one each 64 ticks": lines + script(range(1, 1 + 64 * EVENTS, 64)),
+    }
+
+
+def counted(board, steps, path):
+    """Returns how many instructions a run takes."""
+    words = ["valgrind", "--tool=callgrind", "--callgrind-out-file=/dev/null"] + traced(MARM, board, steps, path)
+    run = subprocess.run(words, stdout=subprocess.DEVNULL, stderr=subprocess.PIPE, text=True)
+    return int(re.search(r"Collected : (\d+)", run.stderr)[1])
+
+
+def a_step(board, path):
+    """Returns how many instructions a step takes."""
+    with ThreadPoolExecutor(2) as pool:
+        less, more = pool.map(lambda steps: counted(board, steps, path), [STEPS, 2 * STEPS])
+    return (more - less) / STEPS
+
+
+paths = {name: written(FOLDER, name, image(halfwords)) for name, (halfwords, _) in LOOPS.items()}
+paths["crc32-loop"] = PROGRAM
+print(f"{'':24}" + "".join(f"{name:>20}" for name in paths))
+first = {}
+for number, (name, text) in enumerate(boards().items()):
+    board = written(FOLDER, f"board{number}.toml", text.encode())
+    line = f"{name:24}"
+    for program, path in paths.items():
+        count = a_step(board, path)
+        line += f"{count:14.1f}{count / first.setdefault(program, count):6.3f}"
+    print(line, flush=True)

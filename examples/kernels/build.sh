@@ -1,0 +1,33 @@
+#!/usr/bin/env bash
+# Builds the kernels for a Cortex-M3. Usage: examples/kernels/build.sh [FOLDER]
+#
+# CC is clang (with ld.lld) where it isn't set, or arm-none-eabi-gcc; FOLDER is crates/test_firmware/data where it isn't
+# given, whose files CI runs. Files for CI are clang's.
+set -euo pipefail
+here=$(cd "$(dirname "${BASH_SOURCE[0]}")" && pwd)
+folder=$(realpath "${1:-$here/../../crates/test_firmware/data}")
+compiler=${CC:-clang}
+work=$(mktemp -d)
+trap 'rm -rf "$work"' EXIT
+
+flags=(-mthumb -mcpu=cortex-m3 -mfloat-abi=soft -Os -std=c11 -Wall -Wextra -ffreestanding -ffunction-sections
+    -fno-unwind-tables -fno-asynchronous-unwind-tables -fno-jump-tables -I "$here/runtime")
+case $compiler in
+*clang*) flags+=(--target=thumbv7m-none-eabi -fuse-ld=lld -Qunused-arguments) ;;
+*) flags+=(-fno-tree-loop-distribute-patterns) ;;
+esac
+
+# build NAME SOURCE..: a kernel of these sources and the runtime, without symbols.
+build() {
+    local name=$1 source objects=()
+    shift
+    for source in "$@" runtime/start.s runtime/console.c; do
+        "$compiler" "${flags[@]}" -c "$here/$source" -o "$work/$(basename "${source%.*}").$name.${source##*.}.o"
+        objects+=("$work/$(basename "${source%.*}").$name.${source##*.}.o")
+    done
+    "$compiler" "${flags[@]}" "${objects[@]}" -nostdlib -static -T "$here/link.ld" -Wl,-n -Wl,-s -o "$folder/$name.elf"
+}
+
+build round_robin round_robin.s round_robin.c task_a.c task_b.c task_c.c
+build faults faults.s faults.c
+build nested nested.c

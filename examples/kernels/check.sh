@@ -1,0 +1,24 @@
+#!/usr/bin/env bash
+# Runs the kernels on marm, each on its board, and compares what they print with expected/NAME.txt.
+# Usage: examples/kernels/check.sh [FOLDER], the folder that build.sh was given.
+set -euo pipefail
+here=$(cd "$(dirname "${BASH_SOURCE[0]}")" && pwd)
+top=$here/../..
+folder=${1:-$top/crates/test_firmware/data}
+work=$(mktemp -d)
+trap 'rm -rf "$work"' EXIT
+failed=0
+for name in round_robin faults nested; do
+    status=0
+    "$top/marm" run --board "$here/$name.toml" --steps 20000 "$folder/$name.elf" >"$work/trace" || status=$?
+    python3 -B "$top/examples/firmware/console.py" <"$work/trace" >"$work/text"
+    last=$(tail -n 1 "$work/trace")
+    steps=$(tail -n 2 "$work/trace" | head -n 1 | cut -d' ' -f1)
+    if [ "$status" = 0 ] && [ "$last" = "stop breakpoint 0" ] && cmp "$work/text" "$here/expected/$name.txt"; then
+        echo "$name: as expected, $steps steps"
+    else
+        echo "$name: NOT AS EXPECTED, $steps steps, $last"
+        failed=1
+    fi
+done
+exit "$failed"

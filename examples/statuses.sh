@@ -1,0 +1,40 @@
+#!/usr/bin/env bash
+# Runs the program itself once for each exit status, and compares the status and the first line that it
+# writes: of standard output for 0 and 4, and of standard error for 2, 3 and 5.
+set -euo pipefail
+top=$(cd "$(dirname "${BASH_SOURCE[0]}")/.." && pwd)
+work=$(mktemp -d)
+trap 'rm -rf "$work"' EXIT
+failed=0
+
+# expect STATUS LINE WORDS..: the first line of standard output, or else of standard error, is LINE.
+expect() {
+    local status=$1 line=$2 got=0
+    shift 2
+    "$top/marm" "$@" >"$work/out" 2>"$work/err" || got=$?
+    local first
+    first=$(cat "$work/out" "$work/err" | head -n 1)
+    if [ "$got" != "$status" ] || [ "$first" != "$line" ]; then
+        echo "marm $*: status $got and '$first', not $status and '$line'"
+        failed=1
+    fi
+}
+
+# An image without program headers: the machine can't fetch its first instruction.
+{
+    head -c 44 "$top/examples/first.elf"
+    printf '\0\0\0\0\0\0\0\0'
+} >"$work/empty.elf"
+head -c 33 "$top/examples/first.elf" >"$work/cut.elf"
+board=$top/examples/boards/small.toml
+
+expect 0 "1 F 00000008 2 p ok off" run --board "$board" --steps 10 "$top/examples/first.elf"
+expect 0 "marm 0.1.0" --version
+expect 2 "marm: usage" run --board "$board" "$top/examples/first.elf"
+expect 3 "marm: load 1 Truncated" run --board "$board" --steps 10 "$work/cut.elf"
+expect 3 "marm: board 1 NotToml" run --board "$top/examples/first.elf" --steps 10 "$top/examples/first.elf"
+expect 3 "marm: start 10 SegmentOutsideMemory" run --board "${board%small.toml}large.toml" --steps 10 "$top/examples/first.elf"
+expect 4 "1 F FFFFFFFE 2 p mpu xn" run --board "$board" --steps 10 "$work/empty.elf"
+expect 5 "marm: io" run --board "$board" --steps 10 "$work/missing.elf"
+[ "$failed" = 0 ] && echo "each status is as it is to be"
+exit "$failed"
