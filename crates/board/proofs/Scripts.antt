@@ -13,7 +13,7 @@ use Rattle.board.specs.Texts.{◌>>=◌, count, in_front, script_in, timely_even
 abbrev Read : Type 0
 Read = Result (List ScriptedEvent) BoardFault
 
--- events in front of those that are read behind them
+-- events in front of those that are read after them
 abbrev pub after : List ScriptedEvent → Read → Read
 after done (Ok rest) = Ok (done ++ rest)
 after done (Err fault) = Err fault
@@ -23,7 +23,7 @@ after-in_front : (done : List ScriptedEvent) (event : ScriptedEvent) (rest : Rea
 after-in_front done event (Ok rest) = ap Ok (sym (append_assoc done (event ∷ []) rest))
 after-in_front done event (Err fault) = refl
 
--- the value at an index, and those behind it
+-- the value at an index, and those after it
 script_in-next : (lines before : ℕ) (values : List Value) (index : ℕ) (value : Value) → index < length values →
     value ≡ get_or values index value →
     script_in lines before (items_view (drop index values))

@@ -120,14 +120,14 @@ abbrev pub signal_in : ℕ → Members → Option Data → Result Signal BoardFa
 signal_in lines event None = line_signal lines event
 signal_in lines event (Some value) = nmi_signal value event
 
--- one event, on a board of so many lines
+-- one event, on a board with that number of lines
 unfoldable pub event_in : ℕ → Members → Result ScriptedEvent BoardFault
 event_in lines event = do
   at ← where_ok is_tick (number (get_member (codes "at") event))
   what ← signal_in lines event (get_member (codes "nmi") event)
   Ok (record { at = at; what = what })
 
--- one event more, in front of those behind it
+-- one event more, in front of those after it
 abbrev pub in_front : ScriptedEvent → Result (List ScriptedEvent) BoardFault → Result (List ScriptedEvent) BoardFault
 in_front event (Ok events) = Ok (event ∷ events)
 in_front event (Err fault) = Err fault

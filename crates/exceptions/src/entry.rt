@@ -5,7 +5,7 @@ ghost use Rattle.reference.specs.declared.access.Size.TheVariants.{Word};
 ghost use Rattle.reference.specs.LoadStore.{request};
 ghost use Rattle.reference.specs.ExceptionEntry.{words_from as words_from_of, pushes as pushes_of, vector_read as vector_read_of, handler_entered, vector_refused, exception_taken, begin_entry, take_vector};
 
-use crate::accesses::{Events, Requests, Values, serve};
+use crate::accesses::{Events, Requests, Values};
 use crate::faults::vector_fault;
 use crate::state::Core;
 use access::{Decider, DueTicks, Levels};
@@ -67,20 +67,11 @@ impl<D: Decider, L: Levels, U: DueTicks> Core<D, L, U> {
         ensures events { events.new.items ≡ (begin_entry self.old).events }
     {
         let requests = pushes(&self.regs);
-        let tick = self.bus.system.ticks();
-        let exception = self.regs.exception();
+        let mut values = Values::new();
+        let pushed = self.serve(events, requests.as_slice(), &mut values);
         self.entry = Some(self.regs.exc_return());
         self.regs.reserve_frame();
         self.asleep = false;
-        let mut values = Values::new();
-        let pushed = serve(
-            exception,
-            &mut self.bus,
-            tick,
-            events,
-            requests.as_slice(),
-            &mut values,
-        );
         if let Err(failure) = pushed {
             self.fail(events, failure);
         }
