@@ -1,7 +1,7 @@
 mod accesses;
 mod cut;
-mod exceptions;
 mod files;
+mod handlers;
 mod instructions;
 mod machines;
 mod places;
