@@ -6,7 +6,7 @@ mod bus;
 pub mod laws;
 
 pub use bus::Bus;
-pub use clock::{Counting, DueTicks, ScriptedEvent};
+pub use clock::{Ahead, Counting, DueTicks, ScriptedEvent};
 pub use mpu::{Decider, Search};
 pub use nvic::{Levels, PlainLevels};
 pub use reference::access::{Answer, Cause, Decision, Kind, Performed, Request, Rule, Size};

@@ -10,7 +10,7 @@ use crate::fault::{Fault, stop_status, tell};
 use crate::files::InputFile;
 use board::{Board, BoardFault, read_board};
 use elf::load;
-use machine::{Out, Paged, Slow, Stop};
+use machine::{Fast, Out, Paged, Stop};
 use std::alloc::Global;
 use std::io::Write;
 use std::str;
@@ -51,13 +51,13 @@ fn execute<O: Out + Drop>(
 {
     let image = load(image).map_err(Fault::Load)?;
     let board = board_of_file(alloc, board).map_err(Fault::Board)?;
-    let mut machine = Slow::new(alloc, &image, &board).map_err(Fault::Start)?;
+    let mut machine = Fast::new(alloc, &image, &board).map_err(Fault::Start)?;
     run_through(&mut machine, steps, out)
 }
 
 /// Runs a machine and hands its whole trace on.
 fn run_through<O: Out + Drop>(
-    machine: &mut Slow,
+    machine: &mut Fast,
     steps: u64,
     out: &mut Paged<O>,
 ) -> Result<Stop, Fault>

@@ -8,7 +8,9 @@ mod start;
 mod stepping;
 mod whole;
 
-pub use access::{Counting, Decider, DueTicks, Search};
+pub use access::{Ahead, Counting, Decider, DueTicks, Levels, PlainLevels, Search};
+pub use access_table::Table;
+pub use bit_levels::BitLevels;
 pub use board::{Board, InterruptLine, ScriptedEvent, Signal};
 pub use exceptions::Events;
 pub use output::{IoFault, Out, Over, Paged};
@@ -20,4 +22,4 @@ pub use reference::mpu::RegionCount;
 pub use reference::place::Place;
 pub use reference::stop::Stop;
 pub use trace::lines::{Text, event_line, stop_line};
-pub use whole::{Machine, RunFault, Slow};
+pub use whole::{Fast, Machine, RunFault, Slow};

@@ -16,7 +16,9 @@ use crate::readers::RegValues;
 use crate::run::run_core;
 use crate::start::start_core;
 use crate::stepping::Processor;
-use access::{Counting, Decider, DueTicks, Levels, PlainLevels, Search};
+use access::{Ahead, Counting, Decider, DueTicks, Levels, PlainLevels, Search};
+use access_table::Table;
+use bit_levels::BitLevels;
 use board::Board;
 use decode::Memo;
 use elf::Image;
@@ -50,6 +52,11 @@ pub struct Machine<D: Decider, L: Levels, U: DueTicks> {
 /// The machine that searches the regions at each access, looks at each exception, and counts each
 /// tick.
 pub type Slow = Machine<Search, PlainLevels, Counting>;
+
+/// The machine that finds the deciding region in a table, keeps the exceptions in sets of bits, and
+/// knows the next tick at which something is due. Its steps are those of `Slow`, by the same
+/// contracts.
+pub type Fast = Machine<Table, BitLevels, Ahead>;
 
 impl<D: Decider, L: Levels, U: DueTicks> Model for Machine<D, L, U> {
     ghost use Rattle.machine.specs.Whole.{Whole};
