@@ -1,0 +1,135 @@
+-- One access, and a list of them.
+use Rattle.std.proofs.Common.{◌≡◌, inl, inr, ℕ, zero, suc, ◌+◌, ◌/◌, nat_le, nat_lt, Bool, true, false, ◌&&◌, ◌||◌, if◌then◌else◌, List, [], ◌∷◌, length, Some, Result, Ok, Err, refl, ap, arith}
+use Rattle.std.proofs.lemmas.Bool.Decides.{nat_tests}
+use Rattle.reference.specs.declared.access.Answer.TheVariants as answer
+use Rattle.reference.specs.declared.access.Decision.{Decision}
+use Rattle.reference.specs.declared.access.Performed.{Performed}
+use Rattle.reference.specs.declared.access.Performed.TheVariants as performed
+use Rattle.reference.specs.declared.access.Request.{Request}
+use Rattle.reference.specs.declared.access.Rule.{Rule}
+use Rattle.reference.specs.declared.event.Event.{Event}
+use Rattle.reference.specs.declared.failure.Failure.{Failure}
+use Rattle.reference.specs.Accesses.{Answered, Served, carried_out, performed_by, decided, decision, perform, accessed, console_line, told, value_of, followed, perform_all}
+use Rattle.reference.specs.Kinds.{bytes_in, is_write}
+use Rattle.reference.specs.Map.{is_in_ppb, is_in_window}
+use Rattle.reference.specs.Memory.{Memory, is_in_ram, bytes_of, overwritten}
+use Rattle.reference.specs.Space.{Reached, is_out, written_to, space_access}
+use Rattle.reference.specs.State.{Bus}
+use Rattle.step_laws.specs.AccessLaw.{AllGranted, OnlyCovered}
+use Rattle.step_laws.proofs.Blocks.{IsOutside, overwritten_keeps}
+use Rattle.step_laws.proofs.Lines.{granted-nil, granted-cons, EndIn, failure_in, ends-append, covered-append}
+
+-- ---- the bytes of one access
+
+pub either : {A : Type 0} (P : A → Type 0) (test : Bool) (x y : A) → (test ≡ true → P x) → (test ≡ false → P y) →
+    P (if test then x else y)
+either P true x y first second = first refl
+either P false x y first second = second refl
+
+length-bytes_of : (n v : ℕ) → length (bytes_of n v) ≡ n
+length-bytes_of zero v = refl
+length-bytes_of (suc n) v = ap suc (length-bytes_of n (v / 256))
+
+-- an address that a write doesn't cover lies outside it
+outside : (a n x : ℕ) (b : Bool) → ((nat_le a x && nat_lt x (a + n)) || b) ≡ false → IsOutside a n x
+outside a n x b e = split (nat_le a x) (nat_lt x (a + n)) refl refl
+  where
+    split : (low high : Bool) → nat_le a x ≡ low → nat_lt x (a + n) ≡ high → IsOutside a n x
+    split true true l h = absurd (cc)
+    split true false l h = inr (grind (arith, nat_tests, h))
+    split false high l h = inl (grind (arith, nat_tests, l))
+
+-- memory after an access changes only where its lines cover it
+abbrev Writes : ℕ → Request → Memory → Reached → Type 0
+Writes tick q m r = (rule : Rule) → OnlyCovered m r.memory (told tick q (performed_by rule r.answer))
+
+stored : (tick : ℕ) (q : Request) (m : Memory) → is_write q.access.kind ≡ true →
+    is_in_ram m q.access.address (bytes_in q.access.size) ≡ true →
+    Writes tick q m (record {
+      memory = overwritten m q.access.address (bytes_of (bytes_in q.access.size) q.value);
+      answer = answer.Value 0;
+    })
+stored tick q m writing there rule address e =
+    let long = length-bytes_of (bytes_in q.access.size) q.value in
+    let bytes = bytes_of (bytes_in q.access.size) q.value in
+    let there_too : is_in_ram m q.access.address (length bytes) ≡ true = rw long there in
+    let apart : IsOutside q.access.address (length bytes) address =
+    rw long (outside q.access.address (bytes_in q.access.size) address _ (rw writing at e)) in
+    overwritten_keeps m q.access.address address bytes there_too apart
+
+writing_writes : (tick : ℕ) (q : Request) (m : Memory) → is_write q.access.kind ≡ true →
+    Writes tick q m (written_to m q)
+writing_writes tick q m writing =
+    either (Writes tick q m) (is_in_window q.access.address) _ _ (λ e rule address f. refl)
+    (λ away. either (Writes tick q m) (is_in_ram m q.access.address (bytes_in q.access.size)) _ _
+    (stored tick q m writing) (λ e rule address f. refl))
+
+space_writes : (tick ticks : ℕ) (q : Request) (m : Memory) → Writes tick q m (space_access m ticks q)
+unfolding space_access
+space_writes tick ticks q m =
+    either (Writes tick q m) (is_write q.access.kind) _ _ (writing_writes tick q m) (λ e rule address f. refl)
+
+abbrev BusWrites : ℕ → Request → Bus → Answered → Type 0
+BusWrites tick q b a = (rule : Rule) → OnlyCovered b.memory a.bus.memory (told tick q (performed_by rule a.answer))
+
+carried_writes : (exception tick : ℕ) (b : Bus) (q : Request) → BusWrites tick q b (carried_out exception b q)
+unfolding carried_out
+carried_writes exception tick b q =
+    either (BusWrites tick q b) (is_in_ppb q.access.address) _ _ (λ e rule address f. refl)
+    (λ e. space_writes tick b.system.time.ticks q b.memory)
+
+decided_writes : (exception tick : ℕ) (b : Bus) (q : Request) (d : Decision) (granted : Bool) →
+    d.granted ≡ granted →
+    OnlyCovered b.memory (decided exception b q d).bus.memory (told tick q (decided exception b q d).performed)
+decided_writes exception tick b q d true e = rw e (carried_writes exception tick b q d.rule)
+decided_writes exception tick b q d false e = rw e (λ address f. refl)
+
+-- one access
+pub perform_writes : (exception tick : ℕ) (b : Bus) (q : Request) →
+    OnlyCovered b.memory (perform exception b q).bus.memory (told tick q (perform exception b q).performed)
+unfolding perform
+perform_writes exception tick b q = decided_writes exception tick b q (decision b q) _ refl
+
+-- ---- the lines of one access
+
+console_granted : (tick : ℕ) (q : Request) (out : Bool) → is_out q ≡ out → AllGranted (console_line tick q)
+console_granted tick q true e = rw e (granted-cons _ [] refl granted-nil)
+console_granted tick q false e = rw e granted-nil
+
+-- the lines of an access end as it does
+pub told_ends : (tick : ℕ) (q : Request) (p : Performed) → EndIn (failure_in (value_of q p)) (told tick q p)
+told_ends tick q (performed.Done rule value) = granted-cons _ _ refl (console_granted tick q _ refl)
+told_ends tick q (performed.Denied rule cause) = record {
+  granted = [];
+  refused = accessed tick q rule (Some cause);
+  rule = rule;
+  events_are = refl;
+  are_granted = granted-nil;
+  is_refusal = refl;
+}
+told_ends tick q (performed.Stop why) = granted-nil
+
+-- ---- a list of accesses
+
+-- what a list of accesses leaves, from a memory on
+pub record ServedWell (old : Memory) (all : Served) : Type 0 where
+  pub ends : EndIn all.failure all.events
+  pub only : OnlyCovered old all.bus.memory all.events
+
+followed_well : (old : Memory) (events : List Event) (after : Bus) (value : Result ℕ Failure) (rest : Served) →
+    EndIn (failure_in value) events → OnlyCovered old after.memory events → ServedWell after.memory rest →
+    ServedWell old (followed events after value rest)
+followed_well old events after (Ok value) rest ends only well = record {
+  ends = ends-append rest.failure events rest.events ends well.ends;
+  only = covered-append old after.memory rest.bus.memory events rest.events only well.only;
+}
+followed_well old events after (Err why) rest ends only well = record { ends = ends; only = only }
+
+pub served_well : (exception tick : ℕ) (b : Bus) (qs : List Request) →
+    ServedWell b.memory (perform_all exception tick b qs)
+unfolding perform_all
+served_well exception tick b [] = record { ends = granted-nil; only = λ address e. refl }
+served_well exception tick b (q ∷ qs) =
+    followed_well b.memory _ _ _ _ (told_ends tick q (perform exception b q).performed)
+    (perform_writes exception tick b q)
+    (served_well exception tick (perform exception b q).bus qs)

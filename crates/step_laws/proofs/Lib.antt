@@ -1,0 +1,6 @@
+mod Blocks
+mod Lines
+mod Bytes
+mod Faults
+mod Exceptions
+mod Steps

@@ -1,0 +1,84 @@
+-- The lines of accesses, one after another.
+use Rattle.std.proofs.Common.{◌≡◌, ℕ, Bool, true, false, ◌||◌, List, [], ◌∷◌, ◌++◌, Option, Some, None, Result, Ok, Err, refl, sym, ◌∙◌, ap, append_assoc}
+use Rattle.std.proofs.lemmas.List.Elements.{All-nil, All-cons, All-append}
+use Rattle.std.proofs.lemmas.List.Folds.{list_any-append}
+use Rattle.reference.specs.declared.access.Access.{Access}
+use Rattle.reference.specs.declared.access.Cause.{Cause}
+use Rattle.reference.specs.declared.access.Rule.{Rule}
+use Rattle.reference.specs.declared.event.Event.{Event}
+use Rattle.reference.specs.declared.event.Happening.TheVariants.{Accessed}
+use Rattle.reference.specs.declared.failure.Failure.{Failure}
+use Rattle.reference.specs.declared.failure.Failure.TheVariants.{Refused, Usage, Stop}
+use Rattle.reference.specs.Memory.{Memory}
+use Rattle.step_laws.specs.AccessLaw.{is_refused, AllGranted, covers, are_covering, OnlyCovered}
+
+-- ---- refusals
+
+pub granted-nil : AllGranted []
+granted-nil = All-nil (λ event. is_refused event.what ≡ false)
+
+pub granted-cons : (e : Event) (es : List Event) → is_refused e.what ≡ false → AllGranted es → AllGranted (e ∷ es)
+granted-cons e es first rest = All-cons (λ event. is_refused event.what ≡ false) e es first rest
+
+pub granted-append : (xs ys : List Event) → AllGranted xs → AllGranted ys → AllGranted (xs ++ ys)
+granted-append xs ys first rest = All-append (λ event. is_refused event.what ≡ false) xs ys first rest
+
+-- the last event is the refusal of this access
+pub record LastRefused (access : Access) (cause : Cause) (events : List Event) : Type 0 where
+  pub granted : List Event
+  pub refused : Event
+  pub rule : Rule
+  pub events_are : events ≡ granted ++ refused ∷ []
+  pub are_granted : AllGranted granted
+  pub is_refusal : refused.what ≡ Accessed (record { access = access; rule = rule; refused = Some cause })
+
+-- lines that end in a failure, or in none
+abbrev pub EndIn : Option Failure → List Event → Type 0
+EndIn None events = AllGranted events
+EndIn (Some (Refused access cause)) events = LastRefused access cause events
+EndIn (Some (Usage fault)) events = AllGranted events
+EndIn (Some (Stop why)) events = AllGranted events
+
+abbrev pub failure_in : Result ℕ Failure → Option Failure
+failure_in (Ok value) = None
+failure_in (Err why) = Some why
+
+last-append : (access : Access) (cause : Cause) (xs ys : List Event) → AllGranted xs →
+    LastRefused access cause ys → LastRefused access cause (xs ++ ys)
+last-append access cause xs ys before last = record {
+  granted = xs ++ last.granted;
+  refused = last.refused;
+  rule = last.rule;
+  events_are = ap (λ es. xs ++ es) last.events_are ∙ sym (append_assoc xs last.granted (last.refused ∷ []));
+  are_granted = granted-append xs last.granted before last.are_granted;
+  is_refusal = last.is_refusal;
+}
+
+-- granted lines before them
+pub ends-append : (failure : Option Failure) (xs ys : List Event) → AllGranted xs → EndIn failure ys →
+    EndIn failure (xs ++ ys)
+ends-append None xs ys before end = granted-append xs ys before end
+ends-append (Some (Refused access cause)) xs ys before end = last-append access cause xs ys before end
+ends-append (Some (Usage fault)) xs ys before end = granted-append xs ys before end
+ends-append (Some (Stop why)) xs ys before end = granted-append xs ys before end
+
+-- ---- bytes
+
+neither : (x y : Bool) → (x || y) ≡ false → (x ≡ false) × (y ≡ false)
+neither true y e = absurd cc
+neither false y e = (refl, e)
+
+-- an address that lines leave uncovered is left so by either part of them
+pub uncovered : (xs ys : List Event) (address : ℕ) → are_covering (xs ++ ys) address ≡ false →
+    (are_covering xs address ≡ false) × (are_covering ys address ≡ false)
+uncovered xs ys address e = neither _ _ (sym (list_any-append (λ (event : Event). covers event.what address) xs ys) ∙ e)
+
+-- one after another
+pub covered-append : (old between new : Memory) (xs ys : List Event) → OnlyCovered old between xs →
+    OnlyCovered between new ys → OnlyCovered old new (xs ++ ys)
+covered-append old between new xs ys first rest address e =
+    let apart = uncovered xs ys address e in rest address apart.1 ∙ first address apart.0
+
+-- more lines, while memory stays
+pub covered-more : (old new : Memory) (xs ys : List Event) → OnlyCovered old new xs → OnlyCovered old new (xs ++ ys)
+covered-more old new xs ys first address e = first address (uncovered xs ys address e).0

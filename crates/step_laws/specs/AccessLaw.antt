@@ -1,0 +1,81 @@
+-- What holds of the accesses of a step, whatever the state (ARM DDI 0403, MemA[], "Fault behavior").
+use Rattle.std.specs.Prelude.{◌≡◌, ◌⊎◌, ℕ, ◌+◌, nat_le, nat_lt, Bool, false, not, ◌&&◌, is_some, bit_and, List, [], ◌∷◌, ◌++◌, All, Some}
+use Rattle.std.specs.List.{list_any}
+use Rattle.reference.specs.declared.access.Access.{Access}
+use Rattle.reference.specs.declared.access.Cause.{Cause}
+use Rattle.reference.specs.declared.access.DecidedAccess.{DecidedAccess}
+use Rattle.reference.specs.declared.access.Rule.{Rule}
+use Rattle.reference.specs.declared.event.Event.{Event}
+use Rattle.reference.specs.declared.event.Happening.{Happening}
+use Rattle.reference.specs.declared.event.Happening.TheVariants.{Accessed, ConsoleByte, ReturnBegan, HandlerEntered, FaultRecorded}
+use Rattle.reference.specs.declared.event.RecordedFault.{RecordedFault}
+use Rattle.reference.specs.declared.exception.TheConstants.{HARD_FAULT}
+use Rattle.reference.specs.declared.fault_status.FaultEffect.{FaultEffect}
+use Rattle.reference.specs.Faults.{fault_of}
+use Rattle.reference.specs.Kinds.{bytes_in, is_write}
+use Rattle.reference.specs.Memory.{Memory, byte_at}
+
+-- ---- refused accesses
+
+-- whether an event is an access that was refused, by a rule or by the bus
+abbrev pub is_refused : Happening → Bool
+is_refused (Accessed a) = is_some a.refused
+is_refused (ConsoleByte byte) = false
+is_refused (ReturnBegan exc_return) = false
+is_refused (HandlerEntered exception) = false
+is_refused (FaultRecorded fault) = false
+
+-- no access is refused
+abbrev pub AllGranted : List Event → Type 0
+AllGranted events = All (λ event. is_refused event.what ≡ false) events
+
+-- a fault line is that of a fault of the table: its bits are set in CFSR and HFSR, and what became pending is its
+-- exception, or HardFault in its place; in lockup nothing did
+pub record IsLineOf (effect : FaultEffect) (fault : RecordedFault) : Type 0 where
+  pub exception : (fault.exception ≡ effect.exception) ⊎ ((fault.exception ≡ HARD_FAULT) ⊎ (fault.exception ≡ 0))
+  pub cfsr : bit_and fault.cfsr effect.cfsr ≡ effect.cfsr
+  pub hfsr : bit_and fault.hfsr effect.hfsr ≡ effect.hfsr
+
+-- the last access is refused, and the last event is the line of its fault
+pub record EndsRefused (events : List Event) : Type 0 where
+  pub granted : List Event
+  pub refused : Event
+  pub last : Event
+  pub events_are : events ≡ granted ++ refused ∷ last ∷ []
+  pub are_granted : AllGranted granted
+  pub access : Access
+  pub rule : Rule
+  pub cause : Cause
+  pub is_refused : refused.what ≡ Accessed (record { access = access; rule = rule; refused = Some cause })
+  pub fault : RecordedFault
+  pub is_fault : last.what ≡ FaultRecorded fault
+  pub is_of_access : IsLineOf (fault_of access cause) fault
+
+-- at most one access is refused: it is the last access, and the next event, which is the last, is the line of its fault
+abbrev pub OneRefusal : List Event → Type 0
+OneRefusal events = AllGranted events ⊎ EndsRefused events
+
+-- ---- bytes
+
+-- whether an access was a store or a push that was carried out, and wrote the byte at an address
+abbrev pub writes : DecidedAccess → ℕ → Bool
+writes a address =
+    is_write a.access.kind && not (is_some a.refused)
+    && (nat_le a.access.address address && nat_lt address (a.access.address + bytes_in a.access.size))
+
+-- whether an event is such an access
+abbrev pub covers : Happening → ℕ → Bool
+covers (Accessed a) address = writes a address
+covers (ConsoleByte byte) address = false
+covers (ReturnBegan exc_return) address = false
+covers (HandlerEntered exception) address = false
+covers (FaultRecorded fault) address = false
+
+-- whether one of the events is
+abbrev pub are_covering : List Event → ℕ → Bool
+are_covering events address = list_any (λ event. covers event.what address) events
+
+-- bytes of flash and RAM change only where a store or a push of these events that was carried out covers them
+abbrev pub OnlyCovered : Memory → Memory → List Event → Type 0
+OnlyCovered old new events =
+    (address : ℕ) → are_covering events address ≡ false → byte_at new address ≡ byte_at old address
