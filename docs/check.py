@@ -1,0 +1,377 @@
+#!/usr/bin/env python3
+"""Checks that each name on the pages is in the repository.
+
+    python3 docs/check.py            all pages; exits 1 and lists 'file:line: name' where a name is missing
+    python3 docs/check.py PAGE..     these pages alone
+
+A page is README.md, CONTRIBUTING.md, docs/*.md or crates/*/README.md. A name is what stands there in code quotes:
+
+    `name`, `name()`         a definition of specs/ or proofs/, an item, field, variant, clause or parameter of src/
+    `Owner::name`            the same, of that type, trait, module or crate
+    `Owner.name`             the same
+    `a/path.rt`, `file.rt`   a file or folder, from the top, from the page's crate, or the end of one path alone
+    `a-word`                 a word that src/ or specs/ write or read: a stop, a key, a rule
+    `some code = 1`          each name in it
+    `command word ..`        the files in it
+
+In a table with a column "Definition", "Function" or "Test", a chapter or a crate ahead of a name says where the name
+has to be: "Step `running`", "exec `plan`", "test_runs `short_runs`". The links of all pages are checked too.
+"""
+
+import fnmatch
+import glob
+import os
+import re
+import subprocess
+import sys
+
+TOP = os.path.dirname(os.path.dirname(os.path.abspath(__file__)))
+
+# ---- what is no name of the repository -------------------------------------------------------------------------
+
+# programs, and the first words of commands
+COMMANDS = set("""rt make man python3 valgrind taskset ld.lld arm-none-eabi-ld arm-none-eabi-gcc clang gcc git apt-get
+llvm-readelf llvm-objdump llvm-mc llvm-objcopy qemu-system-arm readelf awk date""".split())
+
+# what `rt` takes: its words and options
+RT_WORDS = set("""check ci test try lib lemma fmt tidy plant must-fail version doc run new verdict all names help --only
+--margin --fail-alloc --test --max --start --allow-holes""".split())
+
+# words of Rust, of antt, of std and of the kit's libraries that pages speak of
+LANGUAGE = set("""usize u8 u16 u32 u64 i32 i64 bool str String Vec Option Result Some None Ok Err true false self mut
+fn pub impl struct enum trait match for in let if else use mod unsafe derive cold Default Clone Copy Drop Model Write
+Read Global panic unwrap refl rw let's suc zero omega abbrev unfoldable record data with where opaque ghost ensures
+requires using unfolding auto search simp loop items view invariant Value ArrayVec codes decimal find Appends Keeps
+OnOk OnErr IfOk IfErr OnTrue OnFalse IsSome IsOk All AllPairs append_known is_utf8 parse_document Members length drop
+take unwrap_or Prelude Type nat_le nat_lt is_some Invariants Answers Proof old new now result const tactic cond""".split())
+
+# names of the ELF format, of linkers, of the C library, of other tools and of their files
+OUTSIDE = set("""e_ident EI_CLASS EI_DATA e_type e_machine e_phoff e_phentsize e_phnum e_entry e_version e_flags e_ehsize
+p_type p_offset p_paddr p_filesz p_vaddr p_memsz p_flags p_align MEMORY PHDRS FILEHDR FLASH RAM AT LOADADDR ORIGIN
+PROVIDE KEEP memcpy memmove memset strcmp strstr printf malloc _sbrk _write _exit _read _close _fstat _isatty _lseek
+mps2-an385 start.elf .bss .data setpan setend rattle-kit-13b""".split())
+
+# instructions and registers of the manual, and words of a trace line
+MANUAL = re.compile(r"""^(R\d+|R\[n\]|[A-Z][A-Z0-9_]+(\.[A-Z0-9_]+)?   # registers, fields, instructions
+    |[A-Z]\w*(\(\)|\[\])                                               # the manual's functions
+    |r\d+|[FLSKUVORX!pu]|xn|vec|ppb|off|neg|bg|none|ok|mpu|bus         # kinds, rules and outcomes
+    |0x[0-9A-Fa-f_]+|0b[01_]+|[0-9A-F]{4,8}|\d[\d,.]*)$""", re.X)
+
+# variables, letters of a row, and words that stand for others
+PLACEHOLDERS = set("""N NAME FILE IMAGE BOARD STEPS COUNT SEED ROUNDS PAGE WORD WORDS HEAD F T U D L K E W ROOM number
+name x i f b o z a c s n e mmm ddd .. steps""".split())
+
+# pages that speak of examples/, bench/ and crosscheck/ too
+EXAMPLE_PAGES = {f"docs/{name}.md" for name in "FIRMWARE KERNELS BUILDING CROSSCHECK QEMU AUDIT".split()}
+
+# a line of a trace, as an example
+TRACE_LINE = re.compile(r"^(\d+ [FLSKUVORX!] |stop [a-z]+)")
+
+# ---- what the repository has -----------------------------------------------------------------------------------
+
+
+def read(path):
+    with open(os.path.join(TOP, path), encoding="utf-8", errors="replace") as file:
+        return file.read()
+
+
+def tracked():
+    listed = subprocess.run(["git", "-C", TOP, "ls-files", "-co", "--exclude-standard"], capture_output=True, text=True)
+    return [path for path in listed.stdout.splitlines() if os.path.exists(os.path.join(TOP, path))]
+
+
+ITEM = re.compile(r"\b(?:fn|struct|enum|trait|type|const|static|mod|ghost|ensures|requires|label)\s+([A-Za-z_]\w*)")
+TYPED = re.compile(r"\b([a-z_]\w*)\s*:(?!:)")
+VARIANT = re.compile(r"^\s+([A-Z]\w*)\s*(?:[,({]|$)", re.M)
+MACRO = re.compile(r"macro_rules!\s*(\w+)")
+BLOCK = re.compile(r"^(?:pub(?:\([a-z]+\))?\s+)?(impl|trait|enum|struct)\b([^{;]*)\{(.*?)^\}", re.M | re.S)
+TEXT = re.compile(r'"([^"\\\n]{1,60})"')
+SPEC = re.compile(r"^\s*(?:(?:abbrev|unfoldable|opaque|pub|record|data|mod|private|syntax)\s+)*([A-Za-z_][\w'-]*)\s*[:({]?", re.M)
+WORD = re.compile(r"[A-Za-z_][\w']*")
+
+
+def without_comments(text):
+    return re.sub(r"//[^\n]*", "", text)
+
+
+class Repository:
+    def __init__(self):
+        self.files = tracked()
+        self.folders = {os.path.dirname(path) for path in self.files}
+        for path in list(self.folders):
+            while path:
+                path = os.path.dirname(path)
+                self.folders.add(path)
+        self.crates = [line.split(":")[0] for line in read("crates.txt").splitlines() if re.match(r"[a-z]\w*:", line)]
+        self.below = {}                    # the crates and libraries of the kit that a crate is built on
+        for line in read("crates.txt").splitlines():
+            if re.match(r"[a-z]\w*:", line):
+                name, uses = line.split(":")
+                self.below[name] = uses.split()
+        self.names = set(self.crates).union(*self.below.values())      # every name
+        self.examples = set()              # every word of examples/, bench/ and crosscheck/
+        self.texts = set()                 # every word that is written or read
+        self.of_crate = {}                 # the names of a crate
+        self.of_file = {}                  # the names of a file, by its stem: chapters and modules
+        self.of_owner = {}                 # the members of a type or a trait
+        self.traits_of = {}                # the traits that a type has
+        self.seen = {}                     # the names that a page can speak of
+        for path in self.files:
+            parts = path.split("/")
+            if path.endswith(".rt"):
+                found = self.rust(read(path), parts[1].startswith("test_") if len(parts) > 1 else False)
+            elif path.endswith(".antt"):
+                found = self.definitions(read(path))
+            elif path.endswith((".c", ".h", ".s", ".ld", ".py", ".sh", "Makefile", ".toml", ".in", ".1")) or parts[-1] == "marm":
+                (self.texts if parts[-1] in ("marm.1", "marm") else self.examples).update(re.findall(r"[\w.-]+", read(path)))
+                continue
+            else:
+                continue
+            self.names |= found
+            stem = os.path.splitext(parts[-1])[0]
+            self.of_file.setdefault(stem, set()).update(found)
+            if parts[0] == "crates":
+                self.of_crate.setdefault(parts[1], set()).update(found)
+                if parts[2] == "must-fail":
+                    self.names.add(parts[-1])
+        self.names_of_files = {os.path.splitext(os.path.basename(path))[0] for path in self.files}
+        self.names |= self.names_of_files
+
+    def rust(self, text, is_test):
+        code = without_comments(text)
+        found = set(ITEM.findall(code)) | set(MACRO.findall(code)) | set(TYPED.findall(code)) | set(VARIANT.findall(code))
+        if not is_test:
+            for words in TEXT.findall(code):
+                self.texts.update(re.findall(r"[\w-]+", words))
+        for kind, head, body in BLOCK.findall(code):
+            owner = re.sub(r"<[^<>]*>", "", re.sub(r"<[^<>]*>", "", head)).split(" where ")[0].strip()
+            trait = None
+            if kind == "impl" and " for " in owner:
+                trait, owner = (part.strip() for part in owner.split(" for ", 1))
+            owner = owner.split(":")[0].split("(")[0].strip().lstrip("&").split(" ")[0].split("::")[-1]
+            members = self.of_owner.setdefault(owner, set())
+            members.update(ITEM.findall(body))
+            members.update(VARIANT.findall(body))
+            members.update(TYPED.findall(body))
+            if trait:
+                self.traits_of.setdefault(owner, set()).add(trait.split("::")[-1])
+        return found
+
+    def definitions(self, text):
+        code = re.sub(r"--[^\n]*", "", text)
+        for words in TEXT.findall(code):
+            self.texts.update(re.findall(r"[\w-]+", words))
+        return set(SPEC.findall(code))
+
+    def has(self, name, page):
+        if page in EXAMPLE_PAGES and name in self.examples:
+            return True
+        return name in self.near(page) or name in self.texts or name in LANGUAGE or name in OUTSIDE
+
+    def near(self, page):
+        """The names that a page can speak of: for a crate's README those of the crate, of what it is built on, and of
+        the crates that the page names; for the others all."""
+        if page not in self.seen:
+            self.seen[page] = self.names
+            if page.startswith("crates/"):
+                own = page.split("/")[1]
+                reached, left = set(), [own] + [crate for crate in self.crates if re.search(rf"`{crate}`", read(page))]
+                while left:
+                    crate = left.pop()
+                    if crate not in reached:
+                        reached.add(crate)
+                        left += self.below.get(crate, [])
+                self.seen[page] = self.names_of_files.union(self.crates, *self.below.values())
+                self.seen[page].update(*(self.of_crate.get(crate, set()) for crate in reached))
+        return self.seen[page]
+
+    def has_member(self, owner, name):
+        places = [self.of_owner.get(owner, set()), self.of_file.get(owner, set()), self.of_crate.get(owner, set())]
+        places += [self.of_owner.get(trait, set()) for trait in self.traits_of.get(owner, ())]
+        if owner in self.of_owner or owner in self.of_file or owner in self.of_crate:
+            return any(name in place for place in places)
+        return False
+
+    def has_path(self, path, page):
+        path = re.sub(r"^\./", "", path).rstrip("/")
+        if "NAME" in path:
+            path = path.replace("NAME", "*")
+        if any(fnmatch.fnmatch(folder, path) for folder in self.folders):
+            return True
+        patterns = [known for known in self.files if fnmatch.fnmatch("/" + known, "*/" + path)] if "*" in path else []
+        if patterns:
+            return True
+        above = os.path.dirname(page)
+        for base in ("", above, os.path.join(above, "src"), os.path.join(above, "specs"), "crates", "crates/reference"):
+            full = os.path.normpath(os.path.join(base, path))
+            if full in self.files or full in self.folders:
+                return True
+        return any(("/" + known).endswith("/" + path) for known in self.files) or any(
+            ("/" + known).endswith("/" + path) for known in self.folders)
+
+
+# ---- one name --------------------------------------------------------------------------------------------------
+
+
+def missing(repo, span, page):
+    """Returns what of a code span isn't in the repository."""
+    span = span.strip()
+    if not span or span in OUTSIDE or re.match(r"^[a-z]\d$", span) or MANUAL.match(span) or span in PLACEHOLDERS or span in LANGUAGE or TRACE_LINE.match(span):
+        return []
+    if re.match(r"^[\"'\[(<>=.,;:!?*+&|{}#\\-]+$", span):
+        return []
+    words = span.split()
+    if words[0] in COMMANDS or words[0].startswith(("./", "crosscheck/", "bench/", "docs/")) and len(words) > 1:
+        lost = [w for w in words if "/" in w and w[0].isalpha() and not repo.has_path(w, page)]
+        if words[0] == "rt" and len(words) > 1 and words[1] not in RT_WORDS:
+            lost.append(span)
+        return lost
+    if len(words) == 1:
+        if re.match(r"^-{1,2}[A-Za-z]", span):
+            return [] if span.split("=")[0] in repo.texts or span.lstrip("-") in repo.texts or span in OPTIONS else [span]
+        if "/" in span or re.match(r"^[\w*-]+\.(rt|antt|py|sh|md|toml|elf|s|c|h|ld|txt|edit|1|in)$", span):
+            return [] if span in OUTSIDE or repo.has_path(span, page) else [span]
+        if re.match(r"^[\w-]+(-[\w]+)+$", span):
+            return [] if span in repo.texts or repo.has(span, page) else [span]
+    lost = []
+    for chain in re.findall(r"[A-Za-z_][\w'<>:.!-]*", re.sub(r"\b(FLASH|RAM)\b", "", span)):
+        chain = chain.strip(":.!<>")
+        generic = re.sub(r"<[^>]*>?", "", chain)
+        parts = [part for part in re.split(r"::|\.", generic) if part]
+        if not parts:
+            continue
+        if len(parts) == 1:
+            if not known(repo, parts[0], page):
+                lost.append(parts[0])
+            continue
+        for owner, name in zip(parts, parts[1:]):
+            if name in ("new", "old", "now", "items", "default") and "." in generic:
+                continue
+            if owner in LANGUAGE or MANUAL.match(generic) or generic in OUTSIDE:
+                continue
+            if "::" in generic and not repo.has_member(owner, name):
+                lost.append(generic)
+                break
+            if "::" not in generic and not (known(repo, owner, page) and known(repo, name, page)):
+                lost.append(generic)
+                break
+    return lost
+
+
+def known(repo, word, page):
+    return repo.has(word, page) or bool(MANUAL.match(word)) or word in PLACEHOLDERS or word.lower() in ENGLISH
+
+
+# options of compilers, linkers and disassemblers
+OPTIONS = set("-pie -shared -r -Oz -O0 -O1 -O2 -O3 -Os -Wl,-n -n -T --mcpu=cortex-m3 -mthumb -mcpu=cortex-m3 -nostdlib".split())
+
+# words of a message or of an example that are quoted whole
+ENGLISH = set("marm is it takes at and the before event of other entries has ended all run out lost ahead to none".split())
+
+# ---- a page ----------------------------------------------------------------------------------------------------
+
+
+def lines_of(page):
+    """Yields the lines of a page with their numbers, and whether a line is part of a block of code."""
+    fenced = False
+    for number, line in enumerate(read(page).split("\n"), 1):
+        if line.startswith("```"):
+            fenced = not fenced
+            continue
+        yield number, line, fenced or line.startswith("    ")
+
+
+def spans(line):
+    return re.findall(r"(?<!`)`([^`]+)`(?!`)", line)
+
+
+COLUMNS = ("Definition", "Function", "Function, clause", "Test")
+
+
+def in_columns(repo, header, line):
+    """Returns the names of a row of a table that aren't where the row says, and the places that aren't there."""
+    lost = []
+    cells = [cell.strip() for cell in line.strip().strip("|").split(" | ")]
+    for title, cell in zip(header, cells):
+        if title not in COLUMNS:
+            continue
+        place = None
+        for token in re.findall(r"`[^`]+`|[A-Za-z_][\w*]*|[:;]", cell):
+            if token in ":;":
+                continue
+            if not token.startswith("`"):
+                if token in repo.of_crate or token in repo.of_file:
+                    place = token
+                elif re.match(r"^[A-Z]\w+$", token) and title == "Definition":
+                    matches = [stem for stem in repo.of_file if token.endswith("*") and stem.startswith(token[:-1])]
+                    if not matches:
+                        lost.append(token)
+                continue
+            name = re.sub(r"\(.*", "", token.strip("`"))
+            if place is None or "/" in name or " " in name or "::" in name or "." in name:
+                continue
+            if name not in repo.of_file.get(place, set()) and name not in repo.of_crate.get(place, set()):
+                lost.append(f"{place} {name}")
+    return lost
+
+
+def check(repo, page):
+    found = []
+    header = None
+    for number, line, is_code in lines_of(page):
+        if is_code:
+            continue
+        if line.startswith("|"):
+            if header is None:
+                header = [cell.strip() for cell in line.strip().strip("|").split("|")]
+            elif not re.match(r"^\|[-| :]+$", line):
+                found += [(number, name) for name in in_columns(repo, header, line)]
+        else:
+            header = None
+        for span in spans(line):
+            found += [(number, name) for name in missing(repo, span, page)]
+        for target in re.findall(r"\]\(([^)#]+)(?:#[^)]*)?\)", re.sub(r"`[^`]*`", "", line)):
+            if not target.startswith("http") and not os.path.exists(os.path.join(TOP, os.path.dirname(page), target)):
+                found.append((number, target))
+    return found
+
+
+def lists(repo):
+    """Returns what a list that has to be whole leaves out: the chapters, the crates and the pages."""
+    lost = []
+    rows = {line.split("|")[1].strip() for line in read("docs/REFERENCE.md").split("\n") if line.startswith("|")}
+    listed = {name for row in rows for name in row.split(", ")}
+    chapters = {os.path.basename(path)[:-5] for path in repo.files if path.startswith("crates/reference/specs/")} - {"Lib"}
+    lost += [("docs/REFERENCE.md", chapter) for chapter in sorted(chapters - listed)]
+    lost += [("docs/REFERENCE.md", name) for name in sorted(listed - chapters) if re.match(r"^[A-Z]\w+$", name) and name != "File"]
+    text = read("docs/ARCHITECTURE.md")
+    lost += [("docs/ARCHITECTURE.md", crate) for crate in repo.crates if not re.search(rf"(?<!\w){crate}(?!\w)", text)]
+    text = read("docs/README.md")
+    lost += [("docs/README.md", path) for path in sorted(repo.files) if re.match(r"docs/[A-Z]+\.md$", path) and path != "docs/README.md"
+             and f"({os.path.basename(path)})" not in text]
+    return lost
+
+
+def pages():
+    found = ["README.md", "CONTRIBUTING.md"]
+    for pattern in ("docs/*.md", "crates/*/README.md"):
+        found += sorted(os.path.relpath(path, TOP) for path in glob.glob(os.path.join(TOP, pattern)))
+    return found
+
+
+def main():
+    repo = Repository()
+    count = 0
+    for page in sys.argv[1:] or pages():
+        page = os.path.relpath(os.path.abspath(page), TOP)
+        for number, name in check(repo, page):
+            print(f"{page}:{number}: {name}")
+            count += 1
+    for page, name in lists(repo) if not sys.argv[1:] else []:
+        print(f"{page}:1: {name} (left out of its list, or not there)")
+        count += 1
+    sys.exit(1 if count else 0)
+
+
+if __name__ == "__main__":
+    main()
