@@ -64,6 +64,9 @@ name x i f b o z a c s n e mmm ddd .. steps""".split())
 # pages that speak of examples/, bench/ and crosscheck/ too
 EXAMPLE_PAGES = {f"docs/{name}.md" for name in "FIRMWARE KERNELS BUILDING CROSSCHECK QEMU AUDIT".split()}
 
+# what the kit and a shell print or take
+WHOLE = re.compile(r"^(rattle-kit-.*|Handles allowed: none\.|grep .*|N passed, 0 failed|old \+\+ bytes|List ℕ|WHAT|rattle|git .*)$")
+
 # a line of a trace, as an example
 TRACE_LINE = re.compile(r"^(\d+ [FLSKUVORX!] |stop [a-z]+)")
 
@@ -216,7 +219,7 @@ class Repository:
 def missing(repo, span, page):
     """Returns what of a code span isn't in the repository."""
     span = span.strip()
-    if not span or span in OUTSIDE or re.match(r"^[a-z]\d$", span) or MANUAL.match(span) or span in PLACEHOLDERS or span in LANGUAGE or TRACE_LINE.match(span):
+    if not span or WHOLE.match(span) or span in OUTSIDE or re.match(r"^[a-z]\d$", span) or MANUAL.match(span) or span in PLACEHOLDERS or span in LANGUAGE or TRACE_LINE.match(span):
         return []
     if re.match(r"^[\"'\[(<>=.,;:!?*+&|{}#\\-]+$", span):
         return []
