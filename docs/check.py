@@ -349,6 +349,19 @@ def lists(repo):
     lost += [("docs/REFERENCE.md", name) for name in sorted(listed - chapters) if re.match(r"^[A-Z]\w+$", name) and name != "File"]
     text = read("docs/ARCHITECTURE.md")
     lost += [("docs/ARCHITECTURE.md", crate) for crate in repo.crates if not re.search(rf"(?<!\w){crate}(?!\w)", text)]
+    for line in text.split("\n"):
+        row = re.match(r"^\| ([a-z]\w*) \| .* \| ([^|]*) \|$", line)
+        if row and row[1] in repo.crates and "those" not in row[2]:
+            listed = [] if row[2] == "-" else row[2].split(", ")
+            if listed != repo.below[row[1]]:
+                lost.append(("docs/ARCHITECTURE.md", f"what {row[1]} is built on"))
+        drawn = re.match(r"^ {4}.*?([\w:]+)(?:, ([\w:]+))? {2,}([a-z]\w*(?:, [a-z]\w*)?)(?: {2,}|$)", line)
+        crates = drawn[3].split(", ") if drawn else []
+        if drawn and all(crate in repo.crates for crate in crates):
+            for name in filter(None, drawn.groups()[:2]):
+                parts = name.split("::")
+                if not any(parts[-1] in repo.of_crate[crate] for crate in crates):
+                    lost.append(("docs/ARCHITECTURE.md", name))
     text = read("docs/README.md")
     lost += [("docs/README.md", path) for path in sorted(repo.files) if re.match(r"docs/[A-Z]+\.md$", path) and path != "docs/README.md"
              and f"({os.path.basename(path)})" not in text]
