@@ -40,7 +40,7 @@ RT_WORDS = set("""check ci test try lib lemma fmt tidy plant must-fail version d
 # words of Rust, of antt, of std and of the kit's libraries that pages speak of
 LANGUAGE = set("""usize u8 u16 u32 u64 i32 i64 bool str String Vec Option Result Some None Ok Err true false self mut
 fn pub impl struct enum trait match for in let if else use mod unsafe derive cold Default Clone Copy Drop Model Write
-Read Global panic unwrap refl rw let's suc zero omega abbrev unfoldable record data with where opaque ghost ensures
+Read Global panic unwrap refl rw let's suc zero omega is_err split_at abbrev unfoldable record data with where opaque ghost ensures
 requires using unfolding auto search simp loop items view invariant Value ArrayVec codes decimal find Appends Keeps
 OnOk OnErr IfOk IfErr OnTrue OnFalse IsSome IsOk All AllPairs append_known is_utf8 parse_document Members length drop
 take unwrap_or Prelude Type nat_le nat_lt is_some Invariants Answers Proof old new now result const tactic cond""".split())
@@ -65,7 +65,7 @@ name x i f b o z a c s n e mmm ddd .. steps""".split())
 EXAMPLE_PAGES = {f"docs/{name}.md" for name in "FIRMWARE KERNELS BUILDING CROSSCHECK QEMU AUDIT".split()}
 
 # what the kit and a shell print or take
-WHOLE = re.compile(r"^(rattle-kit-.*|Handles allowed: none\.|grep .*|N passed, 0 failed|old \+\+ bytes|List ℕ|WHAT|rattle|git .*)$")
+WHOLE = re.compile(r"^(rattle-kit-.*|Handles allowed: none\.|grep .*|N passed, 0 failed|old \+\+ bytes|List ℕ|WHAT|rattle|git .*|.*::Chapter::.*)$")
 
 # a line of a trace, as an example
 TRACE_LINE = re.compile(r"^(\d+ [FLSKUVORX!] |stop [a-z]+)")
@@ -231,7 +231,7 @@ def missing(repo, span, page):
         return lost
     if len(words) == 1:
         if re.match(r"^-{1,2}[A-Za-z]", span):
-            return [] if span.split("=")[0] in repo.texts or span.lstrip("-") in repo.texts or span in OPTIONS else [span]
+            return [] if span.split("=")[0] in repo.texts or span.lstrip("-") in repo.texts or span in OPTIONS or span in RT_WORDS else [span]
         if "/" in span or re.match(r"^[\w*-]+\.(rt|antt|py|sh|md|toml|elf|s|c|h|ld|txt|edit|1|in)$", span):
             return [] if span in OUTSIDE or repo.has_path(span, page) else [span]
         if re.match(r"^[\w-]+(-[\w]+)+$", span):
