@@ -130,10 +130,13 @@ fn both_machines_write_the_same(rt: HostRuntime) -> Result<(), Fail> {
         let by_tables = trace_of::<Table, BitLevels, Ahead>(rt.alloc(), image);
         let searched = by_searches.ok_or("a trace")?;
         let looked_up = by_tables.ok_or("a trace")?;
-        assert!(rt; searched.as_slice() == looked_up.as_slice(), "image {image}");
-        bytes += searched.len() / 1000;
+        assert!(rt;
+            searched.as_slice() == looked_up.as_slice(),
+            "image {image}"
+        );
+        bytes += searched.len();
     }
     // The images go on for longer than an instruction each.
-    assert!(rt; bytes > 1000);
+    assert!(rt; bytes > 10_000);
     Ok(())
 }

@@ -4,9 +4,7 @@ ghost use Rattle.std.specs.Prelude.{◌≡◌};
 
 use super::cut::{Cut, run};
 use super::machines::machine_with;
-use machine::{
-    Decider, DueTicks, Levels, Machine, Over, Paged, RunFault, Slow, Stop,
-};
+use machine::{Decider, DueTicks, Levels, Machine, Over, Paged, RunFault, Slow, Stop};
 use std::alloc::{AllocError, Global};
 use std::io::Write;
 use std::marker::Brand;
