@@ -4,3 +4,9 @@ mod Bytes
 mod Faults
 mod Exceptions
 mod Steps
+mod Words
+mod Frames
+mod Stored
+mod Pushed
+mod Stacks
+mod Returns

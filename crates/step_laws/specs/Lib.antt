@@ -1,3 +1,4 @@
 -- The laws of a step. The step and its phases are in the crate `reference`.
 pub use Rattle.reference.specs.Step
 pub mod AccessLaw
+pub mod FrameLaw

@@ -2,9 +2,13 @@
 //! nothing.
 #![tactic(auto)]
 
+ghost use Rattle.std.specs.Prelude.{List};
+ghost use Rattle.reference.specs.declared.event.Event.{Event};
+ghost use Rattle.reference.specs.Registers.{Registers};
 ghost use Rattle.reference.specs.State.{State};
 ghost use Rattle.reference.specs.Step.{step};
 ghost use Rattle.step_laws.specs.AccessLaw.{OneRefusal, OnlyCovered};
+ghost use Rattle.step_laws.specs.FrameLaw.{FrameGivesBack, ReturnGivesBack};
 
 /// At most one access of a step is refused. It is the step's last access, and the next event is the
 /// line of its fault, which ends the step. Bytes of flash and RAM change only where a store or a
@@ -12,4 +16,19 @@ ghost use Rattle.step_laws.specs.AccessLaw.{OneRefusal, OnlyCovered};
 pub fn accesses_of_a_step()
     ensures one_refusal { (s : State) → OneRefusal (step s).events }
     ensures only_covered { (s : State) → OnlyCovered s.bus.memory (step s).state.bus.memory (step s).events }
+{}
+
+/// The words of a frame give back the registers that were pushed: R0 to R3, R12, LR, PC, the flags,
+/// IT, T, the exception's number, the mode, the stack that SP is, and SP itself with its bit 2
+/// (ARM DDI 0403, PushStack() and PopStack()).
+pub fn frame_gives_registers_back()
+    ensures { (r u : Registers) → FrameGivesBack r u }
+{}
+
+/// Where all pushes of an entry were carried out, a return with its EXC_RETURN gives back those
+/// registers from every state that has the frame's bytes and the stack pointer as they were after
+/// the pushes, if the return neither stops nor begins an entry (ARM DDI 0403, PushStack(),
+/// ExceptionReturn() and PopStack()).
+pub fn return_gives_registers_back()
+    ensures { (s u : State) (before : List Event) → ReturnGivesBack s u before }
 {}

@@ -1,0 +1,101 @@
+-- What a frame gives back.
+use Rattle.std.proofs.Common.{◌≡◌, ℕ, ◌*◌, ◌/◌, Bool, true, false, not, ◌&&◌, ◌==◌, if◌then◌else◌, List, length, get_or, refl, ◌∙◌, ap, arith}
+use Rattle.std.proofs.lemmas.List.{get_or-set_same, get_or-set_other}
+use Rattle.std.proofs.Math.ListN.{set, length-set}
+use Rattle.reference.specs.Frames.{exc_return, frame, frame_base, frame_of, returns_on_psp, with_frame, with_frame_of, above_frame, pushed_xpsr, popped_xpsr, popped}
+use Rattle.reference.specs.Registers.{Registers, is_handler, uses_psp, sp, with_sp}
+use Rattle.step_laws.specs.FrameLaw.{FrameGivesBack}
+use Rattle.step_laws.proofs.Words.{flags_back, it_back, thumb_back, exception_back, sp_back}
+
+-- ---- R0 to R3 and R12
+
+record AreFive (back : List ℕ) (w0 w1 w2 w3 w12 : ℕ) : Type 0 where
+  r0 : get_or back 0 0 ≡ w0
+  r1 : get_or back 1 0 ≡ w1
+  r2 : get_or back 2 0 ≡ w2
+  r3 : get_or back 3 0 ≡ w3
+  r12 : get_or back 12 0 ≡ w12
+
+five : (g : List ℕ) (w0 w1 w2 w3 w12 : ℕ) → length g ≡ 13 →
+    AreFive (set (set (set (set (set g 0 w0) 1 w1) 2 w2) 3 w3) 12 w12) w0 w1 w2 w3 w12
+five g w0 w1 w2 w3 w12 all = record {
+  r0 = grind (arith, get_or-set_same {A = ℕ}, get_or-set_other {A = ℕ}, length-set {A = ℕ});
+  r1 = grind (arith, get_or-set_same {A = ℕ}, get_or-set_other {A = ℕ}, length-set {A = ℕ});
+  r2 = grind (arith, get_or-set_same {A = ℕ}, get_or-set_other {A = ℕ}, length-set {A = ℕ});
+  r3 = grind (arith, get_or-set_same {A = ℕ}, get_or-set_other {A = ℕ}, length-set {A = ℕ});
+  r12 = grind (arith, get_or-set_same {A = ℕ}, get_or-set_other {A = ℕ}, length-set {A = ℕ});
+}
+
+-- ---- the stack
+
+-- EXC_RETURN names PSP where it was SP
+names_stack : (handler process : Bool) →
+    returns_on_psp (if handler then 0xFFFF_FFF1 else if process then 0xFFFF_FFFD else 0xFFFF_FFF9)
+    ≡ (not handler && process)
+names_stack true process = refl
+names_stack false true = refl
+names_stack false false = refl
+
+twice : (handler process : Bool) → (not handler && (not handler && process)) ≡ (not handler && process)
+twice true process = refl
+twice false process = refl
+
+stack_back : (x y : ℕ) (process : Bool) → x ≡ y →
+    (not (not (x == 0))
+    && returns_on_psp (if not (y == 0) then 0xFFFF_FFF1 else if process then 0xFFFF_FFFD else 0xFFFF_FFF9))
+    ≡ (not (not (y == 0)) && process)
+stack_back x y process e = rw (e, names_stack (not (y == 0)) process) (twice (not (y == 0)) process)
+
+-- SP by the stack that it is
+sp_is : (r : Registers) (psp : Bool) → uses_psp r ≡ psp → sp r ≡ (if psp then r.psp else r.msp)
+sp_is r psp e = ap (λ b. if b then r.psp else r.msp) e
+
+with_sp_is : (r : Registers) (v : ℕ) (psp : Bool) → uses_psp r ≡ psp → sp (with_sp r v) ≡ v / 4 * 4
+with_sp_is r v true e = rw (e, e) refl
+with_sp_is r v false e = rw (e, e) refl
+
+-- SP is at the frame after the push
+pub pushed_sp : (r : Registers) → sp (with_frame r) ≡ frame_base (sp r)
+pushed_sp r = with_sp_is r (frame_base (sp r)) _ refl ∙ omega arith
+
+stack_given : (u : Registers) (e v : ℕ) (psp : Bool) → returns_on_psp e ≡ psp →
+    (if psp then (with_frame_of u e v).psp else (with_frame_of u e v).msp) ≡ v
+stack_given u e v true is = rw is refl
+stack_given u e v false is = rw is refl
+
+popped_sp : (u : Registers) (e : ℕ) (frame : List ℕ) (psp : Bool) → returns_on_psp e ≡ psp →
+    uses_psp (popped u e frame) ≡ psp → sp (popped u e frame) ≡ above_frame (frame_of u e) (popped_xpsr frame)
+unfolding popped
+popped_sp u e frame psp named used =
+    sp_is (popped u e frame) psp used ∙ stack_given u e (above_frame (frame_of u e) (popped_xpsr frame)) psp named
+
+-- ---- all of it
+
+pub gives_back : (r u : Registers) → FrameGivesBack r u
+unfolding frame popped
+gives_back r u is all same =
+    let back = popped u (exc_return r) (frame r) in
+    let exception : back.exception ≡ r.exception = exception_back r is.it is.exception in
+    let stack : uses_psp back ≡ uses_psp r = stack_back _ _ r.process_stack exception in
+    let words =
+    five u.general (get_or r.general 0 0) (get_or r.general 1 0) (get_or r.general 2 0) (get_or r.general 3 0)
+    (get_or r.general 12 0) all in
+    record {
+      r0 = words.r0;
+      r1 = words.r1;
+      r2 = words.r2;
+      r3 = words.r3;
+      r12 = words.r12;
+      lr = refl;
+      pc = refl;
+      flags = flags_back r is.it is.exception;
+      it = it_back r is.it is.exception;
+      thumb = thumb_back r is.it is.exception;
+      exception = exception;
+      mode = ap (λ x. not (x == 0)) exception;
+      stack = stack;
+      sp =
+          popped_sp u (exc_return r) (frame r) (uses_psp r) (names_stack (is_handler r) r.process_stack) stack
+          ∙ ap (λ base. above_frame base (pushed_xpsr r)) (same ∙ pushed_sp r)
+          ∙ sp_back r is.it is.exception is.sp_is_word is.sp_is_aligned;
+    }
