@@ -1,11 +1,10 @@
-//! Runs images on a board, each on the machine of searches and on that of tables, step by step. Prints
-//! what an image writes to its console and why its run ended, or that the two machines differ. The gate
-//! runs it over the programs of `examples` and compares what it prints.
+//! Runs images on a board and prints what each of them writes to its console, and why its run ended.
+//! The gate runs it over the firmware of `examples/firmware` and compares what it prints.
 #![tactic(auto)]
 
 use board::{Board, read_board};
 use elf::load;
-use machine::{Event, Events, Fast, Slow, Stop, event_line, stop_line};
+use machine::{Event, Events, Slow, Stop, stop_line};
 use reference::event::Happening;
 use std::alloc::Global;
 use std::io::Write;
@@ -36,56 +35,24 @@ fn run<W: Write>(alloc: Global, board: &Board, image: &[u8], out: &mut W) -> io:
     let Ok(image) = load(image) else {
         return out.write_all(b"the image is refused\n");
     };
-    let (Ok(slow), Ok(fast)) = (
-        Slow::new(alloc, &image, board),
-        Fast::new(alloc, &image, board),
-    ) else {
+    let Ok(mut machine) = Slow::new(alloc, &image, board) else {
         return out.write_all(b"the machine doesn't start\n");
     };
-    match run_machines(slow, fast, out)? {
-        Some(stop) => out.write_all(stop_line(&stop).as_slice()),
-        None => out.write_all(b"the machines differ\n"),
-    }
+    let stop = run_machine(&mut machine, out)?;
+    out.write_all(stop_line(&stop).as_slice())
 }
 
-/// Steps two machines up to their first stop, as long as both do the same.
-fn run_machines<W: Write>(mut slow: Slow, mut fast: Fast, out: &mut W) -> io::Result<Option<Stop>> {
+/// Steps up to the first stop.
+fn run_machine<W: Write>(machine: &mut Slow, out: &mut W) -> io::Result<Stop> {
     let mut events = Events::new();
-    let mut others = Events::new();
     for _ in 0..MOST_STEPS {
-        let stop = slow.step(&mut events);
-        let other = fast.step(&mut others);
-        if !is_same_stop(stop, other) || !are_same(events.as_slice(), others.as_slice()) {
-            return Ok(None);
-        }
+        let stop = machine.step(&mut events);
         write_console(events.as_slice(), out)?;
-        if stop.is_some() {
+        if let Some(stop) = stop {
             return Ok(stop);
         }
     }
-    Ok(Some(Stop::StepLimit))
-}
-
-/// Whether two machines go on, or stop by the same line.
-fn is_same_stop(stop: Option<Stop>, other: Option<Stop>) -> bool {
-    match (stop, other) {
-        (Some(stop), Some(other)) => stop_line(&stop).as_slice() == stop_line(&other).as_slice(),
-        (None, None) => true,
-        (Some(_), None) | (None, Some(_)) => false,
-    }
-}
-
-/// Whether two steps write the same lines.
-fn are_same(events: &[Event], others: &[Event]) -> bool {
-    if events.len() != others.len() {
-        return false;
-    }
-    for (event, other) in events.iter().zip(others) {
-        if event_line(event).as_slice() != event_line(other).as_slice() {
-            return false;
-        }
-    }
-    true
+    Ok(Stop::StepLimit)
 }
 
 /// Writes the console bytes among the events of a step.
