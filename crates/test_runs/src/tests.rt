@@ -1,5 +1,4 @@
 mod accesses;
-mod both;
 mod cut;
 mod files;
 mod handlers;

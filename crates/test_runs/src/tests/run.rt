@@ -1,5 +1,5 @@
-//! A run as text: its name, and lines of words, of which the numbers are hexadecimal. Two machines of the
-//! small board follow the lines in their order: one of searches, and one of tables.
+//! A run as text: its name, and lines of words, of which the numbers are hexadecimal. A machine of the
+//! small board follows the lines in their order.
 //!
 //! | Line | What it says |
 //! |---|---|
@@ -17,10 +17,7 @@
 
 use super::cut::{Cut, Text, push_line, run};
 use super::machines::{event, place, place_vectors, scripted};
-use machine::{
-    Ahead, BitLevels, Counting, Decider, DueTicks, Levels, Machine, PlaceFault, PlainLevels,
-    RegValues, Search, Stop, Table,
-};
+use machine::{PlaceFault, RegValues, Slow, Stop};
 use reference::stop::{LeftOut, UnpredictableCase};
 use std::alloc::Global;
 use std::test::Fail;
@@ -28,15 +25,15 @@ use test_tables::{Rows, byte_at, check_between, number, number_at, word};
 
 /// A run as far as its lines were followed.
 #[derive(Drop)]
-struct Run<D: Decider, L: Levels, U: DueTicks> {
-    machine: Machine<D, L, U>,
+struct Run {
+    machine: Slow,
     /// What its steps wrote.
     out: Cut,
     /// What they were to write.
     wanted: Text,
 }
 
-/// Runs on both machines, with the scripts of their texts.
+/// Runs, from machines with the scripts of their texts.
 #[derive(Drop)]
 struct Runs {
     alloc: Global,
@@ -44,27 +41,20 @@ struct Runs {
 
 impl Rows for Runs {
     fn holds(&mut self, text: &str) -> Option<bool> {
-        let by_searches = goes::<Search, PlainLevels, Counting>(self.alloc, text)?;
-        let by_tables = goes::<Table, BitLevels, Ahead>(self.alloc, text)?;
-        Some(by_searches && by_tables)
-    }
-}
-
-/// Whether a run goes as its text says.
-fn goes<D: Decider, L: Levels, U: DueTicks>(alloc: Global, text: &str) -> Option<bool> {
-    let mut run: Run<D, L, U> = Run {
-        machine: scripted(alloc, text)?,
-        out: Cut::whole(),
-        wanted: Text::new(),
-    };
-    let mut is_checked = false;
-    'lines: for line in text.lines().skip(1) {
-        is_checked = is_checked || matches!(word(line, 0), "trace" | "after" | "refused");
-        if !run.follow(line)? {
-            return Some(false);
+        let mut run = Run {
+            machine: scripted(self.alloc, text)?,
+            out: Cut::whole(),
+            wanted: Text::new(),
+        };
+        let mut is_checked = false;
+        'lines: for line in text.lines().skip(1) {
+            is_checked = is_checked || matches!(word(line, 0), "trace" | "after" | "refused");
+            if !run.follow(line)? {
+                return Some(false);
+            }
         }
+        Some(is_checked && run.out.text.as_slice() == run.wanted.as_slice())
     }
-    Some(is_checked && run.out.text.as_slice() == run.wanted.as_slice())
 }
 
 /// Fails with the first run of a table that doesn't go as its text says. The runs stand with a blank
@@ -73,7 +63,7 @@ pub(super) fn check_runs(alloc: Global, table: &str) -> Result<(), Fail> {
     check_between(table, "\n\n", &mut Runs { alloc })
 }
 
-impl<D: Decider, L: Levels, U: DueTicks> Run<D, L, U> {
+impl Run {
     /// Whether a line holds, which is followed if it asks for something.
     fn follow(&mut self, line: &str) -> Option<bool> {
         let (name, rest) = line.split_once(' ')?;
@@ -112,10 +102,7 @@ fn name_of(fault: PlaceFault) -> &'static str {
 }
 
 /// Whether a machine holds what a line says behind its first word.
-fn holds<D: Decider, L: Levels, U: DueTicks>(
-    machine: &Machine<D, L, U>,
-    seen: &str,
-) -> Option<bool> {
+fn holds(machine: &Slow, seen: &str) -> Option<bool> {
     match word(seen, 0) {
         "reg" => Some(register(&machine.regs(), word(seen, 1))? == number_at(seen, 2)?),
         "byte" => holds_byte(machine, seen),
@@ -141,19 +128,13 @@ fn register(values: &RegValues, name: &str) -> Option<u32> {
 }
 
 /// Whether a byte stands where `byte ADDRESS VALUE` says it.
-pub(super) fn holds_byte<D: Decider, L: Levels, U: DueTicks>(
-    machine: &Machine<D, L, U>,
-    seen: &str,
-) -> Option<bool> {
+pub(super) fn holds_byte(machine: &Slow, seen: &str) -> Option<bool> {
     let held = machine.byte(number_at(seen, 1)?);
     Some(held == byte_at(seen, 2) && held.is_none() == (word(seen, 2) == "none"))
 }
 
 /// Whether a region holds what `region NUMBER RBAR RASR` says.
-fn holds_region<D: Decider, L: Levels, U: DueTicks>(
-    machine: &Machine<D, L, U>,
-    seen: &str,
-) -> Option<bool> {
+fn holds_region(machine: &Slow, seen: &str) -> Option<bool> {
     match machine.region(byte_at(seen, 1)?) {
         Some(held) => Some(held == (number_at(seen, 2)?, number_at(seen, 3)?)),
         None => Some(word(seen, 2) == "none"),
