@@ -17,7 +17,6 @@ NAMES = {
     "unpredictable special-register": "a special register or a mask that isn't in the table of MSR and MRS is UNPREDICTABLE",
     "unpredictable load-pc": "LDR to the PC from an address that isn't a multiple of 4 is UNPREDICTABLE",
     "unpredictable literal-pc": "LDRD (literal) where the PC isn't a multiple of 4 is UNPREDICTABLE",
-    "outofprofile exclusive": "the exclusives are left out",
 }
 
 # Beginnings of the words that arm-none-eabi-objdump, which knows all architectures at once, has for what isn't in ARMv7-M.
@@ -81,8 +80,6 @@ def has_wrong_registers(llvm, gnu):
 
 def of_name(name, llvm, gnu):
     """Why marm stops by name, unless the text has nothing that fits the name."""
-    if name.endswith("exclusive") and not re.match(r"(ld|st|cl)rex", gnu):
-        return None
     if name.endswith("registers") and not has_wrong_registers(llvm, gnu):
         return None
     return NAMES.get(name)

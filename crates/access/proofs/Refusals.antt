@@ -9,7 +9,7 @@ use Rattle.reference.specs.declared.access.Request.{Request}
 use Rattle.reference.specs.declared.access.Rule.{Rule}
 use Rattle.reference.specs.Accesses.{Answered, lifted, lifted_system, carried_out, performed_by, granted_by_rule, decided, decision, perform}
 use Rattle.reference.specs.Answers.{LeavesUnlessDone}
-use Rattle.reference.specs.Kinds.{is_write, bytes_in}
+use Rattle.reference.specs.Kinds.{is_probe, is_write, bytes_in}
 use Rattle.reference.specs.Map.{is_in_ppb, is_in_window}
 use Rattle.reference.specs.Memory.{Memory, is_in_ram}
 use Rattle.reference.specs.Space.{Reached, written_to, space_access}
@@ -57,8 +57,9 @@ lifted_keeps b r kept e = rw (kept e) refl
 carrying_keeps : (exception : ℕ) (b : Bus) (q : Request) → Keeps b (carried_out exception b q)
 unfolding carried_out
 carrying_keeps exception b q =
-    either b (is_in_ppb q.access.address) _ _ (lifted_system_keeps b (system_access exception b.system q) (refused_leaves exception b.system q))
-    (lifted_keeps b (space_access b.memory b.system.time.ticks q) (space_keeps b.memory b.system.time.ticks q))
+    either b (is_probe q.access.kind) _ _ (λ e. absurd cc)
+    (either b (is_in_ppb q.access.address) _ _ (lifted_system_keeps b (system_access exception b.system q) (refused_leaves exception b.system q))
+    (lifted_keeps b (space_access b.memory b.system.time.ticks q) (space_keeps b.memory b.system.time.ticks q)))
 
 is_error : (rule by : Rule) (a : Answer) (why : Cause) → performed_by rule a ≡ Denied by why → a ≡ Error
 is_error rule by (Value value) why e = absurd cc

@@ -7,7 +7,7 @@ ghost use Rattle.reference.specs.LongDual.{dual_rows, is_refused_pair, load_dual
 ghost use Rattle.reference.specs.RowOperands.{indexing_of};
 
 use encodings::operands::{byte_or_halfword, indexed, indexing_of, signed_offset, writes_back};
-use encodings::outcomes::{is_bad, long, long_unless, placed_unless};
+use encodings::outcomes::{is_bad, long_unless, placed_unless};
 use encodings::rows;
 use reference::access::Size;
 use reference::access::Size::Word;
@@ -73,18 +73,21 @@ pub(crate) fn dual_rows(x: u32) -> Option<Decoded>
     }
 }
 
-/// Returns STREX, STREXB and STREXH.
+/// Returns STREX, STREXB and STREXH: R[d] is neither the base nor the register that is stored.
 #[tactic(auto, unfolding(reference::specs::LongDual::store_exclusive_row))]
 fn store_exclusive(size: Size, d: Register, t: Register, n: Register, offset: u32) -> Decoded
     ensures { result ≡ store_exclusive_row (record { size = size; status = d; target = t; base = n; offset = offset }) }
 {
-    long(Instruction::Exclusive(Exclusive::Store(StoreExclusive {
+    let is_other = d.number() == n.number() || d.number() == t.number();
+    let refused = is_bad(d) || is_bad(t) || n.number() == 15 || is_other;
+    let instruction = Instruction::Exclusive(Exclusive::Store(StoreExclusive {
         size,
         status: d,
         target: t,
         base: n,
         offset,
-    })))
+    }));
+    long_unless(refused, instruction)
 }
 
 /// Returns LDREX, LDREXB and LDREXH.
@@ -92,12 +95,14 @@ fn store_exclusive(size: Size, d: Register, t: Register, n: Register, offset: u3
 fn load_exclusive(size: Size, t: Register, n: Register, offset: u32) -> Decoded
     ensures { result ≡ load_exclusive_row (record { size = size; target = t; base = n; offset = offset }) }
 {
-    long(Instruction::Exclusive(Exclusive::Load(LoadExclusive {
+    let refused = is_bad(t) || n.number() == 15;
+    let instruction = Instruction::Exclusive(Exclusive::Load(LoadExclusive {
         size,
         target: t,
         base: n,
         offset,
-    })))
+    }));
+    long_unless(refused, instruction)
 }
 
 /// Returns TBB and TBH.

@@ -75,13 +75,13 @@ pub fn fault_of(access: &Access, cause: Cause) -> FaultEffect
     let address = access.address;
     match (access.kind, cause) {
         (Kind::Fetch, Cause::Mpu) => mem_manage(IACCVIOL, FaultAddress::NotKept),
-        (Kind::Load | Kind::Store, Cause::Mpu) => {
+        (Kind::Load | Kind::Store | Kind::Probe, Cause::Mpu) => {
             mem_manage(DACCVIOL + MMARVALID, FaultAddress::Mmfar(address))
         }
         (Kind::Push, Cause::Mpu) => mem_manage(MSTKERR, FaultAddress::NotKept),
         (Kind::Pop, Cause::Mpu) => mem_manage(MUNSTKERR, FaultAddress::NotKept),
         (Kind::Fetch, Cause::Bus) => bus_fault(IBUSERR, FaultAddress::NotKept),
-        (Kind::Load | Kind::Store, Cause::Bus) => {
+        (Kind::Load | Kind::Store | Kind::Probe, Cause::Bus) => {
             bus_fault(PRECISERR + BFARVALID, FaultAddress::Bfar(address))
         }
         (Kind::Push, Cause::Bus) => bus_fault(STKERR, FaultAddress::NotKept),

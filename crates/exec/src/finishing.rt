@@ -6,7 +6,7 @@ ghost use Rattle.reference.specs.Operations.{result_of, effect};
 
 use crate::planning::is_carried_out;
 use crate::program_counter::move_on;
-use crate::{branches, load_store, load_store_multiple, processing, system};
+use crate::{branches, exclusives, load_store, load_store_multiple, processing, system};
 use reference::instruction::{CodedInstruction, Ending, Instruction};
 use regs::Regs;
 
@@ -33,8 +33,7 @@ fn finish_family(length: u8, instruction: &Instruction, regs: &mut Regs, values:
         Instruction::DataProcessing(i) => processing::finish(length, i, regs),
         Instruction::LoadStore(i) => load_store::finish(length, i, regs, values),
         Instruction::LoadStoreMultiple(i) => load_store_multiple::finish(length, i, regs, values),
-        // It stopped before.
-        Instruction::Exclusive(_) => move_on(regs, length),
+        Instruction::Exclusive(i) => exclusives::finish(length, i, regs, values),
         Instruction::Branch(i) => branches::finish(length, i, regs, values),
         Instruction::System(i) => system::finish(length, i, regs),
     }

@@ -3,6 +3,7 @@
 #![tactic(auto)]
 
 mod branches;
+mod exclusives;
 mod finishing;
 mod load_store;
 mod load_store_multiple;

@@ -2,21 +2,18 @@
 
 ghost use Rattle.std.specs.Prelude.{◌≡◌, ◌≤◌, [], length};
 ghost use Rattle.exec.specs.Plans.{planned};
-ghost use Rattle.reference.specs.Operations.{wants, requests_of, is_misplaced, is_carried_out, is_exclusive, is_unconditional};
+ghost use Rattle.reference.specs.Operations.{wants, requests_of, is_misplaced, is_carried_out, is_unconditional};
 
-use crate::{branches, load_store, load_store_multiple, processing, system};
+use crate::{branches, exclusives, load_store, load_store_multiple, processing, system};
 use bounded::Bounded;
 use reference::access::{MOST_REQUESTS, Request};
 use reference::failure::{Failure, Traps};
 use reference::instruction::{BlockPlace, CodedInstruction, Instruction};
-use reference::stop::{LeftOut, Stop, UnpredictableCase};
+use reference::stop::{Stop, UnpredictableCase};
 use regs::Regs;
 
 /// The accesses that an instruction asks for, in their order.
 pub type Requests = Bounded<Request, MOST_REQUESTS>;
-
-/// The stop of an exclusive instruction, which this version leaves out.
-const EXCLUSIVE: Failure = Failure::Stop(Stop::OutOfProfile(LeftOut::Exclusive));
 
 /// Fills `requests` with the accesses that an instruction asks for, unless it is a fault or stops.
 /// Where its condition fails it asks for none.
@@ -32,9 +29,6 @@ pub fn plan(
     ensures few { length requests.new.items ≤ MOST_REQUESTS }
 {
     requests.clear();
-    if is_exclusive(&coded.instruction) {
-        return Err(EXCLUSIVE);
-    }
     if is_misplaced(coded.place, regs) {
         return Err(Failure::Stop(Stop::Unpredictable(UnpredictableCase::ItBlock)));
     }
@@ -42,8 +36,7 @@ pub fn plan(
         return Ok(());
     }
     let asked = plan_family(&coded.instruction, regs, traps, requests);
-    // The list has no room for more: this tells the clause so.
-    let _ = requests.len();
+    prove!(requests.len() <= MOST_REQUESTS);
     asked
 }
 
@@ -63,24 +56,9 @@ fn plan_family(
         Instruction::DataProcessing(i) => processing::plan(i, regs, traps, requests),
         Instruction::LoadStore(i) => load_store::plan(i, regs, traps, requests),
         Instruction::LoadStoreMultiple(i) => load_store_multiple::plan(i, regs, requests),
-        Instruction::Exclusive(_) => Err(EXCLUSIVE),
+        Instruction::Exclusive(i) => exclusives::plan(i, regs, requests),
         Instruction::Branch(i) => branches::plan(i, regs, traps, requests),
         Instruction::System(_) => Ok(()),
-    }
-}
-
-/// Whether this version leaves an instruction out, wherever it is met: LDREX, STREX and CLREX.
-#[inline]
-fn is_exclusive(instruction: &Instruction) -> bool
-    ensures { result ≡ is_exclusive instruction.now }
-{
-    match instruction {
-        Instruction::Exclusive(_) => true,
-        Instruction::DataProcessing(_)
-        | Instruction::LoadStore(_)
-        | Instruction::LoadStoreMultiple(_)
-        | Instruction::Branch(_)
-        | Instruction::System(_) => false,
     }
 }
 

@@ -89,8 +89,7 @@ impl<D: Decider, L: Levels, U: DueTicks> Machine<D, L, U> {
         ensures few { length events.new.items ≤ MOST_EVENTS }
     {
         self.core.step(events, &mut self.memo);
-        // The list has no room for more: this tells the clause so.
-        let _ = events.len();
+        prove!(events.len() <= MOST_EVENTS);
         self.core.stop()
     }
 

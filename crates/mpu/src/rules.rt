@@ -58,7 +58,7 @@ fn default_map(address: u32, kind: Kind) -> bool
 {
     match kind {
         Kind::Fetch => is_executable(address),
-        Kind::Load | Kind::Store | Kind::Push | Kind::Pop | Kind::Vector => true,
+        Kind::Load | Kind::Store | Kind::Push | Kind::Pop | Kind::Vector | Kind::Probe => true,
     }
 }
 
@@ -101,7 +101,7 @@ impl Rights {
         match kind {
             Kind::Fetch => self.may_read(privileged) && !self.never_executes,
             Kind::Load | Kind::Pop | Kind::Vector => self.may_read(privileged),
-            Kind::Store | Kind::Push => self.may_write(privileged),
+            Kind::Store | Kind::Push | Kind::Probe => self.may_write(privileged),
         }
     }
 

@@ -86,11 +86,10 @@ impl<O: Out + Drop> Out for Paged<O> {
 
     fn put_lines(
         &mut self,
-        page: &mut StepPage,
+        _page: &mut StepPage,
         tick: &mut Tick,
         events: &[Event],
     ) -> Result<(), IoFault> {
-        let _ = page;
         if events.is_empty() {
             return Ok(());
         }

@@ -14,6 +14,7 @@ use Rattle.reference.specs.declared.event.Event.{Event}
 use Rattle.reference.specs.declared.event.Happening.TheVariants.{Accessed, ConsoleByte}
 use Rattle.reference.specs.declared.failure.Failure.{Failure}
 use Rattle.reference.specs.declared.failure.Failure.TheVariants as failure
+use Rattle.reference.specs.Kinds.{is_probe}
 use Rattle.reference.specs.Map.{is_in_ppb}
 use Rattle.reference.specs.Priorities.{is_below_zero}
 use Rattle.reference.specs.Rules.{decision_of}
@@ -36,10 +37,11 @@ lifted b r = record { bus = record b { memory = r.memory }; answer = r.answer }
 abbrev pub lifted_system : Bus → Replied → Answered
 lifted_system b r = record { bus = record b { system = r.system }; answer = r.answer }
 
--- what the bus makes of a request that a rule granted, while IPSR is `exception`
+-- what the bus makes of a request that a rule granted, while IPSR is `exception`; it isn't asked for a probe
 unfoldable pub carried_out : ℕ → Bus → Request → Answered
 carried_out exception b q =
-    if is_in_ppb q.access.address
+    if is_probe q.access.kind then record { bus = b; answer = answer.Value 0 }
+    else if is_in_ppb q.access.address
     then lifted_system b (system_access exception b.system q)
     else lifted b (space_access b.memory b.system.time.ticks q)
 

@@ -1,11 +1,87 @@
--- The exclusive loads and stores and CLREX (ARM DDI 0403, "Synchronization and semaphores"), which this version leaves out.
-use Rattle.std.specs.Prelude.{List, Result, Err}
+-- The exclusive loads and stores and CLREX, with the local monitor (ARM DDI 0403, "Synchronization and semaphores", and the
+-- pseudocode of SetExclusiveMonitors(), ExclusiveMonitorsPass() and ClearExclusiveLocal()). The monitor marks one address
+-- with one size, and a store that fails is decided as a store is (profile).
+use Rattle.std.specs.Prelude.{ℕ, Bool, false, not, ◌&&◌, ◌==◌, if◌then◌else◌, List, [], ◌∷◌, Option, Some, None, Result, Ok, Err}
+use Rattle.reference.specs.declared.access.Kind.{Kind}
+use Rattle.reference.specs.declared.access.Kind.TheVariants as kind
 use Rattle.reference.specs.declared.access.Request.{Request}
+use Rattle.reference.specs.declared.access.Size.{Size}
 use Rattle.reference.specs.declared.failure.Failure.{Failure}
-use Rattle.reference.specs.declared.failure.Failure.TheVariants.{Stop}
-use Rattle.reference.specs.declared.stop.LeftOut.TheVariants.{Exclusive}
+use Rattle.reference.specs.declared.failure.Failure.TheVariants.{Usage, Stop}
+use Rattle.reference.specs.declared.failure.UsageFault.TheVariants.{Unaligned}
+use Rattle.reference.specs.declared.instruction.Exclusive.{Exclusive}
+use Rattle.reference.specs.declared.instruction.Exclusive.TheVariants.{Load, Store, Clear}
+use Rattle.reference.specs.declared.operands.StoreExclusive.{StoreExclusive}
+use Rattle.reference.specs.declared.registers.Marked.{Marked}
+use Rattle.reference.specs.declared.stop.LeftOut.TheVariants.{ExclusiveDevice}
 use Rattle.reference.specs.declared.stop.Stop.TheVariants.{OutOfProfile}
+use Rattle.reference.specs.Kinds.{bytes_in}
+use Rattle.reference.specs.LoadStore.{is_aligned, joined, request}
+use Rattle.reference.specs.Map.{is_device}
+use Rattle.reference.specs.ProgramCounter.{Finished, moves_on}
+use Rattle.reference.specs.Registers.{Registers, register, with_register, is_privileged}
+use Rattle.reference.specs.Words.{word_sum}
 
--- each of them stops the machine
-abbrev pub exclusive_stop : Result (List Request) Failure
-exclusive_stop = Err (Stop (OutOfProfile Exclusive))
+-- ---- the local monitor
+
+-- whether what is marked is that address with that size
+abbrev pub is_marked_with : Option Marked → ℕ → Size → Bool
+is_marked_with None address size = false
+is_marked_with (Some m) address size = m.address == address && bytes_in m.size == bytes_in size
+
+-- ExclusiveMonitorsPass(), but for what it asks of the address
+abbrev pub is_marked : Registers → ℕ → Size → Bool
+is_marked r address size = is_marked_with r.monitor address size
+
+-- SetExclusiveMonitors()
+abbrev pub with_mark : Registers → ℕ → Size → Registers
+with_mark r address size = record r { monitor = Some (record { address = address; size = size }) }
+
+-- ClearExclusiveLocal()
+abbrev pub without_mark : Registers → Registers
+without_mark r = record r { monitor = None }
+
+-- ---- accesses
+
+-- the address: R[n] + imm32
+abbrev pub exclusive_address : ℕ → ℕ → Registers → ℕ
+exclusive_address base offset r = word_sum (register r base) offset
+
+-- an unaligned access is UsageFault UNALIGNED whatever CCR says, and one to a device stops (profile)
+unfoldable pub exclusive_access : Kind → Bool → Size → ℕ → ℕ → Result (List Request) Failure
+exclusive_access kind privileged size address value =
+    if not (is_aligned size address) then Err (Usage Unaligned)
+    else if is_device address then Err (Stop (OutOfProfile ExclusiveDevice))
+    else Ok (request kind privileged size address value ∷ [])
+
+-- whether a store exclusive passes
+abbrev pub passes : StoreExclusive → Registers → Bool
+passes o r = is_marked r (exclusive_address o.base o.offset r) o.size
+
+-- a store that passes stores R[t]; one that fails asks only whether it could
+abbrev pub store_requests : StoreExclusive → Registers → Result (List Request) Failure
+store_requests o r =
+    if passes o r
+    then exclusive_access kind.Store (is_privileged r) o.size (exclusive_address o.base o.offset r) (register r o.target)
+    else exclusive_access kind.Probe (is_privileged r) o.size (exclusive_address o.base o.offset r) 0
+
+-- ---- the family
+
+-- what an exclusive asks for
+unfoldable pub exclusive_requests : Exclusive → Registers → Result (List Request) Failure
+exclusive_requests (Load o) r =
+    exclusive_access kind.Load (is_privileged r) o.size (exclusive_address o.base o.offset r) 0
+exclusive_requests (Store o) r = store_requests o r
+exclusive_requests Clear r = Ok []
+
+-- what a store gives R[d]: 0 where it passed, and 1 where it failed
+abbrev pub store_status : Bool → ℕ
+store_status passed = if passed then 0 else 1
+
+-- what it does with the value read
+unfoldable pub exclusive_effect : ℕ → Exclusive → Registers → List ℕ → Finished
+exclusive_effect length (Load o) r values =
+    moves_on length (with_register (with_mark r (exclusive_address o.base o.offset r) o.size) o.target (joined values))
+exclusive_effect length (Store o) r values =
+    moves_on length (with_register (without_mark r) o.status (store_status (passes o r)))
+exclusive_effect length Clear r values = moves_on length (without_mark r)

@@ -4,7 +4,7 @@ use Rattle.reference.specs.declared.access.Access.{Access}
 use Rattle.reference.specs.declared.access.Cause.{Cause}
 use Rattle.reference.specs.declared.access.Cause.TheVariants.{Mpu, Bus}
 use Rattle.reference.specs.declared.access.Kind.{Kind}
-use Rattle.reference.specs.declared.access.Kind.TheVariants.{Fetch, Load, Store, Push, Pop, Vector}
+use Rattle.reference.specs.declared.access.Kind.TheVariants.{Fetch, Load, Store, Push, Pop, Vector, Probe}
 use Rattle.reference.specs.declared.event.Event.{Event}
 use Rattle.reference.specs.declared.event.Happening.TheVariants.{FaultRecorded}
 use Rattle.reference.specs.declared.exception.Escalation.{Escalation}
@@ -38,7 +38,8 @@ usage_fault bit = record { exception = USAGE_FAULT; cfsr = bit; hfsr = 0; addres
 abbrev pub vector_fault : FaultEffect
 vector_fault = record { exception = HARD_FAULT; cfsr = 0; hfsr = VECTTBL; address = NotKept }
 
--- of an access at an address, by what it was for and what refused it; the rule `vec` refuses no read of a vector
+-- of an access at an address, by what it was for and what refused it; the rule `vec` refuses no read of a vector,
+-- and the bus is asked for no probe
 abbrev pub access_fault : Kind → Cause → ℕ → FaultEffect
 access_fault Fetch Mpu address = mem_manage IACCVIOL NotKept
 access_fault Load Mpu address = mem_manage (DACCVIOL + MMARVALID) (Mmfar address)
@@ -46,12 +47,14 @@ access_fault Store Mpu address = mem_manage (DACCVIOL + MMARVALID) (Mmfar addres
 access_fault Push Mpu address = mem_manage MSTKERR NotKept
 access_fault Pop Mpu address = mem_manage MUNSTKERR NotKept
 access_fault Vector Mpu address = vector_fault
+access_fault Probe Mpu address = mem_manage (DACCVIOL + MMARVALID) (Mmfar address)
 access_fault Fetch Bus address = bus_fault IBUSERR NotKept
 access_fault Load Bus address = bus_fault (PRECISERR + BFARVALID) (Bfar address)
 access_fault Store Bus address = bus_fault (PRECISERR + BFARVALID) (Bfar address)
 access_fault Push Bus address = bus_fault STKERR NotKept
 access_fault Pop Bus address = bus_fault UNSTKERR NotKept
 access_fault Vector Bus address = vector_fault
+access_fault Probe Bus address = bus_fault (PRECISERR + BFARVALID) (Bfar address)
 
 abbrev pub fault_of : Access → Cause → FaultEffect
 fault_of a cause = access_fault a.kind cause a.address

@@ -1,6 +1,6 @@
 -- The frame that exception entry pushes, and the registers on the way in and out (ARM DDI 0403, PushStack(),
 -- ExceptionTaken() and PopStack(), without floating point; CCR.STKALIGN is 1).
-use Rattle.std.specs.Prelude.{ℕ, ◌+◌, ◌-◌, ◌*◌, ◌/◌, ◌%◌, ◌^◌, Bool, false, ◌==◌, ◌||◌, if◌then◌else◌, List, [], ◌∷◌, slice_index, slice_set, bit_or}
+use Rattle.std.specs.Prelude.{ℕ, ◌+◌, ◌-◌, ◌*◌, ◌/◌, ◌%◌, ◌^◌, Bool, false, ◌==◌, ◌||◌, if◌then◌else◌, List, [], ◌∷◌, slice_index, slice_set, None, bit_or}
 use Rattle.reference.specs.Registers.{Registers, is_handler, sp, with_sp, with_exchange, xpsr, weighed, flags_of}
 use Rattle.reference.specs.Words.{word_sum, is_bit}
 
@@ -45,10 +45,10 @@ frame r =
 abbrev pub with_frame : Registers → Registers
 with_frame r = with_sp r (frame_base (sp r))
 
--- the handler of exception x begins: PC and T are those of its vector, and LR is EXC_RETURN
+-- the handler of exception x begins: PC and T are those of its vector, LR is EXC_RETURN, and nothing is marked
 unfoldable pub in_handler : Registers → ℕ → ℕ → ℕ → Registers
 in_handler r x e vector =
-    record (with_exchange r vector) { lr = e; it = 0; exception = x; process_stack = false }
+    record (with_exchange r vector) { lr = e; it = 0; exception = x; process_stack = false; monitor = None }
 
 -- ---- the way out
 
@@ -87,7 +87,7 @@ it_of xpsr = xpsr / 2 ^ 10 % 2 ^ 6 * 4 + xpsr / 2 ^ 25 % 4
 abbrev pub with_frame_of : Registers → ℕ → ℕ → Registers
 with_frame_of r e v = if returns_on_psp e then record r { psp = v } else record r { msp = v }
 
--- the registers after a return
+-- the registers after a return, with nothing marked: ClearExclusiveLocal()
 unfoldable pub popped : Registers → ℕ → List ℕ → Registers
 popped r e frame =
     record (with_frame_of r e (above_frame (frame_of r e) (popped_xpsr frame))) {
@@ -99,4 +99,5 @@ popped r e frame =
       thumb = is_bit (popped_xpsr frame) 24;
       exception = popped_exception frame;
       process_stack = returns_on_psp e;
+      monitor = None;
     }

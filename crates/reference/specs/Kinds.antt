@@ -1,7 +1,7 @@
 -- What an access is for, and how wide it is.
 use Rattle.std.specs.Prelude.{ℕ, Bool, true, false}
 use Rattle.reference.specs.declared.access.Kind.{Kind}
-use Rattle.reference.specs.declared.access.Kind.TheVariants.{Fetch, Load, Store, Push, Pop, Vector}
+use Rattle.reference.specs.declared.access.Kind.TheVariants.{Fetch, Load, Store, Push, Pop, Vector, Probe}
 use Rattle.reference.specs.declared.access.Size.{Size}
 use Rattle.reference.specs.declared.access.Size.TheVariants.{Byte, Halfword, Word}
 
@@ -23,6 +23,7 @@ is_fetch Store = false
 is_fetch Push = false
 is_fetch Pop = false
 is_fetch Vector = false
+is_fetch Probe = false
 
 abbrev pub is_load : Kind → Bool
 is_load Fetch = false
@@ -31,6 +32,7 @@ is_load Store = false
 is_load Push = false
 is_load Pop = false
 is_load Vector = false
+is_load Probe = false
 
 abbrev pub is_store : Kind → Bool
 is_store Fetch = false
@@ -39,6 +41,7 @@ is_store Store = true
 is_store Push = false
 is_store Pop = false
 is_store Vector = false
+is_store Probe = false
 
 -- a store, or a push of exception entry
 abbrev pub is_write : Kind → Bool
@@ -48,6 +51,7 @@ is_write Store = true
 is_write Push = true
 is_write Pop = false
 is_write Vector = false
+is_write Probe = false
 
 abbrev pub is_vector : Kind → Bool
 is_vector Fetch = false
@@ -56,3 +60,14 @@ is_vector Store = false
 is_vector Push = false
 is_vector Pop = false
 is_vector Vector = true
+is_vector Probe = false
+
+-- a store exclusive that fails
+abbrev pub is_probe : Kind → Bool
+is_probe Fetch = false
+is_probe Load = false
+is_probe Store = false
+is_probe Push = false
+is_probe Pop = false
+is_probe Vector = false
+is_probe Probe = true

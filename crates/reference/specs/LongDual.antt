@@ -21,13 +21,17 @@ use Rattle.reference.specs.Patterns.{unspaced}
 use Rattle.reference.specs.RowOperands.{byte_or_halfword, signed_offset, indexing_of}
 use Rattle.reference.specs.Rows.{Letters, Row, long, placed, unless, is_bad}
 
--- STREX, STREXB and STREXH
+-- STREX, STREXB and STREXH: R[d] is neither the base nor the register that is stored
 unfoldable pub store_exclusive_row : StoreExclusive → Decoded
-store_exclusive_row o = long (Exclusive (exclusive.Store o))
+store_exclusive_row o =
+    unless (is_bad o.status || (is_bad o.target || (o.base == 15 || (o.status == o.base || o.status == o.target)))) place.Anywhere cause.Registers
+    (long (Exclusive (exclusive.Store o)))
 
 -- LDREX, LDREXB and LDREXH
 unfoldable pub load_exclusive_row : LoadExclusive → Decoded
-load_exclusive_row o = long (Exclusive (exclusive.Load o))
+load_exclusive_row o =
+    unless (is_bad o.target || o.base == 15) place.Anywhere cause.Registers
+    (long (Exclusive (exclusive.Load o)))
 
 -- TBB and TBH
 unfoldable pub table_branch_row : Size → ℕ → ℕ → Decoded

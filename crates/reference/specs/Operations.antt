@@ -1,7 +1,7 @@
 -- What an instruction asks for, and what it makes of the answers (ARM DDI 0403, "Alphabetical list of ARMv7-M Thumb
 -- instructions"). The chapter of its family has both; this one says in which order its place in an IT block, its condition
 -- and its family are asked.
-use Rattle.std.specs.Prelude.{ℕ, Bool, true, false, not, ◌&&◌, ◌||◌, if◌then◌else◌, List, [], Result, Ok, Err}
+use Rattle.std.specs.Prelude.{ℕ, Bool, false, not, ◌&&◌, ◌||◌, if◌then◌else◌, List, [], Result, Ok, Err}
 use Rattle.reference.specs.declared.access.Request.{Request}
 use Rattle.reference.specs.declared.failure.Failure.{Failure}
 use Rattle.reference.specs.declared.failure.Failure.TheVariants.{Stop}
@@ -16,7 +16,7 @@ use Rattle.reference.specs.declared.stop.UnpredictableCase.TheVariants.{ItBlock}
 use Rattle.reference.specs.Arithmetic.{in_it_block, last_in_it_block, condition_passed}
 use Rattle.reference.specs.Branches.{branch_requests, branch_effect}
 use Rattle.reference.specs.DataProcessing.{data_processing_requests, data_processing_effect}
-use Rattle.reference.specs.Exclusives.{exclusive_stop}
+use Rattle.reference.specs.Exclusives.{exclusive_requests, exclusive_effect}
 use Rattle.reference.specs.LoadStore.{load_store_requests, load_store_effect}
 use Rattle.reference.specs.LoadStoreMultiple.{load_store_multiple_requests, load_store_multiple_effect}
 use Rattle.reference.specs.ProgramCounter.{Finished, moves_on}
@@ -30,15 +30,6 @@ abbrev pub is_misplaced : BlockPlace → ℕ → Bool
 is_misplaced Anywhere it = false
 is_misplaced LastOnly it = in_it_block it && not (last_in_it_block it)
 is_misplaced Never it = in_it_block it
-
--- whether it is one of those that this version leaves out, wherever they are met
-abbrev pub is_exclusive : Instruction → Bool
-is_exclusive (DataProcessing i) = false
-is_exclusive (LoadStore i) = false
-is_exclusive (LoadStoreMultiple i) = false
-is_exclusive (Exclusive i) = true
-is_exclusive (Branch i) = false
-is_exclusive (System i) = false
 
 -- whether it is carried out whatever the condition is
 abbrev pub is_unconditional : Instruction → Bool
@@ -60,28 +51,26 @@ unfoldable pub requests_of : Traps → Instruction → Registers → Result (Lis
 requests_of traps (DataProcessing i) r = data_processing_requests traps i r
 requests_of traps (LoadStore i) r = load_store_requests traps i r
 requests_of traps (LoadStoreMultiple i) r = load_store_multiple_requests i r
-requests_of traps (Exclusive i) r = exclusive_stop
+requests_of traps (Exclusive i) r = exclusive_requests i r
 requests_of traps (Branch i) r = branch_requests traps i r
 requests_of traps (System i) r = Ok []
 
--- the stops of a row, also that of its place in an IT block, come before the condition; nothing is asked for where that
--- fails
+-- the stop of its place in an IT block comes before the condition; nothing is asked for where that fails
 unfoldable pub wants : Traps → CodedInstruction → Registers → Result (List Request) Failure
 wants traps i r =
-    if is_exclusive i.instruction then exclusive_stop
-    else if is_misplaced i.place r.it then Err (Stop (Unpredictable ItBlock))
+    if is_misplaced i.place r.it then Err (Stop (Unpredictable ItBlock))
     else if is_carried_out i.instruction r then requests_of traps i.instruction r
     else Ok []
 
 -- ---- what an instruction does
 
 -- what one of that many bytes that is carried out makes of the registers and of the values that it read, in the order
--- of its accesses; an exclusive stops before
+-- of its accesses
 unfoldable pub effect : ℕ → Instruction → Registers → List ℕ → Finished
 effect length (DataProcessing i) r values = data_processing_effect length i r
 effect length (LoadStore i) r values = load_store_effect length i r values
 effect length (LoadStoreMultiple i) r values = load_store_multiple_effect length i r values
-effect length (Exclusive i) r values = moves_on length r
+effect length (Exclusive i) r values = exclusive_effect length i r values
 effect length (Branch i) r values = branch_effect length i r values
 effect length (System i) r values = system_effect length i r
 

@@ -1,6 +1,7 @@
 -- The core registers (ARM DDI 0403, "Registers" of the programmers' model, and the pseudocode of R[]).
-use Rattle.std.specs.Prelude.{ℕ, ◌+◌, ◌*◌, ◌/◌, ◌%◌, ◌^◌, Bool, false, not, ◌&&◌, ◌||◌, ◌==◌, if◌then◌else◌, List, slice_index, slice_set, replicate}
+use Rattle.std.specs.Prelude.{ℕ, ◌+◌, ◌*◌, ◌/◌, ◌%◌, ◌^◌, Bool, false, not, ◌&&◌, ◌||◌, ◌==◌, if◌then◌else◌, List, Option, None, slice_index, slice_set, replicate}
 use Rattle.reference.specs.declared.registers.Flags.{Flags}
+use Rattle.reference.specs.declared.registers.Marked.{Marked}
 use Rattle.reference.specs.Words.{word_sum, is_bit}
 
 pub record Registers : Type 0 where
@@ -22,6 +23,8 @@ pub record Registers : Type 0 where
   -- CONTROL.nPRIV and CONTROL.SPSEL
   pub unprivileged : Bool
   pub process_stack : Bool
+  -- the local monitor: what the last load exclusive marked, or nothing in the Open Access state
+  pub monitor : Option Marked
 
 -- Handler mode is where an exception's number stands in IPSR
 abbrev pub is_handler : Registers → Bool
@@ -114,4 +117,5 @@ reset_registers stack entry = record {
   exception = 0;
   unprivileged = false;
   process_stack = false;
+  monitor = None;
 }

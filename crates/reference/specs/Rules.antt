@@ -4,7 +4,7 @@
 use Rattle.std.specs.Prelude.{◌≡◌, ℕ, ◌/◌, ◌^◌, ◌<◌, Bool, true, false, not, ◌&&◌, ◌||◌, ◌==◌, nat_lt, nat_le, if◌then◌else◌, Option, Some, None, ⊤}
 use Rattle.reference.specs.declared.access.Decision.{Decision}
 use Rattle.reference.specs.declared.access.Kind.{Kind}
-use Rattle.reference.specs.declared.access.Kind.TheVariants.{Fetch, Load, Store, Push, Pop, Vector}
+use Rattle.reference.specs.declared.access.Kind.TheVariants.{Fetch, Load, Store, Push, Pop, Vector, Probe}
 use Rattle.reference.specs.declared.access.Rule.{Rule}
 use Rattle.reference.specs.declared.access.Rule.TheVariants.{NeverExecute, VectorRead, PrivatePeripheralBus, MpuOff, NegativePriority, Region, Background, NoRegion}
 use Rattle.reference.specs.Kinds.{is_fetch, is_vector}
@@ -24,6 +24,7 @@ default_map a Store = true
 default_map a Push = true
 default_map a Pop = true
 default_map a Vector = true
+default_map a Probe = true
 
 -- The cases before the regions
 
@@ -70,6 +71,7 @@ granted_by ap xn Store privileged = may_write ap privileged
 granted_by ap xn Push privileged = may_write ap privileged
 granted_by ap xn Pop privileged = may_read ap privileged
 granted_by ap xn Vector privileged = may_read ap privileged
+granted_by ap xn Probe privileged = may_write ap privileged
 
 -- what the attributes of a region grant
 abbrev pub grants : ℕ → Kind → Bool → Bool

@@ -1,12 +1,12 @@
--- The text of the trace (profile): one line for each event, and one for the stop. Each line ends with a line feed. Ticks
--- and the numbers of exceptions and breakpoints are decimal, all other numbers hexadecimal, in upper case.
+-- The text of the trace (profile): one line for each event, and one for the stop. Each line ends with a line feed. Ticks,
+-- sizes, and the numbers of regions, exceptions and breakpoints are decimal, all other numbers hexadecimal, in upper case.
 use Rattle.std.specs.Prelude.{ℕ, ◌+◌, ◌/◌, ◌%◌, nat_lt, Bool, true, false, if◌then◌else◌, List, [], ◌∷◌, ◌++◌, Option, Some, None, codes, decimal}
 use Rattle.reference.specs.declared.access.Access.{Access}
 use Rattle.reference.specs.declared.access.Cause.{Cause}
 use Rattle.reference.specs.declared.access.Cause.TheVariants.{Mpu, Bus}
 use Rattle.reference.specs.declared.access.DecidedAccess.{DecidedAccess}
 use Rattle.reference.specs.declared.access.Kind.{Kind}
-use Rattle.reference.specs.declared.access.Kind.TheVariants.{Fetch, Load, Store, Push, Pop, Vector}
+use Rattle.reference.specs.declared.access.Kind.TheVariants.{Fetch, Load, Store, Push, Pop, Vector, Probe}
 use Rattle.reference.specs.declared.access.Rule.{Rule}
 use Rattle.reference.specs.declared.access.Rule.TheVariants.{NeverExecute, VectorRead, PrivatePeripheralBus, MpuOff, NegativePriority, Region, Background, NoRegion}
 use Rattle.reference.specs.declared.event.Event.{Event}
@@ -14,7 +14,7 @@ use Rattle.reference.specs.declared.event.Happening.{Happening}
 use Rattle.reference.specs.declared.event.Happening.TheVariants.{Accessed, ConsoleByte, ReturnBegan, HandlerEntered, FaultRecorded}
 use Rattle.reference.specs.declared.event.RecordedFault.{RecordedFault}
 use Rattle.reference.specs.declared.stop.LeftOut.{LeftOut}
-use Rattle.reference.specs.declared.stop.LeftOut.TheVariants.{Exclusive, ExclusiveDevice, UnalignedDevice, RegisterWidth, ActiveBit, IgnoredBusFaults, SleepOnExit, ResetControl, ClockEnd}
+use Rattle.reference.specs.declared.stop.LeftOut.TheVariants.{ExclusiveDevice, UnalignedDevice, RegisterWidth, ActiveBit, IgnoredBusFaults, SleepOnExit, ResetControl, ClockEnd}
 use Rattle.reference.specs.declared.stop.Stop.{Stop}
 use Rattle.reference.specs.declared.stop.Stop.TheVariants.{StepLimit, Breakpoint, Lockup, Unpredictable, OutOfProfile, ResetRequested}
 use Rattle.reference.specs.declared.stop.UnpredictableCase.{UnpredictableCase}
@@ -43,6 +43,7 @@ kind_text Store = codes "S"
 kind_text Push = codes "K"
 kind_text Pop = codes "U"
 kind_text Vector = codes "V"
+kind_text Probe = codes "P"
 
 abbrev pub privilege_text : Bool → List ℕ
 privilege_text true = codes "p"
@@ -113,7 +114,6 @@ unpredictable_text ExceptionReturn = codes "exc-return"
 unpredictable_text PoppedPc = codes "popped-pc"
 
 abbrev pub left_out_text : LeftOut → List ℕ
-left_out_text Exclusive = codes "exclusive"
 left_out_text ExclusiveDevice = codes "exclusive-device"
 left_out_text UnalignedDevice = codes "unaligned-device"
 left_out_text RegisterWidth = codes "register-width"

@@ -1,7 +1,7 @@
 //! The words for one access to memory: what it is for, how wide it is, and what became of it.
 
 ghost use Rattle.std.specs.Prelude.{◌≡◌};
-ghost use Rattle.reference.specs.Kinds.{bytes_in, is_fetch, is_load, is_store, is_vector, is_word, is_write};
+ghost use Rattle.reference.specs.Kinds.{bytes_in, is_fetch, is_load, is_probe, is_store, is_vector, is_word, is_write};
 
 use crate::stop::Stop;
 
@@ -21,6 +21,8 @@ pub enum Kind {
     Pop,
     /// An entry of the vector table, read on exception entry.
     Vector,
+    /// A store exclusive that fails: it is decided as a store, and writes nothing (profile).
+    Probe,
 }
 
 impl Kind {
@@ -58,6 +60,13 @@ impl Kind {
         ensures { result ≡ is_vector self }
     {
         matches!(self, Kind::Vector)
+    }
+
+    #[inline]
+    pub fn is_probe(self) -> bool
+        ensures { result ≡ is_probe self }
+    {
+        matches!(self, Kind::Probe)
     }
 }
 

@@ -2,6 +2,7 @@
 
 ghost use Rattle.std.specs.Prelude.{◌≡◌, ◌<◌};
 
+use crate::access::Size;
 use std::marker::Model;
 
 /// The number of a core register, from 0 to 15: 13 is SP, 14 is LR, 15 is PC.
@@ -91,4 +92,12 @@ pub struct Flags {
     pub overflow: bool,
     /// Q: a saturating instruction changed its value.
     pub saturated: bool,
+}
+
+/// What a load exclusive marks for the store exclusive after it: the local monitor in the Exclusive
+/// Access state.
+#[derive(Clone, Copy)]
+pub struct Marked {
+    pub address: u32,
+    pub size: Size,
 }

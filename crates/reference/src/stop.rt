@@ -55,8 +55,6 @@ pub enum UnpredictableCase {
 /// What this project's profile leaves out.
 #[derive(Clone, Copy)]
 pub enum LeftOut {
-    /// An exclusive access.
-    Exclusive,
     /// An exclusive access to the device window or the Private Peripheral Bus.
     ExclusiveDevice,
     /// An unaligned access to the device window or the Private Peripheral Bus.

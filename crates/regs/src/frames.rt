@@ -92,6 +92,7 @@ impl Regs {
         self.it = 0;
         self.exception = exception;
         self.process_stack = false;
+        self.clear_mark();
     }
 
     /// Returns the stack pointer that an EXC_RETURN names.
@@ -126,6 +127,7 @@ impl Regs {
         self.it = it_of(xpsr);
         self.thumb = xpsr >> 24 & 1 == 1;
         self.exception = (xpsr & 0x1FF) as u16;
+        self.monitor = None;
     }
 
     /// Takes R0 to R3 and R12 from a frame.

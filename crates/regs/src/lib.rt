@@ -7,12 +7,14 @@ ghost use Rattle.reference.specs.Registers.{register as register_of, with_regist
 ghost use Rattle.reference.specs.SpecialRegisters.{control_written};
 ghost use Rattle.reference.specs.Words.{word_sum};
 
+use reference::registers::Marked;
 pub use reference::registers::{Flags, Register};
 use std::marker::Model;
 
 mod arithmetic;
 mod conditions;
 mod frames;
+mod monitor;
 
 pub use arithmetic::{Shift, ShiftType, add_with_carry, decode_imm_shift, expand_imm, shift_c};
 pub use frames::{returns_on_psp, returns_to_handler};
@@ -37,6 +39,7 @@ pub struct Regs {
     exception: u16,
     unprivileged: bool,
     process_stack: bool,
+    monitor: Option<Marked>,
 }
 
 impl Model for Regs {
@@ -57,6 +60,7 @@ impl Model for Regs {
       exception = r.exception;
       unprivileged = r.unprivileged;
       process_stack = r.process_stack;
+      monitor = r.monitor;
     } };
 
     ghost invariant = { λ r. r.exception < 512 };
@@ -85,6 +89,7 @@ impl Regs {
             exception: 0,
             unprivileged: false,
             process_stack: false,
+            monitor: None,
         }
     }
 

@@ -10,7 +10,7 @@ use Rattle.reference.specs.declared.access.Rule.{Rule}
 use Rattle.reference.specs.declared.event.Event.{Event}
 use Rattle.reference.specs.declared.failure.Failure.{Failure}
 use Rattle.reference.specs.Accesses.{Answered, Served, carried_out, performed_by, decided, decision, perform, accessed, console_line, told, value_of, followed, perform_all}
-use Rattle.reference.specs.Kinds.{bytes_in, is_write}
+use Rattle.reference.specs.Kinds.{bytes_in, is_probe, is_write}
 use Rattle.reference.specs.Map.{is_in_ppb, is_in_window}
 use Rattle.reference.specs.Memory.{Memory, is_in_ram, bytes_of, overwritten}
 use Rattle.reference.specs.Space.{Reached, is_out, written_to, space_access}
@@ -75,8 +75,9 @@ BusWrites tick q b a = (rule : Rule) → OnlyCovered b.memory a.bus.memory (told
 carried_writes : (exception tick : ℕ) (b : Bus) (q : Request) → BusWrites tick q b (carried_out exception b q)
 unfolding carried_out
 carried_writes exception tick b q =
-    either (BusWrites tick q b) (is_in_ppb q.access.address) _ _ (λ e rule address f. refl)
-    (λ e. space_writes tick b.system.time.ticks q b.memory)
+    either (BusWrites tick q b) (is_probe q.access.kind) _ _ (λ e rule address f. refl)
+    (λ asked. either (BusWrites tick q b) (is_in_ppb q.access.address) _ _ (λ e rule address f. refl)
+    (λ e. space_writes tick b.system.time.ticks q b.memory))
 
 decided_writes : (exception tick : ℕ) (b : Bus) (q : Request) (d : Decision) (granted : Bool) →
     d.granted ≡ granted →

@@ -6,7 +6,7 @@ use Rattle.reference.specs.declared.access.Access.{Access}
 use Rattle.reference.specs.declared.access.Cause.{Cause}
 use Rattle.reference.specs.declared.access.Cause.TheVariants.{Mpu, Bus}
 use Rattle.reference.specs.declared.access.Kind.{Kind}
-use Rattle.reference.specs.declared.access.Kind.TheVariants.{Fetch, Load, Store, Push, Pop, Vector}
+use Rattle.reference.specs.declared.access.Kind.TheVariants.{Fetch, Load, Store, Push, Pop, Vector, Probe}
 use Rattle.reference.specs.declared.event.Event.{Event}
 use Rattle.reference.specs.declared.event.RecordedFault.{RecordedFault}
 use Rattle.reference.specs.declared.exception.Escalation.{Escalation}
@@ -62,12 +62,14 @@ access_apart Store Mpu address = refl
 access_apart Push Mpu address = refl
 access_apart Pop Mpu address = refl
 access_apart Vector Mpu address = refl
+access_apart Probe Mpu address = refl
 access_apart Fetch Bus address = refl
 access_apart Load Bus address = refl
 access_apart Store Bus address = refl
 access_apart Push Bus address = refl
 access_apart Pop Bus address = refl
 access_apart Vector Bus address = refl
+access_apart Probe Bus address = refl
 
 -- the address of a fault leaves CFSR and HFSR
 record HasBits (st : Status) (old : Status) (f : FaultEffect) : Type 0 where

@@ -174,7 +174,7 @@ fn word_of(failure: Failure) -> &'static str {
         Failure::Stop(Stop::Unpredictable(UnpredictableCase::ItBlock)) => "it-block",
         Failure::Stop(Stop::Unpredictable(UnpredictableCase::LoadPc)) => "load-pc",
         Failure::Stop(Stop::Unpredictable(UnpredictableCase::LiteralPc)) => "literal-pc",
-        Failure::Stop(Stop::OutOfProfile(LeftOut::Exclusive)) => "exclusive",
+        Failure::Stop(Stop::OutOfProfile(LeftOut::ExclusiveDevice)) => "exclusive-device",
         Failure::Stop(Stop::OutOfProfile(LeftOut::UnalignedDevice)) => "unaligned-device",
         Failure::Usage(UsageFault::Unaligned) => "unaligned",
         Failure::Usage(_) => "another fault",

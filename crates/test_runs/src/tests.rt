@@ -1,5 +1,6 @@
 mod accesses;
 mod cut;
+mod exclusives;
 mod files;
 mod handlers;
 mod instructions;

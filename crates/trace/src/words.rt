@@ -19,6 +19,7 @@ pub(crate) fn kind_letter(kind: Kind) -> u8
         Kind::Push => b'K',
         Kind::Pop => b'U',
         Kind::Vector => b'V',
+        Kind::Probe => b'P',
     }
 }
 
@@ -73,7 +74,6 @@ pub(crate) fn left_out_word(case: LeftOut) -> &'static [u8]
     ensures short { length result.now ≤ 16 }
 {
     match case {
-        LeftOut::Exclusive => b"exclusive",
         LeftOut::ExclusiveDevice => b"exclusive-device",
         LeftOut::UnalignedDevice => b"unaligned-device",
         LeftOut::RegisterWidth => b"register-width",

@@ -9,6 +9,85 @@ before 2 FFFFFFFC
 memory 4 11223344
 after 1 11223344
 
+STREX passes where LDREX marked the word
+code 0100 E850 1F00 E840 3200
+before 0 20000000 2 77 3 AABBCCDD
+memory 20000000 5
+after 1 5 2 0
+memory_after 20000000 AABBCCDD
+
+STREX fails where nothing is marked
+code 0100 E840 3200
+before 0 20000000 2 77 3 AABBCCDD
+memory 20000000 5
+after 2 1
+
+STREX fails where one has passed
+code 0100 E850 1F00 E840 3200 E840 5400
+before 0 20000000 2 77 3 AABBCCDD 5 11223344
+memory 20000000 5
+after 1 5 2 0 4 1
+memory_after 20000000 AABBCCDD
+
+STREX fails where one has failed
+code 0100 E850 1F00 E840 3201 E840 3200
+before 0 20000000 2 77 3 AABBCCDD
+memory 20000000 5
+after 1 5 2 1
+
+STREX at the offset of LDREX
+code 0100 E850 1F01 E840 3201
+before 0 20000000 2 77 3 AABBCCDD
+memory 20000004 5
+after 1 5 2 0
+memory_after 20000004 AABBCCDD
+
+STREX fails at another address than that of LDREX
+code 0100 E850 1F01 E840 3200
+before 0 20000000 2 77 3 AABBCCDD
+memory 20000004 5
+after 1 5 2 1
+
+STREX fails behind an LDREXB of the same address
+code 0100 E8D0 1F4F E840 3200
+before 0 20000000 2 77 3 AABBCCDD
+memory 20000000 8685
+after 1 85 2 1
+
+STREXB stores a byte, and LDREXB extends it with zeros
+code 0100 E8D0 1F4F E8C0 3F42
+before 0 20000001 2 77 3 AABBCCDD
+memory 20000000 11118511
+after 1 85 2 0
+memory_after 20000000 1111DD11
+
+STREXH stores two, and LDREXH extends them with zeros
+code 0100 E8D0 1F5F E8C0 3F52
+before 0 20000002 2 77 3 AABBCCDD
+memory 20000000 86851111
+after 1 8685 2 0
+memory_after 20000000 CCDD1111
+
+STREX fails after CLREX
+code 0100 E850 1F00 F3BF 8F2F E840 3200
+before 0 20000000 2 77 3 AABBCCDD
+memory 20000000 5
+after 1 5 2 1
+
+STREX passes after a plain store to the marked word
+code 0100 E850 1F00 6005 E840 3200
+before 0 20000000 2 77 3 AABBCCDD 5 11223344
+memory 20000000 5
+after 1 5 2 0
+memory_after 20000000 AABBCCDD
+
+LDREX to its own base marks the address that the base had
+code 0100 E850 0F00 E844 3200
+before 0 20000000 2 77 3 AABBCCDD 4 20000000
+memory 20000000 5
+after 0 5 2 0
+memory_after 20000000 AABBCCDD
+
 LDR R0, [R1, #4]! moves its base
 code 0100 F851 0F04
 before 1 20000010
@@ -696,18 +775,41 @@ it-block of IT in a block
 code 0100 BF08 BF00
 it 08
 
-exclusive of LDREX
+goes-on with LDREX
 code 0100 E851 0F00
+before 1 20000000
 
-exclusive of STREXB
-code 0100 E8C2 1F40
-
-exclusive of CLREX
+goes-on with CLREX
 code 0100 F3BF 8F2F
 
-exclusive of LDREXH that isn't carried out
+goes-on past LDREXH at an odd address that isn't carried out
 code 0100 E8D1 0F5F
+before 1 20000001
 it 08
+
+unaligned of LDREX at 20000002
+code 0100 E850 1F00
+before 0 20000002
+
+unaligned of LDREX whose offset makes it so, in the window
+code 0100 E850 1F01
+before 0 3FFFFFFE
+
+unaligned of STREXH that would fail
+code 0100 E8C0 1F52
+before 0 20000001
+
+exclusive-device of LDREXB in the window
+code 0100 E8D0 1F4F
+before 0 40000001
+
+exclusive-device of STREX that would fail, at a system register
+code 0100 E840 1200
+before 0 E000ED94
+
+goes-on with LDREX past the window
+code 0100 E850 1F00
+before 0 40001000
 
 supervisor-call of SVC
 code 0100 DF01

@@ -12,13 +12,14 @@ use test_tables::{Rows, check, number_at, part};
 const NOTHING: Due = [0; 8];
 
 /// The kinds of accesses.
-const KINDS: [Kind; 6] = [
+const KINDS: [Kind; 7] = [
     Kind::Fetch,
     Kind::Load,
     Kind::Store,
     Kind::Push,
     Kind::Pop,
     Kind::Vector,
+    Kind::Probe,
 ];
 
 /// Whether two decisions are the same.

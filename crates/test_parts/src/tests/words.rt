@@ -3,13 +3,14 @@
 use reference::access::{Access, Kind, Request, Rule, Size};
 use test_tables::{byte_at, is_first, meaning, number, number_at, word};
 
-const KINDS: [(&str, Kind); 6] = [
+const KINDS: [(&str, Kind); 7] = [
     ("F", Kind::Fetch),
     ("L", Kind::Load),
     ("S", Kind::Store),
     ("push", Kind::Push),
     ("pop", Kind::Pop),
     ("V", Kind::Vector),
+    ("P", Kind::Probe),
 ];
 
 const SIZES: [(&str, Size); 3] = [

@@ -1,0 +1,136 @@
+//! The exclusive loads and stores and CLREX (ARM DDI 0403, "Synchronization and semaphores").
+
+ghost use Rattle.std.specs.Prelude.{◌≡◌, []};
+ghost use Rattle.exec.specs.Plans.{planned, finished_as};
+ghost use Rattle.reference.specs.Exclusives.{exclusive_requests, exclusive_effect, exclusive_access, exclusive_address, store_requests, store_status, passes, with_mark, without_mark};
+ghost use Rattle.reference.specs.LoadStore.{joined};
+ghost use Rattle.reference.specs.ProgramCounter.{moves_on};
+ghost use Rattle.reference.specs.Registers.{with_register};
+
+use crate::load_store::joined;
+use crate::planning::Requests;
+use crate::program_counter::move_on;
+use reference::access::{Access, Kind, Request};
+use reference::failure::{Failure, UsageFault};
+use reference::instruction::{Ending, Exclusive};
+use reference::map::is_device;
+use reference::operands::{LoadExclusive, StoreExclusive};
+use reference::registers::Register;
+use reference::stop::{LeftOut, Stop};
+use regs::Regs;
+
+// ---- the family
+
+/// Appends what an exclusive asks for.
+#[tactic(auto, unfolding(reference::specs::Exclusives::exclusive_requests))]
+pub fn plan(
+    instruction: &Exclusive,
+    regs: &Regs,
+    requests: &mut Requests,
+) -> Result<(), Failure>
+    requires { requests.old.items ≡ [] }
+    ensures { planned requests.new result ≡ exclusive_requests instruction.now regs.now }
+{
+    match instruction {
+        Exclusive::Load(operands) => {
+            let access = Access {
+                address: exclusive_address(operands.base, operands.offset, regs),
+                kind: Kind::Load,
+                size: operands.size,
+                privileged: regs.is_privileged(),
+            };
+            ask(access, 0, requests)
+        }
+        Exclusive::Store(operands) => plan_store(operands, regs, requests),
+        Exclusive::Clear => Ok(()),
+    }
+}
+
+/// Carries out an exclusive of `length` bytes with the value that it read.
+#[tactic(auto, unfolding(reference::specs::Exclusives::exclusive_effect))]
+pub fn finish(length: u8, instruction: &Exclusive, regs: &mut Regs, values: &[u32]) -> Ending
+    ensures { finished_as regs.new result ≡ exclusive_effect length instruction.now regs.old values.now }
+{
+    match instruction {
+        Exclusive::Load(operands) => finish_load(operands, regs, values),
+        Exclusive::Store(operands) => finish_store(operands, regs),
+        Exclusive::Clear => regs.clear_mark(),
+    }
+    move_on(regs, length)
+}
+
+// ---- each instruction
+
+/// Appends the store of a store exclusive that passes, and the probe of one that fails.
+fn plan_store(
+    operands: &StoreExclusive,
+    regs: &Regs,
+    requests: &mut Requests,
+) -> Result<(), Failure>
+    requires { requests.old.items ≡ [] }
+    ensures { planned requests.new result ≡ store_requests operands.now regs.now }
+{
+    let (kind, value) = if passes(operands, regs) {
+        (Kind::Store, regs.get(operands.target))
+    } else {
+        (Kind::Probe, 0)
+    };
+    let access = Access {
+        address: exclusive_address(operands.base, operands.offset, regs),
+        kind,
+        size: operands.size,
+        privileged: regs.is_privileged(),
+    };
+    ask(access, value, requests)
+}
+
+/// Marks the address of a load exclusive, and gives its register the value.
+fn finish_load(operands: &LoadExclusive, regs: &mut Regs, values: &[u32])
+    ensures { regs.new ≡ with_register (with_mark regs.old (exclusive_address operands.now.base operands.now.offset regs.old) operands.now.size) operands.now.target (joined values.now) }
+{
+    let address = exclusive_address(operands.base, operands.offset, regs);
+    regs.mark(address, operands.size);
+    regs.set(operands.target, joined(values));
+}
+
+/// Marks nothing, and gives the register of a store exclusive its status.
+fn finish_store(operands: &StoreExclusive, regs: &mut Regs)
+    ensures { regs.new ≡ with_register (without_mark regs.old) operands.now.status (store_status (passes operands.now regs.old)) }
+{
+    let status = if passes(operands, regs) { 0 } else { 1 };
+    regs.clear_mark();
+    regs.set(operands.status, status);
+}
+
+// ---- addresses and accesses
+
+/// Returns the address: the base and the offset.
+fn exclusive_address(base: Register, offset: u32, regs: &Regs) -> u32
+    ensures { result ≡ exclusive_address base offset regs.now }
+{
+    regs.get(base).wrapping_add(offset)
+}
+
+/// Returns whether a store exclusive passes.
+fn passes(operands: &StoreExclusive, regs: &Regs) -> bool
+    ensures { result ≡ passes operands.now regs.now }
+{
+    let address = exclusive_address(operands.base, operands.offset, regs);
+    regs.is_marked(address, operands.size)
+}
+
+/// Appends the access of an exclusive, which is a fault where it is unaligned, and stops at a device.
+#[tactic(auto, unfolding(reference::specs::Exclusives::exclusive_access))]
+fn ask(access: Access, value: u32, requests: &mut Requests) -> Result<(), Failure>
+    requires { requests.old.items ≡ [] }
+    ensures { planned requests.new result ≡ exclusive_access access.kind access.privileged access.size access.address value }
+{
+    if access.address % access.size.bytes() != 0 {
+        return Err(Failure::Usage(UsageFault::Unaligned));
+    }
+    if is_device(access.address) {
+        return Err(Failure::Stop(Stop::OutOfProfile(LeftOut::ExclusiveDevice)));
+    }
+    requests.push(Request { access, value });
+    Ok(())
+}

@@ -1,0 +1,36 @@
+//! The local monitor (ARM DDI 0403, "Synchronization and semaphores"): what the last load exclusive
+//! marked.
+
+ghost use Rattle.std.specs.Prelude.{◌≡◌};
+ghost use Rattle.reference.specs.Exclusives.{is_marked as is_marked_in, with_mark, without_mark};
+
+use crate::Regs;
+use reference::access::Size;
+use reference::registers::Marked;
+
+impl Regs {
+    /// Returns whether an address is marked with this size: the part of `ExclusiveMonitorsPass()` that
+    /// asks the monitor.
+    pub fn is_marked(&self, address: u32, size: Size) -> bool
+        ensures { result ≡ is_marked_in self.now address size }
+    {
+        match self.monitor {
+            Some(marked) => marked.address == address && marked.size.bytes() == size.bytes(),
+            None => false,
+        }
+    }
+
+    /// Marks an address with a size: `SetExclusiveMonitors()`.
+    pub fn mark(&mut self, address: u32, size: Size)
+        ensures { self.new ≡ with_mark self.old address size }
+    {
+        self.monitor = Some(Marked { address, size });
+    }
+
+    /// Marks nothing: `ClearExclusiveLocal()`.
+    pub fn clear_mark(&mut self)
+        ensures { self.new ≡ without_mark self.old }
+    {
+        self.monitor = None;
+    }
+}
