@@ -31,3 +31,4 @@ build() {
 build round_robin round_robin.s round_robin.c task_a.c task_b.c task_c.c
 build faults faults.s faults.c
 build nested nested.c
+build atomics atomics.c

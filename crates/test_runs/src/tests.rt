@@ -1,4 +1,5 @@
 mod accesses;
+mod both;
 mod cut;
 mod exclusives;
 mod files;

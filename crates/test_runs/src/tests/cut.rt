@@ -3,7 +3,7 @@
 ghost use Rattle.std.specs.Prelude.{◌≡◌};
 
 use arrayvec::ArrayVec;
-use machine::{Over, RunFault, Slow, Stop};
+use machine::{Decider, DueTicks, Levels, Machine, Over, RunFault, Stop};
 use std::io;
 use std::io::Write;
 use std::marker::Brand;
@@ -63,12 +63,16 @@ impl Write for Cut {
 }
 
 /// A run of at most so many steps.
-pub(super) fn run(machine: &mut Slow, steps: u32, out: &mut Cut) -> Result<Stop, RunFault> {
-    run_over::<Brand>(machine, steps, out, Blank::new(1))
+pub(super) fn run<D: Decider, L: Levels, U: DueTicks>(
+    machine: &mut Machine<D, L, U>,
+    steps: u32,
+    out: &mut Cut,
+) -> Result<Stop, RunFault> {
+    run_over::<D, L, U, Brand>(machine, steps, out, Blank::new(1))
 }
 
-fn run_over<K: Ledger>(
-    machine: &mut Slow,
+fn run_over<D: Decider, L: Levels, U: DueTicks, K: Ledger>(
+    machine: &mut Machine<D, L, U>,
     steps: u32,
     out: &mut Cut,
     blank: Blank,

@@ -2,8 +2,8 @@
 
 use elf::load;
 use machine::{
-    Board, InterruptLine, Layout, Place, PlaceFault, RegionCount, SMALL_BOARD, ScriptedEvent,
-    Signal, Slow,
+    Board, Decider, DueTicks, InterruptLine, Layout, Levels, Machine, Place, PlaceFault,
+    RegionCount, SMALL_BOARD, ScriptedEvent, Signal,
 };
 use std::alloc::{AllocError, Global};
 use test_tables::{byte_at, number_at, word};
@@ -109,7 +109,10 @@ pub(super) fn small_board(alloc: Global, text: &str) -> Result<Board, AllocError
 }
 
 /// Places an address at each entry of the vector table from that of NMI to that of line 7.
-pub(super) fn place_vectors(machine: &mut Slow, address: u32) -> Result<(), PlaceFault> {
+pub(super) fn place_vectors<D: Decider, L: Levels, U: DueTicks>(
+    machine: &mut Machine<D, L, U>,
+    address: u32,
+) -> Result<(), PlaceFault> {
     'entries: for entry in 2..24_u32 {
         machine.place(Place::Word(4 * entry, address))?;
     }
@@ -117,14 +120,20 @@ pub(super) fn place_vectors(machine: &mut Slow, address: u32) -> Result<(), Plac
 }
 
 /// A machine of the small board with the events of these lines.
-pub(super) fn scripted(alloc: Global, text: &str) -> Option<Slow> {
+pub(super) fn scripted<D: Decider, L: Levels, U: DueTicks>(
+    alloc: Global,
+    text: &str,
+) -> Option<Machine<D, L, U>> {
     let image = load(&NO_SEGMENTS).ok()?;
     let board = small_board(alloc, text).ok()?;
-    Slow::new(alloc, &image, &board).ok()
+    Machine::new(alloc, &image, &board).ok()
 }
 
 /// A machine of the small board with the values of these lines in their places.
-pub(super) fn machine_with(alloc: Global, text: &str) -> Option<Slow> {
+pub(super) fn machine_with<D: Decider, L: Levels, U: DueTicks>(
+    alloc: Global,
+    text: &str,
+) -> Option<Machine<D, L, U>> {
     let mut machine = scripted(alloc, text)?;
     'lines: for line in text.lines() {
         machine.place(place(line)?).ok()?;

@@ -1,5 +1,5 @@
 //! A run as text: its name, and lines of words, of which the numbers are hexadecimal. A machine of the
-//! small board follows the lines in their order.
+//! small board follows the lines in their order, first a `Slow` one, and then a `Fast` one.
 //!
 //! | Line | What it says |
 //! |---|---|
@@ -17,7 +17,10 @@
 
 use super::cut::{Cut, Text, push_line, run};
 use super::machines::{event, place, place_vectors, scripted};
-use machine::{PlaceFault, RegValues, Slow, Stop};
+use machine::{
+    Ahead, BitLevels, Counting, Decider, DueTicks, Levels, Machine, PlaceFault, PlainLevels,
+    RegValues, Search, Stop, Table,
+};
 use reference::stop::{LeftOut, UnpredictableCase};
 use std::alloc::Global;
 use std::test::Fail;
@@ -25,8 +28,8 @@ use test_tables::{Rows, byte_at, check_between, number, number_at, word};
 
 /// A run as far as its lines were followed.
 #[derive(Drop)]
-struct Run {
-    machine: Slow,
+struct Run<D: Decider, L: Levels, U: DueTicks> {
+    machine: Machine<D, L, U>,
     /// What its steps wrote.
     out: Cut,
     /// What they were to write.
@@ -41,20 +44,28 @@ struct Runs {
 
 impl Rows for Runs {
     fn holds(&mut self, text: &str) -> Option<bool> {
-        let mut run = Run {
-            machine: scripted(self.alloc, text)?,
-            out: Cut::whole(),
-            wanted: Text::new(),
-        };
-        let mut is_checked = false;
-        'lines: for line in text.lines().skip(1) {
-            is_checked = is_checked || matches!(word(line, 0), "trace" | "after" | "refused");
-            if !run.follow(line)? {
-                return Some(false);
-            }
-        }
-        Some(is_checked && run.out.text.as_slice() == run.wanted.as_slice())
+        Some(
+            goes::<Search, PlainLevels, Counting>(self.alloc, text)?
+                && goes::<Table, BitLevels, Ahead>(self.alloc, text)?,
+        )
     }
+}
+
+/// Whether a machine goes as a text says.
+fn goes<D: Decider, L: Levels, U: DueTicks>(alloc: Global, text: &str) -> Option<bool> {
+    let mut run: Run<D, L, U> = Run {
+        machine: scripted(alloc, text)?,
+        out: Cut::whole(),
+        wanted: Text::new(),
+    };
+    let mut is_checked = false;
+    'lines: for line in text.lines().skip(1) {
+        is_checked = is_checked || matches!(word(line, 0), "trace" | "after" | "refused");
+        if !run.follow(line)? {
+            return Some(false);
+        }
+    }
+    Some(is_checked && run.out.text.as_slice() == run.wanted.as_slice())
 }
 
 /// Fails with the first run of a table that doesn't go as its text says. The runs stand with a blank
@@ -63,7 +74,7 @@ pub(super) fn check_runs(alloc: Global, table: &str) -> Result<(), Fail> {
     check_between(table, "\n\n", &mut Runs { alloc })
 }
 
-impl Run {
+impl<D: Decider, L: Levels, U: DueTicks> Run<D, L, U> {
     /// Whether a line holds, which is followed if it asks for something.
     fn follow(&mut self, line: &str) -> Option<bool> {
         let (name, rest) = line.split_once(' ')?;
@@ -102,7 +113,10 @@ fn name_of(fault: PlaceFault) -> &'static str {
 }
 
 /// Whether a machine holds what a line says behind its first word.
-fn holds(machine: &Slow, seen: &str) -> Option<bool> {
+fn holds<D: Decider, L: Levels, U: DueTicks>(
+    machine: &Machine<D, L, U>,
+    seen: &str,
+) -> Option<bool> {
     match word(seen, 0) {
         "reg" => Some(register(&machine.regs(), word(seen, 1))? == number_at(seen, 2)?),
         "byte" => holds_byte(machine, seen),
@@ -128,13 +142,19 @@ fn register(values: &RegValues, name: &str) -> Option<u32> {
 }
 
 /// Whether a byte stands where `byte ADDRESS VALUE` says it.
-pub(super) fn holds_byte(machine: &Slow, seen: &str) -> Option<bool> {
+pub(super) fn holds_byte<D: Decider, L: Levels, U: DueTicks>(
+    machine: &Machine<D, L, U>,
+    seen: &str,
+) -> Option<bool> {
     let held = machine.byte(number_at(seen, 1)?);
     Some(held == byte_at(seen, 2) && held.is_none() == (word(seen, 2) == "none"))
 }
 
 /// Whether a region holds what `region NUMBER RBAR RASR` says.
-fn holds_region(machine: &Slow, seen: &str) -> Option<bool> {
+fn holds_region<D: Decider, L: Levels, U: DueTicks>(
+    machine: &Machine<D, L, U>,
+    seen: &str,
+) -> Option<bool> {
     match machine.region(byte_at(seen, 1)?) {
         Some(held) => Some(held == (number_at(seen, 2)?, number_at(seen, 3)?)),
         None => Some(word(seen, 2) == "none"),

@@ -31,7 +31,7 @@ const BREAKPOINT: &str = "stop breakpoint 0\n";
 /// A stopped machine repeats its stop and tells nothing.
 #[test]
 fn a_step_tells_its_events(rt: HostRuntime) -> Result<(), Fail> {
-    let mut machine = machine_with(rt.alloc(), TO_BREAKPOINT).ok_or("a machine")?;
+    let mut machine: Slow = machine_with(rt.alloc(), TO_BREAKPOINT).ok_or("a machine")?;
     let mut events = Events::new();
     assert!(rt; tells(&mut machine, &mut events, "1 F 00000100 2 p ok off\n"));
     assert!(rt; stops(&mut machine, &mut events, 1, BREAKPOINT));

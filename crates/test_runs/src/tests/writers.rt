@@ -4,7 +4,7 @@ ghost use Rattle.std.specs.Prelude.{◌≡◌};
 
 use super::cut::{Cut, run};
 use super::machines::machine_with;
-use machine::{Over, Paged, RunFault, Slow, Stop};
+use machine::{Decider, DueTicks, Levels, Machine, Over, Paged, RunFault, Slow, Stop};
 use std::alloc::{AllocError, Global};
 use std::io::Write;
 use std::marker::Brand;
@@ -47,7 +47,7 @@ fn is_broken(machine: &mut Slow) -> bool {
 fn a_writer_that_fails_breaks_the_machine(rt: HostRuntime) -> Result<(), Fail> {
     'bytes: for left in 0..66usize {
         'ways: for fails in [true, false] {
-            let mut machine = machine_with(rt.alloc(), FIRST).ok_or("a machine")?;
+            let mut machine: Slow = machine_with(rt.alloc(), FIRST).ok_or("a machine")?;
             assert!(rt; breaks(&mut machine, left, fails), "after {left}");
             assert!(rt; is_broken(&mut machine), "after {left}");
         }
@@ -63,7 +63,7 @@ fn ends(machine: &mut Slow, out: &mut Cut) -> bool {
 /// A further run of a stopped machine writes its stop line alone.
 #[test]
 fn a_writer_that_takes_one_byte_gets_all(rt: HostRuntime) -> Result<(), Fail> {
-    let mut machine = machine_with(rt.alloc(), FIRST).ok_or("a machine")?;
+    let mut machine: Slow = machine_with(rt.alloc(), FIRST).ok_or("a machine")?;
     let mut out = Cut::new(512, 1, true);
     assert!(rt; ends(&mut machine, &mut out));
     assert!(rt; got(&out, 66));
@@ -74,12 +74,16 @@ fn a_writer_that_takes_one_byte_gets_all(rt: HostRuntime) -> Result<(), Fail> {
 }
 
 /// A run whose lines are gathered: whether it ends, and whether the lines go out then.
-fn run_gathered<W: Write + Drop>(machine: &mut Slow, steps: u64, out: W) -> (bool, bool, W) {
-    run_paged::<W, Brand>(machine, steps, out, Blank::new(1))
+pub(super) fn run_gathered<D: Decider, L: Levels, U: DueTicks, W: Write + Drop>(
+    machine: &mut Machine<D, L, U>,
+    steps: u64,
+    out: W,
+) -> (bool, bool, W) {
+    run_paged::<D, L, U, W, Brand>(machine, steps, out, Blank::new(1))
 }
 
-fn run_paged<W: Write + Drop, K: Ledger>(
-    machine: &mut Slow,
+fn run_paged<D: Decider, L: Levels, U: DueTicks, W: Write + Drop, K: Ledger>(
+    machine: &mut Machine<D, L, U>,
     steps: u64,
     out: W,
     blank: Blank,
@@ -96,7 +100,7 @@ fn run_paged<W: Write + Drop, K: Ledger>(
 
 #[test]
 fn gathered_lines_go_out_in_the_end(rt: HostRuntime) -> Result<(), Fail> {
-    let mut machine = machine_with(rt.alloc(), FIRST).ok_or("a machine")?;
+    let mut machine: Slow = machine_with(rt.alloc(), FIRST).ok_or("a machine")?;
     let (ran, flushed, out) = run_gathered(&mut machine, 10, Cut::new(512, 5, true));
     assert!(rt; ran && flushed);
     assert!(rt; got(&out, 66));
@@ -105,7 +109,7 @@ fn gathered_lines_go_out_in_the_end(rt: HostRuntime) -> Result<(), Fail> {
 
 #[test]
 fn gathered_lines_that_are_cut_are_told(rt: HostRuntime) -> Result<(), Fail> {
-    let mut machine = machine_with(rt.alloc(), FIRST).ok_or("a machine")?;
+    let mut machine: Slow = machine_with(rt.alloc(), FIRST).ok_or("a machine")?;
     let (_, flushed, out) = run_gathered(&mut machine, 10, Cut::new(30, 512, true));
     assert!(rt; !flushed);
     assert!(rt; got(&out, 30));
@@ -132,7 +136,7 @@ fn loop_trace(alloc: Global, steps: u64) -> Result<String, AllocError> {
 /// 2,000 lines of 24 to 27 bytes fill the page of 16 KiB three times.
 #[test]
 fn a_full_page_goes_out(rt: HostRuntime) -> Result<(), Fail> {
-    let mut machine = machine_with(rt.alloc(), LOOP).ok_or("a machine")?;
+    let mut machine: Slow = machine_with(rt.alloc(), LOOP).ok_or("a machine")?;
     let out: Vec<u8> = Vec::new(rt.alloc());
     let (ran, flushed, out) = run_gathered(&mut machine, 2000, out);
     assert!(rt; ran && flushed);
@@ -143,7 +147,7 @@ fn a_full_page_goes_out(rt: HostRuntime) -> Result<(), Fail> {
 /// A writer that fails below a full page breaks the machine, and takes a prefix of the trace.
 #[test]
 fn a_full_page_that_is_cut_ends_the_run(rt: HostRuntime) -> Result<(), Fail> {
-    let mut machine = machine_with(rt.alloc(), LOOP).ok_or("a machine")?;
+    let mut machine: Slow = machine_with(rt.alloc(), LOOP).ok_or("a machine")?;
     let (ran, _, out) = run_gathered(&mut machine, 2000, Cut::new(100, 512, true));
     assert!(rt; !ran && machine.broken());
     let trace = loop_trace(rt.alloc(), 2000)?;
