@@ -1,5 +1,5 @@
 -- Only the sets of some priority bytes can have an exception.
-use Rattle.std.proofs.Common.{◌≡◌, ℕ, zero, suc, ◌+◌, ◌-◌, ◌*◌, ◌/◌, ◌^◌, ◌<◌, ◌≤◌, ◌⊎◌, inl, inr, Bool, true, false, List, length, get_or, set, slice_index, slice_set, None, replicate, refl, sym, ◌∙◌, ap, arith, pow_pos, mul-le-mul, le_refl}
+use Rattle.std.proofs.Common.{◌≡◌, ℕ, ◌+◌, ◌-◌, ◌*◌, ◌/◌, ◌^◌, ◌<◌, ◌≤◌, ◌⊎◌, inl, inr, false, List, slice_index, slice_set, None, replicate, ◌∙◌, ap, arith, pow_pos, mul-le-mul, le_refl}
 use Rattle.std.proofs.Math.Nat.{div-mul-le_self, mul-div_left, zero-div, zero-mul}
 use Rattle.std.proofs.lemmas.Bool.{cases_lt}
 use Rattle.std.proofs.lemmas.Nat.{div_below, le-div, pow-add, shl-shr}

@@ -2,8 +2,10 @@
 //! and preemption").
 #![tactic(auto)]
 
+mod answers;
 mod levels;
 mod sets;
 
+pub use answers::KeptAnswers;
 pub use levels::BitLevels;
 pub use nvic::Levels;

@@ -10,7 +10,7 @@ mod whole;
 
 pub use access::{Ahead, Counting, Decider, DueTicks, Levels, PlainLevels, Search};
 pub use access_table::Table;
-pub use bit_levels::BitLevels;
+pub use bit_levels::{BitLevels, KeptAnswers};
 pub use board::{Board, InterruptLine, ScriptedEvent, Signal};
 pub use exceptions::Events;
 pub use output::{IoFault, Out, Over, Paged};

@@ -18,7 +18,7 @@
 use super::cut::{Cut, Text, push_line, run};
 use super::machines::{event, place, place_vectors, scripted};
 use machine::{
-    Ahead, BitLevels, Counting, Decider, DueTicks, Levels, Machine, PlaceFault, PlainLevels,
+    Ahead, BitLevels, Counting, Decider, DueTicks, KeptAnswers, Levels, Machine, PlaceFault, PlainLevels,
     RegValues, Search, Stop, Table,
 };
 use reference::stop::{LeftOut, UnpredictableCase};
@@ -46,7 +46,7 @@ impl Rows for Runs {
     fn holds(&mut self, text: &str) -> Option<bool> {
         Some(
             goes::<Search, PlainLevels, Counting>(self.alloc, text)?
-                && goes::<Table, BitLevels, Ahead>(self.alloc, text)?,
+                && goes::<Table, KeptAnswers<BitLevels>, Ahead>(self.alloc, text)?,
         )
     }
 }

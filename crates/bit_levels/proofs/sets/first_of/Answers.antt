@@ -1,4 +1,4 @@
-use Rattle.std.proofs.Common.{◌-◌, ◌≤◌, arith}
+use Rattle.std.proofs.Common.{◌≤◌, arith}
 use Rattle.bit_levels.proofs.Bits.{all_empty}
 use Rattle.bit_levels.proofs.Spaced.{all_places, empty_all, empty_next}
 use Rattle.bit_levels.proofs.sets.first_of.Goals as goal

@@ -1,0 +1,166 @@
+//! Exceptions with the two answers that each step asks for beside them.
+
+ghost use Rattle.std.specs.Prelude.{◌≡◌};
+ghost use Rattle.reference.specs.declared.exception.TheConstants.{EXCEPTIONS};
+ghost use Rattle.reference.specs.Priorities.{best as best_of, least_active};
+
+use nvic::Levels;
+use reference::exception::{Masks, Priority};
+
+/// The exceptions of an `L`, the best of them, and the least group priority of those that are active.
+/// Both answers are those that the `L` would give now: each change works out anew what it may change.
+#[derive(Drop)]
+pub struct KeptAnswers<L: Levels> {
+    levels: L,
+    best: Option<u16>,
+    active_priority: Priority,
+    ghost best_known: { best ≡ best_of (L.content levels) },
+    ghost active_known: { active_priority ≡ least_active (L.content levels) EXCEPTIONS },
+}
+
+impl<L: Levels> KeptAnswers<L> {
+    /// The exceptions.
+    pub fn levels(&self) -> &L
+        ensures { result.now ≡ self.now.levels }
+    {
+        &self.levels
+    }
+}
+
+impl<L: Levels> Levels for KeptAnswers<L> {
+    ghost content = { λ k. L.content k.levels };
+
+    fn fresh(lines: u8, priority_bits: u8) -> Self {
+        let levels = L::fresh(lines, priority_bits);
+        let best = levels.best();
+        let active_priority = levels.active_priority();
+        KeptAnswers {
+            levels,
+            best,
+            active_priority,
+        }
+    }
+
+    #[tactic(auto, using(crate::proofs::Alike::best_of_idle, crate::proofs::Alike::least_of_pending))]
+    fn pend(&mut self, number: u16) {
+        self.levels.pend(number);
+        if self.levels.is_enabled(number) {
+            self.best = self.levels.best();
+        }
+    }
+
+    #[tactic(auto, using(crate::proofs::Alike::best_of_idle, crate::proofs::Alike::least_of_pending))]
+    fn clear(&mut self, number: u16) {
+        self.levels.clear(number);
+        if self.levels.is_enabled(number) {
+            self.best = self.levels.best();
+        }
+    }
+
+    #[tactic(auto, using(crate::proofs::Alike::least_of_enabled))]
+    fn enable(&mut self, number: u16) {
+        self.levels.enable(number);
+        self.best = self.levels.best();
+    }
+
+    #[tactic(auto, using(crate::proofs::Alike::least_of_enabled))]
+    fn disable(&mut self, number: u16) {
+        self.levels.disable(number);
+        self.best = self.levels.best();
+    }
+
+    fn set_priority(&mut self, number: u16, byte: u8) {
+        self.levels.set_priority(number, byte);
+        self.best = self.levels.best();
+        self.active_priority = self.levels.active_priority();
+    }
+
+    #[tactic(auto, using(crate::proofs::Alike::best_of_active))]
+    fn activate(&mut self, number: u16) {
+        self.levels.activate(number);
+        self.active_priority = self.levels.active_priority();
+    }
+
+    #[tactic(auto, using(crate::proofs::Alike::best_of_active))]
+    fn deactivate(&mut self, number: u16) {
+        self.levels.deactivate(number);
+        self.active_priority = self.levels.active_priority();
+    }
+
+    #[tactic(auto, using(crate::proofs::Alike::best_of_group))]
+    fn set_group(&mut self, group: u8) {
+        self.levels.set_group(group);
+        self.active_priority = self.levels.active_priority();
+    }
+
+    #[tactic(auto, using(crate::proofs::Alike::best_of_masks, crate::proofs::Alike::least_of_masks))]
+    fn set_primask(&mut self, on: bool) {
+        self.levels.set_primask(on);
+    }
+
+    #[tactic(auto, using(crate::proofs::Alike::best_of_masks, crate::proofs::Alike::least_of_masks))]
+    fn set_faultmask(&mut self, on: bool) {
+        self.levels.set_faultmask(on);
+    }
+
+    #[tactic(auto, using(crate::proofs::Alike::best_of_masks, crate::proofs::Alike::least_of_masks))]
+    fn set_basepri(&mut self, byte: u8) {
+        self.levels.set_basepri(byte);
+    }
+
+    #[inline]
+    fn is_pending(&self, number: u16) -> bool {
+        self.levels.is_pending(number)
+    }
+
+    #[inline]
+    fn is_enabled(&self, number: u16) -> bool {
+        self.levels.is_enabled(number)
+    }
+
+    #[inline]
+    fn is_active(&self, number: u16) -> bool {
+        self.levels.is_active(number)
+    }
+
+    #[inline]
+    fn priority(&self, number: u16) -> u8 {
+        self.levels.priority(number)
+    }
+
+    #[inline]
+    fn group(&self) -> u8 {
+        self.levels.group()
+    }
+
+    #[inline]
+    fn masks(&self) -> Masks {
+        self.levels.masks()
+    }
+
+    fn lines(&self) -> u8 {
+        self.levels.lines()
+    }
+
+    fn priority_bits(&self) -> u8 {
+        self.levels.priority_bits()
+    }
+
+    #[inline]
+    fn active_priority(&self) -> Priority {
+        self.active_priority
+    }
+
+    #[inline]
+    fn best(&self) -> Option<u16> {
+        self.best
+    }
+
+    fn copied(&self) -> Self {
+        KeptAnswers {
+            levels: self.levels.copied(),
+            best: self.best,
+            active_priority: self.active_priority,
+        }
+    }
+}
