@@ -4,7 +4,7 @@
 #include "console.h"
 #include "registers.h"
 
-#define UPDATES 600
+#define UPDATES 300
 #define TURNS 100
 #define PERIOD 97
 
