@@ -1,5 +1,7 @@
 //! `Slow` and `Fast` beside each other: arbitrary code, regions, priorities, SysTick and scripts.
 
+ghost use Rattle.std.specs.Prelude.{◌<◌};
+
 use super::machines::NO_SEGMENTS;
 use super::writers::run_gathered;
 use elf::load;
