@@ -1,4 +1,5 @@
 mod accesses;
+mod answers;
 mod cut;
 mod files;
 mod handlers;
@@ -6,6 +7,7 @@ mod instructions;
 mod machines;
 mod places;
 mod run;
+mod sessions;
 mod special;
 mod starts;
 mod steps;
