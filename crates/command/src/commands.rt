@@ -2,36 +2,38 @@
 
 ghost use Rattle.std.specs.Prelude.{◌≡◌, ◌⊎◌};
 
+use crate::debugging::debug;
 use crate::engine::go;
 use crate::fault::{Fault, tell};
 use crate::files::{FileFault, InputFile, read_file};
 use crate::noting::Noting;
-use crate::request::{Request, read_words};
+use crate::request::{Request, Task, read_words};
 use command_line::WordsFault;
-use machine::{Over, Paged};
+use machine::{In, Over, Paged};
 use std::alloc::Global;
 use std::io;
-use std::io::Write;
+use std::io::{Read, Write};
 use std::marker::Brand;
 use std::rt::Files;
 use std::sync::ledger::{Blank, Ledger};
 
 /// Carries out what the words ask for, of which the first is the program's name. Reads the image, then
-/// the board, and writes the trace to `out`, or why there is none to `err`. Returns the exit status.
-/// Help and the version go to `out`.
-pub fn program<R: Files + AllocGlobal, W: Write + Drop, E: Write>(
+/// the board, and writes the trace to `out`, or the answers to the commands of `input`, or why there
+/// is none to `err`. Returns the exit status. Help and the version go to `out`.
+pub fn program<R: Files + AllocGlobal, I: Read + Drop, W: Write + Drop, E: Write>(
     rt: &R,
     words: &[String],
+    input: I,
     out: W,
     err: &mut E,
 ) -> u8 {
     match read_words(rt.alloc(), words) {
-        Ok(request) => run(rt, request, out, err),
+        Ok(request) => carry_out(rt, request, input, out, err),
         Err(fault) => answer(fault, out, err),
     }
 }
 
-/// Writes the answer to words that name no run. Returns 2, 0 for the version, 5 where that fails.
+/// Writes the answer to words that name no run and no session. Returns 2, 0 for the version, 5 where that fails.
 fn answer<W: Write + Drop, E: Write>(fault: WordsFault, mut out: W, err: &mut E) -> u8
     ensures { (result ≡ 2) ⊎ ((result ≡ 0) ⊎ (result ≡ 5)) }
 {
@@ -57,10 +59,11 @@ fn answer<W: Write + Drop, E: Write>(fault: WordsFault, mut out: W, err: &mut E)
     }
 }
 
-/// Reads the image, then the board, and runs the image.
-fn run<R: Files + AllocGlobal, W: Write + Drop, E: Write>(
+/// Reads the image, then the board, and runs or debugs the image.
+fn carry_out<R: Files + AllocGlobal, I: Read + Drop, W: Write + Drop, E: Write>(
     rt: &R,
     request: Request<'_>,
+    input: I,
     out: W,
     err: &mut E,
 ) -> u8 {
@@ -80,15 +83,86 @@ fn run<R: Files + AllocGlobal, W: Write + Drop, E: Write>(
         path: request.board,
         bytes: board.as_slice(),
     };
-    run_files::<W, E, Brand>(
-        rt.alloc(),
+    match request.task {
+        Task::Run(steps) => run(rt.alloc(), image, board, steps, out, err),
+        Task::Debug => debug_by(rt.alloc(), image, board, input, out, err),
+    }
+}
+
+/// Runs an image on a board.
+fn run<W: Write + Drop, E: Write>(
+    alloc: Global,
+    image: InputFile<'_>,
+    board: InputFile<'_>,
+    steps: u64,
+    out: W,
+    err: &mut E,
+) -> u8 {
+    run_files::<W, E, Brand>(alloc, image, board, steps, out, err, Blank::new(1))
+}
+
+/// Debugs an image on a board by the commands of a reader.
+fn debug_by<I: Read + Drop, W: Write + Drop, E: Write>(
+    alloc: Global,
+    image: InputFile<'_>,
+    board: InputFile<'_>,
+    input: I,
+    out: W,
+    err: &mut E,
+) -> u8 {
+    debug_from::<I, W, E, Brand>(alloc, image, board, input, out, err, Blank::new(1))
+}
+
+/// Debugs an image on a board. `blank` counts the calls of `input` that fail.
+fn debug_from<I: Read + Drop, W: Write + Drop, E: Write, K: Ledger>(
+    alloc: Global,
+    image: InputFile<'_>,
+    board: InputFile<'_>,
+    input: I,
+    out: W,
+    err: &mut E,
+    blank: Blank,
+) -> u8
+    requires name { blank.name ≡ K.name }
+    requires parts { blank.parts ≡ K.parts }
+    requires some { blank.parts ≡ 1 }
+{
+    let mut input: Over<Noting<I>, K> = Over::new(Noting::new(input), blank);
+    let status = debug_to::<Over<Noting<I>, K>, W, E, Brand>(
+        alloc,
         image,
         board,
-        request.steps,
+        &mut input,
         out,
         err,
         Blank::new(1),
-    )
+    );
+    if let Some(error) = input.into_inner().error() {
+        let _ = writeln!(err, "  standard input: {error}");
+    }
+    status
+}
+
+/// Debugs an image on a board. `blank` counts the calls of `out` that fail.
+fn debug_to<I: In, W: Write + Drop, E: Write, K: Ledger>(
+    alloc: Global,
+    image: InputFile<'_>,
+    board: InputFile<'_>,
+    input: &mut I,
+    out: W,
+    err: &mut E,
+    blank: Blank,
+) -> u8
+    requires name { blank.name ≡ K.name }
+    requires parts { blank.parts ≡ K.parts }
+    requires some { blank.parts ≡ 1 }
+{
+    let mut out: Over<Noting<W>, K> = Over::new(Noting::new(out), blank);
+    let status = debug(alloc, image, board, input, &mut out, err);
+    if let Some(error) = out.into_inner().error() {
+        let _ = writeln!(err, "  standard output: {error}");
+    }
+    status
 }
 
 /// Runs an image on a board. `blank` counts the calls of `out` that fail.

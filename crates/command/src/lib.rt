@@ -1,8 +1,9 @@
-//! The command `marm`: its words, the files that they name, and a run from the bytes of an image and
-//! of a board to the bytes of a trace.
+//! The command `marm`: its words, the files that they name, a run from the bytes of an image and of a
+//! board to the bytes of a trace, and a debug session of them.
 #![tactic(auto)]
 
 mod commands;
+mod debugging;
 mod engine;
 mod explanations;
 mod fault;
@@ -12,7 +13,8 @@ mod request;
 
 pub use command_line::WordsFault;
 pub use commands::program;
+pub use debugging::debug;
 pub use engine::go;
 pub use fault::{Fault, tell};
 pub use files::{FileFault, InputFile, read_file, words};
-pub use request::{Request, read_words};
+pub use request::{Request, Task, read_words};

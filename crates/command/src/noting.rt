@@ -1,18 +1,18 @@
-//! A writer that keeps why it failed.
+//! A writer or a reader that keeps why it failed.
 
 use std::io;
-use std::io::Write;
+use std::io::{Read, Write};
 
-/// A writer over another that keeps the last error, for a message.
+/// A writer or a reader over another that keeps the last error, for a message.
 #[derive(Drop)]
-pub struct Noting<W: Write + Drop> {
-    inner: W,
+pub struct Noting<T: Drop> {
+    inner: T,
     error: Option<io::Error>,
 }
 
-impl<W: Write + Drop> Noting<W> {
-    /// Returns a writer over another, with no error.
-    pub fn new(inner: W) -> Self {
+impl<T: Drop> Noting<T> {
+    /// Returns a writer or a reader over another, with no error.
+    pub fn new(inner: T) -> Self {
         Noting { inner, error: None }
     }
 
@@ -39,5 +39,20 @@ impl<W: Write + Drop> Write for Noting<W> {
 
     fn flush(&mut self) -> io::Result<()> {
         self.inner.flush()
+    }
+}
+
+impl<R: Read + Drop> Read for Noting<R> {
+    ghost remaining = { λ r. R.remaining r.inner };
+
+    fn read(&mut self, buf: &mut [u8]) -> io::Result<usize> {
+        match self.inner.read(buf) {
+            Ok(given) => Ok(given),
+            Err(error) => {
+                let kind = error.kind();
+                self.error = Some(error);
+                Err(io::Error::from(kind))
+            }
+        }
     }
 }

@@ -1,8 +1,9 @@
 //! What the words after the program's name ask for.
 
-ghost use Rattle.std.specs.Prelude.{◌^◌, ◌≤◌, IfOk};
+ghost use Rattle.std.specs.Prelude.{IfOk};
+ghost use Rattle.command.specs.Tasks.{IsBounded};
 
-use command_line::{MOST_STEPS, WordsFault, words_of};
+use command_line::{MOST_STEPS, RunWords, Words, WordsFault, words_of};
 use std::alloc::Global;
 
 /// What the words ask for.
@@ -10,24 +11,44 @@ use std::alloc::Global;
 pub struct Request<'a> {
     /// The path of the board file.
     pub board: &'a str,
-    pub steps: u64,
     /// The path of the image file.
     pub image: &'a str,
+    pub task: Task,
+}
+
+/// What is to be done with the image.
+#[derive(Clone, Copy)]
+pub enum Task {
+    /// Run it for at most this many steps.
+    Run(u64),
+    /// Debug it by the commands on standard input.
+    Debug,
 }
 
 /// Reads the words, of which the first is the program's name.
 pub fn read_words<'a>(alloc: Global, words: &'a [String]) -> Result<Request<'a>, WordsFault>
-    ensures { IfOk result (λ request. request.steps ≤ 2 ^ 32) }
+    ensures { IfOk result (λ request. IsBounded request.task) }
 {
-    let said = match words_of(alloc, words) {
-        Ok(said) => said,
-        Err(fault) => return Err(fault),
-    };
+    match words_of(alloc, words) {
+        Ok(Words::Run(said)) => run_request(alloc, said),
+        Ok(Words::Debug(said)) => Ok(Request {
+            board: said.board,
+            image: said.image,
+            task: Task::Debug,
+        }),
+        Err(fault) => Err(fault),
+    }
+}
+
+/// Reads the number of steps of a run.
+fn run_request<'a>(alloc: Global, said: RunWords<'a>) -> Result<Request<'a>, WordsFault>
+    ensures { IfOk result (λ request. IsBounded request.task) }
+{
     match said.steps.parse::<u64>() {
         Ok(steps) if steps <= MOST_STEPS => Ok(Request {
             board: said.board,
-            steps,
             image: said.image,
+            task: Task::Run(steps),
         }),
         _ => Err(WordsFault::Wrong(String::new(alloc))),
     }

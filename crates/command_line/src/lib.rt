@@ -1,6 +1,6 @@
-//! The command line: `marm run --board FILE --steps N IMAGE`.
+//! The command line: `marm run --board FILE --steps N IMAGE`, `marm debug --board FILE IMAGE`.
 #![tactic(auto)]
 
 mod words;
 
-pub use words::{MOST_STEPS, Words, WordsFault, words_of};
+pub use words::{DebugWords, MOST_STEPS, RunWords, Words, WordsFault, words_of};

@@ -8,12 +8,15 @@ use std::alloc::{AllocError, Global};
 /// The most steps of a run.
 pub const MOST_STEPS: u64 = 0x1_0000_0000;
 
+/// The name of the subcommand that debugs.
+const DEBUG: &str = "debug";
+
 /// The program's version.
 const VERSION: &str = "0.1.0";
 
-/// What the words say.
+/// The words after `run`.
 #[derive(Clone, Copy)]
-pub struct Words<'a> {
+pub struct RunWords<'a> {
     /// The path of the board file.
     pub board: &'a str,
     /// How many steps, in digits.
@@ -22,7 +25,23 @@ pub struct Words<'a> {
     pub image: &'a str,
 }
 
-/// Why the words name no run.
+/// The words after `debug`.
+#[derive(Clone, Copy)]
+pub struct DebugWords<'a> {
+    /// The path of the board file.
+    pub board: &'a str,
+    /// The path of the image file.
+    pub image: &'a str,
+}
+
+/// What the words say.
+#[derive(Clone, Copy)]
+pub enum Words<'a> {
+    Run(RunWords<'a>),
+    Debug(DebugWords<'a>),
+}
+
+/// Why the words name neither a run nor a session.
 #[derive(Drop)]
 pub enum WordsFault {
     /// They are wrong: why, and the usage.
@@ -45,23 +64,37 @@ pub fn words_of<'a>(alloc: Global, words: &'a [String]) -> Result<Words<'a>, Wor
         Err(error) => return Err(fault_of(alloc, &error)),
     };
     match matches.subcommand() {
-        Some((_, run)) => words_in(alloc, run),
+        Some((name, words)) => {
+            if name == DEBUG {
+                debug_words(alloc, words)
+            } else {
+                run_words(alloc, words)
+            }
+        }
         None => Err(WordsFault::Wrong(String::new(alloc))),
     }
 }
 
+/// Returns the values of the words after `debug`. `clap` has found both.
+fn debug_words<'a>(alloc: Global, debug: &ArgMatches<'a>) -> Result<Words<'a>, WordsFault> {
+    match (debug.get_str("board"), debug.get_str("image")) {
+        (Some(board), Some(image)) => Ok(Words::Debug(DebugWords { board, image })),
+        _ => Err(WordsFault::Wrong(String::new(alloc))),
+    }
+}
+
 /// Returns the values of the words after `run`. `clap` has found all three.
-fn words_in<'a>(alloc: Global, run: &ArgMatches<'a>) -> Result<Words<'a>, WordsFault> {
+fn run_words<'a>(alloc: Global, run: &ArgMatches<'a>) -> Result<Words<'a>, WordsFault> {
     match (
         run.get_str("board"),
         run.get_str("steps"),
         run.get_str("image"),
     ) {
-        (Some(board), Some(steps), Some(image)) => Ok(Words {
+        (Some(board), Some(steps), Some(image)) => Ok(Words::Run(RunWords {
             board,
             steps,
             image,
-        }),
+        })),
         _ => Err(WordsFault::Wrong(String::new(alloc))),
     }
 }
@@ -96,7 +129,7 @@ fn fault_of(alloc: Global, error: &Error) -> WordsFault {
 /// What the program's help says of its statuses and messages.
 const AFTER_MARM: &str = "\
 Exit status:
-  0  all steps were made, or a breakpoint was met; or the version was asked for
+  0  all steps were made, a breakpoint was met, or a debug session ended; or the version was asked for
   2  the words are wrong, or help was asked for (marm: usage)
   3  the image or the board is refused (marm: load, board, start, size)
   4  the machine stopped otherwise: the trace's last line says why
@@ -120,14 +153,51 @@ Exit status:
 Example:
   marm run --board examples/boards/small.toml --steps 10 examples/first.elf";
 
-/// Returns the command `marm`, with its one subcommand.
+/// What the help of `debug` says of the commands and of the statuses.
+const AFTER_DEBUG: &str = "\
+Commands, one a line on standard input; numbers are decimal, or hexadecimal after 0x:
+  step               makes a step: its trace lines, then `at <pc>` or the stop line
+  run <n>            makes up to n steps, from 1 to 1000000, and ends at a breakpoint
+  break <a>          sets a breakpoint at an address, at most 16
+  regs               shows the core registers
+  mem <a> <n>        shows n bytes from an address on, from 1 to 256
+  regions            shows RBAR and RASR of each region of the MPU
+  explain <a> p|u r|w|x
+                     shows the rule that would decide an access by privileged (p) or unprivileged (u)
+                     code that reads, writes or executes, and whether the rule would grant it
+  quit               ends the session, as the end of the input does
+
+Answers `error 1` (no such command, or another number of words), `error 2` (a word isn't allowed there)
+and `error 3` (16 breakpoints are set) change nothing.
+
+Exit status:
+  0  the session ended
+  2  the words are wrong, or help was asked for (marm: usage)
+  3  the image or the board is refused (marm: load, board, start, size)
+  5  reading or writing failed, or memory ran out (marm: io)
+
+Example:
+  echo 'explain 0x20000000 u w' |
+  marm debug --board examples/boards/small.toml examples/first.elf";
+
+/// Returns the command `marm`, with its two subcommands.
 fn marm<'a>(alloc: Global) -> Result<Command<'a>, AllocError> {
     Command::new(alloc, "marm")
         .about("An ARMv7-M machine that writes a proved trace of its memory accesses")
         .version(VERSION)
         .after_help(AFTER_MARM)
         .subcommand_required(true)
-        .subcommand(run(alloc)?)
+        .subcommand(run(alloc)?)?
+        .subcommand(debug(alloc)?)
+}
+
+/// Returns the subcommand `debug`, with its two arguments.
+fn debug<'a>(alloc: Global) -> Result<Command<'a>, AllocError> {
+    let debug = Command::new(alloc, DEBUG)
+        .about("Reads commands from standard input and writes their answers to standard output")
+        .after_help(AFTER_DEBUG);
+    let debug = debug.arg(board(alloc))?;
+    debug.arg(image(alloc))
 }
 
 /// Returns the subcommand `run`, with its three arguments.

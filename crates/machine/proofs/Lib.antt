@@ -1,3 +1,4 @@
+mod Foreseen
 mod Loading
 pub mod Running
 mod Room

@@ -1,3 +1,4 @@
+pub mod Foresight
 pub mod Room
 pub mod Runs
 pub mod Starts

@@ -1,6 +1,7 @@
 //! The machine: steps, runs and their traces.
 #![tactic(auto)]
 
+pub mod foresight;
 mod placing;
 pub mod readers;
 mod run;
@@ -13,8 +14,10 @@ pub use access_table::Table;
 pub use bit_levels::{BitLevels, KeptAnswers};
 pub use board::{Board, InterruptLine, ScriptedEvent, Signal};
 pub use exceptions::Events;
-pub use output::{IoFault, Out, Over, Paged};
+pub use foresight::StepKind;
+pub use output::{In, IoFault, Out, Over, Paged};
 pub use readers::RegValues;
+pub use reference::access::{Decision, Kind, Rule};
 pub use reference::board::{Layout, SMALL_BOARD};
 pub use reference::event::{Event, MOST_EVENTS};
 pub use reference::fault::{PlaceFault, StartFault};

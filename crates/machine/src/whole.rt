@@ -2,16 +2,20 @@
 
 ghost use Rattle.std.specs.Prelude.{◌≡◌, length, ◌↔◌, ◌≤◌, false, true, Ok, Err, IfOk, IfErr, OnOk};
 ghost use Rattle.board.specs.Seen.{described};
+ghost use Rattle.machine.specs.Foresight.{next_kind_of};
 ghost use Rattle.machine.specs.Runs.{Fails};
 ghost use Rattle.machine.specs.Starts.{Starts, Places};
 ghost use Rattle.reference.specs.Memory.{byte_at};
 ghost use Rattle.reference.specs.Places.{place};
+ghost use Rattle.reference.specs.Priorities.{is_below_zero};
 ghost use Rattle.reference.specs.Regions.{shown};
+ghost use Rattle.reference.specs.Rules.{decision_of};
 ghost use Rattle.reference.specs.Run.{after, ending_of, trace};
 ghost use Rattle.reference.specs.Start.{start};
 ghost use Rattle.reference.specs.Step.{step};
 ghost use Rattle.std.specs.Io.KnownBytes.{Appends};
 
+use crate::foresight::StepKind;
 use crate::readers::RegValues;
 use crate::run::run_core;
 use crate::start::start_core;
@@ -24,6 +28,7 @@ use decode::Memo;
 use elf::Image;
 use exceptions::Events;
 use output::Out;
+use reference::access::{Decision, Kind};
 use reference::event::MOST_EVENTS;
 use reference::fault::{PlaceFault, StartFault};
 use reference::place::Place;
@@ -129,6 +134,28 @@ impl<D: Decider, L: Levels, U: DueTicks> Machine<D, L, U> {
         ensures { Places (place self.old.state value) self.old self.new result }
     {
         self.core.place(value)
+    }
+
+    /// Returns why the machine has stopped, if it has.
+    pub fn stop(&self) -> Option<Stop>
+        ensures { result ≡ self.now.state.stop }
+    {
+        self.core.stop()
+    }
+
+    /// Returns what the next step will do, None where it would only stop.
+    pub fn next_kind(&self) -> Option<StepKind>
+        ensures { result ≡ next_kind_of self.now.state }
+    {
+        self.core.next_kind()
+    }
+
+    /// Returns the rule that would decide an access of one kind to an address now, by code of that
+    /// privilege, and whether the rule would grant it.
+    pub fn explain(&self, address: u32, privileged: bool, kind: Kind) -> Decision
+        ensures { result ≡ decision_of self.now.state.bus.system.mpu address kind privileged (is_below_zero self.now.state.bus.system.nvic) }
+    {
+        self.core.explain(address, privileged, kind)
     }
 
     /// The values of the core registers.

@@ -1,4 +1,5 @@
-//! The program `marm`: it runs an image and writes the trace to standard output.
+//! The program `marm`: it runs an image and writes the trace to standard output, or debugs it by the
+//! commands on standard input.
 #![tactic(auto)]
 
 use command::{program, tell, words};
@@ -8,7 +9,7 @@ use std::process::ExitCode;
 fn main(rt: HostRuntime) -> ExitCode {
     let mut err = rt.stderr();
     let status = match words(&rt) {
-        Ok(words) => program(&rt, words.as_slice(), io::writer(&rt), &mut err),
+        Ok(words) => program(&rt, words.as_slice(), rt.stdin(), io::writer(&rt), &mut err),
         Err(fault) => tell(fault, &mut err),
     };
     ExitCode::from(status)

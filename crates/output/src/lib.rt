@@ -1,8 +1,9 @@
 //! Where a trace goes: writers that tell what they took, and one that gathers the lines of many steps.
+//! Where commands come from: readers that tell what they gave.
 #![tactic(auto)]
 
 mod paged;
 mod writer;
 
 pub use paged::Paged;
-pub use writer::{IoFault, Out, Over, StepPage};
+pub use writer::{In, IoFault, Out, Over, StepPage};

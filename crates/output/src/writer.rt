@@ -1,11 +1,12 @@
-//! Writers that tell what they took.
+//! Writers that tell what they took, and readers that tell what they gave.
 
 ghost use Rattle.std.specs.Prelude.{◌≡◌, ℕ, ◌+◌, ◌<◌, ◌≤◌, List, length, Option};
+ghost use Rattle.output.specs.Input.{Received};
 ghost use Rattle.output.specs.Output.{Took, Put};
 ghost use Rattle.reference.specs.Text.{lines};
 
 use reference::event::{Event, MOST_EVENTS};
-use std::io::Write;
+use std::io::{Read, Write};
 use std::marker::Model;
 use std::sync::ledger::{Blank, Book, Ledger, Share};
 use thiserror::Error;
@@ -15,9 +16,9 @@ use trace::tick::Tick;
 /// Room for the lines of a step, each of at most 64 bytes.
 pub type StepPage = Page<2560>;
 
-/// A writer failed.
+/// A writer or a reader failed.
 #[derive(Clone, Copy, Debug, Error)]
-#[error("the writer failed")]
+#[error("the writer or the reader failed")]
 pub struct IoFault;
 
 /// A writer that tells how many of the bytes it took. A contract sees the bytes that it has taken,
@@ -65,18 +66,31 @@ pub trait Out {
     }
 }
 
-/// A writer of the standard library, whose faults are counted in contracts alone.
+/// A reader that tells how many bytes it gave. A contract sees the bytes that it has left, where they
+/// are known, and how many calls failed.
+pub trait In {
+    ghost left: { Self → Option (List ℕ) };
+
+    ghost misses: { Self → ℕ };
+
+    /// Puts bytes at the front of the room, and answers how many those are: none at the end of the
+    /// input, or where there is no room.
+    fn take(&mut self, room: &mut [u8]) -> Result<usize, IoFault>
+        ensures { Received (left self.old) (left self.new) (misses self.old) (misses self.new) room.new result };
+}
+
+/// A writer or a reader of the standard library, whose faults are counted in contracts alone.
 #[derive(Drop)]
-pub struct Over<W: Write + Drop, K: Ledger> {
-    inner: W,
+pub struct Over<T: Drop, K: Ledger> {
+    inner: T,
     book: Book<K>,
     share: Share<K>,
     ghost counts: { 0 < share.parts },
 }
 
-impl<W: Write + Drop, K: Ledger> Over<W, K> {
-    /// Over a writer, with a ledger in which nothing is counted yet.
-    pub fn new(inner: W, blank: Blank) -> Self
+impl<T: Drop, K: Ledger> Over<T, K> {
+    /// Over a writer or a reader, with a ledger in which nothing is counted yet.
+    pub fn new(inner: T, blank: Blank) -> Self
         requires name { blank.name ≡ K.name }
         requires parts { blank.parts ≡ K.parts }
         requires some { 0 < blank.parts }
@@ -87,8 +101,8 @@ impl<W: Write + Drop, K: Ledger> Over<W, K> {
         Over { inner, book, share }
     }
 
-    /// Returns the standard library's writer.
-    pub fn into_inner(self) -> W
+    /// Returns the standard library's writer or reader.
+    pub fn into_inner(self) -> T
         ensures { result ≡ self.inner }
     {
         let Over {
@@ -112,6 +126,22 @@ impl<W: Write + Drop, K: Ledger> Out for Over<W, K> {
                 Ok(0)
             }
             Ok(taken) => Ok(taken),
+            Err(_) => {
+                self.book.add(&mut self.share, 1);
+                Err(IoFault)
+            }
+        }
+    }
+}
+
+impl<R: Read + Drop, K: Ledger> In for Over<R, K> {
+    ghost left = { λ o. R.remaining o.inner };
+
+    ghost misses = { λ o. o.book.total };
+
+    fn take(&mut self, room: &mut [u8]) -> Result<usize, IoFault> {
+        match self.inner.read(room) {
+            Ok(given) => Ok(given),
             Err(_) => {
                 self.book.add(&mut self.share, 1);
                 Err(IoFault)

@@ -1,5 +1,6 @@
 mod accesses;
 mod both;
+mod answers;
 mod cut;
 mod exclusives;
 mod files;
@@ -8,6 +9,7 @@ mod instructions;
 mod machines;
 mod places;
 mod run;
+mod sessions;
 mod special;
 mod starts;
 mod steps;

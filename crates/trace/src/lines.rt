@@ -212,6 +212,16 @@ impl<const ROOM: usize> Page<ROOM> {
         ensures text { self.new ≡ self.old ++ (rule_text rule ++ line_feed) }
         ensures short { length self.new ≤ length self.old + RULE_ROOM }
     {
+        self.put_rule_word(rule);
+        self.put(b"\n");
+    }
+
+    /// Appends the word of a rule, at most 21 bytes.
+    pub fn put_rule_word(&mut self, rule: Rule)
+        requires { length self.old + 21 ≤ ROOM }
+        ensures text { self.new ≡ self.old ++ rule_text rule }
+        ensures short { length self.new ≤ length self.old + 21 }
+    {
         match rule {
             Rule::NeverExecute => self.put(b"xn"),
             Rule::VectorRead => self.put(b"vec"),
@@ -225,7 +235,6 @@ impl<const ROOM: usize> Page<ROOM> {
             Rule::Background => self.put(b"bg"),
             Rule::NoRegion => self.put(b"none"),
         }
-        self.put(b"\n");
     }
 
     /// Appends the line of a byte that went out, but for its tick.

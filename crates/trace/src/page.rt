@@ -2,7 +2,9 @@
 
 ghost use Rattle.std.specs.Prelude.{◌≡◌, ◌+◌, ◌≤◌, ◌↔◌, [], ◌++◌, length, take, IsTrue};
 ghost use Rattle.std.specs.Fmt.{decimal};
+ghost use Rattle.reference.specs.Text.{hex_byte, hex_word};
 
+use crate::hex;
 use itoa::Buffer;
 use std::marker::Model;
 
@@ -71,7 +73,7 @@ impl<const ROOM: usize> Page<ROOM> {
 
     /// Appends bytes whose number is known when the program is built, so that a few stores do it.
     #[inline(always)]
-    pub(crate) fn put<const COUNT: usize>(&mut self, text: &[u8; COUNT])
+    pub fn put<const COUNT: usize>(&mut self, text: &[u8; COUNT])
         requires { length self.old + COUNT ≤ ROOM }
         ensures { self.new ≡ self.old ++ text.now }
     {
@@ -97,7 +99,7 @@ impl<const ROOM: usize> Page<ROOM> {
     }
 
     /// Appends bytes.
-    pub(crate) fn put_slice(&mut self, text: &[u8])
+    pub fn put_slice(&mut self, text: &[u8])
         requires { length self.old + length text.now ≤ ROOM }
         ensures { self.new ≡ self.old ++ text.now }
     {
@@ -108,13 +110,29 @@ impl<const ROOM: usize> Page<ROOM> {
     }
 
     /// Appends a number in decimal.
-    pub(crate) fn put_decimal(&mut self, number: u64)
+    pub fn put_decimal(&mut self, number: u64)
         requires { length self.old + 20 ≤ ROOM }
         ensures text { self.new ≡ self.old ++ decimal number }
         ensures short { length self.new ≤ length self.old + 20 }
     {
         let mut buffer = Buffer::new();
         self.put_slice(buffer.format(number).as_bytes());
+    }
+
+    /// Appends the two hexadecimal digits of a byte.
+    pub fn put_byte(&mut self, byte: u8)
+        requires { length self.old + 2 ≤ ROOM }
+        ensures { self.new ≡ self.old ++ hex_byte byte }
+    {
+        self.put(&hex::pair(byte));
+    }
+
+    /// Appends the eight hexadecimal digits of a word.
+    pub fn put_word(&mut self, word: u32)
+        requires { length self.old + 8 ≤ ROOM }
+        ensures { self.new ≡ self.old ++ hex_word word }
+    {
+        self.put(&hex::word(word));
     }
 }
 

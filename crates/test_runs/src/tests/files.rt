@@ -2,7 +2,7 @@
 
 use super::cut::{Cut, Text, push_line};
 use board::BoardFault;
-use command::{Fault, FileFault, program, read_file, read_words, tell};
+use command::{Fault, FileFault, Task, program, read_file, read_words, tell};
 use machine::StartFault;
 use std::alloc::Global;
 use std::fs::OpenFile;
@@ -37,7 +37,9 @@ struct Case {
     board: Text,
     /// The status, once a line has it.
     status: Option<u8>,
-    /// The trace.
+    /// What standard input has.
+    input: Text,
+    /// The trace, or the answers of a session.
     out: Text,
     /// What standard error has.
     err: Text,
@@ -52,6 +54,7 @@ impl Case {
             length: 96,
             board: Text::new(),
             status: None,
+            input: Text::new(),
             out: Text::new(),
             err: Text::new(),
         }
@@ -75,13 +78,16 @@ impl Case {
 
     /// Reads a line: `words` after the program's name, `byte` with a place and a byte of the image,
     /// `length` of the image, `board` with a line of the board, `with` a line after the small board's,
-    /// `ends` with the status, and `out` and `err` with the lines that are written.
+    /// `ends` with the status, `in` with a line of standard input, `tail` with one that has no line
+    /// feed, and `out` and `err` with the lines that are written.
     fn read(&mut self, line: &str) -> Option<()> {
         let (word, rest) = line.split_once(' ').unwrap_or((line, ""));
         match word {
             "words" => push_line(&mut self.words, rest),
             "board" => push_line(&mut self.board, rest),
             "with" => self.read_more(rest),
+            "in" => push_line(&mut self.input, rest),
+            "tail" => self.input.try_extend_from_slice(rest.as_bytes()).ok(),
             "out" => push_line(&mut self.out, rest),
             "err" => push_line(&mut self.err, rest),
             _ => self.read_numbers(word, rest),
@@ -124,6 +130,7 @@ impl Ended {
         words: &str,
         image: &[u8],
         board: &[u8],
+        input: &[u8],
         room: usize,
     ) -> io::Result<Self> {
         let mut given = Vec::new(rt.alloc());
@@ -135,7 +142,7 @@ impl Ended {
         fs::write(rt, BOARD_PATH, board)?;
         let mut out = Cut::new(room, room, true);
         let mut err = Cut::whole();
-        let status = program(rt, given.as_slice(), &mut out, &mut err);
+        let status = program(rt, given.as_slice(), input, &mut out, &mut err);
         fs::remove_file(rt, IMAGE_PATH)?;
         fs::remove_file(rt, BOARD_PATH)?;
         Ok(Ended { status, out, err })
@@ -149,8 +156,8 @@ impl Ended {
 
 /// Runs of the program, and how they end.
 #[derive(Drop)]
-struct Ends<'a> {
-    rt: &'a HostRuntime,
+pub(super) struct Ends<'a> {
+    pub(super) rt: &'a HostRuntime,
 }
 
 impl Rows for Ends<'_> {
@@ -158,7 +165,9 @@ impl Rows for Ends<'_> {
         let case = Case::of(text)?;
         let image = case.image.get(..case.length)?;
         let words = str::from_utf8(case.words.as_slice()).ok()?;
-        let ended = Ended::of(self.rt, words, image, case.board.as_slice(), 4096).ok()?;
+        let board = case.board.as_slice();
+        let input = case.input.as_slice();
+        let ended = Ended::of(self.rt, words, image, board, input, 4096).ok()?;
         Some(ended.is(case.status?, case.out.as_slice(), case.err.as_slice()))
     }
 }
@@ -472,194 +481,6 @@ ends 3
 err marm: load 1 Truncated
 err   image.elf: the file has 0 bytes, and an ELF header has 52";
 
-/// Words that name no run, and words that name files that aren't there.
-const ANSWERS: &str = "\
-the version
-words --version
-ends 0
-out marm 0.1.0
-
-the help
-words --help
-ends 2
-out An ARMv7-M machine that writes a proved trace of its memory accesses
-out
-out Usage: marm <COMMAND>
-out
-out Commands:
-out   run   Runs an image on a board and writes the trace to standard output
-out   help  Print this message or the help of the given subcommand(s)
-out
-out Options:
-out   -h, --help     Print help
-out   -V, --version  Print version
-out
-out Exit status:
-out   0  all steps were made, or a breakpoint was met; or the version was asked for
-out   2  the words are wrong, or help was asked for (marm: usage)
-out   3  the image or the board is refused (marm: load, board, start, size)
-out   4  the machine stopped otherwise: the trace's last line says why
-out   5  reading or writing failed, or memory ran out (marm: io)
-out
-out Example:
-out   marm run --board examples/boards/small.toml --steps 10 examples/first.elf
-err marm: usage
-
-the help of run
-words run --help
-ends 2
-out Runs an image on a board and writes the trace to standard output
-out
-out Usage: marm run --board <FILE> --steps <N> <IMAGE>
-out
-out Arguments:
-out   <IMAGE>  The image: an ELF file for ARM of at most 16 MiB, linked to run
-out
-out Options:
-out       --board <FILE>  The board: a TOML file of at most 16 MiB with the memory, the lines and the events
-out       --steps <N>     The most steps (instructions, entries, idle ticks) to make, from 0 to 4294967296
-out   -h, --help          Print help
-out
-out The trace has one line for each access: its tick, kind, address, size in bytes, privilege, outcome,
-out and the rule or region that decided it. Its last line says why the run ended.
-out
-out Exit status:
-out   0  all steps were made, or a breakpoint was met
-out   2  the words are wrong, or help was asked for (marm: usage)
-out   3  the image or the board is refused (marm: load, board, start, size)
-out   4  the machine stopped otherwise: the trace's last line says why
-out   5  reading or writing failed, or memory ran out (marm: io)
-out
-out Example:
-out   marm run --board examples/boards/small.toml --steps 10 examples/first.elf
-err marm: usage
-
-help as a word
-words help
-ends 2
-out An ARMv7-M machine that writes a proved trace of its memory accesses
-out
-out Usage: marm <COMMAND>
-out
-out Commands:
-out   run   Runs an image on a board and writes the trace to standard output
-out   help  Print this message or the help of the given subcommand(s)
-out
-out Options:
-out   -h, --help     Print help
-out   -V, --version  Print version
-out
-out Exit status:
-out   0  all steps were made, or a breakpoint was met; or the version was asked for
-out   2  the words are wrong, or help was asked for (marm: usage)
-out   3  the image or the board is refused (marm: load, board, start, size)
-out   4  the machine stopped otherwise: the trace's last line says why
-out   5  reading or writing failed, or memory ran out (marm: io)
-out
-out Example:
-out   marm run --board examples/boards/small.toml --steps 10 examples/first.elf
-err marm: usage
-
-help as a word, of run
-words help run
-ends 2
-out Runs an image on a board and writes the trace to standard output
-out
-out Usage: marm run --board <FILE> --steps <N> <IMAGE>
-out
-out Arguments:
-out   <IMAGE>  The image: an ELF file for ARM of at most 16 MiB, linked to run
-out
-out Options:
-out       --board <FILE>  The board: a TOML file of at most 16 MiB with the memory, the lines and the events
-out       --steps <N>     The most steps (instructions, entries, idle ticks) to make, from 0 to 4294967296
-out   -h, --help          Print help
-out
-out The trace has one line for each access: its tick, kind, address, size in bytes, privilege, outcome,
-out and the rule or region that decided it. Its last line says why the run ended.
-out
-out Exit status:
-out   0  all steps were made, or a breakpoint was met
-out   2  the words are wrong, or help was asked for (marm: usage)
-out   3  the image or the board is refused (marm: load, board, start, size)
-out   4  the machine stopped otherwise: the trace's last line says why
-out   5  reading or writing failed, or memory ran out (marm: io)
-out
-out Example:
-out   marm run --board examples/boards/small.toml --steps 10 examples/first.elf
-err marm: usage
-
-an option that does not exist
-words run --frob --board board.toml --steps 10 image.elf
-ends 2
-err marm: usage
-err error: unexpected argument '--frob' found
-err
-err   tip: to pass '--frob' as a value, use '-- --frob'
-err
-err Usage: marm run --board <FILE> --steps <N> <IMAGE>
-err
-err For more information, try '--help'.
-
-an option is missing
-words run --board board.toml image.elf
-ends 2
-err marm: usage
-err error: the following required arguments were not provided:
-err   --steps <N>
-err
-err Usage: marm run --board <FILE> --steps <N> <IMAGE>
-err
-err For more information, try '--help'.
-
-no number
-words run --board board.toml --steps ten image.elf
-ends 2
-err marm: usage
-err error: invalid value 'ten' for '--steps <N>': invalid digit found in string
-err
-err For more information, try '--help'.
-
-a word that does not exist
-words frob
-ends 2
-err marm: usage
-err error: unrecognized subcommand 'frob'
-err
-err Usage: marm <COMMAND>
-err
-err For more information, try '--help'.
-
-no words
-words
-ends 2
-err marm: usage
-err error: 'marm' requires a subcommand but one was not provided
-err   [subcommands: run, help]
-err
-err Usage: marm <COMMAND>
-err
-err For more information, try '--help'.
-
-too many steps
-words run --board board.toml --steps 4294967297 image.elf
-ends 2
-err marm: usage
-err error: invalid value '4294967297' for '--steps <N>': 4294967297 is not in 0..=4294967296
-err
-err For more information, try '--help'.
-
-a file that is not there
-words run --board board.toml --steps 10 missing.elf
-ends 5
-err marm: io
-err   missing.elf: No such file or directory (os error 2)";
-
-#[test]
-fn words_are_answered(rt: HostRuntime) -> Result<(), Fail> {
-    check_between(ANSWERS, "\n\n", &mut Ends { rt: &rt })
-}
-
 #[test]
 fn runs_of_files(rt: HostRuntime) -> Result<(), Fail> {
     check_between(RUNS, "\n\n", &mut Ends { rt: &rt })
@@ -667,14 +488,14 @@ fn runs_of_files(rt: HostRuntime) -> Result<(), Fail> {
 
 #[test]
 fn a_writer_that_fails_ends_the_run(rt: HostRuntime) -> Result<(), Fail> {
-    let ended = Ended::of(&rt, RUN_WORDS, &FIRST, SMALL.as_bytes(), 7)?;
+    let ended = Ended::of(&rt, RUN_WORDS, &FIRST, SMALL.as_bytes(), b"", 7)?;
     assert!(rt; ended.is(5, b"1 F 000", b"marm: io\n  standard output: broken pipe\n"));
     Ok(())
 }
 
 #[test]
 fn a_board_that_is_no_text_is_refused(rt: HostRuntime) -> Result<(), Fail> {
-    let ended = Ended::of(&rt, RUN_WORDS, &FIRST, b"# \xFF", 512)?;
+    let ended = Ended::of(&rt, RUN_WORDS, &FIRST, b"# \xFF", b"", 512)?;
     let err = b"marm: board 1 NotToml\n  board.toml: the file isn't a text in UTF-8\n";
     assert!(rt; ended.is(3, b"", err));
     Ok(())
@@ -749,7 +570,10 @@ fn steps_of(alloc: Global, line: &str) -> Option<u64> {
         words.push(word.to_string(alloc).ok()?).ok()?;
     }
     let request = read_words(alloc, words.as_slice()).ok()?;
-    Some(request.steps)
+    match request.task {
+        Task::Run(steps) => Some(steps),
+        Task::Debug => None,
+    }
 }
 
 /// Command lines, and the steps that they ask for.

@@ -1,0 +1,61 @@
+-- A debug session of the program.
+use Rattle.std.specs.Prelude.{◌≡◌, ◌⊎◌, ℕ, false, List, Result, Ok, Err}
+use Rattle.command.specs.declared.fault.Fault.{Fault}
+use Rattle.command.specs.declared.fault.Fault.TheVariants.{Load, Board, Start, Io}
+use Rattle.command.specs.Statuses.{fault_status}
+use Rattle.debugger.specs.Sessions.{FailsToRead, FailsToWrite, Holds, Sink, Source}
+use Rattle.machine.specs.Whole.{Whole}
+use Rattle.reference.specs.declared.fault.BoardFault.{BoardFault}
+use Rattle.reference.specs.declared.fault.BoardFault.TheVariants.{OutOfMemory}
+use Rattle.reference.specs.declared.fault.LoadFault.{LoadFault}
+use Rattle.reference.specs.declared.fault.StartFault.{StartFault}
+use Rattle.reference.specs.declared.fault.StartFault.TheVariants.{NoMemory}
+use Rattle.reference.specs.Boards.{Described}
+use Rattle.reference.specs.Images.{Segment}
+use Rattle.reference.specs.Start.{start}
+use Rattle.reference.specs.State.{State}
+
+-- a machine before its first step
+abbrev pub whole_of : State → Whole
+whole_of s = record { state = s; broken = false }
+
+-- a session of a machine, with the machine as it is at the end: it ends, or its reader or its writer fails
+abbrev pub Talks : State → Whole → Source → Source → Sink → Sink → Result (Unit {0}) Fault → Type 0
+Talks s last before after out out' (Ok done) = Holds (whole_of s) last before after out out'
+Talks s last before after out out' (Err fault) =
+    (fault ≡ Io) × (FailsToRead (whole_of s) last before after out out' ⊎ FailsToWrite (whole_of s) last before after out out')
+
+-- a session of a machine, whatever the machine is at its end
+pub record Talked (s : State) (before after : Source) (out out' : Sink) (result : Result (Unit {0}) Fault) : Type 0 where
+  pub last : Whole
+  pub talks : Talks s last before after out out' result
+
+-- a refusal, with which nothing is read and nothing is written
+abbrev pub Refuses : Fault → Source → Source → Sink → Sink → Result (Unit {0}) Fault → Type 0
+Refuses fault before after out out' result = (result ≡ Err fault) × (after ≡ before) × (out' ≡ out)
+
+-- a session from a start state, for which memory may be wanting, or the refusal of the start
+abbrev pub TalksFrom : Result State StartFault → Source → Source → Sink → Sink → Result (Unit {0}) Fault → Type 0
+TalksFrom (Ok s) before after out out' result =
+    Talked s before after out out' result ⊎ Refuses (Start NoMemory) before after out out' result
+TalksFrom (Err refusal) before after out out' result = Refuses (Start refusal) before after out out' result
+
+-- an image or a board that is refused is refused as the definition refuses it, the image first; memory for the board may
+-- be wanting in place of what comes behind the image
+abbrev pub Debugs : Result (List Segment) LoadFault → Result Described BoardFault → Source → Source → Sink → Sink → Result (Unit {0}) Fault → Type 0
+Debugs (Ok image) (Ok board) before after out out' result =
+    TalksFrom (start board image) before after out out' result ⊎ Refuses (Board OutOfMemory) before after out out' result
+Debugs (Ok image) (Err refusal) before after out out' result =
+    Refuses (Board refusal) before after out out' result ⊎ Refuses (Board OutOfMemory) before after out out' result
+Debugs (Err refusal) board before after out out' result = Refuses (Load refusal) before after out out' result
+
+-- 0 where the session ended, else the status of the fault
+abbrev pub session_status : Result (Unit {0}) Fault → ℕ
+session_status (Ok done) = 0
+session_status (Err fault) = fault_status fault
+
+-- an image is debugged on a board, and the status is that of its end
+pub record DebugsTo (image : Result (List Segment) LoadFault) (board : Result Described BoardFault) (before after : Source) (out out' : Sink) (status : ℕ) : Type 0 where
+  pub result : Result (Unit {0}) Fault
+  pub debugged : Debugs image board before after out out' result
+  pub is : status ≡ session_status result

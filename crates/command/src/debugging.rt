@@ -1,0 +1,68 @@
+//! A debug session from the bytes of an image and of a board.
+
+ghost use Rattle.std.specs.Prelude.{◌≡◌, false};
+ghost use Rattle.command.specs.Sessions.{Debugs, DebugsTo, Talked};
+ghost use Rattle.command.specs.Statuses.{board_in_file};
+ghost use Rattle.reference.specs.Images.{image_of};
+
+use crate::engine::board_of_file;
+use crate::explanations::explain;
+use crate::fault::{Fault, tell};
+use crate::files::InputFile;
+use debugger::session;
+use elf::load;
+use machine::{Fast, In, Out};
+use std::alloc::Global;
+use std::io::Write;
+
+/// Debugs an image on a board by the commands of `input`, and writes their answers to `out`, or why
+/// there is no session to `err`. Returns the exit status: 0 where the session ended, 3 for a refused
+/// image or board, 5 where `input` or `out` failed.
+pub fn debug<I: In, O: Out, E: Write>(
+    alloc: Global,
+    image: InputFile<'_>,
+    board: InputFile<'_>,
+    input: &mut I,
+    out: &mut O,
+    err: &mut E,
+) -> u8
+    ensures debugs { DebugsTo (image_of image.entry.bytes.now) (board_in_file board.entry.bytes.now) (record { left = I.left input.old; misses = I.misses input.old }) (record { left = I.left input.new; misses = I.misses input.new }) (record { written = O.written out.old; faults = O.faults out.old }) (record { written = O.written out.new; faults = O.faults out.new }) result }
+    ensures quiet { result ≡ 0 → err.new ≡ err.old }
+{
+    match hold_session(alloc, image.bytes, board.bytes, input, out) {
+        Ok(()) => 0,
+        Err(fault) => {
+            let status = tell(fault, err);
+            let _ = explain(alloc, fault, image, board, err);
+            status
+        }
+    }
+}
+
+/// Debugs an image on a board.
+fn hold_session<I: In, O: Out>(
+    alloc: Global,
+    image: &[u8],
+    board: &[u8],
+    input: &mut I,
+    out: &mut O,
+) -> Result<(), Fault>
+    ensures { Debugs (image_of image.now) (board_in_file board.now) (record { left = I.left input.old; misses = I.misses input.old }) (record { left = I.left input.new; misses = I.misses input.new }) (record { written = O.written out.old; faults = O.faults out.old }) (record { written = O.written out.new; faults = O.faults out.new }) result }
+{
+    let image = load(image).map_err(Fault::Load)?;
+    let board = board_of_file(alloc, board).map_err(Fault::Board)?;
+    let machine = Fast::new(alloc, &image, &board).map_err(Fault::Start)?;
+    talk_with(machine, input, out)
+}
+
+/// Holds a session of a machine.
+fn talk_with<I: In, O: Out>(machine: Fast, input: &mut I, out: &mut O) -> Result<(), Fault>
+    requires { machine.broken ≡ false }
+    ensures { Talked machine.state (record { left = I.left input.old; misses = I.misses input.old }) (record { left = I.left input.new; misses = I.misses input.new }) (record { written = O.written out.old; faults = O.faults out.old }) (record { written = O.written out.new; faults = O.faults out.new }) result }
+{
+    let mut machine = machine;
+    match session(&mut machine, input, out) {
+        Ok(()) => Ok(()),
+        Err(_) => Err(Fault::Io),
+    }
+}

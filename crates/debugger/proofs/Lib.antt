@@ -1,0 +1,4 @@
+mod Hearing
+mod Parts
+mod Running
+mod Telling

@@ -1,0 +1,94 @@
+-- Pieces that go out one after another.
+use Rattle.std.proofs.Common.{◌≡◌, ℕ, ◌+◌, List, [], ◌∷◌, ◌++◌, Option, refl, sym, ◌∙◌, ap, append_assoc}
+use Rattle.std.proofs.lemmas.List.{append-nil}
+use Rattle.std.specs.Io.KnownBytes.{Appends}
+use Rattle.std.proofs.KnownBytes.{Appends-nil, Appends-trans}
+use Rattle.debugger.specs.Answers.{Piece}
+use Rattle.debugger.specs.Sessions.{Sink, TellsAll, TellsPart, texts, last_state}
+use Rattle.machine.specs.Whole.{Whole}
+use Rattle.output.specs.Output.{IsCutAfter, IsCutShort}
+use Rattle.reference.specs.State.{State}
+
+pub texts-append : (xs ys : List Piece) → texts (xs ++ ys) ≡ texts xs ++ texts ys
+texts-append [] ys = refl
+texts-append (x ∷ xs) ys = rw (texts-append xs ys, append_assoc) refl
+
+pub last-append : (s : State) (xs ys : List Piece) → last_state s (xs ++ ys) ≡ last_state (last_state s xs) ys
+last-append s [] ys = refl
+last-append s (x ∷ xs) ys = last-append x.state xs ys
+
+-- no piece
+pub none_told : (m : Whole) (a : Sink) → TellsAll [] m m a a
+none_told m a = record { went = Appends-nil a.written; stands = refl; quiet = refl }
+
+-- one piece went out
+pub one_told : (p : Piece) (old new : Whole) (a b : Sink) → Appends a.written b.written p.text → new ≡ record old { state = p.state } → b.faults ≡ a.faults → TellsAll (p ∷ []) old new a b
+one_told p old new a b went stands quiet = record { went = rw append-nil went; stands = stands; quiet = quiet }
+
+-- one piece was cut
+pub one_cut : (p : Piece) (old new : Whole) (a b : Sink) → IsCutShort a.written b.written p.text → new ≡ record old { state = p.state } → b.faults ≡ a.faults + 1 → TellsPart (p ∷ []) old new a b
+one_cut p old new a b cut stands failed =
+    record { done = []; piece = p; others = []; among = refl; stands = stands; cut = cut; failed = failed }
+
+-- some pieces went out, and then more
+pub told_on : (xs ys : List Piece) (old mid new : Whole) (a b c : Sink) → TellsAll xs old mid a b → TellsAll ys mid new b c → TellsAll (xs ++ ys) old new a c
+told_on xs ys old mid new a b c first then = record {
+  went = rw texts-append (Appends-trans a.written b.written c.written (texts xs) (texts ys) first.went then.went);
+  stands = rw (last-append old.state xs ys) (then.stands ∙ ap (λ (m : Whole). record m { state = last_state m.state ys }) first.stands);
+  quiet = then.quiet ∙ first.quiet;
+}
+
+-- some pieces went out, and then one of more was cut
+pub cut_on : (xs ys : List Piece) (old mid new : Whole) (a b c : Sink) → TellsAll xs old mid a b → TellsPart ys mid new b c → TellsPart (xs ++ ys) old new a c
+cut_on xs ys old mid new a b c first then = record {
+  done = xs ++ then.done;
+  piece = then.piece;
+  others = then.others;
+  among = rw (then.among) (sym (append_assoc xs then.done (then.piece ∷ then.others)));
+  stands = then.stands ∙ ap (λ (m : Whole). record m { state = then.piece.state }) first.stands;
+  cut = record {
+    front = then.cut.front;
+    byte = then.cut.byte;
+    behind = then.cut.behind;
+    whole = then.cut.whole;
+    went = rw (texts-append xs then.done, append_assoc) (Appends-trans a.written b.written c.written (texts xs) (texts then.done ++ then.cut.front) first.went then.cut.went);
+  };
+  failed = then.failed ∙ ap (λ n. n + 1) first.quiet;
+}
+
+-- more pieces would have come
+pub cut_before : (xs ys : List Piece) (old new : Whole) (a b : Sink) → TellsPart xs old new a b → TellsPart (xs ++ ys) old new a b
+cut_before xs ys old new a b part = record {
+  done = part.done;
+  piece = part.piece;
+  others = part.others ++ ys;
+  among = rw (part.among) (append_assoc part.done (part.piece ∷ part.others) ys);
+  stands = part.stands;
+  cut = part.cut;
+  failed = part.failed;
+}
+
+-- the pieces of a list that went out so far
+pub record Told (all rest : List Piece) (old new : Whole) (a b : Sink) : Type 0 where
+  pub done : List Piece
+  pub whole : done ++ rest ≡ all
+  pub told : TellsAll done old new a b
+
+pub nothing_told : (all : List Piece) (m : Whole) (a : Sink) → Told all all m m a a
+nothing_told all m a = record { done = []; whole = refl; told = none_told m a }
+
+-- one piece more
+pub one_more : (all rest : List Piece) (p : Piece) (old mid new : Whole) (a b c : Sink) → Told all (p ∷ rest) old mid a b → TellsAll (p ∷ []) mid new b c → Told all rest old new a c
+one_more all rest p old mid new a b c so_far then = record {
+  done = so_far.done ++ p ∷ [];
+  whole = append_assoc so_far.done (p ∷ []) rest ∙ so_far.whole;
+  told = told_on so_far.done (p ∷ []) old mid new a b c so_far.told then;
+}
+
+-- the last pieces
+pub all_told : (all rest : List Piece) (old mid new : Whole) (a b c : Sink) → Told all rest old mid a b → TellsAll rest mid new b c → TellsAll all old new a c
+all_told all rest old mid new a b c so_far then = rw (sym so_far.whole) (told_on so_far.done rest old mid new a b c so_far.told then)
+
+-- the last pieces were cut
+pub rest_cut : (all rest : List Piece) (old mid new : Whole) (a b c : Sink) → Told all rest old mid a b → TellsPart rest mid new b c → TellsPart all old new a c
+rest_cut all rest old mid new a b c so_far then = rw (sym so_far.whole) (cut_on so_far.done rest old mid new a b c so_far.told then)

@@ -1,0 +1,15 @@
+use Rattle.debugger.proofs.Telling.{Told}
+use Rattle.debugger.specs.Answers.{run_on}
+use Rattle.debugger.specs.Sessions.{Sink}
+use Rattle.debugger.proofs.answers.run_on.Given as goal
+
+-- the pieces so far went out, and those of the steps that are left are still to come
+abbrev pub invariant-steps : goal.invariant-steps
+invariant-steps g l =
+    Told (run_on l.breakpoints l.fn.steps l.fn.machine.state) (run_on l.breakpoints l.left l.machine.state)
+    l.fn.machine l.machine
+    (record { written = g.W.Out.written l.fn.out; faults = g.W.Out.faults l.fn.out })
+    (record { written = g.W.Out.written l.out; faults = g.W.Out.faults l.out })
+
+abbrev pub decreases-steps : goal.decreases-steps
+decreases-steps g l = l.left

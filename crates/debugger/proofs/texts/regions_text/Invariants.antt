@@ -1,0 +1,9 @@
+use Rattle.std.proofs.Common.{◌≡◌, ◌*◌, ◌≤◌, length}
+use Rattle.debugger.specs.Answers.{region_lines}
+use Rattle.debugger.proofs.texts.regions_text.Given as goal
+
+abbrev pub invariant-numbers : goal.invariant-numbers
+invariant-numbers g l = record {
+  text : l.page ≡ region_lines l.machine.state.bus.system.mpu l.number;
+  short : length l.page ≤ 40 * l.number;
+}

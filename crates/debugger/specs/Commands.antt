@@ -1,0 +1,101 @@
+-- The commands of a session, and the lines that give them (profile).
+use Rattle.std.specs.Prelude.{ℕ, ◌-◌, Bool, true, false, if◌then◌else◌, List, codes, bytes_eq, Option, Some, None, Result, Ok, Err}
+use Rattle.debugger.specs.declared.commands.Command.{Command}
+use Rattle.debugger.specs.declared.commands.Command.TheVariants as command
+use Rattle.debugger.specs.declared.commands.LineFault.{LineFault}
+use Rattle.debugger.specs.declared.commands.LineFault.TheVariants as fault
+use Rattle.debugger.specs.declared.commands.Name.{Name}
+use Rattle.debugger.specs.declared.commands.Name.TheVariants as name
+use Rattle.debugger.specs.Words.{TwoWords, ThreeWords, first_word, more_words, one_word, two_words, three_words, number, number_within}
+use Rattle.reference.specs.declared.access.Kind.{Kind}
+use Rattle.reference.specs.declared.access.Kind.TheVariants.{Fetch, Load, Store}
+
+-- the command of a name
+abbrev pub name_of : List ℕ → Option Name
+name_of text =
+    if bytes_eq text (codes "step") then Some name.Step
+    else if bytes_eq text (codes "run") then Some name.Run
+    else if bytes_eq text (codes "break") then Some name.Break
+    else if bytes_eq text (codes "regs") then Some name.Regs
+    else if bytes_eq text (codes "mem") then Some name.Mem
+    else if bytes_eq text (codes "regions") then Some name.Regions
+    else if bytes_eq text (codes "explain") then Some name.Explain
+    else if bytes_eq text (codes "quit") then Some name.Quit
+    else None
+
+-- p for privileged code, u for unprivileged code
+abbrev pub privilege_of : List ℕ → Option Bool
+privilege_of text =
+    if bytes_eq text (codes "p") then Some true
+    else if bytes_eq text (codes "u") then Some false
+    else None
+
+-- r for a load, w for a store, x for a fetch
+abbrev pub kind_of : List ℕ → Option Kind
+kind_of text =
+    if bytes_eq text (codes "r") then Some Load
+    else if bytes_eq text (codes "w") then Some Store
+    else if bytes_eq text (codes "x") then Some Fetch
+    else None
+
+-- a command that takes no word
+abbrev pub alone : Command → Option (List ℕ) → Result Command LineFault
+alone c None = Ok c
+alone c (Some more) = Err fault.Command
+
+-- a word that isn't a number or letter that is allowed there
+abbrev pub run_of : Option ℕ → Result Command LineFault
+run_of None = Err fault.Word
+run_of (Some n) = Ok (command.Run n)
+
+abbrev pub break_of : Option ℕ → Result Command LineFault
+break_of None = Err fault.Word
+break_of (Some a) = Ok (command.Break a)
+
+abbrev pub memory_of : Option ℕ → Option ℕ → Result Command LineFault
+memory_of (Some a) (Some n) = Ok (command.Memory a (n - 1))
+memory_of (Some a) None = Err fault.Word
+memory_of None n = Err fault.Word
+
+abbrev pub explain_of : Option ℕ → Option Bool → Option Kind → Result Command LineFault
+explain_of (Some a) (Some privileged) (Some kind) = Ok (command.Explain a privileged kind)
+explain_of (Some a) (Some privileged) None = Err fault.Word
+explain_of (Some a) None kind = Err fault.Word
+explain_of None privileged kind = Err fault.Word
+
+-- run n: from 1 to 1,000,000 steps
+abbrev pub read_run : Option (List ℕ) → Result Command LineFault
+read_run None = Err fault.Command
+read_run (Some word) = run_of (number_within 1 1000000 word)
+
+-- break a
+abbrev pub read_break : Option (List ℕ) → Result Command LineFault
+read_break None = Err fault.Command
+read_break (Some word) = break_of (number word)
+
+-- mem a n: from 1 to 256 bytes
+abbrev pub read_memory : Option TwoWords → Result Command LineFault
+read_memory None = Err fault.Command
+read_memory (Some words) = memory_of (number words.first) (number_within 1 256 words.second)
+
+-- explain a p|u r|w|x
+abbrev pub read_explain : Option ThreeWords → Result Command LineFault
+read_explain None = Err fault.Command
+read_explain (Some words) = explain_of (number words.first) (privilege_of words.others.first) (kind_of words.others.second)
+
+-- the command of a name, with the words after it
+abbrev pub command_of : Option Name → Option (List ℕ) → Result Command LineFault
+command_of None more = Err fault.Command
+command_of (Some name.Step) more = alone (command.Run 1) more
+command_of (Some name.Run) more = read_run (one_word more)
+command_of (Some name.Break) more = read_break (one_word more)
+command_of (Some name.Regs) more = alone command.Regs more
+command_of (Some name.Mem) more = read_memory (two_words more)
+command_of (Some name.Regions) more = alone command.Regions more
+command_of (Some name.Explain) more = read_explain (three_words more)
+command_of (Some name.Quit) more = alone command.Quit more
+
+-- the command of a line, None where the line is too long
+unfoldable pub command_in : Option (List ℕ) → Result Command LineFault
+command_in None = Err fault.Command
+command_in (Some line) = command_of (name_of (first_word line)) (more_words line)

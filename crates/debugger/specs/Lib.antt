@@ -1,0 +1,5 @@
+pub mod Answers
+pub mod Commands
+pub mod Seen
+pub mod Sessions
+pub mod Words

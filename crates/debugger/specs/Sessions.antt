@@ -1,0 +1,171 @@
+-- A session: the bytes that it hears, one after another, and what it answers (profile).
+use Rattle.std.specs.Prelude.{◌≡◌, ◌⊎◌, ℕ, ◌+◌, ◌-◌, ◌^◌, Bool, true, false, not, ◌&&◌, ◌==◌, if◌then◌else◌, List, [], ◌∷◌, ◌++◌, length, Option, Some, None, Result, Ok, Err}
+use Rattle.std.specs.Io.KnownBytes.{Appends, Consumes, IsAtEnd, Keeps}
+use Rattle.debugger.specs.declared.sessions.SessionFault.{SessionFault}
+use Rattle.debugger.specs.declared.sessions.SessionFault.TheVariants.{Read, Write}
+use Rattle.debugger.specs.Answers.{Piece, answer, breakpoints_after, quits}
+use Rattle.debugger.specs.Commands.{command_in}
+use Rattle.debugger.specs.Words.{is_empty, with_byte}
+use Rattle.machine.specs.Whole.{Whole}
+use Rattle.output.specs.Output.{IsCutAfter}
+use Rattle.reference.specs.State.{State}
+
+-- ---- pieces of text
+
+-- the text of all pieces
+abbrev pub texts : List Piece → List ℕ
+texts [] = []
+texts (p ∷ ps) = p.text ++ texts ps
+
+-- the state by the end of the last piece
+abbrev pub last_state : State → List Piece → State
+last_state s [] = s
+last_state s (p ∷ ps) = last_state p.state ps
+
+-- ---- a session between two bytes
+
+-- what is kept beside the machine
+pub record Kept : Type 0 where
+  pub breakpoints : List ℕ
+  -- the line so far, None where it's too long
+  pub line : Option (List ℕ)
+
+pub record Talk : Type 0 where
+  pub state : State
+  pub breakpoints : List ℕ
+  -- the line so far, None where it's too long
+  pub line : Option (List ℕ)
+  -- whether no `quit` was heard
+  pub is_open : Bool
+
+-- a session of a machine before the first byte
+abbrev pub opened : State → Talk
+opened s = record { state = s; breakpoints = []; line = Some []; is_open = true }
+
+-- the answer to the line
+abbrev pub line_said : Talk → List Piece
+line_said t = answer t.state t.breakpoints (command_in t.line)
+
+-- after the answer to the line
+abbrev pub after_line : Talk → Talk
+after_line t = record {
+  state = last_state t.state (line_said t);
+  breakpoints = breakpoints_after t.breakpoints (command_in t.line);
+  line = Some [];
+  is_open = not (quits (command_in t.line));
+}
+
+abbrev pub is_line_feed : ℕ → Bool
+is_line_feed byte = byte == 10
+
+-- a line feed ends the line, which is answered
+abbrev pub said : Talk → ℕ → List Piece
+said t byte = if is_line_feed byte then line_said t else []
+
+abbrev pub next : Talk → ℕ → Talk
+next t byte = if is_line_feed byte then after_line t else record t { line = with_byte t.line byte }
+
+-- at the end of the input a last line without a line feed counts, if it has a byte
+abbrev pub said_at_end : Talk → List Piece
+said_at_end t = if is_empty t.line then [] else line_said t
+
+-- what is kept, with the machine's state, before a byte
+abbrev pub talk : State → Kept → Talk
+talk s k = record { state = s; breakpoints = k.breakpoints; line = k.line; is_open = true }
+
+-- what is kept, and whether the session goes on, after a byte that was answered
+abbrev pub GoesOn : {E : Type 0} → Talk → Kept → Result Bool E → Type 0
+GoesOn t k (Ok goes_on) = (k ≡ record { breakpoints = t.breakpoints; line = t.line }) × (goes_on ≡ t.is_open)
+GoesOn t k (Err fault) = Unit {0}
+
+-- ---- all bytes; none is heard after `quit`
+
+unfoldable pub after_bytes : Talk → List ℕ → Talk
+after_bytes t [] = t
+after_bytes t (byte ∷ bytes) = if t.is_open then after_bytes (next t byte) bytes else t
+
+unfoldable pub answers : Talk → List ℕ → List Piece
+answers t [] = []
+answers t (byte ∷ bytes) = if t.is_open then said t byte ++ answers (next t byte) bytes else []
+
+-- the answers to an input that has ended
+abbrev pub all_answers : State → List ℕ → List Piece
+all_answers s given = answers (opened s) given ++ said_at_end (after_bytes (opened s) given)
+
+-- ---- what of the pieces went out
+
+-- a writer: the bytes that it has taken, where they are known, and how many of its calls failed
+pub record Sink : Type 0 where
+  pub written : Option (List ℕ)
+  pub faults : ℕ
+
+-- all pieces went out, and the machine is in the state of the last one
+pub record TellsAll (pieces : List Piece) (old new : Whole) (before after : Sink) : Type 0 where
+  pub went : Appends before.written after.written (texts pieces)
+  pub stands : new ≡ record old { state = last_state old.state pieces }
+  pub quiet : after.faults ≡ before.faults
+
+-- a call failed in one of the pieces: those before it went out, and a beginning of it, and the machine is in its state
+pub record TellsPart (pieces : List Piece) (old new : Whole) (before after : Sink) : Type 0 where
+  pub done : List Piece
+  pub piece : Piece
+  pub others : List Piece
+  pub among : pieces ≡ done ++ piece ∷ others
+  pub stands : new ≡ record old { state = piece.state }
+  pub cut : IsCutAfter before.written after.written (texts done) piece.text
+  pub failed : after.faults ≡ before.faults + 1
+
+abbrev pub Tells : {A E : Type 0} → List Piece → Whole → Whole → Sink → Sink → Result A E → Type 0
+Tells pieces old new before after (Ok done) = TellsAll pieces old new before after
+Tells pieces old new before after (Err fault) = TellsPart pieces old new before after
+
+-- ---- a whole session
+
+-- a reader: the bytes that it has left, where they are known, and how many of its calls failed
+pub record Source : Type 0 where
+  pub left : Option (List ℕ)
+  pub misses : ℕ
+
+-- the bytes that a session heard are those that the reader gave, and no call of it failed
+pub record Hears (given : List ℕ) (before after : Source) : Type 0 where
+  pub gave : Consumes before.left after.left given
+  pub quiet : after.misses ≡ before.misses
+
+-- one byte, or the end of the input, or a call that failed
+abbrev pub GivesByte : {E : Type 0} → Source → Source → Result (Option ℕ) E → Type 0
+GivesByte before after (Ok (Some byte)) = Hears (byte ∷ []) before after
+GivesByte before after (Ok None) = Hears [] before after × IsAtEnd after.left
+GivesByte before after (Err fault) = Keeps before.left after.left × (after.misses ≡ before.misses + 1)
+
+-- why a session ends with no fault: the input is at its end, and then a last line counts; `quit`; or 2^64 - 1 bytes
+abbrev pub Ends : State → List ℕ → Source → List Piece → Type 0
+Ends s given after pieces =
+    (IsAtEnd after.left × (pieces ≡ all_answers s given))
+    ⊎ (((after_bytes (opened s) given).is_open ≡ false) × (pieces ≡ answers (opened s) given)
+    ⊎ (length given ≡ 2 ^ 64 - 1) × (pieces ≡ answers (opened s) given))
+
+-- the whole session: the answers to what was heard went out
+pub record Holds (old new : Whole) (before after : Source) (out out' : Sink) : Type 0 where
+  pub given : List ℕ
+  pub heard : Hears given before after
+  pub pieces : List Piece
+  pub ends : Ends old.state given after pieces
+  pub told : TellsAll pieces old new out out'
+
+-- the reader failed: what it gave before was heard, and the whole lines are answered
+pub record FailsToRead (old new : Whole) (before after : Source) (out out' : Sink) : Type 0 where
+  pub given : List ℕ
+  pub gave : Consumes before.left after.left given
+  pub missed : after.misses ≡ before.misses + 1
+  pub told : TellsAll (answers (opened old.state) given) old new out out'
+
+-- the writer failed in the answers to what was heard
+pub record FailsToWrite (old new : Whole) (before after : Source) (out out' : Sink) : Type 0 where
+  pub given : List ℕ
+  pub heard : Hears given before after
+  pub told : TellsPart (all_answers old.state given) old new out out'
+
+abbrev pub Sessions : Whole → Whole → Source → Source → Sink → Sink → Result (Unit {0}) SessionFault → Type 0
+Sessions old new before after out out' (Ok done) = Holds old new before after out out'
+Sessions old new before after out out' (Err Read) = FailsToRead old new before after out out'
+Sessions old new before after out out' (Err Write) = FailsToWrite old new before after out out'

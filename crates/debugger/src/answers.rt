@@ -1,0 +1,149 @@
+//! What the debugger answers to a command: the steps of a run, or a text.
+
+ghost use Rattle.std.specs.Prelude.{◌≡◌, ◌-◌, [], ◌∷◌};
+ghost use Rattle.debugger.specs.Answers.{end_piece, ends_at, has, is_hit, is_instruction, run_on, run_pieces, step_piece};
+ghost use Rattle.debugger.specs.Sessions.{Tells};
+
+use crate::texts::end_text;
+use machine::{Decider, DueTicks, Events, IoFault, Levels, Machine, Out, StepKind};
+use output::StepPage;
+use trace::tick::Tick;
+
+/// Room for the events of a step and for their lines.
+#[derive(Drop)]
+struct StepRoom {
+    events: Events,
+    page: StepPage,
+    tick: Tick,
+}
+
+impl StepRoom {
+    fn new() -> Self {
+        StepRoom {
+            events: Events::new(),
+            page: StepPage::new(),
+            tick: Tick::new(),
+        }
+    }
+
+    /// Makes a step and writes its lines.
+    fn step<D: Decider, L: Levels, U: DueTicks, W: Out>(
+        &mut self,
+        machine: &mut Machine<D, L, U>,
+        out: &mut W,
+    ) -> Result<(), IoFault>
+        ensures { Tells (step_piece machine.old.state ∷ []) machine.old machine.new (record { written = W.written out.old; faults = W.faults out.old }) (record { written = W.written out.new; faults = W.faults out.new }) result }
+    {
+        let _ = machine.step(&mut self.events);
+        match out.put_lines(&mut self.page, &mut self.tick, self.events.as_slice()) {
+            Ok(()) => Ok(()),
+            Err(fault) => Err(fault),
+        }
+    }
+}
+
+/// Returns whether a breakpoint is set at an address.
+pub fn has(breakpoints: &[u32], address: u32) -> bool
+    ensures { result ≡ has breakpoints.now address }
+{
+    breakpoints.iter().any(|breakpoint| *breakpoint == address)
+}
+
+/// Returns whether a step is an instruction.
+fn is_instruction(kind: Option<StepKind>) -> bool
+    ensures { result ≡ is_instruction kind }
+{
+    matches!(kind, Some(StepKind::Instruction))
+}
+
+/// Returns whether the next step is an instruction at a breakpoint.
+fn is_hit<D: Decider, L: Levels, U: DueTicks>(
+    machine: &Machine<D, L, U>,
+    breakpoints: &[u32],
+) -> bool
+    ensures { result ≡ is_hit breakpoints.now machine.now.state }
+{
+    has(breakpoints, machine.regs().pc) && is_instruction(machine.next_kind())
+}
+
+/// Returns whether a run ends after a step: the machine has stopped, or a breakpoint is hit.
+fn ends_at<D: Decider, L: Levels, U: DueTicks>(
+    machine: &Machine<D, L, U>,
+    breakpoints: &[u32],
+) -> bool
+    ensures { result ≡ ends_at breakpoints.now machine.now.state }
+{
+    machine.stop().is_some() || is_hit(machine, breakpoints)
+}
+
+/// Writes where the machine is: its stop, or the address of the next instruction.
+fn put_end<D: Decider, L: Levels, U: DueTicks, W: Out>(
+    machine: &Machine<D, L, U>,
+    out: &mut W,
+) -> Result<(), IoFault>
+    ensures { Tells (end_piece machine.now.state ∷ []) machine.now machine.now (record { written = W.written out.old; faults = W.faults out.old }) (record { written = W.written out.new; faults = W.faults out.new }) result }
+{
+    let page = end_text(machine.stop(), machine.regs().pc);
+    match out.put_all(page.as_slice()) {
+        Ok(()) => Ok(()),
+        Err(fault) => Err(fault),
+    }
+}
+
+/// Makes at most `steps` steps after the first one of a run, and writes their lines and where the
+/// machine is then.
+fn run_on<D: Decider, L: Levels, U: DueTicks, W: Out>(
+    room: &mut StepRoom,
+    machine: &mut Machine<D, L, U>,
+    breakpoints: &[u32],
+    steps: u32,
+    out: &mut W,
+) -> Result<(), IoFault>
+    ensures { Tells (run_on breakpoints.now steps machine.old.state) machine.old machine.new (record { written = W.written out.old; faults = W.faults out.old }) (record { written = W.written out.new; faults = W.faults out.new }) result }
+{
+    let mut left = steps;
+    'steps: while left > 0 {
+        if ends_at(machine, breakpoints) {
+            break;
+        }
+        match room.step(machine, out) {
+            Ok(()) => {}
+            Err(fault) => return Err(fault),
+        }
+        left -= 1;
+    }
+    match put_end(machine, out) {
+        Ok(()) => Ok(()),
+        Err(fault) => Err(fault),
+    }
+}
+
+/// Makes at most `steps` steps, and writes their lines and where the machine is then. A machine that
+/// has stopped makes none.
+pub fn run<D: Decider, L: Levels, U: DueTicks, W: Out>(
+    machine: &mut Machine<D, L, U>,
+    breakpoints: &[u32],
+    steps: u32,
+    out: &mut W,
+) -> Result<(), IoFault>
+    ensures { Tells (run_pieces breakpoints.now steps machine.old.state) machine.old machine.new (record { written = W.written out.old; faults = W.faults out.old }) (record { written = W.written out.new; faults = W.faults out.new }) result }
+{
+    if machine.stop().is_some() {
+        return put_end(machine, out);
+    }
+    let mut room = StepRoom::new();
+    match room.step(machine, out) {
+        Ok(()) => {}
+        Err(fault) => return Err(fault),
+    }
+    match run_on(
+        &mut room,
+        machine,
+        breakpoints,
+        steps.saturating_sub(1),
+        out,
+    ) {
+        Ok(()) => Ok(()),
+        Err(fault) => Err(fault),
+    }
+}

@@ -1,0 +1,213 @@
+//! The commands of a session, and how a line is read.
+
+ghost use Rattle.std.specs.Prelude.{◌≡◌, bytes_eq, option_map};
+ghost use Rattle.debugger.specs.Commands.{alone, command_in, command_of, kind_of, name_of, privilege_of, read_break, read_explain, read_memory, read_run};
+ghost use Rattle.debugger.specs.Seen.{seen_two, seen_three};
+
+use crate::numbers::{number, number_within};
+use crate::words::{
+    ThreeWords, TwoWords, first_word, more_words, one_word, three_words, two_words,
+};
+use reference::access::Kind;
+
+/// The most steps of one command.
+const MOST_STEPS: u32 = 1_000_000;
+
+/// What a line asks for.
+#[derive(Clone, Copy)]
+pub enum Command {
+    /// Make at most this many steps: `run n`, and `step` for one.
+    Run(u32),
+    /// Set a breakpoint at an address: `break a`.
+    Break(u32),
+    /// Show the core registers: `regs`.
+    Regs,
+    /// Show bytes of memory: `mem a n` as the address and `n - 1`.
+    Memory(u32, u8),
+    /// Show the regions of the MPU: `regions`.
+    Regions,
+    /// Show the rule that would decide an access: `explain a p|u r|w|x`.
+    Explain(u32, bool, Kind),
+    /// End the session: `quit`.
+    Quit,
+}
+
+/// Why a line gives no command.
+#[derive(Clone, Copy)]
+pub enum LineFault {
+    /// There is no such command, it takes another number of words, or the line is too long.
+    Command,
+    /// A word isn't a number or a letter that is allowed there.
+    Word,
+}
+
+/// The first word of a line.
+#[derive(Clone, Copy)]
+pub enum Name {
+    Step,
+    Run,
+    Break,
+    Regs,
+    Mem,
+    Regions,
+    Explain,
+    Quit,
+}
+
+/// Returns whether two texts are equal.
+fn is_same(text: &[u8], other: &[u8]) -> bool
+    ensures { result ≡ bytes_eq text.now other.now }
+{
+    text == other
+}
+
+/// Returns the command that a word names.
+fn name_of(text: &[u8]) -> Option<Name>
+    ensures { result ≡ name_of text.now }
+{
+    if is_same(text, b"step") {
+        Some(Name::Step)
+    } else if is_same(text, b"run") {
+        Some(Name::Run)
+    } else if is_same(text, b"break") {
+        Some(Name::Break)
+    } else if is_same(text, b"regs") {
+        Some(Name::Regs)
+    } else if is_same(text, b"mem") {
+        Some(Name::Mem)
+    } else if is_same(text, b"regions") {
+        Some(Name::Regions)
+    } else if is_same(text, b"explain") {
+        Some(Name::Explain)
+    } else if is_same(text, b"quit") {
+        Some(Name::Quit)
+    } else {
+        None
+    }
+}
+
+/// Returns whether `p` or `u` means privileged code.
+fn privilege_of(text: &[u8]) -> Option<bool>
+    ensures { result ≡ privilege_of text.now }
+{
+    if is_same(text, b"p") {
+        Some(true)
+    } else if is_same(text, b"u") {
+        Some(false)
+    } else {
+        None
+    }
+}
+
+/// Returns the kind of access of `r`, `w` or `x`.
+fn kind_of(text: &[u8]) -> Option<Kind>
+    ensures { result ≡ kind_of text.now }
+{
+    if is_same(text, b"r") {
+        Some(Kind::Load)
+    } else if is_same(text, b"w") {
+        Some(Kind::Store)
+    } else if is_same(text, b"x") {
+        Some(Kind::Fetch)
+    } else {
+        None
+    }
+}
+
+/// Returns the command of a line, which is None where it's too long.
+#[tactic(auto, unfolding(crate::specs::Commands::command_in))]
+pub fn read_line(line: Option<&[u8]>) -> Result<Command, LineFault>
+    ensures { result ≡ command_in (option_map (λ l. l.now) line.entry) }
+{
+    let Some(line) = line else {
+        return Err(LineFault::Command);
+    };
+    let name = name_of(first_word(line));
+    read_command(name, more_words(line))
+}
+
+/// Returns the command of a name, with the words after it.
+fn read_command(name: Option<Name>, more: Option<&[u8]>) -> Result<Command, LineFault>
+    ensures { result ≡ command_of name (option_map (λ m. m.now) more.entry) }
+{
+    let Some(name) = name else {
+        return Err(LineFault::Command);
+    };
+    match name {
+        Name::Step => alone(Command::Run(1), more),
+        Name::Run => read_run(one_word(more)),
+        Name::Break => read_break(one_word(more)),
+        Name::Regs => alone(Command::Regs, more),
+        Name::Mem => read_memory(two_words(more)),
+        Name::Regions => alone(Command::Regions, more),
+        Name::Explain => read_explain(three_words(more)),
+        Name::Quit => alone(Command::Quit, more),
+    }
+}
+
+/// Returns a command that takes no word.
+fn alone(command: Command, more: Option<&[u8]>) -> Result<Command, LineFault>
+    ensures { result ≡ alone command (option_map (λ m. m.now) more.entry) }
+{
+    match more {
+        None => Ok(command),
+        Some(_) => Err(LineFault::Command),
+    }
+}
+
+/// Reads the word after `run`.
+fn read_run(word: Option<&[u8]>) -> Result<Command, LineFault>
+    ensures { result ≡ read_run (option_map (λ w. w.now) word.entry) }
+{
+    let Some(word) = word else {
+        return Err(LineFault::Command);
+    };
+    match number_within(1, MOST_STEPS, word) {
+        Some(steps) => Ok(Command::Run(steps)),
+        None => Err(LineFault::Word),
+    }
+}
+
+/// Reads the word after `break`.
+fn read_break(word: Option<&[u8]>) -> Result<Command, LineFault>
+    ensures { result ≡ read_break (option_map (λ w. w.now) word.entry) }
+{
+    let Some(word) = word else {
+        return Err(LineFault::Command);
+    };
+    match number(word) {
+        Some(address) => Ok(Command::Break(address)),
+        None => Err(LineFault::Word),
+    }
+}
+
+/// Reads the words after `mem`.
+fn read_memory(words: Option<TwoWords<'_>>) -> Result<Command, LineFault>
+    ensures { result ≡ read_memory (option_map seen_two words.entry) }
+{
+    let Some(words) = words else {
+        return Err(LineFault::Command);
+    };
+    match (number(words.first), number_within(1, 256, words.second)) {
+        (Some(address), Some(count)) => Ok(Command::Memory(address, (count - 1) as u8)),
+        _ => Err(LineFault::Word),
+    }
+}
+
+/// Reads the words after `explain`.
+fn read_explain(words: Option<ThreeWords<'_>>) -> Result<Command, LineFault>
+    ensures { result ≡ read_explain (option_map seen_three words.entry) }
+{
+    let Some(words) = words else {
+        return Err(LineFault::Command);
+    };
+    let address = number(words.first);
+    let privileged = privilege_of(words.others.first);
+    let kind = kind_of(words.others.second);
+    match (address, privileged, kind) {
+        (Some(address), Some(privileged), Some(kind)) => {
+            Ok(Command::Explain(address, privileged, kind))
+        }
+        _ => Err(LineFault::Word),
+    }
+}

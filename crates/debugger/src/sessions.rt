@@ -1,0 +1,228 @@
+//! A session: lines are heard byte by byte, and each is answered.
+
+ghost use Rattle.std.specs.Prelude.{◌≡◌, [], Some, Ok, IfOk};
+ghost use Rattle.debugger.specs.Answers.{answer, breakpoint_text, breakpoints_after, quits, reply_text, steps_of, with_breakpoint};
+ghost use Rattle.debugger.specs.Commands.{command_in};
+ghost use Rattle.debugger.specs.Sessions.{after_line, GivesByte, GoesOn, line_said, next, said, said_at_end, Sessions, talk, Tells};
+
+use crate::answers::{has, run};
+use crate::commands::{Command, LineFault, read_line};
+use crate::listener::Listener;
+use crate::texts::{Answer, decision_text, fault_text, memory_text, regions_text, registers_text};
+use arrayvec::ArrayVec;
+use machine::{Decider, DueTicks, In, IoFault, Levels, Machine, Out};
+use std::marker::Model;
+
+/// The most breakpoints.
+pub const MOST_BREAKPOINTS: usize = 16;
+
+/// Why a session ends before its input does.
+#[derive(Clone, Copy)]
+pub enum SessionFault {
+    /// The reader failed.
+    Read,
+    /// The writer failed.
+    Write,
+}
+
+/// What a session keeps between two bytes, beside the machine.
+#[derive(Drop)]
+struct Debugger {
+    breakpoints: ArrayVec<u32, MOST_BREAKPOINTS>,
+    listener: Listener,
+}
+
+impl Model for Debugger {
+    ghost use Rattle.debugger.specs.Sessions.{Kept};
+
+    ghost Value = { Kept };
+
+    ghost view = { λ d. record { breakpoints = d.breakpoints.items; line = d.listener } };
+}
+
+impl Debugger {
+    /// Returns what is kept before the first byte.
+    fn new() -> Self
+        ensures { result ≡ record { breakpoints = []; line = Some [] } }
+    {
+        Debugger {
+            breakpoints: ArrayVec::new(),
+            listener: Listener::new(),
+        }
+    }
+
+    /// Sets a breakpoint, and returns the answer.
+    fn set_breakpoint(&mut self, address: u32) -> Answer
+        ensures text { result ≡ breakpoint_text self.old.breakpoints address }
+        ensures kept { self.new ≡ record self.old { breakpoints = with_breakpoint self.old.breakpoints address } }
+    {
+        let mut page = Answer::new();
+        if has(self.breakpoints.as_slice(), address) {
+            page.put(b"ok\n");
+        } else if self.breakpoints.len() < MOST_BREAKPOINTS {
+            self.breakpoints.push(address);
+            page.put(b"ok\n");
+        } else {
+            page.put(b"error 3\n");
+        }
+        page
+    }
+
+    /// Returns the answer to a line that makes no step.
+    fn reply<D: Decider, L: Levels, U: DueTicks>(
+        &mut self,
+        machine: &Machine<D, L, U>,
+        asked: Result<Command, LineFault>,
+    ) -> Answer
+        ensures text { result ≡ reply_text machine.now.state self.old.breakpoints asked }
+        ensures kept { self.new ≡ record self.old { breakpoints = breakpoints_after self.old.breakpoints asked } }
+    {
+        match asked {
+            Ok(Command::Run(_) | Command::Quit) => Answer::new(),
+            Ok(Command::Break(address)) => self.set_breakpoint(address),
+            Ok(Command::Regs) => registers_text(&machine.regs()),
+            Ok(Command::Memory(address, last)) => memory_text(machine, address, last as u32 + 1),
+            Ok(Command::Regions) => regions_text(machine),
+            Ok(Command::Explain(address, privileged, kind)) => {
+                decision_text(&machine.explain(address, privileged, kind))
+            }
+            Err(fault) => fault_text(fault),
+        }
+    }
+
+    /// Answers a line.
+    fn answer<D: Decider, L: Levels, U: DueTicks, W: Out>(
+        &mut self,
+        machine: &mut Machine<D, L, U>,
+        asked: Result<Command, LineFault>,
+        out: &mut W,
+    ) -> Result<(), IoFault>
+        ensures told { Tells (answer machine.old.state self.old.breakpoints asked) machine.old machine.new (record { written = W.written out.old; faults = W.faults out.old }) (record { written = W.written out.new; faults = W.faults out.new }) result }
+        ensures kept { self.new ≡ record self.old { breakpoints = breakpoints_after self.old.breakpoints asked } }
+    {
+        match steps_of(asked) {
+            Some(steps) => return run(machine, self.breakpoints.as_slice(), steps, out),
+            None => {}
+        }
+        let page = self.reply(machine, asked);
+        match out.put_all(page.as_slice()) {
+            Ok(()) => Ok(()),
+            Err(fault) => Err(fault),
+        }
+    }
+
+    /// Answers the line that was heard, and begins the next one. Returns whether the session goes on.
+    fn answer_line<D: Decider, L: Levels, U: DueTicks, W: Out>(
+        &mut self,
+        machine: &mut Machine<D, L, U>,
+        out: &mut W,
+    ) -> Result<bool, IoFault>
+        ensures told { Tells (line_said (talk machine.old.state self.old)) machine.old machine.new (record { written = W.written out.old; faults = W.faults out.old }) (record { written = W.written out.new; faults = W.faults out.new }) result }
+        ensures kept { GoesOn (after_line (talk machine.old.state self.old)) self.new result }
+    {
+        let asked = read_line(self.listener.line());
+        self.listener.clear();
+        match self.answer(machine, asked, out) {
+            Ok(()) => Ok(!quits(asked)),
+            Err(fault) => Err(fault),
+        }
+    }
+
+    /// Hears a byte. Returns whether the session goes on.
+    fn hear<D: Decider, L: Levels, U: DueTicks, W: Out>(
+        &mut self,
+        machine: &mut Machine<D, L, U>,
+        byte: u8,
+        out: &mut W,
+    ) -> Result<bool, IoFault>
+        ensures told { Tells (said (talk machine.old.state self.old) byte) machine.old machine.new (record { written = W.written out.old; faults = W.faults out.old }) (record { written = W.written out.new; faults = W.faults out.new }) result }
+        ensures kept { GoesOn (next (talk machine.old.state self.old) byte) self.new result }
+    {
+        if byte == b'\n' {
+            match self.answer_line(machine, out) {
+                Ok(goes_on) => Ok(goes_on),
+                Err(fault) => Err(fault),
+            }
+        } else {
+            self.listener.push(byte);
+            Ok(true)
+        }
+    }
+
+    /// Answers a last line without a line feed, if it has a byte.
+    fn finish<D: Decider, L: Levels, U: DueTicks, W: Out>(
+        &mut self,
+        machine: &mut Machine<D, L, U>,
+        out: &mut W,
+    ) -> Result<(), IoFault>
+        ensures { Tells (said_at_end (talk machine.old.state self.old)) machine.old machine.new (record { written = W.written out.old; faults = W.faults out.old }) (record { written = W.written out.new; faults = W.faults out.new }) result }
+    {
+        if self.listener.is_empty() {
+            return Ok(());
+        }
+        match self.answer_line(machine, out) {
+            Ok(_) => Ok(()),
+            Err(fault) => Err(fault),
+        }
+    }
+}
+
+/// Returns how many steps a command makes at most, where it makes any.
+fn steps_of(asked: Result<Command, LineFault>) -> Option<u32>
+    ensures { result ≡ steps_of asked }
+{
+    match asked {
+        Ok(Command::Run(steps)) => Some(steps),
+        _ => None,
+    }
+}
+
+/// Returns whether a line ends the session.
+fn quits(asked: Result<Command, LineFault>) -> bool
+    ensures { result ≡ quits asked }
+{
+    matches!(asked, Ok(Command::Quit))
+}
+
+/// Reads commands, one a line, and writes their answers, up to `quit` or the end of the input. Where
+/// the reader or the writer fails, the machine is in its state after the steps that were made.
+pub fn session<D: Decider, L: Levels, U: DueTicks, I: In, W: Out>(
+    machine: &mut Machine<D, L, U>,
+    reader: &mut I,
+    out: &mut W,
+) -> Result<(), SessionFault>
+    ensures { Sessions machine.old machine.new (record { left = I.left reader.old; misses = I.misses reader.old }) (record { left = I.left reader.new; misses = I.misses reader.new }) (record { written = W.written out.old; faults = W.faults out.old }) (record { written = W.written out.new; faults = W.faults out.new }) result }
+{
+    let mut debugger = Debugger::new();
+    'calls: for call in 0..u64::MAX {
+        let _ = call;
+        let byte = match take_byte(reader) {
+            Ok(Some(byte)) => byte,
+            Ok(None) => {
+                return match debugger.finish(machine, out) {
+                    Ok(()) => Ok(()),
+                    Err(_) => Err(SessionFault::Write),
+                };
+            }
+            Err(_) => return Err(SessionFault::Read),
+        };
+        match debugger.hear(machine, byte, out) {
+            Ok(true) => {}
+            Ok(false) => return Ok(()),
+            Err(_) => return Err(SessionFault::Write),
+        }
+    }
+    Ok(())
+}
+
+/// Returns the next byte of the input, None at its end.
+fn take_byte<I: In>(reader: &mut I) -> Result<Option<u8>, IoFault>
+    ensures { GivesByte (record { left = I.left reader.old; misses = I.misses reader.old }) (record { left = I.left reader.new; misses = I.misses reader.new }) result }
+{
+    let mut room = [0; 1];
+    match reader.take(&mut room) {
+        Ok(0) => Ok(None),
+        Ok(_) => Ok(Some(room[0])),
+        Err(fault) => Err(fault),
+    }
+}

@@ -1,0 +1,94 @@
+//! What the next step will do, and what decides an access: known without a step.
+
+ghost use Rattle.std.specs.Prelude.{◌≡◌, ◌^◌, ◌<◌};
+ghost use Rattle.machine.specs.Foresight.{kind_after, next_kind_of};
+ghost use Rattle.reference.specs.Priorities.{candidate, is_below_zero};
+ghost use Rattle.reference.specs.Rules.{decision_of};
+ghost use Rattle.reference.specs.State.{ticked};
+ghost use Rattle.reference.specs.Step.{sleeps_on};
+
+use crate::stepping::{CLOCK_END, Processor};
+use access::{Decider, DueTicks, Levels};
+use reference::access::{Access, Decision, Kind, Request, Size};
+
+/// What a step does after its tick.
+#[derive(Clone, Copy)]
+pub enum StepKind {
+    /// It takes the exception whose frame was pushed: it reads the vector.
+    Vector,
+    /// It begins the entry of an exception: it pushes the frame.
+    Stack,
+    /// The core sleeps on.
+    Sleep,
+    Instruction,
+}
+
+impl<D: Decider, L: Levels, U: DueTicks> Processor<D, L, U> {
+    /// Returns what the next step will do, None where it would only stop.
+    pub fn next_kind(&self) -> Option<StepKind>
+        ensures { result ≡ next_kind_of self.now }
+    {
+        if self.stop().is_some() || self.bus().system.ticks() >= CLOCK_END {
+            None
+        } else {
+            Some(self.kind_after_tick())
+        }
+    }
+
+    /// Returns what comes after the next tick: a vector is read in the entry phase; a frame is pushed
+    /// where there is a candidate; otherwise the core sleeps on, or an instruction is carried out.
+    fn kind_after_tick(&self) -> StepKind
+        requires { self.now.bus.system.time.ticks < 2 ^ 48 }
+        ensures { result ≡ kind_after (ticked self.now) self.now.entry (candidate (ticked self.now).bus.system.nvic) }
+    {
+        if self.is_in_entry() {
+            StepKind::Vector
+        } else if self.candidate_next().is_some() {
+            StepKind::Stack
+        } else if self.sleeps_next() {
+            StepKind::Sleep
+        } else {
+            StepKind::Instruction
+        }
+    }
+
+    /// Returns the candidate after the next tick.
+    #[tactic(auto, using(crate::proofs::Foreseen::candidate_foreseen))]
+    fn candidate_next(&self) -> Option<u16>
+        requires { self.now.bus.system.time.ticks < 2 ^ 48 }
+        ensures { result ≡ candidate (ticked self.now).bus.system.nvic }
+    {
+        let system = &self.bus().system;
+        let due = system.clock().peek();
+        let primask = system.masks().primask;
+        system.levels().candidate_after(&due, primask)
+    }
+
+    /// Returns whether the core sleeps on after the next tick, where there is no candidate: nothing
+    /// would preempt were PRIMASK 0.
+    #[tactic(auto, using(crate::proofs::Foreseen::unmasked_foreseen))]
+    fn sleeps_next(&self) -> bool
+        requires { self.now.bus.system.time.ticks < 2 ^ 48 }
+        ensures { result ≡ sleeps_on (ticked self.now) }
+    {
+        let system = &self.bus().system;
+        let due = system.clock().peek();
+        self.is_asleep() && system.levels().candidate_after(&due, false).is_none()
+    }
+
+    /// Returns the rule that would decide an access of one kind to an address now, by code of that
+    /// privilege, and whether the rule would grant it.
+    pub fn explain(&self, address: u32, privileged: bool, kind: Kind) -> Decision
+        ensures { result ≡ decision_of self.now.bus.system.mpu address kind privileged (is_below_zero self.now.bus.system.nvic) }
+    {
+        self.bus().decide(&Request {
+            access: Access {
+                address,
+                kind,
+                size: Size::Byte,
+                privileged,
+            },
+            value: 0,
+        })
+    }
+}

@@ -1,0 +1,11 @@
+-- What a reader tells of the bytes that it gave.
+use Rattle.std.specs.Prelude.{◌≡◌, ℕ, ◌+◌, ◌<◌, ◌≤◌, List, length, take, Option, Result, Ok, Err}
+use Rattle.std.specs.Io.KnownBytes.{Consumes, IsAtEnd, Keeps}
+
+-- one call: it gave the bytes that are now at the front of the room, none only at the end of the input or where there is
+-- no room; or it failed, which counts, and gave nothing
+abbrev pub Received : {E : Type 0} → Option (List ℕ) → Option (List ℕ) → ℕ → ℕ → List ℕ → Result ℕ E → Type 0
+Received old new before now room (Ok given) =
+    (given ≤ length room) × Consumes old new (take given room) × (now ≡ before)
+    × (given ≡ 0 → 0 < length room → IsAtEnd new)
+Received old new before now room (Err fault) = Keeps old new × (now ≡ before + 1)

@@ -1,0 +1,195 @@
+//! The command's answers to words that name no run: help, the version, and what is wrong.
+
+use super::files::Ends;
+use std::test::*;
+use test_tables::check_between;
+
+/// Words that name no run, and words that name files that aren't there.
+const ANSWERS: &str = "\
+the version
+words --version
+ends 0
+out marm 0.1.0
+
+the help
+words --help
+ends 2
+out An ARMv7-M machine that writes a proved trace of its memory accesses
+out
+out Usage: marm <COMMAND>
+out
+out Commands:
+out   run    Runs an image on a board and writes the trace to standard output
+out   debug  Reads commands from standard input and writes their answers to standard output
+out   help   Print this message or the help of the given subcommand(s)
+out
+out Options:
+out   -h, --help     Print help
+out   -V, --version  Print version
+out
+out Exit status:
+out   0  all steps were made, a breakpoint was met, or a debug session ended; or the version was asked for
+out   2  the words are wrong, or help was asked for (marm: usage)
+out   3  the image or the board is refused (marm: load, board, start, size)
+out   4  the machine stopped otherwise: the trace's last line says why
+out   5  reading or writing failed, or memory ran out (marm: io)
+out
+out Example:
+out   marm run --board examples/boards/small.toml --steps 10 examples/first.elf
+err marm: usage
+
+the help of run
+words run --help
+ends 2
+out Runs an image on a board and writes the trace to standard output
+out
+out Usage: marm run --board <FILE> --steps <N> <IMAGE>
+out
+out Arguments:
+out   <IMAGE>  The image: an ELF file for ARM of at most 16 MiB, linked to run
+out
+out Options:
+out       --board <FILE>  The board: a TOML file of at most 16 MiB with the memory, the lines and the events
+out       --steps <N>     The most steps (instructions, entries, idle ticks) to make, from 0 to 4294967296
+out   -h, --help          Print help
+out
+out The trace has one line for each access: its tick, kind, address, size in bytes, privilege, outcome,
+out and the rule or region that decided it. Its last line says why the run ended.
+out
+out Exit status:
+out   0  all steps were made, or a breakpoint was met
+out   2  the words are wrong, or help was asked for (marm: usage)
+out   3  the image or the board is refused (marm: load, board, start, size)
+out   4  the machine stopped otherwise: the trace's last line says why
+out   5  reading or writing failed, or memory ran out (marm: io)
+out
+out Example:
+out   marm run --board examples/boards/small.toml --steps 10 examples/first.elf
+err marm: usage
+
+help as a word
+words help
+ends 2
+out An ARMv7-M machine that writes a proved trace of its memory accesses
+out
+out Usage: marm <COMMAND>
+out
+out Commands:
+out   run    Runs an image on a board and writes the trace to standard output
+out   debug  Reads commands from standard input and writes their answers to standard output
+out   help   Print this message or the help of the given subcommand(s)
+out
+out Options:
+out   -h, --help     Print help
+out   -V, --version  Print version
+out
+out Exit status:
+out   0  all steps were made, a breakpoint was met, or a debug session ended; or the version was asked for
+out   2  the words are wrong, or help was asked for (marm: usage)
+out   3  the image or the board is refused (marm: load, board, start, size)
+out   4  the machine stopped otherwise: the trace's last line says why
+out   5  reading or writing failed, or memory ran out (marm: io)
+out
+out Example:
+out   marm run --board examples/boards/small.toml --steps 10 examples/first.elf
+err marm: usage
+
+help as a word, of run
+words help run
+ends 2
+out Runs an image on a board and writes the trace to standard output
+out
+out Usage: marm run --board <FILE> --steps <N> <IMAGE>
+out
+out Arguments:
+out   <IMAGE>  The image: an ELF file for ARM of at most 16 MiB, linked to run
+out
+out Options:
+out       --board <FILE>  The board: a TOML file of at most 16 MiB with the memory, the lines and the events
+out       --steps <N>     The most steps (instructions, entries, idle ticks) to make, from 0 to 4294967296
+out   -h, --help          Print help
+out
+out The trace has one line for each access: its tick, kind, address, size in bytes, privilege, outcome,
+out and the rule or region that decided it. Its last line says why the run ended.
+out
+out Exit status:
+out   0  all steps were made, or a breakpoint was met
+out   2  the words are wrong, or help was asked for (marm: usage)
+out   3  the image or the board is refused (marm: load, board, start, size)
+out   4  the machine stopped otherwise: the trace's last line says why
+out   5  reading or writing failed, or memory ran out (marm: io)
+out
+out Example:
+out   marm run --board examples/boards/small.toml --steps 10 examples/first.elf
+err marm: usage
+
+an option that does not exist
+words run --frob --board board.toml --steps 10 image.elf
+ends 2
+err marm: usage
+err error: unexpected argument '--frob' found
+err
+err   tip: to pass '--frob' as a value, use '-- --frob'
+err
+err Usage: marm run --board <FILE> --steps <N> <IMAGE>
+err
+err For more information, try '--help'.
+
+an option is missing
+words run --board board.toml image.elf
+ends 2
+err marm: usage
+err error: the following required arguments were not provided:
+err   --steps <N>
+err
+err Usage: marm run --board <FILE> --steps <N> <IMAGE>
+err
+err For more information, try '--help'.
+
+no number
+words run --board board.toml --steps ten image.elf
+ends 2
+err marm: usage
+err error: invalid value 'ten' for '--steps <N>': invalid digit found in string
+err
+err For more information, try '--help'.
+
+a word that does not exist
+words frob
+ends 2
+err marm: usage
+err error: unrecognized subcommand 'frob'
+err
+err Usage: marm <COMMAND>
+err
+err For more information, try '--help'.
+
+no words
+words
+ends 2
+err marm: usage
+err error: 'marm' requires a subcommand but one was not provided
+err   [subcommands: run, debug, help]
+err
+err Usage: marm <COMMAND>
+err
+err For more information, try '--help'.
+
+too many steps
+words run --board board.toml --steps 4294967297 image.elf
+ends 2
+err marm: usage
+err error: invalid value '4294967297' for '--steps <N>': 4294967297 is not in 0..=4294967296
+err
+err For more information, try '--help'.
+
+a file that is not there
+words run --board board.toml --steps 10 missing.elf
+ends 5
+err marm: io
+err   missing.elf: No such file or directory (os error 2)";
+
+#[test]
+fn words_are_answered(rt: HostRuntime) -> Result<(), Fail> {
+    check_between(ANSWERS, "\n\n", &mut Ends { rt: &rt })
+}

@@ -1,0 +1,331 @@
+//! The command's debug sessions, and sessions whose reader or writer fails.
+
+ghost use Rattle.std.specs.Prelude.{◌≡◌};
+
+use super::cut::Cut;
+use super::files::Ends;
+use super::machines::machine_with;
+use debugger::{SessionFault, session};
+use machine::{Over, Slow};
+use std::io;
+use std::io::Read;
+use std::marker::Brand;
+use std::sync::ledger::{Blank, Ledger};
+use std::test::*;
+use test_tables::check_between;
+
+/// Sessions of the first image on the small board.
+const SESSIONS: &str = "\
+all commands
+words debug --board board.toml image.elf
+in explain 0 p w
+in explain 0xE0001000 p x
+in mem 8 4
+in mem 0x1FFFFFFF 2
+in break 0xA
+in run 5
+in step
+in frob
+in mem 8 0
+in mem 8
+in quit
+in step
+ends 0
+out off ok
+out xn mpu
+out 00000008: 05 20 00 BE
+out 1FFFFFFF: -- 00
+out ok
+out 1 F 00000008 2 p ok off
+out at 0000000A
+out 2 F 0000000A 2 p ok off
+out stop breakpoint 0
+out error 1
+out error 2
+out error 1
+
+registers
+words debug --board board.toml image.elf
+in run 1
+in regs
+in step
+in step
+ends 0
+out 1 F 00000008 2 p ok off
+out at 0000000A
+out R0 00000005
+out R1 00000000
+out R2 00000000
+out R3 00000000
+out R4 00000000
+out R5 00000000
+out R6 00000000
+out R7 00000000
+out R8 00000000
+out R9 00000000
+out R10 00000000
+out R11 00000000
+out R12 00000000
+out MSP 20001000
+out PSP 00000000
+out LR FFFFFFFF
+out PC 0000000A
+out XPSR 01000000
+out CONTROL 00000000
+out PRIMASK 00000000
+out FAULTMASK 00000000
+out BASEPRI 00000000
+out 2 F 0000000A 2 p ok off
+out stop breakpoint 0
+out stop breakpoint 0
+
+regions
+words debug --board board.toml image.elf
+in regions
+ends 0
+out r0 00000000 00000000
+out r1 00000001 00000000
+out r2 00000002 00000000
+out r3 00000003 00000000
+out r4 00000004 00000000
+out r5 00000005 00000000
+out r6 00000006 00000000
+out r7 00000007 00000000
+
+a breakpoint where the machine is
+words debug --board board.toml image.elf
+in break 8
+in break 0x8
+in run 1000000
+ends 0
+out ok
+out ok
+out 1 F 00000008 2 p ok off
+out 2 F 0000000A 2 p ok off
+out stop breakpoint 0
+
+seventeen breakpoints
+words debug --board board.toml image.elf
+in break 1
+in break 2
+in break 3
+in break 4
+in break 5
+in break 6
+in break 7
+in break 8
+in break 9
+in break 10
+in break 11
+in break 12
+in break 13
+in break 14
+in break 15
+in break 16
+in break 17
+in break 0x10
+in break +5
+ends 0
+out ok
+out ok
+out ok
+out ok
+out ok
+out ok
+out ok
+out ok
+out ok
+out ok
+out ok
+out ok
+out ok
+out ok
+out ok
+out ok
+out error 3
+out ok
+out error 2
+
+words and numbers
+words debug --board board.toml image.elf
+in mem  4
+in step 
+in  step
+in quit x
+in run 0
+in run 1000001
+in mem 0X10 1
+in mem 0x 1
+in mem 0xFFFFFFFF 1
+in mem 4294967296 1
+in mem 00000000008 257
+in explain 0 P w
+in explain 0 p rw
+in task 1
+in mem 0x000000000000000000000000000000000000000000000000000000000000000000000000 1
+in mem 0x0000000000000000000000000000000000000000000000000000000000000000000000000 1
+ends 0
+out error 2
+out error 1
+out error 1
+out error 1
+out error 2
+out error 2
+out error 2
+out error 2
+out FFFFFFFF: --
+out error 2
+out error 2
+out error 2
+out error 2
+out error 1
+out 00000000: 00
+out error 1
+
+a last line without a line feed
+words debug --board board.toml image.elf
+tail step
+ends 0
+out 1 F 00000008 2 p ok off
+out at 0000000A
+
+half a command at the end
+words debug --board board.toml image.elf
+tail st
+ends 0
+out error 1
+
+no commands
+words debug --board board.toml image.elf
+ends 0
+
+a refused image
+words debug --board board.toml image.elf
+length 33
+in step
+ends 3
+err marm: load 1 Truncated
+err   image.elf: the file has 51 bytes, and an ELF header has 52
+
+no image
+words debug --board board.toml
+ends 2
+err marm: usage
+err error: the following required arguments were not provided:
+err   <IMAGE>
+err
+err Usage: marm debug --board <FILE> <IMAGE>
+err
+err For more information, try '--help'.";
+
+#[test]
+fn sessions_of_files(rt: HostRuntime) -> Result<(), Fail> {
+    check_between(SESSIONS, "\n\n", &mut Ends { rt: &rt })
+}
+
+/// MOV R0, #5; BKPT 0 at address 8, with MSP 0x20001000: the smallest firmware.
+const FIRST: &str = "\
+word 8 BE002005
+reg D 20001000
+reg F 8
+reg E FFFFFFFF";
+
+/// What a session of three commands writes: 24, 24 and 18 bytes of a run, then the byte at 8.
+static ANSWERS: [u8; 79] =
+    *b"1 F 00000008 2 p ok off\n2 F 0000000A 2 p ok off\nstop breakpoint 0\n00000008: 05\n";
+
+/// A reader that gives `left` bytes of a text, and then fails.
+#[derive(Drop)]
+struct Short<'a> {
+    text: &'a [u8],
+    left: usize,
+}
+
+impl Read for Short<'_> {
+    fn read(&mut self, buf: &mut [u8]) -> io::Result<usize> {
+        match self.text.split_first() {
+            Some((byte, rest)) if self.left > 0 && !buf.is_empty() => {
+                buf[0] = *byte;
+                self.text = rest;
+                self.left -= 1;
+                Ok(1)
+            }
+            _ => Err(io::Error::from(io::ErrorKind::BrokenPipe)),
+        }
+    }
+}
+
+/// Holds a session of a text, of which the reader gives `left` bytes before it fails.
+fn talk(machine: &mut Slow, text: &[u8], left: usize, out: &mut Cut) -> Result<(), SessionFault> {
+    hear::<Brand>(machine, Short { text, left }, out, Blank::new(1))
+}
+
+fn hear<K: Ledger>(
+    machine: &mut Slow,
+    input: Short<'_>,
+    out: &mut Cut,
+    blank: Blank,
+) -> Result<(), SessionFault>
+    requires name { blank.name ≡ K.name }
+    requires parts { blank.parts ≡ K.parts }
+    requires some { blank.parts ≡ 1 }
+{
+    let mut input: Over<Short<'_>, K> = Over::new(input, blank);
+    answer::<K, Brand>(machine, &mut input, out, Blank::new(1))
+}
+
+fn answer<J: Ledger, K: Ledger>(
+    machine: &mut Slow,
+    input: &mut Over<Short<'_>, J>,
+    out: &mut Cut,
+    blank: Blank,
+) -> Result<(), SessionFault>
+    requires name { blank.name ≡ K.name }
+    requires parts { blank.parts ≡ K.parts }
+    requires some { blank.parts ≡ 1 }
+{
+    let mut out: Over<&mut Cut, K> = Over::new(out, blank);
+    session(machine, input, &mut out)
+}
+
+/// The address of the next instruction after a session whose writer takes `left` bytes.
+fn pc_after(machine: &mut Slow, left: usize, fails: bool) -> Option<u32> {
+    let mut out = Cut::new(left, 512, fails);
+    match talk(machine, b"run 2\nmem 8 1\n", 15, &mut out) {
+        Err(SessionFault::Write) if out.text.as_slice() == &ANSWERS[..left.min(79)] => {
+            Some(machine.regs().pc)
+        }
+        _ => None,
+    }
+}
+
+#[test]
+fn a_writer_that_fails_ends_the_session(rt: HostRuntime) -> Result<(), Fail> {
+    'bytes: for left in 0..79usize {
+        'ways: for fails in [true, false] {
+            let mut machine = machine_with(rt.alloc(), FIRST).ok_or("a machine")?;
+            let stopped = pc_after(&mut machine, left, fails);
+            assert!(rt; stopped == Some(0xA), "after {left}");
+            let steps = if left < 24 { None } else { machine.stop() };
+            assert!(rt; steps.is_some() == (left >= 24), "after {left}");
+        }
+    }
+    Ok(())
+}
+
+#[test]
+fn a_reader_that_fails_ends_the_session(rt: HostRuntime) -> Result<(), Fail> {
+    'bytes: for left in 0..15usize {
+        let mut machine = machine_with(rt.alloc(), FIRST).ok_or("a machine")?;
+        let mut out = Cut::whole();
+        let ended = talk(&mut machine, b"run 2\nmem 8 1\n", left, &mut out);
+        assert!(rt; matches!(ended, Err(SessionFault::Read)), "after {left}");
+        let answered = match left {
+            0..=5 => 0,
+            6..=13 => 66,
+            _ => 79,
+        };
+        assert!(rt; out.text.as_slice() == &ANSWERS[..answered], "after {left}");
+    }
+    Ok(())
+}
