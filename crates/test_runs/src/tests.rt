@@ -1,6 +1,6 @@
 mod accesses;
-mod both;
 mod answers;
+mod both;
 mod cut;
 mod exclusives;
 mod files;

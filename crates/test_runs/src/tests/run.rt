@@ -18,8 +18,8 @@
 use super::cut::{Cut, Text, push_line, run};
 use super::machines::{event, place, place_vectors, scripted};
 use machine::{
-    Ahead, BitLevels, Counting, Decider, DueTicks, KeptAnswers, Levels, Machine, PlaceFault, PlainLevels,
-    RegValues, Search, Stop, Table,
+    Ahead, BitLevels, Counting, Decider, DueTicks, KeptAnswers, Levels, Machine, PlaceFault,
+    PlainLevels, RegValues, Search, Stop, Table,
 };
 use reference::stop::{LeftOut, UnpredictableCase};
 use std::alloc::Global;
