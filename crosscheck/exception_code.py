@@ -16,7 +16,7 @@ LINES = [0, 1, 2, 3, 7, 16, 30, 31]
 WINDOW = 0x20000800
 ICSR, ISPR, STIR = 0xE000ED04, 0xE000E200, 0xE000EF00
 
-UNDEFINED = [0xDE00, 0xDE01, 0xDE7F, 0xDEFF, 0xB610, 0xB650, 0xBA80, 0xB800, 0xBABF]
+UNDEFINED = [0xDE00, 0xDE01, 0xDE7F, 0xDEFF, 0xB610, 0xBA80, 0xB800, 0xBABF]
 UNDEFINED += [0xF7F0A000, 0xF7FFAFFF, 0xFA88FDBE, 0xF9EA0CFE, 0xF88FAF7D, 0xF826B0A4, 0xFBB0F100, 0xFB80F0F1, 0xFA90F010, 0xF8F00000]
 
 # MCR, MRC, CDP, LDC, STC, MCRR and MRRC with their second forms, and what other architectures have there.
@@ -100,7 +100,7 @@ def invalid_state(source):
 
 def data_unmapped(source):
     address, chosen = source.choice(UNMAPPED + NEVER), source.choice(BASED)
-    if address == FLASH_END - 8:
+    if FLASH_END - 8 <= address <= FLASH_END:
         chosen = chosen.replace("st", "ld")
     return [literal("r1", address)] + in_block(source, chosen)
 
@@ -212,7 +212,7 @@ def bad_frame(source):
     """A stack pointer or a frame of the interrupted code that is changed, so that the handler's return is a fault."""
     kind = source.randrange(5)
     if kind == 0:
-        address = source.choice([0x20002000, 0x20001FF0, 0x1FFFFFF0, 0x30000000, 0x20001FE8, 0x50000000, 0xE000E100, 0x20000800])
+        address = source.choice([0x20002000, 0x20001FF0, 0x1FFFFFF0, 0x30000000, 0x20001FE8, 0x50000000, 0x80000000, 0x20000800])
         return [literal("r1", address), "msr psp, r1"]
     if kind == 1:
         address = source.choice([0x20002000, 0x20001FF0, 0x1FFFFFF0, 0x30000000])

@@ -6,20 +6,18 @@
 @ a jump to finish_thread or finish_action. The handler of each exception writes a record, carries out its action, if there is
 @ one, and returns; after a fault it returns to R11.
 
-        .equ UART, 0x0001FFF0
+        .equ UART, 0x00000FFC
         .equ TOP, 0x20001800
         .include "shared.s"
         .equ ENTRY, 0x400
         .equ CODE, 0x20000400
         .equ FIRST, CODE + 0x200        @ the code of Thread mode
-        .equ PSP_AT, CODE + 0x08
-        .equ MSP_AT, CODE + 0x0C
-        .equ FLAGS_AT, CODE + 0x10
-        .equ MASKS_AT, CODE + 0x14      @ PRIMASK, BASEPRI, FAULTMASK
+        .equ STACKS_AT, 0x08            @ PSP, MSP and the flags
+        .equ MASKS_AT, 0x14             @ PRIMASK, BASEPRI, FAULTMASK
         .equ CLEARED_AT, CODE + 0x20    @ the bits of CFSR that a handler clears
         .equ ACTIONS_AT, CODE + 0x28    @ pairs: an exception's number, which becomes 0 once it was carried out; and the address
         .equ ACTIONS_END, CODE + 0x50
-        .equ SETTINGS_AT, CODE + 0x50   @ pairs: an address and a value; an address 0 ends them
+        .equ SETTINGS_AT, 0x50          @ pairs: an address and a value; an address 0 ends them
 
         .equ LEVEL, 0x20000008          @ behind the last of LEVELS
         .equ SAVED_MPU_CTRL, 0x2000000C
@@ -143,34 +141,38 @@ next:   take_entry
 5:      str     r3, [r0], #4
         cmp     r0, r1
         bne     5b
+        ldr     r0, =GOOD - 64
+        ldr     r1, =GOOD + 64
+6:      str     r3, [r0], #4
+        cmp     r0, r1
+        bne     6b
         ldr     r0, =LEVELS
         ldr     r1, =LEVEL
         str     r0, [r1]
         cpsie   i
 
         @ The masks and the settings of the case, and its stacks, privilege and flags.
-        ldr     r0, =MASKS_AT
+        ldr     r1, =CURRENT
+        ldr     r4, [r1]
+        add     r0, r4, #MASKS_AT
         ldm     r0, {r1-r3}
         msr     primask, r1
         msr     basepri, r2
         msr     faultmask, r3
-        ldr     r2, =SETTINGS_AT
+        add     r2, r4, #SETTINGS_AT
 1:      ldr     r0, [r2], #4
         cbz     r0, 2f
         ldr     r1, [r2], #4
         str     r1, [r0]
         b       1b
 2:      dsb
-        ldr     r0, =PSP_AT
+        add     r0, r4, #STACKS_AT
         ldm     r0, {r0-r2}
         msr     apsr_nzcvq, r2
         msr     msp, r1
         msr     psp, r0
-        ldr     r0, =CODE
-        ldr     r0, [r0]
-        lsr     r0, r0, #1              @ bit 2 is SPSEL, and bit 1 nPRIV
-        mov     r1, r0
-        and     r0, r0, #3
+        ldr     r0, [r4]
+        ubfx    r0, r0, #1, #2          @ nPRIV and SPSEL
         msr     control, r0
         isb
         ldr     r0, =patterns
