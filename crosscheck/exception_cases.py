@@ -129,7 +129,7 @@ def random_stack(source, case):
     if kind < 0.75:
         case.psp, case.msp = case.psp - source.choice([0, 4]), case.msp - source.choice([0, 4])
     elif kind < 0.95:
-        case.psp = source.choice([0x20000010, 0x20000000, 0x20002010, 0x20002008, 0x30000000, 0x50000020])
+        case.psp = source.choice([0x20000000, 0x20002010, 0x20002008, 0x30000000, 0x50000020])
     else:
         case.msp = source.choice([0x20002010, 0x20002008, 0x30000000, 0x50000000])
 

@@ -4,7 +4,7 @@ of lines of assembly. R11 is the address at which a piece is left after a fault;
 # What answers nothing on both machines, beside 0x40000000 to 0x5FFFFFFF and the Private Peripheral Bus: code may be fetched
 # from the first ones in the default map, and not from the others (XN).
 FLASH_END = 0x00020000
-UNMAPPED = [FLASH_END, FLASH_END - 8, 0x10000000, 0x1FFFFFFC, 0x20002000, 0x20001FF8, 0x30000000, 0x3FFFFFF0, 0x60000000, 0x80000000, 0x9FFFFFF0]
+UNMAPPED = [FLASH_END, FLASH_END - 8, 0x10000000, 0x1FFFFFF0, 0x20002000, 0x20001FF8, 0x30000000, 0x3FFFFFF0, 0x60000000, 0x80000000, 0x9FFFFFF0]
 NEVER = [0x50000000, 0xA0000000, 0xC0000010, 0xDFFFFFF0]
 
 # Words of the Private Peripheral Bus that code may read or write without an effect: ISER, ICPR.
