@@ -6,7 +6,7 @@ import random
 import sys
 from concurrent.futures import ThreadPoolExecutor
 
-from exception_cases import name_of, random_case
+from exception_cases import fixed_cases, name_of, random_case
 from exception_known import KNOWN, compared
 from exception_machines import all_on_qemu, assembled, on_marm, on_qemu
 from exception_records import ACTIVE, FAULTS, described
@@ -57,7 +57,7 @@ def covered(records_of_cases):
 NAMES = ["NMI", "HardFault", "MemManage", "BusFault", "UsageFault", "SVCall", "PendSV", "SysTick", "IRQ"]
 
 source = random.Random(SEED)
-numbered = [(number, random_case(source)) for number in range(COUNT)]
+numbered = [(number, case) for number, case in enumerate(fixed_cases() + [random_case(source) for _ in range(COUNT)])]
 numbered = [(number, case) for number, case in numbered if ONLY in (None, number)]
 cases = dict(numbered)
 harness, parts = assembled(numbered)

@@ -129,7 +129,7 @@ def random_stack(source, case):
     if kind < 0.75:
         case.psp, case.msp = case.psp - source.choice([0, 4]), case.msp - source.choice([0, 4])
     elif kind < 0.95:
-        case.psp = source.choice([0x20000000, 0x20002010, 0x20002008, 0x30000000, 0x50000020])
+        case.psp = source.choice([0x1FFFFFF8, 0x20002010, 0x20002008, 0x30000000, 0x50000020])
     else:
         case.msp = source.choice([0x20002010, 0x20002008, 0x30000000, 0x50000000])
 
@@ -171,3 +171,41 @@ def random_case(source):
         for _ in range(source.randrange(1, MOST_ACTIONS + 1)):
             case.actions[source.choice(LIKELY)] = random_action(source, faults)
     return case
+
+
+def piece(*lines):
+    """Returns a piece of code, behind which code goes on after a fault."""
+    return [" adr.w r11, 7f"] + [f" {line}" for line in lines] + ["7:"]
+
+
+def fixed_case(*lines, settings=(), actions=None, **fields):
+    """Returns a case of one piece of code in Thread mode."""
+    case = Case()
+    case.thread, case.settings, case.actions = piece(*lines), list(settings), actions or {}
+    for name, value in fields.items():
+        setattr(case, name, value)
+    return case
+
+
+def fixed_cases():
+    """Returns the smallest case of each known deviation (exception_known.py), in its order."""
+    regions = [(MPU_RBAR, 0x20000010), (MPU_RASR, ALL_RAM[1]), (MPU_RBAR, 0x20000891), (MPU_RASR, 0x9)]
+    regions += [(MPU_RBAR, 0x12), (MPU_RASR, ALL_FLASH[1]), (MPU_CTRL, 1)]
+    number = piece("mrs r1, msp", "ldr r0, [r1, #28]", "orr r0, r0, #0x1F0", "str r0, [r1, #28]")
+    return [
+        fixed_case("svc #0", masks=[1, 0, 0]),
+        fixed_case("ldr r1, =0x20000602", "bx r1"),
+        fixed_case("ldr r1, =0x30000000", "bx r1"),
+        fixed_case(".inst.n 0xb650"),
+        fixed_case(".inst.w 0xef000110"),
+        fixed_case("svc #0", uses_psp=True, actions={11: piece("mrs r1, psp", "movs r0, #3", "strb r0, [r1, #28]")}),
+        fixed_case("svc #0", actions={11: piece("svc #1"), 3: number}),
+        fixed_case("ldr r1, =0x2000088e", "str r0, [r1]", settings=regions),
+        fixed_case("udf #0", actions={3: piece("cpsid f", "ldr r1, =0xe000ed04", "ldr r0, =0x80000000", "str r0, [r1]")}),
+        fixed_case(
+            "ldr r1, =0xe000e200", "ldr r0, =0x00010000", "str r0, [r1]",
+            settings=[(0x20001F80 + 4 * x, "enter") for x in range(2, 16)] + [(VTOR, 0x20001F80), (ISER, 0x10000)],
+            is_alone=True,
+        ),
+        fixed_case("ldr r1, =0x20001ffc", "ldm r1, {r2, r3}"),
+    ]

@@ -1,6 +1,8 @@
 """Pieces of code for the cases of exceptions: faults, triggers of exceptions, changes of masks, and bad returns. Each is a list
 of lines of assembly. R11 is the address at which a piece is left after a fault; pieces use R0 to R3 and R12 otherwise."""
 
+import random_code
+
 # What answers nothing on both machines, beside 0x40000000 to 0x5FFFFFFF and the Private Peripheral Bus: code may be fetched
 # from the first ones in the default map, and not from the others (XN).
 FLASH_END = 0x00020000
@@ -43,6 +45,12 @@ def literal(register, value):
 def encoded(encoding):
     """An encoding as an instruction."""
     return f".inst.w {encoding:#x}" if encoding > 0xFFFF else f".inst.n {encoding:#x}"
+
+
+def swapped(text):
+    """The encoding of a 32-bit instruction's bytes."""
+    first, second = int.from_bytes(text[:2], "little"), int.from_bytes(text[2:], "little")
+    return first << 16 | second
 
 
 def in_block(source, instruction, is_branch=False):
@@ -133,9 +141,15 @@ def fetch_region(source):
     return lines + ["str r0, [r1]", "str r0, [r1, #4]", "orr r1, r1, #1"] + in_block(source, source.choice(["bx r1", "blx r1"]), True)
 
 
+def random_instruction(source):
+    """Any instruction but a branch, most of whose addresses aren't there."""
+    text = random_code.plain(source)
+    return in_block(source, encoded(int.from_bytes(text, "little")) if len(text) == 2 else encoded(swapped(text)))
+
+
 FAULTS = [
     undefined, undefined, no_coprocessor, unaligned, unaligned, divide, invalid_state, data_unmapped, data_unmapped,
-    data_system, fetch_unmapped, fetch_never,
+    data_system, fetch_unmapped, fetch_never, random_instruction, random_instruction,
 ]
 REGION_FAULTS = [data_region, data_region, data_region, fetch_region]
 
