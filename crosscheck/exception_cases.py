@@ -198,6 +198,7 @@ def fixed_cases():
         fixed_case("ldr r1, =0x20000602", "bx r1"),
         fixed_case("ldr r1, =0x30000000", "bx r1"),
         fixed_case(".inst.n 0xb650"),
+        fixed_case(".inst.w 0xfa15faa2"),
         fixed_case(".inst.w 0xef000110"),
         fixed_case("svc #0", uses_psp=True, actions={11: piece("mrs r1, psp", "movs r0, #3", "strb r0, [r1, #28]")}),
         fixed_case("svc #0", "ldr r1, =0xfffffff9", "bx r1", actions={11: number}),
