@@ -210,5 +210,6 @@ def fixed_cases():
             actions={3: disable}, is_alone=True,
         ),
         fixed_case("ldr r1, =0x30000001", "ldr r0, [r1]"),
+        fixed_case("ldr r1, =0x00000100", "str r0, [r1]"),
         fixed_case("ldr r1, =0x20001ffc", "ldm r1, {r2, r3}"),
     ]
