@@ -189,7 +189,7 @@ def fixed_case(*lines, settings=(), actions=None, **fields):
 
 def fixed_cases():
     """Returns the smallest case of each known deviation (exception_known.py), in its order."""
-    regions = [(MPU_RBAR, 0x20000010), (MPU_RASR, ALL_RAM[1]), (MPU_RBAR, 0x20000891), (MPU_RASR, 0x9)]
+    regions = [(MPU_RBAR, 0x20000010), (MPU_RASR, ALL_RAM[1]), (MPU_RBAR, 0x200008B1), (MPU_RASR, 0x9)]
     regions += [(MPU_RBAR, 0x12), (MPU_RASR, ALL_FLASH[1]), (MPU_CTRL, 1)]
     number = piece("mrs r1, msp", "ldr r0, [r1, #28]", "orr r0, r0, #0x1f0", "str r0, [r1, #28]", "ldr r1, =0xfffffff1", "bx r1")
     disable = piece("ldr r1, =0xe000e180", "ldr r0, =0x00010000", "str r0, [r1]")
@@ -202,7 +202,7 @@ def fixed_cases():
         fixed_case(".inst.w 0xef000110"),
         fixed_case("svc #0", uses_psp=True, actions={11: piece("mrs r1, psp", "movs r0, #3", "strb r0, [r1, #28]")}),
         fixed_case("svc #0", "ldr r1, =0xfffffff9", "bx r1", actions={11: number}),
-        fixed_case("ldr r1, =0x2000088e", "str r0, [r1]", settings=regions),
+        fixed_case("ldr r1, =0x2000089e", "str r0, [r1]", settings=regions),
         fixed_case("udf #0", actions={3: piece("cpsid f", "ldr r1, =0xe000ed04", "ldr r0, =0x80000000", "str r0, [r1]")}),
         fixed_case(
             "ldr r1, =0xe000e200", "ldr r0, =0x00010000", "str r0, [r1]",
