@@ -26,6 +26,9 @@ CODE = 0x800
 START = struct.pack("<4HI", 0x4801, 0xE890, 0x5FFF, 0xE000 | (CODE - 0x4A) // 2, 0x4C)
 AHEAD = 3
 
+# The bits of CFSR of encodings without a meaning.
+UNDEFINSTR, NOCP = 1 << 16, 1 << 19
+
 # Registers that all point into RAM, at some distance from one another and from its ends.
 MACHINE = Machine([0x20008000 + 0x400 * number for number in range(13)] + [0x2000F000, 0x2000C000], CODE)
 
@@ -46,22 +49,28 @@ def trace_of(encoding, steps):
     return [line.split() for line in lines[:-1] if int(line.split()[0]) > AHEAD], lines[-1]
 
 
+def fault_at(lines, tick):
+    """CFSR as a fault of a tick leaves it, or 0."""
+    return next((int(line[3], 16) for line in lines if line[:2] == [str(tick), "!"]), 0)
+
+
 def answer(encoding):
     """How an encoding ends, its accesses, and where the machine goes on, if it does."""
     lines, stop = trace_of(encoding, AHEAD + 2)
-    mine = [(line[1], int(line[2], 16), int(line[3]), line[5]) for line in lines if line[0] == str(AHEAD + 1)]
-    behind = [int(line[2], 16) for line in lines if line[0] == str(AHEAD + 2)]
+    mine = [(line[1], int(line[2], 16), int(line[3]), line[5]) for line in lines if line[0] == str(AHEAD + 1) and line[1] != "!"]
+    behind = [line for line in lines if line[0] == str(AHEAD + 2)]
     accesses = [access for access in mine if access[0] != "F"]
+    cfsr = fault_at(lines, AHEAD + 1)
+    if cfsr & (UNDEFINSTR | NOCP):
+        return "UNDEFINED" if cfsr & UNDEFINSTR else "NOCP", accesses, None
+    if cfsr:
+        return "carried out", accesses, None
+    if behind and behind[0][1] == "K":
+        return "SVC", accesses, None
+    # An instruction that leaves T clear is carried out, and the step behind it is a fault.
     if behind or stop == "stop steps":
-        return "carried out", accesses, behind[0] if behind else None
-    if stop != "stop outofprofile unbuilt":
-        return stop[len("stop ") :], accesses, None
-    if accesses and accesses[-1][3] != "ok":
-        return "carried out", accesses, None
-    # An instruction that leaves T clear is carried out, and the step behind it makes no access.
-    if trace_of(encoding, AHEAD + 1)[1] == "stop steps":
-        return "carried out", accesses, None
-    return "UNDEFINED", accesses, None
+        return "carried out", accesses, int(behind[0][2], 16) if behind and behind[0][1] == "F" else None
+    return stop[len("stop ") :], accesses, None
 
 
 def random_long(source):

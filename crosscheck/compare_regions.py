@@ -6,7 +6,7 @@ import random
 import struct
 import sys
 
-from machines import LAST, each, in_parts, on_marm, on_qemu
+from machines import LAST, each, in_parts, on_marm, on_qemu, put_out
 
 COUNT, SEED = int(sys.argv[5]), int(sys.argv[6])
 
@@ -82,13 +82,16 @@ def entry(case, at):
 
 
 def granted(number, case):
-    """1 or 0, whether marm grants an access; or how its run ends otherwise. A refusal is the last access of its trace."""
+    """1 or 0, whether marm grants an access; or how its run ends otherwise. The access of a 0 is the one that the MPU refuses."""
     (letter, _, _), address, _, _ = case
     trace = on_marm(entry, [case], f"case{number}", STEPS)
-    if trace[-1] == LAST:
+    refused = [line for line in trace if " mpu " in line]
+    if trace[-1] != LAST or put_out(trace) != ["0" if refused else "1"]:
+        return trace[-1]
+    if not refused:
         return "1"
-    _, kind, at, _, _, outcome, _ = trace[-2].split()
-    return "0" if (kind, int(at, 16), outcome) == (letter, address, "mpu") else trace[-2]
+    _, kind, at, _, _, _, _ = refused[0].split()
+    return "0" if len(refused) == 1 and (kind, int(at, 16)) == (letter, address) else refused[0]
 
 
 def described(case):

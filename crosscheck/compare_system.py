@@ -37,12 +37,13 @@ class Group:
     def __init__(self, name, opening, cases):
         self.name, self.opening, self.cases = name, opening, cases
 
+    def trace_of(self, number, case):
+        """The trace of a case on marm, alone behind the opening."""
+        return on_marm(entry, self.opening + [case], f"case{number}", STEPS * (len(self.opening) + 1))
+
     def ended(self, number, case):
-        """How a case ends on marm, alone behind the opening."""
-        trace = on_marm(entry, self.opening + [case], f"case{number}", STEPS * (len(self.opening) + 1))
-        if trace[-1] == "stop outofprofile unbuilt" and " bus " in trace[-2]:
-            return "bus"
-        return trace[-1]
+        """How a case ends on marm."""
+        return self.trace_of(number, case)[-1]
 
     def by_marm(self, entry, cases):
         """The lines that marm puts out for some cases."""
@@ -72,11 +73,17 @@ class Group:
 
 
 class Refusals(Group):
-    """Cases whose last operation is to be refused: a bus error on marm, a fault on QEMU."""
+    """Cases whose last operation is to be refused: a bus error on marm, a fault on both machines."""
+
+    def ended(self, number, case):
+        """How a case ends on marm: the end of its line where its one refusal is a bus error, or how its run ends."""
+        trace = self.trace_of(number, case)
+        lines, refused = put_out(trace), [line for line in trace if " bus " in line]
+        return lines[-1][-1:] if len(lines) == len(self.opening) + 1 and len(refused) == 1 else trace[-1]
 
     def compared(self):
         """The number of cases that differ, with the first of them printed."""
-        ours = ["!" if ending == "bus" else ending for ending in each(self.ended, self.cases)]
+        ours = each(self.ended, self.cases)
         theirs = [line[-1:] for line in on_qemu(entry, self.opening + self.cases)[len(self.opening) :]]
         theirs += [NOTHING] * (len(ours) - len(theirs))
         differ = [(case, left, right) for case, left, right in zip(self.cases, ours, theirs) if left != right]

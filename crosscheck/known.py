@@ -46,12 +46,8 @@ def of_elsewhere(word):
 
 def of_undefined(encoding, llvm, gnu):
     """Why marm finds UNDEFINED what a tool gives a name."""
-    if llvm.startswith("svc"):
-        return "SVC is an exception, at which marm stops as yet"
     if gnu.startswith("udf"):
         return "UDF is permanently UNDEFINED"
-    if is_coprocessor(encoding):
-        return "no coprocessor is there: a UsageFault, NOCP or UNDEFINSTR, at which marm stops as yet"
     if llvm != "<unknown>":
         return None
     elsewhere = of_elsewhere(gnu)
@@ -103,6 +99,10 @@ def reason(ending, encoding, llvm, gnu):
     """Why marm says what it says of an encoding, or None."""
     if ending == "UNDEFINED":
         return of_undefined(encoding, llvm, gnu)
+    if ending == "NOCP":
+        return "no coprocessor is there: UsageFault NOCP" if is_coprocessor(encoding) else None
+    if ending == "SVC":
+        return "SVC is an exception" if llvm.startswith("svc") else None
     if ending == "carried out":
         return of_carried_out(encoding)
     return of_name(ending, llvm, gnu)

@@ -1,7 +1,7 @@
 #!/usr/bin/env bash
 # Carries out random instructions, as many random accesses under random regions of the MPU, and a tenth as many cases of reads and
-# writes of system registers and special registers, on marm and on QEMU's Cortex-M3, and compares what they leave, which were
-# granted and what was read. It needs qemu-system-arm, clang, lld and llvm-objcopy. Usage: crosscheck/run.sh [COUNT] [SEED]
+# writes of system registers and special registers and as many of exceptions, on marm and on QEMU's Cortex-M3, and compares what
+# they leave, which were granted, what was read and what handlers find. It needs qemu-system-arm, clang, lld and llvm-objcopy. Usage: crosscheck/run.sh [COUNT] [SEED]
 set -euo pipefail
 for name in qemu-system-arm clang ld.lld llvm-objcopy; do
     command -v "$name" >/dev/null || { echo "crosscheck: $name isn't there" >&2; exit 1; }
@@ -20,4 +20,5 @@ for name in instructions regions system; do
     PYTHONPATH="$top/bench" python3 -B "$top/crosscheck/compare_$name.py" "$top/crates/marm/out/marm" \
         "$top/crosscheck/board.toml" "$folder/harness" "$folder" "$count" "${2:-2026}" || different=1
 done
+"$top/crosscheck/exceptions.sh" "${2:-2026}" "$count" || different=1
 exit "$different"

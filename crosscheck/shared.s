@@ -6,8 +6,12 @@
 
         .equ CURRENT, 0x20000000        @ where the address of the current entry is kept
         .equ OUT, 0x20000004            @ where the address is kept at which a byte goes out
+        .ifndef TOP
         .equ TOP, 0x2000F000            @ SP
+        .endif
+        .ifndef UART
         .equ UART, 0x000FFFF0           @ flash that is blank on marm; another machine has the address of its UART there
+        .endif
         .equ TABLE, 0x1000
 
         @ Bytes go out at 0x40000000, or at a UART, which is enabled 8 bytes further.
