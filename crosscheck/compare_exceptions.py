@@ -68,7 +68,8 @@ with ThreadPoolExecutor(JOBS) as pool:
     locked = [number for number in cases if ours[number][0] == LOCKUP]
     alone = [number for number in taken if is_alone(cases[number], ours[number][1])]
     together = [number for number in taken if number not in set(alone)]
-    theirs = dict(zip(together, [(ending, records) for records, ending in all_on_qemu(harness, [entries[number] for number in together])]))
+    found = all_on_qemu(harness, [entries[number] for number in together])
+    theirs = {number: (ending, records) for number, (records, ending) in zip(together, found)}
     for number, (ended, rest, ending) in zip(
         alone + locked, pool.map(lambda number: on_qemu(harness, [entries[number]], number), alone + locked)
     ):

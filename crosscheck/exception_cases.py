@@ -32,13 +32,15 @@ class Case:
     """A case, and what it takes alone."""
 
     def __init__(self):
+        """A case that does nothing: privileged, on MSP, nothing masked."""
         self.settings, self.thread, self.actions = [], [], {}
         self.uses_psp = self.is_unprivileged = self.is_alone = False
         self.psp, self.msp, self.flags, self.masks, self.cleared = PSP_TOP, TOP, 0, [0, 0, 0], 0xFFFFFFFF
 
     def text(self, number):
         """Returns the case as assembly text of one entry."""
-        words = [1 | self.uses_psp << 2 | self.is_unprivileged << 1, 0, self.psp, self.msp, self.flags, *self.masks, self.cleared, 0]
+        kind = 1 | self.uses_psp << 2 | self.is_unprivileged << 1
+        words = [kind, 0, self.psp, self.msp, self.flags, *self.masks, self.cleared, 0]
         lines = [f"entry{number}:", " .word " + ", ".join(f"{word:#x}" for word in words)]
         for exception in self.actions:
             lines.append(f" .word {exception}, CODE + 1 + (action{number}_{exception} - entry{number})")
@@ -53,8 +55,10 @@ class Case:
         """Returns the case as text for a person."""
         lines = [f"{'unprivileged' if self.is_unprivileged else 'privileged'} Thread mode on {'PSP' if self.uses_psp else 'MSP'}"]
         lines[0] += f", PSP {self.psp:08X}, MSP {self.msp:08X}, flags {self.flags:08X}"
-        lines[0] += ", PRIMASK {0}, BASEPRI {1:02X}, FAULTMASK {2}".format(*self.masks) + f", handlers clear {self.cleared:08X} of CFSR"
-        lines += ["settings: " + " ".join(f"{address:08X}={value if value == 'enter' else f'{value:08X}'}" for address, value in self.settings)]
+        lines[0] += ", PRIMASK {0:d}, BASEPRI {1:02X}, FAULTMASK {2:d}".format(*self.masks)
+        lines[0] += f", handlers clear {self.cleared:08X} of CFSR"
+        settings = [f"{at:08X}={value if value == 'enter' else f'{value:08X}'}" for at, value in self.settings]
+        lines.append("settings: " + " ".join(settings))
         for name, pieces in [("Thread mode", self.thread)] + [(name_of(x), action) for x, action in self.actions.items()]:
             lines.append(f"{name}: " + "; ".join(line.strip() for line in "\n".join(pieces).splitlines()))
         return "\n".join(f"    {line}" for line in lines)
@@ -94,7 +98,8 @@ def random_region(source):
 
 def stack_region(source):
     """Returns RBAR and RASR of a region in which the stacks end, or of the code."""
-    base, power = source.choice([(PSP_TOP - 32, 5), (PSP_TOP - 64, 5), (PSP_TOP - 256, 8), (TOP - 32, 5), (TOP - 256, 8), (CODE, 10)])
+    places = [(PSP_TOP - 32, 5), (PSP_TOP - 64, 5), (PSP_TOP - 256, 8), (TOP - 32, 5), (TOP - 256, 8), (CODE, 10)]
+    base, power = source.choice(places)
     return base, (source.random() < 0.3) << 28 | source.choice([0, 1, 2, 5, 6]) << 24 | (power - 1) << 1 | 1
 
 

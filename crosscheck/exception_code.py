@@ -3,10 +3,11 @@ of lines of assembly. R11 is the address at which a piece is left after a fault;
 
 import random_code
 
-# What answers nothing on both machines, beside 0x40000000 to 0x5FFFFFFF and the Private Peripheral Bus: code may be fetched
-# from the first ones in the default map, and not from the others (XN).
+# Addresses without memory on both machines, or shortly ahead of the end of flash or RAM, at which the default map lets code be
+# fetched; and addresses without memory at which it doesn't (XN).
 FLASH_END = 0x00020000
-UNMAPPED = [FLASH_END, FLASH_END - 8, 0x10000000, 0x1FFFFFF0, 0x20002000, 0x20001FF8, 0x30000000, 0x3FFFFFF0, 0x60000000, 0x80000000, 0x9FFFFFF0]
+UNMAPPED = [FLASH_END, FLASH_END - 8, 0x10000000, 0x1FFFFFF0, 0x20002000, 0x20001FF8, 0x30000000, 0x3FFFFFF0]
+UNMAPPED += [0x60000000, 0x80000000, 0x9FFFFFF0]
 NEVER = [0x50000000, 0xA0000000, 0xC0000010, 0xDFFFFFF0]
 
 # Words of the Private Peripheral Bus that code may read or write without an effect: ISER, ICPR.
@@ -18,14 +19,17 @@ LINES = [0, 1, 2, 3, 7, 16, 30, 31]
 WINDOW = 0x20000800
 ICSR, ISPR, STIR = 0xE000ED04, 0xE000E200, 0xE000EF00
 
+# UDF and other encodings that have no instruction.
 UNDEFINED = [0xDE00, 0xDE01, 0xDE7F, 0xDEFF, 0xB610, 0xBA80, 0xB800, 0xBABF]
-UNDEFINED += [0xF7F0A000, 0xF7FFAFFF, 0xFA88FDBE, 0xF9EA0CFE, 0xF88FAF7D, 0xF826B0A4, 0xFBB0F100, 0xFB80F0F1, 0xFA90F010, 0xF8F00000]
+UNDEFINED += [0xF7F0A000, 0xF7FFAFFF, 0xFA88FDBE, 0xF9EA0CFE, 0xF88FAF7D, 0xF826B0A4]
+UNDEFINED += [0xFBB0F100, 0xFB80F0F1, 0xFA90F010, 0xF8F00000]
 
 # MCR, MRC, CDP, LDC, STC, MCRR and MRRC with their second forms, and what other architectures have there.
 COPROCESSOR = [0xEE010F10, 0xEE100E10, 0xEE000300, 0xED912200, 0xEDA10101, 0xEC510F00, 0xEC410700, 0xEC900B04, 0xEEDBCCA9]
-COPROCESSOR += [0xFE000300, 0xFD912200, 0xFE110F10, 0xFC510F00, 0xED910A00, 0xEE300A00, 0xEEF1FA10, 0xEC000000, 0xEF000110, 0xFF000110]
+COPROCESSOR += [0xFE000300, 0xFD912200, 0xFE110F10, 0xFC510F00, 0xED910A00, 0xEE300A00, 0xEEF1FA10]
+COPROCESSOR += [0xEC000000, 0xEF000110, 0xFF000110]
 
-# Loads and stores at R1 of each kind that may be unaligned, and how aligned they are.
+# Loads and stores at R1 of words, halfwords, bytes and several words.
 ANY = ["ldr r0, [r1]", "str r0, [r1]", "ldr r0, [r1], #4", "str r0, [r1, #4]!", "ldrt r0, [r1]", "strt r0, [r1]"]
 HALF = ["ldrh r0, [r1]", "strh r0, [r1]", "ldrsh r0, [r1]", "ldrht r0, [r1]"]
 BYTE = ["ldrb r0, [r1]", "strb r0, [r1]", "ldrbt r0, [r1]", "strbt r0, [r1]", "ldrsb r0, [r1]"]
@@ -67,21 +71,25 @@ def in_block(source, instruction, is_branch=False):
 
 
 def undefined(source):
+    """An UNDEFINED encoding."""
     return in_block(source, encoded(source.choice(UNDEFINED)))
 
 
 def no_coprocessor(source):
+    """An instruction of a coprocessor."""
     return in_block(source, encoded(source.choice(COPROCESSOR)))
 
 
 def unaligned(source):
+    """An access at an address that isn't a multiple of its size, or in part."""
     kind = source.choice([ANY, HALF, SEVERAL, SEVERAL])
     return [literal("r1", WINDOW + 64 + source.choice([1, 2, 3, 5]))] + in_block(source, source.choice(kind))
 
 
 def divide(source):
-    dividend = source.choice([0, 1, 0x80000000, 0xFFFFFFFF])
-    return [literal("r2", dividend), "movs r1, #0"] + in_block(source, source.choice(["sdiv r0, r2, r1", "udiv r0, r2, r1"]))
+    """A division by zero."""
+    lines = [literal("r2", source.choice([0, 1, 0x80000000, 0xFFFFFFFF])), "movs r1, #0"]
+    return lines + in_block(source, source.choice(["sdiv r0, r2, r1", "udiv r0, r2, r1"]))
 
 
 def jump(source, address):
@@ -107,6 +115,7 @@ def invalid_state(source):
 
 
 def data_unmapped(source):
+    """An access to memory that isn't there. Flash isn't written."""
     address, chosen = source.choice(UNMAPPED + NEVER), source.choice(BASED)
     if FLASH_END - 8 <= address <= FLASH_END:
         chosen = chosen.replace("st", "ld")
@@ -115,20 +124,24 @@ def data_unmapped(source):
 
 def data_system(source):
     """An access to the Private Peripheral Bus, which is refused to unprivileged code."""
-    return [literal("r1", source.choice(SYSTEM)), "movs r0, #0"] + in_block(source, source.choice(["ldr r2, [r1]", "str r0, [r1]"]))
+    lines = [literal("r1", source.choice(SYSTEM)), "movs r0, #0"]
+    return lines + in_block(source, source.choice(["ldr r2, [r1]", "str r0, [r1]"]))
 
 
 def fetch_unmapped(source):
+    """A jump to memory that isn't there."""
     return jump(source, source.choice(UNMAPPED) & ~3 | source.choice([1, 3]))
 
 
 def fetch_never(source):
+    """A jump to where code is never fetched."""
     return jump(source, source.choice(NEVER + [0x40000000, 0xE0000000, 0xE000ED00]) & ~3 | source.choice([1, 3]))
 
 
 def data_region(source):
     """An access to the memory in which a case has its regions."""
-    offset = source.randrange(0, 0x180, 4) if source.random() < 0.7 else source.choice([0x1C, 0x3C, 0x5C, 0x7C, 0xFC, 0xFE, 0x3D, 0x1E])
+    ends = [0x1C, 0x3C, 0x5C, 0x7C, 0xFC, 0xFE, 0x3D, 0x1E]
+    offset = source.randrange(0, 0x180, 4) if source.random() < 0.7 else source.choice(ends)
     kind = source.choice([ANY, ANY, HALF, BYTE, SEVERAL])
     offset &= ~3 if kind is SEVERAL else ~0
     return [literal("r1", WINDOW + offset)] + in_block(source, source.choice(kind))
@@ -155,11 +168,13 @@ REGION_FAULTS = [data_region, data_region, data_region, fetch_region]
 
 
 def line_bits(source):
+    """Some lines, as the bits of ISPR."""
     count = source.choice([1, 1, 2, 3, 5])
     return sum({1 << source.choice(LINES) for _ in range(count)})
 
 
 def supervisor_call(source):
+    """SVC."""
     return in_block(source, f"svc #{source.randrange(256)}")
 
 
@@ -170,10 +185,12 @@ def pend_system(source):
 
 
 def pend_lines(source):
+    """Lines become pending by ISPR."""
     return [literal("r1", ISPR), literal("r0", line_bits(source))] + in_block(source, "str r0, [r1]")
 
 
 def pend_line(source):
+    """A line becomes pending by STIR."""
     return [literal("r1", STIR), f"movs r0, #{source.choice(LINES)}"] + in_block(source, "str r0, [r1]")
 
 
@@ -226,14 +243,17 @@ def bad_frame(source):
     """A stack pointer or a frame of the interrupted code that is changed, so that the handler's return is a fault."""
     kind = source.randrange(5)
     if kind == 0:
-        address = source.choice([0x20002000, 0x20001FF0, 0x1FFFFFF0, 0x30000000, 0x20001FE8, 0x50000000, 0x80000000, 0x20000800])
+        places = [0x20002000, 0x20001FF0, 0x1FFFFFF0, 0x30000000, 0x20001FE8, 0x50000000, 0x80000000, 0x20000800]
+        address = source.choice(places)
         return [literal("r1", address), "msr psp, r1"]
     if kind == 1:
         address = source.choice([0x20002000, 0x20001FF0, 0x1FFFFFF0, 0x30000000])
         return [literal("r1", address), "msr msp, r1"]
     stack = source.choice(["psp", "msp"])
     if kind == 2:
-        return [f"mrs r1, {stack}", "ldr r0, [r1, #28]", f"bic r0, r0, #{source.choice([0x01000000, 0xFF, 0x01000000])}", "str r0, [r1, #28]"]
+        bits = source.choice([0x01000000, 0xFF, 0x01000000])
+        return [f"mrs r1, {stack}", "ldr r0, [r1, #28]", f"bic r0, r0, #{bits}", "str r0, [r1, #28]"]
     if kind == 3:
-        return [f"mrs r1, {stack}", "ldr r0, [r1, #28]", f"orr r0, r0, #{source.choice([1, 3, 11, 14, 16, 40, 255])}", "str r0, [r1, #28]"]
+        bits = source.choice([1, 3, 11, 14, 16, 40, 255])
+        return [f"mrs r1, {stack}", "ldr r0, [r1, #28]", f"orr r0, r0, #{bits}", "str r0, [r1, #28]"]
     return [f"mrs r1, {stack}", literal("r0", source.choice([0x30000000, 0x50000000, 0xA0000002, 0x20000800])), "str r0, [r1, #24]"]

@@ -1,7 +1,8 @@
 #!/usr/bin/env bash
 # Carries out random instructions, as many random accesses under random regions of the MPU, and a tenth as many cases of reads and
 # writes of system registers and special registers and as many of exceptions, on marm and on QEMU's Cortex-M3, and compares what
-# they leave, which were granted, what was read and what handlers find. It needs qemu-system-arm, clang, lld and llvm-objcopy. Usage: crosscheck/run.sh [COUNT] [SEED]
+# they leave, which were granted, what was read and what handlers find. It needs qemu-system-arm, clang, lld and llvm-objcopy.
+# Usage: crosscheck/run.sh [COUNT] [SEED]
 set -euo pipefail
 for name in qemu-system-arm clang ld.lld llvm-objcopy; do
     command -v "$name" >/dev/null || { echo "crosscheck: $name isn't there" >&2; exit 1; }
