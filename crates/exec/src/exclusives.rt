@@ -23,11 +23,7 @@ use regs::Regs;
 
 /// Appends what an exclusive asks for.
 #[tactic(auto, unfolding(reference::specs::Exclusives::exclusive_requests))]
-pub fn plan(
-    instruction: &Exclusive,
-    regs: &Regs,
-    requests: &mut Requests,
-) -> Result<(), Failure>
+pub fn plan(instruction: &Exclusive, regs: &Regs, requests: &mut Requests) -> Result<(), Failure>
     requires { requests.old.items ≡ [] }
     ensures { planned requests.new result ≡ exclusive_requests instruction.now regs.now }
 {
