@@ -1,21 +1,24 @@
-//! Exceptions with the two answers that each step asks for beside them.
+//! Exceptions with the answers that each step asks for beside them.
 
 ghost use Rattle.std.specs.Prelude.{◌≡◌};
 ghost use Rattle.reference.specs.declared.exception.TheConstants.{EXCEPTIONS};
-ghost use Rattle.reference.specs.Priorities.{best as best_of, least_active};
+ghost use Rattle.reference.specs.Priorities.{best as best_of, is_below_zero as is_below_zero_of, least_active};
 
 use nvic::Levels;
 use reference::exception::{Masks, Priority};
 
-/// The exceptions of an `L`, the best of them, and the least group priority of those that are active.
-/// Both answers are those that the `L` would give now: each change works out anew what it may change.
+/// The exceptions of an `L`, the best of them, the least group priority of those that are active, and
+/// whether the execution priority is below 0. These answers are those that the `L` would give now: each
+/// change works out anew what it may change.
 #[derive(Drop)]
 pub struct KeptAnswers<L: Levels> {
     levels: L,
     best: Option<u16>,
     active_priority: Priority,
+    below_zero: bool,
     ghost best_known: { best ≡ best_of (L.content levels) },
     ghost active_known: { active_priority ≡ least_active (L.content levels) EXCEPTIONS },
+    ghost below_known: { below_zero ≡ is_below_zero_of (L.content levels) },
 }
 
 impl<L: Levels> KeptAnswers<L> {
@@ -34,16 +37,19 @@ impl<L: Levels> Levels for KeptAnswers<L> {
         let levels = L::fresh(lines, priority_bits);
         let best = levels.best();
         let active_priority = levels.active_priority();
+        let below_zero = levels.is_below_zero();
         KeptAnswers {
             levels,
             best,
             active_priority,
+            below_zero,
         }
     }
 
     #[tactic(auto, using(crate::proofs::Alike::best_of_idle, crate::proofs::Alike::least_of_pending))]
     fn pend(&mut self, number: u16) {
         self.levels.pend(number);
+        self.below_zero = self.levels.is_below_zero();
         if self.levels.is_enabled(number) {
             self.best = self.levels.best();
         }
@@ -52,6 +58,7 @@ impl<L: Levels> Levels for KeptAnswers<L> {
     #[tactic(auto, using(crate::proofs::Alike::best_of_idle, crate::proofs::Alike::least_of_pending))]
     fn clear(&mut self, number: u16) {
         self.levels.clear(number);
+        self.below_zero = self.levels.is_below_zero();
         if self.levels.is_enabled(number) {
             self.best = self.levels.best();
         }
@@ -60,17 +67,20 @@ impl<L: Levels> Levels for KeptAnswers<L> {
     #[tactic(auto, using(crate::proofs::Alike::least_of_enabled))]
     fn enable(&mut self, number: u16) {
         self.levels.enable(number);
+        self.below_zero = self.levels.is_below_zero();
         self.best = self.levels.best();
     }
 
     #[tactic(auto, using(crate::proofs::Alike::least_of_enabled))]
     fn disable(&mut self, number: u16) {
         self.levels.disable(number);
+        self.below_zero = self.levels.is_below_zero();
         self.best = self.levels.best();
     }
 
     fn set_priority(&mut self, number: u16, byte: u8) {
         self.levels.set_priority(number, byte);
+        self.below_zero = self.levels.is_below_zero();
         self.best = self.levels.best();
         self.active_priority = self.levels.active_priority();
     }
@@ -78,34 +88,40 @@ impl<L: Levels> Levels for KeptAnswers<L> {
     #[tactic(auto, using(crate::proofs::Alike::best_of_active))]
     fn activate(&mut self, number: u16) {
         self.levels.activate(number);
+        self.below_zero = self.levels.is_below_zero();
         self.active_priority = self.levels.active_priority();
     }
 
     #[tactic(auto, using(crate::proofs::Alike::best_of_active))]
     fn deactivate(&mut self, number: u16) {
         self.levels.deactivate(number);
+        self.below_zero = self.levels.is_below_zero();
         self.active_priority = self.levels.active_priority();
     }
 
     #[tactic(auto, using(crate::proofs::Alike::best_of_group))]
     fn set_group(&mut self, group: u8) {
         self.levels.set_group(group);
+        self.below_zero = self.levels.is_below_zero();
         self.active_priority = self.levels.active_priority();
     }
 
     #[tactic(auto, using(crate::proofs::Alike::best_of_masks, crate::proofs::Alike::least_of_masks))]
     fn set_primask(&mut self, on: bool) {
         self.levels.set_primask(on);
+        self.below_zero = self.levels.is_below_zero();
     }
 
     #[tactic(auto, using(crate::proofs::Alike::best_of_masks, crate::proofs::Alike::least_of_masks))]
     fn set_faultmask(&mut self, on: bool) {
         self.levels.set_faultmask(on);
+        self.below_zero = self.levels.is_below_zero();
     }
 
     #[tactic(auto, using(crate::proofs::Alike::best_of_masks, crate::proofs::Alike::least_of_masks))]
     fn set_basepri(&mut self, byte: u8) {
         self.levels.set_basepri(byte);
+        self.below_zero = self.levels.is_below_zero();
     }
 
     #[inline]
@@ -156,11 +172,17 @@ impl<L: Levels> Levels for KeptAnswers<L> {
         self.best
     }
 
+    #[inline]
+    fn is_below_zero(&self) -> bool {
+        self.below_zero
+    }
+
     fn copied(&self) -> Self {
         KeptAnswers {
             levels: self.levels.copied(),
             best: self.best,
             active_priority: self.active_priority,
+            below_zero: self.below_zero,
         }
     }
 }

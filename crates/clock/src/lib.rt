@@ -2,7 +2,7 @@
 //! timer, SysTick"; the rest is this project's profile).
 #![tactic(auto)]
 
-ghost use Rattle.std.specs.Prelude.{◌≡◌, ◌+◌, ◌^◌, ◌<◌, ◌≤◌, false};
+ghost use Rattle.std.specs.Prelude.{◌≡◌, ℕ, ◌+◌, ◌^◌, ◌<◌, ◌≤◌, true, false};
 ghost use Rattle.clock.specs.Kept.{IsRight, IsQuiet};
 ghost use Rattle.reference.specs.Time.{after_tick, counted, timer_pends, tick_pends, script_due, event_applies_next, passed, is_high, start_time, csr, after_csr_read, with_csr, with_rvr, with_cvr_cleared, IsSetOf};
 
@@ -144,6 +144,23 @@ impl<U: DueTicks> Clock<U> {
         let due = self.due_next();
         self.count();
         due
+    }
+
+    /// Makes the next tick where nothing is due at it, as far as is kept. Returns whether it did.
+    #[inline]
+    #[tactic(auto, using(crate::proofs::Quiet::right_tick, crate::proofs::Quiet::right_pends, crate::proofs::Quiet::right_stays))]
+    pub fn tick_quietly(&mut self) -> bool
+        requires { self.old.time.ticks < 2 ^ 48 }
+        ensures same { result ≡ false → self.new ≡ self.old }
+        ensures time { result ≡ true → IsRight self.old → self.new.time ≡ after_tick self.old.time }
+        ensures quiet { result ≡ true → IsRight self.old → (number : ℕ) → tick_pends self.old.time number ≡ false }
+        ensures right { IsRight self.old → IsRight self.new }
+    {
+        if self.timer.is_quiet_after(self.ticks) {
+            self.ticks += 1;
+            return true;
+        }
+        false
     }
 
     /// The next tick, in which no event of the script applies. Gives the exceptions that it pends.

@@ -29,3 +29,16 @@ none_below n due none (suc x) within =
 pub nothing_is_due : (n : Nvic) (due : List ℕ) → ((x : ℕ) → x < 256 → is_due due x ≡ false) → with_due n due ≡ n
 unfolding with_due
 nothing_is_due n due none = none_below n due none 256 (omega arith)
+
+none_pended_below : (n : Nvic) (test : ℕ → Bool) → ((x : ℕ) → test x ≡ false) → (x : ℕ) → with_pended_below n test x ≡ n
+unfolding with_pended_below with_pended_at
+none_pended_below n test none zero = refl
+none_pended_below n test none (suc x) =
+    let before = none_pended_below n test none x in
+    let here = none x in
+    rw (before, here) refl
+
+-- where nothing is due, nothing becomes pending
+pub nothing_is_pended : (n : Nvic) (test : ℕ → Bool) → ((x : ℕ) → test x ≡ false) → with_pended n test ≡ n
+unfolding with_pended
+nothing_is_pended n test none = none_pended_below n test none 256
