@@ -1,4 +1,4 @@
--- Blocks of addresses that a region has alike.
+-- Blocks of addresses, of which a region has all or none.
 use Rattle.std.proofs.Common.{pow_pos, ◌≡◌, ℕ, zero, suc, ◌+◌, ◌-◌, ◌*◌, ◌/◌, ◌%◌, ◌^◌, ◌<◌, ◌≤◌, ◌⊎◌, Bool, true, false, not, ◌&&◌, ◌==◌, nat_le, if◌then◌else◌, arith, refl, sym, ap, ◌∙◌, inl, inr}
 use Rattle.std.proofs.lemmas.Bool.Decides.{nat_tests}
 use Rattle.std.proofs.lemmas.Bool.{leb-true, eqb-true, eq-eqb, cases_lt}
@@ -12,14 +12,17 @@ use Rattle.mpu.specs.Spans.{BelongTo, grain}
 pub in_block : (a x u : ℕ) → 0 < u → x / u * u ≤ a → a < x / u * u + u → a / u ≡ x / u
 in_block a x u some from to =
     let low : x / u ≤ a / u = le-div (x / u) a u some from in
-    let high : a / u < suc (x / u) = div_below a u (suc (x / u)) some (let e : suc (x / u) * u ≡ x / u * u + u = omega arith in rw e to) in
+    let e : suc (x / u) * u ≡ x / u * u + u = omega arith in
+    let high : a / u < suc (x / u) = div_below a u (suc (x / u)) some (rw e to) in
     omega arith
 
 pub before_block : (a x u : ℕ) → 0 < u → a < x / u * u → a / u < x / u
 before_block a x u some h = div_below a u (x / u) some h
 
 pub behind_block : (a x u : ℕ) → 0 < u → x / u * u + u ≤ a → x / u < a / u
-behind_block a x u some h = le-div (suc (x / u)) a u some (let e : suc (x / u) * u ≡ x / u * u + u = omega arith in rw e h)
+behind_block a x u some h =
+    let e : suc (x / u) * u ≡ x / u * u + u = omega arith in
+    le-div (suc (x / u)) a u some (rw e h)
 
 -- regions that decide alike one by one decide alike together
 pub alike_below : (m : Mpu) (a b n : ℕ) → ((k : ℕ) → k < n → matches (region m k) a ≡ matches (region m k) b)
@@ -41,25 +44,30 @@ outside_before r a s first e f h = lead (rw e at f)
   where
     lead : first ≡ r.base / 2 ^ (size r.attributes + 1) * 2 ^ (size r.attributes + 1) → agrees r a ≡ false
     lead g =
-        let b = before_block a r.base (2 ^ (size r.attributes + 1)) (pow_pos _) (rw g at h) in not_at _ _ (λ e. omega arith)
+        let b = before_block a r.base (2 ^ (size r.attributes + 1)) (pow_pos _) (rw g at h) in
+        not_at _ _ (λ e. omega arith)
 
-pub outside_behind : (r : Region) (a s next : ℕ) → s ≡ size r.attributes → next ≡ r.base / 2 ^ (s + 1) * 2 ^ (s + 1) + 2 ^ (s + 1)
-    → next ≤ a → agrees r a ≡ false
+pub outside_behind : (r : Region) (a s next : ℕ) → s ≡ size r.attributes
+    → next ≡ r.base / 2 ^ (s + 1) * 2 ^ (s + 1) + 2 ^ (s + 1) → next ≤ a → agrees r a ≡ false
 outside_behind r a s next e f h = lead (rw e at f)
   where
-    lead : next ≡ r.base / 2 ^ (size r.attributes + 1) * 2 ^ (size r.attributes + 1) + 2 ^ (size r.attributes + 1) → agrees r a ≡ false
+    lead : next ≡ r.base / 2 ^ (size r.attributes + 1) * 2 ^ (size r.attributes + 1) + 2 ^ (size r.attributes + 1)
+        → agrees r a ≡ false
     lead g =
-        let b = behind_block a r.base (2 ^ (size r.attributes + 1)) (pow_pos _) (rw g at h) in not_at _ _ (λ e. omega arith)
+        let b = behind_block a r.base (2 ^ (size r.attributes + 1)) (pow_pos _) (rw g at h) in
+        not_at _ _ (λ e. omega arith)
 
 -- an address behind the first of a block with which it doesn't agree is behind all of it
 pub past_block : (r : Region) (a s first next : ℕ) → agrees r a ≡ false → s ≡ size r.attributes
-    → first ≡ r.base / 2 ^ (s + 1) * 2 ^ (s + 1) → next ≡ r.base / 2 ^ (s + 1) * 2 ^ (s + 1) + 2 ^ (s + 1) → first ≤ a → next ≤ a
+    → first ≡ r.base / 2 ^ (s + 1) * 2 ^ (s + 1) → next ≡ r.base / 2 ^ (s + 1) * 2 ^ (s + 1) + 2 ^ (s + 1)
+    → first ≤ a → next ≤ a
 past_block r a s first next no_part e f g h = lead (cases_lt a next)
   where
     lead : ((a < next) ⊎ (next ≤ a)) → next ≤ a
     lead (inr past) = past
     lead (inl under) =
-        let b : a / 2 ^ (s + 1) ≡ r.base / 2 ^ (s + 1) = in_block a r.base (2 ^ (s + 1)) (pow_pos _) (rw f at h) (rw g at under) in
+        let b : a / 2 ^ (s + 1) ≡ r.base / 2 ^ (s + 1) =
+        in_block a r.base (2 ^ (s + 1)) (pow_pos _) (rw f at h) (rw g at under) in
         let c = rw e at b in
         let d : agrees r a ≡ true = eq-eqb _ _ c in
         absurd (let w : ⊥ = cc in w)
@@ -104,7 +112,8 @@ both_whole : (r : Region) (a x : ℕ) → a / 2 ^ (size r.attributes + 1) ≡ x 
     → is_switched_off r a ≡ false → is_switched_off r x ≡ false → matches r a ≡ matches r x
 unfolding matches
 both_whole r a x e s t =
-    ap (λ (q : ℕ). is_enabled r.attributes && (q == r.base / 2 ^ (size r.attributes + 1)) && not (is_switched_off r a)) e
+    ap
+    (λ (q : ℕ). is_enabled r.attributes && (q == r.base / 2 ^ (size r.attributes + 1)) && not (is_switched_off r a)) e
     ∙ ap (λ (o : Bool). is_enabled r.attributes && agrees r x && not o) (s ∙ sym t)
 
 both_eighth : (r : Region) (a x : ℕ) → 7 ≤ size r.attributes
@@ -113,12 +122,16 @@ unfolding matches
 both_eighth r a x big e =
     let n : size r.attributes + 1 ≡ (size r.attributes - 2) + 3 = omega arith in
     let p : a / 2 ^ (size r.attributes + 1) ≡ x / 2 ^ (size r.attributes + 1) =
-    rw n (sym (shr-shr a (size r.attributes - 2) 3) ∙ ap (λ (q : ℕ). q / 2 ^ 3) e ∙ shr-shr x (size r.attributes - 2) 3) in
-    ap (λ (q : ℕ). is_enabled r.attributes && (q == r.base / 2 ^ (size r.attributes + 1)) && not (is_switched_off r a)) p
-    ∙ ap (λ (q : ℕ). is_enabled r.attributes && agrees r x && not (nat_le 7 (size r.attributes) && is_bit r.attributes (8 + q % 8))) e
+    rw n (sym (shr-shr a (size r.attributes - 2) 3) ∙ ap (λ (q : ℕ). q / 2 ^ 3) e
+    ∙ shr-shr x (size r.attributes - 2) 3) in
+    ap
+    (λ (q : ℕ). is_enabled r.attributes && (q == r.base / 2 ^ (size r.attributes + 1)) && not (is_switched_off r a)) p
+    ∙ ap (λ (q : ℕ). is_enabled r.attributes && agrees r x
+    && not (nat_le 7 (size r.attributes) && is_bit r.attributes (8 + q % 8))) e
 
 -- addresses that agree in the bits that matter to a region lie in it alike
-pub matches_inside : (r : Region) (a x : ℕ) → a / 2 ^ grain r.attributes ≡ x / 2 ^ grain r.attributes → matches r a ≡ matches r x
+pub matches_inside : (r : Region) (a x : ℕ) → a / 2 ^ grain r.attributes ≡ x / 2 ^ grain r.attributes
+    → matches r a ≡ matches r x
 matches_inside r a x = lead (nat_le 7 (size r.attributes)) (switched_off r.attributes == 0) refl refl
   where
     lead : (s t : Bool) → nat_le 7 (size r.attributes) ≡ s → (switched_off r.attributes == 0) ≡ t

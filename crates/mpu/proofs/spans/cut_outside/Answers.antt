@@ -4,7 +4,10 @@ use Rattle.mpu.proofs.spans.cut_outside.Goals as goal
 
 pub overflow_cast-result-else-from-far : goal.overflow_cast-result-else-from-far
 overflow_cast-result-else-from-far c =
-    let h : c.block_of-far.result.next ≤ c.args.address = past_block c.args.region c.args.address _ _ _ c.requires.outside c.size.ensures.value c.block_of-far.ensures.first c.block_of-far.ensures.next (omega arith) in omega arith
+    let h : c.block_of-far.result.next ≤ c.args.address =
+    past_block c.args.region c.args.address _ _ _ c.requires.outside c.size.ensures.value
+    c.block_of-far.ensures.first c.block_of-far.ensures.next (omega arith) in
+    omega arith
 
 pub returns-then-from-far-clause-alike : goal.returns-then-from-far-clause-alike
 returns-then-from-far-clause-alike c = λ a from to.
@@ -13,7 +16,10 @@ returns-then-from-far-clause-alike c = λ a from to.
 
 pub returns-else-from-far-clause-first : goal.returns-else-from-far-clause-first
 returns-else-from-far-clause-first c =
-    let h : c.block_of-far.result.next ≤ c.args.address = past_block c.args.region c.args.address _ _ _ c.requires.outside c.size.ensures.value c.block_of-far.ensures.first c.block_of-far.ensures.next (omega arith) in omega arith
+    let h : c.block_of-far.result.next ≤ c.args.address =
+    past_block c.args.region c.args.address _ _ _ c.requires.outside c.size.ensures.value
+    c.block_of-far.ensures.first c.block_of-far.ensures.next (omega arith) in
+    omega arith
 
 pub returns-else-from-far-clause-alike : goal.returns-else-from-far-clause-alike
 returns-else-from-far-clause-alike c = λ a from to.

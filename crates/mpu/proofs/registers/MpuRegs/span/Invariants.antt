@@ -7,5 +7,6 @@ abbrev pub invariant-loop-number : goal.invariant-loop-number
 invariant-loop-number l = record {
   first : l.span.first ≤ l.address;
   last : l.address ≤ l.span.last;
-  alike : (k : ℕ) → k < l.number → (x : ℕ) → l.span.first ≤ x → x ≤ l.span.last → matches (region l.self k) x ≡ matches (region l.self k) l.address;
+  alike : (k : ℕ) → k < l.number → (x : ℕ) → l.span.first ≤ x → x ≤ l.span.last
+      → matches (region l.self k) x ≡ matches (region l.self k) l.address;
 }
