@@ -2,3 +2,4 @@ pub mod Cuts
 pub mod Owned
 pub mod Halves
 pub mod Deciding
+pub mod Alike

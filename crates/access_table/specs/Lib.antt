@@ -1,3 +1,4 @@
 pub mod Boundaries
 pub mod Intervals
 pub mod Tables
+pub mod Windows

@@ -4,10 +4,12 @@
 
 mod boundaries;
 mod interval;
+mod kept_decisions;
 mod search;
 mod sweep;
 mod table;
 
 pub use interval::Interval;
+pub use kept_decisions::KeptDecisions;
 pub use mpu::{Decider, Decision, Kind, MpuRegs, Rule};
 pub use table::Table;

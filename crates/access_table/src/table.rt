@@ -10,7 +10,9 @@ ghost use Rattle.reference.specs.Rules.{by_owner};
 use crate::interval::Interval;
 use crate::search::find_in;
 use crate::sweep::{Intervals, intervals_of};
-use mpu::{Decider, Decision, Kind, MpuRegs, Rights, before_regions, by_region, without_region};
+use mpu::{
+    Decider, Decision, Kind, MpuRegs, Rights, Span, before_regions, by_region, without_region,
+};
 use std::marker::Model;
 
 /// How many regions the table has a place for.
@@ -103,6 +105,16 @@ impl Decider for Table {
             Some(decision) => decision,
             None => self.by_interval(address, kind, privileged),
         }
+    }
+
+    fn span(&self, address: u32) -> Span {
+        let (place, _) = self.find(address);
+        let Interval {
+            first,
+            last,
+            region: _,
+        } = self.spans[place];
+        Span { first, last }
     }
 }
 

@@ -81,14 +81,10 @@ impl<D: Decider, L: Levels, U: DueTicks> Processor<D, L, U> {
     pub fn explain(&self, address: u32, privileged: bool, kind: Kind) -> Decision
         ensures { result ≡ decision_of self.now.bus.system.mpu address kind privileged (is_below_zero self.now.bus.system.nvic) }
     {
-        self.bus().decide(&Request {
-            access: Access {
-                address,
-                kind,
-                size: Size::Byte,
-                privileged,
-            },
-            value: 0,
-        })
+        let system = &self.bus().system;
+        let below_zero = system.levels().is_below_zero();
+        system
+            .decider()
+            .decide(address, kind, privileged, below_zero)
     }
 }

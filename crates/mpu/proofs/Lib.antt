@@ -1,4 +1,5 @@
 pub mod Belonging
+pub mod Blocks
 pub mod Cases
 pub mod Eighths
 pub mod Owner

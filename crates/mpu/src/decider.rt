@@ -1,11 +1,13 @@
 //! What decides an access by the registers of the MPU, however it keeps them.
 
-ghost use Rattle.std.specs.Prelude.{◌≡◌};
+ghost use Rattle.std.specs.Prelude.{◌≡◌, ◌≤◌};
+ghost use Rattle.mpu.specs.Spans.{BelongTo};
 ghost use Rattle.reference.specs.Regions.{Mpu, owner};
 ghost use Rattle.reference.specs.Rules.{by_owner, decision_of};
 
 use crate::registers::MpuRegs;
 use crate::rules::{Rights, before_regions, by_region, without_region};
+use crate::spans::Span;
 use reference::access::{Decision, Kind};
 
 /// What decides each access, and stands for the registers that it was last told.
@@ -25,6 +27,27 @@ pub trait Decider: Drop {
     /// whether it grants it. `below_zero` says whether the execution priority is below 0.
     fn decide(&self, address: u32, kind: Kind, privileged: bool, below_zero: bool) -> Decision
         ensures { (m : Mpu) → stands_for self.now m → result ≡ decision_of m address kind privileged below_zero };
+
+    /// Decides as `decide` does, and may keep the decision for the addresses near this one.
+    #[inline(always)]
+    fn decide_and_keep(
+        &mut self,
+        address: u32,
+        kind: Kind,
+        privileged: bool,
+        below_zero: bool,
+    ) -> Decision
+        ensures value { (m : Mpu) → stands_for self.old m → result ≡ decision_of m address kind privileged below_zero }
+        ensures kept { (m : Mpu) → stands_for self.old m → stands_for self.new m }
+    {
+        self.decide(address, kind, privileged, below_zero)
+    }
+
+    /// Returns addresses about one that all belong to its region, or to none as it does.
+    fn span(&self, address: u32) -> Span
+        ensures first { result.first ≤ address }
+        ensures last { address ≤ result.last }
+        ensures alike { (m : Mpu) → stands_for self.now m → BelongTo m result.first result.last (owner m address) };
 }
 
 /// Keeps the registers, and searches the regions at each access, from the highest downward.
@@ -54,6 +77,10 @@ impl Decider for Search {
             Some(decision) => decision,
             None => by_regions(registers, address, kind, privileged),
         }
+    }
+
+    fn span(&self, address: u32) -> Span {
+        self.registers.span(address)
     }
 }
 

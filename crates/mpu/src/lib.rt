@@ -7,6 +7,7 @@ pub mod laws;
 mod regions;
 mod registers;
 mod rules;
+mod spans;
 
 pub use decider::{Decider, Search};
 pub use reference::access::{Decision, Kind, Rule};
@@ -14,3 +15,4 @@ pub use reference::mpu::{MpuRegister, MpuStop, Region};
 pub use regions::{is_enabled, size, switched_off};
 pub use registers::{MpuRegs, register_at, stop_of};
 pub use rules::{Rights, before_regions, by_region, without_region};
+pub use spans::Span;

@@ -70,7 +70,7 @@ pub fn matches(region: Region, address: u32) -> bool
 
 /// Whether an address and the region's base agree in the bits that its size leaves.
 #[inline]
-fn agrees(region: Region, address: u32) -> bool
+pub(crate) fn agrees(region: Region, address: u32) -> bool
     ensures { result ≡ agrees region address }
 {
     let bits = size(region.attributes) + 1;

@@ -1,9 +1,11 @@
 //! The registers, their reads and their writes.
 
-ghost use Rattle.std.specs.Prelude.{◌≡◌, ◌+◌, ◌%◌, ◌<◌, ◌⊎◌, true, IfSome};
+ghost use Rattle.std.specs.Prelude.{◌≡◌, ◌+◌, ◌%◌, ◌<◌, ◌≤◌, ◌⊎◌, true, IfSome};
+ghost use Rattle.mpu.specs.Spans.{BelongTo};
 ghost use Rattle.reference.specs.Regions.{fresh, read, write, left, answered, shown, region as region_of, with_base, with_attributes, selected, write_control, write_base, based, write_attributes, is_taken, owner, register_at, stop_of};
 
 use crate::regions::{is_bit, is_taken, matches};
+use crate::spans::{Span, cut};
 use reference::mpu::{MpuRegister, MpuStop, Region};
 use reference::stop::{Stop, UnpredictableCase};
 use std::marker::Model;
@@ -231,6 +233,22 @@ impl MpuRegs {
             }
         }
         None
+    }
+
+    /// Returns addresses about one that all belong to its region, or to none as it does.
+    pub fn span(&self, address: u32) -> Span
+        ensures first { result.first ≤ address }
+        ensures last { address ≤ result.last }
+        ensures alike { BelongTo self.now result.first result.last (owner self.now address) }
+    {
+        let mut span = Span {
+            first: 0,
+            last: 0xFFFF_FFFF,
+        };
+        for number in 0..self.count() {
+            span = cut(self.at(number), address, span);
+        }
+        span
     }
 }
 

@@ -7,8 +7,9 @@ ghost use Rattle.reference.specs.System.{reset_system, after_tick, deactivated, 
 ghost use Rattle.reference.specs.Interrupts.{write_priorities as write_priorities_of};
 ghost use Rattle.reference.specs.Kinds.{bytes_in};
 ghost use Rattle.reference.specs.Regions.{shown, write as write_mpu_of};
-ghost use Rattle.reference.specs.Priorities.{is_due, with_due, with_pending, with_active, with_faultmask};
+ghost use Rattle.reference.specs.Priorities.{is_below_zero, is_due, with_due, with_pending, with_active, with_faultmask};
 ghost use Rattle.reference.specs.Registers.{is_privileged};
+ghost use Rattle.reference.specs.Rules.{decision_of};
 ghost use Rattle.reference.specs.SpecialRegisters.{read_special as read_special_of, write_special as write_special_of, write_mask as write_mask_of, change_state as change_state_of, with_special, with_mask};
 ghost use Rattle.reference.specs.Status.{with_fault_bits, with_mmfar, with_bfar};
 ghost use Rattle.scs.specs.Writes.{left, answered};
@@ -25,7 +26,7 @@ use crate::systick::{read_systick, write_systick};
 use clock::{Clock, Due, DueTicks, ScriptedEvent};
 use mpu::{Decider, MpuRegister, MpuRegs, stop_of};
 use nvic::{Levels, Masks};
-use reference::access::{Answer, Request};
+use reference::access::{Access, Answer, Decision, Request};
 use reference::exception::FIRST_LINE;
 use reference::operands::{ChangeProcessorState, SpecialRegister};
 use reference::stop::{LeftOut, Stop};
@@ -144,6 +145,18 @@ impl<D: Decider, L: Levels, U: DueTicks> System<D, L, U> {
         ensures { D.stands_for result.now self.now.mpu }
     {
         &self.decider
+    }
+
+    /// Returns the rule that decides an access at the execution priority of this moment, and whether
+    /// it grants it.
+    #[inline(always)]
+    pub fn decide(&mut self, access: &Access) -> Decision
+        ensures value { result ≡ decision_of self.old.mpu access.now.address access.now.kind access.now.privileged (is_below_zero self.old.nvic) }
+        ensures same { self.new ≡ self.old }
+    {
+        let below_zero = self.levels.is_below_zero();
+        self.decider
+            .decide_and_keep(access.address, access.kind, access.privileged, below_zero)
     }
 
     /// Returns VTOR, SCR, CCR and the registers of faults.

@@ -1,0 +1,117 @@
+//! The addresses near one that belong to the same region.
+
+ghost use Rattle.std.specs.Prelude.{◌≡◌, ◌≤◌, ◌/◌, ◌^◌, ◌+◌, ◌*◌, ℕ, false};
+ghost use Rattle.mpu.specs.Spans.{grain};
+ghost use Rattle.reference.specs.Regions.{agrees, matches};
+
+use crate::regions::{agrees, is_enabled, size, switched_off};
+use reference::mpu::Region;
+
+/// Addresses from the first to the last, with both.
+#[derive(Clone, Copy)]
+pub struct Span {
+    pub first: u32,
+    pub last: u32,
+}
+
+/// Addresses that agree in their upper bits: from the first to before the next.
+#[derive(Clone, Copy)]
+struct Block {
+    first: u64,
+    next: u64,
+}
+
+/// Returns the addresses that differ from this one in the `bits` low bits at most.
+#[inline]
+fn block_of(address: u32, bits: u32) -> Block
+    requires { bits ≤ 32 }
+    ensures first { result.first ≡ address / 2 ^ bits * 2 ^ bits }
+    ensures next { result.next ≡ address / 2 ^ bits * 2 ^ bits + 2 ^ bits }
+{
+    let unit = 1u64 << bits;
+    let first = (u64::from(address) >> bits) * unit;
+    Block {
+        first,
+        next: first + unit,
+    }
+}
+
+/// Returns the part of a span, about an address, of which a region has all addresses or none.
+#[inline]
+pub(crate) fn cut(region: Region, address: u32, span: Span) -> Span
+    requires first { span.first ≤ address }
+    requires last { address ≤ span.last }
+    ensures first { result.first ≤ address }
+    ensures last { address ≤ result.last }
+    ensures from { span.first ≤ result.first }
+    ensures to { result.last ≤ span.last }
+    ensures alike { (a : ℕ) → result.first ≤ a → a ≤ result.last → matches region a ≡ matches region address }
+{
+    if !is_enabled(region.attributes) {
+        return span;
+    }
+    if agrees(region, address) {
+        cut_inside(region, address, span)
+    } else {
+        cut_outside(region, address, span)
+    }
+}
+
+/// Cuts at the ends of the region, or of the eighth of it, to which the address belongs.
+#[inline]
+fn cut_inside(region: Region, address: u32, span: Span) -> Span
+    requires first { span.first ≤ address }
+    requires last { address ≤ span.last }
+    ensures first { result.first ≤ address }
+    ensures last { address ≤ result.last }
+    ensures from { span.first ≤ result.first }
+    ensures to { result.last ≤ span.last }
+    ensures alike { (a : ℕ) → result.first ≤ a → a ≤ result.last → matches region a ≡ matches region address }
+{
+    let near = block_of(address, grain(region.attributes));
+    Span {
+        first: u64::from(span.first).max(near.first) as u32,
+        last: u64::from(span.last).min(near.next - 1) as u32,
+    }
+}
+
+/// Returns the number of low bits in which addresses differ that a region, or an eighth of it, has
+/// alike.
+#[inline]
+fn grain(attributes: u32) -> u32
+    ensures value { result ≡ grain attributes }
+    ensures small { result ≤ 32 }
+{
+    let size = size(attributes);
+    if size >= 7 && switched_off(attributes) != 0 {
+        size - 2
+    } else {
+        size + 1
+    }
+}
+
+/// Cuts at the end of a region, before or after which the address is.
+#[inline]
+fn cut_outside(region: Region, address: u32, span: Span) -> Span
+    requires outside { agrees region address ≡ false }
+    requires first { span.first ≤ address }
+    requires last { address ≤ span.last }
+    ensures first { result.first ≤ address }
+    ensures last { address ≤ result.last }
+    ensures from { span.first ≤ result.first }
+    ensures to { result.last ≤ span.last }
+    ensures alike { (a : ℕ) → result.first ≤ a → a ≤ result.last → matches region a ≡ matches region address }
+{
+    let far = block_of(region.base, size(region.attributes) + 1);
+    if u64::from(address) < far.first {
+        Span {
+            first: span.first,
+            last: u64::from(span.last).min(far.first - 1) as u32,
+        }
+    } else {
+        Span {
+            first: u64::from(span.first).max(far.next) as u32,
+            last: span.last,
+        }
+    }
+}
