@@ -21,7 +21,7 @@ use crate::run::run_core;
 use crate::start::start_core;
 use crate::stepping::Processor;
 use access::{Ahead, Counting, Decider, DueTicks, Levels, PlainLevels, Search};
-use access_table::Table;
+use access_table::{KeptDecisions, Table};
 use bit_levels::{BitLevels, KeptAnswers};
 use board::Board;
 use decode::Memo;
@@ -58,10 +58,11 @@ pub struct Machine<D: Decider, L: Levels, U: DueTicks> {
 /// tick.
 pub type Slow = Machine<Search, PlainLevels, Counting>;
 
-/// The machine that finds the deciding region in a table, keeps the exceptions in sets of bits with the
-/// best of them and the least active priority beside them, and knows the next tick at which something
-/// is due. Its steps are those of `Slow`, by the same contracts.
-pub type Fast = Machine<Table, KeptAnswers<BitLevels>, Ahead>;
+/// The machine that finds the deciding region in a table and keeps its decisions for the addresses
+/// near, keeps the exceptions in sets of bits with the best of them and the least active priority
+/// beside them, and knows the next tick at which something is due. Its steps are those of `Slow`, by
+/// the same contracts.
+pub type Fast = Machine<KeptDecisions<Table>, KeptAnswers<BitLevels>, Ahead>;
 
 impl<D: Decider, L: Levels, U: DueTicks> Model for Machine<D, L, U> {
     ghost use Rattle.machine.specs.Whole.{Whole};
