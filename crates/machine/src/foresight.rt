@@ -9,7 +9,7 @@ ghost use Rattle.reference.specs.Step.{sleeps_on};
 
 use crate::stepping::{CLOCK_END, Processor};
 use access::{Decider, DueTicks, Levels};
-use reference::access::{Access, Decision, Kind, Request, Size};
+use reference::access::{Decision, Kind};
 
 /// What a step does after its tick.
 #[derive(Clone, Copy)]
