@@ -15,13 +15,16 @@ A page is README.md, CONTRIBUTING.md, docs/*.md or crates/*/README.md. A name is
     `command word ..`        the files in it
 
 In a table with a column "Definition", "Function" or "Test", a chapter or a crate ahead of a name says where the name
-has to be: "Step `running`", "exec `plan`", "test_runs `short_runs`". The links of all pages are checked too.
+has to be: "Step `running`", "exec `plan`", "test_runs `short_runs`". The links of all pages are checked too. Without a
+page, the manual page docs/marm.1 is formatted too, by `groff -ww` and `man --warnings` where they are installed: each
+warning is an error.
 """
 
 import fnmatch
 import glob
 import os
 import re
+import shutil
 import subprocess
 import sys
 
@@ -30,7 +33,7 @@ TOP = os.path.dirname(os.path.dirname(os.path.abspath(__file__)))
 # ---- what is no name of the repository -------------------------------------------------------------------------
 
 # programs, and the first words of commands
-COMMANDS = set("""rt make man python3 valgrind taskset ld.lld arm-none-eabi-ld arm-none-eabi-gcc clang gcc git apt-get
+COMMANDS = set("""rt make man groff python3 valgrind taskset ld.lld arm-none-eabi-ld arm-none-eabi-gcc clang gcc git apt-get
 llvm-readelf llvm-objdump llvm-mc llvm-objcopy qemu-system-arm readelf awk date""".split())
 
 # what `rt` takes: its words and options
@@ -368,6 +371,27 @@ def lists(repo):
     return lost
 
 
+MANUAL_PAGE = "docs/marm.1"
+
+# what formats the manual page, and writes its warnings to standard error
+FORMATTERS = (["groff", "-ww", "-man", "-Tutf8", "-z", MANUAL_PAGE],
+              ["man", "--warnings", "-E", "UTF-8", "-l", "-Tutf8", "-Z", MANUAL_PAGE])
+
+
+def manual_page():
+    """Returns the warnings about the manual page, of each formatter that is installed."""
+    found = []
+    for command in FORMATTERS:
+        if shutil.which(command[0]) is None:
+            continue
+        ended = subprocess.run(command, cwd=TOP, capture_output=True, text=True, stdin=subprocess.DEVNULL)
+        warnings = [line for line in ended.stderr.splitlines() if line.strip()]
+        if ended.returncode and not warnings:
+            warnings = [f"{command[0]} ends with status {ended.returncode}"]
+        found += warnings
+    return found
+
+
 def pages():
     found = ["README.md", "CONTRIBUTING.md"]
     for pattern in ("docs/*.md", "crates/*/README.md"):
@@ -385,6 +409,9 @@ def main():
             count += 1
     for page, name in lists(repo) if not sys.argv[1:] else []:
         print(f"{page}:1: {name} (left out of its list, or not there)")
+        count += 1
+    for warning in manual_page() if not sys.argv[1:] else []:
+        print(f"{MANUAL_PAGE}: {warning}")
         count += 1
     sys.exit(1 if count else 0)
 
