@@ -22,7 +22,7 @@ abbrev pub of_kind : {A : Type 0} → Option A → Result A BoardFault
 of_kind None = Err WrongKind
 of_kind (Some value) = Ok value
 
--- an integer that isn't negative
+-- an integer that isn't negative: a whole number (`is_whole` in `Boards` is about whole blocks)
 abbrev pub whole : Option ℤ → Result ℕ BoardFault
 whole None = Err WrongKind
 whole (Some (pos n)) = Ok n

@@ -94,7 +94,7 @@ replicated pattern byte =
     else if pattern == 2 then byte * 2 ^ 24 + byte * 2 ^ 8
     else byte * 2 ^ 24 + byte * 2 ^ 16 + byte * 2 ^ 8 + byte
 
--- a pattern of a byte, with the carry as it was, where it isn't a replicated byte of 0: that is UNPREDICTABLE
+-- the byte in its pattern, with the carry unchanged; `None` (UNPREDICTABLE) for a replicated byte of 0
 abbrev pub expand_pattern : ℕ → ℕ → Bool → Option (ℕ × Bool)
 expand_pattern pattern byte c =
     if byte == 0 && not (pattern == 0) then None else Some (replicated pattern byte, c)

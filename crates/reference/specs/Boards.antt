@@ -52,7 +52,7 @@ most_events = 65536
 abbrev pub first_tick : ℕ
 first_tick = 1
 
--- a number of whole blocks
+-- a number of bytes that is a multiple of `block`: a whole number of blocks
 abbrev pub is_whole : ℕ → Bool
 is_whole bytes = bytes % block == 0
 

@@ -36,7 +36,7 @@ icsr n x =
     + weighed (is_in n.pending PEND_SV) (2 ^ 28)
     + weighed (is_in n.pending NMI) (2 ^ 31)
 
--- an exception after a write of its set bit and its clear bit, of which at most one is 1
+-- the exceptions after a write of x's set bit and clear bit; not both are 1
 abbrev pub set_or_cleared : Nvic → ℕ → Bool → Bool → Nvic
 set_or_cleared n x set clear =
     if set then with_pending n x true else if clear then with_pending n x false else n

@@ -87,7 +87,7 @@ exception_taken s e x =
     let answer = perform s.registers.exception s.bus q in
     vector_taken (with_bus s answer.bus) (told s.bus.system.time.ticks q answer.performed) x e (value_of q answer.performed)
 
--- the candidate of this moment is taken: in the entry phase there always is one
+-- the candidate of this moment is taken. One is expected to exist; without one the step does nothing after its tick
 abbrev pub taken_if_any : State → ℕ → Option ℕ → Stepped
 taken_if_any s e None = record { state = s; events = [] }
 taken_if_any s e (Some x) = exception_taken s e x

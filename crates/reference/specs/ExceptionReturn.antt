@@ -1,5 +1,5 @@
 -- Exception return (ARM DDI 0403, ExceptionReturn(), DeActivate() and PopStack(); where it stops by name, and that a fault of
--- a return begins an entry at once, is the profile's). The phases read from the last one up.
+-- a return begins an entry at once, is the profile's). Read this file from its last function upward.
 use Rattle.std.specs.Prelude.{ℕ, Bool, true, false, not, ◌&&◌, ◌||◌, ◌==◌, if◌then◌else◌, List, [], ◌∷◌, ◌++◌, Option, Some, None, replicate}
 use Rattle.reference.specs.declared.access.Kind.TheVariants.{Pop}
 use Rattle.reference.specs.declared.access.Request.{Request}
@@ -28,7 +28,7 @@ with_entry s e = record s { entry = Some e }
 
 -- ---- PopStack()
 
--- the mode that EXC_RETURN names is that of the number in the frame
+-- EXC_RETURN's mode agrees with the popped IPSR: Handler exactly where it isn't 0
 abbrev pub fits_mode : ℕ → List ℕ → Bool
 fits_mode e frame =
     if returns_to_handler e then not (popped_exception frame == 0) else popped_exception frame == 0
@@ -71,7 +71,7 @@ abbrev pub returned : State → List Event → ℕ → Bool → Stepped
 returned s events e true = chained s events e (candidate s.bus.system.nvic)
 returned s events e false = failed (with_entry s e) events (Usage InvalidReturn)
 
--- DeActivate(), and FAULTMASK is 0 but after NMI
+-- DeActivate(), and FAULTMASK is cleared, unless NMI returns
 abbrev pub exception_ended : System → ℕ → System
 exception_ended t x =
     let after = deactivated t x in

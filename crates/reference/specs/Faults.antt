@@ -38,8 +38,8 @@ usage_fault bit = record { exception = USAGE_FAULT; cfsr = bit; hfsr = 0; addres
 abbrev pub vector_fault : FaultEffect
 vector_fault = record { exception = HARD_FAULT; cfsr = 0; hfsr = VECTTBL; address = NotKept }
 
--- of an access at an address, by what it was for and what refused it; the rule `vec` refuses no read of a vector,
--- and the bus is asked for no probe
+-- the fault of a refused access at an address, by what it was for and what refused it. `Vector Mpu` and `Probe Bus`
+-- never occur: the rule `vec` grants every read of a vector, and the bus isn't asked for a probe
 abbrev pub access_fault : Kind → Cause → ℕ → FaultEffect
 access_fault Fetch Mpu address = mem_manage IACCVIOL NotKept
 access_fault Load Mpu address = mem_manage (DACCVIOL + MMARVALID) (Mmfar address)
@@ -111,11 +111,11 @@ escalated s events x Itself = pended_by_fault s events x
 escalated s events x HardFault = forced s events
 escalated s events x Lockup = locked_up s events
 
--- a fault is recorded, and its exception pended by the priority of this moment
+-- a fault is recorded; its exception, HardFault or lockup follows, judged at the current execution priority
 unfoldable pub faulted : State → List Event → FaultEffect → Stepped
 faulted s events f = escalated (recorded s f) events f.exception (escalation s.bus.system.nvic f.exception)
 
--- the access or the instruction is a fault, or the machine stops in it
+-- an access was refused or the instruction faults; or the machine stops by name
 abbrev pub failed : State → List Event → Failure → Stepped
 failed s events (failure.Refused access cause) = faulted s events (fault_of access cause)
 failed s events (failure.Usage fault) = faulted s events (usage_fault_of fault)

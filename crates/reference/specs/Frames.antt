@@ -41,7 +41,7 @@ frame r =
     slice_index r.general 0 ∷ slice_index r.general 1 ∷ slice_index r.general 2 ∷ slice_index r.general 3
     ∷ slice_index r.general 12 ∷ r.lr ∷ r.pc ∷ pushed_xpsr r ∷ []
 
--- SP is below the frame
+-- SP is the address of the frame, which is that of its lowest word
 abbrev pub with_frame : Registers → Registers
 with_frame r = with_sp r (frame_base (sp r))
 

@@ -99,7 +99,7 @@ segments_of file at (suc n) =
     else if nat_lt (length file) (segment_end file at) then Err SegmentOutsideFile
     else in_front (segment_at file at) rest
 
--- a segment's addresses end before this one, in whole numbers: they don't go round past FFFFFFFF
+-- the first address after the segment, as a whole number: it doesn't wrap at 2^32
 abbrev pub target_end : Segment → ℕ
 target_end segment = segment.address + length segment.bytes
 

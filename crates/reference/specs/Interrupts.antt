@@ -1,6 +1,6 @@
 -- The registers of the external interrupts (ARM DDI 0403, "Nested Vectored Interrupt Controller": "Interrupt Controller
 -- Type Register", "Interrupt Set-Enable Registers" and those that follow, "Software Triggered Interrupt Register"). An
--- interrupt that the board hasn't reads 0 and ignores writes, since no set has it and no change reaches it.
+-- interrupt that the board doesn't have reads 0 and ignores writes, since no set has it and no change reaches it.
 use Rattle.std.specs.Prelude.{ℕ, zero, suc, ◌+◌, ◌-◌, ◌*◌, ◌/◌, ◌%◌, ◌^◌, Bool, true, false, ◌&&◌, ◌==◌, nat_le, nat_lt, if◌then◌else◌, slice_index, Option, Some, None}
 use Rattle.reference.specs.declared.exception.TheConstants.{FIRST_LINE, MOST_LINES}
 use Rattle.reference.specs.declared.system.InterruptRegister.{InterruptRegister}
@@ -41,7 +41,7 @@ is_shown n Ispr x = is_in n.pending x
 is_shown n Icpr x = is_in n.pending x
 is_shown n Iabr x = is_in n.active x
 
--- the lowest bits of a word of which bit 0 is that of exception x
+-- the low bits of a word whose bit 0 is exception x, as many as the last argument says
 unfoldable pub shown_below : Nvic → InterruptRegister → ℕ → ℕ → ℕ
 shown_below n register x zero = 0
 shown_below n register x (suc bit) = shown_below n register x bit + weighed (is_shown n register (x + bit)) (2 ^ bit)
@@ -57,7 +57,7 @@ with_one n Ispr x = with_pending n x true
 with_one n Icpr x = with_pending n x false
 with_one n Iabr x = n
 
--- what one bit of a value does, of which bit 0 is that of exception x
+-- what bit `bit` of a value does, where bit 0 of the value is exception x
 unfoldable pub with_bit : Nvic → InterruptRegister → ℕ → ℕ → ℕ → Nvic
 with_bit n register x value bit = if is_bit value bit then with_one n register (x + bit) else n
 

@@ -83,7 +83,7 @@ byte_requests kind privileged address [] = []
 byte_requests kind privileged address (byte ∷ bytes) =
     request kind privileged Byte address byte ∷ byte_requests kind privileged (word_sum address 1) bytes
 
--- whether one of the accesses has an effect of its own
+-- whether one of the accesses is where an access can have a side effect
 abbrev pub meets_device : List Request → Bool
 meets_device requests = list_any (λ q. is_device q.access.address) requests
 

@@ -55,7 +55,7 @@ with_moved_base writes n order list r =
 
 -- ---- accesses
 
--- what the access of a register writes: a store the register, and a load nothing, which is 0
+-- the value written: the register for a store, 0 for a load
 abbrev pub written_word : Kind → ℕ → Registers → ℕ
 written_word kind n r = if is_store kind then register r n else 0
 
@@ -68,12 +68,13 @@ unfoldable pub word_requests : Kind → ℕ → List ℕ → Registers → List 
 word_requests kind address [] r = []
 word_requests kind address (n ∷ ns) r = word_request kind address n r ∷ word_requests kind (word_sum address 4) ns r
 
--- their accesses: MemA[] of an address that isn't a multiple of 4 is UsageFault UNALIGNED, trapped or not
+-- their accesses: MemA[] of an address that isn't a multiple of 4 is UsageFault UNALIGNED, whatever
+-- CCR.UNALIGN_TRP is
 unfoldable pub several : Kind → List ℕ → ℕ → Registers → Result (List Request) Failure
 several kind registers address r =
     if is_aligned Word address then Ok (word_requests kind address registers r) else Err (Usage Unaligned)
 
--- LDRD at the PC: that isn't a multiple of 4 is UNPREDICTABLE
+-- LDRD (literal): UNPREDICTABLE where the PC, as the instruction reads it, isn't a multiple of 4
 abbrev pub load_dual_literal : LoadDualLiteral → Registers → Result (List Request) Failure
 load_dual_literal o r =
     if is_aligned Word (register r 15)
@@ -101,7 +102,8 @@ load_multiple bytes o values r =
 
 -- ---- the family
 
--- what a load or store of several registers asks for
+-- what a load or store of several registers asks for. LoadDual is LDRD (immediate), LoadDualLiteral is LDRD (literal),
+-- and StoreDual is STRD. LoadMultiple is LDM, LDMDB and POP; StoreMultiple is STM, STMDB and PUSH
 unfoldable pub load_store_multiple_requests : LoadStoreMultiple → Registers → Result (List Request) Failure
 load_store_multiple_requests (family.LoadDual o) r =
     several Load (o.first ∷ o.second ∷ []) (immediate_address o.address r) r

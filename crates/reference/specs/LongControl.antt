@@ -17,7 +17,8 @@ use Rattle.reference.specs.Rows.{Letters, Row, long, placed, unless, is_bad}
 use Rattle.reference.specs.SpecialRegisters.{special_of}
 use Rattle.reference.specs.Words.{sign_extended}
 
--- the parts of a branch's offset: S, J1, J2, imm10 or imm6, and imm11
+-- the parts of a branch's offset: S, J1, J2, imm10 or imm6, and imm11. In the rows the letters J, K, j and i stand for
+-- J1, J2, imm10 or imm6, and imm11
 pub record BranchOffset : Type 0 where
   pub sign : ℕ
   pub j1 : ℕ
@@ -149,7 +150,7 @@ b_t4 = record {
   gives = λ f. branch_wide_row (wide_offset (branch_offset f));
 }
 
--- B, encoding T3; the conditions 1110 and 1111 are the rows for control, and otherwise UNDEFINED
+-- B, encoding T3; with condition 111x these halfwords are those of the rows above, or UNDEFINED
 abbrev pub b_t3 : Row
 b_t3 = record {
   places = unspaced (codes "11110 S cccc jjjjjj 10 J 0 K iiiiiiiiiii");

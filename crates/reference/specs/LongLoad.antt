@@ -49,7 +49,7 @@ load_at_row form t address =
     (placed 4 (place_of_load form.size t)
     (LoadStore (LoadImmediate (record { form = form; target = t; address = address; unprivileged = false }))))
 
--- the same as by unprivileged code, which goes neither to SP nor to PC
+-- LDRT and its forms, which refuse SP and PC
 unfoldable pub load_unprivileged_row : LoadForm → ℕ → ImmediateAddress → Decoded
 load_unprivileged_row form t address =
     unless (is_bad t) place.Anywhere cause.Registers

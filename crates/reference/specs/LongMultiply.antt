@@ -93,7 +93,7 @@ sdiv_t1 = record {
   gives = λ f. divide_row (record { signed = f.u == 0; destination = f.d; dividend = f.n; divisor = f.m });
 }
 
--- The instructions of coprocessors
+-- The instructions of coprocessors: all of 111x11.. is NOCP. For 111x1111 the manual is unclear (docs/QEMU.md)
 abbrev pub coprocessor : Row
 coprocessor = record {
   places = unspaced (codes "111 x 11 xx xxxxxxxx xxxxxxxxxxxxxxxx");

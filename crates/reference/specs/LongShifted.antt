@@ -31,8 +31,8 @@ is_lsl Rrx = false
 abbrev pub is_lsl_below : Shift → ℕ → Bool
 is_lsl_below shift bound = is_lsl shift.shift_type && nat_lt shift.amount bound
 
--- an operation on two registers, the second shifted; SP and a register may be written to SP where the shift is LSL by at
--- most 3
+-- an operation on two registers, the second shifted; ADD and SUB may write SP only if the first operand is SP and the
+-- shift is LSL by at most 3
 unfoldable pub data_shifted_row : DataOperation → Bool → ℕ → ℕ → ShiftedRegister → Decoded
 data_shifted_row operation s n d second =
     unless

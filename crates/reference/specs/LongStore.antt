@@ -30,7 +30,7 @@ store_at_row size t address =
     unless (is_refused_store size t || writes_back address.indexing && address.base == t) place.Anywhere cause.Registers
     (long (LoadStore (StoreImmediate (record { size = size; target = t; address = address; unprivileged = false }))))
 
--- the same as by unprivileged code, which stores neither SP nor PC
+-- STRT and its forms, which refuse SP and PC
 unfoldable pub store_unprivileged_row : Size → ℕ → ImmediateAddress → Decoded
 store_unprivileged_row size t address =
     unless (is_bad t) place.Anywhere cause.Registers

@@ -28,6 +28,6 @@ system_base = 0xE000_0000
 abbrev pub is_in_ppb : ℕ → Bool
 is_in_ppb a = a / 2 ^ 20 == 0xE00
 
--- where an access can have an effect of its own: the device window and the Private Peripheral Bus
+-- where an access can have a side effect: the device window and the Private Peripheral Bus
 abbrev pub is_device : ℕ → Bool
 is_device a = is_in_window a || is_in_ppb a

@@ -55,7 +55,8 @@ requests_of traps (Exclusive i) r = exclusive_requests i r
 requests_of traps (Branch i) r = branch_requests traps i r
 requests_of traps (System i) r = Ok []
 
--- the stop of its place in an IT block comes before the condition; nothing is asked for where that fails
+-- the stop of its place in an IT block comes before the condition; where the condition fails, no access is
+-- requested
 unfoldable pub wants : Traps → CodedInstruction → Registers → Result (List Request) Failure
 wants traps i r =
     if is_misplaced i.place r.it then Err (Stop (Unpredictable ItBlock))

@@ -1,4 +1,5 @@
--- Values that are placed into a machine before it runs, without a tick and without a line (profile).
+-- Values that are placed into a machine from outside, in Thread mode, between steps. A placement takes no tick and has
+-- no line (profile).
 use Rattle.std.specs.Prelude.{ℕ, ◌%◌, Bool, true, not, ◌||◌, nat_lt, ◌==◌, if◌then◌else◌, is_some, Option, Some, None, Result, Ok, Err}
 use Rattle.reference.specs.declared.access.Answer.{Answer}
 use Rattle.reference.specs.declared.access.Answer.TheVariants as answer
@@ -51,7 +52,7 @@ stored_in_ppb s a = register_taken s a.bus a.answer
 abbrev pub store_of : ℕ → ℕ → Request
 store_of address value = request Store true size.Word address value
 
--- what a machine that runs takes
+-- the state with the value in it, for a machine that takes values
 abbrev pub taken : State → Place → Result State PlaceFault
 taken s (Reg number value) = Ok (with_registers s (with_register s.registers number value))
 taken s (Special number value) = special_taken s (special_of number) value
@@ -60,7 +61,8 @@ taken s (Word address value) =
     then stored_in_ppb s (carried_out s.registers.exception s.bus (store_of address value))
     else Ok (with_bus s (record s.bus { memory = overwritten s.bus.memory address (bytes_of 4 value) }))
 
--- the state with the value in its place, or the first refusal
+-- the state with the value in its place, or the first refusal: `Stopped` is for a machine that has stopped, is in the
+-- entry phase, or is in Handler mode
 unfoldable pub place : State → Place → Result State PlaceFault
 place s p =
     if not (is_word_aligned p) then Err NotAligned

@@ -38,7 +38,7 @@ is_always_enabled x = is_fixed x || (x == SV_CALL) || (x == PEND_SV) || (x == SY
 abbrev pub is_interrupt : ℕ → ℕ → Bool
 is_interrupt lines x = nat_le FIRST_LINE x && nat_lt x (FIRST_LINE + lines)
 
--- these can: MemManage, BusFault and UsageFault by SHCSR, the interrupts by ISER and ICER
+-- these can be enabled and disabled: MemManage, BusFault and UsageFault by SHCSR, the interrupts by ISER and ICER
 abbrev pub is_switched : ℕ → ℕ → Bool
 is_switched lines x = (nat_le MEM_MANAGE x && nat_le x USAGE_FAULT) || is_interrupt lines x
 
@@ -119,7 +119,7 @@ execution_priority n = min (least_active n EXCEPTIONS) (boosted n.group n.masks)
 abbrev pub is_ready : Nvic → ℕ → Bool
 is_ready n x = is_in n.pending x && is_enabled n x
 
--- x where its priority is less than that of the one before it, which has a lower number
+-- x, if there is no `before` or x is more urgent; otherwise `before`: on a tie its lower number decides
 abbrev pub better_of : Nvic → Option ℕ → ℕ → Option ℕ
 better_of n None x = Some x
 better_of n (Some before) x = if nat_lt (priority_of n x) (priority_of n before) then Some x else Some before
@@ -212,7 +212,7 @@ with_faultmask n on = record n { masks = record n.masks { faultmask = on } }
 abbrev pub with_basepri : Nvic → ℕ → Nvic
 with_basepri n b = record n { masks = record n.masks { basepri = kept n.priority_bits b } }
 
--- whether a set of exceptions as eight words has x: bit x mod 32 of word x / 32
+-- whether bit x mod 32 of word x / 32 is 1: whether the set of exceptions that eight words hold has x
 abbrev pub is_due : List ℕ → ℕ → Bool
 is_due due x = is_bit (slice_index due (x / 32)) (x % 32)
 
@@ -220,7 +220,7 @@ is_due due x = is_bit (slice_index due (x / 32)) (x % 32)
 unfoldable pub with_due_at : Nvic → List ℕ → ℕ → Nvic
 with_due_at n due x = if is_due due x then with_pending n x true else n
 
--- those of the exceptions below x become pending that are due
+-- of the exceptions below x, those that are due become pending
 unfoldable pub with_due_below : Nvic → List ℕ → ℕ → Nvic
 with_due_below n due zero = n
 with_due_below n due (suc x) = with_due_at (with_due_below n due x) due x
@@ -233,11 +233,12 @@ with_due n due = with_due_below n due EXCEPTIONS
 unfoldable pub candidate_after : Nvic → List ℕ → Bool → Option ℕ
 candidate_after n due primask = candidate (with_primask (with_due n due) primask)
 
--- what would be the candidate were PRIMASK 0
+-- what would be the candidate if PRIMASK were 0
 unfoldable pub candidate_unmasked : Nvic → Option ℕ
 candidate_unmasked n = candidate (with_primask n false)
 
--- after a reset: nothing is pending, enabled or active, no priority is raised, and nothing is masked
+-- after a reset: nothing is pending, enabled or active, every priority byte is 0, the most urgent, and nothing is
+-- masked
 abbrev pub reset_nvic : ℕ → ℕ → Nvic
 reset_nvic lines bits = record {
   pending = replicate EXCEPTIONS false;

@@ -204,7 +204,7 @@ owner_below m a (suc k) = if matches (region m k) a then Some k else owner_below
 unfoldable pub owner : Mpu → ℕ → Option ℕ
 owner m a = owner_below m a m.count
 
--- The same without a search, in the manual's own words
+-- The same without a search: when an address lies in a region, and when a region is its owner
 
 -- an address lies in a region: ENABLE is 1, the address and the base agree from bit SIZE + 1 upward, and from 256 bytes
 -- upward SRD is 0 at the subregion of the address
@@ -213,7 +213,7 @@ pub record Matches (r : Region) (a : ℕ) : Type 0 where
   pub same_bits : a / 2 ^ (size r.attributes + 1) ≡ r.base / 2 ^ (size r.attributes + 1)
   pub switched_on : 7 ≤ size r.attributes → bit_at r.attributes (8 + subregion r a) ≡ 0
 
--- an address belongs to a region that it lies in where it lies in none above, and to none where it lies in none
+-- the owner is the region of the greatest number that the address lies in; an address in no region has no owner
 abbrev pub IsOwner : Mpu → ℕ → Option ℕ → Type 0
 IsOwner m a None = (k : ℕ) → k < m.count → Matches (region m k) a → ⊥
 IsOwner m a (Some k) =

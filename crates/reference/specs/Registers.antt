@@ -11,7 +11,7 @@ pub record Registers : Type 0 where
   pub msp : ℕ
   pub psp : ℕ
   pub lr : ℕ
-  -- the address of the next instruction
+  -- the address of the instruction that is executed, or between steps that of the next one
   pub pc : ℕ
   -- the flags of APSR
   pub flags : Flags
@@ -26,7 +26,7 @@ pub record Registers : Type 0 where
   -- the local monitor: what the last load exclusive marked, or nothing in the Open Access state
   pub monitor : Option Marked
 
--- Handler mode is where an exception's number stands in IPSR
+-- Handler mode: IPSR isn't 0
 abbrev pub is_handler : Registers → Bool
 is_handler r = not (r.exception == 0)
 
@@ -74,7 +74,7 @@ with_register r n v =
 abbrev pub with_result : Flags → ℕ → Flags
 with_result f v = record f { negative = is_bit v 31; zero = v == 0 }
 
--- 1 for a set bit of that weight
+-- the weight where the bit is set, and 0 otherwise
 abbrev pub weighed : Bool → ℕ → ℕ
 weighed b weight = if b then weight else 0
 

@@ -13,7 +13,7 @@ use Rattle.reference.specs.Patterns.{fits, is_as_printed, field}
 
 -- ---- a row
 
--- the fields of a number by the letters of a row; a letter that the row hasn't is 0
+-- the fields of a number by the letters of a row; a letter that the row doesn't have is 0
 pub record Letters : Type 0 where
   pub a : ℕ
   pub b : ℕ

@@ -63,7 +63,7 @@ abbrev pub may_write : ℕ → Bool → Bool
 may_write ap true = (ap == 1) || (ap == 2) || (ap == 3)
 may_write ap false = ap == 3
 
--- what AP and XN grant: a fetch needs leave to read, and XN 0
+-- what AP and XN grant: a fetch needs read permission, and XN 0
 abbrev pub granted_by : ℕ → Bool → Kind → Bool → Bool
 granted_by ap xn Fetch privileged = may_read ap privileged && not xn
 granted_by ap xn Load privileged = may_read ap privileged
@@ -107,7 +107,7 @@ unfoldable pub decision_of : Mpu → ℕ → Kind → Bool → Bool → Decision
 decision_of m a kind privileged below_zero =
     first_of_two (before_regions m.control a kind below_zero) (by_owner m kind a privileged (owner m a))
 
--- The same without an order of work: a table of cases, of which the first that fits decides
+-- The same as a table: the first case that fits decides
 
 -- an access that is to be decided
 pub record Asked : Type 0 where

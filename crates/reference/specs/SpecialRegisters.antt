@@ -1,5 +1,5 @@
 -- The special registers: what MRS reads, and what MSR and CPS write (ARM DDI 0403, the operation of MRS, MSR and CPS).
--- Registers and masks are apart: the first are those of `Registers`, the second those of `Priorities`.
+-- The stack pointers, CONTROL and the parts of xPSR are in fields of `Registers`. The masks are in `Nvic`.
 use Rattle.std.specs.Prelude.{ℕ, ◌+◌, ◌*◌, ◌/◌, ◌%◌, ◌^◌, Bool, true, false, not, ◌&&◌, ◌||◌, ◌==◌, nat_lt, if◌then◌else◌, Option, Some, None}
 use Rattle.reference.specs.declared.exception.Masks.{Masks}
 use Rattle.reference.specs.declared.operands.ChangeProcessorState.{ChangeProcessorState}
@@ -126,7 +126,7 @@ faultmask_written n on =
 abbrev pub is_tighter : ℕ → ℕ → Bool
 is_tighter basepri value = not (value == 0) && (nat_lt value basepri || (basepri == 0))
 
--- BASEPRI_MAX is written, of a value of which the implemented bits count
+-- a write to BASEPRI_MAX: only the implemented bits of the value are compared
 unfoldable pub basepri_max_written : Nvic → ℕ → Nvic
 basepri_max_written n byte =
     if is_tighter n.masks.basepri (kept n.priority_bits byte) then with_basepri n byte else n

@@ -1,5 +1,4 @@
--- The state of the machine: a record of chapters, each of which has its own file or crate. Nothing that can be worked
--- out from it is kept in it.
+-- The state of the machine: one field for each part below. No field repeats what others determine.
 use Rattle.std.specs.Prelude.{ℕ, Bool, List, Option, Some}
 use Rattle.reference.specs.declared.event.Event.{Event}
 use Rattle.reference.specs.declared.stop.Stop.{Stop}
@@ -37,11 +36,11 @@ with_registers s r = record s { registers = r }
 abbrev pub with_system : State → System → State
 with_system s system = with_bus s (record s.bus { system = system })
 
--- other exceptions or masks
+-- the state with this `Nvic`
 abbrev pub with_exceptions : State → Nvic → State
 with_exceptions s n = with_system s (record s.bus.system { nvic = n })
 
--- a tick
+-- the state after one tick of the system registers
 abbrev pub ticked : State → State
 ticked s = with_system s (after_tick s.bus.system)
 

@@ -58,7 +58,7 @@ reset_status flash_base = record {
   bfar = 0;
 }
 
--- CCR.NONBASETHRDENA: a return to Thread mode is taken also where another exception is active
+-- CCR.NONBASETHRDENA: a return to Thread mode is allowed even where another exception is active
 abbrev pub nonbasethrdena : Status → Bool
 nonbasethrdena st = is_bit st.ccr 0
 

@@ -42,7 +42,7 @@ reset_system flash_base lines bits regions script = record {
 
 -- ---- the register at an address
 
--- the register that a block has at an address, or what is there where the block has none
+-- the register that a block has at an address, or `otherwise`, if the block has none there
 abbrev pub in_block : {A : Type 0} → (A → SystemRegister) → Option A → SystemRegister → SystemRegister
 in_block named (Some it) otherwise = named it
 in_block named None otherwise = otherwise
@@ -201,16 +201,16 @@ system_access x s q =
 
 -- ---- a tick
 
--- exception x becomes pending where a test holds of it
+-- exception x becomes pending where the test holds for it
 unfoldable pub with_pended_at : Nvic → (ℕ → Bool) → ℕ → Nvic
 with_pended_at n test x = if test x then with_pending n x true else n
 
--- the exceptions below x become pending of which a test holds
+-- every exception below x for which the test holds becomes pending
 unfoldable pub with_pended_below : Nvic → (ℕ → Bool) → ℕ → Nvic
 with_pended_below n test zero = n
 with_pended_below n test (suc x) = with_pended_at (with_pended_below n test x) test x
 
--- all exceptions become pending of which a test holds
+-- every exception for which the test holds becomes pending
 unfoldable pub with_pended : Nvic → (ℕ → Bool) → Nvic
 with_pended n test = with_pended_below n test EXCEPTIONS
 

@@ -43,7 +43,7 @@ line_exception line = FIRST_LINE + line
 abbrev pub reaches_zero : SysTick → Bool
 reaches_zero t = t.enable && (t.current == 1)
 
--- SYST_CVR after the next tick: while SysTick is enabled, 0 is reloaded and any other value falls by one
+-- SYST_CVR after the next tick: while SysTick is enabled, 0 is followed by SYST_RVR, any other value by one less
 abbrev pub next_current : SysTick → ℕ
 next_current t = if t.enable then (if t.current == 0 then t.reload else t.current - 1) else t.current
 
@@ -61,7 +61,7 @@ csr t = weighed t.enable 1 + weighed t.tickint (2 ^ 1) + 2 ^ 2 + weighed t.count
 abbrev pub after_csr_read : SysTick → SysTick
 after_csr_read t = record t { countflag = false }
 
--- a write to SYST_CSR sets ENABLE and TICKINT
+-- a write to SYST_CSR writes ENABLE and TICKINT
 abbrev pub with_csr : SysTick → ℕ → SysTick
 with_csr t v = record t { enable = is_bit v 0; tickint = is_bit v 1 }
 
@@ -138,7 +138,7 @@ tick_pends t n =
 abbrev pub start_time : List ScriptedEvent → Time
 start_time script = record { ticks = 0; systick = reset_systick; high = replicate MOST_LINES false; script = script }
 
--- eight words are those of the set of exceptions with this test
+-- these eight words hold exactly the exceptions for which the test holds
 abbrev pub IsSetOf : List ℕ → (ℕ → Bool) → Type 0
 IsSetOf words test = (n : ℕ) → n < 256 → is_due words n ≡ test n
 
@@ -164,7 +164,7 @@ script_due (e ∷ events) = e.at
 abbrev pub event_applies_next : Time → Bool
 event_applies_next t = nat_le (script_due t.script) (t.ticks + 1)
 
--- the first of both, where the script goes on at a given tick
+-- the earlier of SysTick's due tick and the tick `event` of the script's next event, and `never` at the latest
 abbrev pub next_due : ℕ → SysTick → ℕ → ℕ
 next_due ticks t event = min never (min (timer_due ticks t) event)
 

@@ -5,11 +5,11 @@ use Rattle.std.specs.Prelude.{ℕ, ◌+◌, ◌-◌, ◌/◌, ◌%◌, ◌^◌, 
 abbrev pub word_sum : ℕ → ℕ → ℕ
 word_sum x y = (x + y) % 2 ^ 32
 
--- the word that added to a word takes the other away: its two's complement
+-- -x as a word: the two's complement of x
 unfoldable pub negated : ℕ → ℕ
 negated x = (2 ^ 32 - x) % 2 ^ 32
 
--- the bits of x from the lowest on, so many of them: x<low + width - 1:low>
+-- `width` bits of x from bit `low` upward: x<low + width - 1:low>
 unfoldable pub bits : ℕ → ℕ → ℕ → ℕ
 bits x low width = x / 2 ^ low % 2 ^ width
 

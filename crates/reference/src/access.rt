@@ -99,7 +99,7 @@ impl Size {
     }
 }
 
-/// The rule that decided an access: the first that fits, in the order that docs/REFERENCE.md gives.
+/// The rule that decided an access: the first that fits, in the order that docs/TRACE.md gives under "The rule".
 #[derive(Clone, Copy)]
 pub enum Rule {
     /// A fetch at or above 0xE0000000 is never granted.

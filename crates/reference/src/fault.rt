@@ -62,7 +62,7 @@ pub enum PlaceFault {
     NotAligned,
     /// There is no such register or address.
     NoSuchPlace,
-    /// The machine has stopped, or is in Handler mode.
+    /// The machine has stopped, is in the entry phase, or is in Handler mode.
     Stopped,
     /// The machine would stop so if it were placed.
     Refused(Stop),

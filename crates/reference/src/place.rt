@@ -1,4 +1,4 @@
-//! What may be placed into a machine before it runs.
+//! What may be placed into a machine from outside, in Thread mode, between steps.
 
 /// A place and the value for it.
 #[derive(Clone, Copy)]
