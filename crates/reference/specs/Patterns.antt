@@ -1,8 +1,8 @@
 -- The text of a row, which is one or several encodings of one shape: its places are bits, from the highest down. A
--- place `0` or `1` is a bit that has to have this value. A letter is a bit of the field of that name; where a letter has
--- several runs, they are joined from the highest. A bit at a place `z` should be 0, and one at a place `o` should be 1: the row fits whatever the
--- bit is, and where it has the other value, the encoding is UNPREDICTABLE. A bit at a place `x` is ignored. Blanks are for
--- the eye alone.
+-- place `0` or `1` is a bit that has to have this value. A letter is a bit of the field of that name; where a letter
+-- has several runs, they are joined from the highest. A bit at a place `z` should be 0, and one at a place `o` should
+-- be 1: the row fits whatever the bit is, and where it has the other value, the encoding is UNPREDICTABLE. A bit at a
+-- place `x` is ignored. Blanks are for the eye alone.
 use Rattle.std.specs.Prelude.{ℕ, ◌+◌, ◌*◌, Bool, true, false, ◌&&◌, ◌==◌, if◌then◌else◌, List, [], ◌∷◌, length}
 use Rattle.reference.specs.Words.{bit_at}
 
