@@ -2,6 +2,7 @@
 //! list of ARMv7-M Thumb instructions": the operation of each).
 #![tactic(auto)]
 
+mod at_once;
 mod branches;
 mod exclusives;
 mod finishing;
@@ -12,6 +13,7 @@ mod processing;
 mod program_counter;
 mod system;
 
+pub use at_once::carry_out_at_once;
 pub use finishing::finish;
 pub use planning::{Requests, is_misplaced, plan};
 pub use program_counter::move_on;

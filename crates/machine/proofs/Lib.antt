@@ -1,3 +1,4 @@
+pub mod AtOnce
 mod Foreseen
 mod Loading
 pub mod Running
