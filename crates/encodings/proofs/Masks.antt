@@ -8,7 +8,7 @@ use Rattle.std.proofs.lemmas.Bool.Decides.{nat_tests}
 use Rattle.std.proofs.lemmas.Nat.{and_block, and_mask, and_le_r, pow_pos, pow-add}
 use Rattle.reference.specs.declared.instruction.Decoded.{Decoded}
 use Rattle.reference.specs.Patterns.{place_0, place_1, place_z, place_o, allows, has_bits, fits, field}
-use Rattle.reference.specs.Rows.{Row, letters, applies, as_printed, by_row, by_found, meaning}
+use Rattle.reference.specs.Rows.{Row, letters, applies, as_printed, by_row, by_found}
 use Rattle.encodings.specs.Masks.{mask_bit, value_bit, mask_of, value_of, masked, by_text, excepted, chosen, outcome_of, by_masks, first_of}
 use Rattle.encodings.specs.Runs.{value_at}
 use Rattle.encodings.proofs.Runs.{field_is}
@@ -103,16 +103,12 @@ bits_by_mask clear set (place ∷ places) x =
 
 excepted_by_mask : (texts : List (List ℕ)) (x : ℕ) → list_any (λ text. fits text x) texts ≡ excepted texts x
 excepted_by_mask [] x = refl
-excepted_by_mask (text ∷ texts) x =
-    ap (λ b. b || list_any (λ other. fits other x) texts) (bits_by_mask place_0 place_1 text x)
-    ∙ ap (λ b. by_text place_0 place_1 text x || b) (excepted_by_mask texts x)
+excepted_by_mask (text ∷ texts) x = rw (bits_by_mask place_0 place_1 text x, excepted_by_mask texts x) refl
 
 applies_by_mask : (row : Row) (x : ℕ)
     → applies row x ≡ chosen (by_text place_0 place_1 row.places x) (excepted row.except x)
 unfolding chosen
-applies_by_mask row x =
-    ap (λ b. b && not (list_any (λ text. fits text x) row.except)) (bits_by_mask place_0 place_1 row.places x)
-    ∙ ap (λ b. by_text place_0 place_1 row.places x && not b) (excepted_by_mask row.except x)
+applies_by_mask row x = rw (bits_by_mask place_0 place_1 row.places x, excepted_by_mask row.except x) refl
 
 by_row_is : (row : Row) (x : ℕ) → by_row row x ≡ outcome_of row x
 by_row_is row x =
@@ -120,39 +116,22 @@ by_row_is row x =
     ap (λ b. as_printed b (row.gives (letters (field row.places x)))) (bits_by_mask place_z place_o row.places x)
     ∙ ap (λ f. as_printed (by_text place_z place_o row.places x) (row.gives (letters f))) fields
 
-by_first : (test other : Bool) (row : Row) (x : ℕ) (rest : Option Row) (otherwise given : Decoded) (more : Option Decoded)
+by_first : (test other : Bool) (row : Row) (x : ℕ) (rest : Option Row) (otherwise given after : Decoded) (more : Option Decoded)
     → test ≡ other
     → by_row row x ≡ given
-    → by_found otherwise x rest ≡ first_of more otherwise
-    → by_found otherwise x (if test then Some row else rest) ≡ first_of (if other then Some given else more) otherwise
-by_first true other row x rest otherwise given more e g h = rw (sym e) g
-by_first false other row x rest otherwise given more e g h = rw (sym e) h
+    → by_found otherwise x rest ≡ first_of more after
+    → by_found otherwise x (if test then Some row else rest) ≡ first_of (if other then Some given else more) after
+by_first true other row x rest otherwise given after more e g h = rw (sym e) g
+by_first false other row x rest otherwise given after more e g h = rw (sym e) h
 
-found_by_masks : (rows : List Row) (otherwise : Decoded) (x : ℕ)
-    → by_found otherwise x (find (λ row. applies row x) rows) ≡ first_of (by_masks rows x) otherwise
+-- the row of a table that applies, and otherwise that of the rows after it
+pub found_by_masks : (table rows : List Row) (otherwise : Decoded) (x : ℕ)
+    → by_found otherwise x (find (λ row. applies row x) (table ++ rows))
+    ≡ first_of (by_masks table x) (by_found otherwise x (find (λ row. applies row x) rows))
 unfolding by_masks
-found_by_masks [] otherwise x = refl
-found_by_masks (row ∷ rows) otherwise x =
+found_by_masks [] rows otherwise x = refl
+found_by_masks (row ∷ table) rows otherwise x =
     by_first (applies row x) (chosen (by_text place_0 place_1 row.places x) (excepted row.except x)) row x
-    (find (λ row. applies row x) rows) otherwise (outcome_of row x) (by_masks rows x)
-    (applies_by_mask row x) (by_row_is row x) (found_by_masks rows otherwise x)
-
--- what a number means by rows is what they give by masks
-pub meaning_by_masks : (rows : List Row) (otherwise : Decoded) (x : ℕ) → meaning rows otherwise x ≡ first_of (by_masks rows x) otherwise
-unfolding meaning
-meaning_by_masks rows otherwise x = found_by_masks rows otherwise x
-
-by_more : (test : Bool) (given otherwise : Decoded) (first second both : Option Decoded)
-    → first_of both otherwise ≡ first_of first (first_of second otherwise)
-    → first_of (if test then Some given else both) otherwise ≡ first_of (if test then Some given else first) (first_of second otherwise)
-by_more true given otherwise first second both h = refl
-by_more false given otherwise first second both h = h
-
--- two tables, one after the other
-pub two_tables : (first second : List Row) (otherwise : Decoded) (x : ℕ)
-    → first_of (by_masks (first ++ second) x) otherwise ≡ first_of (by_masks first x) (first_of (by_masks second x) otherwise)
-unfolding by_masks
-two_tables [] second otherwise x = refl
-two_tables (row ∷ rows) second otherwise x =
-    by_more (chosen (by_text place_0 place_1 row.places x) (excepted row.except x)) (outcome_of row x) otherwise (by_masks rows x) (by_masks second x)
-    (by_masks (rows ++ second) x) (two_tables rows second otherwise x)
+    (find (λ row. applies row x) (table ++ rows)) otherwise (outcome_of row x)
+    (by_found otherwise x (find (λ row. applies row x) rows)) (by_masks table x)
+    (applies_by_mask row x) (by_row_is row x) (found_by_masks table rows otherwise x)

@@ -64,18 +64,11 @@ joined_are letter (place ∷ places) x before =
 
 -- ---- the same, as code writes it
 
-bits_are : (x low width : ℕ) → x / 2 ^ low % 2 ^ width ≡ bits x low width
-unfolding bits
-bits_are x low width = refl
-
 value_is : (runs : List Run) (x : ℕ) → joined_bits runs x ≡ joined_runs runs x
+unfolding bits
 value_is [] x = refl
-value_is (run ∷ []) x = omega (arith, bits_are x run.low run.width)
-value_is (run ∷ (next ∷ runs)) x = rw (bits_are x run.low run.width, value_is (next ∷ runs) x) refl
+value_is (run ∷ []) x = omega arith
+value_is (run ∷ (next ∷ runs)) x = rw (value_is (next ∷ runs) x) refl
 
 pub field_is : (places : List ℕ) (x letter : ℕ) → field places x letter ≡ value_at places x letter
-field_is places x letter =
-    let all : joined_field letter places x 0
-    ≡ 0 * 2 ^ width_of (runs_of letter places) + joined_bits (runs_of letter places) x =
-    joined_are letter places x 0 in
-    all ∙ omega (arith, value_is (runs_of letter places) x)
+field_is places x letter = omega (arith, joined_are letter places x 0, value_is (runs_of letter places) x)

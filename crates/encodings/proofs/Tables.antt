@@ -5,20 +5,18 @@ use Rattle.reference.specs.declared.instruction.Decoded.TheVariants.{Undefined}
 use Rattle.reference.specs.Decoding.{rows_of, short_tables, short_meaning, long_tables, long_meaning}
 use Rattle.reference.specs.Rows.{Row, meaning}
 use Rattle.encodings.specs.Masks.{by_masks, first_of}
-use Rattle.encodings.proofs.Masks.{meaning_by_masks, two_tables}
+use Rattle.encodings.proofs.Masks.{found_by_masks}
 
 -- what the first table makes of the number that has a row for it
 abbrev by_tables : List (List Row) → ℕ → Decoded
 by_tables [] x = Undefined
 by_tables (rows ∷ rest) x = first_of (by_masks rows x) (by_tables rest x)
 
-each_table : (list : List (List Row)) (x : ℕ) → first_of (by_masks (rows_of list) x) Undefined ≡ by_tables list x
-unfolding by_masks
-each_table [] x = refl
-each_table (rows ∷ rest) x = two_tables rows (rows_of rest) Undefined x ∙ ap (λ d. first_of (by_masks rows x) d) (each_table rest x)
-
 meaning_by_tables : (list : List (List Row)) (x : ℕ) → meaning (rows_of list) Undefined x ≡ by_tables list x
-meaning_by_tables list x = meaning_by_masks (rows_of list) Undefined x ∙ each_table list x
+unfolding meaning
+meaning_by_tables [] x = refl
+meaning_by_tables (rows ∷ rest) x =
+    found_by_masks rows (rows_of rest) Undefined x ∙ ap (λ d. first_of (by_masks rows x) d) (meaning_by_tables rest x)
 
 pub short_by_tables : (x : ℕ) → short_meaning x ≡ by_tables short_tables x
 unfolding short_meaning
