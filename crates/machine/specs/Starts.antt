@@ -1,4 +1,4 @@
--- How a machine that was started, or into which a value was placed, stands to the definition.
+-- How a started machine, or one with a placed value, relates to the definition.
 use Rattle.std.specs.Prelude.{◌≡◌, false, Result, Ok, Err, IsOk}
 use Rattle.machine.specs.Whole.{Whole}
 use Rattle.reference.specs.declared.fault.PlaceFault.{PlaceFault}

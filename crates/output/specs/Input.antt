@@ -2,8 +2,8 @@
 use Rattle.std.specs.Prelude.{◌≡◌, ℕ, ◌+◌, ◌<◌, ◌≤◌, List, length, take, Option, Result, Ok, Err}
 use Rattle.std.specs.Io.KnownBytes.{Consumes, IsAtEnd, Keeps}
 
--- one call: it gave the bytes that are now at the front of the room, none only at the end of the input or where there is
--- no room; or it failed, which counts, and gave nothing
+-- One call. On Ok, the `given` bytes are now at the front of the room; `given` is 0 only at the end of the input or
+-- where there is no room. On Err, nothing was given, and the count of faults grows by 1.
 abbrev pub Received : {E : Type 0} → Option (List ℕ) → Option (List ℕ) → ℕ → ℕ → List ℕ → Result ℕ E → Type 0
 Received old new before now room (Ok given) =
     (given ≤ length room) × Consumes old new (take given room) × (now ≡ before)

@@ -2,7 +2,7 @@
 use Rattle.std.specs.Prelude.{◌≡◌, ℕ, ◌+◌, ◌≤◌, Bool, not, ◌&&◌, ◌==◌, List, [], ◌∷◌, ◌++◌, length, take, Option, Result, Ok, Err, if◌then◌else◌}
 use Rattle.std.specs.Io.KnownBytes.{Appends, Keeps}
 
--- known bytes grow by what stands before a text, and by a beginning of the text that isn't all of it
+-- the known bytes grow by `before`, followed by `front`, a proper prefix of `text`
 pub record IsCutAfter (old new : Option (List ℕ)) (before text : List ℕ) : Type 0 where
   pub front : List ℕ
   pub byte : ℕ

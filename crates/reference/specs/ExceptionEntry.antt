@@ -35,7 +35,8 @@ pushes r = words_from Push (is_privileged r) (frame_base (sp r)) (frame r)
 abbrev pub entering : State → State
 entering s = record s { registers = with_frame s.registers; asleep = false; entry = Some (exc_return s.registers) }
 
--- a refused push ends the rest of the frame, and the entry goes on (profile)
+-- after a refused push no further word is pushed; its fault is raised, and the entry goes on, unless the machine stops
+-- (profile)
 abbrev pub stacked : State → Served → Option Failure → Stepped
 stacked s all None = record { state = with_bus s all.bus; events = all.events }
 stacked s all (Some why) = failed (with_bus s all.bus) all.events why
@@ -66,8 +67,8 @@ handler_entered s events x e vector = record {
   events = events ++ (record { tick = s.bus.system.time.ticks; what = HandlerEntered x } ∷ []);
 }
 
--- the vector was refused: HardFault becomes pending, the exception stays so, and the entry goes on (profile); it's lockup
--- where the exception was NMI or HardFault
+-- the vector was refused: HardFault becomes pending, x stays pending, and the entry goes on (profile); where x is NMI
+-- or HardFault, it's lockup instead
 abbrev pub vector_refused : State → List Event → ℕ → Stepped
 vector_refused s events x =
     if is_fixed x then locked_up (recorded s vector_fault) events
@@ -87,7 +88,7 @@ exception_taken s e x =
     let answer = perform s.registers.exception s.bus q in
     vector_taken (with_bus s answer.bus) (told s.bus.system.time.ticks q answer.performed) x e (value_of q answer.performed)
 
--- the candidate of this moment is taken. One is expected to exist; without one the step does nothing after its tick
+-- the candidate of this moment is taken; without a candidate the step only ticks, and the entry stays open
 abbrev pub taken_if_any : State → ℕ → Option ℕ → Stepped
 taken_if_any s e None = record { state = s; events = [] }
 taken_if_any s e (Some x) = exception_taken s e x

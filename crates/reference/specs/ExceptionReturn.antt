@@ -1,5 +1,6 @@
--- Exception return (ARM DDI 0403, ExceptionReturn(), DeActivate() and PopStack(); where it stops by name, and that a fault of
--- a return begins an entry at once, is the profile's). Read this file from its last function upward.
+-- Exception return (ARM DDI 0403, ExceptionReturn(), DeActivate() and PopStack(); where it stops by name, and that a
+-- fault raised during a return starts an exception entry in the same step, without a push, is the profile's). Read this
+-- file from its last function upward.
 use Rattle.std.specs.Prelude.{ℕ, Bool, true, false, not, ◌&&◌, ◌||◌, ◌==◌, if◌then◌else◌, List, [], ◌∷◌, ◌++◌, Option, Some, None, replicate}
 use Rattle.reference.specs.declared.access.Kind.TheVariants.{Pop}
 use Rattle.reference.specs.declared.access.Request.{Request}
@@ -71,7 +72,7 @@ abbrev pub returned : State → List Event → ℕ → Bool → Stepped
 returned s events e true = chained s events e (candidate s.bus.system.nvic)
 returned s events e false = failed (with_entry s e) events (Usage InvalidReturn)
 
--- DeActivate(), and FAULTMASK is cleared, unless NMI returns
+-- DeActivate(); FAULTMASK is cleared too, except on a return from NMI
 abbrev pub exception_ended : System → ℕ → System
 exception_ended t x =
     let after = deactivated t x in

@@ -81,7 +81,7 @@ with_status s st = with_system s (record s.bus.system { status = st })
 abbrev pub recorded : State → FaultEffect → State
 recorded s f = with_status s (with_fault_address (with_fault_bits s.bus.system.status f.cfsr f.hfsr) f.address)
 
--- the line of a fault by which this exception became pending, 0 for lockup
+-- the `!` line of a fault: x is the exception that became pending, or 0 for lockup
 abbrev pub fault_line : State → ℕ → Event
 fault_line s x = record {
   tick = s.bus.system.time.ticks;
@@ -123,7 +123,8 @@ failed s events (failure.Stop why) = stopped s events why
 
 -- ---- CallSupervisor()
 
--- SVC moves past itself where SVCall becomes pending, and stays where it becomes HardFault or lockup (profile)
+-- the PC moves past the SVC where SVCall becomes pending; otherwise (HardFault, or lockup) the PC stays at the SVC
+-- (profile)
 abbrev pub supervisor_called_by : State → List Event → Escalation → Stepped
 supervisor_called_by s events Itself =
     record { state = pended (with_registers s (moves_on 2 s.registers).registers) SV_CALL; events = events }

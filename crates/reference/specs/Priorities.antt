@@ -124,7 +124,7 @@ abbrev pub better_of : Nvic → Option ℕ → ℕ → Option ℕ
 better_of n None x = Some x
 better_of n (Some before) x = if nat_lt (priority_of n x) (priority_of n before) then Some x else Some before
 
--- the better of one exception, if there is one, and x, where that is pending and enabled
+-- `before`; or x, where x is pending and enabled, and there is no `before` or x is more urgent
 unfoldable pub with_ready : Nvic → ℕ → Option ℕ → Option ℕ
 with_ready n x before = if is_ready n x then better_of n before x else before
 
@@ -171,7 +171,7 @@ is_interrupt_pending n = some_below (λ x. is_interrupt n.lines x && is_in n.pen
 unfoldable pub is_other_active : Nvic → ℕ → Bool
 is_other_active n x = some_below (λ y. not (y == x) && is_in n.active y) EXCEPTIONS
 
--- a set after x is put into it or taken out: a number that no exception of the board has is left
+-- a set after x is put into it or taken out; it stays unchanged where no exception of the board has the number x
 abbrev pub with_member : ℕ → List Bool → ℕ → Bool → List Bool
 with_member lines set x on = if is_exception lines x then slice_set set x on else set
 
@@ -183,7 +183,7 @@ with_pending n x on = record n { pending = with_member n.lines n.pending x on }
 abbrev pub with_active : Nvic → ℕ → Bool → Nvic
 with_active n x on = record n { active = with_member n.lines n.active x on }
 
--- x is enabled or disabled: one that can't be disabled is left
+-- x is enabled or disabled; nothing changes where x isn't one that can be (`is_switched`)
 abbrev pub with_enabled : Nvic → ℕ → Bool → Nvic
 with_enabled n x on = if is_switched n.lines x then record n { enabled = slice_set n.enabled x on } else n
 
@@ -191,7 +191,7 @@ with_enabled n x on = if is_switched n.lines x then record n { enabled = slice_s
 abbrev pub kept : ℕ → ℕ → ℕ
 kept bits b = b / 2 ^ (8 - bits) * 2 ^ (8 - bits)
 
--- x is given a priority byte: an exception that has none is left
+-- x is given a priority byte, of which the board keeps the top bits; nothing changes where x has none
 abbrev pub with_priority : Nvic → ℕ → ℕ → Nvic
 with_priority n x b =
     if has_byte n.lines x then record n { priorities = slice_set n.priorities x (kept n.priority_bits b) } else n

@@ -113,7 +113,7 @@ abbrev pub write_control : Mpu → ℕ → Result Mpu MpuStop
 write_control m value =
     if is_on_below_zero value && not (is_on value) then Err stop.Control else Ok (record m { control = value % 8 })
 
--- RNR takes the number of a region that there is
+-- RNR takes the number of a region that exists
 abbrev pub selected : Mpu → ℕ → Result Mpu MpuStop
 selected m k = if nat_lt k m.count then Ok (record m { number = k }) else Err stop.Region
 
@@ -121,7 +121,7 @@ selected m k = if nat_lt k m.count then Ok (record m { number = k }) else Err st
 abbrev pub write_number : Mpu → ℕ → Result Mpu MpuStop
 write_number m value = selected m (value % 256)
 
--- the base of the region that RNR holds becomes ADDR, bits 31:5, unless its selection stopped
+-- the selected region's base becomes ADDR, bits 31:5 of the value, unless selecting it stopped
 abbrev pub based : Result Mpu MpuStop → ℕ → Result Mpu MpuStop
 based (Ok m) value = Ok (with_base m m.number (value / 32 * 32))
 based (Err why) value = Err why
@@ -163,7 +163,7 @@ abbrev pub answered : Result Mpu MpuStop → Result (Unit {0}) MpuStop
 answered (Ok n) = Ok tt
 answered (Err why) = Err why
 
--- the stop of the machine that a refused write is
+-- the machine's stop for a write that stops
 abbrev pub stop_of : MpuStop → Stop
 stop_of stop.Region = Unpredictable MpuRegion
 stop_of stop.Control = Unpredictable MpuControl

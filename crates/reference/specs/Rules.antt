@@ -11,8 +11,8 @@ use Rattle.reference.specs.Kinds.{is_fetch, is_vector}
 use Rattle.reference.specs.Map.{system_base, is_in_ppb}
 use Rattle.reference.specs.Regions.{Mpu, region, owner, permission, never_executes, is_on, is_on_below_zero, has_background, IsOwner}
 
--- whether the default map lets code stand there, by address bits 31:29: code, RAM and external RAM, but no device and
--- no system address
+-- whether the default map lets code be executed there, by address bits 31:29: code, RAM and external RAM, but no device
+-- and no system address
 abbrev pub is_executable : ℕ → Bool
 is_executable a = nat_lt (a / 2 ^ 29) 2 || (a / 2 ^ 29 == 3) || (a / 2 ^ 29 == 4)
 

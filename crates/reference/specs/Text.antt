@@ -49,7 +49,7 @@ abbrev pub privilege_text : Bool → List ℕ
 privilege_text true = codes "p"
 privilege_text false = codes "u"
 
--- what refused an access, or that it was carried out
+-- what refused an access, or `ok`
 abbrev pub outcome_text : Option Cause → List ℕ
 outcome_text None = codes "ok"
 outcome_text (Some Mpu) = codes "mpu"
