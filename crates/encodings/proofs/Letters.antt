@@ -1,98 +1,64 @@
--- A row's text, place by place from the highest.
-use Rattle.std.proofs.Common.{◌≡◌, ◌≢◌, ℕ, ◌+◌, ◌-◌, ◌*◌, ◌^◌, ◌<◌, ◌≤◌, nat_le, IsTrue, true, false, ◌==◌, if◌then◌else◌, List, [], ◌∷◌, length, drop, take, get_or, refl, sym, ap, ◌∙◌, arith, length-drop}
+-- The field of a letter, place by place from the highest.
+use Rattle.std.proofs.Common.{◌≡◌, ◌≢◌, ℕ, ◌+◌, ◌-◌, ◌*◌, ◌^◌, ◌<◌, ◌≤◌, nat_le, IsTrue, Bool, true, false, ◌==◌, if◌then◌else◌, List, [], ◌∷◌, length, drop, get_or, refl, sym, ap, ◌∙◌, arith, length-drop}
+use Rattle.std.proofs.Math.Nat.{mod-lt}
 use Rattle.std.proofs.Math.Pow.{pow_mono}
 use Rattle.std.proofs.lemmas.Bool.Decides.{nat_tests}
 use Rattle.std.proofs.lemmas.Grind.{common_steps}
 use Rattle.std.proofs.lemmas.List.{at_drop_more}
-use Rattle.std.proofs.lemmas.List.Sums.{count_by_more_yes, count_by_more_no, count_by-le-length}
-use Rattle.std.proofs.lemmas.Nat.{pow-add}
+use Rattle.std.proofs.lemmas.List.Sums.{sum_by-cons}
+use Rattle.std.proofs.lemmas.Nat.{mul-le, pow-add}
 use Rattle.reference.specs.Words.{bit_at}
-use Rattle.reference.specs.Patterns.{joined_field}
+use Rattle.reference.specs.Patterns.{joined_field, field}
 use Rattle.encodings.specs.Runs.{width}
 
-joined_cons : (letter place : ℕ) (places : List ℕ) (x before : ℕ)
-    → joined_field letter (place ∷ places) x before
-    ≡ joined_field letter places x (if place == letter then before * 2 + bit_at x (length places) else before)
-unfolding joined_field
-joined_cons letter place places x before = refl
-
-pub joined_nil : (letter x before : ℕ) → joined_field letter [] x before ≡ before
-unfolding joined_field
-joined_nil letter x before = refl
-
-below : (places : List ℕ) (i : ℕ) → i < length places → length (drop (i + 1) places) ≡ length places - 1 - i
-below places i h = omega (arith, length-drop (i + 1) places)
-
-joined_drop : (letter : ℕ) (places : List ℕ) (i x before d : ℕ) → i < length places
+-- one place more
+joined_next : (letter : ℕ) (places : List ℕ) (i x before d : ℕ) → i < length places
     → joined_field letter (drop i places) x before
     ≡ joined_field letter (drop (i + 1) places) x
     (if get_or places i d == letter then before * 2 + bit_at x (length places - 1 - i) else before)
-joined_drop letter places i x before d h =
+unfolding joined_field
+joined_next letter places i x before d h =
+    let below : length (drop (i + 1) places) ≡ length places - 1 - i = omega (arith, h, length-drop (i + 1) places) in
     at_drop_more (λ rest. joined_field letter rest x before) places i d h
-    ∙ joined_cons letter (get_or places i d) (drop (i + 1) places) x before
-    ∙ ap (λ k. joined_field letter (drop (i + 1) places) x (if get_or places i d == letter then before * 2 + bit_at x k else before)) (below places i h)
+    ∙ ap (λ k. joined_field letter (drop (i + 1) places) x (if get_or places i d == letter then before * 2 + bit_at x k else before)) below
 
-is_letter : (a letter : ℕ) → a ≡ letter → (a == letter) ≡ true
-is_letter a letter e = grind (arith, nat_tests)
+-- it is the letter's
+pub joined_yes : (letter : ℕ) (places : List ℕ) (i x before d : ℕ) → i < length places → get_or places i d ≡ letter
+    → joined_field letter (drop (i + 1) places) x (before * 2 + bit_at x (length places - 1 - i)) ≡ joined_field letter (drop i places) x before
+joined_yes letter places i x before d h e =
+    let yes : (get_or places i d == letter) ≡ true = grind (arith, nat_tests, e) in sym (joined_next letter places i x before d h ∙ rw yes refl)
 
-no_letter : (a letter : ℕ) → a ≢ letter → (a == letter) ≡ false
-no_letter a letter e = grind (arith, nat_tests)
-
--- one place more of the letter
-pub joined_yes : (letter : ℕ) (places : List ℕ) (n i x before d : ℕ) → length places ≡ n → i < n
-    → get_or places i d ≡ letter
-    → joined_field letter (drop (i + 1) places) x (before * 2 + bit_at x (n - 1 - i)) ≡ joined_field letter (drop i places) x before
-joined_yes letter places n i x before d l h e =
-    let h' : i < length places = omega (arith, h, l) in
-    sym (joined_drop letter places i x before d h' ∙ rw (is_letter _ _ e, l) refl)
-
--- one place that isn't the letter's
-pub joined_no : (letter : ℕ) (places : List ℕ) (n i x before d : ℕ) → length places ≡ n → i < n
-    → get_or places i d ≢ letter
+-- it is not
+pub joined_no : (letter : ℕ) (places : List ℕ) (i x before d : ℕ) → i < length places → get_or places i d ≢ letter
     → joined_field letter (drop (i + 1) places) x before ≡ joined_field letter (drop i places) x before
-joined_no letter places n i x before d l h e =
-    let h' : i < length places = omega (arith, h, l) in
-    sym (joined_drop letter places i x before d h' ∙ rw (no_letter _ _ e) refl)
+joined_no letter places i x before d h e =
+    let no : (get_or places i d == letter) ≡ false = grind (arith, nat_tests, e) in sym (joined_next letter places i x before d h ∙ rw no refl)
 
-pub small_yes : (letter : ℕ) (places : List ℕ) (n i before bit d : ℕ) → length places ≡ n → i < n
-    → get_or places i d ≡ letter
-    → before < 2 ^ width (take i places) letter
-    → bit < 2
-    → before * 2 + bit < 2 ^ width (take (i + 1) places) letter
-small_yes letter places n i before bit d l h e small b =
-    let h' : i < length places = omega (arith, h, l) in
-    let more : width (take (i + 1) places) letter ≡ width (take i places) letter + 1 =
-    count_by_more_yes (λ place. place == letter) places i d h' (is_letter _ _ e) in
-    let twice : 2 ^ (width (take i places) letter + 1) ≡ 2 ^ width (take i places) letter * 2 ^ 1 = pow-add 2 (width (take i places) letter) 1 in
-    rw (more, twice) (omega (arith, small, b))
+pub joined_end : (letter : ℕ) (places : List ℕ) (i x before : ℕ) → length places ≤ i → joined_field letter (drop i places) x before ≡ before
+unfolding joined_field
+joined_end letter places i x before h =
+    let none : drop i places ≡ [] = grind (arith, common_steps) in ap (λ rest. joined_field letter rest x before) none
 
-pub small_no : (letter : ℕ) (places : List ℕ) (n i before d : ℕ) → length places ≡ n → i < n
-    → get_or places i d ≢ letter
-    → before < 2 ^ width (take i places) letter
-    → before < 2 ^ width (take (i + 1) places) letter
-small_no letter places n i before d l h e small =
-    let h' : i < length places = omega (arith, h, l) in
-    let more : width (take (i + 1) places) letter ≡ width (take i places) letter =
-    count_by_more_no (λ place. place == letter) places i d h' (no_letter _ _ e) in
-    rw more small
+-- ---- a field has a bit for each place of its letter
 
--- a field that grows by a bit stays a word
-pub has_room : (letter : ℕ) (places : List ℕ) (n i before bit : ℕ) → i < n → n ≤ 32
-    → before < 2 ^ width (take i places) letter
-    → bit < 2
-    → before * 2 + bit < 2 ^ 32
-has_room letter places n i before bit h m small b =
-    let few : width (take i places) letter ≤ length (take i places) = count_by-le-length (λ place. place == letter) (take i places) in
-    let taken : length (take i places) ≤ i = grind (arith, common_steps) in
-    let top : 2 ^ width (take i places) letter ≤ 2 ^ 31 = pow_mono {j = 31} (omega (arith, few, taken, h, m)) in
-    omega (arith, top, small, b)
+place_small : (b : Bool) (before bit w all : ℕ) → bit < 2
+    → all < ((if b then before * 2 + bit else before) + 1) * 2 ^ w → all < (before + 1) * 2 ^ ((if b then 1 else 0) + w)
+place_small false before bit w all small h = let same : 0 + w ≡ w = omega arith in rw same h
+place_small true before bit w all small h =
+    let top : (before * 2 + bit + 1) * 2 ^ w ≤ (2 * before + 2) * 2 ^ w = mul-le _ (2 ^ w) _ (2 ^ w) (omega (arith, small)) (omega arith) in
+    rw (pow-add 2 1 w) (omega (arith, top, h))
 
-pub joined_end : (letter : ℕ) (places : List ℕ) (n i x before all : ℕ) → length places ≡ n → n ≤ i
-    → joined_field letter (drop i places) x before ≡ all
-    → before ≡ all
-joined_end letter places n i x before all l h b =
-    let none : drop i places ≡ [] = grind (arith, common_steps) in
-    sym (ap (λ rest. joined_field letter rest x before) none ∙ joined_nil letter x before) ∙ b
+joined_small : (letter : ℕ) (places : List ℕ) (x before : ℕ) → joined_field letter places x before < (before + 1) * 2 ^ width places letter
+unfolding joined_field
+joined_small letter [] x before = omega arith
+joined_small letter (place ∷ places) x before =
+    let more : width (place ∷ places) letter ≡ (if place == letter then 1 else 0) + width places letter =
+    sum_by-cons (λ p. if p == letter then 1 else 0) place places in
+    rw more (place_small (place == letter) before (bit_at x (length places)) (width places letter) _ (mod-lt _ (omega arith))
+    (joined_small letter places x (if place == letter then before * 2 + bit_at x (length places) else before)))
+
+pub field_small : (letter : ℕ) (places : List ℕ) (x : ℕ) → field places x letter < 2 ^ width places letter
+field_small letter places x = omega (arith, joined_small letter places x 0)
 
 pub below_width : (value w n : ℕ) → IsTrue (nat_le w n) → value < 2 ^ w → value < 2 ^ n
 below_width value w n narrow small =

@@ -1,16 +1,17 @@
 -- A text fits a number where the number's bits under the text's mask are the text's value, and what rows mean by that.
-use Rattle.std.proofs.Common.{◌≡◌, ℕ, zero, suc, ◌+◌, ◌*◌, ◌/◌, ◌%◌, ◌^◌, ◌<◌, Bool, true, false, not, ◌&&◌, ◌||◌, ◌==◌, if◌then◌else◌, List, [], ◌∷◌, ◌++◌, length, find, Option, Some, refl, sym, ap, ◌∙◌, arith, bit_and}
+use Rattle.std.proofs.Common.{◌≡◌, ℕ, zero, suc, ◌+◌, ◌*◌, ◌/◌, ◌%◌, ◌^◌, ◌<◌, Bool, true, false, ◌&&◌, ◌==◌, if◌then◌else◌, List, [], ◌∷◌, ◌++◌, length, find, Option, Some, refl, sym, ap, ◌∙◌, arith, bit_and}
 use Rattle.std.specs.List.{list_any}
 use Rattle.std.proofs.Math.Nat.{mod-lt}
 use Rattle.std.proofs.Math.Path.{fun_ext}
 use Rattle.std.proofs.Math.Pow.{split}
 use Rattle.std.proofs.lemmas.Bool.Decides.{nat_tests}
-use Rattle.std.proofs.lemmas.Nat.{and_block, and_mask, and_le_r, pow_pos, pow-add}
+use Rattle.std.proofs.lemmas.Nat.{and_block, and_mask, and_le_r, pow_pos}
 use Rattle.reference.specs.declared.instruction.Decoded.{Decoded}
 use Rattle.reference.specs.Patterns.{place_0, place_1, place_z, place_o, allows, has_bits, fits, field}
 use Rattle.reference.specs.Rows.{Row, letters, applies, as_printed, by_row, by_found}
 use Rattle.encodings.specs.Masks.{mask_bit, value_bit, mask_of, value_of, masked, by_text, excepted, chosen, outcome_of, by_masks, first_of}
 use Rattle.encodings.specs.Runs.{value_at}
+use Rattle.encodings.proofs.Places.{mask_bit_small, value_bit_small, digits_below}
 use Rattle.encodings.proofs.Runs.{field_is}
 
 -- ---- one place
@@ -32,32 +33,7 @@ allows_by_mask : (clear set place y : ℕ)
     → allows clear set place (y % 2) ≡ (bit_and y (mask_bit clear set place) == value_bit clear set place)
 allows_by_mask clear set place y = by_tests (place == clear) (place == set) y
 
-bit_small : (a b : Bool) → (if a then 1 else if b then 1 else 0) < 2
-bit_small true b = omega arith
-bit_small false true = omega arith
-bit_small false false = omega arith
-
-value_small : (a b : Bool) → (if a then 0 else if b then 1 else 0) < 2
-value_small true b = omega arith
-value_small false true = omega arith
-value_small false false = omega arith
-
 -- ---- one place more
-
-digits_below : (b k m : ℕ) → b < 2 → m < 2 ^ k → b * 2 ^ k + m < 2 ^ suc k
-digits_below zero k m hb hm = let order : suc k ≡ 1 + k = omega arith in let twice : 2 ^ suc k ≡ 2 ^ 1 * 2 ^ k = ap (λ n. 2 ^ n) order ∙ pow-add 2 1 k in omega (arith, hm, twice)
-digits_below (suc zero) k m hb hm = let order : suc k ≡ 1 + k = omega arith in let twice : 2 ^ suc k ≡ 2 ^ 1 * 2 ^ k = ap (λ n. 2 ^ n) order ∙ pow-add 2 1 k in omega (arith, hm, twice)
-digits_below (suc (suc b)) k m hb hm = absurd (omega (arith, hb))
-
-mask_below : (clear set : ℕ) (places : List ℕ) → mask_of clear set places < 2 ^ length places
-mask_below clear set [] = omega arith
-mask_below clear set (place ∷ places) =
-    digits_below (mask_bit clear set place) (length places) (mask_of clear set places) (bit_small (place == clear) (place == set)) (mask_below clear set places)
-
-value_below : (clear set : ℕ) (places : List ℕ) → value_of clear set places < 2 ^ length places
-value_below clear set [] = omega arith
-value_below clear set (place ∷ places) =
-    digits_below (value_bit clear set place) (length places) (value_of clear set places) (value_small (place == clear) (place == set)) (value_below clear set places)
 
 digits_apart : (a v p l r : ℕ) → a < 2 → v < 2 → l < p → r < p → (a * p + l == v * p + r) ≡ ((a == v) && (l == r))
 digits_apart zero zero p l r ha hv hl hr = grind (arith, nat_tests)
@@ -88,16 +64,17 @@ pub bits_by_mask : (clear set : ℕ) (places : List ℕ) (x : ℕ)
 unfolding has_bits masked
 bits_by_mask clear set [] x = rw (and_zero x) refl
 bits_by_mask clear set (place ∷ places) x =
+    let mask = mask_of clear set places in
+    let value = value_of clear set places in
+    let mask_small : mask < 2 ^ length places = digits_below (mask_bit clear set) (mask_bit_small clear set) places in
     let high : bit_and (x / 2 ^ length places) (mask_bit clear set place) < 2 =
-    omega (arith, and_le_r (x / 2 ^ length places) (mask_bit clear set place), bit_small (place == clear) (place == set)) in
-    let low : bit_and x (mask_of clear set places) < 2 ^ length places = omega (arith, and_le_r x (mask_of clear set places), mask_below clear set places) in
-    let apart = digits_apart (bit_and (x / 2 ^ length places) (mask_bit clear set place)) (value_bit clear set place) (2 ^ length places)
-    (bit_and x (mask_of clear set places)) (value_of clear set places) high (value_small (place == clear) (place == set)) low (value_below clear set places) in
-    let more = and_more x (length places) (mask_bit clear set place) (mask_of clear set places) (mask_below clear set places) in
+    omega (arith, and_le_r (x / 2 ^ length places) (mask_bit clear set place), mask_bit_small clear set place) in
+    let low : bit_and x mask < 2 ^ length places = omega (arith, and_le_r x mask, mask_small) in
     ap (λ b. b && has_bits clear set places x) (allows_by_mask clear set place (x / 2 ^ length places))
     ∙ ap (λ b. (bit_and (x / 2 ^ length places) (mask_bit clear set place) == value_bit clear set place) && b) (bits_by_mask clear set places x)
-    ∙ sym apart
-    ∙ ap (λ n. n == value_bit clear set place * 2 ^ length places + value_of clear set places) (sym more)
+    ∙ sym (digits_apart _ (value_bit clear set place) (2 ^ length places) _ value
+    high (value_bit_small clear set place) low (digits_below (value_bit clear set) (value_bit_small clear set) places))
+    ∙ ap (λ n. n == value_bit clear set place * 2 ^ length places + value) (sym (and_more x (length places) (mask_bit clear set place) mask mask_small))
 
 -- ---- the rows
 
@@ -116,13 +93,11 @@ by_row_is row x =
     ap (λ b. as_printed b (row.gives (letters (field row.places x)))) (bits_by_mask place_z place_o row.places x)
     ∙ ap (λ f. as_printed (by_text place_z place_o row.places x) (row.gives (letters f))) fields
 
-by_first : (test other : Bool) (row : Row) (x : ℕ) (rest : Option Row) (otherwise given after : Decoded) (more : Option Decoded)
-    → test ≡ other
-    → by_row row x ≡ given
+by_first : (test : Bool) (row : Row) (x : ℕ) (rest : Option Row) (otherwise after : Decoded) (more : Option Decoded)
     → by_found otherwise x rest ≡ first_of more after
-    → by_found otherwise x (if test then Some row else rest) ≡ first_of (if other then Some given else more) after
-by_first true other row x rest otherwise given after more e g h = rw (sym e) g
-by_first false other row x rest otherwise given after more e g h = rw (sym e) h
+    → by_found otherwise x (if test then Some row else rest) ≡ first_of (if test then Some (outcome_of row x) else more) after
+by_first true row x rest otherwise after more h = by_row_is row x
+by_first false row x rest otherwise after more h = h
 
 -- the row of a table that applies, and otherwise that of the rows after it
 pub found_by_masks : (table rows : List Row) (otherwise : Decoded) (x : ℕ)
@@ -131,7 +106,6 @@ pub found_by_masks : (table rows : List Row) (otherwise : Decoded) (x : ℕ)
 unfolding by_masks
 found_by_masks [] rows otherwise x = refl
 found_by_masks (row ∷ table) rows otherwise x =
-    by_first (applies row x) (chosen (by_text place_0 place_1 row.places x) (excepted row.except x)) row x
-    (find (λ row. applies row x) (table ++ rows)) otherwise (outcome_of row x)
-    (by_found otherwise x (find (λ row. applies row x) rows)) (by_masks table x)
-    (applies_by_mask row x) (by_row_is row x) (found_by_masks table rows otherwise x)
+    rw (applies_by_mask row x) (by_first (chosen (by_text place_0 place_1 row.places x) (excepted row.except x)) row x
+    (find (λ row. applies row x) (table ++ rows)) otherwise (by_found otherwise x (find (λ row. applies row x) rows)) (by_masks table x)
+    (found_by_masks table rows otherwise x))

@@ -1,10 +1,13 @@
--- The mask and the value of a row's text, place by place from the highest.
-use Rattle.std.proofs.Common.{◌≡◌, ℕ, suc, ◌+◌, ◌*◌, ◌^◌, ◌<◌, ◌≤◌, Bool, true, false, ◌==◌, if◌then◌else◌, List, [], length, drop, get_or, sym, ap, ◌∙◌, arith}
+-- A number whose binary digits are a row's places, place by place from the highest.
+use Rattle.std.proofs.Common.{◌≡◌, ℕ, suc, ◌+◌, ◌*◌, ◌^◌, ◌<◌, ◌≤◌, Bool, true, false, ◌==◌, if◌then◌else◌, List, [], ◌∷◌, length, drop, get_or, sym, ap, ◌∙◌, arith}
 use Rattle.std.proofs.Math.Pow.{pow_mono}
 use Rattle.std.proofs.lemmas.Grind.{common_steps}
 use Rattle.std.proofs.lemmas.List.{at_drop_more}
-use Rattle.std.proofs.lemmas.Nat.{pow-add}
-use Rattle.encodings.specs.Masks.{mask_bit, value_bit, mask_of, value_of}
+use Rattle.std.proofs.lemmas.Nat.{mul-le, pow-add}
+use Rattle.encodings.specs.Masks.{mask_bit, value_bit, digits_of}
+
+pub twice : (k : ℕ) → 2 ^ suc k ≡ 2 * 2 ^ k
+twice k = let order : suc k ≡ 1 + k = omega arith in ap (λ n. 2 ^ n) order ∙ pow-add 2 1 k
 
 -- a number that grows by a bit stays a word
 pub has_room : (before i n : ℕ) → before < 2 ^ i → i < n → n ≤ 32 → before * 2 + 1 < 2 ^ 32
@@ -13,58 +16,38 @@ has_room before i n small h m =
     omega (arith, top, small)
 
 pub grows : (before bit i : ℕ) → before < 2 ^ i → bit < 2 → before * 2 + bit < 2 ^ (i + 1)
-grows before bit i small b = let twice : 2 ^ (i + 1) ≡ 2 ^ i * 2 ^ 1 = pow-add 2 i 1 in rw twice (omega (arith, small, b))
+grows before bit i small b = rw (pow-add 2 i 1) (omega (arith, small, b))
 
-bit_small : (a b : Bool) → (if a then 1 else if b then 1 else 0) < 2
-bit_small true b = omega arith
-bit_small false true = omega arith
-bit_small false false = omega arith
-
-value_small : (a b : Bool) → (if a then 0 else if b then 1 else 0) < 2
-value_small true b = omega arith
-value_small false true = omega arith
-value_small false false = omega arith
+bit_small : (a b : Bool) (n : ℕ) → n < 2 → (if a then n else if b then 1 else 0) < 2
+bit_small true b n h = h
+bit_small false true n h = omega arith
+bit_small false false n h = omega arith
 
 pub mask_bit_small : (clear set place : ℕ) → mask_bit clear set place < 2
-mask_bit_small clear set place = bit_small (place == clear) (place == set)
+mask_bit_small clear set place = bit_small (place == clear) (place == set) 1 (omega arith)
 
 pub value_bit_small : (clear set place : ℕ) → value_bit clear set place < 2
-value_bit_small clear set place = value_small (place == clear) (place == set)
+value_bit_small clear set place = bit_small (place == clear) (place == set) 0 (omega arith)
+
+pub digits_below : (digit : ℕ → ℕ) → ((place : ℕ) → digit place < 2) → (places : List ℕ) → digits_of digit places < 2 ^ length places
+digits_below digit small [] = omega arith
+digits_below digit small (place ∷ places) =
+    let top : digit place * 2 ^ length places ≤ 1 * 2 ^ length places =
+    mul-le (digit place) (2 ^ length places) 1 (2 ^ length places) (omega (arith, small place)) (omega arith) in
+    let whole : 2 ^ length (place ∷ places) ≡ 2 * 2 ^ length places = twice (length places) in
+    omega (arith, top, whole, digits_below digit small places)
 
 one_more : (before bit k rest : ℕ) → (before * 2 + bit) * 2 ^ k + rest ≡ before * 2 ^ suc k + (bit * 2 ^ k + rest)
-one_more before bit k rest =
-    let order : suc k ≡ 1 + k = omega arith in
-    let twice : 2 ^ suc k ≡ 2 ^ 1 * 2 ^ k = ap (λ n. 2 ^ n) order ∙ pow-add 2 1 k in
-    rw twice (omega arith)
+one_more before bit k rest = rw (twice k) (omega arith)
 
-pub mask_next : (clear set : ℕ) (text : List ℕ) (i d before all : ℕ) → i < length text
-    → before * 2 ^ length (drop i text) + mask_of clear set (drop i text) ≡ all
-    → (before * 2 + mask_bit clear set (get_or text i d)) * 2 ^ length (drop (i + 1) text) + mask_of clear set (drop (i + 1) text) ≡ all
-mask_next clear set text i d before all h e =
-    one_more before (mask_bit clear set (get_or text i d)) (length (drop (i + 1) text)) (mask_of clear set (drop (i + 1) text))
-    ∙ sym (at_drop_more (λ rest. before * 2 ^ length rest + mask_of clear set rest) text i d h)
-    ∙ e
+pub digits_next : (digit : ℕ → ℕ) (text : List ℕ) (i d before : ℕ) → i < length text
+    → (before * 2 + digit (get_or text i d)) * 2 ^ length (drop (i + 1) text) + digits_of digit (drop (i + 1) text)
+    ≡ before * 2 ^ length (drop i text) + digits_of digit (drop i text)
+digits_next digit text i d before h =
+    one_more before (digit (get_or text i d)) (length (drop (i + 1) text)) (digits_of digit (drop (i + 1) text))
+    ∙ sym (at_drop_more (λ rest. before * 2 ^ length rest + digits_of digit rest) text i d h)
 
-pub value_next : (clear set : ℕ) (text : List ℕ) (i d before all : ℕ) → i < length text
-    → before * 2 ^ length (drop i text) + value_of clear set (drop i text) ≡ all
-    → (before * 2 + value_bit clear set (get_or text i d)) * 2 ^ length (drop (i + 1) text) + value_of clear set (drop (i + 1) text) ≡ all
-value_next clear set text i d before all h e =
-    one_more before (value_bit clear set (get_or text i d)) (length (drop (i + 1) text)) (value_of clear set (drop (i + 1) text))
-    ∙ sym (at_drop_more (λ rest. before * 2 ^ length rest + value_of clear set rest) text i d h)
-    ∙ e
-
-pub mask_end : (clear set : ℕ) (text : List ℕ) (i before all : ℕ) → length text ≤ i
-    → before * 2 ^ length (drop i text) + mask_of clear set (drop i text) ≡ all
-    → before ≡ all
-mask_end clear set text i before all h e =
-    let none : drop i text ≡ [] = grind (arith, common_steps) in
-    let last : before * 2 ^ 0 + 0 ≡ all = sym (ap (λ rest. before * 2 ^ length rest + mask_of clear set rest) none) ∙ e in
-    omega (arith, last)
-
-pub value_end : (clear set : ℕ) (text : List ℕ) (i before all : ℕ) → length text ≤ i
-    → before * 2 ^ length (drop i text) + value_of clear set (drop i text) ≡ all
-    → before ≡ all
-value_end clear set text i before all h e =
-    let none : drop i text ≡ [] = grind (arith, common_steps) in
-    let last : before * 2 ^ 0 + 0 ≡ all = sym (ap (λ rest. before * 2 ^ length rest + value_of clear set rest) none) ∙ e in
-    omega (arith, last)
+pub digits_end : (digit : ℕ → ℕ) (text : List ℕ) (i before : ℕ) → length text ≤ i
+    → before * 2 ^ length (drop i text) + digits_of digit (drop i text) ≡ before
+digits_end digit text i before h =
+    let none : drop i text ≡ [] = grind (arith, common_steps) in rw none (omega arith)

@@ -12,15 +12,17 @@ mask_bit clear set place = if place == clear then 1 else if place == set then 1 
 abbrev pub value_bit : ℕ → ℕ → ℕ → ℕ
 value_bit clear set place = if place == clear then 0 else if place == set then 1 else 0
 
--- the bits that a text fixes
-abbrev pub mask_of : ℕ → ℕ → List ℕ → ℕ
-mask_of clear set [] = 0
-mask_of clear set (place ∷ places) = mask_bit clear set place * 2 ^ length places + mask_of clear set places
+-- the number whose binary digits are a function of each place
+abbrev pub digits_of : (ℕ → ℕ) → List ℕ → ℕ
+digits_of digit [] = 0
+digits_of digit (place ∷ places) = digit place * 2 ^ length places + digits_of digit places
 
--- the values that it fixes them to
+-- the bits that a text fixes, and the values that it fixes them to
+abbrev pub mask_of : ℕ → ℕ → List ℕ → ℕ
+mask_of clear set = digits_of (mask_bit clear set)
+
 abbrev pub value_of : ℕ → ℕ → List ℕ → ℕ
-value_of clear set [] = 0
-value_of clear set (place ∷ places) = value_bit clear set place * 2 ^ length places + value_of clear set places
+value_of clear set = digits_of (value_bit clear set)
 
 -- whether the bits of the mask are those of the value
 unfoldable pub masked : ℕ → ℕ → ℕ → Bool

@@ -77,8 +77,7 @@ pub fn chosen(fits: bool, excepted: bool) -> bool
 #[inline(always)]
 fn field(places: &[u8], x: u32, letter: u8) -> u32
     requires { length places.now ≤ 32 }
-    ensures value { result ≡ field places.now x letter }
-    ensures small { result < 2 ^ width places.now letter }
+    ensures { result ≡ field places.now x letter }
 {
     let mut field = 0;
     for i in 0..places.len() {
@@ -99,7 +98,7 @@ pub struct Letters<'a> {
 impl Letters<'_> {
     /// Returns the field of a letter.
     #[inline(always)]
-    #[tactic(auto, using(crate::proofs::Runs::field_is))]
+    #[tactic(auto, using(crate::proofs::Runs::field_is, crate::proofs::Letters::field_small))]
     pub fn number(self, letter: u8) -> u32
         requires { IsTrue (nat_le (length self.places.now) 32) }
         ensures value { result ≡ value_at self.entry.places.now self.entry.number letter }

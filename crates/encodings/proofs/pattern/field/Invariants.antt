@@ -1,10 +1,9 @@
-use Rattle.std.proofs.Common.{◌≡◌, ◌<◌, ◌^◌, drop, take}
+use Rattle.std.proofs.Common.{◌≡◌, ◌<◌, ◌^◌, drop}
 use Rattle.reference.specs.Patterns.{joined_field, field}
-use Rattle.encodings.specs.Runs.{width}
 use Rattle.encodings.proofs.pattern.field.Given as goal
 
 abbrev pub invariant-loop-i : goal.invariant-loop-i
 invariant-loop-i l = record {
   rest : joined_field l.letter (drop l.i l.places) l.x l.field ≡ field l.places l.x l.letter;
-  small : l.field < 2 ^ width (take l.i l.places) l.letter;
+  small : l.field < 2 ^ l.i;
 }
