@@ -16,6 +16,19 @@ use reference::operands::{
 use reference::registers::Register;
 use reference::stop::UnpredictableCase;
 
+/// Returns a branch's offset from its five fields.
+macro_rules! offset {
+    ($f:ident, $joined:ident) => {
+        $joined(
+            $f.number(b'S'),
+            $f.number(b'J'),
+            $f.number(b'K'),
+            $f.number(b'j'),
+            $f.number(b'i'),
+        )
+    };
+}
+
 /// Returns what two halfwords mean by these rows.
 #[tactic(auto, unfolding(encodings::specs::Masks::by_masks))]
 pub(crate) fn long_control_rows(x: u32) -> Option<Decoded>
@@ -36,28 +49,11 @@ pub(crate) fn long_control_rows(x: u32) -> Option<Decoded>
             => |f| long(Instruction::System(System::Hint(Hint::Barrier))),
         [11110 0 1110 11 oooo 10 z 0 oooo 0110 xxxx]
             => |f| long(Instruction::System(System::Hint(Hint::Barrier))),
-        [11110 S jjjjjjjjjj 11 J 1 K iiiiiiiiiii]
-            => |f| branch_with_link(
-               
-                wide_offset(
-                    f.number(b'S'), f.number(b'J'), f.number(b'K'), f.number(b'j'), f.number(b'i')
-                )
-            ),
-        [11110 S jjjjjjjjjj 10 J 1 K iiiiiiiiiii]
-            => |f| branch_wide(
-               
-                wide_offset(
-                    f.number(b'S'), f.number(b'J'), f.number(b'K'), f.number(b'j'), f.number(b'i')
-                )
-            ),
+        [11110 S jjjjjjjjjj 11 J 1 K iiiiiiiiiii] => |f| branch_with_link(offset!(f, wide_offset)),
+        [11110 S jjjjjjjjjj 10 J 1 K iiiiiiiiiii] => |f| branch_wide(offset!(f, wide_offset)),
         [11110 S cccc jjjjjj 10 J 0 K iiiiiiiiiii]
  except [xxxxx x 111x xxxxxx xx x x x xxxxxxxxxxx]
-            => |f| branch_wide_if(
-                f.byte(b'c'),
-                conditional_offset(
-                    f.number(b'S'), f.number(b'J'), f.number(b'K'), f.number(b'j'), f.number(b'i')
-                )
-            ),
+            => |f| branch_wide_if(f.byte(b'c'), offset!(f, conditional_offset)),
     }
 }
 

@@ -20,6 +20,18 @@ use reference::operands::{
 };
 use reference::registers::Register;
 
+/// Returns the address of LDRD and STRD.
+macro_rules! address {
+    ($f:ident) => {
+        dual_address(
+            $f.register(b'n'),
+            $f.number(b'P'),
+            $f.number(b'W'),
+            signed_offset($f.number(b'U'), $f.number(b'i') * 4),
+        )
+    };
+}
+
 /// Returns what two halfwords mean by these rows.
 #[tactic(auto, unfolding(encodings::specs::Masks::by_masks))]
 pub(crate) fn dual_rows(x: u32) -> Option<Decoded>
@@ -54,22 +66,10 @@ pub(crate) fn dual_rows(x: u32) -> Option<Decoded>
         [1110100 P U 1 W 1 nnnn tttt uuuu iiiiiiii]
  except [xxxxxxx 0 x x 0 x xxxx xxxx xxxx xxxxxxxx]
  except [xxxxxxx x x x x x 1111 xxxx xxxx xxxxxxxx]
-            => |f| load_dual(
-                f.register(b't'), f.register(b'u'),
-                dual_address(
-                    f.register(b'n'), f.number(b'P'), f.number(b'W'),
-                    signed_offset(f.number(b'U'), f.number(b'i') * 4)
-                )
-            ),
+            => |f| load_dual(f.register(b't'), f.register(b'u'), address!(f)),
         [1110100 P U 1 W 0 nnnn tttt uuuu iiiiiiii]
  except [xxxxxxx 0 x x 0 x xxxx xxxx xxxx xxxxxxxx]
-            => |f| store_dual(
-                f.register(b't'), f.register(b'u'),
-                dual_address(
-                    f.register(b'n'), f.number(b'P'), f.number(b'W'),
-                    signed_offset(f.number(b'U'), f.number(b'i') * 4)
-                )
-            ),
+            => |f| store_dual(f.register(b't'), f.register(b'u'), address!(f)),
     }
 }
 

@@ -23,6 +23,19 @@ use reference::registers::Register;
 use reference::stop::UnpredictableCase;
 use regs::expand_imm;
 
+/// Returns an operation on the register `n` and the modified immediate `i`.
+macro_rules! data {
+    ($f:ident, $operation:ident) => {
+        data_immediate(
+            $operation,
+            $f.is_set(b'S'),
+            $f.register(b'n'),
+            $f.register(b'd'),
+            modified_immediate($f.half(b'i')),
+        )
+    };
+}
+
 /// Returns what two halfwords mean by these rows.
 #[tactic(auto, unfolding(encodings::specs::Masks::by_masks))]
 pub(crate) fn logical_immediate_rows(x: u32) -> Option<Decoded>
@@ -33,45 +46,29 @@ pub(crate) fn logical_immediate_rows(x: u32) -> Option<Decoded>
             => |f| compare_immediate(Test, f.register(b'n'), modified_immediate(f.half(b'i'))),
         [11110 i 0 0000 S nnnn 0 iii dddd iiiiiiii]
  except [xxxxx x x xxxx 1 xxxx x xxx 1111 xxxxxxxx]
-            => |f| data_immediate(
-                And, f.is_set(b'S'), f.register(b'n'), f.register(b'd'),
-                modified_immediate(f.half(b'i'))
-            ),
-        [11110 i 0 0001 S nnnn 0 iii dddd iiiiiiii]
-            => |f| data_immediate(
-                BitClear, f.is_set(b'S'), f.register(b'n'), f.register(b'd'),
-                modified_immediate(f.half(b'i'))
-            ),
+            => |f| data!(f, And),
+        [11110 i 0 0001 S nnnn 0 iii dddd iiiiiiii] => |f| data!(f, BitClear),
         [11110 i 0 0010 S 1111 0 iii dddd iiiiiiii]
             => |f| move_immediate(
                 Move, f.is_set(b'S'), f.register(b'd'), modified_immediate(f.half(b'i'))
             ),
         [11110 i 0 0010 S nnnn 0 iii dddd iiiiiiii]
  except [xxxxx x x xxxx x 1111 x xxx xxxx xxxxxxxx]
-            => |f| data_immediate(
-                Or, f.is_set(b'S'), f.register(b'n'), f.register(b'd'),
-                modified_immediate(f.half(b'i'))
-            ),
+            => |f| data!(f, Or),
         [11110 i 0 0011 S 1111 0 iii dddd iiiiiiii]
             => |f| move_immediate(
                 MoveNot, f.is_set(b'S'), f.register(b'd'), modified_immediate(f.half(b'i'))
             ),
         [11110 i 0 0011 S nnnn 0 iii dddd iiiiiiii]
  except [xxxxx x x xxxx x 1111 x xxx xxxx xxxxxxxx]
-            => |f| data_immediate(
-                OrNot, f.is_set(b'S'), f.register(b'n'), f.register(b'd'),
-                modified_immediate(f.half(b'i'))
-            ),
+            => |f| data!(f, OrNot),
         [11110 i 0 0100 1 nnnn 0 iii 1111 iiiiiiii]
             => |f| compare_immediate(
                 TestEquivalence, f.register(b'n'), modified_immediate(f.half(b'i'))
             ),
         [11110 i 0 0100 S nnnn 0 iii dddd iiiiiiii]
  except [xxxxx x x xxxx 1 xxxx x xxx 1111 xxxxxxxx]
-            => |f| data_immediate(
-                ExclusiveOr, f.is_set(b'S'), f.register(b'n'), f.register(b'd'),
-                modified_immediate(f.half(b'i'))
-            ),
+            => |f| data!(f, ExclusiveOr),
     }
 }
 
@@ -87,33 +84,15 @@ pub(crate) fn sum_immediate_rows(x: u32) -> Option<Decoded>
             ),
         [11110 i 0 1000 S nnnn 0 iii dddd iiiiiiii]
  except [xxxxx x x xxxx 1 xxxx x xxx 1111 xxxxxxxx]
-            => |f| data_immediate(
-                Add, f.is_set(b'S'), f.register(b'n'), f.register(b'd'),
-                modified_immediate(f.half(b'i'))
-            ),
-        [11110 i 0 1010 S nnnn 0 iii dddd iiiiiiii]
-            => |f| data_immediate(
-                AddWithCarry, f.is_set(b'S'), f.register(b'n'), f.register(b'd'),
-                modified_immediate(f.half(b'i'))
-            ),
-        [11110 i 0 1011 S nnnn 0 iii dddd iiiiiiii]
-            => |f| data_immediate(
-                SubtractWithCarry, f.is_set(b'S'), f.register(b'n'), f.register(b'd'),
-                modified_immediate(f.half(b'i'))
-            ),
+            => |f| data!(f, Add),
+        [11110 i 0 1010 S nnnn 0 iii dddd iiiiiiii] => |f| data!(f, AddWithCarry),
+        [11110 i 0 1011 S nnnn 0 iii dddd iiiiiiii] => |f| data!(f, SubtractWithCarry),
         [11110 i 0 1101 1 nnnn 0 iii 1111 iiiiiiii]
             => |f| compare_immediate(Compare, f.register(b'n'), modified_immediate(f.half(b'i'))),
         [11110 i 0 1101 S nnnn 0 iii dddd iiiiiiii]
  except [xxxxx x x xxxx 1 xxxx x xxx 1111 xxxxxxxx]
-            => |f| data_immediate(
-                Subtract, f.is_set(b'S'), f.register(b'n'), f.register(b'd'),
-                modified_immediate(f.half(b'i'))
-            ),
-        [11110 i 0 1110 S nnnn 0 iii dddd iiiiiiii]
-            => |f| data_immediate(
-                ReverseSubtract, f.is_set(b'S'), f.register(b'n'), f.register(b'd'),
-                modified_immediate(f.half(b'i'))
-            ),
+            => |f| data!(f, Subtract),
+        [11110 i 0 1110 S nnnn 0 iii dddd iiiiiiii] => |f| data!(f, ReverseSubtract),
     }
 }
 

@@ -17,6 +17,24 @@ use reference::operands::{
 };
 use reference::registers::Register;
 
+/// Returns the size of a byte or halfword, and whether it is signed.
+macro_rules! form {
+    ($f:ident) => {
+        narrow_form($f.number(b'X'), $f.number(b's'))
+    };
+}
+
+/// Returns an address of which the base register may be written.
+macro_rules! address {
+    ($f:ident) => {
+        indexed(
+            $f.register(b'n'),
+            signed_offset($f.number(b'U'), $f.number(b'i')),
+            indexing_of($f.number(b'P'), $f.number(b'W')),
+        )
+    };
+}
+
 /// Returns what two halfwords mean by these rows.
 #[tactic(auto, unfolding(encodings::specs::Masks::by_masks))]
 pub(crate) fn narrow_load_rows(x: u32) -> Option<Decoded>
@@ -27,8 +45,7 @@ pub(crate) fn narrow_load_rows(x: u32) -> Option<Decoded>
         [1111100 X U 0s 1 1111 tttt iiiiiiiiiiii]
  except [xxxxxxx x x xx x xxxx 1111 xxxxxxxxxxxx]
             => |f| load_literal(
-                narrow_form(f.number(b'X'), f.number(b's')), f.register(b't'),
-                signed_offset(f.number(b'U'), f.number(b'i'))
+                form!(f), f.register(b't'), signed_offset(f.number(b'U'), f.number(b'i'))
             ),
         [1111100 x 1 0s 1 xxxx 1111 xxxxxxxxxxxx]
  except [xxxxxxx x x xx x 1111 xxxx xxxxxxxxxxxx]
@@ -36,10 +53,7 @@ pub(crate) fn narrow_load_rows(x: u32) -> Option<Decoded>
         [1111100 X 1 0s 1 nnnn tttt iiiiiiiiiiii]
  except [xxxxxxx x x xx x 1111 xxxx xxxxxxxxxxxx]
  except [xxxxxxx x x xx x xxxx 1111 xxxxxxxxxxxx]
-            => |f| load_at(
-                narrow_form(f.number(b'X'), f.number(b's')), f.register(b't'),
-                at_offset(f.register(b'n'), f.number(b'i'))
-            ),
+            => |f| load_at(form!(f), f.register(b't'), at_offset(f.register(b'n'), f.number(b'i'))),
         [1111100 x 0 0s 1 xxxx 1111 0 00000 xx mmmm]
  except [xxxxxxx x x xx x 1111 xxxx x xxxxx xx xxxx]
             => |f| memory_hint_indexed(f.number(b's'), f.register(b'm')),
@@ -47,8 +61,7 @@ pub(crate) fn narrow_load_rows(x: u32) -> Option<Decoded>
  except [xxxxxxx x x xx x 1111 xxxx x xxxxx xx xxxx]
  except [xxxxxxx x x xx x xxxx 1111 x xxxxx xx xxxx]
             => |f| load_indexed(
-                narrow_form(f.number(b'X'), f.number(b's')), f.register(b't'), f.register(b'n'),
-                f.register(b'm'), f.byte(b'i')
+                form!(f), f.register(b't'), f.register(b'n'), f.register(b'm'), f.byte(b'i')
             ),
         [1111100 x 0 0s 1 xxxx 1111 1 1 0 0 xxxxxxxx]
  except [xxxxxxx x x xx x 1111 xxxx x x x x xxxxxxxx]
@@ -56,21 +69,14 @@ pub(crate) fn narrow_load_rows(x: u32) -> Option<Decoded>
         [1111100 X 0 0s 1 nnnn tttt 1 1 1 0 iiiiiiii]
  except [xxxxxxx x x xx x 1111 xxxx x x x x xxxxxxxx]
             => |f| load_unprivileged(
-                narrow_form(f.number(b'X'), f.number(b's')), f.register(b't'),
-                at_offset(f.register(b'n'), f.number(b'i'))
+                form!(f), f.register(b't'), at_offset(f.register(b'n'), f.number(b'i'))
             ),
         [1111100 X 0 0s 1 nnnn tttt 1 P U W iiiiiiii]
  except [xxxxxxx x x xx x 1111 xxxx x x x x xxxxxxxx]
  except [xxxxxxx x x xx x xxxx 1111 x 1 0 0 xxxxxxxx]
  except [xxxxxxx x x xx x xxxx xxxx x 1 1 0 xxxxxxxx]
  except [xxxxxxx x x xx x xxxx xxxx x 0 x 0 xxxxxxxx]
-            => |f| load_at(
-                narrow_form(f.number(b'X'), f.number(b's')), f.register(b't'),
-                indexed(
-                    f.register(b'n'), signed_offset(f.number(b'U'), f.number(b'i')),
-                    indexing_of(f.number(b'P'), f.number(b'W'))
-                )
-            ),
+            => |f| load_at(form!(f), f.register(b't'), address!(f)),
     }
 }
 
@@ -103,13 +109,7 @@ pub(crate) fn word_load_rows(x: u32) -> Option<Decoded>
  except [xxxxxxxx x xx x 1111 xxxx x x x x xxxxxxxx]
  except [xxxxxxxx x xx x xxxx xxxx x 1 1 0 xxxxxxxx]
  except [xxxxxxxx x xx x xxxx xxxx x 0 x 0 xxxxxxxx]
-            => |f| load_at(
-                word_form(), f.register(b't'),
-                indexed(
-                    f.register(b'n'), signed_offset(f.number(b'U'), f.number(b'i')),
-                    indexing_of(f.number(b'P'), f.number(b'W'))
-                )
-            ),
+            => |f| load_at(word_form(), f.register(b't'), address!(f)),
     }
 }
 

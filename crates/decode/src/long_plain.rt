@@ -21,6 +21,13 @@ use reference::operands::{
 use reference::registers::Register;
 use reference::stop::UnpredictableCase;
 
+/// Returns the register `n`, shifted left or, where `h` is 1, right with its sign.
+macro_rules! source {
+    ($f:ident) => {
+        shifted($f.register(b'n'), $f.byte(b'h') * 2, $f.byte(b'i'))
+    };
+}
+
 /// Returns what two halfwords mean by these rows.
 #[tactic(auto, unfolding(encodings::specs::Masks::by_masks))]
 pub(crate) fn plain_rows(x: u32) -> Option<Decoded>
@@ -43,10 +50,7 @@ pub(crate) fn plain_rows(x: u32) -> Option<Decoded>
             => |f| move_top(f.register(b'd'), halfword(f.byte(b'n'), f.half(b'i'))),
         [11110 z 1 100 h 0 nnnn 0 iii dddd ii z wwwww]
  except [xxxxx x x xxx 1 x xxxx x 000 xxxx 00 x xxxxx]
-            => |f| saturate(
-                true, f.register(b'd'), f.byte(b'w') + 1,
-                shifted(f.register(b'n'), f.byte(b'h') * 2, f.byte(b'i'))
-            ),
+            => |f| saturate(true, f.register(b'd'), f.byte(b'w') + 1, source!(f)),
         [11110 z 1 10100 nnnn 0 iii dddd ii z wwwww]
             => |f| extract_field(
                 true, f.register(b'n'), f.register(b'd'), f.byte(b'i'), f.byte(b'w') + 1
@@ -58,10 +62,7 @@ pub(crate) fn plain_rows(x: u32) -> Option<Decoded>
             => |f| insert_field(f.register(b'n'), f.register(b'd'), f.byte(b'i'), f.byte(b'w')),
         [11110 z 1 110 h 0 nnnn 0 iii dddd ii z wwwww]
  except [xxxxx x x xxx 1 x xxxx x 000 xxxx 00 x xxxxx]
-            => |f| saturate(
-                false, f.register(b'd'), f.byte(b'w'),
-                shifted(f.register(b'n'), f.byte(b'h') * 2, f.byte(b'i'))
-            ),
+            => |f| saturate(false, f.register(b'd'), f.byte(b'w'), source!(f)),
         [11110 z 1 11100 nnnn 0 iii dddd ii z wwwww]
             => |f| extract_field(
                 false, f.register(b'n'), f.register(b'd'), f.byte(b'i'), f.byte(b'w') + 1

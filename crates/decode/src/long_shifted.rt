@@ -22,6 +22,26 @@ use reference::operands::{
 use reference::registers::Register;
 use reference::shift::{Shift, ShiftType};
 
+/// Returns the register `m`, shifted by the number `i`.
+macro_rules! second {
+    ($f:ident) => {
+        shifted($f.register(b'm'), $f.byte(b't'), $f.byte(b'i'))
+    };
+}
+
+/// Returns an operation on the register `n` and the shifted register `m`.
+macro_rules! data {
+    ($f:ident, $operation:ident) => {
+        data_shifted(
+            $operation,
+            $f.is_set(b'S'),
+            $f.register(b'n'),
+            $f.register(b'd'),
+            second!($f),
+        )
+    };
+}
+
 /// Returns what two halfwords mean by these rows.
 #[tactic(auto, unfolding(encodings::specs::Masks::by_masks))]
 pub(crate) fn logical_shifted_rows(x: u32) -> Option<Decoded>
@@ -29,53 +49,26 @@ pub(crate) fn logical_shifted_rows(x: u32) -> Option<Decoded>
 {
     rows! { x;
         [1110101 0000 1 nnnn z iii 1111 ii tt mmmm]
-            => |f| compare_shifted(
-                Test, f.register(b'n'), shifted(f.register(b'm'), f.byte(b't'), f.byte(b'i'))
-            ),
+            => |f| compare_shifted(Test, f.register(b'n'), second!(f)),
         [1110101 0000 S nnnn z iii dddd ii tt mmmm]
  except [xxxxxxx xxxx 1 xxxx x xxx 1111 xx xx xxxx]
-            => |f| data_shifted(
-                And, f.is_set(b'S'), f.register(b'n'), f.register(b'd'),
-                shifted(f.register(b'm'), f.byte(b't'), f.byte(b'i'))
-            ),
-        [1110101 0001 S nnnn z iii dddd ii tt mmmm]
-            => |f| data_shifted(
-                BitClear, f.is_set(b'S'), f.register(b'n'), f.register(b'd'),
-                shifted(f.register(b'm'), f.byte(b't'), f.byte(b'i'))
-            ),
+            => |f| data!(f, And),
+        [1110101 0001 S nnnn z iii dddd ii tt mmmm] => |f| data!(f, BitClear),
         [1110101 0010 S 1111 z iii dddd ii tt mmmm]
-            => |f| move_shifted(
-                f.is_set(b'S'), f.register(b'd'),
-                shifted(f.register(b'm'), f.byte(b't'), f.byte(b'i'))
-            ),
+            => |f| move_shifted(f.is_set(b'S'), f.register(b'd'), second!(f)),
         [1110101 0010 S nnnn z iii dddd ii tt mmmm]
  except [xxxxxxx xxxx x 1111 x xxx xxxx xx xx xxxx]
-            => |f| data_shifted(
-                Or, f.is_set(b'S'), f.register(b'n'), f.register(b'd'),
-                shifted(f.register(b'm'), f.byte(b't'), f.byte(b'i'))
-            ),
+            => |f| data!(f, Or),
         [1110101 0011 S 1111 z iii dddd ii tt mmmm]
-            => |f| move_not_shifted(
-                f.is_set(b'S'), f.register(b'd'),
-                shifted(f.register(b'm'), f.byte(b't'), f.byte(b'i'))
-            ),
+            => |f| move_not_shifted(f.is_set(b'S'), f.register(b'd'), second!(f)),
         [1110101 0011 S nnnn z iii dddd ii tt mmmm]
  except [xxxxxxx xxxx x 1111 x xxx xxxx xx xx xxxx]
-            => |f| data_shifted(
-                OrNot, f.is_set(b'S'), f.register(b'n'), f.register(b'd'),
-                shifted(f.register(b'm'), f.byte(b't'), f.byte(b'i'))
-            ),
+            => |f| data!(f, OrNot),
         [1110101 0100 1 nnnn z iii 1111 ii tt mmmm]
-            => |f| compare_shifted(
-                TestEquivalence, f.register(b'n'),
-                shifted(f.register(b'm'), f.byte(b't'), f.byte(b'i'))
-            ),
+            => |f| compare_shifted(TestEquivalence, f.register(b'n'), second!(f)),
         [1110101 0100 S nnnn z iii dddd ii tt mmmm]
  except [xxxxxxx xxxx 1 xxxx x xxx 1111 xx xx xxxx]
-            => |f| data_shifted(
-                ExclusiveOr, f.is_set(b'S'), f.register(b'n'), f.register(b'd'),
-                shifted(f.register(b'm'), f.byte(b't'), f.byte(b'i'))
-            ),
+            => |f| data!(f, ExclusiveOr),
     }
 }
 
@@ -86,41 +79,18 @@ pub(crate) fn sum_shifted_rows(x: u32) -> Option<Decoded>
 {
     rows! { x;
         [1110101 1000 1 nnnn z iii 1111 ii tt mmmm]
-            => |f| compare_shifted(
-                CompareNegative, f.register(b'n'),
-                shifted(f.register(b'm'), f.byte(b't'), f.byte(b'i'))
-            ),
+            => |f| compare_shifted(CompareNegative, f.register(b'n'), second!(f)),
         [1110101 1000 S nnnn z iii dddd ii tt mmmm]
  except [xxxxxxx xxxx 1 xxxx x xxx 1111 xx xx xxxx]
-            => |f| data_shifted(
-                Add, f.is_set(b'S'), f.register(b'n'), f.register(b'd'),
-                shifted(f.register(b'm'), f.byte(b't'), f.byte(b'i'))
-            ),
-        [1110101 1010 S nnnn z iii dddd ii tt mmmm]
-            => |f| data_shifted(
-                AddWithCarry, f.is_set(b'S'), f.register(b'n'), f.register(b'd'),
-                shifted(f.register(b'm'), f.byte(b't'), f.byte(b'i'))
-            ),
-        [1110101 1011 S nnnn z iii dddd ii tt mmmm]
-            => |f| data_shifted(
-                SubtractWithCarry, f.is_set(b'S'), f.register(b'n'), f.register(b'd'),
-                shifted(f.register(b'm'), f.byte(b't'), f.byte(b'i'))
-            ),
+            => |f| data!(f, Add),
+        [1110101 1010 S nnnn z iii dddd ii tt mmmm] => |f| data!(f, AddWithCarry),
+        [1110101 1011 S nnnn z iii dddd ii tt mmmm] => |f| data!(f, SubtractWithCarry),
         [1110101 1101 1 nnnn z iii 1111 ii tt mmmm]
-            => |f| compare_shifted(
-                Compare, f.register(b'n'), shifted(f.register(b'm'), f.byte(b't'), f.byte(b'i'))
-            ),
+            => |f| compare_shifted(Compare, f.register(b'n'), second!(f)),
         [1110101 1101 S nnnn z iii dddd ii tt mmmm]
  except [xxxxxxx xxxx 1 xxxx x xxx 1111 xx xx xxxx]
-            => |f| data_shifted(
-                Subtract, f.is_set(b'S'), f.register(b'n'), f.register(b'd'),
-                shifted(f.register(b'm'), f.byte(b't'), f.byte(b'i'))
-            ),
-        [1110101 1110 S nnnn z iii dddd ii tt mmmm]
-            => |f| data_shifted(
-                ReverseSubtract, f.is_set(b'S'), f.register(b'n'), f.register(b'd'),
-                shifted(f.register(b'm'), f.byte(b't'), f.byte(b'i'))
-            ),
+            => |f| data!(f, Subtract),
+        [1110101 1110 S nnnn z iii dddd ii tt mmmm] => |f| data!(f, ReverseSubtract),
     }
 }
 

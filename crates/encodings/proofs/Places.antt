@@ -3,7 +3,7 @@ use Rattle.std.proofs.Common.{◌≡◌, ℕ, suc, ◌+◌, ◌*◌, ◌^◌, �
 use Rattle.std.proofs.Math.Pow.{pow_mono}
 use Rattle.std.proofs.lemmas.Grind.{common_steps}
 use Rattle.std.proofs.lemmas.List.{at_drop_more}
-use Rattle.std.proofs.lemmas.Nat.{mul-le, pow-add}
+use Rattle.std.proofs.lemmas.Nat.{pow-add, row_fits}
 use Rattle.encodings.specs.Masks.{mask_bit, value_bit, digits_of}
 
 pub twice : (k : ℕ) → 2 ^ suc k ≡ 2 * 2 ^ k
@@ -32,10 +32,7 @@ value_bit_small clear set place = bit_small (place == clear) (place == set) 0 (o
 pub digits_below : (digit : ℕ → ℕ) → ((place : ℕ) → digit place < 2) → (places : List ℕ) → digits_of digit places < 2 ^ length places
 digits_below digit small [] = omega arith
 digits_below digit small (place ∷ places) =
-    let top : digit place * 2 ^ length places ≤ 1 * 2 ^ length places =
-    mul-le (digit place) (2 ^ length places) 1 (2 ^ length places) (omega (arith, small place)) (omega arith) in
-    let whole : 2 ^ length (place ∷ places) ≡ 2 * 2 ^ length places = twice (length places) in
-    omega (arith, top, whole, digits_below digit small places)
+    rw (twice (length places)) (omega (arith, row_fits (digit place) (2 ^ length places) 2 (2 ^ length places) (small place) (omega arith), digits_below digit small places))
 
 one_more : (before bit k rest : ℕ) → (before * 2 + bit) * 2 ^ k + rest ≡ before * 2 ^ suc k + (bit * 2 ^ k + rest)
 one_more before bit k rest = rw (twice k) (omega arith)

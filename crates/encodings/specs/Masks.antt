@@ -1,5 +1,6 @@
 -- What a number means by the rows of a table, if one of them applies: each text as a mask and a value.
-use Rattle.std.specs.Prelude.{ℕ, ◌+◌, ◌*◌, ◌^◌, Bool, not, ◌&&◌, ◌||◌, ◌==◌, if◌then◌else◌, List, [], ◌∷◌, length, Option, Some, None, bit_and, false}
+use Rattle.std.specs.Prelude.{ℕ, ◌+◌, ◌*◌, ◌^◌, Bool, not, ◌&&◌, ◌==◌, if◌then◌else◌, List, [], ◌∷◌, length, Option, Some, None, bit_and}
+use Rattle.std.specs.List.{list_any}
 use Rattle.reference.specs.declared.instruction.Decoded.{Decoded}
 use Rattle.reference.specs.Patterns.{place_0, place_1, place_z, place_o}
 use Rattle.reference.specs.Rows.{Row, letters, as_printed}
@@ -34,8 +35,7 @@ by_text clear set places x = masked x (mask_of clear set places) (value_of clear
 
 -- whether one of the exceptions fits
 abbrev pub excepted : List (List ℕ) → ℕ → Bool
-excepted [] x = false
-excepted (text ∷ texts) x = by_text place_0 place_1 text x || excepted texts x
+excepted texts x = list_any (λ text. by_text place_0 place_1 text x) texts
 
 -- whether a row applies, whose text fits or not, and its exceptions
 unfoldable pub chosen : Bool → Bool → Bool

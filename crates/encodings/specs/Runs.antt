@@ -1,5 +1,5 @@
 -- The field of a letter as the runs of its places.
-use Rattle.std.specs.Prelude.{ℕ, ◌+◌, ◌*◌, ◌^◌, Bool, true, false, ◌==◌, if◌then◌else◌, List, [], ◌∷◌, length, count_by}
+use Rattle.std.specs.Prelude.{ℕ, ◌+◌, ◌*◌, ◌^◌, Bool, true, false, ◌==◌, if◌then◌else◌, List, [], ◌∷◌, length}
 use Rattle.reference.specs.Words.{bits}
 
 -- places of one letter, side by side: how many places are below them, and how many they are
@@ -38,4 +38,4 @@ value_at places x letter = joined_runs (runs_of letter places) x
 
 -- how many places a letter has
 abbrev pub width : List ℕ → ℕ → ℕ
-width places letter = count_by (λ place. place == letter) places
+width places letter = width_of (runs_of letter places)

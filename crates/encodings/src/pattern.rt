@@ -75,6 +75,7 @@ pub fn chosen(fits: bool, excepted: bool) -> bool
 
 /// Returns the field of a letter.
 #[inline(always)]
+#[tactic(auto, using(crate::proofs::Places::has_room))]
 fn field(places: &[u8], x: u32, letter: u8) -> u32
     requires { length places.now ≤ 32 }
     ensures { result ≡ field places.now x letter }
@@ -98,7 +99,7 @@ pub struct Letters<'a> {
 impl Letters<'_> {
     /// Returns the field of a letter.
     #[inline(always)]
-    #[tactic(auto, using(crate::proofs::Runs::field_is, crate::proofs::Letters::field_small))]
+    #[tactic(auto, using(crate::proofs::Runs::field_is, crate::proofs::Runs::field_below))]
     pub fn number(self, letter: u8) -> u32
         requires { IsTrue (nat_le (length self.places.now) 32) }
         ensures value { result ≡ value_at self.entry.places.now self.entry.number letter }

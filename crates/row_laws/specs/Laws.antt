@@ -1,5 +1,5 @@
 -- What holds of the rows, whatever the halfwords.
-use Rattle.std.specs.Prelude.{◌≡◌, ℕ, Bool, true, false, ◌&&◌, ◌||◌, ◌==◌, List, [], ◌∷◌, length, All, AllPairs}
+use Rattle.std.specs.Prelude.{◌≡◌, ℕ, Bool, true, false, ◌&&◌, ◌||◌, List, length, All, AllPairs, bytes_eq}
 use Rattle.std.specs.List.{list_any}
 use Rattle.reference.specs.Patterns.{fits}
 use Rattle.reference.specs.Rows.{Row, applies}
@@ -13,17 +13,10 @@ HavePlaces places rows = All (λ row. length row.places ≡ places) rows
 abbrev pub AreApart : List Row → Type 0
 AreApart rows = AllPairs (λ one other. (x : ℕ) → applies one x ≡ true → applies other x ≡ true → ⊥) rows
 
--- whether two texts have the same places
-abbrev pub are_same : List ℕ → List ℕ → Bool
-are_same [] [] = true
-are_same [] (q ∷ qs) = false
-are_same (p ∷ ps) [] = false
-are_same (p ∷ ps) (q ∷ qs) = p == q && are_same ps qs
-
 -- whether the list says that the second row wins over the first
 abbrev pub has_overlap : List Overlap → Row → Row → Bool
 has_overlap overlaps row other =
-    list_any (λ o. are_same row.places o.row.places && list_any (λ winner. are_same other.places winner.places) o.others) overlaps
+    list_any (λ o. bytes_eq row.places o.row.places && list_any (λ winner. bytes_eq other.places winner.places) o.others) overlaps
 
 -- where two texts fit one number, the list has the two rows
 abbrev pub OverlapOnly : List Overlap → List Row → Type 0
