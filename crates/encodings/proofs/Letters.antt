@@ -1,5 +1,5 @@
 -- The field of a letter, place by place from the highest.
-use Rattle.std.proofs.Common.{◌≡◌, ℕ, ◌+◌, ◌-◌, ◌*◌, ◌^◌, ◌<◌, ◌≤◌, nat_le, IsTrue, ◌==◌, if◌then◌else◌, List, [], length, drop, get_or, ap, ◌∙◌, arith, length-drop}
+use Rattle.std.proofs.Common.{◌≡◌, ℕ, ◌+◌, ◌-◌, ◌*◌, ◌^◌, ◌<◌, ◌≤◌, nat_le, IsTrue, ◌==◌, if◌then◌else◌, List, [], length, drop, get_or, refl, arith, length-drop}
 use Rattle.std.proofs.Math.Pow.{pow_mono}
 use Rattle.std.proofs.lemmas.Bool.Decides.{nat_tests}
 use Rattle.std.proofs.lemmas.Grind.{common_steps}
@@ -14,14 +14,13 @@ pub joined_next : (letter : ℕ) (places : List ℕ) (i x before d : ℕ) → i 
     (if get_or places i d == letter then before * 2 + bit_at x (length places - 1 - i) else before)
 unfolding joined_field
 joined_next letter places i x before d h =
-    let below : length (drop (i + 1) places) ≡ length places - 1 - i = omega (arith, h, length-drop (i + 1) places) in
-    at_drop_more (λ rest. joined_field letter rest x before) places i d h
-    ∙ ap (λ k. joined_field letter (drop (i + 1) places) x (if get_or places i d == letter then before * 2 + bit_at x k else before)) below
+    let below : length places - 1 - i ≡ length (drop (i + 1) places) = omega (arith, h, length-drop (i + 1) places) in
+    rw below (at_drop_more (λ rest. joined_field letter rest x before) places i d h)
 
-pub joined_end : (letter : ℕ) (places : List ℕ) (i x before : ℕ) → length places ≤ i → joined_field letter (drop i places) x before ≡ before
+pub joined_end : (letter : ℕ) (places : List ℕ) (i x before : ℕ) → length places ≤ i
+    → joined_field letter (drop i places) x before ≡ before
 unfolding joined_field
-joined_end letter places i x before h =
-    let none : drop i places ≡ [] = grind (arith, common_steps) in ap (λ rest. joined_field letter rest x before) none
+joined_end letter places i x before h = let none : drop i places ≡ [] = grind (arith, common_steps) in rw none refl
 
 pub below_width : (value w n : ℕ) → IsTrue (nat_le w n) → value < 2 ^ w → value < 2 ^ n
 below_width value w n narrow small =

@@ -2,10 +2,11 @@
 use Rattle.std.proofs.Common.{◌≡◌, ℕ, ◌+◌, ◌*◌, ◌/◌, ◌%◌, ◌^◌, ◌<◌, Bool, true, false, ◌==◌, if◌then◌else◌, List, [], ◌∷◌, length, refl, ◌∙◌, arith}
 use Rattle.std.proofs.Math.Nat.{mod-lt}
 use Rattle.std.proofs.lemmas.Bool.{eqb-true}
-use Rattle.std.proofs.lemmas.Nat.{shr-shr, mod-pow-add, pow-add, pow_pos, row_fits}
+use Rattle.std.proofs.lemmas.Nat.{shr-shr, mod-pow-add, pow-add, pow_pos}
 use Rattle.reference.specs.Words.{bit_at, bits}
 use Rattle.reference.specs.Patterns.{joined_field, field}
 use Rattle.encodings.specs.Runs.{Run, with_place, runs_of, width_of, joined_runs, value_at, width}
+use Rattle.encodings.proofs.Places.{joined_below}
 
 -- the bits of the runs, joined
 abbrev pub joined_bits : List Run → ℕ → ℕ
@@ -78,8 +79,7 @@ field_is places x letter = omega (arith, joined_are letter places x 0, value_is 
 bits_below : (runs : List Run) (x : ℕ) → joined_bits runs x < 2 ^ width_of runs
 bits_below [] x = omega arith
 bits_below (run ∷ runs) x =
-    let fits = row_fits (x / 2 ^ run.low % 2 ^ run.width) (2 ^ width_of runs) (2 ^ run.width) (2 ^ width_of runs) (mod-lt _ (pow_pos run.width)) (omega arith) in
-    rw (pow-add 2 run.width (width_of runs)) (omega (arith, fits, bits_below runs x))
+    joined_below _ _ run.width (width_of runs) (mod-lt _ (pow_pos run.width)) (bits_below runs x)
 
 pub field_below : (places : List ℕ) (x letter : ℕ) → field places x letter < 2 ^ width places letter
 field_below places x letter = omega (arith, joined_are letter places x 0, bits_below (runs_of letter places) x)

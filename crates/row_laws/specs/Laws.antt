@@ -16,7 +16,7 @@ AreApart rows = AllPairs (λ one other. (x : ℕ) → applies one x ≡ true →
 -- whether the list says that the second row wins over the first
 abbrev pub has_overlap : List Overlap → Row → Row → Bool
 has_overlap overlaps row other =
-    list_any (λ o. bytes_eq row.places o.row.places && list_any (λ winner. bytes_eq other.places winner.places) o.others) overlaps
+    list_any (λ o. bytes_eq row.places o.row.places && list_any (λ w. bytes_eq other.places w.places) o.others) overlaps
 
 -- where two texts fit one number, the list has the two rows
 abbrev pub OverlapOnly : List Overlap → List Row → Type 0

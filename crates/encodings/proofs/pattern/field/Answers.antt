@@ -11,13 +11,15 @@ loop-i-preserved c =
     elim c.if-places-i.branch [
       | then-places-i w ↦ rw w.field-is (record {
         rest = grind (arith, nat_tests, next, w.if-places-i.true, c.loop-i.invariant.rest);
-        small = grows c.loop-i.field _ c.loop-i.i c.loop-i.invariant.small (omega arith);
+        small = grows _ _ _ c.loop-i.invariant.small (omega arith);
       })
       | else-places-i w ↦ rw w.field-is (record {
         rest = grind (arith, nat_tests, next, w.if-places-i.false, c.loop-i.invariant.rest);
-        small = omega (arith, grows c.loop-i.field 0 c.loop-i.i c.loop-i.invariant.small (omega arith));
+        small = omega (arith, grows c.loop-i.field 0 _ c.loop-i.invariant.small (omega arith));
       })
     ]
 
 pub returns : goal.returns
-returns c = sym (joined_end c.args.letter c.args.places.now c.loop-i.i c.args.x c.loop-i.field (omega (arith, c.loop-i-test.false))) ∙ c.loop-i.invariant.rest
+returns c =
+    sym (joined_end _ c.args.places.now c.loop-i.i c.args.x _ (omega (arith, c.loop-i-test.false)))
+    ∙ c.loop-i.invariant.rest
