@@ -160,3 +160,30 @@ fn special_registers_in_thread_mode(rt: HostRuntime) -> Result<(), Fail> {
     assert!(rt; specials.regs.main_stack() == 0x2000_0FFC);
     Ok(())
 }
+
+/// The same, in the handler of line 0.
+const HANDLER: &str = "\
+mrs ipsr | 00000010 | IPSR has the exception's number
+mrs iepsr | 00000010 |
+mrs iapsr | 00000010 | beside the flags, which are 0
+mrs xpsr | 00000010 |
+mrs eapsr | 00000000 | without it
+msr control 00000003 | | SPSEL isn't written in Handler mode
+mrs control | 00000001 |
+msr primask 00000001 | | a handler is privileged, whatever nPRIV is
+mrs primask | 00000001 |
+cpsie i | |
+mrs primask | 00000000 |
+msr psp 20000802 | |
+mrs psp | 20000800 |
+mrs msp | 20001000 |
+msr control 00000002 | |
+mrs control | 00000000 | nPRIV is written";
+
+#[test]
+fn special_registers_in_a_handler(rt: HostRuntime) -> Result<(), Fail> {
+    let system = System::reset(0, 8, 4, 8, Vec::new(rt.alloc()));
+    let mut regs = Regs::reset(0x2000_1000, 0x0000_0101);
+    regs.enter_handler(16, 0xFFFF_FFF9, 0x0000_0201);
+    check(HANDLER, &mut Specials { regs, system })
+}

@@ -108,7 +108,8 @@ impl Rows for Registers {
         let refused = are_refused(system, address);
         let kept = loaded(system, address)? == number_at(part(row, 0), 1)?;
         let width = word(part(row, 1), 0) == "any" || have_width(system, address, "word");
-        let store = access_of(Kind::Store, Size::Word, address, 0xFFFF_FFFF, true);
+        let value = number_at(part(row, 2), 2).unwrap_or(0xFFFF_FFFF);
+        let store = access_of(Kind::Store, Size::Word, address, value, true);
         let stored = is_answer(system.access(0, &store), word(part(row, 2), 0));
         let ones = loaded(system, address)? == number_at(part(row, 2), 1)?;
         let parts = word(part(row, 1), 0) == "word" || have_width(system, address, "any");
@@ -117,8 +118,9 @@ impl Rows for Registers {
 }
 
 /// The address and the value after a reset; whether it takes words alone or any width; what a store
-/// of ones is answered, and the value then; the register. The rows come one after another on one
-/// system, so each also shows that the stores before it left this register.
+/// of ones is answered, the value then, and what is stored, where it isn't ones; the register. The
+/// rows come one after another on one system, so each also shows that the stores before it left this
+/// register.
 const REGISTERS: &str = "\
 E000E004 00000000 | word | 0 00000000 | ICTR
 E000E014 00000000 | word | 0 00FFFFFF | SYST_RVR
@@ -164,6 +166,10 @@ E000ED98 00000000 | word | mpu-region 00000000 | MPU_RNR
 E000ED9C 00000000 | word | mpu-region 00000000 | MPU_RBAR
 E000EDA0 00000000 | word | 0 173FFF3F | MPU_RASR
 E000EDA4 00000000 | word | mpu-region 00000000 | MPU_RBAR_A1
+E000EDA8 173FFF3F | word | 0 173FFF3F | MPU_RASR_A1 is MPU_RASR
+E000EDAC 00000000 | word | mpu-region 00000000 | MPU_RBAR_A2
+E000EDB0 173FFF3F | word | 0 173FFF3F | MPU_RASR_A2 is MPU_RASR
+E000EDB4 00000000 | word | mpu-region 00000000 | MPU_RBAR_A3
 E000EDB8 173FFF3F | word | 0 173FFF3F | MPU_RASR_A3 is MPU_RASR
 E000EDBC 00000000 | any | 0 00000000 | beyond the MPU
 E000EF00 00000000 | word | 0 00000000 | STIR
@@ -173,6 +179,22 @@ E0042000 00000000 | any | 0 00000000 | a word far from all registers";
 fn each_register(rt: HostRuntime) -> Result<(), Fail> {
     let system = reset(Vec::new(rt.alloc()));
     check(REGISTERS, &mut Registers { system })
+}
+
+/// Registers at which a store of ones stops or is ignored: the same, with ones in all bits but those.
+const WITHOUT_STOPS: &str = "\
+E000ED04 00000000 | word | 0 94002000 F5FFFFFF | ICSR without its clear bits: NMI, PendSV and SysTick
+E000ED0C FA050000 | word | 0 FA050700 05FAFFF8 | AIRCR with the key and no request
+E000ED10 00000000 | word | 0 00000014 FFFFFFFD | SCR without SLEEPONEXIT
+E000ED14 00000200 | word | 0 0000021B FFFFFEFF | CCR without BFHFNMIGN
+E000ED24 00000000 | word | 0 0007F000 FFFFF374 | SHCSR without its active bits
+E000ED98 00000000 | word | 0 00000007 FFFFFF07 | MPU_RNR of the last region
+E000ED9C 00000007 | word | 0 FFFFFFE7 FFFFFFF7 | MPU_RBAR of the last region";
+
+#[test]
+fn each_register_without_stops(rt: HostRuntime) -> Result<(), Fail> {
+    let system = reset(Vec::new(rt.alloc()));
+    check(WITHOUT_STOPS, &mut Registers { system })
 }
 
 /// Accesses one after another, or ticks, or a change that a handler makes.
@@ -385,6 +407,20 @@ fn ticks_pend_what_they_bring(rt: HostRuntime) -> Result<(), Fail> {
     script.push(event(5, Signal::Nmi))?;
     let system = reset(script);
     check(TICKS, &mut Steps { system })
+}
+
+const REGIONS: &str = "\
+S word E000ED9C 20000019 p | mpu-region | region 9 of eight
+L word E000ED98 00000000 p | 00000000 | it isn't selected
+L word E000ED9C 00000000 p | 00000000 | and region 0 is as it was
+S word E000ED9C 20000017 p | 0 | its neighbour that is there
+L word E000ED98 00000000 p | 00000007 | it is selected
+L word E000ED9C 00000000 p | 20000007 | and has its base";
+
+#[test]
+fn a_region_that_is_not_there(rt: HostRuntime) -> Result<(), Fail> {
+    let system = reset(Vec::new(rt.alloc()));
+    check(REGIONS, &mut Steps { system })
 }
 
 #[test]
