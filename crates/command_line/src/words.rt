@@ -131,9 +131,10 @@ const AFTER_MARM: &str = "\
 Exit status:
   0  all steps were made, a breakpoint was met, or a debug session ended; or the version was asked for
   2  the words are wrong, or help was asked for (marm: usage)
-  3  the image or the board is refused (marm: load, board, start, size)
+  3  the image or the board is refused, or memory ran out for the board or the machine
+     (marm: load, board, start, size)
   4  the machine stopped otherwise: the trace's last line says why
-  5  reading or writing failed, or memory ran out (marm: io)
+  5  reading or writing failed, or memory ran out for the words or a file (marm: io)
 
 Example:
   marm run --board examples/boards/small.toml --steps 10 examples/first.elf";
@@ -146,9 +147,10 @@ and the rule or region that decided it. Its last line says why the run ended.
 Exit status:
   0  all steps were made, or a breakpoint was met
   2  the words are wrong, or help was asked for (marm: usage)
-  3  the image or the board is refused (marm: load, board, start, size)
+  3  the image or the board is refused, or memory ran out for the board or the machine
+     (marm: load, board, start, size)
   4  the machine stopped otherwise: the trace's last line says why
-  5  reading or writing failed, or memory ran out (marm: io)
+  5  reading or writing failed, or memory ran out for the words or a file (marm: io)
 
 Example:
   marm run --board examples/boards/small.toml --steps 10 examples/first.elf";
@@ -173,8 +175,9 @@ and `error 3` (16 breakpoints are set) change nothing.
 Exit status:
   0  the session ended
   2  the words are wrong, or help was asked for (marm: usage)
-  3  the image or the board is refused (marm: load, board, start, size)
-  5  reading or writing failed, or memory ran out (marm: io)
+  3  the image or the board is refused, or memory ran out for the board or the machine
+     (marm: load, board, start, size)
+  5  reading or writing failed, or memory ran out for the words or a file (marm: io)
 
 Example:
   echo 'explain 0x20000000 u w' |

@@ -1,11 +1,11 @@
 -- The bytes of a session, one after another.
-use Rattle.std.proofs.Common.{◌≡◌, ◌⊎◌, inl, inr, ℕ, ◌+◌, ◌-◌, ◌^◌, ◌<◌, ◌≤◌, zero, suc, Bool, true, false, List, [], ◌∷◌, ◌++◌, length, take, slice_index, Option, Some, None, refl, sym, ◌∙◌, ap, subst, append_assoc, length-append, arith}
+use Rattle.std.proofs.Common.{◌≡◌, inl, inr, ℕ, ◌+◌, ◌-◌, ◌^◌, ◌<◌, ◌≤◌, zero, suc, Bool, true, false, List, [], ◌∷◌, ◌++◌, length, take, slice_index, Some, refl, sym, ◌∙◌, ap, subst, append_assoc, length-append, arith}
 use Rattle.std.proofs.lemmas.List.{append-nil}
-use Rattle.std.specs.Io.KnownBytes.{Consumes, IsAtEnd, Keeps}
+use Rattle.std.specs.Io.KnownBytes.{IsAtEnd, Keeps}
 use Rattle.std.proofs.KnownBytes.{Consumes-nil, Consumes-trans, Consumes-kept}
 use Rattle.debugger.proofs.Telling.{none_told, told_on, cut_on, cut_before}
 use Rattle.debugger.specs.Answers.{Piece}
-use Rattle.debugger.specs.Sessions.{FailsToRead, FailsToWrite, Hears, Holds, Kept, Sink, Source, Talk, TellsAll, TellsPart, after_bytes, after_line, all_answers, answers, is_line_feed, last_state, next, opened, said, said_at_end, talk}
+use Rattle.debugger.specs.Sessions.{FailsToRead, FailsToWrite, Hears, Holds, Kept, Sink, Source, Talk, TellsAll, TellsPart, after_bytes, all_answers, answers, is_line_feed, last_state, next, opened, said, said_at_end, talk}
 use Rattle.machine.specs.Whole.{Whole}
 use Rattle.reference.specs.State.{State}
 

@@ -1,4 +1,4 @@
 mod Hearing
-mod Parts
 mod Running
+mod Showing
 mod Telling

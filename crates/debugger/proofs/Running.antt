@@ -1,10 +1,12 @@
 -- The pieces of a run, one after another.
-use Rattle.std.proofs.Common.{◌≡◌, ◌⊎◌, inl, inr, ℕ, zero, suc, ◌-◌, ◌<◌, Bool, true, false, List, [], ◌∷◌, ◌++◌, Option, is_some, refl, sym, ◌∙◌, ap, subst, arith}
+use Rattle.std.proofs.Common.{◌≡◌, ◌⊎◌, inl, inr, ℕ, zero, suc, ◌-◌, ◌<◌, true, false, List, [], ◌∷◌, Option, is_some, refl, sym, ◌∙◌, ap, subst, arith}
 use Rattle.debugger.proofs.Telling.{Told, one_more, rest_cut, cut_before, cut_on}
-use Rattle.debugger.specs.Answers.{Piece, answer, end_piece, end_text, ends_at, reply, run_on, run_pieces, step_piece, steps_of}
-use Rattle.debugger.specs.declared.commands.Command.{Command}
-use Rattle.debugger.specs.declared.commands.LineFault.{LineFault}
+use Rattle.debugger.specs.Answers.{Piece, answer, end_piece, ends_at, reply, run_on, run_pieces, step_piece}
 use Rattle.debugger.specs.Sessions.{Sink, TellsAll, TellsPart}
+use Rattle.debugger_commands.specs.declared.commands.Command.{Command}
+use Rattle.debugger_commands.specs.declared.commands.LineFault.{LineFault}
+use Rattle.debugger_commands.specs.Commands.{steps_of}
+use Rattle.debugger_commands.specs.Texts.{end_text}
 use Rattle.machine.specs.Whole.{Whole}
 use Rattle.reference.specs.declared.stop.Stop.{Stop}
 use Rattle.reference.specs.State.{State}

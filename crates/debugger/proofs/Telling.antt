@@ -1,12 +1,12 @@
 -- Pieces that go out one after another.
-use Rattle.std.proofs.Common.{◌≡◌, ℕ, ◌+◌, List, [], ◌∷◌, ◌++◌, Option, refl, sym, ◌∙◌, ap, append_assoc}
+use Rattle.std.proofs.Common.{◌≡◌, ◌+◌, List, [], ◌∷◌, ◌++◌, refl, sym, ◌∙◌, ap, append_assoc}
 use Rattle.std.proofs.lemmas.List.{append-nil}
 use Rattle.std.specs.Io.KnownBytes.{Appends}
 use Rattle.std.proofs.KnownBytes.{Appends-nil, Appends-trans}
 use Rattle.debugger.specs.Answers.{Piece}
 use Rattle.debugger.specs.Sessions.{Sink, TellsAll, TellsPart, texts, last_state}
 use Rattle.machine.specs.Whole.{Whole}
-use Rattle.output.specs.Output.{IsCutAfter, IsCutShort}
+use Rattle.output.specs.Output.{IsCutShort}
 use Rattle.reference.specs.State.{State}
 
 pub texts-append : (xs ys : List Piece) → texts (xs ++ ys) ≡ texts xs ++ texts ys

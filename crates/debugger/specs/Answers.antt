@@ -1,44 +1,23 @@
 -- What the debugger answers to a command (profile).
-use Rattle.std.specs.Prelude.{ℕ, zero, suc, ◌+◌, ◌-◌, nat_lt, Bool, true, false, ◌&&◌, ◌||◌, ◌==◌, if◌then◌else◌, is_some, List, [], ◌∷◌, ◌++◌, length, slice_index, codes, decimal, Option, Some, None, Result, Ok, Err}
-use Rattle.std.specs.List.{list_any}
-use Rattle.debugger.specs.declared.sessions.TheConstants.{MOST_BREAKPOINTS}
-use Rattle.debugger.specs.declared.commands.Command.{Command}
-use Rattle.debugger.specs.declared.commands.Command.TheVariants as command
-use Rattle.debugger.specs.declared.commands.LineFault.{LineFault}
-use Rattle.debugger.specs.declared.commands.LineFault.TheVariants as fault
+use Rattle.std.specs.Prelude.{ℕ, zero, suc, ◌+◌, ◌-◌, Bool, true, false, ◌&&◌, ◌||◌, if◌then◌else◌, is_some, List, [], ◌∷◌, ◌++◌, codes, Option, Some, None, Result, Ok, Err}
+use Rattle.debugger_commands.specs.declared.commands.Command.{Command}
+use Rattle.debugger_commands.specs.declared.commands.Command.TheVariants as command
+use Rattle.debugger_commands.specs.declared.commands.LineFault.{LineFault}
+use Rattle.debugger_commands.specs.Breakpoints.{breakpoint_text, has}
+use Rattle.debugger_commands.specs.Commands.{steps_of}
+use Rattle.debugger_commands.specs.Texts.{decision_text, end_text, fault_text, general_lines, memory_text, region_lines, register_line}
 use Rattle.machine.specs.declared.foresight.StepKind.{StepKind}
 use Rattle.machine.specs.declared.foresight.StepKind.TheVariants as kind
 use Rattle.machine.specs.declared.readers.RegValues.{RegValues}
 use Rattle.machine.specs.Foresight.{next_kind_of}
 use Rattle.machine.specs.Values.{values_of}
-use Rattle.reference.specs.declared.access.Decision.{Decision}
-use Rattle.reference.specs.declared.stop.Stop.{Stop}
-use Rattle.reference.specs.Memory.{Memory, byte_at}
 use Rattle.reference.specs.Priorities.{is_below_zero}
-use Rattle.reference.specs.Regions.{Mpu, shown}
 use Rattle.reference.specs.Rules.{decision_of}
 use Rattle.reference.specs.State.{State}
 use Rattle.reference.specs.Step.{step}
-use Rattle.reference.specs.Text.{hex_byte, hex_word, line_feed, lines, rule_text, stop_line}
-use Rattle.reference.specs.Words.{word_sum}
+use Rattle.reference.specs.Text.{lines}
 
 -- ---- regs: a line for each register
-
-abbrev pub spaced : ℕ → List ℕ
-spaced word = codes " " ++ hex_word word
-
--- a value after the name of its register
-abbrev pub value_text : ℕ → List ℕ
-value_text value = spaced value ++ line_feed
-
-abbrev pub register_line : List ℕ → ℕ → List ℕ
-register_line name value = name ++ value_text value
-
--- the lines of the general registers below n
-unfoldable pub general_lines : List ℕ → ℕ → List ℕ
-general_lines values zero = []
-general_lines values (suc n) =
-    general_lines values n ++ register_line (codes "R" ++ decimal n) (slice_index values n)
 
 -- the lines of the stack pointers, LR, PC and XPSR
 unfoldable pub core_lines : RegValues → List ℕ
@@ -55,77 +34,12 @@ mask_lines v =
 abbrev pub registers_text : RegValues → List ℕ
 registers_text v = (general_lines v.general 13 ++ core_lines v) ++ mask_lines v
 
--- ---- mem a n: the address, and each byte
-
-abbrev pub byte_text : Option ℕ → List ℕ
-byte_text None = codes " --"
-byte_text (Some byte) = codes " " ++ hex_byte byte
-
--- the first n bytes from an address on, which wraps at 2^32
-unfoldable pub bytes_text : Memory → ℕ → ℕ → List ℕ
-bytes_text m a zero = []
-bytes_text m a (suc n) = bytes_text m a n ++ byte_text (byte_at m (word_sum a n))
-
-abbrev pub memory_text : Memory → ℕ → ℕ → List ℕ
-memory_text m a n = ((hex_word a ++ codes ":") ++ bytes_text m a n) ++ line_feed
-
--- ---- regions: a line for each region that the board has
-
-abbrev pub region_name : ℕ → List ℕ
-region_name k = codes "r" ++ decimal k
-
-abbrev pub words_line : ℕ → ℕ → ℕ → List ℕ
-words_line k rbar rasr = (region_name k ++ spaced rbar) ++ value_text rasr
-
-abbrev pub region_line : ℕ → Option (ℕ × ℕ) → List ℕ
-region_line k None = []
-region_line k (Some words) = words_line k words.0 words.1
-
-unfoldable pub region_lines : Mpu → ℕ → List ℕ
-region_lines m zero = []
-region_lines m (suc k) = region_lines m k ++ region_line k (shown m k)
-
--- ---- explain: the rule that would decide, and whether it would grant the access
-
-abbrev pub grant_text : Bool → List ℕ
-grant_text true = codes " ok"
-grant_text false = codes " mpu"
-
-abbrev pub decision_text : Decision → List ℕ
-decision_text d = (rule_text d.rule ++ grant_text d.granted) ++ line_feed
-
--- ---- break a
-
-abbrev pub has : List ℕ → ℕ → Bool
-has breakpoints a = list_any (λ b. b == a) breakpoints
-
--- the breakpoints with one more, where there is room for it
-abbrev pub with_breakpoint : List ℕ → ℕ → List ℕ
-with_breakpoint breakpoints a =
-    if has breakpoints a then breakpoints
-    else if nat_lt (length breakpoints) MOST_BREAKPOINTS then breakpoints ++ a ∷ []
-    else breakpoints
-
-abbrev pub breakpoint_text : List ℕ → ℕ → List ℕ
-breakpoint_text breakpoints a =
-    if has breakpoints a || nat_lt (length breakpoints) MOST_BREAKPOINTS then codes "ok" ++ line_feed
-    else codes "error 3" ++ line_feed
-
-abbrev pub fault_text : LineFault → List ℕ
-fault_text fault.Command = codes "error 1" ++ line_feed
-fault_text fault.Word = codes "error 2" ++ line_feed
-
 -- ---- step and run n
 
 -- a text that is written at once, and the state of the machine by then
 pub record Piece : Type 0 where
   pub state : State
   pub text : List ℕ
-
--- where the machine is: its stop, or the address of the next instruction
-abbrev pub end_text : ℕ → Option Stop → List ℕ
-end_text pc None = (codes "at " ++ hex_word pc) ++ line_feed
-end_text pc (Some why) = stop_line why
 
 abbrev pub end_piece : State → Piece
 end_piece s = record { state = s; text = end_text s.registers.pc s.stop }
@@ -179,17 +93,6 @@ reply_text s breakpoints (Ok command.Quit) = []
 abbrev pub reply : State → List ℕ → Result Command LineFault → List Piece
 reply s breakpoints asked = record { state = s; text = reply_text s breakpoints asked } ∷ []
 
--- how many steps a command makes at most, where it makes any
-abbrev pub steps_of : Result Command LineFault → Option ℕ
-steps_of (Err why) = None
-steps_of (Ok (command.Run n)) = Some n
-steps_of (Ok (command.Break a)) = None
-steps_of (Ok command.Regs) = None
-steps_of (Ok (command.Memory a n)) = None
-steps_of (Ok command.Regions) = None
-steps_of (Ok (command.Explain a privileged kind)) = None
-steps_of (Ok command.Quit) = None
-
 abbrev pub answer_by : State → List ℕ → Result Command LineFault → Option ℕ → List Piece
 answer_by s breakpoints asked None = reply s breakpoints asked
 answer_by s breakpoints asked (Some n) = run_pieces breakpoints n s
@@ -197,25 +100,3 @@ answer_by s breakpoints asked (Some n) = run_pieces breakpoints n s
 -- the answer to a line
 abbrev pub answer : State → List ℕ → Result Command LineFault → List Piece
 answer s breakpoints asked = answer_by s breakpoints asked (steps_of asked)
-
--- the breakpoints after a command
-abbrev pub breakpoints_after : List ℕ → Result Command LineFault → List ℕ
-breakpoints_after breakpoints (Err why) = breakpoints
-breakpoints_after breakpoints (Ok (command.Run n)) = breakpoints
-breakpoints_after breakpoints (Ok (command.Break a)) = with_breakpoint breakpoints a
-breakpoints_after breakpoints (Ok command.Regs) = breakpoints
-breakpoints_after breakpoints (Ok (command.Memory a n)) = breakpoints
-breakpoints_after breakpoints (Ok command.Regions) = breakpoints
-breakpoints_after breakpoints (Ok (command.Explain a privileged kind)) = breakpoints
-breakpoints_after breakpoints (Ok command.Quit) = breakpoints
-
--- whether a command ends the session
-abbrev pub quits : Result Command LineFault → Bool
-quits (Err why) = false
-quits (Ok (command.Run n)) = false
-quits (Ok (command.Break a)) = false
-quits (Ok command.Regs) = false
-quits (Ok (command.Memory a n)) = false
-quits (Ok command.Regions) = false
-quits (Ok (command.Explain a privileged kind)) = false
-quits (Ok command.Quit) = true

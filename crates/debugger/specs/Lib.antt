@@ -1,5 +1,2 @@
 pub mod Answers
-pub mod Commands
-pub mod Seen
 pub mod Sessions
-pub mod Words

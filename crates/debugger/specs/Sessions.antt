@@ -1,11 +1,12 @@
 -- A session: the bytes that it hears, one after another, and what it answers (profile).
-use Rattle.std.specs.Prelude.{◌≡◌, ◌⊎◌, ℕ, ◌+◌, ◌-◌, ◌^◌, Bool, true, false, not, ◌&&◌, ◌==◌, if◌then◌else◌, List, [], ◌∷◌, ◌++◌, length, Option, Some, None, Result, Ok, Err}
+use Rattle.std.specs.Prelude.{◌≡◌, ◌⊎◌, ℕ, ◌+◌, ◌-◌, ◌^◌, Bool, true, false, not, ◌==◌, if◌then◌else◌, List, [], ◌∷◌, ◌++◌, length, Option, Some, None, Result, Ok, Err}
 use Rattle.std.specs.Io.KnownBytes.{Appends, Consumes, IsAtEnd, Keeps}
 use Rattle.debugger.specs.declared.sessions.SessionFault.{SessionFault}
 use Rattle.debugger.specs.declared.sessions.SessionFault.TheVariants.{Read, Write}
-use Rattle.debugger.specs.Answers.{Piece, answer, breakpoints_after, quits}
-use Rattle.debugger.specs.Commands.{command_in}
-use Rattle.debugger.specs.Words.{is_empty, with_byte}
+use Rattle.debugger.specs.Answers.{Piece, answer}
+use Rattle.debugger_commands.specs.Breakpoints.{breakpoints_after}
+use Rattle.debugger_commands.specs.Commands.{command_in, quits}
+use Rattle.debugger_commands.specs.Words.{is_empty, with_byte}
 use Rattle.machine.specs.Whole.{Whole}
 use Rattle.output.specs.Output.{IsCutAfter}
 use Rattle.reference.specs.State.{State}

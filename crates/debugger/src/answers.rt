@@ -1,10 +1,10 @@
 //! What the debugger answers to a command: the steps of a run, or a text.
 
 ghost use Rattle.std.specs.Prelude.{◌≡◌, ◌-◌, [], ◌∷◌};
-ghost use Rattle.debugger.specs.Answers.{end_piece, ends_at, has, is_hit, is_instruction, run_on, run_pieces, step_piece};
+ghost use Rattle.debugger.specs.Answers.{end_piece, ends_at, is_hit, is_instruction, run_on, run_pieces, step_piece};
 ghost use Rattle.debugger.specs.Sessions.{Tells};
 
-use crate::texts::end_text;
+use debugger_commands::{Breakpoints, end_text};
 use machine::{Decider, DueTicks, Events, IoFault, Levels, Machine, Out, StepKind};
 use output::StepPage;
 use trace::tick::Tick;
@@ -42,13 +42,6 @@ impl StepRoom {
     }
 }
 
-/// Returns whether a breakpoint is set at an address.
-pub fn has(breakpoints: &[u32], address: u32) -> bool
-    ensures { result ≡ has breakpoints.now address }
-{
-    breakpoints.iter().any(|breakpoint| *breakpoint == address)
-}
-
 /// Returns whether a step is an instruction.
 fn is_instruction(kind: Option<StepKind>) -> bool
     ensures { result ≡ is_instruction kind }
@@ -59,17 +52,17 @@ fn is_instruction(kind: Option<StepKind>) -> bool
 /// Returns whether the next step is an instruction at a breakpoint.
 fn is_hit<D: Decider, L: Levels, U: DueTicks>(
     machine: &Machine<D, L, U>,
-    breakpoints: &[u32],
+    breakpoints: &Breakpoints,
 ) -> bool
     ensures { result ≡ is_hit breakpoints.now machine.now.state }
 {
-    has(breakpoints, machine.regs().pc) && is_instruction(machine.next_kind())
+    breakpoints.has(machine.regs().pc) && is_instruction(machine.next_kind())
 }
 
 /// Returns whether a run ends after a step: the machine has stopped, or a breakpoint is hit.
 fn ends_at<D: Decider, L: Levels, U: DueTicks>(
     machine: &Machine<D, L, U>,
-    breakpoints: &[u32],
+    breakpoints: &Breakpoints,
 ) -> bool
     ensures { result ≡ ends_at breakpoints.now machine.now.state }
 {
@@ -95,7 +88,7 @@ fn put_end<D: Decider, L: Levels, U: DueTicks, W: Out>(
 fn run_on<D: Decider, L: Levels, U: DueTicks, W: Out>(
     room: &mut StepRoom,
     machine: &mut Machine<D, L, U>,
-    breakpoints: &[u32],
+    breakpoints: &Breakpoints,
     steps: u32,
     out: &mut W,
 ) -> Result<(), IoFault>
@@ -122,7 +115,7 @@ fn run_on<D: Decider, L: Levels, U: DueTicks, W: Out>(
 /// has stopped makes none.
 pub fn run<D: Decider, L: Levels, U: DueTicks, W: Out>(
     machine: &mut Machine<D, L, U>,
-    breakpoints: &[u32],
+    breakpoints: &Breakpoints,
     steps: u32,
     out: &mut W,
 ) -> Result<(), IoFault>

@@ -1,20 +1,18 @@
 //! A session: lines are heard byte by byte, and each is answered.
 
 ghost use Rattle.std.specs.Prelude.{◌≡◌, [], Some, Ok, IfOk};
-ghost use Rattle.debugger.specs.Answers.{answer, breakpoint_text, breakpoints_after, quits, reply_text, steps_of, with_breakpoint};
-ghost use Rattle.debugger.specs.Commands.{command_in};
+ghost use Rattle.debugger.specs.Answers.{answer, reply_text};
 ghost use Rattle.debugger.specs.Sessions.{after_line, GivesByte, GoesOn, line_said, next, said, said_at_end, Sessions, talk, Tells};
+ghost use Rattle.debugger_commands.specs.Breakpoints.{breakpoints_after};
 
-use crate::answers::{has, run};
-use crate::commands::{Command, LineFault, read_line};
-use crate::listener::Listener;
-use crate::texts::{Answer, decision_text, fault_text, memory_text, regions_text, registers_text};
-use arrayvec::ArrayVec;
+use crate::answers::run;
+use crate::texts::{memory_text, regions_text, registers_text};
+use debugger_commands::{
+    Answer, Breakpoints, Command, LineFault, Listener, decision_text, fault_text, quits, read_line,
+    steps_of,
+};
 use machine::{Decider, DueTicks, In, IoFault, Levels, Machine, Out};
 use std::marker::Model;
-
-/// The most breakpoints.
-pub const MOST_BREAKPOINTS: usize = 16;
 
 /// Why a session ends before its input does.
 #[derive(Clone, Copy)]
@@ -28,7 +26,7 @@ pub enum SessionFault {
 /// What a session keeps between two bytes, beside the machine.
 #[derive(Drop)]
 struct Debugger {
-    breakpoints: ArrayVec<u32, MOST_BREAKPOINTS>,
+    breakpoints: Breakpoints,
     listener: Listener,
 }
 
@@ -37,7 +35,7 @@ impl Model for Debugger {
 
     ghost Value = { Kept };
 
-    ghost view = { λ d. record { breakpoints = d.breakpoints.items; line = d.listener } };
+    ghost view = { λ d. record { breakpoints = d.breakpoints; line = d.listener } };
 }
 
 impl Debugger {
@@ -46,26 +44,9 @@ impl Debugger {
         ensures { result ≡ record { breakpoints = []; line = Some [] } }
     {
         Debugger {
-            breakpoints: ArrayVec::new(),
+            breakpoints: Breakpoints::new(),
             listener: Listener::new(),
         }
-    }
-
-    /// Sets a breakpoint, and returns the answer.
-    fn set_breakpoint(&mut self, address: u32) -> Answer
-        ensures text { result ≡ breakpoint_text self.old.breakpoints address }
-        ensures kept { self.new ≡ record self.old { breakpoints = with_breakpoint self.old.breakpoints address } }
-    {
-        let mut page = Answer::new();
-        if has(self.breakpoints.as_slice(), address) {
-            page.put(b"ok\n");
-        } else if self.breakpoints.len() < MOST_BREAKPOINTS {
-            self.breakpoints.push(address);
-            page.put(b"ok\n");
-        } else {
-            page.put(b"error 3\n");
-        }
-        page
     }
 
     /// Returns the answer to a line that makes no step.
@@ -79,7 +60,7 @@ impl Debugger {
     {
         match asked {
             Ok(Command::Run(_) | Command::Quit) => Answer::new(),
-            Ok(Command::Break(address)) => self.set_breakpoint(address),
+            Ok(Command::Break(address)) => self.breakpoints.set(address),
             Ok(Command::Regs) => registers_text(&machine.regs()),
             Ok(Command::Memory(address, last)) => memory_text(machine, address, last as u32 + 1),
             Ok(Command::Regions) => regions_text(machine),
@@ -101,7 +82,7 @@ impl Debugger {
         ensures kept { self.new ≡ record self.old { breakpoints = breakpoints_after self.old.breakpoints asked } }
     {
         match steps_of(asked) {
-            Some(steps) => return run(machine, self.breakpoints.as_slice(), steps, out),
+            Some(steps) => return run(machine, &self.breakpoints, steps, out),
             None => {}
         }
         let page = self.reply(machine, asked);
@@ -165,23 +146,6 @@ impl Debugger {
             Err(fault) => Err(fault),
         }
     }
-}
-
-/// Returns how many steps a command makes at most, where it makes any.
-fn steps_of(asked: Result<Command, LineFault>) -> Option<u32>
-    ensures { result ≡ steps_of asked }
-{
-    match asked {
-        Ok(Command::Run(steps)) => Some(steps),
-        _ => None,
-    }
-}
-
-/// Returns whether a line ends the session.
-fn quits(asked: Result<Command, LineFault>) -> bool
-    ensures { result ≡ quits asked }
-{
-    matches!(asked, Ok(Command::Quit))
 }
 
 /// Reads commands, one a line, and writes their answers, up to `quit` or the end of the input. Where

@@ -30,9 +30,10 @@ out
 out Exit status:
 out   0  all steps were made, a breakpoint was met, or a debug session ended; or the version was asked for
 out   2  the words are wrong, or help was asked for (marm: usage)
-out   3  the image or the board is refused (marm: load, board, start, size)
+out   3  the image or the board is refused, or memory ran out for the board or the machine
+out      (marm: load, board, start, size)
 out   4  the machine stopped otherwise: the trace's last line says why
-out   5  reading or writing failed, or memory ran out (marm: io)
+out   5  reading or writing failed, or memory ran out for the words or a file (marm: io)
 out
 out Example:
 out   marm run --board examples/boards/small.toml --steps 10 examples/first.elf
@@ -59,9 +60,10 @@ out
 out Exit status:
 out   0  all steps were made, or a breakpoint was met
 out   2  the words are wrong, or help was asked for (marm: usage)
-out   3  the image or the board is refused (marm: load, board, start, size)
+out   3  the image or the board is refused, or memory ran out for the board or the machine
+out      (marm: load, board, start, size)
 out   4  the machine stopped otherwise: the trace's last line says why
-out   5  reading or writing failed, or memory ran out (marm: io)
+out   5  reading or writing failed, or memory ran out for the words or a file (marm: io)
 out
 out Example:
 out   marm run --board examples/boards/small.toml --steps 10 examples/first.elf
@@ -86,9 +88,10 @@ out
 out Exit status:
 out   0  all steps were made, a breakpoint was met, or a debug session ended; or the version was asked for
 out   2  the words are wrong, or help was asked for (marm: usage)
-out   3  the image or the board is refused (marm: load, board, start, size)
+out   3  the image or the board is refused, or memory ran out for the board or the machine
+out      (marm: load, board, start, size)
 out   4  the machine stopped otherwise: the trace's last line says why
-out   5  reading or writing failed, or memory ran out (marm: io)
+out   5  reading or writing failed, or memory ran out for the words or a file (marm: io)
 out
 out Example:
 out   marm run --board examples/boards/small.toml --steps 10 examples/first.elf
@@ -115,9 +118,10 @@ out
 out Exit status:
 out   0  all steps were made, or a breakpoint was met
 out   2  the words are wrong, or help was asked for (marm: usage)
-out   3  the image or the board is refused (marm: load, board, start, size)
+out   3  the image or the board is refused, or memory ran out for the board or the machine
+out      (marm: load, board, start, size)
 out   4  the machine stopped otherwise: the trace's last line says why
-out   5  reading or writing failed, or memory ran out (marm: io)
+out   5  reading or writing failed, or memory ran out for the words or a file (marm: io)
 out
 out Example:
 out   marm run --board examples/boards/small.toml --steps 10 examples/first.elf

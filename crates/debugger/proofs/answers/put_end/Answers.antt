@@ -1,7 +1,7 @@
 use Rattle.std.proofs.Common.{◌≡◌, ◌∙◌, ap, refl}
 use Rattle.debugger.proofs.Running.{end_same}
 use Rattle.debugger.proofs.Telling.{one_cut}
-use Rattle.debugger.specs.Answers.{end_text}
+use Rattle.debugger_commands.specs.Texts.{end_text}
 use Rattle.machine.specs.declared.readers.RegValues.{RegValues}
 use Rattle.debugger.proofs.answers.put_end.Goals as goal
 

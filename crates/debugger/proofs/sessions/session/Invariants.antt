@@ -1,5 +1,4 @@
 use Rattle.debugger.proofs.Hearing.{Heard}
-use Rattle.debugger.specs.Sessions.{Sink, Source}
 use Rattle.debugger.proofs.sessions.session.Given as goal
 
 -- the session after `call` bytes

@@ -1,5 +1,5 @@
 use Rattle.std.proofs.Common.{◌≡◌, ◌+◌, ◌*◌, ◌≤◌, ◌++◌, length}
-use Rattle.debugger.specs.Answers.{bytes_text}
+use Rattle.debugger_commands.specs.Texts.{bytes_text}
 use Rattle.debugger.proofs.texts.put_bytes.Given as goal
 
 abbrev pub invariant-offsets : goal.invariant-offsets

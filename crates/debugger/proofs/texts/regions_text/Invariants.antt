@@ -1,5 +1,5 @@
 use Rattle.std.proofs.Common.{◌≡◌, ◌*◌, ◌≤◌, length}
-use Rattle.debugger.specs.Answers.{region_lines}
+use Rattle.debugger_commands.specs.Texts.{region_lines}
 use Rattle.debugger.proofs.texts.regions_text.Given as goal
 
 abbrev pub invariant-numbers : goal.invariant-numbers

@@ -1,6 +1,6 @@
 use Rattle.std.proofs.Common.{◌≡◌, Some, drop}
-use Rattle.debugger.specs.Words.{with_digits}
-use Rattle.debugger.proofs.numbers.digits.Given as goal
+use Rattle.debugger_commands.specs.Words.{with_digits}
+use Rattle.debugger_commands.proofs.numbers.digits.Given as goal
 
 -- the digits after the index decide
 abbrev pub invariant-bytes : goal.invariant-bytes

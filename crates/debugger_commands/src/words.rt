@@ -1,8 +1,8 @@
 //! The words of a line, parted by one space.
 
 ghost use Rattle.std.specs.Prelude.{◌≡◌, ◌<◌, length, position, option_map, IfSome};
-ghost use Rattle.debugger.specs.Words.{first_word, is_space, more_words, one_word, two_words, three_words};
-ghost use Rattle.debugger.specs.Seen.{seen_two, seen_three};
+ghost use Rattle.debugger_commands.specs.Words.{first_word, is_space, more_words, one_word, two_words, three_words};
+ghost use Rattle.debugger_commands.specs.Seen.{seen_two, seen_three};
 
 /// Two words.
 #[derive(Clone, Copy)]

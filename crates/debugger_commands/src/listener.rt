@@ -1,7 +1,7 @@
 //! The line that is being heard.
 
 ghost use Rattle.std.specs.Prelude.{◌≡◌, [], Some, option_map};
-ghost use Rattle.debugger.specs.Words.{is_empty, with_byte};
+ghost use Rattle.debugger_commands.specs.Words.{is_empty, with_byte};
 
 use std::marker::Model;
 use trace::page::Page;

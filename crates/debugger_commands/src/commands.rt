@@ -1,8 +1,8 @@
 //! The commands of a session, and how a line is read.
 
 ghost use Rattle.std.specs.Prelude.{◌≡◌, bytes_eq, option_map};
-ghost use Rattle.debugger.specs.Commands.{alone, command_in, command_of, kind_of, name_of, privilege_of, read_break, read_explain, read_memory, read_run};
-ghost use Rattle.debugger.specs.Seen.{seen_two, seen_three};
+ghost use Rattle.debugger_commands.specs.Commands.{alone, command_in, command_of, kind_of, name_of, privilege_of, quits, read_break, read_explain, read_memory, read_run, steps_of};
+ghost use Rattle.debugger_commands.specs.Seen.{seen_two, seen_three};
 
 use crate::numbers::{number, number_within};
 use crate::words::{
@@ -210,4 +210,21 @@ fn read_explain(words: Option<ThreeWords<'_>>) -> Result<Command, LineFault>
         }
         _ => Err(LineFault::Word),
     }
+}
+
+/// Returns how many steps a command makes at most, where it makes any.
+pub fn steps_of(asked: Result<Command, LineFault>) -> Option<u32>
+    ensures { result ≡ steps_of asked }
+{
+    match asked {
+        Ok(Command::Run(steps)) => Some(steps),
+        _ => None,
+    }
+}
+
+/// Returns whether a line ends the session.
+pub fn quits(asked: Result<Command, LineFault>) -> bool
+    ensures { result ≡ quits asked }
+{
+    matches!(asked, Ok(Command::Quit))
 }

@@ -1,6 +1,6 @@
 use Rattle.std.proofs.Common.{◌≡◌, ◌*◌, ◌≤◌, length}
-use Rattle.debugger.specs.Answers.{general_lines}
-use Rattle.debugger.proofs.texts.put_generals.Given as goal
+use Rattle.debugger_commands.specs.Texts.{general_lines}
+use Rattle.debugger_commands.proofs.texts.put_generals.Given as goal
 
 abbrev pub invariant-numbers : goal.invariant-numbers
 invariant-numbers l = record {

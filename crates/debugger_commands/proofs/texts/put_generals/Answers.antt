@@ -1,6 +1,6 @@
 use Rattle.std.proofs.Common.{◌≡◌, ◌∙◌, ap, arith}
-use Rattle.debugger.specs.Answers.{general_lines}
-use Rattle.debugger.proofs.texts.put_generals.Goals as goal
+use Rattle.debugger_commands.specs.Texts.{general_lines}
+use Rattle.debugger_commands.proofs.texts.put_generals.Goals as goal
 
 pub returns-clause-text : goal.returns-clause-text
 returns-clause-text c =

@@ -1,12 +1,12 @@
 -- The commands of a session, and the lines that give them (profile).
 use Rattle.std.specs.Prelude.{ℕ, ◌-◌, Bool, true, false, if◌then◌else◌, List, codes, bytes_eq, Option, Some, None, Result, Ok, Err}
-use Rattle.debugger.specs.declared.commands.Command.{Command}
-use Rattle.debugger.specs.declared.commands.Command.TheVariants as command
-use Rattle.debugger.specs.declared.commands.LineFault.{LineFault}
-use Rattle.debugger.specs.declared.commands.LineFault.TheVariants as fault
-use Rattle.debugger.specs.declared.commands.Name.{Name}
-use Rattle.debugger.specs.declared.commands.Name.TheVariants as name
-use Rattle.debugger.specs.Words.{TwoWords, ThreeWords, first_word, more_words, one_word, two_words, three_words, number, number_within}
+use Rattle.debugger_commands.specs.declared.commands.Command.{Command}
+use Rattle.debugger_commands.specs.declared.commands.Command.TheVariants as command
+use Rattle.debugger_commands.specs.declared.commands.LineFault.{LineFault}
+use Rattle.debugger_commands.specs.declared.commands.LineFault.TheVariants as fault
+use Rattle.debugger_commands.specs.declared.commands.Name.{Name}
+use Rattle.debugger_commands.specs.declared.commands.Name.TheVariants as name
+use Rattle.debugger_commands.specs.Words.{TwoWords, ThreeWords, first_word, more_words, one_word, two_words, three_words, number, number_within}
 use Rattle.reference.specs.declared.access.Kind.{Kind}
 use Rattle.reference.specs.declared.access.Kind.TheVariants.{Fetch, Load, Store}
 
@@ -99,3 +99,25 @@ command_of (Some name.Quit) more = alone command.Quit more
 unfoldable pub command_in : Option (List ℕ) → Result Command LineFault
 command_in None = Err fault.Command
 command_in (Some line) = command_of (name_of (first_word line)) (more_words line)
+
+-- how many steps a command makes at most, where it makes any
+abbrev pub steps_of : Result Command LineFault → Option ℕ
+steps_of (Err why) = None
+steps_of (Ok (command.Run n)) = Some n
+steps_of (Ok (command.Break a)) = None
+steps_of (Ok command.Regs) = None
+steps_of (Ok (command.Memory a n)) = None
+steps_of (Ok command.Regions) = None
+steps_of (Ok (command.Explain a privileged kind)) = None
+steps_of (Ok command.Quit) = None
+
+-- whether a command ends the session
+abbrev pub quits : Result Command LineFault → Bool
+quits (Err why) = false
+quits (Ok (command.Run n)) = false
+quits (Ok (command.Break a)) = false
+quits (Ok command.Regs) = false
+quits (Ok (command.Memory a n)) = false
+quits (Ok command.Regions) = false
+quits (Ok (command.Explain a privileged kind)) = false
+quits (Ok command.Quit) = true

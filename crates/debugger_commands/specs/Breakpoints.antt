@@ -1,0 +1,34 @@
+-- The breakpoints of a session (profile).
+use Rattle.std.specs.Prelude.{ℕ, nat_lt, Bool, ◌||◌, ◌==◌, if◌then◌else◌, List, [], ◌∷◌, ◌++◌, length, codes, Result, Ok, Err}
+use Rattle.std.specs.List.{list_any}
+use Rattle.debugger_commands.specs.declared.breakpoints.TheConstants.{MOST_BREAKPOINTS}
+use Rattle.debugger_commands.specs.declared.commands.Command.{Command}
+use Rattle.debugger_commands.specs.declared.commands.Command.TheVariants as command
+use Rattle.debugger_commands.specs.declared.commands.LineFault.{LineFault}
+use Rattle.reference.specs.Text.{line_feed}
+
+abbrev pub has : List ℕ → ℕ → Bool
+has breakpoints a = list_any (λ b. b == a) breakpoints
+
+-- the breakpoints with one more, where there is room for it
+abbrev pub with_breakpoint : List ℕ → ℕ → List ℕ
+with_breakpoint breakpoints a =
+    if has breakpoints a then breakpoints
+    else if nat_lt (length breakpoints) MOST_BREAKPOINTS then breakpoints ++ a ∷ []
+    else breakpoints
+
+abbrev pub breakpoint_text : List ℕ → ℕ → List ℕ
+breakpoint_text breakpoints a =
+    if has breakpoints a || nat_lt (length breakpoints) MOST_BREAKPOINTS then codes "ok" ++ line_feed
+    else codes "error 3" ++ line_feed
+
+-- the breakpoints after a command
+abbrev pub breakpoints_after : List ℕ → Result Command LineFault → List ℕ
+breakpoints_after breakpoints (Err why) = breakpoints
+breakpoints_after breakpoints (Ok (command.Run n)) = breakpoints
+breakpoints_after breakpoints (Ok (command.Break a)) = with_breakpoint breakpoints a
+breakpoints_after breakpoints (Ok command.Regs) = breakpoints
+breakpoints_after breakpoints (Ok (command.Memory a n)) = breakpoints
+breakpoints_after breakpoints (Ok command.Regions) = breakpoints
+breakpoints_after breakpoints (Ok (command.Explain a privileged kind)) = breakpoints
+breakpoints_after breakpoints (Ok command.Quit) = breakpoints

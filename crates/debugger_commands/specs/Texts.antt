@@ -1,0 +1,78 @@
+-- The texts of answers (profile).
+use Rattle.std.specs.Prelude.{ℕ, zero, suc, Bool, true, false, List, [], ◌++◌, slice_index, codes, decimal, Option, Some, None}
+use Rattle.debugger_commands.specs.declared.commands.LineFault.{LineFault}
+use Rattle.debugger_commands.specs.declared.commands.LineFault.TheVariants as fault
+use Rattle.reference.specs.declared.access.Decision.{Decision}
+use Rattle.reference.specs.declared.stop.Stop.{Stop}
+use Rattle.reference.specs.Memory.{Memory, byte_at}
+use Rattle.reference.specs.Regions.{Mpu, shown}
+use Rattle.reference.specs.Text.{hex_byte, hex_word, line_feed, rule_text, stop_line}
+use Rattle.reference.specs.Words.{word_sum}
+
+-- ---- regs: a line for each register
+
+abbrev pub spaced : ℕ → List ℕ
+spaced word = codes " " ++ hex_word word
+
+-- a value after the name of its register
+abbrev pub value_text : ℕ → List ℕ
+value_text value = spaced value ++ line_feed
+
+abbrev pub register_line : List ℕ → ℕ → List ℕ
+register_line name value = name ++ value_text value
+
+-- the lines of the general registers below n
+unfoldable pub general_lines : List ℕ → ℕ → List ℕ
+general_lines values zero = []
+general_lines values (suc n) =
+    general_lines values n ++ register_line (codes "R" ++ decimal n) (slice_index values n)
+
+-- ---- mem a n: the address, and each byte
+
+abbrev pub byte_text : Option ℕ → List ℕ
+byte_text None = codes " --"
+byte_text (Some byte) = codes " " ++ hex_byte byte
+
+-- the first n bytes from an address on, which wraps at 2^32
+unfoldable pub bytes_text : Memory → ℕ → ℕ → List ℕ
+bytes_text m a zero = []
+bytes_text m a (suc n) = bytes_text m a n ++ byte_text (byte_at m (word_sum a n))
+
+abbrev pub memory_text : Memory → ℕ → ℕ → List ℕ
+memory_text m a n = ((hex_word a ++ codes ":") ++ bytes_text m a n) ++ line_feed
+
+-- ---- regions: a line for each region that the board has
+
+abbrev pub region_name : ℕ → List ℕ
+region_name k = codes "r" ++ decimal k
+
+abbrev pub words_line : ℕ → ℕ → ℕ → List ℕ
+words_line k rbar rasr = (region_name k ++ spaced rbar) ++ value_text rasr
+
+abbrev pub region_line : ℕ → Option (ℕ × ℕ) → List ℕ
+region_line k None = []
+region_line k (Some words) = words_line k words.0 words.1
+
+unfoldable pub region_lines : Mpu → ℕ → List ℕ
+region_lines m zero = []
+region_lines m (suc k) = region_lines m k ++ region_line k (shown m k)
+
+-- ---- explain: the rule that would decide, and whether it would grant the access
+
+abbrev pub grant_text : Bool → List ℕ
+grant_text true = codes " ok"
+grant_text false = codes " mpu"
+
+abbrev pub decision_text : Decision → List ℕ
+decision_text d = (rule_text d.rule ++ grant_text d.granted) ++ line_feed
+
+-- ---- the ends of a run and of a wrong line
+
+-- where the machine is: its stop, or the address of the next instruction
+abbrev pub end_text : ℕ → Option Stop → List ℕ
+end_text pc None = (codes "at " ++ hex_word pc) ++ line_feed
+end_text pc (Some why) = stop_line why
+
+abbrev pub fault_text : LineFault → List ℕ
+fault_text fault.Command = codes "error 1" ++ line_feed
+fault_text fault.Word = codes "error 2" ++ line_feed

@@ -1,0 +1,18 @@
+//! The lines of a debug session: how they are heard, which commands they give, and the texts of
+//! answers.
+#![tactic(auto)]
+
+mod breakpoints;
+mod commands;
+mod listener;
+mod numbers;
+mod texts;
+mod words;
+
+pub use breakpoints::Breakpoints;
+pub use commands::{Command, LineFault, quits, read_line, steps_of};
+pub use listener::Listener;
+pub use texts::{
+    Answer, byte_address, decision_text, end_text, fault_text, put_byte, put_generals, put_region,
+    put_register,
+};
