@@ -1,6 +1,7 @@
 //! The command: runs from the bytes of files, what it tells, and its words.
 
 use super::cut::{Cut, Text, push_line};
+use super::elf_files::ElfFile;
 use board::BoardFault;
 use command::{Fault, FileFault, Task, program, read_file, read_words, tell};
 use machine::StartFault;
@@ -34,6 +35,8 @@ struct Case {
     image: [u8; 96],
     /// How many bytes of the image there are.
     length: usize,
+    /// The file that takes its place, where there is one.
+    file: ElfFile,
     board: Text,
     /// The status, once a line has it.
     status: Option<u8>,
@@ -52,6 +55,7 @@ impl Case {
             words: Text::new(),
             image: FIRST,
             length: 96,
+            file: ElfFile::new(),
             board: Text::new(),
             status: None,
             input: Text::new(),
@@ -77,7 +81,8 @@ impl Case {
     }
 
     /// Reads a line: `words` after the program's name, `byte` with a place and a byte of the image,
-    /// `length` of the image, `board` with a line of the board, `with` a line after the small board's,
+    /// `length` of the image, `vectors`, `data` and `code` with a segment of an image of its own,
+    /// `board` with a line of the board, `with` a line after the small board's,
     /// `ends` with the status, `in` with a line of standard input, `tail` with one that has no line
     /// feed, and `out` and `err` with the lines that are written.
     fn read(&mut self, line: &str) -> Option<()> {
@@ -86,12 +91,25 @@ impl Case {
             "words" => push_line(&mut self.words, rest),
             "board" => push_line(&mut self.board, rest),
             "with" => self.read_more(rest),
+            "vectors" | "data" | "code" => self.file.add(line),
             "in" => push_line(&mut self.input, rest),
             "tail" => self.input.try_extend_from_slice(rest.as_bytes()).ok(),
             "out" => push_line(&mut self.out, rest),
             "err" => push_line(&mut self.err, rest),
             _ => self.read_numbers(word, rest),
         }
+    }
+
+    /// The bytes of the image.
+    fn bytes(&self) -> Option<Text> {
+        if !self.file.is_empty() {
+            return self.file.bytes();
+        }
+        let mut bytes = Text::new();
+        bytes
+            .try_extend_from_slice(self.image.get(..self.length)?)
+            .ok()?;
+        Some(bytes)
     }
 
     /// Puts a line after those of the small board.
@@ -163,11 +181,11 @@ pub(super) struct Ends<'a> {
 impl Rows for Ends<'_> {
     fn holds(&mut self, text: &str) -> Option<bool> {
         let case = Case::of(text)?;
-        let image = case.image.get(..case.length)?;
+        let image = case.bytes()?;
         let words = str::from_utf8(case.words.as_slice()).ok()?;
         let board = case.board.as_slice();
         let input = case.input.as_slice();
-        let ended = Ended::of(self.rt, words, image, board, input, 4096).ok()?;
+        let ended = Ended::of(self.rt, words, image.as_slice(), board, input, 4096).ok()?;
         Some(ended.is(case.status?, case.out.as_slice(), case.err.as_slice()))
     }
 }
@@ -178,6 +196,11 @@ ends 0
 out 1 F 00000008 2 p ok off
 out 2 F 0000000A 2 p ok off
 out stop breakpoint 0
+
+no steps
+words run --board board.toml --steps 0 image.elf
+ends 0
+out stop steps
 
 a truncated file
 length 33
