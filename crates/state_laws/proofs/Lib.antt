@@ -1,0 +1,9 @@
+mod Nvic
+mod Sets
+mod Ticks
+mod Regions
+mod Systems
+mod Accesses
+mod Faults
+mod Steps
+mod Ends
