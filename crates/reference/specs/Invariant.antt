@@ -1,10 +1,11 @@
 -- What holds of a state at the start, after each step and after each value that was placed. It's proved in the crate
 -- `state_laws`. Outside of it a definition has a value too, which is of no matter.
-use Rattle.std.specs.Prelude.{◌≡◌, ℕ, ◌+◌, ◌^◌, ◌<◌, ◌≤◌, Bool, true, List, length, slice_index}
+use Rattle.std.specs.Prelude.{◌≡◌, ℕ, ◌+◌, ◌%◌, ◌^◌, ◌<◌, ◌≤◌, Bool, true, List, length, slice_index}
 use Rattle.reference.specs.declared.exception.TheConstants.{EXCEPTIONS, MOST_LINES}
 use Rattle.reference.specs.Boards.{Described, IsScript, IsScriptFrom, is_line_count, is_region_count}
 use Rattle.reference.specs.Priorities.{Nvic, is_in, is_exception, is_switched, kept}
 use Rattle.reference.specs.Regions.{IsSound}
+use Rattle.reference.specs.Registers.{Registers}
 use Rattle.reference.specs.State.{State}
 use Rattle.reference.specs.System.{System}
 use Rattle.reference.specs.Time.{Time, SysTick, last_tick}
@@ -52,6 +53,14 @@ pub record IsAhead (lines : ℕ) (t : Time) : Type 0 where
   pub script : IsScriptFrom lines (t.ticks + 1) t.script
   pub levels : length t.high ≡ MOST_LINES
 
+-- R0 to R12 are there, the two stack pointers are multiples of 4, IT has eight bits, and IPSR nine
+pub record HasRegisters (r : Registers) : Type 0 where
+  pub all : length r.general ≡ 13
+  pub msp : r.msp % 4 ≡ 0
+  pub psp : r.psp % 4 ≡ 0
+  pub it : r.it < 2 ^ 8
+  pub exception : r.exception < 2 ^ 9
+
 -- ---- the invariant
 
 -- what holds of the System Control Space
@@ -66,6 +75,7 @@ pub record SystemInvariant (s : System) : Type 0 where
 
 -- what holds of the state
 pub record Invariant (s : State) : Type 0 where
+  pub registers : HasRegisters s.registers
   pub system : SystemInvariant s.bus.system
 
 -- ---- the board that it needs

@@ -11,7 +11,7 @@ use Rattle.reference.specs.declared.place.Place.TheVariants.{Reg, Special, Word}
 use Rattle.reference.specs.Accesses.{carried_out}
 use Rattle.reference.specs.Boards.{Described, is_line_count, is_region_count, IsScriptFrom}
 use Rattle.reference.specs.Images.{Segment}
-use Rattle.reference.specs.Invariant.{IsBoard, SystemInvariant, Invariant}
+use Rattle.reference.specs.Invariant.{IsBoard, HasRegisters, SystemInvariant, Invariant}
 use Rattle.reference.specs.Map.{is_in_ppb}
 use Rattle.reference.specs.Places.{is_word_aligned, is_there, special_taken, register_taken, store_of, taken, place}
 use Rattle.reference.specs.Registers.{is_handler}
@@ -22,6 +22,8 @@ use Rattle.reference.specs.Step.{step}
 use Rattle.reference.specs.System.{System, reset_system}
 use Rattle.state_laws.specs.StateLaw.{IfGiven}
 use Rattle.state_laws.proofs.Accesses.{carried_whole}
+use Rattle.state_laws.proofs.Core.{special_kept, step_kept, reset_has}
+use Rattle.state_laws.proofs.Registers.{register_kept}
 use Rattle.state_laws.proofs.Faults.{HasWhole}
 use Rattle.state_laws.proofs.Nvic.{either}
 use Rattle.state_laws.proofs.Regions.{sound_at_reset}
@@ -53,6 +55,7 @@ whole s h = record {
 
 pub step_keeps : (s : State) → Invariant s → Invariant (step s).state
 step_keeps s h = record {
+  registers = step_kept s h.registers;
   system =
       sound s.bus.system.nvic.lines s.bus.system.nvic.priority_bits _
       (step_whole _ _ s (whole s.bus.system h.system));
@@ -60,30 +63,40 @@ step_keeps s h = record {
 
 -- ---- a value that is placed
 
-abbrev IsPlaced : ℕ → ℕ → Result State PlaceFault → Type 0
-IsPlaced lines bits = IfGiven (HasWhole lines bits)
+-- what holds of the registers, and of the System Control Space
+record IsGood (lines bits : ℕ) (s : State) : Type 0 where
+  registers : HasRegisters s.registers
+  system : HasWhole lines bits s
 
-special_placed : (lines bits : ℕ) (s : State) (special : Option SpecialRegister) (value : ℕ) → HasWhole lines bits s →
+abbrev IsPlaced : ℕ → ℕ → Result State PlaceFault → Type 0
+IsPlaced lines bits = IfGiven (IsGood lines bits)
+
+special_placed : (lines bits : ℕ) (s : State) (special : Option SpecialRegister) (value : ℕ) → IsGood lines bits s →
     IsPlaced lines bits (special_taken s special value)
 special_placed lines bits s None value h = tt
-special_placed lines bits s (Some special) value h = placed_mask_whole lines bits s.bus.system special value h
+special_placed lines bits s (Some special) value h = record {
+  registers = special_kept s.registers special value h.registers;
+  system = placed_mask_whole lines bits s.bus.system special value h.system;
+}
 
-register_placed : (lines bits : ℕ) (s : State) (after : Bus) (a : Answer) → IsWhole lines bits after.system →
-    IsPlaced lines bits (register_taken s after a)
-register_placed lines bits s after (answer.Value value) h = h
-register_placed lines bits s after answer.Error h = tt
-register_placed lines bits s after (answer.Stop why) h = tt
+register_placed : (lines bits : ℕ) (s : State) (after : Bus) (a : Answer) → HasRegisters s.registers →
+    IsWhole lines bits after.system → IsPlaced lines bits (register_taken s after a)
+register_placed lines bits s after (answer.Value value) r h = record { registers = r; system = h }
+register_placed lines bits s after answer.Error r h = tt
+register_placed lines bits s after (answer.Stop why) r h = tt
 
-taken_placed : (lines bits : ℕ) (s : State) (p : Place) → HasWhole lines bits s → IsPlaced lines bits (taken s p)
-taken_placed lines bits s (Reg number value) h = h
+taken_placed : (lines bits : ℕ) (s : State) (p : Place) → IsGood lines bits s → IsPlaced lines bits (taken s p)
+taken_placed lines bits s (Reg number value) h =
+    record { registers = register_kept s.registers number value h.registers; system = h.system }
 taken_placed lines bits s (Special number value) h = special_placed lines bits s (special_of number) value h
 taken_placed lines bits s (Word address value) h =
     let a = carried_out s.registers.exception s.bus (store_of address value) in
     either (IsPlaced lines bits) (is_in_ppb address) _ _
-    (λ e. register_placed lines bits s a.bus a.answer
-    (carried_whole lines bits s.registers.exception s.bus (store_of address value) h)) (λ e. h)
+    (λ e. register_placed lines bits s a.bus a.answer h.registers
+    (carried_whole lines bits s.registers.exception s.bus (store_of address value) h.system))
+    (λ e. record { registers = h.registers; system = h.system })
 
-placed : (lines bits : ℕ) (s : State) (p : Place) → HasWhole lines bits s → IsPlaced lines bits (place s p)
+placed : (lines bits : ℕ) (s : State) (p : Place) → IsGood lines bits s → IsPlaced lines bits (place s p)
 unfolding place
 placed lines bits s p h =
     either (IsPlaced lines bits) (not (is_word_aligned p)) _ _ (λ e. tt)
@@ -93,11 +106,13 @@ placed lines bits s p h =
 
 pub place_keeps : (s : State) (p : Place) → Invariant s → IfGiven Invariant (place s p)
 place_keeps s p h =
-    lead (place s p) (placed s.bus.system.nvic.lines s.bus.system.nvic.priority_bits s p (whole s.bus.system h.system))
+    lead (place s p)
+    (placed s.bus.system.nvic.lines s.bus.system.nvic.priority_bits s p
+    (record { registers = h.registers; system = whole s.bus.system h.system }))
   where
     lead : (r : Result State PlaceFault) → IsPlaced s.bus.system.nvic.lines s.bus.system.nvic.priority_bits r →
         IfGiven Invariant r
-    lead (Ok after) w = record { system = sound _ _ after.bus.system w }
+    lead (Ok after) w = record { registers = w.registers; system = sound _ _ after.bus.system w.system }
     lead (Err why) w = tt
 
 -- ---- a start
@@ -117,6 +132,7 @@ unfolding start
 start_gives board image h =
     either (IfGiven Invariant) (are_placed (blank board.numbers) image) _ _
     (λ e. record {
+      registers = reset_has _ _;
       system =
           sound (min board.numbers.lines MOST_LINES) board.numbers.priority_bits
           (reset_system board.numbers.flash_base board.numbers.lines board.numbers.priority_bits board.numbers.regions

@@ -6,4 +6,8 @@ mod Systems
 mod Accesses
 mod Faults
 mod Steps
+mod Registers
+mod Effects
+mod Frames
+mod Core
 mod Ends
