@@ -1,5 +1,5 @@
 -- What an instruction makes of the core registers keeps what holds of them.
-use Rattle.std.proofs.Common.{◌≡◌, ℕ, zero, suc, ◌+◌, ◌*◌, ◌/◌, ◌%◌, ◌^◌, Bool, true, false, ◌==◌, List, [], ◌∷◌, drop, slice_index, refl, arith, if◌then◌else◌}
+use Rattle.std.proofs.Common.{ℕ, Bool, List, [], ◌∷◌, drop, slice_index, refl, arith}
 use Rattle.reference.specs.declared.instruction.Branch.{Branch}
 use Rattle.reference.specs.declared.instruction.Branch.TheVariants as branch
 use Rattle.reference.specs.declared.instruction.CodedInstruction.{CodedInstruction}
@@ -30,7 +30,6 @@ use Rattle.reference.specs.LoadStore.{with_base, writes_back, load_store_effect,
 use Rattle.reference.specs.LoadStoreMultiple.{registers_below, with_moved_base, moved_base, loaded, loaded_below_pc, load_multiple, load_store_multiple_effect}
 use Rattle.reference.specs.Operations.{is_carried_out, effect, result_of}
 use Rattle.reference.specs.Products.{multiply, multiply_accumulate, multiply_long, divide}
-use Rattle.reference.specs.ProgramCounter.{Finished, moves_on, branches}
 use Rattle.reference.specs.Registers.{Registers, register, with_register, with_exchange}
 use Rattle.reference.specs.SystemInstructions.{system_effect}
 use Rattle.reference.specs.TwoOperands.{sets_flags, written, data_immediate, data_register, compare_immediate, compare_register, move_immediate, move_register, move_top, shift_by_register, address}

@@ -1,5 +1,5 @@
 -- A fault, SVC, and the entry into a handler and the return from it keep what holds of the core registers.
-use Rattle.std.proofs.Common.{◌≡◌, ℕ, zero, suc, ◌+◌, ◌-◌, ◌*◌, ◌/◌, ◌%◌, ◌^◌, ◌<◌, ◌≤◌, nat_lt, Bool, true, false, not, ◌==◌, List, [], ◌∷◌, ◌++◌, Option, Some, None, Result, Ok, Err, bit_or, length, slice_index, slice_set, refl, ◌∙◌, ap, arith, if◌then◌else◌}
+use Rattle.std.proofs.Common.{◌≡◌, ℕ, zero, suc, ◌%◌, ◌^◌, ◌<◌, nat_lt, Bool, true, false, not, List, [], ◌∷◌, ◌++◌, Option, Some, None, Result, Ok, Err, bit_or, length, ◌∙◌, ap, arith}
 use Rattle.std.proofs.lemmas.List.{length-set}
 use Rattle.std.proofs.lemmas.Nat.{or_mod}
 use Rattle.reference.specs.declared.event.Event.{Event}
@@ -10,19 +10,18 @@ use Rattle.reference.specs.declared.failure.Failure.{Failure}
 use Rattle.reference.specs.declared.failure.Failure.TheVariants as failure
 use Rattle.reference.specs.declared.failure.UsageFault.TheVariants.{InvalidReturn}
 use Rattle.reference.specs.declared.fault_status.FaultEffect.{FaultEffect}
-use Rattle.reference.specs.Accesses.{Served, perform, perform_all, told, value_of}
-use Rattle.reference.specs.ExceptionEntry.{pushes, entering, stacked, begin_entry, vector_read, vector_refused, vector_taken, exception_taken, taken_if_any, take_vector}
+use Rattle.reference.specs.Accesses.{Served, perform_all}
+use Rattle.reference.specs.ExceptionEntry.{pushes, entering, stacked, begin_entry, vector_taken, exception_taken, taken_if_any, take_vector}
 use Rattle.reference.specs.ExceptionReturn.{with_entry, fits_mode, unstacked, frame_read, pops, pop_stack, chained, returned, exception_ended, is_allowed, return_line, exception_return}
-use Rattle.reference.specs.Faults.{fault_of, usage_fault_of, vector_fault, recorded, escalated, faulted, failed, supervisor_called_by, supervisor_called}
-use Rattle.reference.specs.Frames.{frame_base, with_frame, in_handler, frame_of, returns_on_psp, above_frame, general_popped, popped_pc, popped_xpsr, popped_exception, it_of, with_frame_of, popped, has_reserved_ones}
+use Rattle.reference.specs.Faults.{fault_of, usage_fault_of, recorded, escalated, faulted, failed, supervisor_called_by, supervisor_called}
+use Rattle.reference.specs.Frames.{frame_base, in_handler, frame_of, returns_on_psp, above_frame, general_popped, popped_pc, popped_xpsr, with_frame_of, popped, has_reserved_ones}
 use Rattle.reference.specs.Invariant.{HasRegisters}
 use Rattle.reference.specs.Priorities.{Nvic, priority_of, group_priority, execution_priority, is_ready, better_of, with_ready, best_below, best, if_preempts, candidate, is_fixed}
-use Rattle.reference.specs.ProgramCounter.{moves_on}
-use Rattle.reference.specs.Registers.{Registers, sp, with_exchange, flags_of}
+use Rattle.reference.specs.Registers.{Registers, sp}
 use Rattle.reference.specs.State.{State, Stepped, with_bus, with_system}
 use Rattle.reference.specs.Words.{word_sum, is_bit}
 use Rattle.state_laws.proofs.Nvic.{either}
-use Rattle.state_laws.proofs.Registers.{alike, exchange_kept, sp_kept, psp_kept, msp_kept, moves_on_kept}
+use Rattle.state_laws.proofs.Registers.{sp_kept, psp_kept, msp_kept, moves_on_kept}
 
 -- the registers of a state, and those of what a step makes of one
 abbrev pub Has : State → Type 0

@@ -1,13 +1,12 @@
 -- Writes to the core registers keep what holds of them.
-use Rattle.std.proofs.Common.{◌≡◌, ℕ, ◌+◌, ◌-◌, ◌*◌, ◌/◌, ◌%◌, ◌^◌, ◌<◌, Bool, true, false, not, ◌&&◌, ◌==◌, List, length, slice_set, Option, Some, None, refl, ◌∙◌, arith, if◌then◌else◌}
+use Rattle.std.proofs.Common.{◌≡◌, ℕ, ◌*◌, ◌/◌, ◌%◌, ◌^◌, ◌<◌, not, ◌==◌, length, Option, refl, ◌∙◌, arith}
 use Rattle.std.proofs.lemmas.List.{length-set}
-use Rattle.reference.specs.declared.instruction.Ending.{Ending}
 use Rattle.reference.specs.declared.registers.Flags.{Flags}
 use Rattle.reference.specs.declared.registers.Marked.{Marked}
 use Rattle.reference.specs.Arithmetic.{in_it_block, it_advance}
 use Rattle.reference.specs.Invariant.{HasRegisters}
 use Rattle.reference.specs.ProgramCounter.{Finished, advanced, moves_on, branches, branches_by, is_exception_return, exchanges, loads_into}
-use Rattle.reference.specs.Registers.{Registers, register, uses_psp, with_sp, with_pc, with_exchange, with_register, is_handler}
+use Rattle.reference.specs.Registers.{Registers, register, uses_psp, with_sp, with_pc, with_exchange, with_register}
 use Rattle.reference.specs.Words.{word_sum}
 use Rattle.state_laws.proofs.Nvic.{either}
 
