@@ -62,3 +62,4 @@ pub mod Images
 pub mod Boards
 pub mod Start
 pub mod Places
+pub mod Invariant

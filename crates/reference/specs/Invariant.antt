@@ -1,0 +1,87 @@
+-- What holds of a state at the start, after each step and after each value that was placed. It's proved in the crate
+-- `state_laws`. Outside of it a definition has a value too, which is of no matter.
+use Rattle.std.specs.Prelude.{◌≡◌, ℕ, ◌+◌, ◌%◌, ◌^◌, ◌<◌, ◌≤◌, Bool, true, List, length, slice_index}
+use Rattle.reference.specs.declared.exception.TheConstants.{EXCEPTIONS, MOST_LINES}
+use Rattle.reference.specs.Boards.{Described, IsScript, IsScriptFrom, is_line_count, is_region_count}
+use Rattle.reference.specs.Priorities.{Nvic, is_in, is_exception, is_switched, kept}
+use Rattle.reference.specs.Regions.{IsSound}
+use Rattle.reference.specs.Registers.{Registers}
+use Rattle.reference.specs.State.{State}
+use Rattle.reference.specs.System.{System}
+use Rattle.reference.specs.Time.{Time, SysTick, last_tick}
+
+-- ---- the parts
+
+-- the clock isn't past its last tick
+abbrev pub IsWithinClock : Time → Type 0
+IsWithinClock t = t.ticks ≤ last_tick
+
+-- SYST_RVR and SYST_CVR have 24 bits
+pub record HasTimerBits (t : SysTick) : Type 0 where
+  pub reload : t.reload < 2 ^ 24
+  pub current : t.current < 2 ^ 24
+
+-- a byte of which the board keeps each bit that is set
+pub record IsKeptByte (bits b : ℕ) : Type 0 where
+  pub byte : b < 2 ^ 8
+  pub kept : kept bits b ≡ b
+
+-- there is a priority byte for each number, the priority bytes and BASEPRI have no bit but the top ones that the board
+-- keeps, and PRIGROUP has three bits
+pub record KeepsTopBits (n : Nvic) : Type 0 where
+  pub places : length n.priorities ≡ EXCEPTIONS
+  pub priorities : (x : ℕ) → IsKeptByte n.priority_bits (slice_index n.priorities x)
+  pub basepri : IsKeptByte n.priority_bits n.masks.basepri
+  pub group : n.group < 2 ^ 3
+
+-- a set has a place for each number, and only these numbers are in it
+pub record HasOnly (test : ℕ → Bool) (set : List Bool) : Type 0 where
+  pub places : length set ≡ EXCEPTIONS
+  pub members : (x : ℕ) → is_in set x ≡ true → test x ≡ true
+
+-- only exceptions of the board are pending or active, only those that can be disabled are in the set of the enabled
+-- ones, and the board has no more lines than there can be
+pub record HasExceptionsOfBoard (n : Nvic) : Type 0 where
+  pub pending : HasOnly (is_exception n.lines) n.pending
+  pub enabled : HasOnly (is_switched n.lines) n.enabled
+  pub active : HasOnly (is_exception n.lines) n.active
+  pub lines : n.lines ≤ MOST_LINES
+
+-- the events that are still to come are a script of a board with these lines, later than the clock, and there is a level
+-- for each line
+pub record IsAhead (lines : ℕ) (t : Time) : Type 0 where
+  pub script : IsScriptFrom lines (t.ticks + 1) t.script
+  pub levels : length t.high ≡ MOST_LINES
+
+-- R0 to R12 are there, the two stack pointers are multiples of 4, IT has eight bits, and IPSR nine
+pub record HasRegisters (r : Registers) : Type 0 where
+  pub all : length r.general ≡ 13
+  pub msp : r.msp % 4 ≡ 0
+  pub psp : r.psp % 4 ≡ 0
+  pub it : r.it < 2 ^ 8
+  pub exception : r.exception < 2 ^ 9
+
+-- ---- the invariant
+
+-- what holds of the System Control Space
+pub record SystemInvariant (s : System) : Type 0 where
+  pub clock : IsWithinClock s.time
+  pub timer : HasTimerBits s.time.systick
+  pub priorities : KeepsTopBits s.nvic
+  pub sets : HasExceptionsOfBoard s.nvic
+  pub script : IsAhead s.nvic.lines s.time
+  -- enabled regions are such as a write takes
+  pub regions : IsSound s.mpu
+
+-- what holds of the state
+pub record Invariant (s : State) : Type 0 where
+  pub registers : HasRegisters s.registers
+  pub system : SystemInvariant s.bus.system
+
+-- ---- the board that it needs
+
+-- a board whose numbers of lines and regions are in range, and whose script is one of its lines
+pub record IsBoard (board : Described) : Type 0 where
+  pub lines : is_line_count board.numbers.lines ≡ true
+  pub regions : is_region_count board.numbers.regions ≡ true
+  pub script : IsScript board.numbers.lines board.script

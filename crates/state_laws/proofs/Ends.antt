@@ -1,0 +1,153 @@
+-- A start gives the invariant, and a value that was placed keeps it.
+use Rattle.std.proofs.Common.{◌≡◌, ◌⊎◌, inl, inr, ℕ, ◌≤◌, min, Bool, true, false, not, ◌||◌, ◌==◌, is_some, List, Option, Some, None, Result, Ok, Err, refl, sym, subst, arith}
+use Rattle.std.proofs.lemmas.Bool.Decides.{nat_tests}
+use Rattle.reference.specs.declared.access.Answer.{Answer}
+use Rattle.reference.specs.declared.access.Answer.TheVariants as answer
+use Rattle.reference.specs.declared.exception.TheConstants.{MOST_LINES}
+use Rattle.reference.specs.declared.fault.PlaceFault.{PlaceFault}
+use Rattle.reference.specs.declared.operands.SpecialRegister.{SpecialRegister}
+use Rattle.reference.specs.declared.place.Place.{Place}
+use Rattle.reference.specs.declared.place.Place.TheVariants.{Reg, Special, Word}
+use Rattle.reference.specs.Accesses.{carried_out}
+use Rattle.reference.specs.Boards.{Described, is_line_count, is_region_count, IsScriptFrom}
+use Rattle.reference.specs.Images.{Segment}
+use Rattle.reference.specs.Invariant.{IsBoard, HasRegisters, SystemInvariant, Invariant}
+use Rattle.reference.specs.Map.{is_in_ppb}
+use Rattle.reference.specs.Places.{is_word_aligned, is_there, special_taken, register_taken, store_of, taken, place}
+use Rattle.reference.specs.Registers.{is_handler}
+use Rattle.reference.specs.SpecialRegisters.{special_of}
+use Rattle.reference.specs.Start.{blank, are_placed, start}
+use Rattle.reference.specs.State.{Bus, State}
+use Rattle.reference.specs.Step.{step}
+use Rattle.reference.specs.System.{System, reset_system}
+use Rattle.state_laws.specs.StateLaw.{IfGiven}
+use Rattle.state_laws.proofs.Accesses.{carried_whole}
+use Rattle.state_laws.proofs.Core.{special_kept, step_kept, reset_has}
+use Rattle.state_laws.proofs.Registers.{register_kept}
+use Rattle.state_laws.proofs.Faults.{HasWhole}
+use Rattle.state_laws.proofs.Nvic.{either}
+use Rattle.state_laws.proofs.Regions.{sound_at_reset}
+use Rattle.state_laws.proofs.Sets.{bytes_at_reset, sets_at_reset}
+use Rattle.state_laws.proofs.Steps.{step_whole}
+use Rattle.state_laws.proofs.Systems.{IsWhole, placed_mask_whole}
+use Rattle.state_laws.proofs.Ticks.{timely_at_start}
+
+-- ---- what is whole has the invariant, and the other way round
+
+sound : (lines bits : ℕ) (s : System) → IsWhole lines bits s → SystemInvariant s
+sound lines bits s h = record {
+  clock = h.time.clock;
+  timer = h.time.timer;
+  priorities = h.nvic.priorities;
+  sets = h.nvic.sets;
+  script = rw h.nvic.same_lines h.time.ahead;
+  regions = h.mpu;
+}
+
+whole : (s : System) → SystemInvariant s → IsWhole s.nvic.lines s.nvic.priority_bits s
+whole s h = record {
+  nvic = record { same_lines = refl; same_bits = refl; priorities = h.priorities; sets = h.sets };
+  time = record { clock = h.clock; timer = h.timer; ahead = h.script };
+  mpu = h.regions;
+}
+
+-- ---- a step
+
+pub step_keeps : (s : State) → Invariant s → Invariant (step s).state
+step_keeps s h = record {
+  registers = step_kept s h.registers;
+  system =
+      sound s.bus.system.nvic.lines s.bus.system.nvic.priority_bits _
+      (step_whole _ _ s (whole s.bus.system h.system));
+}
+
+-- ---- a value that is placed
+
+-- what holds of the registers, and of the System Control Space
+record IsGood (lines bits : ℕ) (s : State) : Type 0 where
+  registers : HasRegisters s.registers
+  system : HasWhole lines bits s
+
+abbrev IsPlaced : ℕ → ℕ → Result State PlaceFault → Type 0
+IsPlaced lines bits = IfGiven (IsGood lines bits)
+
+special_placed : (lines bits : ℕ) (s : State) (special : Option SpecialRegister) (value : ℕ) → IsGood lines bits s →
+    IsPlaced lines bits (special_taken s special value)
+special_placed lines bits s None value h = tt
+special_placed lines bits s (Some special) value h = record {
+  registers = special_kept s.registers special value h.registers;
+  system = placed_mask_whole lines bits s.bus.system special value h.system;
+}
+
+register_placed : (lines bits : ℕ) (s : State) (after : Bus) (a : Answer) → HasRegisters s.registers →
+    IsWhole lines bits after.system → IsPlaced lines bits (register_taken s after a)
+register_placed lines bits s after (answer.Value value) r h = record { registers = r; system = h }
+register_placed lines bits s after answer.Error r h = tt
+register_placed lines bits s after (answer.Stop why) r h = tt
+
+taken_placed : (lines bits : ℕ) (s : State) (p : Place) → IsGood lines bits s → IsPlaced lines bits (taken s p)
+taken_placed lines bits s (Reg number value) h =
+    record { registers = register_kept s.registers number value h.registers; system = h.system }
+taken_placed lines bits s (Special number value) h = special_placed lines bits s (special_of number) value h
+taken_placed lines bits s (Word address value) h =
+    let a = carried_out s.registers.exception s.bus (store_of address value) in
+    either (IsPlaced lines bits) (is_in_ppb address) _ _
+    (λ e. register_placed lines bits s a.bus a.answer h.registers
+    (carried_whole lines bits s.registers.exception s.bus (store_of address value) h.system))
+    (λ e. record { registers = h.registers; system = h.system })
+
+placed : (lines bits : ℕ) (s : State) (p : Place) → IsGood lines bits s → IsPlaced lines bits (place s p)
+unfolding place
+placed lines bits s p h =
+    either (IsPlaced lines bits) (not (is_word_aligned p)) _ _ (λ e. tt)
+    (λ e. either (IsPlaced lines bits) (not (is_there s.bus.memory p)) _ _ (λ f. tt)
+    (λ f. either (IsPlaced lines bits) (is_some s.stop || is_some s.entry || is_handler s.registers) _ _ (λ g. tt)
+    (λ g. taken_placed lines bits s p h)))
+
+pub place_keeps : (s : State) (p : Place) → Invariant s → IfGiven Invariant (place s p)
+place_keeps s p h =
+    lead (place s p)
+    (placed s.bus.system.nvic.lines s.bus.system.nvic.priority_bits s p
+    (record { registers = h.registers; system = whole s.bus.system h.system }))
+  where
+    lead : (r : Result State PlaceFault) → IsPlaced s.bus.system.nvic.lines s.bus.system.nvic.priority_bits r →
+        IfGiven Invariant r
+    lead (Ok after) w = record { registers = w.registers; system = sound _ _ after.bus.system w.system }
+    lead (Err why) w = tt
+
+-- ---- a start
+
+regions_known : (count : ℕ) → is_region_count count ≡ true → (count ≡ 8) ⊎ (count ≡ 16)
+regions_known count e = split (count == 8) refl
+  where
+    split : (b : Bool) → (count == 8) ≡ b → (count ≡ 8) ⊎ (count ≡ 16)
+    split true f = inl (grind (arith, nat_tests, f))
+    split false f = inr (grind (arith, nat_tests, e, f))
+
+all_lines : (lines : ℕ) → is_line_count lines ≡ true → min lines MOST_LINES ≡ lines
+all_lines lines e = let few : lines ≤ 240 = grind (arith, nat_tests, e) in omega arith
+
+pub start_gives : (board : Described) (image : List Segment) → IsBoard board → IfGiven Invariant (start board image)
+unfolding start
+start_gives board image h =
+    either (IfGiven Invariant) (are_placed (blank board.numbers) image) _ _
+    (λ e. record {
+      registers = reset_has _ _;
+      system =
+          sound (min board.numbers.lines MOST_LINES) board.numbers.priority_bits
+          (reset_system board.numbers.flash_base board.numbers.lines board.numbers.priority_bits board.numbers.regions
+          board.script)
+          (record {
+            nvic = record {
+              same_lines = refl;
+              same_bits = refl;
+              priorities = bytes_at_reset board.numbers.lines board.numbers.priority_bits;
+              sets = sets_at_reset board.numbers.lines board.numbers.priority_bits;
+            };
+            time =
+                timely_at_start (min board.numbers.lines MOST_LINES) board.script
+                (subst (λ lines. IsScriptFrom lines 1 board.script) (sym (all_lines board.numbers.lines h.lines)) h.script);
+            mpu = sound_at_reset board.numbers.regions (regions_known board.numbers.regions h.regions);
+          });
+    })
+    (λ e. tt)

@@ -1,0 +1,211 @@
+-- A fault, SVC, and the entry into a handler and the return from it keep what holds of the core registers.
+use Rattle.std.proofs.Common.{◌≡◌, ℕ, zero, suc, ◌%◌, ◌^◌, ◌<◌, nat_lt, Bool, true, false, not, List, [], ◌∷◌, ◌++◌, Option, Some, None, Result, Ok, Err, bit_or, length, ◌∙◌, ap, arith}
+use Rattle.std.proofs.lemmas.List.{length-set}
+use Rattle.std.proofs.lemmas.Nat.{or_mod}
+use Rattle.reference.specs.declared.event.Event.{Event}
+use Rattle.reference.specs.declared.exception.Escalation.{Escalation}
+use Rattle.reference.specs.declared.exception.Escalation.TheVariants.{Itself, HardFault, Lockup}
+use Rattle.reference.specs.declared.exception.TheConstants.{EXCEPTIONS}
+use Rattle.reference.specs.declared.failure.Failure.{Failure}
+use Rattle.reference.specs.declared.failure.Failure.TheVariants as failure
+use Rattle.reference.specs.declared.failure.UsageFault.TheVariants.{InvalidReturn}
+use Rattle.reference.specs.declared.fault_status.FaultEffect.{FaultEffect}
+use Rattle.reference.specs.Accesses.{Served, perform_all}
+use Rattle.reference.specs.ExceptionEntry.{pushes, entering, stacked, begin_entry, vector_taken, exception_taken, taken_if_any, take_vector}
+use Rattle.reference.specs.ExceptionReturn.{with_entry, fits_mode, unstacked, frame_read, pops, pop_stack, chained, returned, exception_ended, is_allowed, return_line, exception_return}
+use Rattle.reference.specs.Faults.{fault_of, usage_fault_of, recorded, escalated, faulted, failed, supervisor_called_by, supervisor_called}
+use Rattle.reference.specs.Frames.{frame_base, in_handler, frame_of, returns_on_psp, above_frame, general_popped, popped_pc, popped_xpsr, with_frame_of, popped, has_reserved_ones}
+use Rattle.reference.specs.Invariant.{HasRegisters}
+use Rattle.reference.specs.Priorities.{Nvic, priority_of, group_priority, execution_priority, is_ready, better_of, with_ready, best_below, best, if_preempts, candidate, is_fixed}
+use Rattle.reference.specs.Registers.{Registers, sp}
+use Rattle.reference.specs.State.{State, Stepped, with_bus, with_system}
+use Rattle.reference.specs.Words.{word_sum, is_bit}
+use Rattle.state_laws.proofs.Nvic.{either}
+use Rattle.state_laws.proofs.Registers.{sp_kept, psp_kept, msp_kept, moves_on_kept}
+
+-- the registers of a state, and those of what a step makes of one
+abbrev pub Has : State → Type 0
+Has s = HasRegisters s.registers
+
+abbrev pub LeavesGood : Stepped → Type 0
+LeavesGood step = HasRegisters step.state.registers
+
+-- ---- faults
+
+escalated_kept : (s : State) (events : List Event) (x : ℕ) (e : Escalation) → Has s →
+    LeavesGood (escalated s events x e)
+escalated_kept s events x Itself h = h
+escalated_kept s events x HardFault h = h
+escalated_kept s events x Lockup h = h
+
+faulted_kept : (s : State) (events : List Event) (f : FaultEffect) → Has s → LeavesGood (faulted s events f)
+unfolding faulted
+faulted_kept s events f h = escalated_kept (recorded s f) events f.exception _ h
+
+pub failed_kept : (s : State) (events : List Event) (why : Failure) → Has s → LeavesGood (failed s events why)
+failed_kept s events (failure.Refused access cause) h = faulted_kept s events (fault_of access cause) h
+failed_kept s events (failure.Usage fault) h = faulted_kept s events (usage_fault_of fault) h
+failed_kept s events (failure.Stop why) h = h
+
+called_kept : (s : State) (events : List Event) (e : Escalation) → Has s →
+    LeavesGood (supervisor_called_by s events e)
+called_kept s events Itself h = moves_on_kept 2 s.registers h
+called_kept s events HardFault h = h
+called_kept s events Lockup h = h
+
+pub supervisor_kept : (s : State) (events : List Event) → Has s → LeavesGood (supervisor_called s events)
+unfolding supervisor_called
+supervisor_kept s events h = called_kept s events _ h
+
+-- ---- the candidate is below 256
+
+abbrev IsBelow : ℕ → Option ℕ → Type 0
+IsBelow k None = Unit {0}
+IsBelow k (Some x) = x < k
+
+below_next : (k : ℕ) (o : Option ℕ) → IsBelow k o → IsBelow (suc k) o
+below_next k None h = tt
+below_next k (Some x) h = omega arith
+
+better_below : (n : Nvic) (x : ℕ) (before : Option ℕ) → IsBelow x before → IsBelow (suc x) (better_of n before x)
+better_below n x None h = omega arith
+better_below n x (Some y) h =
+    either (IsBelow (suc x)) (nat_lt (priority_of n x) (priority_of n y)) _ _ (λ e. omega arith) (λ e. omega arith)
+
+ready_below : (n : Nvic) (x : ℕ) (before : Option ℕ) → IsBelow x before → IsBelow (suc x) (with_ready n x before)
+unfolding with_ready
+ready_below n x before h =
+    either (IsBelow (suc x)) (is_ready n x) _ _ (λ e. better_below n x before h) (λ e. below_next x before h)
+
+best_small : (n : Nvic) (k : ℕ) → IsBelow k (best_below n k)
+unfolding best_below
+best_small n zero = tt
+best_small n (suc k) = ready_below n k (best_below n k) (best_small n k)
+
+preempting_small : (n : Nvic) (k : ℕ) (o : Option ℕ) → IsBelow k o → IsBelow k (if_preempts n o)
+preempting_small n k None h = tt
+preempting_small n k (Some x) h =
+    either (IsBelow k) (nat_lt (group_priority n x) (execution_priority n)) _ _ (λ e. h) (λ e. tt)
+
+best_is_small : (n : Nvic) → IsBelow EXCEPTIONS (best n)
+unfolding best
+best_is_small n = best_small n EXCEPTIONS
+
+candidate_small : (n : Nvic) → IsBelow EXCEPTIONS (candidate n)
+unfolding candidate
+candidate_small n = preempting_small n EXCEPTIONS (best n) (best_is_small n)
+
+-- ---- entry
+
+stacked_kept : (s : State) (all : Served) (end : Option Failure) → Has s → LeavesGood (stacked s all end)
+stacked_kept s all None h = h
+stacked_kept s all (Some why) h = failed_kept (with_bus s all.bus) all.events why h
+
+pub entry_kept : (s : State) → Has s → LeavesGood (begin_entry s)
+unfolding begin_entry
+entry_kept s h =
+    let all = perform_all s.registers.exception s.bus.system.time.ticks s.bus (pushes s.registers) in
+    stacked_kept (entering s) all all.failure (sp_kept s.registers (frame_base (sp s.registers)) h)
+
+handler_kept : (r : Registers) (x e vector : ℕ) → x < EXCEPTIONS → HasRegisters r →
+    HasRegisters (in_handler r x e vector)
+unfolding in_handler
+handler_kept r x e vector small h = record {
+  all = h.all;
+  msp = h.msp;
+  psp = h.psp;
+  it = omega arith;
+  exception = omega arith;
+}
+
+vector_kept : (s : State) (events : List Event) (x e : ℕ) (answer : Result ℕ Failure) → x < EXCEPTIONS → Has s →
+    LeavesGood (vector_taken s events x e answer)
+vector_kept s events x e (Ok vector) small h = handler_kept s.registers x e vector small h
+vector_kept s events x e (Err (failure.Refused access cause)) small h =
+    either LeavesGood (is_fixed x) _ _ (λ f. h) (λ f. h)
+vector_kept s events x e (Err (failure.Usage fault)) small h = failed_kept s events (failure.Usage fault) h
+vector_kept s events x e (Err (failure.Stop why)) small h = h
+
+taken_kept : (s : State) (e x : ℕ) → x < EXCEPTIONS → Has s → LeavesGood (exception_taken s e x)
+unfolding exception_taken
+taken_kept s e x small h = vector_kept _ _ x e _ small h
+
+any_kept : (s : State) (e : ℕ) (next : Option ℕ) → IsBelow EXCEPTIONS next → Has s → LeavesGood (taken_if_any s e next)
+any_kept s e None small h = h
+any_kept s e (Some x) small h = taken_kept s e x small h
+
+pub vector_step_kept : (s : State) (e : ℕ) → Has s → LeavesGood (take_vector s e)
+unfolding take_vector
+vector_step_kept s e h = any_kept s e _ (candidate_small s.bus.system.nvic) h
+
+-- ---- return
+
+raised : (x : ℕ) → x % 4 ≡ 0 → bit_or x 4 % 4 ≡ 0
+raised x e = or_mod x 4 2 ∙ ap (λ k. bit_or k (4 % 2 ^ 2)) e
+
+above_aligned : (base xpsr : ℕ) → base % 4 ≡ 0 → above_frame base xpsr % 4 ≡ 0
+above_aligned base xpsr e =
+    let up : word_sum base 0x20 % 4 ≡ 0 = omega arith in
+    either (λ x. x % 4 ≡ 0) (is_bit xpsr 9) _ _ (λ f. raised (word_sum base 0x20) up) (λ f. up)
+
+frame_aligned : (r : Registers) (e : ℕ) → HasRegisters r → frame_of r e % 4 ≡ 0
+frame_aligned r e h = either (λ x. x % 4 ≡ 0) (returns_on_psp e) _ _ (λ f. h.psp) (λ f. h.msp)
+
+frame_of_kept : (r : Registers) (e v : ℕ) → v % 4 ≡ 0 → HasRegisters r → HasRegisters (with_frame_of r e v)
+frame_of_kept r e v aligned h =
+    either HasRegisters (returns_on_psp e) _ _ (λ f. psp_kept r v aligned h) (λ f. msp_kept r v aligned h)
+
+popped_length : (general frame : List ℕ) → length (general_popped general frame) ≡ length general
+popped_length general frame =
+    length-set _ 12 _ ∙ length-set _ 3 _ ∙ length-set _ 2 _ ∙ length-set _ 1 _ ∙ length-set general 0 _
+
+popped_kept : (r : Registers) (e : ℕ) (frame : List ℕ) → HasRegisters r → HasRegisters (popped r e frame)
+unfolding popped
+popped_kept r e frame h =
+    let moved = frame_of_kept r e (above_frame (frame_of r e) (popped_xpsr frame))
+    (above_aligned (frame_of r e) (popped_xpsr frame) (frame_aligned r e h)) h in
+    record {
+      all = popped_length r.general frame ∙ h.all;
+      msp = moved.msp;
+      psp = moved.psp;
+      it = omega arith;
+      exception = omega arith;
+    }
+
+unstacked_kept : (s : State) (events : List Event) (e : ℕ) (frame : List ℕ) → Has s →
+    LeavesGood (unstacked s events e frame)
+unfolding unstacked
+unstacked_kept s events e frame h =
+    either LeavesGood (not (fits_mode e frame)) _ _
+    (λ is. failed_kept (with_entry s e) events (failure.Usage InvalidReturn) h)
+    (λ is. either LeavesGood (is_bit (popped_pc frame) 0) _ _ (λ odd. h)
+    (λ even. popped_kept s.registers e frame h))
+
+read_kept : (s : State) (events : List Event) (e : ℕ) (all : Served) (end : Option Failure) → Has s →
+    LeavesGood (frame_read s events e all end)
+read_kept s events e all None h = unstacked_kept (with_bus s all.bus) (events ++ all.events) e all.values h
+read_kept s events e all (Some why) h = failed_kept (with_entry (with_bus s all.bus) e) (events ++ all.events) why h
+
+pop_kept : (s : State) (events : List Event) (e : ℕ) → Has s → LeavesGood (pop_stack s events e)
+unfolding pop_stack
+pop_kept s events e h =
+    let all = perform_all s.registers.exception s.bus.system.time.ticks s.bus (pops s.registers e) in
+    read_kept s events e all all.failure h
+
+chained_kept : (s : State) (events : List Event) (e : ℕ) (next : Option ℕ) → Has s →
+    LeavesGood (chained s events e next)
+chained_kept s events e (Some x) h = h
+chained_kept s events e None h = pop_kept s events e h
+
+returned_kept : (s : State) (events : List Event) (e : ℕ) (allowed : Bool) → Has s →
+    LeavesGood (returned s events e allowed)
+returned_kept s events e true h = chained_kept s events e _ h
+returned_kept s events e false h = failed_kept (with_entry s e) events (failure.Usage InvalidReturn) h
+
+pub return_kept : (s : State) (before : List Event) (e : ℕ) → Has s → LeavesGood (exception_return s before e)
+unfolding exception_return
+return_kept s before e h =
+    either LeavesGood (has_reserved_ones e) _ _
+    (λ ones. returned_kept (with_system s (exception_ended s.bus.system s.registers.exception))
+    (before ++ return_line s e ∷ []) e (is_allowed s e) h)
+    (λ other. h)

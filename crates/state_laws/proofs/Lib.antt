@@ -1,0 +1,13 @@
+mod Nvic
+mod Sets
+mod Ticks
+mod Regions
+mod Systems
+mod Accesses
+mod Faults
+mod Steps
+mod Registers
+mod Effects
+mod Frames
+mod Core
+mod Ends

@@ -1,0 +1,29 @@
+//! What holds of every state that a machine can be in: each law is the contract of a function that
+//! does nothing.
+#![tactic(auto)]
+
+ghost use Rattle.std.specs.Prelude.{List};
+ghost use Rattle.reference.specs.declared.place.Place.{Place};
+ghost use Rattle.reference.specs.Boards.{Described};
+ghost use Rattle.reference.specs.Images.{Segment};
+ghost use Rattle.reference.specs.Invariant.{IsBoard, Invariant};
+ghost use Rattle.reference.specs.Places.{place};
+ghost use Rattle.reference.specs.Start.{start};
+ghost use Rattle.reference.specs.State.{State};
+ghost use Rattle.reference.specs.Step.{step};
+ghost use Rattle.state_laws.specs.StateLaw.{IfGiven};
+
+/// A state in which a machine starts has the invariant.
+pub fn start_gives_the_invariant()
+    ensures { (board : Described) (image : List Segment) → IsBoard board → IfGiven Invariant (start board image) }
+{}
+
+/// A step keeps the invariant.
+pub fn step_keeps_the_invariant()
+    ensures { (s : State) → Invariant s → Invariant (step s).state }
+{}
+
+/// A value that is placed into a state keeps the invariant.
+pub fn place_keeps_the_invariant()
+    ensures { (s : State) (p : Place) → Invariant s → IfGiven Invariant (place s p) }
+{}
