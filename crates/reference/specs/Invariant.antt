@@ -1,9 +1,9 @@
 -- What holds of a state at the start, after each step and after each value that was placed. It's proved in the crate
 -- `state_laws`. Outside of it a definition has a value too, which is of no matter.
-use Rattle.std.specs.Prelude.{◌≡◌, ℕ, ◌+◌, ◌%◌, ◌^◌, ◌<◌, ◌≤◌, Bool, true, List, length, slice_index}
+use Rattle.std.specs.Prelude.{◌≡◌, ℕ, ◌+◌, ◌%◌, ◌^◌, ◌<◌, ◌≤◌, Bool, true, is_some, List, length, slice_index, None}
 use Rattle.reference.specs.declared.exception.TheConstants.{EXCEPTIONS, MOST_LINES}
 use Rattle.reference.specs.Boards.{Described, IsScript, IsScriptFrom, is_line_count, is_region_count}
-use Rattle.reference.specs.Priorities.{Nvic, is_in, is_exception, is_switched, kept}
+use Rattle.reference.specs.Priorities.{Nvic, is_in, is_exception, is_switched, kept, candidate}
 use Rattle.reference.specs.Regions.{IsSound}
 use Rattle.reference.specs.Registers.{Registers}
 use Rattle.reference.specs.State.{State}
@@ -76,6 +76,8 @@ pub record SystemInvariant (s : System) : Type 0 where
 -- what holds of the state
 pub record Invariant (s : State) : Type 0 where
   pub registers : HasRegisters s.registers
+  -- an entry phase has a candidate, unless the machine has stopped
+  pub entry : s.stop ≡ None → is_some s.entry ≡ true → is_some (candidate s.bus.system.nvic) ≡ true
   pub system : SystemInvariant s.bus.system
 
 -- ---- the board that it needs
