@@ -47,8 +47,8 @@ pub record HasExceptionsOfBoard (n : Nvic) : Type 0 where
   pub active : HasOnly (is_exception n.lines) n.active
   pub lines : n.lines ≤ MOST_LINES
 
--- the events that are still to come are a script of a board with these lines, later than the clock, and there is a level
--- for each line
+-- the events that are still to come are a script of a board with these lines, later than the clock, and there is a
+-- level for each line
 pub record IsAhead (lines : ℕ) (t : Time) : Type 0 where
   pub script : IsScriptFrom lines (t.ticks + 1) t.script
   pub levels : length t.high ≡ MOST_LINES

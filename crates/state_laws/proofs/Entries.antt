@@ -1,5 +1,5 @@
 -- An entry phase without a stop has a candidate after each phase of a step.
-use Rattle.std.proofs.Common.{◌≡◌, ℕ, ◌+◌, ◌*◌, ◌<◌, nat_le, Bool, true, false, not, ◌||◌, ◌==◌, is_some, List, [], ◌∷◌, ◌++◌, length, Option, Some, None, Result, Ok, Err, refl, sym, ◌∙◌, ap, arith, if◌then◌else◌}
+use Rattle.std.proofs.Common.{◌≡◌, ℕ, ◌<◌, nat_le, Bool, true, false, not, ◌==◌, is_some, List, [], ◌∷◌, ◌++◌, length, Option, Some, None, Result, Ok, Err, refl, ◌∙◌, ap, arith}
 use Rattle.reference.specs.declared.access.Cause.{Cause}
 use Rattle.reference.specs.declared.access.Cause.TheVariants as cause
 use Rattle.reference.specs.declared.access.Decision.{Decision}
@@ -22,22 +22,21 @@ use Rattle.reference.specs.declared.instruction.Decoded.TheVariants as decoded
 use Rattle.reference.specs.declared.instruction.Ending.{Ending}
 use Rattle.reference.specs.declared.instruction.Ending.TheVariants as ending
 use Rattle.reference.specs.declared.stop.Stop.{Stop}
-use Rattle.reference.specs.Accesses.{Answered, Served, carried_out, decided, decision, perform, perform_all, value_of, followed, told}
+use Rattle.reference.specs.Accesses.{Answered, Served, carried_out, decided, decision, perform, perform_all, value_of, followed}
 use Rattle.reference.specs.Arithmetic.{condition_passed}
 use Rattle.reference.specs.Decoding.{instruction_length}
-use Rattle.reference.specs.ExceptionEntry.{words_from, pushes, entering, stacked, begin_entry, vector_read, vector_refused, vector_taken, exception_taken, taken_if_any, take_vector}
+use Rattle.reference.specs.ExceptionEntry.{words_from, pushes, entering, stacked, begin_entry, vector_read, vector_taken, exception_taken, taken_if_any, take_vector}
 use Rattle.reference.specs.ExceptionReturn.{with_entry, fits_mode, unstacked, frame_read, pops, pop_stack, chained, returned, exception_ended, is_allowed, return_line, exception_return}
-use Rattle.reference.specs.Faults.{access_fault, fault_of, usage_fault_of, vector_fault, recorded, escalated, faulted, failed, supervisor_called_by, supervisor_called}
+use Rattle.reference.specs.Faults.{access_fault, fault_of, usage_fault_of, recorded, escalated, faulted, failed, supervisor_called_by, supervisor_called}
 use Rattle.reference.specs.Frames.{frame, frame_base, has_reserved_ones, popped_pc}
 use Rattle.reference.specs.Kinds.{is_probe}
 use Rattle.reference.specs.LoadStore.{request}
 use Rattle.reference.specs.Map.{is_in_ppb}
 use Rattle.reference.specs.Operations.{result_of}
-use Rattle.reference.specs.Priorities.{candidate, is_exception, is_fixed, escalation}
-use Rattle.reference.specs.ProgramCounter.{Finished, moves_on}
-use Rattle.reference.specs.Registers.{Registers, is_privileged, sp}
+use Rattle.reference.specs.Priorities.{candidate, is_exception, is_fixed}
+use Rattle.reference.specs.Registers.{is_privileged, sp}
 use Rattle.reference.specs.State.{State, Bus, Stepped, ticked, with_bus, with_registers, with_system}
-use Rattle.reference.specs.Step.{ended, finished, served, performed_all, planned, without_meaning, executed, fetching, fetched_second, with_second, fetched_first, instruction, sleeps_on, phase, running, unless_stopped, step}
+use Rattle.reference.specs.Step.{ended, served, performed_all, planned, without_meaning, executed, fetching, fetched_second, with_second, fetched_first, instruction, sleeps_on, phase, running, unless_stopped, step}
 use Rattle.reference.specs.System.{System, system_access, after_tick}
 use Rattle.reference.specs.Time.{last_tick, tick_pends}
 use Rattle.reference.specs.Words.{word_sum, is_bit}
