@@ -1,9 +1,9 @@
 -- What holds of a state at the start, after each step and after each value that was placed. It's proved in the crate
 -- `state_laws`. Outside of it a definition has a value too, which is of no matter.
-use Rattle.std.specs.Prelude.{◌≡◌, ℕ, ◌+◌, ◌%◌, ◌^◌, ◌<◌, ◌≤◌, Bool, true, List, length, slice_index}
+use Rattle.std.specs.Prelude.{◌≡◌, ℕ, ◌+◌, ◌%◌, ◌^◌, ◌<◌, ◌≤◌, Bool, true, is_some, List, length, slice_index, None}
 use Rattle.reference.specs.declared.exception.TheConstants.{EXCEPTIONS, MOST_LINES}
 use Rattle.reference.specs.Boards.{Described, IsScript, IsScriptFrom, is_line_count, is_region_count}
-use Rattle.reference.specs.Priorities.{Nvic, is_in, is_exception, is_switched, kept}
+use Rattle.reference.specs.Priorities.{Nvic, is_in, is_exception, is_switched, kept, candidate}
 use Rattle.reference.specs.Regions.{IsSound}
 use Rattle.reference.specs.Registers.{Registers}
 use Rattle.reference.specs.State.{State}
@@ -47,8 +47,8 @@ pub record HasExceptionsOfBoard (n : Nvic) : Type 0 where
   pub active : HasOnly (is_exception n.lines) n.active
   pub lines : n.lines ≤ MOST_LINES
 
--- the events that are still to come are a script of a board with these lines, later than the clock, and there is a level
--- for each line
+-- the events that are still to come are a script of a board with these lines, later than the clock, and there is a
+-- level for each line
 pub record IsAhead (lines : ℕ) (t : Time) : Type 0 where
   pub script : IsScriptFrom lines (t.ticks + 1) t.script
   pub levels : length t.high ≡ MOST_LINES
@@ -76,6 +76,8 @@ pub record SystemInvariant (s : System) : Type 0 where
 -- what holds of the state
 pub record Invariant (s : State) : Type 0 where
   pub registers : HasRegisters s.registers
+  -- an entry phase has a candidate, unless the machine has stopped
+  pub entry : s.stop ≡ None → is_some s.entry ≡ true → is_some (candidate s.bus.system.nvic) ≡ true
   pub system : SystemInvariant s.bus.system
 
 -- ---- the board that it needs

@@ -24,6 +24,7 @@ use Rattle.state_laws.specs.StateLaw.{IfGiven}
 use Rattle.state_laws.proofs.Accesses.{carried_whole}
 use Rattle.state_laws.proofs.Core.{special_kept, step_kept, reset_has}
 use Rattle.state_laws.proofs.Registers.{register_kept}
+use Rattle.state_laws.proofs.Entries.{none, step_called}
 use Rattle.state_laws.proofs.Faults.{HasWhole}
 use Rattle.state_laws.proofs.Nvic.{either}
 use Rattle.state_laws.proofs.Regions.{sound_at_reset}
@@ -56,6 +57,7 @@ whole s h = record {
 pub step_keeps : (s : State) → Invariant s → Invariant (step s).state
 step_keeps s h = record {
   registers = step_kept s h.registers;
+  entry = step_called _ _ s (whole s.bus.system h.system) h.entry;
   system =
       sound s.bus.system.nvic.lines s.bus.system.nvic.priority_bits _
       (step_whole _ _ s (whole s.bus.system h.system));
@@ -66,6 +68,7 @@ step_keeps s h = record {
 -- what holds of the registers, and of the System Control Space
 record IsGood (lines bits : ℕ) (s : State) : Type 0 where
   registers : HasRegisters s.registers
+  entry : s.entry ≡ None
   system : HasWhole lines bits s
 
 abbrev IsPlaced : ℕ → ℕ → Result State PlaceFault → Type 0
@@ -76,43 +79,57 @@ special_placed : (lines bits : ℕ) (s : State) (special : Option SpecialRegiste
 special_placed lines bits s None value h = tt
 special_placed lines bits s (Some special) value h = record {
   registers = special_kept s.registers special value h.registers;
+  entry = h.entry;
   system = placed_mask_whole lines bits s.bus.system special value h.system;
 }
 
-register_placed : (lines bits : ℕ) (s : State) (after : Bus) (a : Answer) → HasRegisters s.registers →
+register_placed : (lines bits : ℕ) (s : State) (after : Bus) (a : Answer) → HasRegisters s.registers → s.entry ≡ None →
     IsWhole lines bits after.system → IsPlaced lines bits (register_taken s after a)
-register_placed lines bits s after (answer.Value value) r h = record { registers = r; system = h }
-register_placed lines bits s after answer.Error r h = tt
-register_placed lines bits s after (answer.Stop why) r h = tt
+register_placed lines bits s after (answer.Value value) r out h = record { registers = r; entry = out; system = h }
+register_placed lines bits s after answer.Error r out h = tt
+register_placed lines bits s after (answer.Stop why) r out h = tt
 
 taken_placed : (lines bits : ℕ) (s : State) (p : Place) → IsGood lines bits s → IsPlaced lines bits (taken s p)
 taken_placed lines bits s (Reg number value) h =
-    record { registers = register_kept s.registers number value h.registers; system = h.system }
+    record { registers = register_kept s.registers number value h.registers; entry = h.entry; system = h.system }
 taken_placed lines bits s (Special number value) h = special_placed lines bits s (special_of number) value h
 taken_placed lines bits s (Word address value) h =
     let a = carried_out s.registers.exception s.bus (store_of address value) in
     either (IsPlaced lines bits) (is_in_ppb address) _ _
-    (λ e. register_placed lines bits s a.bus a.answer h.registers
+    (λ e. register_placed lines bits s a.bus a.answer h.registers h.entry
     (carried_whole lines bits s.registers.exception s.bus (store_of address value) h.system))
-    (λ e. record { registers = h.registers; system = h.system })
+    (λ e. record { registers = h.registers; entry = h.entry; system = h.system })
 
-placed : (lines bits : ℕ) (s : State) (p : Place) → IsGood lines bits s → IsPlaced lines bits (place s p)
+no_entry : (stop : Bool) (entry : Option ℕ) (handler : Bool) → (stop || is_some entry || handler) ≡ false → entry ≡ None
+no_entry stop None handler e = refl
+no_entry true (Some x) handler e = absurd (let w : ⊥ = cc in w)
+no_entry false (Some x) handler e = absurd (let w : ⊥ = cc in w)
+
+placed : (lines bits : ℕ) (s : State) (p : Place) → HasRegisters s.registers → HasWhole lines bits s →
+    IsPlaced lines bits (place s p)
 unfolding place
-placed lines bits s p h =
+placed lines bits s p r h =
     either (IsPlaced lines bits) (not (is_word_aligned p)) _ _ (λ e. tt)
     (λ e. either (IsPlaced lines bits) (not (is_there s.bus.memory p)) _ _ (λ f. tt)
     (λ f. either (IsPlaced lines bits) (is_some s.stop || is_some s.entry || is_handler s.registers) _ _ (λ g. tt)
-    (λ g. taken_placed lines bits s p h)))
+    (λ g. taken_placed lines bits s p (record {
+      registers = r;
+      entry = no_entry (is_some s.stop) s.entry (is_handler s.registers) g;
+      system = h;
+    }))))
 
 pub place_keeps : (s : State) (p : Place) → Invariant s → IfGiven Invariant (place s p)
 place_keeps s p h =
     lead (place s p)
-    (placed s.bus.system.nvic.lines s.bus.system.nvic.priority_bits s p
-    (record { registers = h.registers; system = whole s.bus.system h.system }))
+    (placed s.bus.system.nvic.lines s.bus.system.nvic.priority_bits s p h.registers (whole s.bus.system h.system))
   where
     lead : (r : Result State PlaceFault) → IsPlaced s.bus.system.nvic.lines s.bus.system.nvic.priority_bits r →
         IfGiven Invariant r
-    lead (Ok after) w = record { registers = w.registers; system = sound _ _ after.bus.system w.system }
+    lead (Ok after) w = record {
+      registers = w.registers;
+      entry = λ stop entry. none _ _ w.entry entry;
+      system = sound _ _ after.bus.system w.system;
+    }
     lead (Err why) w = tt
 
 -- ---- a start
@@ -133,6 +150,7 @@ start_gives board image h =
     either (IfGiven Invariant) (are_placed (blank board.numbers) image) _ _
     (λ e. record {
       registers = reset_has _ _;
+      entry = λ stop entry. absurd (let w : ⊥ = cc in w);
       system =
           sound (min board.numbers.lines MOST_LINES) board.numbers.priority_bits
           (reset_system board.numbers.flash_base board.numbers.lines board.numbers.priority_bits board.numbers.regions

@@ -1,5 +1,5 @@
--- A fault, its escalation, SVC, and the entry into a handler and the return from it keep what holds of the System Control
--- Space.
+-- A fault, its escalation, SVC, and the entry into a handler and the return from it keep what holds of the System
+-- Control Space.
 use Rattle.std.proofs.Common.{ℕ, Bool, true, false, not, List, [], ◌∷◌, ◌++◌, Option, Some, None, Result, Ok, Err}
 use Rattle.reference.specs.declared.event.Event.{Event}
 use Rattle.reference.specs.declared.exception.Escalation.{Escalation}

@@ -10,4 +10,6 @@ mod Registers
 mod Effects
 mod Frames
 mod Core
+mod Candidates
+mod Entries
 mod Ends

@@ -128,7 +128,7 @@ phase_whole lines bits s None None h =
     either (LeavesWhole lines bits) (sleeps_on s) _ _ (λ sleeps. h)
     (λ wakes. instruction_whole lines bits (record s { asleep = false }) h)
 
-is_early : (ticks : ℕ) → nat_le last_tick ticks ≡ false → ticks < last_tick
+pub is_early : (ticks : ℕ) → nat_le last_tick ticks ≡ false → ticks < last_tick
 is_early ticks e = grind (arith, nat_tests, e)
 
 running_whole : (lines bits : ℕ) (s : State) → HasWhole lines bits s → LeavesWhole lines bits (running s)
