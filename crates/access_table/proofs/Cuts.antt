@@ -1,16 +1,16 @@
 -- Where no boundary of a region lies between two addresses, both lie in the region or neither does.
-use Rattle.std.proofs.Common.{pow_pos, mul-le-mul, below_more, ◌≡◌, ℕ, zero, suc, ◌+◌, ◌-◌, ◌*◌, ◌/◌, ◌%◌, ◌^◌, ◌<◌, ◌≤◌, ◌⊎◌, Bool, true, false, not, ◌&&◌, ◌==◌, nat_le, if◌then◌else◌, List, arith, refl, sym, ap, ◌∙◌, inl, inr}
+use Rattle.std.proofs.Common.{pow_pos, mul-le-mul, below_more, ◌≡◌, ℕ, ◌+◌, ◌-◌, ◌*◌, ◌/◌, ◌^◌, ◌<◌, ◌≤◌, ◌⊎◌, Bool, true, false, not, ◌&&◌, ◌==◌, nat_le, if◌then◌else◌, List, arith, refl, ap, ◌∙◌, inl, inr}
 use Rattle.std.specs.List.{Contains}
 use Rattle.std.proofs.Math.Nat.{div-mul-le_self}
-use Rattle.std.proofs.lemmas.Bool.Decides.{nat_tests}
-use Rattle.std.proofs.lemmas.Bool.{leb-true, eqb-true, cases_lt}
+use Rattle.std.proofs.lemmas.Bool.{leb-true, cases_lt}
 use Rattle.std.proofs.lemmas.List.Elements.{All-contains, Contains-get_or}
-use Rattle.std.proofs.lemmas.Nat.{div_below, le-div, pow-add, shr-shr}
-use Rattle.access_table.specs.Boundaries.{block_of, begin_of, pieces_of, grain, HasBoundaries}
+use Rattle.std.proofs.lemmas.Nat.{div_below, le-div, pow-add}
+use Rattle.access_table.specs.Boundaries.{block_of, begin_of, pieces_of, HasBoundaries}
 use Rattle.access_table.specs.Intervals.{IsClear, Keeps, PartsRegion, PartsRegions}
+use Rattle.mpu.proofs.Blocks.{outside_before, outside_behind, matches_outside, matches_inside, alike_below, alike_disabled}
+use Rattle.mpu.specs.Spans.{grain}
 use Rattle.reference.specs.declared.mpu.Region.{Region}
-use Rattle.reference.specs.Regions.{Mpu, region, matches, agrees, subregion, is_switched_off, is_enabled, size, switched_off, owner, owner_below}
-use Rattle.reference.specs.Words.{is_bit}
+use Rattle.reference.specs.Regions.{Mpu, region, matches, is_enabled, size, switched_off, owner}
 
 -- ---- numbers
 
@@ -45,86 +45,7 @@ one_piece u first n a b some order from to clear = lead (cases_lt (a / u) (b / u
 pub times_small : (j u : ℕ) → j ≤ 8 → u ≤ 2 ^ 32 → j * u ≤ 2 ^ 35
 times_small j u h k = let e = mul-le-mul h k in omega (arith, e)
 
-before_block : (a x u : ℕ) → 0 < u → a < x / u * u → a / u < x / u
-before_block a x u some h = div_below a u (x / u) some h
-
-behind_block : (a x u : ℕ) → 0 < u → x / u * u + u ≤ a → x / u < a / u
-behind_block a x u some h = le-div (suc (x / u)) a u some (let e : suc (x / u) * u ≡ x / u * u + u = omega arith in rw e h)
-
 -- ---- one region
-
-not_at : (x y : ℕ) → (x ≡ y → ⊥) → (x == y) ≡ false
-not_at x y h = grind (arith, nat_tests)
-
-outside_before : (r : Region) (a : ℕ) → a < begin_of r → agrees r a ≡ false
-outside_before r a h = let b = before_block a r.base (block_of r) (pow_pos _) h in not_at _ _ (λ e. omega arith)
-
-outside_behind : (r : Region) (a : ℕ) → begin_of r + block_of r ≤ a → agrees r a ≡ false
-outside_behind r a h = let b = behind_block a r.base (block_of r) (pow_pos _) h in not_at _ _ (λ e. omega arith)
-
-matches_outside : (r : Region) (a b : ℕ) → agrees r a ≡ false → agrees r b ≡ false → matches r a ≡ matches r b
-unfolding matches
-matches_outside r a b h k = both (is_enabled r.attributes) (agrees r a) (agrees r b) (not (is_switched_off r a)) (not (is_switched_off r b)) h k
-  where
-    both : (e o p s t : Bool) → o ≡ false → p ≡ false → (e && o && s) ≡ (e && p && t)
-    both true o p s t h k = rw (h, k) refl
-    both false o p s t h k = refl
-
--- below 256 bytes, and with SRD 0, no eighth is switched off
-no_bit : (x j : ℕ) → j < 8 → x / 2 ^ 8 % 256 ≡ 0 → x / 2 ^ (8 + j) % 2 ≡ 0
-no_bit x zero h e = omega arith
-no_bit x (suc zero) h e = omega arith
-no_bit x (suc (suc zero)) h e = omega arith
-no_bit x (suc (suc (suc zero))) h e = omega arith
-no_bit x (suc (suc (suc (suc zero)))) h e = omega arith
-no_bit x (suc (suc (suc (suc (suc zero))))) h e = omega arith
-no_bit x (suc (suc (suc (suc (suc (suc zero)))))) h e = omega arith
-no_bit x (suc (suc (suc (suc (suc (suc (suc zero))))))) h e = omega arith
-no_bit x (suc (suc (suc (suc (suc (suc (suc (suc j)))))))) h e = absurd (let w : ⊥ = omega arith in w)
-
-none_off : (r : Region) (a : ℕ) → switched_off r.attributes ≡ 0 → is_switched_off r a ≡ false
-none_off r a e =
-    let b : r.attributes / 2 ^ (8 + subregion r a) % 2 ≡ 0 = no_bit r.attributes (subregion r a) (omega arith) e in
-    let c : (r.attributes / 2 ^ (8 + subregion r a) % 2 == 1) ≡ false = ap (λ (d : ℕ). d == 1) b in
-    lead (nat_le 7 (size r.attributes)) _ c
-  where
-    lead : (s t : Bool) → t ≡ false → (s && t) ≡ false
-    lead true t h = h
-    lead false t h = refl
-
-small_off : (r : Region) (a : ℕ) → nat_le 7 (size r.attributes) ≡ false → is_switched_off r a ≡ false
-small_off r a h = ap (λ (b : Bool). b && is_bit r.attributes (8 + subregion r a)) h
-
--- without eighths that are switched off, addresses of one block lie in a region alike
-whole_alike : (r : Region) (a b : ℕ) → a / block_of r ≡ b / block_of r
-    → is_switched_off r a ≡ false → is_switched_off r b ≡ false → matches r a ≡ matches r b
-unfolding matches
-whole_alike r a b e s t =
-    ap (λ (q : ℕ). is_enabled r.attributes && (q == r.base / block_of r) && not (is_switched_off r a)) e
-    ∙ ap (λ (o : Bool). is_enabled r.attributes && agrees r b && not o) (s ∙ sym t)
-
--- otherwise addresses of one eighth do
-eighth_alike : (r : Region) (a b : ℕ) → 7 ≤ size r.attributes
-    → a / 2 ^ (size r.attributes - 2) ≡ b / 2 ^ (size r.attributes - 2) → matches r a ≡ matches r b
-unfolding matches
-eighth_alike r a b big e =
-    let n : size r.attributes + 1 ≡ (size r.attributes - 2) + 3 = omega arith in
-    let p : a / block_of r ≡ b / block_of r =
-    rw n (sym (shr-shr a (size r.attributes - 2) 3) ∙ ap (λ (q : ℕ). q / 2 ^ 3) e ∙ shr-shr b (size r.attributes - 2) 3) in
-    ap (λ (q : ℕ). is_enabled r.attributes && (q == r.base / block_of r) && not (is_switched_off r a)) p
-    ∙ ap (λ (q : ℕ). is_enabled r.attributes && agrees r b && not (nat_le 7 (size r.attributes) && is_bit r.attributes (8 + q % 8))) e
-
-piece_alike : (r : Region) (a b : ℕ) → a / 2 ^ grain r.attributes ≡ b / 2 ^ grain r.attributes → matches r a ≡ matches r b
-piece_alike r a b = lead (nat_le 7 (size r.attributes)) (switched_off r.attributes == 0) refl refl
-  where
-    lead : (s t : Bool) → nat_le 7 (size r.attributes) ≡ s → (switched_off r.attributes == 0) ≡ t
-        → a / 2 ^ (if s && not t then size r.attributes - 2 else size r.attributes + 1)
-        ≡ b / 2 ^ (if s && not t then size r.attributes - 2 else size r.attributes + 1) → matches r a ≡ matches r b
-    lead true false es et h = eighth_alike r a b (leb-true 7 (size r.attributes) es) h
-    lead true true es et h =
-        let e : switched_off r.attributes ≡ 0 = eqb-true (switched_off r.attributes) 0 et in
-        whole_alike r a b h (none_off r a e) (none_off r b e)
-    lead false t es et h = whole_alike r a b h (small_off r a es) (small_off r b es)
 
 eight_times : (g : ℕ) → 8 * 2 ^ g ≡ 2 ^ (g + 3)
 eight_times g = let e = pow-add 2 g 3 in omega (arith, e)
@@ -175,7 +96,7 @@ parted points r has a b order small clear = lead (point 0 (omega arith)) (point 
         let e = from_first 0 in
         let f = from_first (pieces_of r.attributes) in
         let g = fill in
-        piece_alike r a b
+        matches_inside r a b
         (one_piece (2 ^ grain r.attributes) first (pieces_of r.attributes) a b (pow_pos _) order
         (omega (arith, e, from)) (omega (arith, f, g, to)) (λ j h. rw (from_first j) (point j h)))
 
@@ -184,30 +105,19 @@ parted points r has a b order small clear = lead (point 0 (omega arith)) (point 
         ⊎ (b < begin_of r + pieces_of r.attributes * 2 ^ grain r.attributes))
         → matches r a ≡ matches r b
     lead (inr before) _ =
-        matches_outside r a b (outside_before r a (omega (arith, before, order))) (outside_before r b (omega (arith, before)))
+        matches_outside r a b (outside_before r a _ _ refl refl (omega (arith, before, order)))
+        (outside_before r b _ _ refl refl (omega (arith, before)))
     lead (inl from) (inl behind) =
         let g = fill in
-        matches_outside r a b (outside_behind r a (omega (arith, behind, g)))
-        (outside_behind r b (omega (arith, behind, g, order)))
+        matches_outside r a b (outside_behind r a _ _ refl refl (omega (arith, behind, g)))
+        (outside_behind r b _ _ refl refl (omega (arith, behind, g, order)))
     lead (inl from) (inr to) = let g = fill in inside (omega (arith, from)) (omega (arith, to, g))
 
 -- a region that is disabled has no address
 pub disabled_parts : (points : List ℕ) (r : Region) → is_enabled r.attributes ≡ false → PartsRegion points r
-unfolding matches
-disabled_parts points r e a b order small clear =
-    ap (λ (o : Bool). o && agrees r a && not (is_switched_off r a)) e
-    ∙ sym (ap (λ (o : Bool). o && agrees r b && not (is_switched_off r b)) e)
+disabled_parts points r e a b order small clear = alike_disabled r a b e
 
 -- ---- all regions
-
-alike_below : (m : Mpu) (a b n : ℕ) → ((k : ℕ) → k < n → matches (region m k) a ≡ matches (region m k) b)
-    → owner_below m a n ≡ owner_below m b n
-unfolding owner_below
-alike_below m a b zero same = refl
-alike_below m a b (suc n) same =
-    let here : matches (region m n) a ≡ matches (region m n) b = same n (omega arith) in
-    let rest : owner_below m a n ≡ owner_below m b n = alike_below m a b n (λ k h. same k (omega arith)) in
-    cc
 
 pub owner_alike : (points : List ℕ) (m : Mpu) (a b : ℕ) → PartsRegions points m → a ≤ b → b < 2 ^ 32 → IsClear points a b
     → owner m a ≡ owner m b

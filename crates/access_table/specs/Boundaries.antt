@@ -1,5 +1,5 @@
 -- Where an address can begin or cease to lie in a region.
-use Rattle.std.specs.Prelude.{ℕ, ◌+◌, ◌-◌, ◌*◌, ◌/◌, ◌^◌, ◌<◌, ◌≤◌, Bool, not, ◌&&◌, ◌==◌, nat_le, if◌then◌else◌, List}
+use Rattle.std.specs.Prelude.{ℕ, ◌+◌, ◌*◌, ◌/◌, ◌^◌, ◌<◌, ◌≤◌, Bool, not, ◌&&◌, ◌==◌, nat_le, if◌then◌else◌, List}
 use Rattle.std.specs.List.{Contains}
 use Rattle.reference.specs.declared.mpu.Region.{Region}
 use Rattle.reference.specs.Regions.{size, switched_off}
@@ -15,12 +15,9 @@ begin_of r = r.base / block_of r * block_of r
 abbrev pub has_eighths : ℕ → Bool
 has_eighths attributes = nat_le 7 (size attributes) && not (switched_off attributes == 0)
 
--- the number of pieces of a region, and the number of bits in which the addresses of a piece differ
+-- the number of pieces of a region
 abbrev pub pieces_of : ℕ → ℕ
 pieces_of attributes = if has_eighths attributes then 8 else 1
-
-abbrev pub grain : ℕ → ℕ
-grain attributes = if has_eighths attributes then size attributes - 2 else size attributes + 1
 
 -- the boundaries of a region: where its pieces begin, and where the last one ends
 abbrev pub HasBoundaries : List ℕ → ℕ → ℕ → ℕ → Type 0

@@ -2,8 +2,9 @@
 
 ghost use Rattle.std.specs.Prelude.{◌≡◌, ◌+◌, ◌*◌, ◌^◌, ◌<◌, ◌≤◌, length};
 ghost use Rattle.std.specs.List.{Contains};
-ghost use Rattle.access_table.specs.Boundaries.{begin_of, grain, pieces_of, HasBoundaries};
+ghost use Rattle.access_table.specs.Boundaries.{begin_of, pieces_of, HasBoundaries};
 ghost use Rattle.access_table.specs.Intervals.{Keeps, PartsRegion, PartsRegions};
+ghost use Rattle.mpu.specs.Spans.{grain};
 
 use crate::interval::CAPACITY;
 use arrayvec::ArrayVec;
@@ -25,7 +26,6 @@ pub fn boundaries_of(registers: &MpuRegs) -> Points
 }
 
 /// Adds the boundaries of a region.
-
 fn add_region(points: &mut Points, region: Region)
     requires { length points.old.items + 9 ≤ 192 }
     ensures parts { PartsRegion points.new.items region }

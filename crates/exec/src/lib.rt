@@ -8,6 +8,7 @@ mod exclusives;
 mod finishing;
 mod load_store;
 mod load_store_multiple;
+mod one_access;
 mod planning;
 mod processing;
 mod program_counter;
@@ -15,6 +16,7 @@ mod system;
 
 pub use at_once::carry_out_at_once;
 pub use finishing::finish;
+pub use one_access::{finish_single, single_access};
 pub use planning::{Requests, is_misplaced, plan};
 pub use program_counter::move_on;
 pub use reference::access::Request;

@@ -1,6 +1,6 @@
 //! What an instruction asks for: its place in an IT block, its condition and its family.
 
-ghost use Rattle.std.specs.Prelude.{◌≡◌, ◌≤◌, [], length};
+ghost use Rattle.std.specs.Prelude.{◌≡◌, ◌≤◌, ◌&&◌, [], length, not};
 ghost use Rattle.exec.specs.Plans.{planned};
 ghost use Rattle.reference.specs.Operations.{wants, requests_of, is_misplaced, is_carried_out, is_unconditional};
 
@@ -60,6 +60,14 @@ fn plan_family(
         Instruction::Branch(i) => branches::plan(i, regs, traps, requests),
         Instruction::System(_) => Ok(()),
     }
+}
+
+/// Returns whether an instruction is allowed at its place in an IT block and its condition holds.
+#[inline(always)]
+pub fn goes_ahead(coded: &CodedInstruction, regs: &Regs) -> bool
+    ensures { result ≡ (not (is_misplaced coded.now.place regs.now.it) && is_carried_out coded.now.instruction regs.now) }
+{
+    !is_misplaced(coded.place, regs) && is_carried_out(&coded.instruction, regs)
 }
 
 /// Whether an instruction isn't allowed at its place in an IT block.

@@ -1,6 +1,6 @@
 -- What a tick pends, as a set of eight words and as a test.
-use Rattle.std.proofs.Common.{◌≡◌, ℕ, zero, suc, ◌<◌, ◌≤◌, Bool, false, List, refl, arith}
-use Rattle.reference.specs.Priorities.{Nvic, is_due, with_due_at, with_due_below, with_due}
+use Rattle.std.proofs.Common.{◌≡◌, ℕ, zero, suc, ◌≤◌, Bool, false, List, refl, arith}
+use Rattle.reference.specs.Priorities.{Nvic, with_due_at, with_due_below, with_due}
 use Rattle.reference.specs.System.{with_pended_at, with_pended_below, with_pended}
 use Rattle.reference.specs.Time.{IsSetOf}
 
@@ -16,19 +16,6 @@ due_below n due test same (suc x) within =
 pub due_is_pended : (n : Nvic) (due : List ℕ) (test : ℕ → Bool) → IsSetOf due test → with_due n due ≡ with_pended n test
 unfolding with_due with_pended
 due_is_pended n due test same = due_below n due test same 256 (omega arith)
-
-none_below : (n : Nvic) (due : List ℕ) → ((x : ℕ) → x < 256 → is_due due x ≡ false) → (x : ℕ) → x ≤ 256 → with_due_below n due x ≡ n
-unfolding with_due_below with_due_at
-none_below n due none zero within = refl
-none_below n due none (suc x) within =
-    let before = none_below n due none x (omega arith) in
-    let here = none x (omega arith) in
-    rw (before, here) refl
-
--- an empty set makes nothing pending
-pub nothing_is_due : (n : Nvic) (due : List ℕ) → ((x : ℕ) → x < 256 → is_due due x ≡ false) → with_due n due ≡ n
-unfolding with_due
-nothing_is_due n due none = none_below n due none 256 (omega arith)
 
 none_pended_below : (n : Nvic) (test : ℕ → Bool) → ((x : ℕ) → test x ≡ false) → (x : ℕ) → with_pended_below n test x ≡ n
 unfolding with_pended_below with_pended_at

@@ -7,7 +7,7 @@ ghost use Rattle.reference.specs.System.{reset_system, after_tick, deactivated, 
 ghost use Rattle.reference.specs.Interrupts.{write_priorities as write_priorities_of};
 ghost use Rattle.reference.specs.Kinds.{bytes_in};
 ghost use Rattle.reference.specs.Regions.{shown, write as write_mpu_of};
-ghost use Rattle.reference.specs.Priorities.{is_below_zero, is_due, with_due, with_pending, with_active, with_faultmask};
+ghost use Rattle.reference.specs.Priorities.{is_below_zero, with_pending, with_active, with_faultmask};
 ghost use Rattle.reference.specs.Registers.{is_privileged};
 ghost use Rattle.reference.specs.Rules.{decision_of};
 ghost use Rattle.reference.specs.SpecialRegisters.{read_special as read_special_of, write_special as write_special_of, write_mask as write_mask_of, change_state as change_state_of, with_special, with_mask};
@@ -23,7 +23,7 @@ use crate::interrupts::{
 use crate::special;
 use crate::status::Status;
 use crate::systick::{read_systick, write_systick};
-use clock::{Clock, Due, DueTicks, ScriptedEvent};
+use clock::{Clock, DueTicks, ScriptedEvent};
 use mpu::{Decider, MpuRegister, MpuRegs, stop_of};
 use nvic::{Levels, Masks};
 use reference::access::{Access, Answer, Decision, Request};
@@ -104,7 +104,7 @@ impl<D: Decider, L: Levels, U: DueTicks> System<D, L, U> {
         ensures { self.new ≡ after_tick self.old }
     {
         let due = self.clock.tick();
-        pend_due(&mut self.levels, &due);
+        self.levels.pend_due(&due);
     }
 
     /// Returns the number of ticks that have gone by, at most 2^48.
@@ -407,23 +407,4 @@ impl<D: Decider, L: Levels, U: DueTicks> System<D, L, U> {
             Err(stop) => Err(stop_of(stop)),
         }
     }
-}
-
-/// Makes the exceptions of a set pending, at no cost where the set is empty.
-#[inline]
-#[tactic(auto, using(crate::proofs::Due::nothing_is_due))]
-fn pend_due<L: Levels>(levels: &mut L, due: &Due)
-    ensures { L.content levels.new ≡ with_due (L.content levels.old) due.now }
-{
-    if !is_nothing(due) {
-        levels.pend_due(due);
-    }
-}
-
-/// Returns whether a set of exceptions is empty.
-#[inline]
-fn is_nothing(due: &Due) -> bool
-    ensures { result ≡ true → (number : ℕ) → number < 256 → is_due due.now number ≡ false }
-{
-    *due == [0; 8]
 }
