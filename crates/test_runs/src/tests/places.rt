@@ -38,6 +38,8 @@ after reg faultmask 1
 after reg msp 20001000
 special 13 0
 refused mpu-control word E000ED94 2
+refused mpu-region word E000ED9C 20000019
+after region 0 0 0
 word 100 BE00
 steps 1
 trace 1 F 00000100 2 p ok bg

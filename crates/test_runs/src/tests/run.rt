@@ -108,6 +108,7 @@ fn name_of(fault: PlaceFault) -> &'static str {
         PlaceFault::Stopped => "stopped",
         PlaceFault::Refused(Stop::OutOfProfile(LeftOut::SleepOnExit)) => "sleeponexit",
         PlaceFault::Refused(Stop::Unpredictable(UnpredictableCase::MpuControl)) => "mpu-control",
+        PlaceFault::Refused(Stop::Unpredictable(UnpredictableCase::MpuRegion)) => "mpu-region",
         PlaceFault::Refused(_) => "another",
     }
 }
