@@ -17,7 +17,7 @@ A page is README.md, CONTRIBUTING.md, docs/*.md or crates/*/README.md. A name is
 In a table with a column "Definition", "Function" or "Test", a chapter or a crate ahead of a name says where the name
 has to be: "Step `running`", "exec `plan`", "test_runs `short_runs`". The links of all pages are checked too. Without a
 page, the manual page docs/marm.1 is formatted too, by `groff -ww` and `man --warnings` where they are installed: each
-warning is an error.
+warning is an error. So is a file in crates/*/data that differs from the one of that name in examples/.
 """
 
 import fnmatch
@@ -378,6 +378,15 @@ FORMATTERS = (["groff", "-ww", "-man", "-Tutf8", "-z", MANUAL_PAGE],
               ["man", "--warnings", "-E", "UTF-8", "-l", "-Tutf8", "-Z", MANUAL_PAGE])
 
 
+def copies():
+    """Lists the files in crates/*/data that aren't what examples/ has under the same name."""
+    originals = {os.path.basename(path): path for path in sorted(glob.glob(f"{TOP}/examples/**/*", recursive=True))}
+    for path in sorted(glob.glob(f"{TOP}/crates/*/data/*")):
+        original = originals.get(os.path.basename(path))
+        if original and open(path, "rb").read() != open(original, "rb").read():
+            yield f"{os.path.relpath(path, TOP)}: not what {os.path.relpath(original, TOP)} is"
+
+
 def manual_page():
     """Returns the warnings about the manual page, of each formatter that is installed."""
     found = []
@@ -409,6 +418,9 @@ def main():
             count += 1
     for page, name in lists(repo) if not sys.argv[1:] else []:
         print(f"{page}:1: {name} (left out of its list, or not there)")
+        count += 1
+    for copy in copies() if not sys.argv[1:] else []:
+        print(copy)
         count += 1
     for warning in manual_page() if not sys.argv[1:] else []:
         print(f"{MANUAL_PAGE}: {warning}")
