@@ -1,7 +1,7 @@
 //! Priorities of exceptions, and which of them is taken (ARM DDI 0403, "Exception priorities and
 //! preemption"). The values are read off the manual's text.
 
-use nvic::{Escalation, Levels, Masks, PlainLevels, laws};
+use nvic::{Escalation, Levels, Masks, PlainLevels};
 use std::test::*;
 use test_tables::{Rows, byte_at, check, halfword_at, is_first, part, word};
 
@@ -365,13 +365,4 @@ fn what_a_board_keeps(rt: HostRuntime) {
     levels.set_primask(true);
     levels.set_faultmask(true);
     assert!(rt; are_highest(levels.masks()));
-}
-
-#[test]
-fn the_laws_are_called() {
-    laws::execution_priority_is_the_least();
-    laws::best_comes_before_all();
-    laws::candidate_is_the_best_that_preempts();
-    laws::changes_stay_on_the_board();
-    laws::what_is_due_is_added();
 }

@@ -8,7 +8,7 @@ use nvic::PlainLevels;
 use reference::access::{Access, Answer, Kind, Request, Size};
 use reference::script::{InterruptLine, ScriptedEvent, Signal};
 use reference::stop::{LeftOut, Stop, UnpredictableCase};
-use scs::{System, laws};
+use scs::System;
 use std::test::*;
 use test_tables::{Rows, check, halfword_at, number, number_at, part, word};
 
@@ -439,10 +439,4 @@ fn sixteen_regions_and_240_lines(rt: HostRuntime) -> Result<(), Fail> {
     assert!(rt; is_answer(system.access(0, &base), "0"));
     assert!(rt; system.region(15) == Some((0x2000_000F, 0)));
     Ok(())
-}
-
-#[test]
-fn the_laws_are_called() {
-    laws::refused_access_changes_nothing();
-    laws::system_stays_sound();
 }

@@ -1,7 +1,7 @@
 //! The clock, SysTick, the lines and scripts. The values come from the manual's text on SysTick
 //! (ARM DDI 0403, "System timer, SysTick") and from the rules of lines and scripts.
 
-use clock::{Clock, Counting, Due, laws};
+use clock::{Clock, Counting, Due};
 use reference::script::{InterruptLine, ScriptedEvent, Signal};
 use std::alloc::Global;
 use std::test::*;
@@ -328,12 +328,4 @@ fn shares_a_tick(alloc: Global) -> Option<bool> {
 #[test]
 fn systick_and_the_script_share_a_tick(rt: HostRuntime) {
     assert!(rt; shares_a_tick(rt.alloc()) == Some(true));
-}
-
-#[test]
-fn the_laws_are_called() {
-    laws::ticks_are_quiet_before_what_is_due();
-    laws::what_is_due_happens();
-    laws::events_apply_in_their_tick();
-    laws::systick_has_its_period();
 }
