@@ -1,11 +1,11 @@
-"""Counts the instructions of the processor that a step of marm takes, on boards with different scripts."""
+"""Counts the instructions of the processor that a step of marm takes, on boards with different scripts and with regions."""
 
 import re
 import subprocess
 import sys
 from concurrent.futures import ThreadPoolExecutor
 
-from loops import LOOPS, image, traced, written
+from loops import LOOPS, REGIONS, flash_of, image, traced, with_regions, written
 
 MARM, PROGRAM, FOLDER = sys.argv[1:4]
 STEPS = int(sys.argv[4])
@@ -53,12 +53,31 @@ def a_step(board, path):
     return (more - less) / STEPS
 
 
-paths = {name: written(FOLDER, name, image(halfwords)) for name, (halfwords, _) in LOOPS.items()}
-paths["crc32-loop"] = PROGRAM
-print(f"{'':24}" + "".join(f"{name:>20}" for name in paths))
+def programs(regions):
+    """Returns the path of each program by its name; its start code sets these regions up."""
+    suffix = f"-{len(regions)}"
+    paths = {name: written(FOLDER, name + suffix, image(code, regions)) for name, (code, _) in LOOPS.items()}
+    paths["crc32-loop"] = PROGRAM
+    if regions:
+        with open(PROGRAM, "rb") as file:
+            content = with_regions(flash_of(file.read()), regions)
+        paths["crc32-loop"] = written(FOLDER, "crc32-loop" + suffix, content)
+    return paths
+
+
+def rows():
+    """Returns the name, the board and the regions of each row."""
+    found = [(name, text, []) for name, text in boards().items()]
+    quiet = boards()["no script, 8 lines"]
+    return found[:1] + [(f"regions: {count}", quiet, REGIONS[:count]) for count in (1, 8)] + found[1:]
+
+
 first = {}
-for number, (name, text) in enumerate(boards().items()):
+for number, (name, text, regions) in enumerate(rows()):
     board = written(FOLDER, f"board{number}.toml", text.encode())
+    paths = programs(regions)
+    if number == 0:
+        print(f"{'':24}" + "".join(f"{name:>20}" for name in paths))
     line = f"{name:24}"
     for program, path in paths.items():
         count = a_step(board, path)
