@@ -120,13 +120,21 @@ def block(word, operands, length):
     return Expectation(several("L" if loads else "S", base, len(names), downward), None if loads and 15 in names else after(length))
 
 
+def exclusive(word, operands, length):
+    """LDREX, STREX and their forms, or None. Nothing is marked, so each store fails: it is a probe, of kind P."""
+    match = re.fullmatch(r"(ldr|str)ex(b|h|)", word)
+    if not match:
+        return None
+    return Expectation(one("L" if match[1] == "ldr" else "P", SIZES[match[2]], operands), after(length))
+
+
 def memory(word, operands, length):
     """Instructions that make accesses, or None."""
     if word in ("ldrd", "strd"):
         return Expectation(two("L" if word == "ldrd" else "S", operands), after(length))
     if word in ("tbb", "tbh"):
         return Expectation(one("L", 1 if word == "tbb" else 2, operands))
-    return load_or_store(word, operands, length) or block(word, operands, length)
+    return load_or_store(word, operands, length) or block(word, operands, length) or exclusive(word, operands, length)
 
 
 def sum_of(machine, word, operands):
