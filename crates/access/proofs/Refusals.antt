@@ -7,7 +7,8 @@ use Rattle.reference.specs.declared.access.Decision.{Decision}
 use Rattle.reference.specs.declared.access.Performed.TheVariants.{Denied}
 use Rattle.reference.specs.declared.access.Request.{Request}
 use Rattle.reference.specs.declared.access.Rule.{Rule}
-use Rattle.reference.specs.Accesses.{Answered, lifted, lifted_system, carried_out, performed_by, granted_by_rule, decided, decision, perform}
+use Rattle.reference.specs.Accesses.{Answered, lifted, lifted_system, carried_out, performed_by, granted_by_rule}
+use Rattle.reference.specs.Accesses.{decided, decision, perform}
 use Rattle.reference.specs.Answers.{LeavesUnlessDone}
 use Rattle.reference.specs.Kinds.{is_probe, is_write, bytes_in}
 use Rattle.reference.specs.Map.{is_in_ppb, is_in_window}
@@ -29,7 +30,8 @@ either : (b : Bus) (test : Bool) (x y : Answered) → Keeps b x → Keeps b y �
 either b true x y first second = first
 either b false x y first second = second
 
-either_memory : (m : Memory) (test : Bool) (x y : Reached) → KeepsMemory m x → KeepsMemory m y → KeepsMemory m (if test then x else y)
+either_memory : (m : Memory) (test : Bool) (x y : Reached) → KeepsMemory m x → KeepsMemory m y
+    → KeepsMemory m (if test then x else y)
 either_memory m true x y first second = first
 either_memory m false x y first second = second
 
@@ -39,7 +41,8 @@ error_keeps s after (Value value) left e = absurd cc
 error_keeps s after Error left e = left
 error_keeps s after (Stop why) left e = absurd cc
 
-lifted_system_keeps : (b : Bus) (r : Replied) → LeavesUnlessDone r.answer b.system r.system → Keeps b (lifted_system b r)
+lifted_system_keeps : (b : Bus) (r : Replied) → LeavesUnlessDone r.answer b.system r.system
+    → Keeps b (lifted_system b r)
 lifted_system_keeps b r left e = rw (error_keeps b.system r.system r.answer left e) refl
 
 writing_keeps : (m : Memory) (q : Request) → KeepsMemory m (written_to m q)
@@ -58,7 +61,8 @@ carrying_keeps : (exception : ℕ) (b : Bus) (q : Request) → Keeps b (carried_
 unfolding carried_out
 carrying_keeps exception b q =
     either b (is_probe q.access.kind) _ _ (λ e. absurd cc)
-    (either b (is_in_ppb q.access.address) _ _ (lifted_system_keeps b (system_access exception b.system q) (refused_leaves exception b.system q))
+    (either b (is_in_ppb q.access.address) _ _
+    (lifted_system_keeps b (system_access exception b.system q) (refused_leaves exception b.system q))
     (lifted_keeps b (space_access b.memory b.system.time.ticks q) (space_keeps b.memory b.system.time.ticks q)))
 
 is_error : (rule by : Rule) (a : Answer) (why : Cause) → performed_by rule a ≡ Denied by why → a ≡ Error
@@ -66,14 +70,20 @@ is_error rule by (Value value) why e = absurd cc
 is_error rule by Error why e = refl
 is_error rule by (Stop stop) why e = absurd cc
 
-granted_keeps : (exception : ℕ) (b : Bus) (q : Request) (rule by : Rule) (why : Cause) → (granted_by_rule rule (carried_out exception b q)).performed ≡ Denied by why → (carried_out exception b q).bus ≡ b
-granted_keeps exception b q rule by why denied = carrying_keeps exception b q (is_error rule by (carried_out exception b q).answer why denied)
+granted_keeps : (exception : ℕ) (b : Bus) (q : Request) (rule by : Rule) (why : Cause)
+    → (granted_by_rule rule (carried_out exception b q)).performed ≡ Denied by why → (carried_out exception b q).bus ≡ b
+granted_keeps exception b q rule by why denied =
+    carrying_keeps exception b q (is_error rule by (carried_out exception b q).answer why denied)
 
-decided_keeps : (exception : ℕ) (b : Bus) (q : Request) (d : Decision) (granted : Bool) → d.granted ≡ granted → (rule : Rule) (why : Cause) → (decided exception b q d).performed ≡ Denied rule why → (decided exception b q d).bus ≡ b
+decided_keeps : (exception : ℕ) (b : Bus) (q : Request) (d : Decision) (granted : Bool) → d.granted ≡ granted
+    → (rule : Rule) (why : Cause) → (decided exception b q d).performed ≡ Denied rule why
+    → (decided exception b q d).bus ≡ b
 decided_keeps exception b q d true e rule why denied =
     rw e (granted_keeps exception b q d.rule rule why (rw e at denied))
 decided_keeps exception b q d false e rule why denied = rw e refl
 
-pub denied_keeps : (exception : ℕ) (b : Bus) (q : Request) (rule : Rule) (why : Cause) → (perform exception b q).performed ≡ Denied rule why → (perform exception b q).bus ≡ b
+pub denied_keeps : (exception : ℕ) (b : Bus) (q : Request) (rule : Rule) (why : Cause)
+    → (perform exception b q).performed ≡ Denied rule why → (perform exception b q).bus ≡ b
 unfolding perform
-denied_keeps exception b q rule why denied = decided_keeps exception b q (decision b q) (decision b q).granted refl rule why denied
+denied_keeps exception b q rule why denied =
+    decided_keeps exception b q (decision b q) (decision b q).granted refl rule why denied

@@ -1,5 +1,6 @@
 -- Where no boundary of a region lies between two addresses, both lie in the region or neither does.
-use Rattle.std.proofs.Common.{pow_pos, mul-le-mul, below_more, ◌≡◌, ℕ, ◌+◌, ◌-◌, ◌*◌, ◌/◌, ◌^◌, ◌<◌, ◌≤◌, ◌⊎◌, Bool, true, false, not, ◌&&◌, ◌==◌, nat_le, if◌then◌else◌, List, arith, refl, ap, ◌∙◌, inl, inr}
+use Rattle.std.proofs.Common.{pow_pos, mul-le-mul, below_more, ◌≡◌, ℕ, ◌+◌, ◌-◌, ◌*◌, ◌/◌, ◌^◌, ◌<◌, ◌≤◌, ◌⊎◌, Bool}
+use Rattle.std.proofs.Common.{true, false, not, ◌&&◌, ◌==◌, nat_le, if◌then◌else◌, List, arith, refl, ap, ◌∙◌, inl, inr}
 use Rattle.std.specs.List.{Contains}
 use Rattle.std.proofs.Math.Nat.{div-mul-le_self}
 use Rattle.std.proofs.lemmas.Bool.{leb-true, cases_lt}
@@ -7,7 +8,8 @@ use Rattle.std.proofs.lemmas.List.Elements.{All-contains, Contains-get_or}
 use Rattle.std.proofs.lemmas.Nat.{div_below, le-div, pow-add}
 use Rattle.access_table.specs.Boundaries.{block_of, begin_of, pieces_of, HasBoundaries}
 use Rattle.access_table.specs.Intervals.{IsClear, Keeps, PartsRegion, PartsRegions}
-use Rattle.mpu.proofs.Blocks.{outside_before, outside_behind, matches_outside, matches_inside, alike_below, alike_disabled}
+use Rattle.mpu.proofs.Blocks.{outside_before, outside_behind, matches_outside, matches_inside, alike_below}
+use Rattle.mpu.proofs.Blocks.{alike_disabled}
 use Rattle.mpu.specs.Spans.{grain}
 use Rattle.reference.specs.declared.mpu.Region.{Region}
 use Rattle.reference.specs.Regions.{Mpu, region, matches, is_enabled, size, switched_off, owner}
@@ -75,7 +77,8 @@ parted points r has a b order small clear = lead (point 0 (omega arith)) (point 
         → (begin_of r + j * 2 ^ grain r.attributes ≤ a) ⊎ (b < begin_of r + j * 2 ^ grain r.attributes)
     point j h = within (cases_lt (begin_of r + j * 2 ^ grain r.attributes) (2 ^ 32))
       where
-        within : ((begin_of r + j * 2 ^ grain r.attributes < 2 ^ 32) ⊎ (2 ^ 32 ≤ begin_of r + j * 2 ^ grain r.attributes))
+        within : ((begin_of r + j * 2 ^ grain r.attributes < 2 ^ 32) ⊎
+            (2 ^ 32 ≤ begin_of r + j * 2 ^ grain r.attributes))
             → (begin_of r + j * 2 ^ grain r.attributes ≤ a) ⊎ (b < begin_of r + j * 2 ^ grain r.attributes)
         within (inl low) = All-contains (λ x. (x ≤ a) ⊎ (b < x)) points _ clear (has j h low)
         within (inr high) = inr (omega arith)
@@ -119,7 +122,8 @@ disabled_parts points r e a b order small clear = alike_disabled r a b e
 
 -- ---- all regions
 
-pub owner_alike : (points : List ℕ) (m : Mpu) (a b : ℕ) → PartsRegions points m → a ≤ b → b < 2 ^ 32 → IsClear points a b
+pub owner_alike : (points : List ℕ) (m : Mpu) (a b : ℕ) → PartsRegions points m → a ≤ b → b < 2 ^ 32
+    → IsClear points a b
     → owner m a ≡ owner m b
 unfolding owner
 owner_alike points m a b parts order small clear = alike_below m a b m.count (λ k h. parts k h a b order small clear)
@@ -129,12 +133,15 @@ owner_alike points m a b parts order small clear = alike_below m a b m.count (λ
 -- no number of a list is between two where none of a longer list is
 pub parts_kept : (points more : List ℕ) (r : Region) → Keeps points more → PartsRegion points r → PartsRegion more r
 parts_kept points more r keeps parts a b order small clear =
-    parts a b order small (λ k d h. All-contains (λ x. (x ≤ a) ⊎ (b < x)) more _ clear (keeps _ (Contains-get_or points k d h)))
+    parts a b order small (λ k d h. All-contains (λ x. (x ≤ a) ⊎ (b < x)) more _ clear
+    (keeps _ (Contains-get_or points k d h)))
 
-pub parts_more : (points more : List ℕ) (m : Mpu) (n : ℕ) → ((k : ℕ) → k < n → PartsRegion points (region m k)) → Keeps points more
+pub parts_more : (points more : List ℕ) (m : Mpu) (n : ℕ) → ((k : ℕ) → k < n → PartsRegion points (region m k))
+    → Keeps points more
     → PartsRegion more (region m n) → (k : ℕ) → k < n + 1 → PartsRegion more (region m k)
 parts_more points more m n before keeps here =
-    below_more (λ k. PartsRegion more (region m k)) n (λ k h. parts_kept points more (region m k) keeps (before k h)) here
+    below_more (λ k. PartsRegion more (region m k)) n (λ k h. parts_kept points more (region m k) keeps (before k h))
+    here
 
 abbrev HasFirst : List ℕ → ℕ → ℕ → ℕ → Type 0
 HasFirst points begin length n = (j : ℕ) → j < n → begin + j * length < 2 ^ 32 → Contains points (begin + j * length)

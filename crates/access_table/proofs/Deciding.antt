@@ -1,5 +1,6 @@
 -- What a table decides by an interval is what the owner of the address decides.
-use Rattle.std.proofs.Common.{◌≡◌, ℕ, ◌+◌, ◌<◌, Bool, List, length, get_or, slice_set, Some, false, refl, ◌∙◌, arith, below_more}
+use Rattle.std.proofs.Common.{◌≡◌, ℕ, ◌+◌, ◌<◌, Bool, List, length, get_or, slice_set, Some, false, refl, ◌∙◌, arith}
+use Rattle.std.proofs.Common.{below_more}
 use Rattle.std.specs.Prelude.{IfSome}
 use Rattle.std.proofs.lemmas.List.{get_or-set_same, get_or-set_other}
 use Rattle.access_table.specs.Intervals.{HasAddress, interval}
@@ -23,7 +24,8 @@ rights_more xs m n r room before p x k d h =
     k h d
 
 -- the region of the interval of an address is its owner
-pub owner_there : (t : View) (m : Mpu) (a place : ℕ) → StandsFor t m → place < length t.spans → HasAddress (interval t.spans place) a
+pub owner_there : (t : View) (m : Mpu) (a place : ℕ) → StandsFor t m → place < length t.spans
+    → HasAddress (interval t.spans place) a
     → owner m a ≡ (interval t.spans place).region
 owner_there t m a place stands within there = stands.names place _ within a there.0 there.1
 

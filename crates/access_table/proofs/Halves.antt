@@ -1,5 +1,6 @@
 -- The search for an interval by halving.
-use Rattle.std.proofs.Common.{◌≡◌, ℕ, zero, suc, ◌+◌, ◌-◌, ◌*◌, ◌^◌, ◌<◌, ◌≤◌, ◌⊎◌, List, [], ◌∷◌, length, arith, sym, ap, ◌∙◌, inl, inr, mul-le-mul, le_refl}
+use Rattle.std.proofs.Common.{◌≡◌, ℕ, zero, suc, ◌+◌, ◌-◌, ◌*◌, ◌^◌, ◌<◌, ◌≤◌, ◌⊎◌, List, [], ◌∷◌, length, arith, sym}
+use Rattle.std.proofs.Common.{ap, ◌∙◌, inl, inr, mul-le-mul, le_refl}
 use Rattle.std.proofs.lemmas.Bool.{cases_lt}
 use Rattle.std.proofs.lemmas.Nat.{pow-add, pow_pos}
 use Rattle.access_table.specs.Intervals.{Tiles, interval}
@@ -60,7 +61,8 @@ pub record IsAmong (xs : List Interval) (a low high looks : ℕ) : Type 0 where
   pub width : (high - low - 1) * 2 ^ looks ≤ 191
   pub few : looks ≤ 8
 
-pub among_all : (xs : List Interval) (a : ℕ) → Tiles xs 0 (2 ^ 32) → a < 2 ^ 32 → length xs ≤ 192 → IsAmong xs a 0 (length xs) 0
+pub among_all : (xs : List Interval) (a : ℕ) → Tiles xs 0 (2 ^ 32) → a < 2 ^ 32 → length xs ≤ 192
+    → IsAmong xs a 0 (length xs) 0
 among_all xs a tiles small few =
     let f = tiles_first xs 0 (2 ^ 32) tiles (omega arith) in
     let l = tiles_last xs 0 (2 ^ 32) (length xs - 1) tiles (let g = f.0 in omega (arith, g)) in

@@ -1,5 +1,6 @@
 -- The intervals between sorted boundaries.
-use Rattle.std.proofs.Common.{◌≡◌, ℕ, zero, suc, ◌+◌, ◌-◌, ◌^◌, ◌<◌, ◌≤◌, ◌⊎◌, List, [], ◌∷◌, ◌++◌, length, get_or, take, drop, Option, arith, refl, sym, ap, ◌∙◌, inl, inr}
+use Rattle.std.proofs.Common.{◌≡◌, ℕ, zero, suc, ◌+◌, ◌-◌, ◌^◌, ◌<◌, ◌≤◌, ◌⊎◌, List, [], ◌∷◌, ◌++◌, length, get_or}
+use Rattle.std.proofs.Common.{take, drop, Option, arith, refl, sym, ap, ◌∙◌, inl, inr}
 use Rattle.std.specs.Prelude.{IfSome}
 use Rattle.std.specs.List.{All, refill}
 use Rattle.std.specs.List.Sorted.{IsNonDecreasing, IsPermutation}
@@ -12,15 +13,19 @@ use Rattle.access_table.specs.declared.interval.Interval.{Interval}
 use Rattle.reference.specs.Regions.{Mpu, owner}
 
 -- one more interval after the others
-tiles_push : (xs : List Interval) (x : Interval) (a b c : ℕ) → Tiles xs a b → x.first ≡ b → x.first ≤ x.last → x.last + 1 ≡ c
+tiles_push : (xs : List Interval) (x : Interval) (a b c : ℕ) → Tiles xs a b → x.first ≡ b → x.first ≤ x.last
+    → x.last + 1 ≡ c
     → Tiles (xs ++ x ∷ []) a c
 tiles_push [] x a b c tiles begins order ends = (begins ∙ sym tiles, order, ends)
-tiles_push (y ∷ xs) x a b c tiles begins order ends = (tiles.0, tiles.1, tiles_push xs x (y.last + 1) b c tiles.2 begins order ends)
+tiles_push (y ∷ xs) x a b c tiles begins order ends =
+    (tiles.0, tiles.1, tiles_push xs x (y.last + 1) b c tiles.2 begins order ends)
 
 -- a sort keeps what the boundaries part
-pub parts_sorted : (points sorted : List ℕ) (m : Mpu) → IsPermutation points sorted → PartsRegions points m → PartsRegions sorted m
+pub parts_sorted : (points sorted : List ℕ) (m : Mpu) → IsPermutation points sorted → PartsRegions points m
+    → PartsRegions sorted m
 parts_sorted points sorted m moved parts k h a b order small clear =
-    parts k h a b order small (All-permutation (λ x. (x ≤ a) ⊎ (b < x)) sorted points (IsPermutation-sym points sorted moved) clear)
+    parts k h a b order small (All-permutation (λ x. (x ≤ a) ⊎ (b < x)) sorted points
+    (IsPermutation-sym points sorted moved) clear)
 
 take_all : (ws rest : List ℕ) → take (length ws) (ws ++ rest) ≡ ws
 take_all [] rest = refl
@@ -72,10 +77,12 @@ owned_before : (m : Mpu) (points : List ℕ) (i first a : ℕ) (region : Option 
 owned_before m points i first a region owned order room from before small =
     owned a from small (λ j h k. let up = order i j 0 h k in omega (arith, up, before))
 
-owned_same : (m : Mpu) (points : List ℕ) (i first : ℕ) (region : Option ℕ) → PartsRegions points m → IsNonDecreasing points
+owned_same : (m : Mpu) (points : List ℕ) (i first : ℕ) (region : Option ℕ) → PartsRegions points m
+    → IsNonDecreasing points
     → i < length points → HaveOwner m points i first region → owner m (get_or points i 0) ≡ region
     → HaveOwner m points (i + 1) first region
-owned_same m points i first region parts order room owned same a from small below = lead (cases_lt a (get_or points i 0))
+owned_same m points i first region parts order room owned same a from small below =
+    lead (cases_lt a (get_or points i 0))
   where
     lead : ((a < get_or points i 0) ⊎ (get_or points i 0 ≤ a)) → owner m a ≡ region
     lead (inl before) = owned_before m points i first a region owned order room from before small
@@ -153,7 +160,8 @@ made_next m points i first region next xs parts order room small made e other wi
     names : NamesOwner m (record { first = first; last = get_or points i 0 - 1; region = region })
     names a from to =
         let h = above in
-        owned_before m points i first a region made.owned order room from (omega (arith, h, to)) (omega (arith, h, to, small))
+        owned_before m points i first a region made.owned order room from (omega (arith, h, to))
+        (omega (arith, h, to, small))
 
 -- the last interval ends at the last address
 pub made_last : (m : Mpu) (points : List ℕ) (i first : ℕ) (region : Option ℕ) (xs : List Interval) → length points ≤ i
@@ -162,6 +170,7 @@ pub made_last : (m : Mpu) (points : List ℕ) (i first : ℕ) (region : Option �
     Tiles all 0 (2 ^ 32) × All (NamesOwner m) all × All HasRegionBelow16 all)
 made_last m points i first region xs done made = (
   tiles_push xs _ 0 first _ made.tiles refl (let h = made.small in omega (arith, h)) (omega arith),
-  All-push (NamesOwner m) xs _ made.names (λ a from to. made.owned a from (omega arith) (λ j h k. absurd (omega arith))),
+  All-push (NamesOwner m) xs _ made.names
+      (λ a from to. made.owned a from (omega arith) (λ j h k. absurd (omega arith))),
   All-push HasRegionBelow16 xs _ made.within made.number,
 )

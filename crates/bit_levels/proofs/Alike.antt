@@ -1,11 +1,14 @@
 -- What a change leaves of the best exception, and of the least priority of the active ones.
-use Rattle.std.proofs.Common.{◌≡◌, ℕ, zero, suc, Bool, true, false, ◌&&◌, ◌==◌, if◌then◌else◌, List, slice_set, refl, ap, ◌∙◌}
+use Rattle.std.proofs.Common.{◌≡◌, ℕ, zero, suc, Bool, true, false, ◌&&◌, ◌==◌, if◌then◌else◌, List, slice_set, refl}
+use Rattle.std.proofs.Common.{ap, ◌∙◌}
 use Rattle.std.proofs.Math.Bool.{and-false}
 use Rattle.std.proofs.lemmas.Bool.{eqb-true, eqb-false}
 use Rattle.std.proofs.lemmas.List.{get_or-set_other}
 use Rattle.reference.specs.declared.exception.Masks.{Masks}
 use Rattle.reference.specs.declared.exception.TheConstants.{EXCEPTIONS}
-use Rattle.reference.specs.Priorities.{Nvic, best, best_below, better_of, is_enabled, is_exception, is_in, is_ready, is_switched, lessened, least_active, with_active, with_enabled, with_group, with_member, with_pending, with_ready}
+use Rattle.reference.specs.Priorities.{Nvic, best, best_below, better_of, is_enabled, is_exception, is_in, is_ready}
+use Rattle.reference.specs.Priorities.{is_switched, lessened, least_active, with_active, with_enabled, with_group}
+use Rattle.reference.specs.Priorities.{with_member, with_pending, with_ready}
 
 -- ---- the best
 
@@ -37,10 +40,12 @@ unfolding best
 best_of_masks n m = best_below_masks n m EXCEPTIONS
 
 -- an exception that is disabled isn't the best, be it pending or not
-same_ready : (n : Nvic) (x : ℕ) (on : Bool) (k : ℕ) → is_enabled n x ≡ false → is_ready (with_pending n x on) k ≡ is_ready n k
+same_ready : (n : Nvic) (x : ℕ) (on : Bool) (k : ℕ) → is_enabled n x ≡ false
+    → is_ready (with_pending n x on) k ≡ is_ready n k
 same_ready n x on k off = lead (k == x) refl
   where
-    member : (b : Bool) → (k == x) ≡ false → is_in (if b then slice_set n.pending x on else n.pending) k ≡ is_in n.pending k
+    member : (b : Bool) → (k == x) ≡ false
+        → is_in (if b then slice_set n.pending x on else n.pending) k ≡ is_in n.pending k
     member true e = get_or-set_other n.pending x k on false (eqb-false k x e)
     member false e = refl
 
@@ -50,7 +55,8 @@ same_ready n x on k off = lead (k == x) refl
         rw (f, and-false (is_in (with_member n.lines n.pending x on) k), and-false (is_in n.pending k)) refl
     lead false e = ap (λ b. b && is_enabled n k) (member (is_exception n.lines x) e)
 
-best_below_idle : (n : Nvic) (x : ℕ) (on : Bool) (k : ℕ) → is_enabled n x ≡ false → best_below (with_pending n x on) k ≡ best_below n k
+best_below_idle : (n : Nvic) (x : ℕ) (on : Bool) (k : ℕ) → is_enabled n x ≡ false
+    → best_below (with_pending n x on) k ≡ best_below n k
 unfolding best_below with_ready
 best_below_idle n x on zero off = refl
 best_below_idle n x on (suc k) off =
@@ -68,7 +74,8 @@ unfolding least_active
 least_below_pending n p zero = refl
 least_below_pending n p (suc k) = ap (lessened n k) (least_below_pending n p k)
 
-pub least_of_pending : (n : Nvic) (x : ℕ) (on : Bool) → least_active (with_pending n x on) EXCEPTIONS ≡ least_active n EXCEPTIONS
+pub least_of_pending : (n : Nvic) (x : ℕ) (on : Bool)
+    → least_active (with_pending n x on) EXCEPTIONS ≡ least_active n EXCEPTIONS
 least_of_pending n x on = least_below_pending n (with_member n.lines n.pending x on) EXCEPTIONS
 
 least_below_enabled : (n : Nvic) (e : List Bool) (k : ℕ) → least_active (record n { enabled = e }) k ≡ least_active n k
@@ -76,10 +83,12 @@ unfolding least_active
 least_below_enabled n e zero = refl
 least_below_enabled n e (suc k) = ap (lessened n k) (least_below_enabled n e k)
 
-pub least_of_enabled : (n : Nvic) (x : ℕ) (on : Bool) → least_active (with_enabled n x on) EXCEPTIONS ≡ least_active n EXCEPTIONS
+pub least_of_enabled : (n : Nvic) (x : ℕ) (on : Bool)
+    → least_active (with_enabled n x on) EXCEPTIONS ≡ least_active n EXCEPTIONS
 least_of_enabled n x on = lead (is_switched n.lines x)
   where
-    lead : (b : Bool) → least_active (if b then record n { enabled = slice_set n.enabled x on } else n) EXCEPTIONS ≡ least_active n EXCEPTIONS
+    lead : (b : Bool) → least_active (if b then record n { enabled = slice_set n.enabled x on } else n) EXCEPTIONS
+        ≡ least_active n EXCEPTIONS
     lead true = least_below_enabled n (slice_set n.enabled x on) EXCEPTIONS
     lead false = refl
 
@@ -88,5 +97,6 @@ unfolding least_active
 least_below_masks n m zero = refl
 least_below_masks n m (suc k) = ap (lessened n k) (least_below_masks n m k)
 
-pub least_of_masks : (n : Nvic) (m : Masks) → least_active (record n { masks = m }) EXCEPTIONS ≡ least_active n EXCEPTIONS
+pub least_of_masks : (n : Nvic) (m : Masks)
+    → least_active (record n { masks = m }) EXCEPTIONS ≡ least_active n EXCEPTIONS
 least_of_masks n m = least_below_masks n m EXCEPTIONS

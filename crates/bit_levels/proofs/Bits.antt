@@ -1,11 +1,14 @@
 -- One bit of a set is changed.
-use Rattle.std.specs.Prelude.{ℕ, ◌+◌, ◌*◌, ◌/◌, ◌%◌, ◌^◌, ◌<◌, ◌≡◌, ◌≢◌, Bool, true, ◌&&◌, ◌==◌, if◌then◌else◌, bit_or, bit_and, List, [], length, slice_index, slice_index_or, slice_set}
+use Rattle.std.specs.Prelude.{ℕ, ◌+◌, ◌*◌, ◌/◌, ◌%◌, ◌^◌, ◌<◌, ◌≡◌, ◌≢◌, Bool, true, ◌&&◌, ◌==◌, if◌then◌else◌, bit_or}
+use Rattle.std.specs.Prelude.{bit_and, List, [], length, slice_index, slice_index_or, slice_set}
 use Rattle.std.specs.Int.{bit_not, trailing_zeros}
 use Rattle.std.proofs.Math.Nat.{zero-div}
-use Rattle.std.proofs.Common.{arith, ap, refl, ◌∙◌, ◌≤◌, ◌⊎◌, inl, inr, zero, suc, ◌∷◌, replicate, Some, None, false, below_more, w32}
+use Rattle.std.proofs.Common.{arith, ap, refl, ◌∙◌, ◌≤◌, ◌⊎◌, inl, inr, zero, suc, ◌∷◌, replicate, Some, None, false}
+use Rattle.std.proofs.Common.{below_more, w32}
 use Rattle.std.proofs.lemmas.Bool.{cases_lt, eq-eqb}
 use Rattle.std.proofs.lemmas.Grind.{common_steps}
-use Rattle.std.proofs.lemmas.Nat.Bits.{bit_at_set_same, bit_at_set_other, bit_at_clear_same, bit_at_clear_other, bit_at-trailing_zeros}
+use Rattle.std.proofs.lemmas.Nat.Bits.{bit_at_set_same, bit_at_set_other, bit_at_clear_same, bit_at_clear_other}
+use Rattle.std.proofs.lemmas.Nat.Bits.{bit_at-trailing_zeros}
 use Rattle.bit_levels.specs.Sets.{level, AreEmpty, IsFirstOf}
 use Rattle.reference.specs.declared.exception.TheConstants.{EXCEPTIONS}
 use Rattle.reference.specs.Priorities.{is_due}
@@ -31,11 +34,13 @@ bit_left : (v k i : ℕ) → k < 32 → i < 32 → i ≢ k → is_bit (without_b
 bit_left v k i h j d = ap (λ b. b == 1) (bit_at_clear_other w32 v k h i j d)
 
 pub put_in : (words : List ℕ) (x y : ℕ) → x < 256 → y < 256 → length words ≡ 8
-    → is_due (slice_set words (x / 32) (with_bit (slice_index words (x / 32)) (x % 32))) y ≡ (if y == x then true else is_due words y)
+    → is_due (slice_set words (x / 32) (with_bit (slice_index words (x / 32)) (x % 32))) y
+    ≡ (if y == x then true else is_due words y)
 put_in words x y lx ly l = grind (arith, common_steps, bit_set, bit_kept)
 
 pub taken_out : (words : List ℕ) (x y : ℕ) → x < 256 → y < 256 → length words ≡ 8
-    → is_due (slice_set words (x / 32) (without_bit (slice_index words (x / 32)) (x % 32))) y ≡ (if y == x then false else is_due words y)
+    → is_due (slice_set words (x / 32) (without_bit (slice_index words (x / 32)) (x % 32))) y
+    ≡ (if y == x then false else is_due words y)
 taken_out words x y lx ly l = grind (arith, common_steps, bit_cleared, bit_left)
 
 pub put_level : (levels : List (List ℕ)) (set : List ℕ) (q x p y : ℕ) (on : Bool) → q < length levels
@@ -46,10 +51,12 @@ put_level levels set q x p y on h e = grind (arith, common_steps)
 -- ---- the first bit
 
 -- an exception of a word
-in_word : (set : List ℕ) (word y : ℕ) → word * 32 ≤ y → y < word * 32 + 32 → is_due set y ≡ is_bit (slice_index set word) (y % 32)
+in_word : (set : List ℕ) (word y : ℕ) → word * 32 ≤ y → y < word * 32 + 32
+    → is_due set y ≡ is_bit (slice_index set word) (y % 32)
 in_word set word y from to = let e : y / 32 ≡ word = omega arith in rw e refl
 
-pub none_in_word : (set : List ℕ) (word : ℕ) → slice_index set word ≡ 0 → ((y : ℕ) → y < word * 32 → is_due set y ≡ false)
+pub none_in_word : (set : List ℕ) (word : ℕ) → slice_index set word ≡ 0
+    → ((y : ℕ) → y < word * 32 → is_due set y ≡ false)
     → (y : ℕ) → y < (word + 1) * 32 → is_due set y ≡ false
 none_in_word set word e before y h = lead (cases_lt y (word * 32))
   where
@@ -77,7 +84,8 @@ first_in_word set word small some fits before = (room, there, none)
     there =
         let l = low.0 in
         let m : (word * 32 + place) % 32 ≡ place = omega (arith, l) in
-        in_word set word (word * 32 + place) (omega arith) (omega (arith, l)) ∙ ap (is_bit (slice_index set word)) m ∙ eq-eqb _ _ low.1
+        in_word set word (word * 32 + place) (omega arith) (omega (arith, l)) ∙ ap (is_bit (slice_index set word)) m
+        ∙ eq-eqb _ _ low.1
 
     none : (y : ℕ) → y < word * 32 + place → is_due set y ≡ false
     none y h = lead (cases_lt y (word * 32))
@@ -105,7 +113,8 @@ none_due x = ap (λ w. is_bit w (x % 32)) (zero_word 8 (x / 32)) ∙ no_bit (x %
 pub none_in_empty : (y : ℕ) → is_due [] y ≡ false
 none_in_empty y = no_bit (y % 32)
 
-pub no_level : (n : ℕ) (set : List ℕ) → ((x : ℕ) → is_due set x ≡ false) → (p : ℕ) (x : ℕ) → is_due (level (replicate n set) p) x ≡ false
+pub no_level : (n : ℕ) (set : List ℕ) → ((x : ℕ) → is_due set x ≡ false) → (p : ℕ) (x : ℕ)
+    → is_due (level (replicate n set) p) x ≡ false
 no_level zero set none p x = none_in_empty x
 no_level (suc n) set none zero x = none x
 no_level (suc n) set none (suc p) x = no_level n set none p x
@@ -123,5 +132,7 @@ all_empty levels e none p y h = lead (cases_lt p 256)
     lead (inl within) = none p within y h
     lead (inr past) = ap (λ s. is_due s y) (past_levels levels p (omega (arith, e, past))) ∙ none_in_empty y
 
-pub empty_more : (levels : List (List ℕ)) (p : ℕ) → AreEmpty levels p → IsFirstOf (level levels p) None → AreEmpty levels (p + 1)
-empty_more levels p before here = below_more (λ q. (y : ℕ) → y < EXCEPTIONS → is_due (level levels q) y ≡ false) p before here
+pub empty_more : (levels : List (List ℕ)) (p : ℕ) → AreEmpty levels p → IsFirstOf (level levels p) None
+    → AreEmpty levels (p + 1)
+empty_more levels p before here =
+    below_more (λ q. (y : ℕ) → y < EXCEPTIONS → is_due (level levels q) y ≡ false) p before here

@@ -1,5 +1,6 @@
 -- The first exception of the first level that isn't empty is the best one.
-use Rattle.std.proofs.Common.{◌≡◌, ℕ, ◌+◌, ◌<◌, ◌≤◌, ◌⊎◌, inl, inr, Bool, true, false, not, ◌&&◌, ◌||◌, ◌==◌, List, slice_index, Some, None, refl, sym, ◌∙◌, ap, subst, arith}
+use Rattle.std.proofs.Common.{◌≡◌, ℕ, ◌+◌, ◌<◌, ◌≤◌, ◌⊎◌, inl, inr, Bool, true, false, not, ◌&&◌, ◌||◌, ◌==◌, List}
+use Rattle.std.proofs.Common.{slice_index, Some, None, refl, sym, ◌∙◌, ap, subst, arith}
 use Rattle.std.proofs.Math.Bool.{or-true}
 use Rattle.std.proofs.lemmas.Bool.{cases_lt, eqb-true, eq-eqb}
 use Rattle.std.proofs.lemmas.Bool.Decides.{nat_tests}
@@ -10,7 +11,8 @@ use Rattle.nvic.proofs.Best.{best_exactly}
 use Rattle.nvic.specs.Laws.{IsReady, ComesFirst}
 use Rattle.reference.specs.declared.exception.TheConstants.{NMI, HARD_FAULT, EXCEPTIONS}
 use Rattle.reference.specs.declared.exception.Masks.{Masks}
-use Rattle.reference.specs.Priorities.{Nvic, best, is_always_enabled, is_due, is_enabled, is_fixed, is_in, is_ready, priority_of}
+use Rattle.reference.specs.Priorities.{Nvic, best, is_always_enabled, is_due, is_enabled, is_fixed, is_in, is_ready}
+use Rattle.reference.specs.Priorities.{priority_of}
 
 -- the levels are those of the exceptions
 pub record IsOf (n : Nvic) (levels : List (List ℕ)) (held enabled : List ℕ) : Type 0 where
@@ -19,7 +21,8 @@ pub record IsOf (n : Nvic) (levels : List (List ℕ)) (held enabled : List ℕ) 
   pub enabled_is : n.enabled ≡ flags (is_due enabled)
 
 -- the levels that are seen as exceptions are theirs
-pub of_view : (levels : List (List ℕ)) (held enabled active priorities : List ℕ) (group : ℕ) (masks : Masks) (lines bits : ℕ)
+pub of_view : (levels : List (List ℕ)) (held enabled active priorities : List ℕ) (group : ℕ) (masks : Masks)
+    (lines bits : ℕ)
     → IsKept levels held enabled priorities
     → IsOf (record {
       pending = flags (is_waiting levels held priorities);
@@ -31,7 +34,8 @@ pub of_view : (levels : List (List ℕ)) (held enabled active priorities : List 
       lines = lines;
       priority_bits = bits;
     }) levels held enabled
-of_view levels held enabled active priorities group masks lines bits kept = record { kept = kept; pending = refl; enabled_is = refl }
+of_view levels held enabled active priorities group masks lines bits kept =
+    record { kept = kept; pending = refl; enabled_is = refl }
 
 left_is : (a b : Bool) → (a && b) ≡ true → a ≡ true
 left_is true b e = refl
@@ -61,17 +65,20 @@ in_its_level n levels held enabled y of ready free = lead (is_due held y) refl w
 
     levelled : is_levelled enabled y ≡ true
     levelled =
-        let e : is_in n.enabled y ≡ is_due enabled y = ap (λ s. is_in s y) of.enabled_is ∙ flag (is_due enabled) y ready.in_range in
+        let e : is_in n.enabled y ≡ is_due enabled y =
+        ap (λ s. is_in s y) of.enabled_is ∙ flag (is_due enabled) y ready.in_range in
         let f : (is_always_enabled y || is_due enabled y) ≡ true = ap (λ b. is_always_enabled y || b) (sym e) ∙ on in
         rw (f, free) refl
 
-    lead : (b : Bool) → is_due held y ≡ b → (is_due held y || is_due (level levels (slice_index n.priorities y)) y) ≡ true
+    lead : (b : Bool) → is_due held y ≡ b
+        → (is_due held y || is_due (level levels (slice_index n.priorities y)) y) ≡ true
         → is_due (level levels (slice_index n.priorities y)) y ≡ true
     lead true e w = let f = of.kept.in_held y ready.in_range e in let g = levelled in absurd (let w : ⊥ = cc in w)
     lead false e w = rw e at w
 
 -- one that is fixed is ready only where it's pending
-unfixed : (n : Nvic) (y : ℕ) → is_in n.pending NMI ≡ false → is_in n.pending HARD_FAULT ≡ false → IsReady n y → is_fixed y ≡ false
+unfixed : (n : Nvic) (y : ℕ) → is_in n.pending NMI ≡ false → is_in n.pending HARD_FAULT ≡ false → IsReady n y
+    → is_fixed y ≡ false
 unfixed n y nmi fault ready = first (y == NMI) refl
   where
     pending : is_in n.pending y ≡ true
@@ -92,7 +99,8 @@ unfixed n y nmi fault ready = first (y == NMI) refl
     first false e = second e (y == HARD_FAULT) refl
 
 -- an exception in a level is ready, isn't fixed and has that priority byte
-level_ready : (n : Nvic) (levels : List (List ℕ)) (held enabled : List ℕ) (p x : ℕ) → IsOf n levels held enabled → x < EXCEPTIONS
+level_ready : (n : Nvic) (levels : List (List ℕ)) (held enabled : List ℕ) (p x : ℕ) → IsOf n levels held enabled
+    → x < EXCEPTIONS
     → is_due (level levels p) x ≡ true → IsReady n x × (is_fixed x ≡ false) × (slice_index n.priorities x ≡ p)
 level_ready n levels held enabled p x of small there = (record { in_range = small; ready = ready }, free, byte)
   where
@@ -108,11 +116,13 @@ level_ready n levels held enabled p x of small there = (record { in_range = smal
     pending : is_in n.pending x ≡ true
     pending =
         ap (λ s. is_in s x) of.pending ∙ flag (is_waiting levels held n.priorities) x small
-        ∙ (let e : is_due (level levels (slice_index n.priorities x)) x ≡ true = rw byte there in rw e (or-true (is_due held x)))
+        ∙ (let e : is_due (level levels (slice_index n.priorities x)) x ≡ true = rw byte there in
+        rw e (or-true (is_due held x)))
 
     on : is_enabled n x ≡ true
     on =
-        let e : is_in n.enabled x ≡ is_due enabled x = ap (λ s. is_in s x) of.enabled_is ∙ flag (is_due enabled) x small in
+        let e : is_in n.enabled x ≡ is_due enabled x =
+        ap (λ s. is_in s x) of.enabled_is ∙ flag (is_due enabled) x small in
         ap (λ b. is_always_enabled x || b) e ∙ left_is _ _ levelled
 
     ready : is_ready n x ≡ true
@@ -130,7 +140,8 @@ by_byte n x free = lead (x == NMI) (x == HARD_FAULT) refl refl
 pub best_found : (n : Nvic) (levels : List (List ℕ)) (held enabled : List ℕ) (p x : ℕ) → IsOf n levels held enabled
     → is_in n.pending NMI ≡ false → is_in n.pending HARD_FAULT ≡ false
     → AreEmpty levels p → IsFirstOf (level levels p) (Some x) → Some x ≡ best n
-best_found n levels held enabled p x of nmi fault before first = (best_exactly n (Some x)).0 (here.0, λ y ready. order y ready)
+best_found n levels held enabled p x of nmi fault before first =
+    (best_exactly n (Some x)).0 (here.0, λ y ready. order y ready)
   where
     here : IsReady n x × (is_fixed x ≡ false) × (slice_index n.priorities x ≡ p)
     here = level_ready n levels held enabled p x of first.0 first.1
@@ -157,7 +168,8 @@ best_found n levels held enabled p x of nmi fault before first = (best_exactly n
             let t = there in
             absurd (let w : ⊥ = cc in w)
         split (inr _) (inl above) = inl (let a = px in let b = py in omega (arith, a, b, above))
-        split (inr high) (inr low) = inr (let a = px in let b = py in omega (arith, a, b, high, low), later (cases_lt y x))
+        split (inr high) (inr low) = inr
+            (let a = px in let b = py in omega (arith, a, b, high, low), later (cases_lt y x))
           where
             same : slice_index n.priorities y ≡ p
             same = omega (arith, high, low)
@@ -180,7 +192,8 @@ best_absent n levels held enabled of nmi fault none = (best_exactly n None).0 (�
     w)
 
 -- a level has the exceptions that are ready, aren't fixed and have its priority byte
-pub level_exactly : (n : Nvic) (levels : List (List ℕ)) (held enabled : List ℕ) (p x : ℕ) → IsOf n levels held enabled → x < EXCEPTIONS
+pub level_exactly : (n : Nvic) (levels : List (List ℕ)) (held enabled : List ℕ) (p x : ℕ) → IsOf n levels held enabled
+    → x < EXCEPTIONS
     → is_due (level levels p) x ≡ (is_ready n x && not (is_fixed x) && (slice_index n.priorities x == p))
 level_exactly n levels held enabled p x of small = lead (is_due (level levels p) x) refl
   where
@@ -201,7 +214,8 @@ level_exactly n levels held enabled p x of small = lead (is_due (level levels p)
             let both = left_is (is_ready n x && not (is_fixed x)) (slice_index n.priorities x == p) t in
             let i = left_is (is_ready n x) (not (is_fixed x)) both in
             let f = right_is (is_ready n x) (not (is_fixed x)) both in
-            let q = eqb-true (slice_index n.priorities x) p (right_is (is_ready n x && not (is_fixed x)) (slice_index n.priorities x == p) t) in
+            let q = eqb-true (slice_index n.priorities x) p
+            (right_is (is_ready n x && not (is_fixed x)) (slice_index n.priorities x == p) t) in
             let free = unnot (is_fixed x) f in
             let there = in_its_level n levels held enabled x of (record { in_range = small; ready = i }) free in
             let t2 : is_due (level levels p) x ≡ true = rw q at there in
@@ -215,11 +229,14 @@ best_nmi n e = (best_exactly n (Some NMI)).0 (record { in_range = omega arith; r
     order : (y : ℕ) → (0 < priority_of n y) ⊎ ((0 ≡ priority_of n y) × (NMI ≤ y))
     order y = grind (arith, nat_tests)
 
-pub best_hard_fault : (n : Nvic) → is_in n.pending NMI ≡ false → is_in n.pending HARD_FAULT ≡ true → Some HARD_FAULT ≡ best n
-best_hard_fault n f e = (best_exactly n (Some HARD_FAULT)).0 (record { in_range = omega arith; ready = rw e refl }, λ y r. order y (missing y r))
+pub best_hard_fault : (n : Nvic) → is_in n.pending NMI ≡ false → is_in n.pending HARD_FAULT ≡ true
+    → Some HARD_FAULT ≡ best n
+best_hard_fault n f e = (best_exactly n (Some HARD_FAULT)).0
+    (record { in_range = omega arith; ready = rw e refl }, λ y r. order y (missing y r))
   where
     missing : (y : ℕ) → IsReady n y → y ≡ NMI → ⊥
-    missing y r i = let t : is_in n.pending NMI ≡ true = subst (λ z. is_in n.pending z ≡ true) i (left_is _ _ r.ready) in cc
+    missing y r i = let t : is_in n.pending NMI ≡ true =
+        subst (λ z. is_in n.pending z ≡ true) i (left_is _ _ r.ready) in cc
 
     order : (y : ℕ) → (y ≡ NMI → ⊥) → (1 < priority_of n y) ⊎ ((1 ≡ priority_of n y) × (HARD_FAULT ≤ y))
     order y h = grind (arith, nat_tests)

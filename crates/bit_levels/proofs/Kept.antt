@@ -1,5 +1,6 @@
 -- Each change keeps every pending exception in the set where it belongs.
-use Rattle.std.proofs.Common.{◌≡◌, ℕ, ◌<◌, min, Bool, true, false, not, ◌&&◌, ◌||◌, ◌==◌, if◌then◌else◌, List, set, replicate, slice_index, slice_set, refl, sym, ◌∙◌, ap, arith}
+use Rattle.std.proofs.Common.{◌≡◌, ℕ, ◌<◌, min, Bool, true, false, not, ◌&&◌, ◌||◌, ◌==◌, if◌then◌else◌, List, set}
+use Rattle.std.proofs.Common.{replicate, slice_index, slice_set, refl, sym, ◌∙◌, ap, arith}
 use Rattle.std.proofs.Math.Bool.{or-true, or-false}
 use Rattle.std.proofs.lemmas.Bool.{eqb-true, eqb-false}
 use Rattle.std.proofs.lemmas.Bool.Decides.{nat_tests}
@@ -36,18 +37,21 @@ unheld {held = held} x small kept levelled = not_true (is_due held x) (λ t. let
 -- what isn't levelled is in no level
 pub unlevelled : {levels : List (List ℕ)} {held enabled priorities : List ℕ} (p x : ℕ) → x < EXCEPTIONS
     → IsKept levels held enabled priorities → is_levelled enabled x ≡ false → is_due (level levels p) x ≡ false
-unlevelled {levels = levels} p x small kept off = not_true (is_due (level levels p) x) (λ t. let f = (kept.in_level p x small t).1 in cc)
+unlevelled {levels = levels} p x small kept off =
+    not_true (is_due (level levels p) x) (λ t. let f = (kept.in_level p x small t).1 in cc)
 
 -- what isn't waiting is in no level and not held
 absent : {levels : List (List ℕ)} {held enabled priorities : List ℕ} (p x : ℕ) → x < EXCEPTIONS
-    → IsKept levels held enabled priorities → is_waiting levels held priorities x ≡ false → is_due (level levels p) x ≡ false
+    → IsKept levels held enabled priorities → is_waiting levels held priorities x ≡ false
+    → is_due (level levels p) x ≡ false
 absent {levels = levels} {held = held} {priorities = priorities} p x small kept out =
     not_true (is_due (level levels p) x) (λ t. wrong (rw (kept.in_level p x small t).0 at out) t)
   where
     wrong : (is_due held x || is_due (level levels p) x) ≡ false → is_due (level levels p) x ≡ true → ⊥
     wrong f t = let e : (is_due held x || true) ≡ false = rw t at f in let g = or-true (is_due held x) in cc
 
-free : (levels : List (List ℕ)) (held priorities : List ℕ) (x : ℕ) → is_waiting levels held priorities x ≡ false → is_due held x ≡ false
+free : (levels : List (List ℕ)) (held priorities : List ℕ) (x : ℕ) → is_waiting levels held priorities x ≡ false
+    → is_due held x ≡ false
 free levels held priorities x out = not_true (is_due held x) (λ t. wrong t out)
   where
     wrong : is_due held x ≡ true → (is_due held x || is_due (level levels (slice_index priorities x)) x) ≡ false → ⊥
@@ -64,7 +68,8 @@ kept_levelled old new held enabled priorities x on kept levelled puts = record {
 }
   where
     lead : (q y : ℕ) → y < EXCEPTIONS → (b : Bool) → ((q == slice_index priorities x) && (y == x)) ≡ b
-        → (if b then on else is_due (level old q) y) ≡ true → (slice_index priorities y ≡ q) × (is_levelled enabled y ≡ true)
+        → (if b then on else is_due (level old q) y) ≡ true
+        → (slice_index priorities y ≡ q) × (is_levelled enabled y ≡ true)
     lead q y h true e t =
         let s = both_equal q (slice_index priorities x) y x e in
         (ap (slice_index priorities) s.1 ∙ sym s.0, ap (is_levelled enabled) s.1 ∙ levelled)
@@ -74,19 +79,23 @@ pub seen_levelled : (old new : List (List ℕ)) (held enabled priorities : List 
     → IsKept old held enabled priorities → is_levelled enabled x ≡ true → PutsAt old new (slice_index priorities x) x on
     → flags (is_waiting new held priorities) ≡ slice_set (flags (is_waiting old held priorities)) x on
 seen_levelled old new held enabled priorities x on small kept levelled puts =
-    flags_set (is_waiting old held priorities) (is_waiting new held priorities) x on small (λ y h. lead y h (y == x) refl)
+    flags_set (is_waiting old held priorities) (is_waiting new held priorities) x on small
+    (λ y h. lead y h (y == x) refl)
   where
     here : (y : ℕ) → y ≡ x → y < 256 → is_due (level new (slice_index priorities y)) y ≡ on
     here y e h = puts (slice_index priorities y) y h ∙ chosen
       where
-        chosen : (if (slice_index priorities y == slice_index priorities x) && (y == x) then on else is_due (level old (slice_index priorities y)) y) ≡ on
-        chosen = let p : slice_index priorities y ≡ slice_index priorities x = ap (slice_index priorities) e in grind (arith, nat_tests)
+        chosen : (if (slice_index priorities y == slice_index priorities x) && (y == x) then on
+            else is_due (level old (slice_index priorities y)) y) ≡ on
+        chosen = let p : slice_index priorities y ≡ slice_index priorities x = ap (slice_index priorities) e in
+            grind (arith, nat_tests)
 
     there : (y : ℕ) → (y == x) ≡ false → y < 256
         → is_due (level new (slice_index priorities y)) y ≡ is_due (level old (slice_index priorities y)) y
     there y e h = puts (slice_index priorities y) y h ∙ skipped (slice_index priorities y == slice_index priorities x)
       where
-        skipped : (b : Bool) → (if b && (y == x) then on else is_due (level old (slice_index priorities y)) y) ≡ is_due (level old (slice_index priorities y)) y
+        skipped : (b : Bool) → (if b && (y == x) then on else is_due (level old (slice_index priorities y)) y)
+            ≡ is_due (level old (slice_index priorities y)) y
         skipped true = rw e refl
         skipped false = refl
 
@@ -118,7 +127,8 @@ pub seen_held : (levels : List (List ℕ)) (old new enabled priorities : List �
     → IsKept levels old enabled priorities → is_levelled enabled x ≡ false → Puts old new x on
     → flags (is_waiting levels new priorities) ≡ slice_set (flags (is_waiting levels old priorities)) x on
 seen_held levels old new enabled priorities x on small kept off puts =
-    flags_set (is_waiting levels old priorities) (is_waiting levels new priorities) x on small (λ y h. lead y h (y == x) refl (puts y h))
+    flags_set (is_waiting levels old priorities) (is_waiting levels new priorities) x on small
+    (λ y h. lead y h (y == x) refl (puts y h))
   where
     lead : (y : ℕ) → y < 256 → (b : Bool) → (y == x) ≡ b → is_due new y ≡ (if b then on else is_due old y)
         → is_waiting levels new priorities y ≡ (if b then on else is_waiting levels old priorities y)
@@ -143,7 +153,8 @@ kept_switched levels held old new priorities x on small kept out puts = record {
 }
   where
     same : (y : ℕ) → y < 256 → (y == x) ≡ false → is_levelled new y ≡ is_levelled old y
-    same y h e = ap (λ b. (is_always_enabled y || b) && not (is_fixed y)) (puts y h ∙ ap (λ b. if b then on else is_due old y) e)
+    same y h e = ap (λ b. (is_always_enabled y || b) && not (is_fixed y))
+        (puts y h ∙ ap (λ b. if b then on else is_due old y) e)
 
     at_level : (q y : ℕ) → y < 256 → is_due (level levels q) y ≡ true → (y == x) ≡ false
     at_level q y h t = not_true (y == x) (λ e. wrong (eqb-true y x e))
@@ -157,14 +168,19 @@ kept_switched levels held old new priorities x on small kept out puts = record {
         wrong : y ≡ x → ⊥
         wrong e = let f = free levels held priorities x out in let g = ap (is_due held) e in cc
 
-moved : (priorities : List ℕ) (x y b : ℕ) → (y == x) ≡ false → slice_index (slice_set priorities x b) y ≡ slice_index priorities y
+moved : (priorities : List ℕ) (x y b : ℕ) → (y == x) ≡ false
+    → slice_index (slice_set priorities x b) y ≡ slice_index priorities y
 moved priorities x y b e = get_or-set_other priorities x y b 0 (eqb-false y x e)
 
 pub kept_moved : (levels : List (List ℕ)) (held enabled priorities : List ℕ) (x b : ℕ) → x < 256
     → IsKept levels held enabled priorities → is_waiting levels held priorities x ≡ false
     → IsKept levels held enabled (slice_set priorities x b)
 kept_moved levels held enabled priorities x b small kept out = record {
-  in_level = λ q y h t. (moved priorities x y b (at_level q y h t) ∙ (kept.in_level q y h t).0, (kept.in_level q y h t).1);
+  in_level = λ q y h t. (
+    moved priorities x y b (at_level q y h t)
+        ∙ (kept.in_level q y h t).0,
+    (kept.in_level q y h t).1,
+  );
   in_held = kept.in_held;
 }
   where
@@ -178,7 +194,8 @@ pub seen_moved : (levels : List (List ℕ)) (held enabled priorities : List ℕ)
     → IsKept levels held enabled priorities → is_waiting levels held priorities x ≡ false
     → flags (is_waiting levels held (slice_set priorities x b)) ≡ flags (is_waiting levels held priorities)
 seen_moved levels held enabled priorities x b small kept out =
-    flags_same (is_waiting levels held (slice_set priorities x b)) (is_waiting levels held priorities) (λ y h. lead y h (y == x) refl)
+    flags_same (is_waiting levels held (slice_set priorities x b)) (is_waiting levels held priorities)
+    (λ y h. lead y h (y == x) refl)
   where
     lead : (y : ℕ) → y < 256 → (c : Bool) → (y == x) ≡ c
         → is_waiting levels held (slice_set priorities x b) y ≡ is_waiting levels held priorities y
@@ -193,14 +210,16 @@ seen_moved levels held enabled priorities x b small kept out =
 
 -- ---- after a reset
 
-pub kept_none : (levels : List (List ℕ)) (held enabled priorities : List ℕ) → ((p : ℕ) (x : ℕ) → is_due (level levels p) x ≡ false)
+pub kept_none : (levels : List (List ℕ)) (held enabled priorities : List ℕ)
+    → ((p : ℕ) (x : ℕ) → is_due (level levels p) x ≡ false)
     → ((x : ℕ) → is_due held x ≡ false) → IsKept levels held enabled priorities
 kept_none levels held enabled priorities none out = record {
   in_level = λ p x h t. absurd (let f = none p x in let w : ⊥ = cc in w);
   in_held = λ x h t. absurd (let f = out x in let w : ⊥ = cc in w);
 }
 
-pub seen_none : (levels : List (List ℕ)) (held priorities : List ℕ) → ((p : ℕ) (x : ℕ) → is_due (level levels p) x ≡ false)
+pub seen_none : (levels : List (List ℕ)) (held priorities : List ℕ)
+    → ((p : ℕ) (x : ℕ) → is_due (level levels p) x ≡ false)
     → ((x : ℕ) → is_due held x ≡ false) → flags (is_waiting levels held priorities) ≡ replicate EXCEPTIONS false
 seen_none levels held priorities none out =
     flags_none (is_waiting levels held priorities) (λ x h. rw (out x, none (slice_index priorities x) x) refl)

@@ -1,5 +1,6 @@
 -- Sets of the reference, which are lists, and sets of bits.
-use Rattle.std.proofs.Common.{◌≡◌, ℕ, zero, suc, ◌<◌, ◌≤◌, Bool, true, false, ◌==◌, if◌then◌else◌, List, [], ◌∷◌, length, get_or, replicate, slice_set, refl, sym, ◌∙◌, ap, arith}
+use Rattle.std.proofs.Common.{◌≡◌, ℕ, zero, suc, ◌<◌, ◌≤◌, Bool, true, false, ◌==◌, if◌then◌else◌, List, [], ◌∷◌}
+use Rattle.std.proofs.Common.{length, get_or, replicate, slice_set, refl, sym, ◌∙◌, ap, arith}
 use Rattle.std.proofs.lemmas.Bool.{eqb-true, eqb-false}
 use Rattle.std.proofs.lemmas.List.{length-set, length-replicate, get_or-set_same, get_or-set_other}
 use Rattle.std.proofs.lemmas.List.FromFn.{length-map-range_with_len, get_or-map-range_with_len, fill_by_all}
@@ -23,7 +24,8 @@ past (b ∷ s) (suc x) h = past s x (omega arith)
 pub no_flag : (f : ℕ → Bool) (x : ℕ) → 256 ≤ x → is_in (flags f) x ≡ false
 no_flag f x h = let e = flags_length f in past (flags f) x (omega (arith, e))
 
-flags_fill : (s : List Bool) (f : ℕ → Bool) → length s ≡ EXCEPTIONS → ((x : ℕ) → x < 256 → is_in s x ≡ f x) → s ≡ flags f
+flags_fill : (s : List Bool) (f : ℕ → Bool) → length s ≡ EXCEPTIONS → ((x : ℕ) → x < 256 → is_in s x ≡ f x)
+    → s ≡ flags f
 unfolding flags
 flags_fill s f e h = fill_by_all f s EXCEPTIONS false e h
 
@@ -31,10 +33,12 @@ pub flags_same : (f g : ℕ → Bool) → ((x : ℕ) → x < 256 → f x ≡ g x
 flags_same f g h = flags_fill (flags f) g (flags_length f) (λ x k. flag f x k ∙ h x k)
 
 -- one exception is put into a set or taken out
-pub flags_set : (f g : ℕ → Bool) (x : ℕ) (on : Bool) → x < 256 → ((y : ℕ) → y < 256 → g y ≡ (if y == x then on else f y))
+pub flags_set : (f g : ℕ → Bool) (x : ℕ) (on : Bool) → x < 256
+    → ((y : ℕ) → y < 256 → g y ≡ (if y == x then on else f y))
     → flags g ≡ slice_set (flags f) x on
 flags_set f g x on small changes =
-    sym (flags_fill (slice_set (flags f) x on) g (length-set (flags f) x on ∙ flags_length f) (λ y h. each y h (y == x) refl ∙ sym (changes y h)))
+    sym (flags_fill (slice_set (flags f) x on) g (length-set (flags f) x on ∙ flags_length f)
+    (λ y h. each y h (y == x) refl ∙ sym (changes y h)))
   where
     each : (y : ℕ) → y < 256 → (b : Bool) → (y == x) ≡ b → is_in (slice_set (flags f) x on) y ≡ (if b then on else f y)
     each y h true e =

@@ -1,5 +1,6 @@
 -- Only the sets of some priority bytes can have an exception.
-use Rattle.std.proofs.Common.{◌≡◌, ℕ, ◌+◌, ◌-◌, ◌*◌, ◌/◌, ◌^◌, ◌<◌, ◌≤◌, ◌⊎◌, inl, inr, false, List, slice_index, slice_set, None, replicate, ◌∙◌, ap, arith, pow_pos, mul-le-mul, le_refl}
+use Rattle.std.proofs.Common.{◌≡◌, ℕ, ◌+◌, ◌-◌, ◌*◌, ◌/◌, ◌^◌, ◌<◌, ◌≤◌, ◌⊎◌, inl, inr, false, List, slice_index}
+use Rattle.std.proofs.Common.{slice_set, None, replicate, ◌∙◌, ap, arith, pow_pos, mul-le-mul, le_refl}
 use Rattle.std.proofs.Math.Nat.{div-mul-le_self, mul-div_left, zero-div, zero-mul}
 use Rattle.std.proofs.lemmas.Bool.{cases_lt}
 use Rattle.std.proofs.lemmas.Nat.{div_below, le-div, pow-add, shl-shr}
@@ -40,7 +41,8 @@ pub bytes_set : (bits : ℕ) (priorities : List ℕ) (x b : ℕ) → AreKeptByte
     → AreKeptBytes bits (slice_set priorities x b)
 bytes_set bits priorities x b before e = at_each (λ y c. kept bits c ≡ c) priorities x b 0 e before
 
-pub spaced : (bits : ℕ) (levels : List (List ℕ)) (held enabled priorities : List ℕ) → IsKept levels held enabled priorities
+pub spaced : (bits : ℕ) (levels : List (List ℕ)) (held enabled priorities : List ℕ)
+    → IsKept levels held enabled priorities
     → AreKeptBytes bits priorities → AreSpaced bits levels
 spaced bits levels held enabled priorities kept bytes p y h t = rw (kept.in_level p y h t).0 at (bytes y)
 
@@ -49,14 +51,17 @@ spaced bits levels held enabled priorities kept bytes p y h t = rw (kept.in_leve
 pub empty_first : (levels : List (List ℕ)) (d : ℕ) → AreEmpty levels (0 * 2 ^ d)
 empty_first levels d q h y k = let z = zero-mul (2 ^ d) in absurd (omega (arith, z, h))
 
-pub empty_next : (bits : ℕ) (levels : List (List ℕ)) (place : ℕ) → AreSpaced bits levels → AreEmpty levels (place * 2 ^ (8 - bits))
+pub empty_next : (bits : ℕ) (levels : List (List ℕ)) (place : ℕ) → AreSpaced bits levels
+    → AreEmpty levels (place * 2 ^ (8 - bits))
     → IsFirstOf (level levels (place * 2 ^ (8 - bits))) None → AreEmpty levels ((place + 1) * 2 ^ (8 - bits))
-empty_next bits levels place spaced before here q h y k = lead (cases_lt q (place * 2 ^ (8 - bits))) (cases_lt (place * 2 ^ (8 - bits)) q)
+empty_next bits levels place spaced before here q h y k =
+    lead (cases_lt q (place * 2 ^ (8 - bits))) (cases_lt (place * 2 ^ (8 - bits)) q)
   where
     some : 0 < 2 ^ (8 - bits)
     some = pow_pos (8 - bits)
 
-    lead : ((q < place * 2 ^ (8 - bits)) ⊎ (place * 2 ^ (8 - bits) ≤ q)) → ((place * 2 ^ (8 - bits) < q) ⊎ (q ≤ place * 2 ^ (8 - bits)))
+    lead : ((q < place * 2 ^ (8 - bits)) ⊎ (place * 2 ^ (8 - bits) ≤ q))
+        → ((place * 2 ^ (8 - bits) < q) ⊎ (q ≤ place * 2 ^ (8 - bits)))
         → is_due (level levels q) y ≡ false
     lead (inl below) _ = before q below y k
     lead (inr from) (inr upto) =

@@ -1,5 +1,6 @@
 -- Sets of exceptions as bits.
-use Rattle.std.specs.Prelude.{◌≡◌, ℕ, ◌<◌, Bool, true, false, not, ◌&&◌, ◌||◌, List, [], map, slice_index, slice_index_or, Option, Some, None}
+use Rattle.std.specs.Prelude.{◌≡◌, ℕ, ◌<◌, Bool, true, false, not, ◌&&◌, ◌||◌, List, [], map, slice_index}
+use Rattle.std.specs.Prelude.{slice_index_or, Option, Some, None}
 use Rattle.std.specs.List.{range_with_len}
 use Rattle.reference.specs.declared.exception.TheConstants.{EXCEPTIONS}
 use Rattle.reference.specs.Priorities.{is_always_enabled, is_due, is_fixed, kept}
@@ -22,7 +23,8 @@ is_levelled enabled x = (is_always_enabled x || is_due enabled x) && not (is_fix
 
 -- what stands in a level is pending and enabled and has that priority byte, and what else is pending is held
 pub record IsKept (levels : List (List ℕ)) (held enabled priorities : List ℕ) : Type 0 where
-  pub in_level : (p x : ℕ) → x < EXCEPTIONS → is_due (level levels p) x ≡ true → (slice_index priorities x ≡ p) × (is_levelled enabled x ≡ true)
+  pub in_level : (p x : ℕ) → x < EXCEPTIONS → is_due (level levels p) x ≡ true
+      → (slice_index priorities x ≡ p) × (is_levelled enabled x ≡ true)
   pub in_held : (x : ℕ) → x < EXCEPTIONS → is_due held x ≡ true → is_levelled enabled x ≡ false
 
 -- the first exception of a set of bits

@@ -1,5 +1,6 @@
 -- A script that was read is in order: no event is earlier than the one ahead of it, and each is on a line of the board.
-use Rattle.std.proofs.Common.{◌≡◌, ℕ, ◌<◌, ◌≤◌, Bool, true, false, List, [], ◌∷◌, Option, Some, None, Result, Ok, Err, if◌then◌else◌, nat_lt, codes, refl, subst, arith}
+use Rattle.std.proofs.Common.{◌≡◌, ℕ, ◌<◌, ◌≤◌, Bool, true, false, List, [], ◌∷◌, Option, Some, None, Result, Ok, Err}
+use Rattle.std.proofs.Common.{if◌then◌else◌, nat_lt, codes, refl, subst, arith}
 use Rattle.std.proofs.lemmas.Bool.Decides.{nat_tests}
 use Rattle.toml.specs.Data.{Data, Items, no_items, item, Members, get_member, as_bool, as_table}
 use Rattle.reference.specs.declared.fault.BoardFault.{BoardFault}
@@ -9,7 +10,8 @@ use Rattle.reference.specs.declared.script.Signal.{Signal}
 use Rattle.reference.specs.declared.script.Signal.TheVariants.{Rise, Fall, Pulse, Nmi}
 use Rattle.reference.specs.Boards.{IsOfBoard, IsScriptFrom, is_tick}
 use Rattle.reference.specs.Time.{last_tick}
-use Rattle.board.specs.Texts.{◌>>=◌, change, event_in, in_front, line_keys, line_signal, nmi, nmi_keys, nmi_signal, number, of_kind, only, script_in, signal_in, timely_event, where_ok, word}
+use Rattle.board.specs.Texts.{◌>>=◌, change, event_in, in_front, line_keys, line_signal, nmi, nmi_keys, nmi_signal}
+use Rattle.board.specs.Texts.{number, of_kind, only, script_in, signal_in, timely_event, where_ok, word}
 
 -- both steps were taken
 both : {A B : Type 0} (read : Result A BoardFault) (next : A → Result B BoardFault) (given : B) →
@@ -31,7 +33,8 @@ in_range ok (Ok m) n taken =
 
 -- a change of a line of the board
 change_if : (lines line : ℕ) (rise fall pulse : Bool) (signal : Signal) → line < lines →
-    (if rise then Ok (Rise line) else if fall then Ok (Fall line) else if pulse then Ok (Pulse line) else Err OutOfRange)
+    (if rise then Ok (Rise line) else if fall then Ok (Fall line) else if pulse then Ok (Pulse line)
+    else Err OutOfRange)
     ≡ Ok signal → IsOfBoard lines signal
 change_if lines line true fall pulse signal below taken =
     let same : Rise line ≡ signal = cc in subst (IsOfBoard lines) same below
@@ -44,7 +47,8 @@ change_if lines line false false false signal below taken = cc
 line_is : (lines : ℕ) (event : Members) (signal : Signal) → line_signal lines event ≡ Ok signal → IsOfBoard lines signal
 unfolding line_signal
 line_is lines event signal taken =
-    let (line, at_line) = both (where_ok (λ n. nat_lt n lines) (number (get_member (codes "line") event))) _ signal taken in
+    let (line, at_line) = both (where_ok (λ n. nat_lt n lines) (number (get_member (codes "line") event))) _ signal
+    taken in
     let (name, at_name) = both (word (get_member (codes "what") event)) _ signal at_line.1 in
     let (change, at_change) = both (change line name) _ signal at_name.1 in
     let (known, at_known) = both (only line_keys event) _ signal at_change.1 in
@@ -77,7 +81,8 @@ signal_is lines event (Some value) signal taken = nmi_signal_is lines value even
 abbrev IsRead : ℕ → ScriptedEvent → Type 0
 IsRead lines event = (event.at ≤ last_tick) × IsOfBoard lines event.what
 
-event_is : (lines : ℕ) (fields : Members) (event : ScriptedEvent) → event_in lines fields ≡ Ok event → IsRead lines event
+event_is : (lines : ℕ) (fields : Members) (event : ScriptedEvent) → event_in lines fields ≡ Ok event
+    → IsRead lines event
 unfolding event_in
 event_is lines fields event taken =
     let (at, at_tick) = both (where_ok is_tick (number (get_member (codes "at") fields))) _ event taken in

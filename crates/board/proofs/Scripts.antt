@@ -1,5 +1,6 @@
 -- The loop over the events: those that were read stand in front of those that are left.
-use Rattle.std.proofs.Common.{◌≡◌, ℕ, ◌+◌, ◌<◌, List, [], ◌∷◌, ◌++◌, length, get_or, drop, Result, Ok, Err, refl, sym, ap, ◌∙◌, append_assoc, suc, ◌≤◌}
+use Rattle.std.proofs.Common.{◌≡◌, ℕ, ◌+◌, ◌<◌, List, [], ◌∷◌, ◌++◌, length, get_or, drop, Result, Ok, Err, refl, sym}
+use Rattle.std.proofs.Common.{ap, ◌∙◌, append_assoc, suc, ◌≤◌}
 use Rattle.std.proofs.Math.ListN.{drop_of_length-le}
 use Rattle.std.proofs.lemmas.List.{append-nil}
 use Rattle.toml.proofs.Views.{items_view-drop}
@@ -41,7 +42,8 @@ refused lines before values index value done all fault below is outside whole =
     sym whole
     ∙ ap (after done) (script_in-next lines before values index value below is)
     ∙ ap (λ (read : Result ScriptedEvent BoardFault).
-    after done (read >>= (λ event. in_front event (script_in lines event.at (items_view (drop (index + 1) values)))))) outside
+    after done (read >>= (λ event. in_front event (script_in lines event.at (items_view (drop (index + 1) values))))))
+    outside
 
 -- an event that is taken
 pub taken : (lines before : ℕ) (values : List Value) (index : ℕ) (value : Value)
@@ -52,7 +54,8 @@ pub taken : (lines before : ℕ) (values : List Value) (index : ℕ) (value : Va
 taken lines before values index value done all event below is inside whole =
     sym (after-in_front done event (script_in lines event.at (items_view (drop (index + 1) values))))
     ∙ ap (λ (read : Result ScriptedEvent BoardFault).
-    after done (read >>= (λ event. in_front event (script_in lines event.at (items_view (drop (index + 1) values)))))) (sym inside)
+    after done (read >>= (λ event. in_front event (script_in lines event.at (items_view (drop (index + 1) values))))))
+    (sym inside)
     ∙ ap (after done) (sym (script_in-next lines before values index value below is))
     ∙ whole
 
@@ -62,7 +65,8 @@ pub finished : (lines before : ℕ) (values : List Value) (index : ℕ) (done : 
 unfolding script_in
 finished lines before values index done all past whole =
     let nothing : drop index values ≡ [] = drop_of_length-le values past in
-    sym whole ∙ ap (λ (left : List Value). after done (script_in lines before (items_view left))) nothing ∙ ap Ok (append-nil done)
+    sym whole ∙ ap (λ (left : List Value). after done (script_in lines before (items_view left))) nothing
+    ∙ ap Ok (append-nil done)
 
 -- the count of the items is the length of the list
 pub count_is : (values : List Value) → count (items_view values) ≡ length values

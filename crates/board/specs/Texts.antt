@@ -1,15 +1,19 @@
 -- What the text of a board means (profile), over the `toml` crate's meaning of a document (TOML 1.1). A step is taken
 -- only where the ones ahead of it were, so the first refusal stands.
-use Rattle.std.specs.Prelude.{ℕ, suc, ℤ, pos, negsuc, Bool, true, false, ◌&&◌, not, nat_lt, if◌then◌else◌, List, [], ◌∷◌, codes, bytes_eq, Option, Some, None, Result, Ok, Err}
+use Rattle.std.specs.Prelude.{ℕ, suc, ℤ, pos, negsuc, Bool, true, false, ◌&&◌, not, nat_lt, if◌then◌else◌, List, []}
+use Rattle.std.specs.Prelude.{◌∷◌, codes, bytes_eq, Option, Some, None, Result, Ok, Err}
 use Rattle.std.specs.List.{list_any}
-use Rattle.toml.specs.Data.{Data, Items, no_items, item, Members, no_members, member, get_member, as_integer, as_str, as_bool, as_array, as_table}
+use Rattle.toml.specs.Data.{Data, Items, no_items, item, Members, no_members, member, get_member, as_integer, as_str}
+use Rattle.toml.specs.Data.{as_bool, as_array, as_table}
 use Rattle.toml.specs.Parse.{parse_document}
 use Rattle.reference.specs.declared.fault.BoardFault.{BoardFault}
-use Rattle.reference.specs.declared.fault.BoardFault.TheVariants.{NotToml, MissingKey, WrongKind, OutOfRange, EventsOutOfOrder, UnknownKey}
+use Rattle.reference.specs.declared.fault.BoardFault.TheVariants.{NotToml, MissingKey, WrongKind, OutOfRange}
+use Rattle.reference.specs.declared.fault.BoardFault.TheVariants.{EventsOutOfOrder, UnknownKey}
 use Rattle.reference.specs.declared.script.ScriptedEvent.{ScriptedEvent}
 use Rattle.reference.specs.declared.script.Signal.{Signal}
 use Rattle.reference.specs.declared.script.Signal.TheVariants.{Rise, Fall, Pulse, Nmi}
-use Rattle.reference.specs.Boards.{Numbers, Described, is_whole, is_size, is_flash, is_priority_bits, is_line_count, is_region_count, default_regions, is_tick, first_tick, most_events}
+use Rattle.reference.specs.Boards.{Numbers, Described, is_whole, is_size, is_flash, is_priority_bits, is_line_count}
+use Rattle.reference.specs.Boards.{is_region_count, default_regions, is_tick, first_tick, most_events}
 
 -- one step, and then another with what it gave
 infixl 10 ◌>>=◌

@@ -1,5 +1,6 @@
 -- The counter after many counts is the counter after one more than one fewer.
-use Rattle.std.proofs.Common.{◌≡◌, ℕ, ◌+◌, ◌-◌, ◌%◌, ◌<◌, ◌≤◌, ◌⊎◌, Bool, true, false, ◌==◌, nat_le, if◌then◌else◌, arith, refl, sym, ap, ◌∙◌, inl, inr, add-one}
+use Rattle.std.proofs.Common.{◌≡◌, ℕ, ◌+◌, ◌-◌, ◌%◌, ◌<◌, ◌≤◌, ◌⊎◌, Bool, true, false, ◌==◌, nat_le, if◌then◌else◌}
+use Rattle.std.proofs.Common.{arith, refl, sym, ap, ◌∙◌, inl, inr, add-one}
 use Rattle.std.proofs.Math.Nat.{suc-mod, mod_self, mod-eq_of_lt, zero-mod}
 use Rattle.std.proofs.lemmas.Bool.{cases_lt}
 use Rattle.std.proofs.lemmas.Bool.Decides.{nat_tests}
@@ -33,7 +34,10 @@ remainder_next reload n = lead (cases_lt (n % (reload + 1)) reload)
     lead : ((n % (reload + 1) < reload) ⊎ (reload ≤ n % (reload + 1)))
         → (((n + 1) % (reload + 1) ≡ n % (reload + 1) + 1) × (n % (reload + 1) < reload))
         ⊎ (((n + 1) % (reload + 1) ≡ 0) × (n % (reload + 1) ≡ reload))
-    lead (inl under) = inl (step ∙ mod-eq_of_lt (let wide : n % (reload + 1) + 1 < reload + 1 = omega arith in wide), under)
+    lead (inl under) = inl (
+      step ∙ mod-eq_of_lt (let wide : n % (reload + 1) + 1 < reload + 1 = omega arith in wide),
+      under,
+    )
     lead (inr over) =
         let s = small in
         let e : n % (reload + 1) ≡ reload = omega (arith, s, over) in
@@ -57,7 +61,8 @@ current_next reload current n = lead (cases_lt n current)
     falls : n < current → current_after reload current (n + 1) ≡ counted_once reload (current_after reload current n)
     falls h = grind (arith, nat_tests)
 
-    lead : ((n < current) ⊎ (current ≤ n)) → current_after reload current (n + 1) ≡ counted_once reload (current_after reload current n)
+    lead : ((n < current) ⊎ (current ≤ n))
+        → current_after reload current (n + 1) ≡ counted_once reload (current_after reload current n)
     lead (inl h) = falls h
     lead (inr h) = counts h
       where
@@ -68,12 +73,14 @@ current_next reload current n = lead (cases_lt n current)
             split (inl over) = grind (arith, nat_tests)
             split (inr same) = let e : m ≡ current = omega arith in rw e (fallen reload current)
 
-        counts : current ≤ n → current_after reload current (n + 1) ≡ counted_once reload (current_after reload current n)
+        counts : current ≤ n → current_after reload current (n + 1)
+            ≡ counted_once reload (current_after reload current n)
         counts k =
             let e : n + 1 - current ≡ n - current + 1 = omega arith in
             past (n + 1) (omega arith)
             ∙ ap (from_zero reload) e
-            ∙ from_zero_next reload ((n - current) % (reload + 1)) ((n - current + 1) % (reload + 1)) (omega arith) (remainder_next reload (n - current))
+            ∙ from_zero_next reload ((n - current) % (reload + 1)) ((n - current + 1) % (reload + 1)) (omega arith)
+            (remainder_next reload (n - current))
             ∙ ap (counted_once reload) (sym (past n k))
 
 -- SysTick, whether it's enabled or not

@@ -17,7 +17,8 @@ reloads t e c = grind (arith, common_steps)
 falls : (t : SysTick) → t.enable ≡ true → 0 < t.current → (counted t).current ≡ t.current - 1
 falls t e c = grind (arith, common_steps)
 
-counts_are : (k : ℕ) (t : SysTick) → t.enable ≡ true → t.current ≡ 0 → k ≤ t.reload → (counts (suc k) t).current ≡ t.reload - k
+counts_are : (k : ℕ) (t : SysTick) → t.enable ≡ true → t.current ≡ 0 → k ≤ t.reload
+    → (counts (suc k) t).current ≡ t.reload - k
 counts_are zero t e c h = reloads t e c ∙ omega arith
 counts_are (suc k) t e c h =
     let before : (counts (suc k) t).current ≡ t.reload - k = counts_are k t e c (omega arith) in

@@ -44,7 +44,8 @@ left_later : (tick : ℕ) (e : ScriptedEvent) (events : List ScriptedEvent) → 
     events_after tick (e ∷ events) ≡ e ∷ events
 left_later tick e events h = grind (arith, common_steps)
 
-left : (tick : ℕ) (script : List ScriptedEvent) → IsSortedFrom tick script → IsSortedFrom (tick + 1) (events_after tick script)
+left : (tick : ℕ) (script : List ScriptedEvent) → IsSortedFrom tick script
+    → IsSortedFrom (tick + 1) (events_after tick script)
 left tick [] s = tt
 left tick (e ∷ events) s =
     elim (eq-or-lt_of_le s.0) [

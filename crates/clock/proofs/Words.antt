@@ -1,5 +1,6 @@
 -- Sets of exceptions, written as words.
-use Rattle.std.specs.Prelude.{ℕ, ◌*◌, ◌/◌, ◌%◌, ◌^◌, ◌<◌, ◌≡◌, ◌≢◌, true, ◌||◌, ◌==◌, bit_or, List, length, slice_index, slice_set}
+use Rattle.std.specs.Prelude.{ℕ, ◌*◌, ◌/◌, ◌%◌, ◌^◌, ◌<◌, ◌≡◌, ◌≢◌, true, ◌||◌, ◌==◌, bit_or, List, length, slice_index}
+use Rattle.std.specs.Prelude.{slice_set}
 use Rattle.std.proofs.Common.{arith, ap, w32}
 use Rattle.std.proofs.lemmas.Bool.{eq-eqb}
 use Rattle.std.proofs.lemmas.Grind.{common_steps}

@@ -1,5 +1,6 @@
 -- What a run that failed put, and how files are read.
-use Rattle.std.proofs.Common.{◌≡◌, ◌⊎◌, inl, inr, ℕ, ◌+◌, Bool, true, false, List, Option, Result, Ok, Err, refl, sym, ◌∙◌}
+use Rattle.std.proofs.Common.{◌≡◌, ◌⊎◌, inl, inr, ℕ, ◌+◌, Bool, true, false, List, Option, Result, Ok, Err, refl, sym}
+use Rattle.std.proofs.Common.{◌∙◌}
 use Rattle.std.specs.Str.{IsUtf8, is_utf8}
 use Rattle.std.proofs.lemmas.Str.{IsUtf8-from_is_utf8, is_utf8-from_IsUtf8}
 use Rattle.board.specs.declared.whole.Board.{Board as TheBoard}
@@ -18,13 +19,17 @@ use Rattle.reference.specs.Boards.{Described}
 use Rattle.reference.specs.Run.{trace}
 
 -- a run that failed in a machine whose writers hadn't failed before put a prefix of the trace
-pub failed_cut : (n : ℕ) (old new : Whole) (put put' : Option (List ℕ)) (faults faults' : ℕ) (fault : RunFault) → Fails n old new put put' faults faults' fault → (fault ≡ Broken → old.broken ≡ true) → old.broken ≡ false → GrowsByPrefix put put' (trace n old.state) × (faults' ≡ faults + 1)
+pub failed_cut : (n : ℕ) (old new : Whole) (put put' : Option (List ℕ)) (faults faults' : ℕ) (fault : RunFault)
+    → Fails n old new put put' faults faults' fault → (fault ≡ Broken → old.broken ≡ true) → old.broken ≡ false
+    → GrowsByPrefix put put' (trace n old.state) × (faults' ≡ faults + 1)
 failed_cut n old new put put' faults faults' (Write steps) fails broken whole =
     (left_prefix n old.state steps put put' new.state fails.0, fails.2)
-failed_cut n old new put put' faults faults' Broken fails broken whole = absurd (let wrong : true ≡ false = sym (broken refl) ∙ whole in cc)
+failed_cut n old new put put' faults faults' Broken fails broken whole =
+    absurd (let wrong : true ≡ false = sym (broken refl) ∙ whole in cc)
 
 -- what the reader of boards answers is what is read here
-pub read_as : (read : Result Described BoardFault) (result : Result TheBoard BoardFault) → Answers described result read ⊎ (result ≡ Err OutOfMemory) → Reads read result
+pub read_as : (read : Result Described BoardFault) (result : Result TheBoard BoardFault)
+    → Answers described result read ⊎ (result ≡ Err OutOfMemory) → Reads read result
 read_as read (Ok board) (inl same) = same
 read_as read (Ok board) (inr wanting) = absurd cc
 read_as read (Err fault) (inl (inl same)) = inl same
@@ -32,13 +37,16 @@ read_as read (Err fault) (inl (inr wanting)) = inr wanting.0
 read_as read (Err fault) (inr wanting) = inr cc
 
 -- bytes that are text are read as that text
-pub text_read : (bytes text : List ℕ) (result : Result TheBoard BoardFault) → IsUtf8 bytes → text ≡ bytes → Answers described result (board_of text) ⊎ (result ≡ Err OutOfMemory) → Reads (board_in_file bytes) result
-text_read bytes text result is_text same answers = rw (is_utf8-from_IsUtf8 bytes is_text) (read_as (board_of bytes) result (rw same at answers))
+pub text_read : (bytes text : List ℕ) (result : Result TheBoard BoardFault) → IsUtf8 bytes → text ≡ bytes
+    → Answers described result (board_of text) ⊎ (result ≡ Err OutOfMemory) → Reads (board_in_file bytes) result
+text_read bytes text result is_text same answers =
+    rw (is_utf8-from_IsUtf8 bytes is_text) (read_as (board_of bytes) result (rw same at answers))
 
 no_text : (bytes : List ℕ) (test : Bool) → is_utf8 bytes ≡ test → ¬ IsUtf8 bytes → board_in_file bytes ≡ Err NotToml
 no_text bytes true e other = absurd (other (IsUtf8-from_is_utf8 bytes e))
 no_text bytes false e other = rw e refl
 
 -- other bytes aren't
-pub bytes_refused : (bytes : List ℕ) (fault : BoardFault) → ¬ IsUtf8 bytes → fault ≡ NotToml → Reads (board_in_file bytes) (Err fault)
+pub bytes_refused : (bytes : List ℕ) (fault : BoardFault) → ¬ IsUtf8 bytes → fault ≡ NotToml
+    → Reads (board_in_file bytes) (Err fault)
 bytes_refused bytes fault other same = rw same (inl (no_text bytes (is_utf8 bytes) refl other))

@@ -9,13 +9,18 @@ use Rattle.machine.specs.Whole.{Whole}
 is_whole : (m : Whole) → m.broken ≡ false → m ≡ whole_of m.state
 is_whole m e = ap (λ (b : Bool). record m { broken = b }) e
 
-pub held : (old new : Whole) (i j : Source) (a b : Sink) → old.broken ≡ false → Holds old new i j a b → Holds (whole_of old.state) new i j a b
+pub held : (old new : Whole) (i j : Source) (a b : Sink) → old.broken ≡ false → Holds old new i j a b
+    → Holds (whole_of old.state) new i j a b
 held old new i j a b e h = subst (λ (m : Whole). Holds m new i j a b) (is_whole old e) h
 
-failed_by : (old new : Whole) (i j : Source) (a b : Sink) (fault : SessionFault) → Sessions old new i j a b (Err fault) → FailsToRead old new i j a b ⊎ FailsToWrite old new i j a b
+failed_by : (old new : Whole) (i j : Source) (a b : Sink) (fault : SessionFault) → Sessions old new i j a b (Err fault)
+    → FailsToRead old new i j a b ⊎ FailsToWrite old new i j a b
 failed_by old new i j a b Read h = inl h
 failed_by old new i j a b Write h = inr h
 
-pub failed : (old new : Whole) (i j : Source) (a b : Sink) (fault : SessionFault) → old.broken ≡ false → Sessions old new i j a b (Err fault) → FailsToRead (whole_of old.state) new i j a b ⊎ FailsToWrite (whole_of old.state) new i j a b
+pub failed : (old new : Whole) (i j : Source) (a b : Sink) (fault : SessionFault) → old.broken ≡ false
+    → Sessions old new i j a b (Err fault)
+    → FailsToRead (whole_of old.state) new i j a b ⊎ FailsToWrite (whole_of old.state) new i j a b
 failed old new i j a b fault e h =
-    subst (λ (m : Whole). FailsToRead m new i j a b ⊎ FailsToWrite m new i j a b) (is_whole old e) (failed_by old new i j a b fault h)
+    subst (λ (m : Whole). FailsToRead m new i j a b ⊎ FailsToWrite m new i j a b) (is_whole old e)
+    (failed_by old new i j a b fault h)

@@ -1,5 +1,6 @@
 -- The bits of a word in the other order, and how many zeros stand above its highest one.
-use Rattle.std.proofs.Common.{◌≡◌, ℕ, zero, suc, ◌+◌, ◌-◌, ◌*◌, ◌/◌, ◌%◌, ◌^◌, ◌<◌, ◌≤◌, Bool, true, false, if◌then◌else◌, refl, sym, ◌∙◌, ap, arith}
+use Rattle.std.proofs.Common.{◌≡◌, ℕ, zero, suc, ◌+◌, ◌-◌, ◌*◌, ◌/◌, ◌%◌, ◌^◌, ◌<◌, ◌≤◌, Bool, true, false}
+use Rattle.std.proofs.Common.{if◌then◌else◌, refl, sym, ◌∙◌, ap, arith}
 use Rattle.std.specs.Int.{reverse_bits, reverse_bits_onto, leading_zeros, w32}
 use Rattle.std.proofs.Math.Nat.{pow-le-pow_right, mul-le-mul_right, pow-suc, lt_of_not-le}
 use Rattle.std.proofs.lemmas.Bool.Decides.{nat_tests}
@@ -21,7 +22,8 @@ placed (suc k) i x a e h =
     let twice : 2 ^ (suc k) ≡ 2 * 2 ^ k = grind (arith, pow-suc) in
     let spread : (a * 2 + b) * 2 ^ k ≡ a * (2 * 2 ^ k) + b * 2 ^ k = grind arith in
     let here : (a * 2 + b) * 2 ^ k ≡ reversed (suc i) x =
-    spread ∙ ap (λ p. a * p + b * 2 ^ k) (sym twice) ∙ ap (λ v. v + b * 2 ^ k) h ∙ ap (λ n. reversed i x + b * 2 ^ n) at in
+    spread ∙ ap (λ p. a * p + b * 2 ^ k) (sym twice) ∙ ap (λ v. v + b * 2 ^ k) h
+    ∙ ap (λ n. reversed i x + b * 2 ^ n) at in
     rw next (placed k (suc i) x (a * 2 + b) (omega arith) here)
 
 none_placed : (x : ℕ) → 0 * 2 ^ 32 ≡ reversed 0 x
@@ -33,7 +35,8 @@ reversed_bits x = let whole : x / 2 ^ 0 ≡ x = omega arith in rw whole at (plac
 
 greater_power : (i m : ℕ) → 2 ^ i < 2 ^ m → i < m
 greater_power i m h =
-    lt_of_not-le (λ (k : m ≤ i). let e : 2 ^ m ≤ 2 ^ i = pow-le-pow_right {n = 2} (omega arith) k in absurd (omega arith))
+    lt_of_not-le (λ (k : m ≤ i). let e : 2 ^ m ≤ 2 ^ i = pow-le-pow_right {n = 2} (omega arith) k in
+    absurd (omega arith))
 
 -- bit i is the top one of a number of i + 1 bits
 top_bit : (a i : ℕ) → a < 2 ^ (suc i) → 2 ^ (suc i) ≤ 2 * a + 1 → is_bit a i ≡ true
@@ -51,7 +54,8 @@ unfolding significant_bits
 has_bits zero a m h below above = omega arith
 has_bits (suc i) a m h below above = lead (λ k. has_bits i a m k below above) (is_bit a i) refl
   where
-    lead : (m ≤ i → significant_bits i a ≡ m) → (top : Bool) → is_bit a i ≡ top → (if top then i + 1 else significant_bits i a) ≡ m
+    lead : (m ≤ i → significant_bits i a ≡ m) → (top : Bool) → is_bit a i ≡ top
+        → (if top then i + 1 else significant_bits i a) ≡ m
     lead rest true e =
         let split : a / 2 ^ i * 2 ^ i + a % 2 ^ i ≡ a = shr_split a i in
         let one : 1 ≤ a / 2 ^ i = grind (arith, nat_tests) in

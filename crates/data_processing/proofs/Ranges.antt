@@ -1,5 +1,6 @@
 -- A range of 32 bits, or of more, has each word in it.
-use Rattle.std.proofs.Common.{◌≡◌, ℕ, ◌-◌, ◌^◌, ◌<◌, ◌≤◌, Bool, true, false, not, if◌then◌else◌, ℤ, pos, neg_ℤ, refl, sym, ◌∙◌, ap, arith, int_lt, int_eq}
+use Rattle.std.proofs.Common.{◌≡◌, ℕ, ◌-◌, ◌^◌, ◌<◌, ◌≤◌, Bool, true, false, not, if◌then◌else◌, ℤ, pos, neg_ℤ, refl}
+use Rattle.std.proofs.Common.{sym, ◌∙◌, ap, arith, int_lt, int_eq}
 use Rattle.std.proofs.lemmas.Int.{ints}
 use Rattle.std.proofs.Math.Nat.{pow-le-pow_right}
 use Rattle.reference.specs.Arithmetic.{signed}
@@ -27,12 +28,14 @@ same_nearest : (is_signed : Bool) (bits x : ℕ) → x < 2 ^ 32 → 32 ≤ bits
     ≡ (if is_signed then signed x else if int_lt (signed x) (pos 0) then pos 0 else signed x)
 same_nearest true bits x b h =
     let t : 2 ^ 31 ≤ 2 ^ (bits - 1) = half (bits - 1) (omega arith) in
-    within (least true bits) (greatest true bits) (signed x) (not_above x (2 ^ (bits - 1)) b t) (not_below x (2 ^ (bits - 1)) b t)
+    within (least true bits) (greatest true bits) (signed x) (not_above x (2 ^ (bits - 1)) b t)
+    (not_below x (2 ^ (bits - 1)) b t)
 same_nearest false bits x b h =
     let t : 2 ^ 31 ≤ 2 ^ bits = half bits (omega arith) in
     not_above_top (least false bits) (greatest false bits) (signed x) (not_above x (2 ^ bits) b t)
 
-pub none_beyond : (is_signed : Bool) (bits x : ℕ) → x < 2 ^ 32 → 32 < bits → saturated is_signed 32 x ≡ saturated is_signed bits x
+pub none_beyond : (is_signed : Bool) (bits x : ℕ) → x < 2 ^ 32 → 32 < bits
+    → saturated is_signed 32 x ≡ saturated is_signed bits x
 unfolding saturated
 none_beyond is_signed bits x b h =
     let e : nearest (least is_signed 32) (greatest is_signed 32) (signed x)

@@ -1,5 +1,6 @@
 -- Products and sums of 64 bits: what the code computes modulo 2^64 are the low bits of the whole numbers.
-use Rattle.std.proofs.Common.{◌≡◌, ℕ, ◌+◌, ◌-◌, ◌*◌, ◌%◌, ◌^◌, ◌<◌, Bool, true, false, nat_lt, if◌then◌else◌, ℤ, pos, negsuc, ◌+ℤ◌, ◌-ℤ◌, FitsSigned, to_z, of_z, refl, sym, ◌∙◌, arith, w32, w64}
+use Rattle.std.proofs.Common.{◌≡◌, ℕ, ◌+◌, ◌-◌, ◌*◌, ◌%◌, ◌^◌, ◌<◌, Bool, true, false, nat_lt, if◌then◌else◌, ℤ, pos}
+use Rattle.std.proofs.Common.{negsuc, ◌+ℤ◌, ◌-ℤ◌, FitsSigned, to_z, of_z, refl, sym, ◌∙◌, arith, w32, w64}
 use Rattle.std.specs.Int.{int_rem_euclid}
 use Rattle.std.proofs.lemmas.Int.{ints, int_rem_euclid_is}
 use Rattle.std.proofs.lemmas.Nat.{pow_pos}
@@ -45,7 +46,8 @@ low_sum_signed (negsuc n) b =
     omega arith
 
 -- the sum of a product and an addend, read as signed or not
-pub low_sum_of : (is_signed : Bool) (x y b : ℕ) → b < 2 ^ 64 → (wide_product is_signed x y + b) % 2 ^ 64 ≡ wide_accumulated is_signed x y b
+pub low_sum_of : (is_signed : Bool) (x y b : ℕ) → b < 2 ^ 64
+    → (wide_product is_signed x y + b) % 2 ^ 64 ≡ wide_accumulated is_signed x y b
 unfolding wide_product wide_accumulated
 low_sum_of false x y b h = low_sum (product_of false x y) b
 low_sum_of true x y b h = lead (nat_lt b (2 ^ 63)) refl

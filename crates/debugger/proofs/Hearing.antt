@@ -1,11 +1,15 @@
 -- The bytes of a session, one after another.
-use Rattle.std.proofs.Common.{◌≡◌, inl, inr, ℕ, ◌+◌, ◌-◌, ◌^◌, ◌<◌, ◌≤◌, zero, suc, Bool, true, false, List, [], ◌∷◌, ◌++◌, length, take, slice_index, Some, refl, sym, ◌∙◌, ap, subst, append_assoc, length-append, arith}
+use Rattle.std.proofs.Common.{◌≡◌, inl, inr, ℕ, ◌+◌, ◌-◌, ◌^◌, ◌<◌, ◌≤◌, zero, suc, Bool, true, false, List, [], ◌∷◌}
+use Rattle.std.proofs.Common.{◌++◌, length, take, slice_index, Some, refl, sym, ◌∙◌, ap, subst, append_assoc}
+use Rattle.std.proofs.Common.{length-append, arith}
 use Rattle.std.proofs.lemmas.List.{append-nil}
 use Rattle.std.specs.Io.KnownBytes.{IsAtEnd, Keeps}
 use Rattle.std.proofs.KnownBytes.{Consumes-nil, Consumes-trans, Consumes-kept}
 use Rattle.debugger.proofs.Telling.{none_told, told_on, cut_on, cut_before}
 use Rattle.debugger.specs.Answers.{Piece}
-use Rattle.debugger.specs.Sessions.{FailsToRead, FailsToWrite, Hears, Holds, Kept, Sink, Source, Talk, TellsAll, TellsPart, after_bytes, all_answers, answers, is_line_feed, last_state, next, opened, said, said_at_end, talk}
+use Rattle.debugger.specs.Sessions.{FailsToRead, FailsToWrite, Hears, Holds, Kept, Sink, Source, Talk, TellsAll}
+use Rattle.debugger.specs.Sessions.{TellsPart, after_bytes, all_answers, answers, is_line_feed, last_state, next}
+use Rattle.debugger.specs.Sessions.{opened, said, said_at_end, talk}
 use Rattle.machine.specs.Whole.{Whole}
 use Rattle.reference.specs.State.{State}
 
@@ -16,12 +20,14 @@ unfolding after_bytes
 after_more t x xs e = rw e refl
 
 -- a session that goes on after a byte was open before it
-was_open : (t : Talk) (x : ℕ) (xs : List ℕ) (o : Bool) → t.is_open ≡ o → (after_bytes t (x ∷ xs)).is_open ≡ true → (t.is_open ≡ true) × ((after_bytes (next t x) xs).is_open ≡ true)
+was_open : (t : Talk) (x : ℕ) (xs : List ℕ) (o : Bool) → t.is_open ≡ o → (after_bytes t (x ∷ xs)).is_open ≡ true
+    → (t.is_open ≡ true) × ((after_bytes (next t x) xs).is_open ≡ true)
 unfolding after_bytes
 was_open t x xs true e goes = (e, sym (ap (λ (u : Talk). u.is_open) (after_more t x xs e)) ∙ goes)
 was_open t x xs false e goes = absurd (let wrong : false ≡ true = rw e at goes in cc)
 
-answers_more : (t : Talk) (x : ℕ) (xs : List ℕ) → t.is_open ≡ true → answers t (x ∷ xs) ≡ said t x ++ answers (next t x) xs
+answers_more : (t : Talk) (x : ℕ) (xs : List ℕ) → t.is_open ≡ true
+    → answers t (x ∷ xs) ≡ said t x ++ answers (next t x) xs
 unfolding answers
 answers_more t x xs e = rw e refl
 
@@ -33,19 +39,23 @@ answers_none : (t : Talk) → answers t [] ≡ []
 unfolding answers
 answers_none t = refl
 
-after_snoc : (t : Talk) (xs : List ℕ) (b : ℕ) → (after_bytes t xs).is_open ≡ true → after_bytes t (xs ++ b ∷ []) ≡ next (after_bytes t xs) b
+after_snoc : (t : Talk) (xs : List ℕ) (b : ℕ) → (after_bytes t xs).is_open ≡ true
+    → after_bytes t (xs ++ b ∷ []) ≡ next (after_bytes t xs) b
 after_snoc t [] b goes =
     let e : t.is_open ≡ true = sym (ap (λ (u : Talk). u.is_open) (after_none t)) ∙ goes in
     after_more t b [] e ∙ (after_none (next t b) ∙ ap (λ (u : Talk). next u b) (sym (after_none t)))
 after_snoc t (x ∷ xs) b goes =
     let both = was_open t x xs t.is_open refl goes in
-    after_more t x (xs ++ b ∷ []) both.0 ∙ (after_snoc (next t x) xs b both.1 ∙ ap (λ (u : Talk). next u b) (sym (after_more t x xs both.0)))
+    after_more t x (xs ++ b ∷ []) both.0
+    ∙ (after_snoc (next t x) xs b both.1 ∙ ap (λ (u : Talk). next u b) (sym (after_more t x xs both.0)))
 
-answers_snoc : (t : Talk) (xs : List ℕ) (b : ℕ) → (after_bytes t xs).is_open ≡ true → answers t (xs ++ b ∷ []) ≡ answers t xs ++ said (after_bytes t xs) b
+answers_snoc : (t : Talk) (xs : List ℕ) (b : ℕ) → (after_bytes t xs).is_open ≡ true
+    → answers t (xs ++ b ∷ []) ≡ answers t xs ++ said (after_bytes t xs) b
 answers_snoc t [] b goes =
     let e : t.is_open ≡ true = sym (ap (λ (u : Talk). u.is_open) (after_none t)) ∙ goes in
     answers_more t b [] e ∙ (ap (λ ps. said t b ++ ps) (answers_none (next t b)) ∙ (append-nil (said t b)
-    ∙ (ap (λ (u : Talk). said u b) (sym (after_none t)) ∙ ap (λ (ps : List Piece). ps ++ said (after_bytes t []) b) (sym (answers_none t)))))
+    ∙ (ap (λ (u : Talk). said u b) (sym (after_none t))
+    ∙ ap (λ (ps : List Piece). ps ++ said (after_bytes t []) b) (sym (answers_none t)))))
 answers_snoc t (x ∷ xs) b goes =
     let both = was_open t x xs t.is_open refl goes in
     answers_more t x (xs ++ b ∷ []) both.0 ∙ (ap (λ ps. said t x ++ ps) (answers_snoc (next t x) xs b both.1)
@@ -55,14 +65,16 @@ answers_snoc t (x ∷ xs) b goes =
 
 -- ---- a session after a byte
 
-next_state_by : (t : Talk) (byte : ℕ) (o : Bool) → is_line_feed byte ≡ o → last_state t.state (said t byte) ≡ (next t byte).state
+next_state_by : (t : Talk) (byte : ℕ) (o : Bool) → is_line_feed byte ≡ o
+    → last_state t.state (said t byte) ≡ (next t byte).state
 next_state_by t byte true e = rw e refl
 next_state_by t byte false e = rw e refl
 
 next_state : (t : Talk) (byte : ℕ) → last_state t.state (said t byte) ≡ (next t byte).state
 next_state t byte = next_state_by t byte (is_line_feed byte) refl
 
-talk_of : (t : Talk) (s : State) (k : Kept) → s ≡ t.state → k ≡ record { breakpoints = t.breakpoints; line = t.line } → t.is_open ≡ true → t ≡ talk s k
+talk_of : (t : Talk) (s : State) (k : Kept) → s ≡ t.state → k ≡ record { breakpoints = t.breakpoints; line = t.line }
+    → t.is_open ≡ true → t ≡ talk s k
 talk_of t s k es ek goes = ap (λ (o : Bool). record t { is_open = o }) goes ∙ rw (es, ek) refl
 
 -- the session after n bytes
@@ -73,7 +85,8 @@ pub record Heard (n : ℕ) (k : Kept) (old new : Whole) (before after : Source) 
   pub now : after_bytes (opened old.state) given ≡ talk new.state k
   pub told : TellsAll (answers (opened old.state) given) old new out out'
 
-pub begun : (m : Whole) (k : Kept) (i : Source) (a : Sink) → k ≡ record { breakpoints = []; line = Some [] } → Heard 0 k m m i i a a
+pub begun : (m : Whole) (k : Kept) (i : Source) (a : Sink) → k ≡ record { breakpoints = []; line = Some [] }
+    → Heard 0 k m m i i a a
 begun m k i a e = record {
   given = [];
   count = refl;
@@ -82,7 +95,8 @@ begun m k i a e = record {
   told = subst (λ (ps : List Piece). TellsAll ps m m a a) (sym (answers_none (opened m.state))) (none_told m a);
 }
 
-is_open : (n : ℕ) (k : Kept) (old new : Whole) (i j : Source) (a b : Sink) (h : Heard n k old new i j a b) → (after_bytes (opened old.state) h.given).is_open ≡ true
+is_open : (n : ℕ) (k : Kept) (old new : Whole) (i j : Source) (a b : Sink) (h : Heard n k old new i j a b)
+    → (after_bytes (opened old.state) h.given).is_open ≡ true
 is_open n k old new i j a b h = ap (λ (t : Talk). t.is_open) h.now
 
 heard_more : (given more : List ℕ) (i j l : Source) → Hears given i j → Hears more j l → Hears (given ++ more) i l
@@ -92,33 +106,47 @@ heard_more given more i j l x y = record {
 }
 
 -- what was said of the next byte, in the session's words
-said_now : (n : ℕ) (k : Kept) (old mid : Whole) (i j : Source) (a b : Sink) (byte : ℕ) (h : Heard n k old mid i j a b) → answers (opened old.state) (h.given ++ byte ∷ []) ≡ answers (opened old.state) h.given ++ said (talk mid.state k) byte
+said_now : (n : ℕ) (k : Kept) (old mid : Whole) (i j : Source) (a b : Sink) (byte : ℕ) (h : Heard n k old mid i j a b)
+    → answers (opened old.state) (h.given ++ byte ∷ []) ≡ answers (opened old.state) h.given
+    ++ said (talk mid.state k) byte
 said_now n k old mid i j a b byte h =
     answers_snoc (opened old.state) h.given byte (is_open n k old mid i j a b h)
     ∙ ap (λ (t : Talk). answers (opened old.state) h.given ++ said t byte) h.now
 
-next_now : (n : ℕ) (k : Kept) (old mid : Whole) (i j : Source) (a b : Sink) (byte : ℕ) (h : Heard n k old mid i j a b) → after_bytes (opened old.state) (h.given ++ byte ∷ []) ≡ next (talk mid.state k) byte
+next_now : (n : ℕ) (k : Kept) (old mid : Whole) (i j : Source) (a b : Sink) (byte : ℕ) (h : Heard n k old mid i j a b)
+    → after_bytes (opened old.state) (h.given ++ byte ∷ []) ≡ next (talk mid.state k) byte
 next_now n k old mid i j a b byte h =
     after_snoc (opened old.state) h.given byte (is_open n k old mid i j a b h) ∙ ap (λ (t : Talk). next t byte) h.now
 
-said_all : (n : ℕ) (k : Kept) (old mid new : Whole) (i j : Source) (a b c : Sink) (byte : ℕ) (h : Heard n k old mid i j a b) → TellsAll (said (talk mid.state k) byte) mid new b c → TellsAll (answers (opened old.state) (h.given ++ byte ∷ [])) old new a c
+said_all : (n : ℕ) (k : Kept) (old mid new : Whole) (i j : Source) (a b c : Sink) (byte : ℕ)
+    (h : Heard n k old mid i j a b) → TellsAll (said (talk mid.state k) byte) mid new b c
+    → TellsAll (answers (opened old.state) (h.given ++ byte ∷ [])) old new a c
 said_all n k old mid new i j a b c byte h then =
     subst (λ (ps : List Piece). TellsAll ps old new a c) (sym (said_now n k old mid i j a b byte h))
     (told_on (answers (opened old.state) h.given) (said (talk mid.state k) byte) old mid new a b c h.told then)
 
 -- one byte more
-pub heard_on : (n : ℕ) (k k' : Kept) (old mid new : Whole) (i j l : Source) (a b c : Sink) (byte : ℕ) → Heard n k old mid i j a b → Hears (byte ∷ []) j l → TellsAll (said (talk mid.state k) byte) mid new b c → k' ≡ record { breakpoints = (next (talk mid.state k) byte).breakpoints; line = (next (talk mid.state k) byte).line } → (next (talk mid.state k) byte).is_open ≡ true → Heard (n + 1) k' old new i l a c
+pub heard_on : (n : ℕ) (k k' : Kept) (old mid new : Whole) (i j l : Source) (a b c : Sink) (byte : ℕ)
+    → Heard n k old mid i j a b → Hears (byte ∷ []) j l → TellsAll (said (talk mid.state k) byte) mid new b c
+    → k' ≡ record {
+      breakpoints = (next (talk mid.state k) byte).breakpoints;
+      line = (next (talk mid.state k) byte).line;
+    } → (next (talk mid.state k) byte).is_open ≡ true
+    → Heard (n + 1) k' old new i l a c
 heard_on n k k' old mid new i j l a b c byte h gave then kept goes = record {
   given = h.given ++ byte ∷ [];
   count = length-append h.given (byte ∷ []) ∙ ap (λ x. x + 1) h.count;
   hears = heard_more h.given (byte ∷ []) i j l h.hears gave;
   now = next_now n k old mid i j a b byte h
-      ∙ talk_of (next (talk mid.state k) byte) new.state k' (ap (λ (m : Whole). m.state) then.stands ∙ next_state (talk mid.state k) byte) kept goes;
+      ∙ talk_of (next (talk mid.state k) byte) new.state k'
+      (ap (λ (m : Whole). m.state) then.stands ∙ next_state (talk mid.state k) byte) kept goes;
   told = said_all n k old mid new i j a b c byte h then;
 }
 
 -- `quit`
-pub closed : (n : ℕ) (k : Kept) (old mid new : Whole) (i j l : Source) (a b c : Sink) (byte : ℕ) → Heard n k old mid i j a b → Hears (byte ∷ []) j l → TellsAll (said (talk mid.state k) byte) mid new b c → (next (talk mid.state k) byte).is_open ≡ false → Holds old new i l a c
+pub closed : (n : ℕ) (k : Kept) (old mid new : Whole) (i j l : Source) (a b c : Sink) (byte : ℕ)
+    → Heard n k old mid i j a b → Hears (byte ∷ []) j l → TellsAll (said (talk mid.state k) byte) mid new b c
+    → (next (talk mid.state k) byte).is_open ≡ false → Holds old new i l a c
 closed n k old mid new i j l a b c byte h gave then shut = record {
   given = h.given ++ byte ∷ [];
   heard = heard_more h.given (byte ∷ []) i j l h.hears gave;
@@ -128,11 +156,14 @@ closed n k old mid new i j l a b c byte h gave then shut = record {
 }
 
 -- the writer failed in the answer to a byte
-pub cut_at : (n : ℕ) (k : Kept) (old mid new : Whole) (i j l : Source) (a b c : Sink) (byte : ℕ) → Heard n k old mid i j a b → Hears (byte ∷ []) j l → TellsPart (said (talk mid.state k) byte) mid new b c → FailsToWrite old new i l a c
+pub cut_at : (n : ℕ) (k : Kept) (old mid new : Whole) (i j l : Source) (a b c : Sink) (byte : ℕ)
+    → Heard n k old mid i j a b → Hears (byte ∷ []) j l → TellsPart (said (talk mid.state k) byte) mid new b c
+    → FailsToWrite old new i l a c
 cut_at n k old mid new i j l a b c byte h gave part = record {
   given = h.given ++ byte ∷ [];
   heard = heard_more h.given (byte ∷ []) i j l h.hears gave;
-  told = cut_before (answers (opened old.state) (h.given ++ byte ∷ [])) (said_at_end (after_bytes (opened old.state) (h.given ++ byte ∷ []))) old new a c
+  told = cut_before (answers (opened old.state) (h.given ++ byte ∷ []))
+      (said_at_end (after_bytes (opened old.state) (h.given ++ byte ∷ []))) old new a c
       (subst (λ (ps : List Piece). TellsPart ps old new a c) (sym (said_now n k old mid i j a b byte h))
       (cut_on (answers (opened old.state) h.given) (said (talk mid.state k) byte) old mid new a b c h.told part));
 }
@@ -141,27 +172,32 @@ nothing_more : (given : List ℕ) (i j l : Source) → Hears given i j → Hears
 nothing_more given i j l x y = subst (λ (bs : List ℕ). Hears bs i l) (append-nil given) (heard_more given [] i j l x y)
 
 -- the end of the input
-pub at_end : (n : ℕ) (k : Kept) (old mid new : Whole) (i j l : Source) (a b c : Sink) → Heard n k old mid i j a b → Hears [] j l → IsAtEnd l.left → TellsAll (said_at_end (talk mid.state k)) mid new b c → Holds old new i l a c
+pub at_end : (n : ℕ) (k : Kept) (old mid new : Whole) (i j l : Source) (a b c : Sink) → Heard n k old mid i j a b
+    → Hears [] j l → IsAtEnd l.left → TellsAll (said_at_end (talk mid.state k)) mid new b c → Holds old new i l a c
 at_end n k old mid new i j l a b c h gave end then = record {
   given = h.given;
   heard = nothing_more h.given i j l h.hears gave;
   pieces = all_answers old.state h.given;
   ends = inl (end, refl);
-  told = told_on (answers (opened old.state) h.given) (said_at_end (after_bytes (opened old.state) h.given)) old mid new a b c h.told
+  told = told_on (answers (opened old.state) h.given) (said_at_end (after_bytes (opened old.state) h.given)) old mid new
+      a b c h.told
       (subst (λ (t : Talk). TellsAll (said_at_end t) mid new b c) (sym h.now) then);
 }
 
 -- the writer failed in the answer to the last line
-pub cut_at_end : (n : ℕ) (k : Kept) (old mid new : Whole) (i j l : Source) (a b c : Sink) → Heard n k old mid i j a b → Hears [] j l → TellsPart (said_at_end (talk mid.state k)) mid new b c → FailsToWrite old new i l a c
+pub cut_at_end : (n : ℕ) (k : Kept) (old mid new : Whole) (i j l : Source) (a b c : Sink) → Heard n k old mid i j a b
+    → Hears [] j l → TellsPart (said_at_end (talk mid.state k)) mid new b c → FailsToWrite old new i l a c
 cut_at_end n k old mid new i j l a b c h gave part = record {
   given = h.given;
   heard = nothing_more h.given i j l h.hears gave;
-  told = cut_on (answers (opened old.state) h.given) (said_at_end (after_bytes (opened old.state) h.given)) old mid new a b c h.told
+  told = cut_on (answers (opened old.state) h.given) (said_at_end (after_bytes (opened old.state) h.given)) old mid new
+      a b c h.told
       (subst (λ (t : Talk). TellsPart (said_at_end t) mid new b c) (sym h.now) part);
 }
 
 -- the reader failed
-pub missed : (n : ℕ) (k : Kept) (old new : Whole) (i j l : Source) (a b : Sink) → Heard n k old new i j a b → Keeps j.left l.left → l.misses ≡ j.misses + 1 → FailsToRead old new i l a b
+pub missed : (n : ℕ) (k : Kept) (old new : Whole) (i j l : Source) (a b : Sink) → Heard n k old new i j a b
+    → Keeps j.left l.left → l.misses ≡ j.misses + 1 → FailsToRead old new i l a b
 missed n k old new i j l a b h keeps more = record {
   given = h.given;
   gave = Consumes-kept i.left j.left l.left h.given h.hears.gave keeps;
@@ -170,7 +206,8 @@ missed n k old new i j l a b h keeps more = record {
 }
 
 -- 2^64 - 1 bytes
-pub spent : (n : ℕ) (k : Kept) (old new : Whole) (i j : Source) (a b : Sink) → Heard n k old new i j a b → n ≡ 2 ^ 64 - 1 → Holds old new i j a b
+pub spent : (n : ℕ) (k : Kept) (old new : Whole) (i j : Source) (a b : Sink) → Heard n k old new i j a b
+    → n ≡ 2 ^ 64 - 1 → Holds old new i j a b
 spent n k old new i j a b h all = record {
   given = h.given;
   heard = h.hears;
@@ -181,7 +218,8 @@ spent n k old new i j a b h all = record {
 
 -- ---- one byte
 
-pub one_taken : (room : List ℕ) (n : ℕ) → length room ≡ 1 → n ≤ length room → 0 < n → take n room ≡ slice_index room 0 ∷ []
+pub one_taken : (room : List ℕ) (n : ℕ) → length room ≡ 1 → n ≤ length room → 0 < n
+    → take n room ≡ slice_index room 0 ∷ []
 one_taken [] n one within some = absurd (let wrong : 0 ≡ 1 = one in omega arith)
 one_taken (x ∷ []) zero one within some = absurd (let wrong : 0 < 0 = some in omega arith)
 one_taken (x ∷ []) (suc zero) one within some = refl

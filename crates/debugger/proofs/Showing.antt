@@ -5,7 +5,8 @@ use Rattle.reference.specs.Memory.{Memory, byte_at}
 use Rattle.reference.specs.Words.{word_sum}
 
 -- one byte more
-pub byte_more : (page now new : List ℕ) (m : Memory) (a n place : ℕ) (byte : Option ℕ) → now ≡ page ++ bytes_text m a n → place ≡ word_sum a n → byte ≡ byte_at m place → new ≡ now ++ byte_text byte → new ≡ page ++ bytes_text m a (n + 1)
+pub byte_more : (page now new : List ℕ) (m : Memory) (a n place : ℕ) (byte : Option ℕ) → now ≡ page ++ bytes_text m a n
+    → place ≡ word_sum a n → byte ≡ byte_at m place → new ≡ now ++ byte_text byte → new ≡ page ++ bytes_text m a (n + 1)
 unfolding bytes_text
 byte_more page now new m a n place byte so_far there shown more =
     let next : suc n ≡ n + 1 = omega arith in

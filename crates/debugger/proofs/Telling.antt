@@ -22,24 +22,29 @@ pub none_told : (m : Whole) (a : Sink) → TellsAll [] m m a a
 none_told m a = record { went = Appends-nil a.written; stands = refl; quiet = refl }
 
 -- one piece went out
-pub one_told : (p : Piece) (old new : Whole) (a b : Sink) → Appends a.written b.written p.text → new ≡ record old { state = p.state } → b.faults ≡ a.faults → TellsAll (p ∷ []) old new a b
+pub one_told : (p : Piece) (old new : Whole) (a b : Sink) → Appends a.written b.written p.text
+    → new ≡ record old { state = p.state } → b.faults ≡ a.faults → TellsAll (p ∷ []) old new a b
 one_told p old new a b went stands quiet = record { went = rw append-nil went; stands = stands; quiet = quiet }
 
 -- one piece was cut
-pub one_cut : (p : Piece) (old new : Whole) (a b : Sink) → IsCutShort a.written b.written p.text → new ≡ record old { state = p.state } → b.faults ≡ a.faults + 1 → TellsPart (p ∷ []) old new a b
+pub one_cut : (p : Piece) (old new : Whole) (a b : Sink) → IsCutShort a.written b.written p.text
+    → new ≡ record old { state = p.state } → b.faults ≡ a.faults + 1 → TellsPart (p ∷ []) old new a b
 one_cut p old new a b cut stands failed =
     record { done = []; piece = p; others = []; among = refl; stands = stands; cut = cut; failed = failed }
 
 -- some pieces went out, and then more
-pub told_on : (xs ys : List Piece) (old mid new : Whole) (a b c : Sink) → TellsAll xs old mid a b → TellsAll ys mid new b c → TellsAll (xs ++ ys) old new a c
+pub told_on : (xs ys : List Piece) (old mid new : Whole) (a b c : Sink) → TellsAll xs old mid a b
+    → TellsAll ys mid new b c → TellsAll (xs ++ ys) old new a c
 told_on xs ys old mid new a b c first then = record {
   went = rw texts-append (Appends-trans a.written b.written c.written (texts xs) (texts ys) first.went then.went);
-  stands = rw (last-append old.state xs ys) (then.stands ∙ ap (λ (m : Whole). record m { state = last_state m.state ys }) first.stands);
+  stands = rw (last-append old.state xs ys)
+      (then.stands ∙ ap (λ (m : Whole). record m { state = last_state m.state ys }) first.stands);
   quiet = then.quiet ∙ first.quiet;
 }
 
 -- some pieces went out, and then one of more was cut
-pub cut_on : (xs ys : List Piece) (old mid new : Whole) (a b c : Sink) → TellsAll xs old mid a b → TellsPart ys mid new b c → TellsPart (xs ++ ys) old new a c
+pub cut_on : (xs ys : List Piece) (old mid new : Whole) (a b c : Sink) → TellsAll xs old mid a b
+    → TellsPart ys mid new b c → TellsPart (xs ++ ys) old new a c
 cut_on xs ys old mid new a b c first then = record {
   done = xs ++ then.done;
   piece = then.piece;
@@ -51,13 +56,16 @@ cut_on xs ys old mid new a b c first then = record {
     byte = then.cut.byte;
     behind = then.cut.behind;
     whole = then.cut.whole;
-    went = rw (texts-append xs then.done, append_assoc) (Appends-trans a.written b.written c.written (texts xs) (texts then.done ++ then.cut.front) first.went then.cut.went);
+    went = rw (texts-append xs then.done, append_assoc)
+        (Appends-trans a.written b.written c.written (texts xs) (texts then.done ++ then.cut.front) first.went
+        then.cut.went);
   };
   failed = then.failed ∙ ap (λ n. n + 1) first.quiet;
 }
 
 -- more pieces would have come
-pub cut_before : (xs ys : List Piece) (old new : Whole) (a b : Sink) → TellsPart xs old new a b → TellsPart (xs ++ ys) old new a b
+pub cut_before : (xs ys : List Piece) (old new : Whole) (a b : Sink) → TellsPart xs old new a b
+    → TellsPart (xs ++ ys) old new a b
 cut_before xs ys old new a b part = record {
   done = part.done;
   piece = part.piece;
@@ -78,7 +86,8 @@ pub nothing_told : (all : List Piece) (m : Whole) (a : Sink) → Told all all m 
 nothing_told all m a = record { done = []; whole = refl; told = none_told m a }
 
 -- one piece more
-pub one_more : (all rest : List Piece) (p : Piece) (old mid new : Whole) (a b c : Sink) → Told all (p ∷ rest) old mid a b → TellsAll (p ∷ []) mid new b c → Told all rest old new a c
+pub one_more : (all rest : List Piece) (p : Piece) (old mid new : Whole) (a b c : Sink)
+    → Told all (p ∷ rest) old mid a b → TellsAll (p ∷ []) mid new b c → Told all rest old new a c
 one_more all rest p old mid new a b c so_far then = record {
   done = so_far.done ++ p ∷ [];
   whole = append_assoc so_far.done (p ∷ []) rest ∙ so_far.whole;
@@ -86,9 +95,13 @@ one_more all rest p old mid new a b c so_far then = record {
 }
 
 -- the last pieces
-pub all_told : (all rest : List Piece) (old mid new : Whole) (a b c : Sink) → Told all rest old mid a b → TellsAll rest mid new b c → TellsAll all old new a c
-all_told all rest old mid new a b c so_far then = rw (sym so_far.whole) (told_on so_far.done rest old mid new a b c so_far.told then)
+pub all_told : (all rest : List Piece) (old mid new : Whole) (a b c : Sink) → Told all rest old mid a b
+    → TellsAll rest mid new b c → TellsAll all old new a c
+all_told all rest old mid new a b c so_far then =
+    rw (sym so_far.whole) (told_on so_far.done rest old mid new a b c so_far.told then)
 
 -- the last pieces were cut
-pub rest_cut : (all rest : List Piece) (old mid new : Whole) (a b c : Sink) → Told all rest old mid a b → TellsPart rest mid new b c → TellsPart all old new a c
-rest_cut all rest old mid new a b c so_far then = rw (sym so_far.whole) (cut_on so_far.done rest old mid new a b c so_far.told then)
+pub rest_cut : (all rest : List Piece) (old mid new : Whole) (a b c : Sink) → Told all rest old mid a b
+    → TellsPart rest mid new b c → TellsPart all old new a c
+rest_cut all rest old mid new a b c so_far then =
+    rw (sym so_far.whole) (cut_on so_far.done rest old mid new a b c so_far.told then)

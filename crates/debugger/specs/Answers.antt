@@ -1,11 +1,13 @@
 -- What the debugger answers to a command (profile).
-use Rattle.std.specs.Prelude.{ℕ, zero, suc, ◌+◌, ◌-◌, Bool, true, false, ◌&&◌, ◌||◌, if◌then◌else◌, is_some, List, [], ◌∷◌, ◌++◌, codes, Option, Some, None, Result, Ok, Err}
+use Rattle.std.specs.Prelude.{ℕ, zero, suc, ◌+◌, ◌-◌, Bool, true, false, ◌&&◌, ◌||◌, if◌then◌else◌, is_some, List, []}
+use Rattle.std.specs.Prelude.{◌∷◌, ◌++◌, codes, Option, Some, None, Result, Ok, Err}
 use Rattle.debugger_commands.specs.declared.commands.Command.{Command}
 use Rattle.debugger_commands.specs.declared.commands.Command.TheVariants as command
 use Rattle.debugger_commands.specs.declared.commands.LineFault.{LineFault}
 use Rattle.debugger_commands.specs.Breakpoints.{breakpoint_text, has}
 use Rattle.debugger_commands.specs.Commands.{steps_of}
-use Rattle.debugger_commands.specs.Texts.{decision_text, end_text, fault_text, general_lines, memory_text, region_lines, register_line}
+use Rattle.debugger_commands.specs.Texts.{decision_text, end_text, fault_text, general_lines, memory_text, region_lines}
+use Rattle.debugger_commands.specs.Texts.{register_line}
 use Rattle.machine.specs.declared.foresight.StepKind.{StepKind}
 use Rattle.machine.specs.declared.foresight.StepKind.TheVariants as kind
 use Rattle.machine.specs.declared.readers.RegValues.{RegValues}

@@ -1,5 +1,6 @@
 -- The breakpoints of a session (profile).
-use Rattle.std.specs.Prelude.{ℕ, nat_lt, Bool, ◌||◌, ◌==◌, if◌then◌else◌, List, [], ◌∷◌, ◌++◌, length, codes, Result, Ok, Err}
+use Rattle.std.specs.Prelude.{ℕ, nat_lt, Bool, ◌||◌, ◌==◌, if◌then◌else◌, List, [], ◌∷◌, ◌++◌, length, codes, Result}
+use Rattle.std.specs.Prelude.{Ok, Err}
 use Rattle.std.specs.List.{list_any}
 use Rattle.debugger_commands.specs.declared.breakpoints.TheConstants.{MOST_BREAKPOINTS}
 use Rattle.debugger_commands.specs.declared.commands.Command.{Command}

@@ -1,12 +1,14 @@
 -- The commands of a session, and the lines that give them (profile).
-use Rattle.std.specs.Prelude.{ℕ, ◌-◌, Bool, true, false, if◌then◌else◌, List, codes, bytes_eq, Option, Some, None, Result, Ok, Err}
+use Rattle.std.specs.Prelude.{ℕ, ◌-◌, Bool, true, false, if◌then◌else◌, List, codes, bytes_eq, Option, Some, None}
+use Rattle.std.specs.Prelude.{Result, Ok, Err}
 use Rattle.debugger_commands.specs.declared.commands.Command.{Command}
 use Rattle.debugger_commands.specs.declared.commands.Command.TheVariants as command
 use Rattle.debugger_commands.specs.declared.commands.LineFault.{LineFault}
 use Rattle.debugger_commands.specs.declared.commands.LineFault.TheVariants as fault
 use Rattle.debugger_commands.specs.declared.commands.Name.{Name}
 use Rattle.debugger_commands.specs.declared.commands.Name.TheVariants as name
-use Rattle.debugger_commands.specs.Words.{TwoWords, ThreeWords, first_word, more_words, one_word, two_words, three_words, number, number_within}
+use Rattle.debugger_commands.specs.Words.{TwoWords, ThreeWords, first_word, more_words, one_word, two_words}
+use Rattle.debugger_commands.specs.Words.{three_words, number, number_within}
 use Rattle.reference.specs.declared.access.Kind.{Kind}
 use Rattle.reference.specs.declared.access.Kind.TheVariants.{Fetch, Load, Store}
 
@@ -81,7 +83,8 @@ read_memory (Some words) = memory_of (number words.first) (number_within 1 256 w
 -- explain a p|u r|w|x
 abbrev pub read_explain : Option ThreeWords → Result Command LineFault
 read_explain None = Err fault.Command
-read_explain (Some words) = explain_of (number words.first) (privilege_of words.others.first) (kind_of words.others.second)
+read_explain (Some words) = explain_of (number words.first) (privilege_of words.others.first)
+    (kind_of words.others.second)
 
 -- the command of a name, with the words after it
 abbrev pub command_of : Option Name → Option (List ℕ) → Result Command LineFault

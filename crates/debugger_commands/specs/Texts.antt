@@ -1,5 +1,6 @@
 -- The texts of answers (profile).
-use Rattle.std.specs.Prelude.{ℕ, zero, suc, Bool, true, false, List, [], ◌++◌, slice_index, codes, decimal, Option, Some, None}
+use Rattle.std.specs.Prelude.{ℕ, zero, suc, Bool, true, false, List, [], ◌++◌, slice_index, codes, decimal, Option}
+use Rattle.std.specs.Prelude.{Some, None}
 use Rattle.debugger_commands.specs.declared.commands.LineFault.{LineFault}
 use Rattle.debugger_commands.specs.declared.commands.LineFault.TheVariants as fault
 use Rattle.reference.specs.declared.access.Decision.{Decision}

@@ -1,9 +1,11 @@
 -- The loop over the program headers: the segments that were found stand in front of those of the
 -- headers that are left.
-use Rattle.std.proofs.Common.{◌≡◌, ℕ, suc, ◌+◌, ◌-◌, ◌*◌, ◌<◌, Bool, true, false, not, if◌then◌else◌, List, [], ◌∷◌, ◌++◌, length, Result, Ok, Err, nat_lt, refl, sym, ap, ◌∙◌, arith, append_assoc}
+use Rattle.std.proofs.Common.{◌≡◌, ℕ, suc, ◌+◌, ◌-◌, ◌*◌, ◌<◌, Bool, true, false, not, if◌then◌else◌, List, [], ◌∷◌}
+use Rattle.std.proofs.Common.{◌++◌, length, Result, Ok, Err, nat_lt, refl, sym, ap, ◌∙◌, arith, append_assoc}
 use Rattle.reference.specs.declared.fault.LoadFault.{LoadFault}
 use Rattle.reference.specs.declared.fault.LoadFault.TheVariants.{SegmentOutsideFile}
-use Rattle.reference.specs.Images.{Segment, program_header_size, segments_of, in_front, is_segment, segment_at, segment_end}
+use Rattle.reference.specs.Images.{Segment, program_header_size, segments_of, in_front, is_segment, segment_at}
+use Rattle.reference.specs.Images.{segment_end}
 use Rattle.elf.specs.Segment.{segment_in}
 
 -- the segments that are read, or the first refusal

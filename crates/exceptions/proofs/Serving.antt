@@ -1,5 +1,6 @@
 -- Accesses that are performed one by one.
-use Rattle.std.proofs.Common.{◌≡◌, ℕ, suc, ◌+◌, ◌<◌, ◌≤◌, List, [], ◌∷◌, ◌++◌, length, drop, get_or, Some, None, Ok, Err, refl, sym, ap, append_assoc, add-one}
+use Rattle.std.proofs.Common.{◌≡◌, ℕ, suc, ◌+◌, ◌<◌, ◌≤◌, List, [], ◌∷◌, ◌++◌, length, drop, get_or, Some, None, Ok}
+use Rattle.std.proofs.Common.{Err, refl, sym, ap, append_assoc, add-one}
 use Rattle.std.proofs.Math.ListN.{drop_of_length-le}
 use Rattle.std.proofs.Math.Seq.{drop-cons}
 use Rattle.std.proofs.lemmas.List.{append-nil}
@@ -13,32 +14,54 @@ use Rattle.reference.specs.State.{Bus}
 abbrev pub behind : List Event → List ℕ → Served → Served
 behind events values all = record all { events = events ++ all.events; values = values ++ all.values }
 
-front : (exception tick : ℕ) (b : Bus) (q : Request) (qs : List Request) → perform_all exception tick b (q ∷ qs) ≡ followed (told tick q (perform exception b q).performed) (perform exception b q).bus (value_of q (perform exception b q).performed) (perform_all exception tick (perform exception b q).bus qs)
+front : (exception tick : ℕ) (b : Bus) (q : Request) (qs : List Request)
+    → perform_all exception tick b (q ∷ qs)
+    ≡ followed (told tick q (perform exception b q).performed) (perform exception b q).bus
+    (value_of q (perform exception b q).performed) (perform_all exception tick (perform exception b q).bus qs)
 unfolding perform_all
 front exception tick b q qs = refl
 
-none_left : (exception tick : ℕ) (b : Bus) → perform_all exception tick b [] ≡ record { bus = b; events = []; values = []; failure = None }
+none_left : (exception tick : ℕ) (b : Bus)
+    → perform_all exception tick b [] ≡ record { bus = b; events = []; values = []; failure = None }
 unfolding perform_all
 none_left exception tick b = refl
 
-followed_on : (events : List Event) (values : List ℕ) (lines : List Event) (after : Bus) (value : ℕ) (rest : Served) → behind events values (followed lines after (Ok value) rest) ≡ behind (events ++ lines) (values ++ value ∷ []) rest
+followed_on : (events : List Event) (values : List ℕ) (lines : List Event) (after : Bus) (value : ℕ) (rest : Served)
+    → behind events values (followed lines after (Ok value) rest) ≡ behind (events ++ lines) (values ++ value ∷ []) rest
 followed_on events values lines after value rest =
     rw (append_assoc events lines rest.events, append_assoc values (value ∷ []) rest.values) refl
 
 -- one access more was carried out
-pub one_more : (exception tick : ℕ) (b : Bus) (requests : List Request) (i value : ℕ) (d : Request) (events : List Event) (values : List ℕ) → i < length requests → value_of (get_or requests i d) (perform exception b (get_or requests i d)).performed ≡ Ok value → behind events values (perform_all exception tick b (drop i requests)) ≡ behind (events ++ told tick (get_or requests i d) (perform exception b (get_or requests i d)).performed) (values ++ value ∷ []) (perform_all exception tick (perform exception b (get_or requests i d)).bus (drop (i + 1) requests))
+pub one_more : (exception tick : ℕ) (b : Bus) (requests : List Request) (i value : ℕ) (d : Request)
+    (events : List Event) (values : List ℕ) → i < length requests
+    → value_of (get_or requests i d) (perform exception b (get_or requests i d)).performed ≡ Ok value
+    → behind events values (perform_all exception tick b (drop i requests))
+    ≡ behind (events ++ told tick (get_or requests i d) (perform exception b (get_or requests i d)).performed)
+    (values ++ value ∷ []) (perform_all exception tick (perform exception b (get_or requests i d)).bus
+    (drop (i + 1) requests))
 one_more exception tick b requests i value d events values below went =
     rw (drop-cons requests i d below, add-one, front, went)
-    (followed_on events values (told tick (get_or requests i d) (perform exception b (get_or requests i d)).performed) (perform exception b (get_or requests i d)).bus value (perform_all exception tick (perform exception b (get_or requests i d)).bus (drop (suc i) requests)))
+    (followed_on events values (told tick (get_or requests i d) (perform exception b (get_or requests i d)).performed)
+    (perform exception b (get_or requests i d)).bus value
+    (perform_all exception tick (perform exception b (get_or requests i d)).bus (drop (suc i) requests)))
 
 -- an access failed: the list ends with it
-pub ended_early : (exception tick : ℕ) (b : Bus) (requests : List Request) (i : ℕ) (d : Request) (why : Failure) (events : List Event) (values : List ℕ) (all : Served) → i < length requests → value_of (get_or requests i d) (perform exception b (get_or requests i d)).performed ≡ Err why → behind events values (perform_all exception tick b (drop i requests)) ≡ all → ((perform exception b (get_or requests i d)).bus ≡ all.bus) × (events ++ told tick (get_or requests i d) (perform exception b (get_or requests i d)).performed ≡ all.events) × (all.failure ≡ Some why)
+pub ended_early : (exception tick : ℕ) (b : Bus) (requests : List Request) (i : ℕ) (d : Request) (why : Failure)
+    (events : List Event) (values : List ℕ) (all : Served) → i < length requests
+    → value_of (get_or requests i d) (perform exception b (get_or requests i d)).performed ≡ Err why
+    → behind events values (perform_all exception tick b (drop i requests)) ≡ all
+    → ((perform exception b (get_or requests i d)).bus ≡ all.bus)
+    × (events ++ told tick (get_or requests i d) (perform exception b (get_or requests i d)).performed ≡ all.events)
+    × (all.failure ≡ Some why)
 ended_early exception tick b requests i d why events values all below failed rest =
     let whole = rw (drop-cons requests i d below, front, failed) at rest in
     (ap (λ (s : Served). s.bus) whole, ap (λ (s : Served). s.events) whole, sym (ap (λ (s : Served). s.failure) whole))
 
 -- no access is left
-pub all_served : (exception tick : ℕ) (b : Bus) (requests : List Request) (i : ℕ) (events : List Event) (values : List ℕ) (all : Served) → length requests ≤ i → behind events values (perform_all exception tick b (drop i requests)) ≡ all → (b ≡ all.bus) × (events ≡ all.events) × (values ≡ all.values) × (all.failure ≡ None)
+pub all_served : (exception tick : ℕ) (b : Bus) (requests : List Request) (i : ℕ) (events : List Event)
+    (values : List ℕ) (all : Served) → length requests ≤ i
+    → behind events values (perform_all exception tick b (drop i requests)) ≡ all
+    → (b ≡ all.bus) × (events ≡ all.events) × (values ≡ all.values) × (all.failure ≡ None)
 all_served exception tick b requests i events values all past rest =
     let whole = rw (drop_of_length-le requests past, none_left, append-nil events, append-nil values) at rest in (
       ap (λ (s : Served). s.bus) whole,

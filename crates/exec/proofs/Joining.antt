@@ -1,5 +1,6 @@
 -- The values that were read, joined from the last one on.
-use Rattle.std.proofs.Common.{Bool, true, false, ◌≡◌, ℕ, suc, ◌+◌, ◌*◌, ◌%◌, ◌^◌, ◌<◌, List, [], ◌∷◌, length, drop, get_or, refl, arith}
+use Rattle.std.proofs.Common.{Bool, true, false, ◌≡◌, ℕ, suc, ◌+◌, ◌*◌, ◌%◌, ◌^◌, ◌<◌, List, [], ◌∷◌, length, drop}
+use Rattle.std.proofs.Common.{get_or, refl, arith}
 use Rattle.std.proofs.Math.Seq.{drop-cons, drop-length}
 use Rattle.std.specs.Prelude.{nat_lt, if◌then◌else◌}
 use Rattle.reference.specs.Fields.{extended}
@@ -18,7 +19,9 @@ unfolding joined
 front_joined value values = refl
 
 -- the one at a place comes before those that are joined
-pub next_joined : (values : List ℕ) (place number d : ℕ) → place < length values → number ≡ joined (drop (suc place) values) → (number * 256 % 2 ^ 32 + get_or values place d) % 2 ^ 32 ≡ joined (drop place values)
+pub next_joined : (values : List ℕ) (place number d : ℕ) → place < length values
+    → number ≡ joined (drop (suc place) values)
+    → (number * 256 % 2 ^ 32 + get_or values place d) % 2 ^ 32 ≡ joined (drop place values)
 next_joined values place number d below e =
     rw (drop-cons values place d below, front_joined, e, sum_joined) refl
 

@@ -1,5 +1,6 @@
 -- The registers of a list, one number after the other.
-use Rattle.std.proofs.Common.{◌≡◌, ℕ, suc, ◌+◌, ◌-◌, ◌<◌, true, false, List, [], ◌∷◌, ◌++◌, length, drop, slice_index, refl, sym, ap, append_assoc, append-nil, ◌∙◌, arith}
+use Rattle.std.proofs.Common.{◌≡◌, ℕ, suc, ◌+◌, ◌-◌, ◌<◌, true, false, List, [], ◌∷◌, ◌++◌, length, drop, slice_index}
+use Rattle.std.proofs.Common.{refl, sym, ap, append_assoc, append-nil, ◌∙◌, arith}
 use Rattle.std.specs.List.{filter, range_with_len}
 use Rattle.std.proofs.lemmas.List.{drop-drop, get_or-drop}
 use Rattle.reference.specs.declared.access.Kind.{Kind}
@@ -27,14 +28,16 @@ from_top list top =
     rw e refl
 
 -- one that the list has comes first
-pub listed : (list low top : ℕ) → low < top → is_bit list low ≡ true → registers_between list low top ≡ low ∷ registers_between list (low + 1) top
+pub listed : (list low top : ℕ) → low < top → is_bit list low ≡ true
+    → registers_between list low top ≡ low ∷ registers_between list (low + 1) top
 unfolding registers_between
 listed list low top below has =
     let e : top - low ≡ suc (top - (low + 1)) = omega arith in
     rw (e, has) refl
 
 -- one that it hasn't is passed over
-pub unlisted : (list low top : ℕ) → low < top → is_bit list low ≡ false → registers_between list low top ≡ registers_between list (low + 1) top
+pub unlisted : (list low top : ℕ) → low < top → is_bit list low ≡ false
+    → registers_between list low top ≡ registers_between list (low + 1) top
 unfolding registers_between
 unlisted list low top below has =
     let e : top - low ≡ suc (top - (low + 1)) = omega arith in
@@ -43,7 +46,9 @@ unlisted list low top below has =
 -- ---- accesses
 
 -- what the first register makes
-requests_of_one : (kind : Kind) (address n : ℕ) (ns : List ℕ) (r : Registers) → word_requests kind address (n ∷ ns) r ≡ word_request kind address n r ∷ word_requests kind (word_sum address 4) ns r
+requests_of_one : (kind : Kind) (address n : ℕ) (ns : List ℕ) (r : Registers)
+    → word_requests kind address (n ∷ ns) r ≡ word_request kind address n r
+    ∷ word_requests kind (word_sum address 4) ns r
 unfolding word_requests
 requests_of_one kind address n ns r = refl
 
@@ -61,20 +66,25 @@ first_request kind address list r = rw (from_0 list 16) refl
 pub last_request : (kind : Kind) (address list low : ℕ) (r : Registers) (items whole : List Request) → low ≡ 16 →
     items ++ word_requests kind address (registers_between list low 16) r ≡ whole → items ≡ whole
 last_request kind address list low r items whole end all =
-    let none : word_requests kind address (registers_between list low 16) r ≡ [] = rw (end, from_top list 16, requests_of_none) refl in
+    let none : word_requests kind address (registers_between list low 16) r ≡ [] =
+    rw (end, from_top list 16, requests_of_none) refl in
     sym (append-nil items) ∙ ap (λ rest. items ++ rest) (sym none) ∙ all
 
 -- a register that the list has makes one
-pub listed_request : (kind : Kind) (address list low : ℕ) (r : Registers) (items : List Request) → low < 16 → is_bit list low ≡ true →
-    (items ++ word_request kind address low r ∷ []) ++ word_requests kind (word_sum address 4) (registers_between list (low + 1) 16) r
+pub listed_request : (kind : Kind) (address list low : ℕ) (r : Registers) (items : List Request) → low < 16
+    → is_bit list low ≡ true →
+    (items ++ word_request kind address low r ∷ [])
+    ++ word_requests kind (word_sum address 4) (registers_between list (low + 1) 16) r
     ≡ items ++ word_requests kind address (registers_between list low 16) r
 listed_request kind address list low r items below has =
     rw (listed list low 16 below has, requests_of_one)
-    (append_assoc items (word_request kind address low r ∷ []) (word_requests kind (word_sum address 4) (registers_between list (low + 1) 16) r))
+    (append_assoc items (word_request kind address low r ∷ [])
+    (word_requests kind (word_sum address 4) (registers_between list (low + 1) 16) r))
 
 -- one that it hasn't makes none
 pub unlisted_request : (kind : Kind) (address list low : ℕ) (r : Registers) → low < 16 → is_bit list low ≡ false →
-    word_requests kind address (registers_between list (low + 1) 16) r ≡ word_requests kind address (registers_between list low 16) r
+    word_requests kind address (registers_between list (low + 1) 16) r
+    ≡ word_requests kind address (registers_between list low 16) r
 unlisted_request kind address list low r below has = rw (unlisted list low 16 below has) refl
 
 pub ruleset request_lemmas = (first_request, listed_request, unlisted_request)
@@ -82,7 +92,8 @@ pub ruleset request_lemmas = (first_request, listed_request, unlisted_request)
 -- ---- values
 
 -- the first register is given the first value
-loaded_one : (n : ℕ) (ns values : List ℕ) (r : Registers) → loaded (n ∷ ns) values r ≡ loaded ns (drop 1 values) (with_register r n (slice_index values 0))
+loaded_one : (n : ℕ) (ns values : List ℕ) (r : Registers)
+    → loaded (n ∷ ns) values r ≡ loaded ns (drop 1 values) (with_register r n (slice_index values 0))
 unfolding loaded
 loaded_one n ns values r = refl
 
@@ -102,7 +113,8 @@ last_loaded list values r = rw (from_top list 15, loaded_none) refl
 
 -- a register that the list has is given the next value
 pub listed_loaded : (list low place : ℕ) (values : List ℕ) (r : Registers) → low < 15 → is_bit list low ≡ true →
-    loaded (registers_between list (low + 1) 15) (drop (place + 1) values) (with_register r low (slice_index values place))
+    loaded (registers_between list (low + 1) 15) (drop (place + 1) values)
+    (with_register r low (slice_index values place))
     ≡ loaded (registers_between list low 15) (drop place values) r
 listed_loaded list low place values r below has =
     let behind : drop 1 (drop place values) ≡ drop (place + 1) values = drop-drop 1 place values in
@@ -135,4 +147,13 @@ pub unlisted_count : (list low : ℕ) → low < 15 → is_bit list low ≡ false
     length (registers_between list (low + 1) 15) ≡ length (registers_between list low 15)
 unlisted_count list low below has = rw (unlisted list low 15 below has) refl
 
-pub ruleset loaded_lemmas = (first_loaded, last_loaded, listed_loaded, unlisted_loaded, first_count, last_count, listed_count, unlisted_count)
+pub ruleset loaded_lemmas = (
+  first_loaded,
+  last_loaded,
+  listed_loaded,
+  unlisted_loaded,
+  first_count,
+  last_count,
+  listed_count,
+  unlisted_count,
+)

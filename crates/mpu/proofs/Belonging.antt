@@ -1,5 +1,6 @@
 -- The search finds the highest region that an address lies in, and nothing else is that region.
-use Rattle.std.proofs.Common.{◌≡◌, ℕ, zero, suc, ◌<◌, ◌≤◌, ◌⊎◌, ◌↔◌, true, false, Bool, if◌then◌else◌, Option, Some, None, arith, refl, ap, inl, inr, below_more}
+use Rattle.std.proofs.Common.{◌≡◌, ℕ, zero, suc, ◌<◌, ◌≤◌, ◌⊎◌, ◌↔◌, true, false, Bool, if◌then◌else◌, Option, Some}
+use Rattle.std.proofs.Common.{None, arith, refl, ap, inl, inr, below_more}
 use Rattle.std.proofs.lemmas.Bool.{cases_lt}
 use Rattle.std.proofs.lemmas.Bool.Decides.{nat_tests}
 use Rattle.reference.specs.declared.mpu.Region.{Region}

@@ -1,11 +1,13 @@
 -- Blocks of addresses, of which a region has all or none.
-use Rattle.std.proofs.Common.{pow_pos, ◌≡◌, ℕ, zero, suc, ◌+◌, ◌-◌, ◌*◌, ◌/◌, ◌%◌, ◌^◌, ◌<◌, ◌≤◌, ◌⊎◌, Bool, true, false, not, ◌&&◌, ◌==◌, nat_le, if◌then◌else◌, arith, refl, sym, ap, ◌∙◌, inl, inr}
+use Rattle.std.proofs.Common.{pow_pos, ◌≡◌, ℕ, zero, suc, ◌+◌, ◌-◌, ◌*◌, ◌/◌, ◌%◌, ◌^◌, ◌<◌, ◌≤◌, ◌⊎◌, Bool, true}
+use Rattle.std.proofs.Common.{false, not, ◌&&◌, ◌==◌, nat_le, if◌then◌else◌, arith, refl, sym, ap, ◌∙◌, inl, inr}
 use Rattle.std.proofs.lemmas.Bool.Decides.{nat_tests}
 use Rattle.std.proofs.lemmas.Bool.{leb-true, eqb-true, eq-eqb, cases_lt}
 use Rattle.reference.specs.Words.{is_bit}
 use Rattle.std.proofs.lemmas.Nat.{div_below, le-div, shr-shr}
 use Rattle.reference.specs.declared.mpu.Region.{Region}
-use Rattle.reference.specs.Regions.{Mpu, region, matches, agrees, subregion, is_switched_off, is_enabled, size, switched_off, owner, owner_below}
+use Rattle.reference.specs.Regions.{Mpu, region, matches, agrees, subregion, is_switched_off, is_enabled, size}
+use Rattle.reference.specs.Regions.{switched_off, owner, owner_below}
 use Rattle.mpu.specs.Spans.{BelongTo, grain}
 
 -- the addresses of a block have the same upper bits

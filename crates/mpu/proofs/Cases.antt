@@ -1,12 +1,16 @@
 -- The decision is by the first case of the table that fits, and nothing else is.
-use Rattle.std.proofs.Common.{◌≡◌, ℕ, ◌<◌, ◌≤◌, ◌⊎◌, ◌↔◌, true, false, not, Bool, if◌then◌else◌, ◌==◌, ◌+◌, subst, Option, Some, None, arith, refl, sym, ap, ◌∙◌, inl, inr}
+use Rattle.std.proofs.Common.{◌≡◌, ℕ, ◌<◌, ◌≤◌, ◌⊎◌, ◌↔◌, true, false, not, Bool, if◌then◌else◌, ◌==◌, ◌+◌, subst}
+use Rattle.std.proofs.Common.{Option, Some, None, arith, refl, sym, ap, ◌∙◌, inl, inr}
 use Rattle.std.proofs.lemmas.Bool.{cases_lt, eqb-true, eq-eqb}
 use Rattle.reference.specs.declared.access.Decision.{Decision}
 use Rattle.reference.specs.declared.access.Rule.{Rule}
-use Rattle.reference.specs.declared.access.Rule.TheVariants.{NeverExecute, VectorRead, PrivatePeripheralBus, MpuOff, NegativePriority, Region, Background, NoRegion}
+use Rattle.reference.specs.declared.access.Rule.TheVariants.{NeverExecute, VectorRead, PrivatePeripheralBus, MpuOff}
+use Rattle.reference.specs.declared.access.Rule.TheVariants.{NegativePriority, Region, Background, NoRegion}
 use Rattle.reference.specs.Kinds.{is_vector}
 use Rattle.reference.specs.Regions.{Mpu, owner, is_on, IsOwner}
-use Rattle.reference.specs.Rules.{default_map, Asked, Fits, IsFirstFit, place, granted_to, before_regions, by_owner, first_of_two, decision_of, is_never_executed, is_ppb_data, is_off_below_zero, is_background}
+use Rattle.reference.specs.Rules.{default_map, Asked, Fits, IsFirstFit, place, granted_to, before_regions, by_owner}
+use Rattle.reference.specs.Rules.{first_of_two, decision_of, is_never_executed, is_ppb_data, is_off_below_zero}
+use Rattle.reference.specs.Rules.{is_background}
 use Rattle.mpu.proofs.Belonging.{only_owner, owner_is}
 
 -- ---- rules by their places
@@ -55,7 +59,8 @@ Missed m q n = (r : Rule) → place r < n → Fits m q r → ⊥
 nothing_above : (m : Mpu) (q : Asked) → Missed m q 0
 nothing_above m q r above f = omega arith
 
-and_rule : (m : Mpu) (q : Asked) (s : Rule) → (place s ≡ 5 → ⊥) → Missed m q (place s) → (Fits m q s → ⊥) → Missed m q (place s + 1)
+and_rule : (m : Mpu) (q : Asked) (s : Rule) → (place s ≡ 5 → ⊥) → Missed m q (place s) → (Fits m q s → ⊥)
+    → Missed m q (place s + 1)
 and_rule m q s h before here r above f = lead (cases_lt (place r) (place s))
   where
     lead : ((place r < place s) ⊎ (place s ≤ place r)) → ⊥
@@ -81,7 +86,8 @@ unlike_too : (b : Bool) → b ≡ true → b ≡ false → ⊥
 unlike_too b e f = unlike b f e
 
 behind : (m : Mpu) (q : Asked) (b : Bool) → is_background m.control q.privileged ≡ b → Missed m q 6
-    → IsFirstFit m q (if b then record { rule = Background; granted = default_map q.address q.kind } else record { rule = NoRegion; granted = false })
+    → IsFirstFit m q (if b then record { rule = Background; granted = default_map q.address q.kind }
+    else record { rule = NoRegion; granted = false })
 behind m q true e missed = record { fits = e; first = missed; granted = refl }
 behind m q false e missed = record {
   fits = tt;

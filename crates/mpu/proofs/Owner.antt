@@ -1,5 +1,6 @@
 -- One look of the search, from the highest region downward.
-use Rattle.std.proofs.Common.{◌≡◌, ℕ, zero, suc, ◌-◌, ◌<◌, ◌≤◌, true, false, Bool, if◌then◌else◌, Some, None, arith, refl, sym, ap}
+use Rattle.std.proofs.Common.{◌≡◌, ℕ, zero, suc, ◌-◌, ◌<◌, ◌≤◌, true, false, Bool, if◌then◌else◌, Some, None, arith}
+use Rattle.std.proofs.Common.{refl, sym, ap}
 use Rattle.reference.specs.Regions.{Mpu, region, matches, owner_below}
 
 step-found : (m : Mpu) (a k : ℕ) → matches (region m k) a ≡ true → owner_below m a (suc k) ≡ Some k
@@ -14,7 +15,8 @@ pub found : (m : Mpu) (a n : ℕ) → 0 < n → matches (region m (n - 1)) a ≡
 found m a zero some hit = absurd (let wrong : ⊥ = omega arith in wrong)
 found m a (suc n) some hit = let e : suc n - 1 ≡ n = omega arith in rw e (step-found m a n (rw e at hit))
 
-pub passed : (m : Mpu) (a n : ℕ) → 0 < n → matches (region m (n - 1)) a ≡ false → owner_below m a (n - 1) ≡ owner_below m a n
+pub passed : (m : Mpu) (a n : ℕ) → 0 < n → matches (region m (n - 1)) a ≡ false
+    → owner_below m a (n - 1) ≡ owner_below m a n
 passed m a zero some miss = absurd (let wrong : ⊥ = omega arith in wrong)
 passed m a (suc n) some miss = let e : suc n - 1 ≡ n = omega arith in rw e (sym (step-passed m a n (rw e at miss)))
 

@@ -1,12 +1,14 @@
 -- The registers are sound after a reset, and stay so after each write.
-use Rattle.std.proofs.Common.{◌≡◌, ℕ, zero, suc, ◌*◌, ◌/◌, ◌%◌, ◌<◌, ◌⊎◌, true, false, not, ◌&&◌, Bool, nat_lt, if◌then◌else◌, replicate, slice_index_or, Result, Ok, Err, refl, arith, inl, inr}
+use Rattle.std.proofs.Common.{◌≡◌, ℕ, zero, suc, ◌*◌, ◌/◌, ◌%◌, ◌<◌, ◌⊎◌, true, false, not, ◌&&◌, Bool, nat_lt}
+use Rattle.std.proofs.Common.{if◌then◌else◌, replicate, slice_index_or, Result, Ok, Err, refl, arith, inl, inr}
 use Rattle.std.proofs.lemmas.Bool.{ltb-true}
 use Rattle.reference.specs.declared.mpu.MpuRegister.{MpuRegister}
 use Rattle.reference.specs.declared.mpu.MpuRegister.TheVariants as register
 use Rattle.reference.specs.declared.mpu.MpuStop.{MpuStop}
 use Rattle.reference.specs.declared.mpu.MpuStop.TheVariants as stop
 use Rattle.reference.specs.declared.mpu.Region.{Region}
-use Rattle.reference.specs.Regions.{Mpu, IsSound, region, empty, fresh, write, write_base, left, selected, based, with_attributes, kept, is_taken, is_on, is_on_below_zero}
+use Rattle.reference.specs.Regions.{Mpu, IsSound, region, empty, fresh, write, write_base, left, selected, based}
+use Rattle.reference.specs.Regions.{with_attributes, kept, is_taken, is_on, is_on_below_zero}
 use Rattle.reference.specs.Words.{is_bit}
 use Rattle.mpu.proofs.Sound.{with_region-sound}
 
@@ -30,13 +32,16 @@ selected-sound m k s = left-taken m (record m { number = k }) (nat_lt k m.count)
   taken = s.taken;
 })
 
-based-sound : (m : Mpu) (r : Result Mpu MpuStop) (value : ℕ) → IsSound m → IsSound (left m r) → IsSound (left m (based r value))
+based-sound : (m : Mpu) (r : Result Mpu MpuStop) (value : ℕ) → IsSound m → IsSound (left m r)
+    → IsSound (left m (based r value))
 based-sound m (Ok n) value s t =
-    with_region-sound n n.number (record (region n n.number) { base = value / 32 * 32 }) t (omega arith) (t.taken n.number)
+    with_region-sound n n.number (record (region n n.number) { base = value / 32 * 32 }) t (omega arith)
+    (t.taken n.number)
 based-sound m (Err why) value s t = s
 
 write_base-sound : (m : Mpu) (value : ℕ) → IsSound m → IsSound (left m (write_base m value))
-write_base-sound m value s = based-sound m (if is_bit value 4 then selected m (value % 16) else Ok m) value s (lead (is_bit value 4))
+write_base-sound m value s = based-sound m (if is_bit value 4 then selected m (value % 16) else Ok m) value s
+    (lead (is_bit value 4))
   where
     lead : (b : Bool) → IsSound (left m (if b then selected m (value % 16) else Ok m))
     lead true = selected-sound m (value % 16) s
@@ -46,7 +51,8 @@ pub sound_after_write : (m : Mpu) (r : MpuRegister) (value : ℕ) → IsSound m 
 unfolding write
 sound_after_write m register.Type value s = s
 sound_after_write m register.Control value s =
-    left-stopped m (record m { control = value % 8 }) (is_on_below_zero value && not (is_on value)) stop.Control s (record {
+    left-stopped m (record m { control = value % 8 }) (is_on_below_zero value && not (is_on value)) stop.Control s
+    (record {
       count_known = s.count_known;
       number_within = s.number_within;
       control_small = omega arith;

@@ -1,15 +1,18 @@
 -- FAULTMASK, NMI and HardFault alone bring the execution priority below 0.
-use Rattle.std.proofs.Common.{◌≡◌, ℕ, zero, suc, ◌≤◌, min, Bool, true, false, ◌||◌, if◌then◌else◌, slice_index, refl, arith}
+use Rattle.std.proofs.Common.{◌≡◌, ℕ, zero, suc, ◌≤◌, min, Bool, true, false, ◌||◌, if◌then◌else◌, slice_index, refl}
+use Rattle.std.proofs.Common.{arith}
 use Rattle.std.proofs.lemmas.Bool.Decides.{nat_tests}
 use Rattle.reference.specs.declared.exception.TheConstants.{NMI, HARD_FAULT, EXCEPTIONS}
-use Rattle.reference.specs.Priorities.{Nvic, is_in, is_negative, is_below_zero, fixed_or, of_byte, grouped, group_priority, lessened, least_active, boosted, execution_priority}
+use Rattle.reference.specs.Priorities.{Nvic, is_in, is_negative, is_below_zero, fixed_or, of_byte, grouped}
+use Rattle.reference.specs.Priorities.{group_priority, lessened, least_active, boosted, execution_priority}
 use Rattle.nvic.proofs.Least.{at_most_active}
 
 -- another exception than NMI and HardFault has a priority of 0 or more
 fixed_high : (x other : ℕ) → (x ≡ NMI → ⊥) → (x ≡ HARD_FAULT → ⊥) → 2 ≤ fixed_or x (of_byte other)
 fixed_high x other f g = grind (arith, nat_tests)
 
-lessened_high : (n : Nvic) (x p : ℕ) → is_in n.active NMI ≡ false → is_in n.active HARD_FAULT ≡ false → 2 ≤ p → 2 ≤ lessened n x p
+lessened_high : (n : Nvic) (x p : ℕ) → is_in n.active NMI ≡ false → is_in n.active HARD_FAULT ≡ false → 2 ≤ p
+    → 2 ≤ lessened n x p
 lessened_high n x p f g h = split (is_in n.active x) refl
   where
     split : (b : Bool) → is_in n.active x ≡ b → 2 ≤ (if b then min (group_priority n x) p else p)
@@ -45,7 +48,8 @@ below_zero n = split n.masks.faultmask (is_in n.active NMI) (is_in n.active HARD
         → is_negative (min (least_active n EXCEPTIONS) (boosted n.group n.masks)) ≡ (f || a || b)
     split true a b e i j = let h = masked_low n e in is_low _ (omega (arith, h))
     split false true b e i j = let h = at_most_active n EXCEPTIONS NMI (omega arith) i in is_low _ (omega (arith, h))
-    split false false true e i j = let h = at_most_active n EXCEPTIONS HARD_FAULT (omega arith) j in is_low _ (omega (arith, h))
+    split false false true e i j = let h = at_most_active n EXCEPTIONS HARD_FAULT (omega arith) j in
+        is_low _ (omega (arith, h))
     split false false false e i j =
         let h = active_high n EXCEPTIONS i j in
         let k = boosted_high n e in

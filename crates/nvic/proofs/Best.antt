@@ -1,11 +1,13 @@
 -- The best of the exceptions that are pending and enabled, and the candidate.
-use Rattle.std.proofs.Common.{◌≡◌, ℕ, zero, suc, ◌+◌, ◌*◌, ◌/◌, ◌^◌, ◌<◌, ◌≤◌, ◌⊎◌, ◌↔◌, inr, Bool, true, false, nat_lt, if◌then◌else◌, slice_index, Option, Some, None, refl, subst, arith, below_more}
+use Rattle.std.proofs.Common.{◌≡◌, ℕ, zero, suc, ◌+◌, ◌*◌, ◌/◌, ◌^◌, ◌<◌, ◌≤◌, ◌⊎◌, ◌↔◌, inr, Bool, true, false, nat_lt}
+use Rattle.std.proofs.Common.{if◌then◌else◌, slice_index, Option, Some, None, refl, subst, arith, below_more}
 use Rattle.std.proofs.Math.Nat.{div-mul-le_self, mul-le-mul_right}
 use Rattle.std.proofs.lemmas.Nat.{le-div, pow_pos}
 use Rattle.std.proofs.lemmas.Bool.{ltb-true, ltb-false}
 use Rattle.std.proofs.lemmas.Bool.Decides.{nat_tests}
 use Rattle.reference.specs.declared.exception.TheConstants.{EXCEPTIONS}
-use Rattle.reference.specs.Priorities.{Nvic, is_ready, priority_of, group_priority, execution_priority, better_of, with_ready, best_below, best, candidate, grouped, fixed_or, of_byte, if_preempts}
+use Rattle.reference.specs.Priorities.{Nvic, is_ready, priority_of, group_priority, execution_priority, better_of}
+use Rattle.reference.specs.Priorities.{with_ready, best_below, best, candidate, grouped, fixed_or, of_byte, if_preempts}
 use Rattle.nvic.specs.Laws.{IsBest, IsCandidate}
 
 -- the same, of the exceptions below k, for any test and any key
@@ -41,8 +43,12 @@ taken test key k (Some x) before here = lead (nat_lt (key k) (key x)) refl
       or_last (λ y. test y ≡ true → Precedes key k y) k
           (λ y h t. let p = before.2 y h t in grind (arith, nat_tests)) (λ _. inr (refl, omega arith)),
     )
-    lead false e =
-        (omega arith, before.1, or_last (λ y. test y ≡ true → Precedes key x y) k before.2 (λ _. grind (arith, nat_tests)))
+    lead false e = (
+      omega arith,
+      before.1,
+      or_last (λ y. test y ≡ true → Precedes key x y) k before.2
+          (λ _. grind (arith, nat_tests)),
+    )
 
 left : (test : ℕ → Bool) (key : ℕ → ℕ) (k : ℕ) (o : Option ℕ)
     → IsFirst test key k o → test k ≡ false → IsFirst test key (suc k) o
@@ -111,10 +117,12 @@ preempting : (n : Nvic) (o : Option ℕ) → IsBest n o → IsCandidate n (if_pr
 preempting n None f = λ y r. absurd (f y r)
 preempting n (Some x) f = split (nat_lt (group_priority n x) (execution_priority n)) refl
   where
-    split : (b : Bool) → nat_lt (group_priority n x) (execution_priority n) ≡ b → IsCandidate n (if b then Some x else None)
+    split : (b : Bool) → nat_lt (group_priority n x) (execution_priority n) ≡ b
+        → IsCandidate n (if b then Some x else None)
     split true e = (f, ltb-true (group_priority n x) (execution_priority n) e)
     split false e = λ y r.
-        let above : execution_priority n ≤ group_priority n x = ltb-false (group_priority n x) (execution_priority n) e in
+        let above : execution_priority n ≤ group_priority n x =
+        ltb-false (group_priority n x) (execution_priority n) e in
         let first = f.1 y r in
         let order : priority_of n x ≤ priority_of n y = omega (arith, first) in
         let more = group_order n x y order in

@@ -1,9 +1,12 @@
 -- Each change leaves the sets and the bytes as the board has them.
-use Rattle.std.proofs.Common.{◌≡◌, ℕ, zero, suc, ◌-◌, ◌*◌, ◌/◌, ◌^◌, min, Bool, true, false, if◌then◌else◌, List, [], ◌∷◌, replicate, get_or, set, slice_index, slice_set, refl, ◌∙◌, ap, arith}
+use Rattle.std.proofs.Common.{◌≡◌, ℕ, zero, suc, ◌-◌, ◌*◌, ◌/◌, ◌^◌, min, Bool, true, false, if◌then◌else◌, List, []}
+use Rattle.std.proofs.Common.{◌∷◌, replicate, get_or, set, slice_index, slice_set, refl, ◌∙◌, ap, arith}
 use Rattle.std.proofs.lemmas.List.{length-set, length-replicate}
 use Rattle.std.proofs.lemmas.Nat.{pow_pos}
 use Rattle.std.proofs.Math.Nat.{mul-div_left, zero-div, zero-mul}
-use Rattle.reference.specs.Priorities.{Nvic, is_due, is_exception, is_switched, has_byte, kept, with_member, with_pending, with_active, with_enabled, with_priority, with_group, with_primask, with_faultmask, with_basepri, with_due_at, with_due_below, with_due, reset_nvic}
+use Rattle.reference.specs.Priorities.{Nvic, is_due, is_exception, is_switched, has_byte, kept, with_member}
+use Rattle.reference.specs.Priorities.{with_pending, with_active, with_enabled, with_priority, with_group, with_primask}
+use Rattle.reference.specs.Priorities.{with_faultmask, with_basepri, with_due_at, with_due_below, with_due, reset_nvic}
 use Rattle.reference.specs.declared.exception.TheConstants.{EXCEPTIONS, MOST_LINES}
 use Rattle.nvic.specs.Laws.{IsSetOf, AreKept, IsOfBoard}
 
@@ -26,7 +29,8 @@ same_each (suc n) v (suc j) = same_each n v j
 
 -- ---- sets and bytes
 
-set_of : (test : ℕ → Bool) (s : List Bool) (x : ℕ) (on : Bool) → test x ≡ true → IsSetOf test s → IsSetOf test (slice_set s x on)
+set_of : (test : ℕ → Bool) (s : List Bool) (x : ℕ) (on : Bool) → test x ≡ true → IsSetOf test s
+    → IsSetOf test (slice_set s x on)
 set_of test s x on t h = record {
   places = length-set s x on ∙ h.places;
   members = at_each (λ y b. b ≡ true → test y ≡ true) s x on false (λ _. t) h.members;

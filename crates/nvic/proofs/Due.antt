@@ -1,9 +1,11 @@
 -- What is pending after all that are due have become so.
-use Rattle.std.proofs.Common.{◌≡◌, ℕ, zero, suc, ◌<◌, ◌≤◌, Bool, true, false, ◌&&◌, ◌||◌, if◌then◌else◌, List, length, set, refl, sym, ◌∙◌, ap, arith}
+use Rattle.std.proofs.Common.{◌≡◌, ℕ, zero, suc, ◌<◌, ◌≤◌, Bool, true, false, ◌&&◌, ◌||◌, if◌then◌else◌, List, length}
+use Rattle.std.proofs.Common.{set, refl, sym, ◌∙◌, ap, arith}
 use Rattle.std.proofs.Math.Bool.{or-true, or-false}
 use Rattle.std.proofs.lemmas.List.{length-set, get_or-set_same, get_or-set_other}
 use Rattle.reference.specs.declared.exception.TheConstants.{EXCEPTIONS}
-use Rattle.reference.specs.Priorities.{Nvic, is_in, is_due, is_exception, with_pending, with_due_at, with_due_below, with_due}
+use Rattle.reference.specs.Priorities.{Nvic, is_in, is_due, is_exception, with_pending, with_due_at, with_due_below}
+use Rattle.reference.specs.Priorities.{with_due}
 use Rattle.nvic.proofs.Best.{or_last}
 use Rattle.nvic.specs.Laws.{AddsDue}
 

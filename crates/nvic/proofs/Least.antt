@@ -1,9 +1,11 @@
 -- The execution priority is the least of those at which something holds the machine.
-use Rattle.std.proofs.Common.{◌≡◌, ℕ, zero, suc, ◌<◌, ◌≤◌, ◌⊎◌, ◌↔◌, inl, inr, min, Bool, true, false, ◌==◌, if◌then◌else◌, refl, arith}
+use Rattle.std.proofs.Common.{◌≡◌, ℕ, zero, suc, ◌<◌, ◌≤◌, ◌⊎◌, ◌↔◌, inl, inr, min, Bool, true, false, ◌==◌}
+use Rattle.std.proofs.Common.{if◌then◌else◌, refl, arith}
 use Rattle.std.proofs.lemmas.Bool.{eqb-false}
 use Rattle.std.proofs.lemmas.Bool.Decides.{nat_tests}
 use Rattle.reference.specs.declared.exception.TheConstants.{EXCEPTIONS}
-use Rattle.reference.specs.Priorities.{Nvic, hard_fault_priority, is_in, of_byte, grouped, lowest, group_priority, lessened, least_active, boosted, execution_priority}
+use Rattle.reference.specs.Priorities.{Nvic, hard_fault_priority, is_in, of_byte, grouped, lowest, group_priority}
+use Rattle.reference.specs.Priorities.{lessened, least_active, boosted, execution_priority}
 use Rattle.nvic.proofs.Best.{or_last}
 use Rattle.nvic.specs.Laws.{Holds, IsLeast}
 use Rattle.nvic.specs.Laws.Holds.{nothing, handler, basepri, primask, faultmask}
@@ -37,7 +39,8 @@ lessened_here n k p e = rw e (omega arith)
 pub at_most_lowest : (n : Nvic) (k : ℕ) → least_active n k ≤ lowest
 unfolding least_active
 at_most_lowest n zero = omega arith
-at_most_lowest n (suc k) = let h = lessened_le n k (least_active n k) in let i = at_most_lowest n k in omega (arith, h, i)
+at_most_lowest n (suc k) = let h = lessened_le n k (least_active n k) in let i = at_most_lowest n k in
+    omega (arith, h, i)
 
 at_most_next : (n : Nvic) (k p : ℕ) → ((x : ℕ) → x < k → is_in n.active x ≡ true → p ≤ group_priority n x)
     → (x : ℕ) → x < suc k → is_in n.active x ≡ true → lessened n k p ≤ group_priority n x
@@ -56,7 +59,8 @@ boosted_holds : (n : Nvic) → Holds n (boosted n.group n.masks)
 boosted_holds n = split n.masks.faultmask n.masks.primask (n.masks.basepri == 0) refl refl refl
   where
     split : (f p none : Bool) → n.masks.faultmask ≡ f → n.masks.primask ≡ p → (n.masks.basepri == 0) ≡ none
-        → Holds n (if f then hard_fault_priority else if p then of_byte 0 else if none then lowest else of_byte (grouped n.group n.masks.basepri))
+        → Holds n (if f then hard_fault_priority else if p then of_byte 0 else if none then lowest
+        else of_byte (grouped n.group n.masks.basepri))
     split true p none e f g = faultmask e refl
     split false true none e f g = primask f refl
     split false false true e f g = nothing refl
@@ -82,18 +86,22 @@ below_each n q (nothing e) = let h = at_most_lowest n EXCEPTIONS in inl (omega (
 below_each n q (handler x h a e) = let i = at_most_active n EXCEPTIONS x h a in inl (omega (arith, i, e))
 below_each n q (basepri some e) =
     let none : (n.masks.basepri == 0) ≡ false = grind (arith, nat_tests) in
-    let h = under_basepri n.masks.faultmask n.masks.primask (n.masks.basepri == 0) (grouped n.group n.masks.basepri) none in
+    let h = under_basepri n.masks.faultmask n.masks.primask (n.masks.basepri == 0) (grouped n.group n.masks.basepri)
+    none in
     inr (omega (arith, h, e))
 below_each n q (primask on e) =
-    let h = under_primask n.masks.faultmask n.masks.primask (n.masks.basepri == 0) (grouped n.group n.masks.basepri) on in inr (omega (arith, h, e))
+    let h = under_primask n.masks.faultmask n.masks.primask (n.masks.basepri == 0) (grouped n.group n.masks.basepri) on
+    in inr (omega (arith, h, e))
 below_each n q (faultmask on e) =
-    let h = under_faultmask n.masks.faultmask n.masks.primask (n.masks.basepri == 0) (grouped n.group n.masks.basepri) on in inr (omega (arith, h, e))
+    let h = under_faultmask n.masks.faultmask n.masks.primask (n.masks.basepri == 0) (grouped n.group n.masks.basepri)
+    on in inr (omega (arith, h, e))
 
 -- the execution priority is the least at which something holds the machine
 least_is : (n : Nvic) → IsLeast n (execution_priority n)
 unfolding execution_priority
 least_is n = record {
-  holds = lesser_holds n (least_active n EXCEPTIONS) (boosted n.group n.masks) (held n EXCEPTIONS (omega arith)) (boosted_holds n);
+  holds = lesser_holds n (least_active n EXCEPTIONS) (boosted n.group n.masks) (held n EXCEPTIONS (omega arith))
+      (boosted_holds n);
   least = λ q h. elim (below_each n q h) [ inl i ↦ omega (arith, i) | inr i ↦ omega (arith, i) ];
 }
 

@@ -1,8 +1,12 @@
 -- What would be the candidate were PRIMASK 0.
-use Rattle.std.proofs.Common.{◌≡◌, ℕ, zero, suc, ◌<◌, ◌≤◌, ◌⊎◌, min, Bool, true, false, not, ◌&&◌, nat_lt, if◌then◌else◌, slice_index, Option, Some, None, refl, sym, ◌∙◌, ap, subst, arith}
+use Rattle.std.proofs.Common.{◌≡◌, ℕ, zero, suc, ◌<◌, ◌≤◌, ◌⊎◌, min, Bool, true, false, not, ◌&&◌, nat_lt}
+use Rattle.std.proofs.Common.{if◌then◌else◌, slice_index, Option, Some, None, refl, sym, ◌∙◌, ap, subst, arith}
 use Rattle.std.proofs.lemmas.Bool.Decides.{nat_tests}
 use Rattle.reference.specs.declared.exception.TheConstants.{NMI, EXCEPTIONS}
-use Rattle.reference.specs.Priorities.{Nvic, is_in, is_ready, is_negative, is_below_zero, fixed_or, of_byte, grouped, priority_of, group_priority, lessened, least_active, boosted, execution_priority, with_primask, with_ready, best_below, best, if_preempts, candidate, candidate_unmasked}
+use Rattle.reference.specs.Priorities.{Nvic, is_in, is_ready, is_negative, is_below_zero, fixed_or, of_byte, grouped}
+use Rattle.reference.specs.Priorities.{priority_of, group_priority, lessened, least_active, boosted, execution_priority}
+use Rattle.reference.specs.Priorities.{with_primask, with_ready, best_below, best, if_preempts, candidate}
+use Rattle.reference.specs.Priorities.{candidate_unmasked}
 use Rattle.nvic.proofs.BelowZero.{below_zero}
 use Rattle.nvic.proofs.Best.{candidate_is, only_candidate}
 use Rattle.nvic.proofs.Least.{at_most_active}
@@ -114,7 +118,8 @@ open_below_zero : (n : Nvic) → is_below_zero n ≡ true → is_below_zero (unm
 open_below_zero n h = below_zero (unmask n) ∙ sym (below_zero n) ∙ h
 
 -- below 0 only NMI can be taken, and not while it's active
-pub below_zero_nmi : (n : Nvic) → is_below_zero n ≡ true → candidate_unmasked n ≡ nmi_over (is_in n.pending NMI) (is_in n.active NMI)
+pub below_zero_nmi : (n : Nvic) → is_below_zero n ≡ true
+    → candidate_unmasked n ≡ nmi_over (is_in n.pending NMI) (is_in n.active NMI)
 unfolding candidate_unmasked
 below_zero_nmi n h =
     let low = negative_low (execution_priority (unmask n)) (open_below_zero n h) in

@@ -1,9 +1,11 @@
 -- How many exceptions are pending, and that none is the best where none is.
-use Rattle.std.proofs.Common.{◌≡◌, ℕ, zero, suc, ◌+◌, ◌/◌, ◌%◌, ◌^◌, ◌<◌, ◌≤◌, Bool, true, false, if◌then◌else◌, List, [], ◌∷◌, length, slice_set, slice_index_or, slice_index, replicate, None, refl, arith}
+use Rattle.std.proofs.Common.{◌≡◌, ℕ, zero, suc, ◌+◌, ◌/◌, ◌%◌, ◌^◌, ◌<◌, ◌≤◌, Bool, true, false, if◌then◌else◌, List}
+use Rattle.std.proofs.Common.{[], ◌∷◌, length, slice_set, slice_index_or, slice_index, replicate, None, refl, arith}
 use Rattle.std.proofs.Math.Nat.{zero-div}
 use Rattle.std.proofs.lemmas.List.Sums.{sum_by-set, sum_by-cons, count_by-le-length}
 use Rattle.reference.specs.declared.exception.TheConstants.{EXCEPTIONS}
-use Rattle.reference.specs.Priorities.{Nvic, is_in, with_ready, best_below, best, is_due, with_due_at, with_due_below, with_due}
+use Rattle.reference.specs.Priorities.{Nvic, is_in, with_ready, best_below, best, is_due, with_due_at, with_due_below}
+use Rattle.reference.specs.Priorities.{with_due}
 use Rattle.reference.specs.Words.{is_bit}
 use Rattle.nvic.proofs.Boards.{same_each}
 use Rattle.nvic.specs.Waiting.{count_in}
@@ -22,7 +24,8 @@ waiting_room s = count_by-le-length (λ b. b) s
 -- where none is, no number is in the set
 none_waiting : (s : List Bool) (x : ℕ) → count_in s ≡ 0 → is_in s x ≡ false
 none_waiting [] x e = refl
-none_waiting (true ∷ s) x e = let more : count_in (true ∷ s) ≡ 1 + count_in s = sum_by-cons weight true s in absurd (omega (arith, more, e))
+none_waiting (true ∷ s) x e = let more : count_in (true ∷ s) ≡ 1 + count_in s = sum_by-cons weight true s in
+    absurd (omega (arith, more, e))
 none_waiting (false ∷ s) zero e = refl
 none_waiting (false ∷ s) (suc x) e =
     let same : count_in (false ∷ s) ≡ 0 + count_in s = sum_by-cons weight false s in

@@ -1,6 +1,8 @@
 -- Lines that wait on a page behind the bytes that a writer took.
-use Rattle.std.proofs.Common.{◌≡◌, ℕ, suc, ◌+◌, ◌<◌, List, [], ◌∷◌, length, take, drop, Option, Result, Ok, Err, refl, sym, arith, length-append, false, true, ◌==◌}
-use Rattle.std.proofs.KnownBytes.{Appends-nil, Appends-kept, Keeps-trans, append_known-kept, append_known-moved, append_known-passed}
+use Rattle.std.proofs.Common.{◌≡◌, ℕ, suc, ◌+◌, ◌<◌, List, [], ◌∷◌, length, take, drop, Option, Result, Ok, Err, refl}
+use Rattle.std.proofs.Common.{sym, arith, length-append, false, true, ◌==◌}
+use Rattle.std.proofs.KnownBytes.{Appends-nil, Appends-kept, Keeps-trans, append_known-kept, append_known-moved}
+use Rattle.std.proofs.KnownBytes.{append_known-passed}
 use Rattle.std.proofs.lemmas.Bool.Decides.{nat_tests}
 use Rattle.std.proofs.lemmas.List.{take-append-drop, drop-drop, append-nil}
 use Rattle.std.specs.Io.KnownBytes.{Appends, Keeps, append_known}
@@ -9,7 +11,9 @@ use Rattle.reference.specs.Text.{line, lines}
 use Rattle.output.specs.Output.{IsCutShort, Took}
 
 -- the writer took n more bytes of the page
-pub moved_on : (start mid new : Option (List ℕ)) (page rest : List ℕ) (at n : ℕ) → Keeps start (append_known mid (drop at page)) → rest ≡ drop at page → Appends mid new (take n rest) → Keeps start (append_known new (drop (at + n) page))
+pub moved_on : (start mid new : Option (List ℕ)) (page rest : List ℕ) (at n : ℕ)
+    → Keeps start (append_known mid (drop at page)) → rest ≡ drop at page → Appends mid new (take n rest)
+    → Keeps start (append_known new (drop (at + n) page))
 moved_on start mid new page rest at n kept same took =
     let moved = append_known-moved mid new (take n rest) (drop n rest) rest took (sym (take-append-drop n rest)) in
     let goes : drop n rest ≡ drop (at + n) page = rw same (drop-drop n at page) in
@@ -20,17 +24,21 @@ pub emptied : (page : List ℕ) (at : ℕ) → (page ≡ []) × (at ≡ 0) → d
 emptied page at (none, start) = rw (none, start) refl
 
 -- a call below, while nothing waits
-pub passed_on : {E : Type 0} (start mid new : Option (List ℕ)) (waits bytes : List ℕ) (before now later : ℕ) (result : Result ℕ E) → Keeps start (append_known mid waits) → waits ≡ [] → now ≡ before → Took mid new now later bytes result → Took start (append_known new waits) before later bytes result
+pub passed_on : {E : Type 0} (start mid new : Option (List ℕ)) (waits bytes : List ℕ) (before now later : ℕ)
+    (result : Result ℕ E) → Keeps start (append_known mid waits) → waits ≡ [] → now ≡ before
+    → Took mid new now later bytes result → Took start (append_known new waits) before later bytes result
 passed_on start mid new waits bytes before now later (Ok taken) kept none same took = (
   took.0,
-  rw append-nil at (append_known-passed start mid new waits waits (take taken bytes) [] kept none took.1 (sym (append-nil waits))),
+  rw append-nil at (append_known-passed start mid new waits waits (take taken bytes) [] kept none took.1
+      (sym (append-nil waits))),
   rw same at took.2,
 )
 passed_on start mid new waits bytes before now later (Err fault) kept none same took =
     (Keeps-trans start _ _ kept (append_known-kept mid new waits took.0), rw same at took.1)
 
 -- no events, no lines
-pub no_lines : (old : Option (List ℕ)) (events : List Event) → true ≡ (length events == 0) → Appends old old (lines events)
+pub no_lines : (old : Option (List ℕ)) (events : List Event) → true ≡ (length events == 0)
+    → Appends old old (lines events)
 unfolding lines
 no_lines old [] e = Appends-nil old
 no_lines old (event ∷ events) e =
@@ -52,5 +60,6 @@ some_lines [] e = absurd cc
 some_lines (event ∷ events) e = simp length-append (omega arith)
 
 -- none of some lines was taken
-pub none_taken : (old new : Option (List ℕ)) (events : List Event) → false ≡ (length events == 0) → Keeps old new → IsCutShort old new (lines events)
+pub none_taken : (old new : Option (List ℕ)) (events : List Event) → false ≡ (length events == 0) → Keeps old new
+    → IsCutShort old new (lines events)
 none_taken old new events some kept = some_bytes old new (lines events) (some_lines events some) kept

@@ -1,5 +1,6 @@
 -- Bytes that went out so far: a loop over calls of `put`.
-use Rattle.std.proofs.Common.{◌≡◌, ℕ, suc, ◌+◌, ◌<◌, List, [], ◌∷◌, ◌++◌, length, take, drop, Option, refl, sym, ◌∙◌, subst, append_assoc, arith, if◌then◌else◌, false, ◌==◌}
+use Rattle.std.proofs.Common.{◌≡◌, ℕ, suc, ◌+◌, ◌<◌, List, [], ◌∷◌, ◌++◌, length, take, drop, Option, refl, sym, ◌∙◌}
+use Rattle.std.proofs.Common.{subst, append_assoc, arith, if◌then◌else◌, false, ◌==◌}
 use Rattle.std.specs.Io.KnownBytes.{Appends, Keeps}
 use Rattle.std.proofs.KnownBytes.{Appends-nil, Appends-trans, Appends-kept}
 use Rattle.std.proofs.lemmas.List.{take-append-drop, append-nil}
@@ -17,7 +18,8 @@ pub none_sent : (old : Option (List ℕ)) (all : List ℕ) → Sent old old all 
 none_sent old all = record { front = []; whole = refl; went = Appends-nil old }
 
 -- some bytes of the rest were taken
-pub some_sent : (old mid new : Option (List ℕ)) (all rest : List ℕ) (taken : ℕ) → Sent old mid all rest → Appends mid new (take taken rest) → Sent old new all (drop taken rest)
+pub some_sent : (old mid new : Option (List ℕ)) (all rest : List ℕ) (taken : ℕ) → Sent old mid all rest
+    → Appends mid new (take taken rest) → Sent old new all (drop taken rest)
 some_sent old mid new all rest taken s t = record {
   front = s.front ++ take taken rest;
   whole = rw (append_assoc, take-append-drop) s.whole;
@@ -25,30 +27,39 @@ some_sent old mid new all rest taken s t = record {
 }
 
 -- nothing more was taken
-pub still_sent : (old mid new : Option (List ℕ)) (all rest : List ℕ) → Sent old mid all rest → Keeps mid new → Sent old new all rest
-still_sent old mid new all rest s k = record { front = s.front; whole = s.whole; went = Appends-kept old mid new s.front s.went k }
+pub still_sent : (old mid new : Option (List ℕ)) (all rest : List ℕ) → Sent old mid all rest → Keeps mid new
+    → Sent old new all rest
+still_sent old mid new all rest s k =
+    record { front = s.front; whole = s.whole; went = Appends-kept old mid new s.front s.went k }
 
 -- nothing is left
-pub all_sent : (old new : Option (List ℕ)) (all rest : List ℕ) → Sent old new all rest → length rest ≡ 0 → Appends old new all
-all_sent old new all [] s e = let whole : s.front ≡ all = sym (s.whole ∙ append-nil s.front) in subst (Appends old new) whole s.went
+pub all_sent : (old new : Option (List ℕ)) (all rest : List ℕ) → Sent old new all rest → length rest ≡ 0
+    → Appends old new all
+all_sent old new all [] s e = let whole : s.front ≡ all = sym (s.whole ∙ append-nil s.front) in
+    subst (Appends old new) whole s.went
 all_sent old new all (byte ∷ rest) s e = absurd (let wrong : suc (length rest) ≡ 0 = e in omega arith)
 
 -- a byte is left
-pub cut_short : (old new : Option (List ℕ)) (all rest : List ℕ) → Sent old new all rest → 0 < length rest → IsCutShort old new all
+pub cut_short : (old new : Option (List ℕ)) (all rest : List ℕ) → Sent old new all rest → 0 < length rest
+    → IsCutShort old new all
 cut_short old new all [] s l = absurd (let wrong : 0 < 0 = l in omega arith)
-cut_short old new all (byte ∷ rest) s l = record { front = s.front; byte = byte; behind = rest; whole = s.whole; went = s.went }
+cut_short old new all (byte ∷ rest) s l =
+    record { front = s.front; byte = byte; behind = rest; whole = s.whole; went = s.went }
 
 -- none of the bytes that are left was taken
-pub cut_by_none : (old mid new : Option (List ℕ)) (all rest : List ℕ) (taken : ℕ) → Sent old mid all rest → Appends mid new (take taken rest) → taken ≡ 0 → 0 < length rest → IsCutShort old new all
+pub cut_by_none : (old mid new : Option (List ℕ)) (all rest : List ℕ) (taken : ℕ) → Sent old mid all rest
+    → Appends mid new (take taken rest) → taken ≡ 0 → 0 < length rest → IsCutShort old new all
 cut_by_none old mid new all rest taken s t none some =
     cut_short old new all (drop taken rest) (some_sent old mid new all rest taken s t) (simp length-drop (omega arith))
 
 -- a call that took something isn't counted
-pub not_counted : (bytes : List ℕ) (taken before now : ℕ) → (taken ≡ 0 → ⊥) → now ≡ (if took_none bytes taken then before + 1 else before) → now ≡ before
+pub not_counted : (bytes : List ℕ) (taken before now : ℕ) → (taken ≡ 0 → ⊥)
+    → now ≡ (if took_none bytes taken then before + 1 else before) → now ≡ before
 not_counted bytes taken before now some counts = grind (arith, nat_tests, some, counts)
 
 -- a call that took none of some bytes is
-pub counted : (bytes : List ℕ) (taken before now : ℕ) → taken ≡ 0 → 0 < length bytes → now ≡ (if took_none bytes taken then before + 1 else before) → now ≡ before + 1
+pub counted : (bytes : List ℕ) (taken before now : ℕ) → taken ≡ 0 → 0 < length bytes
+    → now ≡ (if took_none bytes taken then before + 1 else before) → now ≡ before + 1
 counted bytes taken before now none some counts = grind (arith, nat_tests, none, some, counts)
 
 -- a list that isn't empty has something left

@@ -4,8 +4,8 @@ use Rattle.std.specs.Io.KnownBytes.{Appends, append_known}
 use Rattle.output.specs.declared.paged.Paged.{Paged}
 use Rattle.output.specs.declared.writer.Out.{Ghosts}
 
--- the bytes that went out to the writer below, where they are known; the bytes that still wait on the page; and how many
--- calls of the writer below failed
+-- the bytes that went out to the writer below, where they are known; the bytes that still wait on the page; and how
+-- many calls of the writer below failed
 pub record Gathered : Type 0 where
   pub went : Option (List ℕ)
   pub waits : List ℕ

@@ -1,5 +1,5 @@
--- One access, and a list of them (ARM DDI 0403, MemA[] and MemU[]; what the bus takes is the profile's). The rule is asked
--- first, then the bus.
+-- One access, and a list of them (ARM DDI 0403, MemA[] and MemU[]; what the bus takes is the profile's). The rule is
+-- asked first, then the bus.
 use Rattle.std.specs.Prelude.{ℕ, ◌%◌, if◌then◌else◌, List, [], ◌∷◌, ◌++◌, Option, Some, None, Result, Ok, Err}
 use Rattle.reference.specs.declared.access.Answer.{Answer}
 use Rattle.reference.specs.declared.access.Answer.TheVariants as answer
@@ -101,7 +101,8 @@ value_of q (performed.Done rule value) = Ok value
 value_of q (performed.Denied rule cause) = Err (failure.Refused q.access cause)
 value_of q (performed.Stop why) = Err (failure.Stop why)
 
--- what a list of accesses leaves: the bus, the lines, the values in order, and what ended the list early, if anything did
+-- what a list of accesses leaves: the bus, the lines, the values in order, and what ended the list early, if anything
+-- did
 pub record Served : Type 0 where
   pub bus : Bus
   pub events : List Event

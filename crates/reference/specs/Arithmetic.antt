@@ -1,6 +1,7 @@
 -- Sums, shifts, immediates and conditions, in whole numbers (ARM DDI 0403: "AddWithCarry()", "Shift and rotate
 -- operations", "Operation of modified immediate constants, Thumb instructions", "Conditional execution" and "ITSTATE").
-use Rattle.std.specs.Prelude.{ℕ, ◌+◌, ◌-◌, ◌*◌, ◌/◌, ◌%◌, ◌^◌, nat_lt, Bool, true, not, ◌&&◌, ◌==◌, if◌then◌else◌, ℤ, pos, ◌+ℤ◌, ◌-ℤ◌, Option, Some, None}
+use Rattle.std.specs.Prelude.{ℕ, ◌+◌, ◌-◌, ◌*◌, ◌/◌, ◌%◌, ◌^◌, nat_lt, Bool, true, not, ◌&&◌, ◌==◌, if◌then◌else◌, ℤ}
+use Rattle.std.specs.Prelude.{pos, ◌+ℤ◌, ◌-ℤ◌, Option, Some, None}
 use Rattle.std.specs.Ordering.{int_eq}
 use Rattle.reference.specs.declared.registers.Flags.{Flags}
 use Rattle.reference.specs.declared.shift.Shift.{Shift}

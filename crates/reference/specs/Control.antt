@@ -1,6 +1,7 @@
 -- The registers of identification and of interrupt control (ARM DDI 0403, "CPUID Base Register", "Interrupt Control and
 -- State Register", "Application Interrupt and Reset Control Register").
-use Rattle.std.specs.Prelude.{ℕ, ◌+◌, ◌*◌, ◌/◌, ◌%◌, ◌^◌, Bool, true, false, not, ◌&&◌, ◌||◌, ◌==◌, if◌then◌else◌, Option, Some, None, Result, Ok, Err, unwrap_or}
+use Rattle.std.specs.Prelude.{ℕ, ◌+◌, ◌*◌, ◌/◌, ◌%◌, ◌^◌, Bool, true, false, not, ◌&&◌, ◌||◌, ◌==◌, if◌then◌else◌}
+use Rattle.std.specs.Prelude.{Option, Some, None, Result, Ok, Err, unwrap_or}
 use Rattle.reference.specs.declared.exception.TheConstants.{NMI, PEND_SV, SYS_TICK}
 use Rattle.reference.specs.declared.stop.LeftOut.TheVariants.{ResetControl}
 use Rattle.reference.specs.declared.stop.Stop.{Stop}
@@ -8,7 +9,8 @@ use Rattle.reference.specs.declared.stop.Stop.TheVariants.{Unpredictable, OutOfP
 use Rattle.reference.specs.declared.stop.UnpredictableCase.TheVariants as case
 use Rattle.reference.specs.declared.system.ControlRegister.{ControlRegister}
 use Rattle.reference.specs.declared.system.ControlRegister.TheVariants.{Cpuid, Icsr, Aircr}
-use Rattle.reference.specs.Priorities.{Nvic, is_in, best, is_interrupt_pending, is_other_active, with_pending, with_group}
+use Rattle.reference.specs.Priorities.{Nvic, is_in, best, is_interrupt_pending, is_other_active, with_pending}
+use Rattle.reference.specs.Priorities.{with_group}
 use Rattle.reference.specs.Registers.{weighed}
 use Rattle.reference.specs.Words.{is_bit}
 

@@ -1,5 +1,5 @@
--- The instructions that compute (ARM DDI 0403, "Alphabetical list of ARMv7-M Thumb instructions"): which of them is a fault,
--- and what each leaves. None makes an access.
+-- The instructions that compute (ARM DDI 0403, "Alphabetical list of ARMv7-M Thumb instructions"): which of them is a
+-- fault, and what each leaves. None makes an access.
 use Rattle.std.specs.Prelude.{ℕ, Bool, false, ◌&&◌, ◌==◌, if◌then◌else◌, List, [], Result, Ok, Err}
 use Rattle.reference.specs.declared.access.Request.{Request}
 use Rattle.reference.specs.declared.failure.Failure.{Failure}
@@ -7,12 +7,18 @@ use Rattle.reference.specs.declared.failure.Failure.TheVariants.{Usage}
 use Rattle.reference.specs.declared.failure.Traps.{Traps}
 use Rattle.reference.specs.declared.failure.UsageFault.TheVariants.{DivideByZero}
 use Rattle.reference.specs.declared.instruction.DataProcessing.{DataProcessing}
-use Rattle.reference.specs.declared.instruction.DataProcessing.TheVariants.{DataImmediate, DataRegister, MoveImmediate, MoveRegister, MoveTop, CompareImmediate, CompareRegister, ShiftByRegister, Address, Multiply, MultiplyAccumulate, MultiplyLong, Divide, Saturate, ExtractField, InsertField, ClearField, Extend, Rearrange}
+use Rattle.reference.specs.declared.instruction.DataProcessing.TheVariants.{DataImmediate, DataRegister, MoveImmediate}
+use Rattle.reference.specs.declared.instruction.DataProcessing.TheVariants.{MoveRegister, MoveTop, CompareImmediate}
+use Rattle.reference.specs.declared.instruction.DataProcessing.TheVariants.{CompareRegister, ShiftByRegister, Address}
+use Rattle.reference.specs.declared.instruction.DataProcessing.TheVariants.{Multiply, MultiplyAccumulate, MultiplyLong}
+use Rattle.reference.specs.declared.instruction.DataProcessing.TheVariants.{Divide, Saturate, ExtractField, InsertField}
+use Rattle.reference.specs.declared.instruction.DataProcessing.TheVariants.{ClearField, Extend, Rearrange}
 use Rattle.reference.specs.Fields.{saturate, extract_field, insert_field, clear_field, extend, rearrange}
 use Rattle.reference.specs.Products.{multiply, multiply_accumulate, multiply_long, divide}
 use Rattle.reference.specs.ProgramCounter.{Finished, branches, moves_on}
 use Rattle.reference.specs.Registers.{Registers, register}
-use Rattle.reference.specs.TwoOperands.{data_immediate, data_register, compare_immediate, compare_register, move_immediate, move_register, move_top, shift_by_register, address}
+use Rattle.reference.specs.TwoOperands.{data_immediate, data_register, compare_immediate, compare_register}
+use Rattle.reference.specs.TwoOperands.{move_immediate, move_register, move_top, shift_by_register, address}
 
 -- the registers that an instruction leaves, with the PC at the instruction unless it writes the PC
 unfoldable pub processed : DataProcessing → Registers → Registers

@@ -1,6 +1,7 @@
--- Exception entry in two steps: the frame is pushed, and the vector is read (ARM DDI 0403, ExceptionEntry(): PushStack()
--- and ExceptionTaken(); that they are two steps, and what comes between, is the profile's).
-use Rattle.std.specs.Prelude.{ℕ, ◌*◌, Bool, true, false, if◌then◌else◌, List, [], ◌∷◌, ◌++◌, Option, Some, None, Result, Ok, Err}
+-- Exception entry in two steps: the frame is pushed, and the vector is read (ARM DDI 0403, ExceptionEntry():
+-- PushStack() and ExceptionTaken(); that they are two steps, and what comes between, is the profile's).
+use Rattle.std.specs.Prelude.{ℕ, ◌*◌, Bool, true, false, if◌then◌else◌, List, [], ◌∷◌, ◌++◌, Option, Some, None, Result}
+use Rattle.std.specs.Prelude.{Ok, Err}
 use Rattle.reference.specs.declared.access.Kind.{Kind}
 use Rattle.reference.specs.declared.access.Kind.TheVariants.{Push, Vector}
 use Rattle.reference.specs.declared.access.Request.{Request}
@@ -63,7 +64,8 @@ activated n x = with_active (with_pending n x false) x true
 -- the handler begins, and the entry ends
 abbrev pub handler_entered : State → List Event → ℕ → ℕ → ℕ → Stepped
 handler_entered s events x e vector = record {
-  state = record (with_exceptions (with_registers s (in_handler s.registers x e vector)) (activated s.bus.system.nvic x)) { entry = None };
+  state = record (with_exceptions (with_registers s (in_handler s.registers x e vector))
+      (activated s.bus.system.nvic x)) { entry = None };
   events = events ++ (record { tick = s.bus.system.time.ticks; what = HandlerEntered x } ∷ []);
 }
 
@@ -86,7 +88,8 @@ unfoldable pub exception_taken : State → ℕ → ℕ → Stepped
 exception_taken s e x =
     let q = vector_read s x in
     let answer = perform s.registers.exception s.bus q in
-    vector_taken (with_bus s answer.bus) (told s.bus.system.time.ticks q answer.performed) x e (value_of q answer.performed)
+    vector_taken (with_bus s answer.bus) (told s.bus.system.time.ticks q answer.performed) x e
+    (value_of q answer.performed)
 
 -- the candidate of this moment is taken; without a candidate the step only ticks, and the entry stays open
 abbrev pub taken_if_any : State → ℕ → Option ℕ → Stepped

@@ -1,7 +1,8 @@
 -- Exception return (ARM DDI 0403, ExceptionReturn(), DeActivate() and PopStack(); where it stops by name, and that a
 -- fault raised during a return starts an exception entry in the same step, without a push, is the profile's). Read this
 -- file from its last function upward.
-use Rattle.std.specs.Prelude.{ℕ, Bool, true, false, not, ◌&&◌, ◌||◌, ◌==◌, if◌then◌else◌, List, [], ◌∷◌, ◌++◌, Option, Some, None, replicate}
+use Rattle.std.specs.Prelude.{ℕ, Bool, true, false, not, ◌&&◌, ◌||◌, ◌==◌, if◌then◌else◌, List, [], ◌∷◌, ◌++◌, Option}
+use Rattle.std.specs.Prelude.{Some, None, replicate}
 use Rattle.reference.specs.declared.access.Kind.TheVariants.{Pop}
 use Rattle.reference.specs.declared.access.Request.{Request}
 use Rattle.reference.specs.declared.event.Event.{Event}
@@ -15,7 +16,8 @@ use Rattle.reference.specs.declared.stop.UnpredictableCase.TheVariants as unpred
 use Rattle.reference.specs.Accesses.{Served, perform_all}
 use Rattle.reference.specs.ExceptionEntry.{words_from}
 use Rattle.reference.specs.Faults.{failed}
-use Rattle.reference.specs.Frames.{returns_to_handler, returns_to_thread, has_reserved_ones, frame_of, popped_pc, popped_exception, popped}
+use Rattle.reference.specs.Frames.{returns_to_handler, returns_to_thread, has_reserved_ones, frame_of, popped_pc}
+use Rattle.reference.specs.Frames.{popped_exception, popped}
 use Rattle.reference.specs.Priorities.{candidate, is_in, is_other_active, with_faultmask}
 use Rattle.reference.specs.Registers.{Registers}
 use Rattle.reference.specs.State.{State, Stepped, with_bus, with_registers, with_system, stopped}

@@ -1,7 +1,8 @@
--- The exclusive loads and stores and CLREX, with the local monitor (ARM DDI 0403, "Synchronization and semaphores", and the
--- pseudocode of SetExclusiveMonitors(), ExclusiveMonitorsPass() and ClearExclusiveLocal()). The monitor marks one address
--- with one size, and a store that fails is decided as a store is (profile).
-use Rattle.std.specs.Prelude.{ℕ, Bool, false, not, ◌&&◌, ◌==◌, if◌then◌else◌, List, [], ◌∷◌, Option, Some, None, Result, Ok, Err}
+-- The exclusive loads and stores and CLREX, with the local monitor (ARM DDI 0403, "Synchronization and semaphores", and
+-- the pseudocode of SetExclusiveMonitors(), ExclusiveMonitorsPass() and ClearExclusiveLocal()). The monitor marks one
+-- address with one size, and a store that fails is decided as a store is (profile).
+use Rattle.std.specs.Prelude.{ℕ, Bool, false, not, ◌&&◌, ◌==◌, if◌then◌else◌, List, [], ◌∷◌, Option, Some, None, Result}
+use Rattle.std.specs.Prelude.{Ok, Err}
 use Rattle.reference.specs.declared.access.Kind.{Kind}
 use Rattle.reference.specs.declared.access.Kind.TheVariants as kind
 use Rattle.reference.specs.declared.access.Request.{Request}
@@ -62,7 +63,8 @@ passes o r = is_marked r (exclusive_address o.base o.offset r) o.size
 abbrev pub store_requests : StoreExclusive → Registers → Result (List Request) Failure
 store_requests o r =
     if passes o r
-    then exclusive_access kind.Store (is_privileged r) o.size (exclusive_address o.base o.offset r) (register r o.target)
+    then exclusive_access kind.Store (is_privileged r) o.size (exclusive_address o.base o.offset r)
+    (register r o.target)
     else exclusive_access kind.Probe (is_privileged r) o.size (exclusive_address o.base o.offset r) 0
 
 -- ---- the family

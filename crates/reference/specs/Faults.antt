@@ -13,11 +13,15 @@ use Rattle.reference.specs.declared.exception.TheConstants.{HARD_FAULT, MEM_MANA
 use Rattle.reference.specs.declared.failure.Failure.{Failure}
 use Rattle.reference.specs.declared.failure.Failure.TheVariants as failure
 use Rattle.reference.specs.declared.failure.UsageFault.{UsageFault}
-use Rattle.reference.specs.declared.failure.UsageFault.TheVariants.{UndefinedInstruction, InvalidState, InvalidReturn, NoCoprocessor, Unaligned, DivideByZero}
+use Rattle.reference.specs.declared.failure.UsageFault.TheVariants.{UndefinedInstruction, InvalidState, InvalidReturn}
+use Rattle.reference.specs.declared.failure.UsageFault.TheVariants.{NoCoprocessor, Unaligned, DivideByZero}
 use Rattle.reference.specs.declared.fault_status.FaultAddress.{FaultAddress}
 use Rattle.reference.specs.declared.fault_status.FaultAddress.TheVariants.{NotKept, Mmfar, Bfar}
 use Rattle.reference.specs.declared.fault_status.FaultEffect.{FaultEffect}
-use Rattle.reference.specs.declared.fault_status.TheConstants.{IACCVIOL, DACCVIOL, MUNSTKERR, MSTKERR, MMARVALID, IBUSERR, PRECISERR, UNSTKERR, STKERR, BFARVALID, UNDEFINSTR, INVSTATE, INVPC, NOCP, UNALIGNED, DIVBYZERO, VECTTBL, FORCED}
+use Rattle.reference.specs.declared.fault_status.TheConstants.{IACCVIOL, DACCVIOL, MUNSTKERR, MSTKERR, MMARVALID}
+use Rattle.reference.specs.declared.fault_status.TheConstants.{IBUSERR, PRECISERR, UNSTKERR, STKERR, BFARVALID}
+use Rattle.reference.specs.declared.fault_status.TheConstants.{UNDEFINSTR, INVSTATE, INVPC, NOCP, UNALIGNED, DIVBYZERO}
+use Rattle.reference.specs.declared.fault_status.TheConstants.{VECTTBL, FORCED}
 use Rattle.reference.specs.declared.stop.Stop.TheVariants as stop
 use Rattle.reference.specs.Priorities.{escalation, with_pending}
 use Rattle.reference.specs.ProgramCounter.{moves_on}

@@ -1,8 +1,9 @@
--- Saturation, bit fields, extension, and the bits of one register rearranged (ARM DDI 0403, "Alphabetical list of ARMv7-M
--- Thumb instructions": SSAT, USAT, SBFX, UBFX, BFI, BFC, SXTB, SXTH, UXTB, UXTH, REV, REV16, REVSH, RBIT and CLZ, the
--- operation of each; SatQ() and HighestSetBit()). Amounts that no row has (a field that ends above bit 31, a range of more
--- than 32 bits) are of no matter, and get a value too.
-use Rattle.std.specs.Prelude.{ℕ, zero, suc, ◌+◌, ◌-◌, ◌*◌, ◌/◌, ◌%◌, ◌^◌, Bool, false, not, ◌||◌, if◌then◌else◌, ℤ, pos, neg_ℤ, int_lt}
+-- Saturation, bit fields, extension, and the bits of one register rearranged (ARM DDI 0403, "Alphabetical list of
+-- ARMv7-M Thumb instructions": SSAT, USAT, SBFX, UBFX, BFI, BFC, SXTB, SXTH, UXTB, UXTH, REV, REV16, REVSH, RBIT and
+-- CLZ, the operation of each; SatQ() and HighestSetBit()). Amounts that no row has (a field that ends above bit 31, a
+-- range of more than 32 bits) get a value too, on which nothing rests.
+use Rattle.std.specs.Prelude.{ℕ, zero, suc, ◌+◌, ◌-◌, ◌*◌, ◌/◌, ◌%◌, ◌^◌, Bool, false, not, ◌||◌, if◌then◌else◌, ℤ, pos}
+use Rattle.std.specs.Prelude.{neg_ℤ, int_lt}
 use Rattle.std.specs.Ordering.{int_eq}
 use Rattle.reference.specs.declared.access.Size.{Size}
 use Rattle.reference.specs.declared.access.Size.TheVariants.{Byte, Halfword, Word}
@@ -12,7 +13,9 @@ use Rattle.reference.specs.declared.operands.ExtractField.{ExtractField}
 use Rattle.reference.specs.declared.operands.InsertField.{InsertField}
 use Rattle.reference.specs.declared.operands.Rearrange.{Rearrange}
 use Rattle.reference.specs.declared.operands.Rearrangement.{Rearrangement}
-use Rattle.reference.specs.declared.operands.Rearrangement.TheVariants.{ReverseWord, ReverseHalfwords, ReverseSignedHalfword, ReverseBits, CountLeadingZeros}
+use Rattle.reference.specs.declared.operands.Rearrangement.TheVariants.{ReverseWord, ReverseHalfwords}
+use Rattle.reference.specs.declared.operands.Rearrangement.TheVariants.{ReverseSignedHalfword, ReverseBits}
+use Rattle.reference.specs.declared.operands.Rearrangement.TheVariants.{CountLeadingZeros}
 use Rattle.reference.specs.declared.operands.Saturate.{Saturate}
 use Rattle.reference.specs.declared.shift.ShiftType.TheVariants.{Ror}
 use Rattle.reference.specs.Arithmetic.{signed, shift_c}

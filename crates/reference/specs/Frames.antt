@@ -1,6 +1,7 @@
 -- The frame that exception entry pushes, and the registers on the way in and out (ARM DDI 0403, PushStack(),
 -- ExceptionTaken() and PopStack(), without floating point; CCR.STKALIGN is 1).
-use Rattle.std.specs.Prelude.{ℕ, ◌+◌, ◌-◌, ◌*◌, ◌/◌, ◌%◌, ◌^◌, Bool, false, ◌==◌, ◌||◌, if◌then◌else◌, List, [], ◌∷◌, slice_index, slice_set, None, bit_or}
+use Rattle.std.specs.Prelude.{ℕ, ◌+◌, ◌-◌, ◌*◌, ◌/◌, ◌%◌, ◌^◌, Bool, false, ◌==◌, ◌||◌, if◌then◌else◌, List, [], ◌∷◌}
+use Rattle.std.specs.Prelude.{slice_index, slice_set, None, bit_or}
 use Rattle.reference.specs.Registers.{Registers, is_handler, sp, with_sp, with_exchange, xpsr, weighed, flags_of}
 use Rattle.reference.specs.Words.{word_sum, is_bit}
 

@@ -1,7 +1,9 @@
 -- The registers of the system handlers (ARM DDI 0403, "System Handler Priority Register 1" to 3, "System Handler
 -- Control and State Register").
-use Rattle.std.specs.Prelude.{ℕ, ◌+◌, ◌-◌, ◌^◌, ◌&&◌, ◌==◌, nat_le, nat_lt, if◌then◌else◌, Option, Some, None, Result, Ok, Err, bit_and}
-use Rattle.reference.specs.declared.exception.TheConstants.{MEM_MANAGE, BUS_FAULT, USAGE_FAULT, SV_CALL, PEND_SV, SYS_TICK}
+use Rattle.std.specs.Prelude.{ℕ, ◌+◌, ◌-◌, ◌^◌, ◌&&◌, ◌==◌, nat_le, nat_lt, if◌then◌else◌, Option, Some, None, Result}
+use Rattle.std.specs.Prelude.{Ok, Err, bit_and}
+use Rattle.reference.specs.declared.exception.TheConstants.{MEM_MANAGE, BUS_FAULT, USAGE_FAULT, SV_CALL, PEND_SV}
+use Rattle.reference.specs.declared.exception.TheConstants.{SYS_TICK}
 use Rattle.reference.specs.declared.stop.LeftOut.TheVariants.{ActiveBit}
 use Rattle.reference.specs.declared.stop.Stop.{Stop}
 use Rattle.reference.specs.declared.stop.Stop.TheVariants.{OutOfProfile}

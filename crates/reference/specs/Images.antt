@@ -1,10 +1,13 @@
 -- What an ELF file brings (TIS ELF 1.2, "ELF Header" and "Program Header"). The order in which a file is refused is the
 -- profile's.
-use Rattle.std.specs.Prelude.{ℕ, zero, suc, ◌+◌, ◌*◌, ◌<◌, ◌≤◌, max, min, Bool, false, ◌&&◌, ◌||◌, not, nat_lt, ◌==◌, if◌then◌else◌, List, [], ◌∷◌, length, slice_index, slice_range, Result, Ok, Err}
+use Rattle.std.specs.Prelude.{ℕ, zero, suc, ◌+◌, ◌*◌, ◌<◌, ◌≤◌, max, min, Bool, false, ◌&&◌, ◌||◌, not, nat_lt, ◌==◌}
+use Rattle.std.specs.Prelude.{if◌then◌else◌, List, [], ◌∷◌, length, slice_index, slice_range, Result, Ok, Err}
 use Rattle.std.specs.List.{AllPairs, list_any}
 use Rattle.reference.specs.declared.fault.LoadFault.{LoadFault}
 pub use Rattle.reference.specs.Memory.{number_in}
-use Rattle.reference.specs.declared.fault.LoadFault.TheVariants.{Truncated, NotElf, NotElf32Little, NotExecutable, NotArm, HeaderSize, SegmentOutsideFile, SegmentOverlap, TooManySegments}
+use Rattle.reference.specs.declared.fault.LoadFault.TheVariants.{Truncated, NotElf, NotElf32Little, NotExecutable}
+use Rattle.reference.specs.declared.fault.LoadFault.TheVariants.{NotArm, HeaderSize, SegmentOutsideFile, SegmentOverlap}
+use Rattle.reference.specs.declared.fault.LoadFault.TheVariants.{TooManySegments}
 
 -- bytes that stand at an address before the first step
 pub record Segment : Type 0 where

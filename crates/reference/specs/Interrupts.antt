@@ -1,7 +1,8 @@
 -- The registers of the external interrupts (ARM DDI 0403, "Nested Vectored Interrupt Controller": "Interrupt Controller
 -- Type Register", "Interrupt Set-Enable Registers" and those that follow, "Software Triggered Interrupt Register"). An
 -- interrupt that the board doesn't have reads 0 and ignores writes, since no set has it and no change reaches it.
-use Rattle.std.specs.Prelude.{ℕ, zero, suc, ◌+◌, ◌-◌, ◌*◌, ◌/◌, ◌%◌, ◌^◌, Bool, true, false, ◌&&◌, ◌==◌, nat_le, nat_lt, if◌then◌else◌, slice_index, Option, Some, None}
+use Rattle.std.specs.Prelude.{ℕ, zero, suc, ◌+◌, ◌-◌, ◌*◌, ◌/◌, ◌%◌, ◌^◌, Bool, true, false, ◌&&◌, ◌==◌, nat_le, nat_lt}
+use Rattle.std.specs.Prelude.{if◌then◌else◌, slice_index, Option, Some, None}
 use Rattle.reference.specs.declared.exception.TheConstants.{FIRST_LINE, MOST_LINES}
 use Rattle.reference.specs.declared.system.InterruptRegister.{InterruptRegister}
 use Rattle.reference.specs.declared.system.InterruptRegister.TheVariants.{Iser, Icer, Ispr, Icpr, Iabr}

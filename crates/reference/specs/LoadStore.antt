@@ -1,6 +1,7 @@
--- Loads and stores of one register (ARM DDI 0403, MemU[], and the operation of LDR, STR and their forms of a byte and of a
--- halfword): the address, the accesses, and what is made of the values read.
-use Rattle.std.specs.Prelude.{ℕ, ◌+◌, ◌*◌, ◌%◌, ◌^◌, Bool, true, false, not, ◌&&◌, ◌==◌, if◌then◌else◌, List, [], ◌∷◌, Result, Ok, Err}
+-- Loads and stores of one register (ARM DDI 0403, MemU[], and the operation of LDR, STR and their forms of a byte and
+-- of a halfword): the address, the accesses, and what is made of the values read.
+use Rattle.std.specs.Prelude.{ℕ, ◌+◌, ◌*◌, ◌%◌, ◌^◌, Bool, true, false, not, ◌&&◌, ◌==◌, if◌then◌else◌, List, [], ◌∷◌}
+use Rattle.std.specs.Prelude.{Result, Ok, Err}
 use Rattle.std.specs.List.{list_any}
 use Rattle.reference.specs.declared.access.Kind.{Kind}
 use Rattle.reference.specs.declared.access.Kind.TheVariants.{Load, Store}
@@ -12,7 +13,8 @@ use Rattle.reference.specs.declared.failure.Failure.TheVariants.{Usage, Stop}
 use Rattle.reference.specs.declared.failure.Traps.{Traps}
 use Rattle.reference.specs.declared.failure.UsageFault.TheVariants.{Unaligned}
 use Rattle.reference.specs.declared.instruction.LoadStore.{LoadStore}
-use Rattle.reference.specs.declared.instruction.LoadStore.TheVariants.{LoadImmediate, LoadRegister, LoadLiteral, StoreImmediate, StoreRegister}
+use Rattle.reference.specs.declared.instruction.LoadStore.TheVariants.{LoadImmediate, LoadRegister, LoadLiteral}
+use Rattle.reference.specs.declared.instruction.LoadStore.TheVariants.{StoreImmediate, StoreRegister}
 use Rattle.reference.specs.declared.operands.ImmediateAddress.{ImmediateAddress}
 use Rattle.reference.specs.declared.operands.Indexing.{Indexing}
 use Rattle.reference.specs.declared.operands.Indexing.TheVariants.{Offset, PreIndexed, PostIndexed}
@@ -134,7 +136,8 @@ load_store_requests traps (LoadRegister o) r =
     load traps o.form o.target (is_privileged r) (register_address o.address r)
 load_store_requests traps (LoadLiteral o) r = load traps o.form o.target (is_privileged r) (literal_address o.offset r)
 load_store_requests traps (StoreImmediate o) r =
-    transfer traps Store (is_made_privileged o.unprivileged r) o.size (immediate_address o.address r) (register r o.target)
+    transfer traps Store (is_made_privileged o.unprivileged r) o.size (immediate_address o.address r)
+    (register r o.target)
 load_store_requests traps (StoreRegister o) r =
     transfer traps Store (is_privileged r) o.size (register_address o.address r) (register r o.target)
 

@@ -1,5 +1,5 @@
--- Loads and stores of several registers (ARM DDI 0403, the operation of LDM, LDMDB, STM, STMDB, PUSH, POP, LDRD and STRD):
--- each is a word, upward from the lowest address.
+-- Loads and stores of several registers (ARM DDI 0403, the operation of LDM, LDMDB, STM, STMDB, PUSH, POP, LDRD and
+-- STRD): each is a word, upward from the lowest address.
 use Rattle.std.specs.Prelude.{ℕ, ◌*◌, Bool, if◌then◌else◌, List, [], ◌∷◌, length, drop, slice_index, Result, Ok, Err}
 use Rattle.std.specs.Int.RustNames.{count_ones}
 use Rattle.std.specs.List.{filter, range_with_len}

@@ -1,5 +1,6 @@
 -- The rows of 32 bits in "Branches and miscellaneous control" (ARM DDI 0403, "32-bit Thumb instruction encoding").
-use Rattle.std.specs.Prelude.{ℕ, ◌+◌, ◌*◌, ◌^◌, nat_lt, not, ◌==◌, if◌then◌else◌, List, [], ◌∷◌, Option, Some, None, codes}
+use Rattle.std.specs.Prelude.{ℕ, ◌+◌, ◌*◌, ◌^◌, nat_lt, not, ◌==◌, if◌then◌else◌, List, [], ◌∷◌, Option, Some, None}
+use Rattle.std.specs.Prelude.{codes}
 use Rattle.reference.specs.declared.instruction.BlockPlace.TheVariants as place
 use Rattle.reference.specs.declared.instruction.Branch.TheVariants as branch
 use Rattle.reference.specs.declared.instruction.Decoded.{Decoded}
@@ -33,7 +34,8 @@ branch_offset f = record { sign = f.S; j1 = f.J; j2 = f.K; upper = f.j; imm11 = 
 unfoldable pub wide_offset : BranchOffset → ℕ
 wide_offset o =
     sign_extended 25
-    (o.sign * 2 ^ 24 + (if o.j1 == o.sign then 2 ^ 23 else 0) + (if o.j2 == o.sign then 2 ^ 22 else 0) + o.upper * 2 ^ 12 + o.imm11 * 2)
+    (o.sign * 2 ^ 24 + (if o.j1 == o.sign then 2 ^ 23 else 0) + (if o.j2 == o.sign then 2 ^ 22 else 0) + o.upper
+    * 2 ^ 12 + o.imm11 * 2)
 
 -- the offset of B with a condition: S:J2:J1:imm6:imm11:'0'
 unfoldable pub conditional_offset : BranchOffset → ℕ

@@ -1,4 +1,5 @@
--- The rows of 32 bits in "Load/store dual or exclusive, table branch" (ARM DDI 0403, "32-bit Thumb instruction encoding").
+-- The rows of 32 bits in "Load/store dual or exclusive, table branch" (ARM DDI 0403, "32-bit Thumb instruction
+-- encoding").
 use Rattle.std.specs.Prelude.{ℕ, ◌*◌, Bool, ◌&&◌, ◌||◌, ◌==◌, List, [], ◌∷◌, codes}
 use Rattle.reference.specs.declared.access.Size.{Size}
 use Rattle.reference.specs.declared.access.Size.TheVariants.{Word}
@@ -24,7 +25,8 @@ use Rattle.reference.specs.Rows.{Letters, Row, long, placed, unless, is_bad}
 -- STREX, STREXB and STREXH: R[d] is neither the base nor the register that is stored
 unfoldable pub store_exclusive_row : StoreExclusive → Decoded
 store_exclusive_row o =
-    unless (is_bad o.status || (is_bad o.target || (o.base == 15 || (o.status == o.base || o.status == o.target)))) place.Anywhere cause.Registers
+    unless (is_bad o.status || (is_bad o.target || (o.base == 15 || (o.status == o.base || o.status == o.target))))
+    place.Anywhere cause.Registers
     (long (Exclusive (exclusive.Store o)))
 
 -- LDREX, LDREXB and LDREXH
@@ -50,7 +52,8 @@ is_refused_pair t u n indexing = is_bad t || (is_bad u || writes_back indexing &
 -- LDRD: the two registers differ
 unfoldable pub load_dual_row : DualLoad → Decoded
 load_dual_row o =
-    unless (is_refused_pair o.first o.second o.address.base o.address.indexing || o.first == o.second) place.Anywhere cause.Registers
+    unless (is_refused_pair o.first o.second o.address.base o.address.indexing || o.first == o.second) place.Anywhere
+    cause.Registers
     (long (LoadStoreMultiple (LoadDual o)))
 
 -- LDRD at the PC, which isn't written
@@ -62,7 +65,8 @@ load_dual_literal_row write_back o =
 -- STRD: PC isn't a base
 unfoldable pub store_dual_row : DualStore → Decoded
 store_dual_row o =
-    unless (is_refused_pair o.first o.second o.address.base o.address.indexing || o.address.base == 15) place.Anywhere cause.Registers
+    unless (is_refused_pair o.first o.second o.address.base o.address.indexing || o.address.base == 15) place.Anywhere
+    cause.Registers
     (long (LoadStoreMultiple (StoreDual o)))
 
 -- ---- the rows

@@ -1,15 +1,19 @@
--- The rows of 32 bits in "Data processing (modified immediate)" (ARM DDI 0403, "32-bit Thumb instruction encoding"), and
--- which registers an operation allows.
-use Rattle.std.specs.Prelude.{ℕ, ◌^◌, nat_lt, Bool, true, false, not, ◌&&◌, ◌||◌, ◌==◌, if◌then◌else◌, List, [], ◌∷◌, Option, Some, None, codes}
+-- The rows of 32 bits in "Data processing (modified immediate)" (ARM DDI 0403, "32-bit Thumb instruction encoding"),
+-- and which registers an operation allows.
+use Rattle.std.specs.Prelude.{ℕ, ◌^◌, nat_lt, Bool, true, false, not, ◌&&◌, ◌||◌, ◌==◌, if◌then◌else◌, List, [], ◌∷◌}
+use Rattle.std.specs.Prelude.{Option, Some, None, codes}
 use Rattle.reference.specs.declared.instruction.BlockPlace.TheVariants as place
-use Rattle.reference.specs.declared.instruction.DataProcessing.TheVariants.{DataImmediate, MoveImmediate, CompareImmediate}
+use Rattle.reference.specs.declared.instruction.DataProcessing.TheVariants.{DataImmediate, MoveImmediate}
+use Rattle.reference.specs.declared.instruction.DataProcessing.TheVariants.{CompareImmediate}
 use Rattle.reference.specs.declared.instruction.Decoded.{Decoded}
 use Rattle.reference.specs.declared.instruction.Decoded.TheVariants.{Unpredictable}
 use Rattle.reference.specs.declared.instruction.Instruction.TheVariants.{DataProcessing}
 use Rattle.reference.specs.declared.operands.Comparison.{Comparison}
 use Rattle.reference.specs.declared.operands.Comparison.TheVariants.{Test, TestEquivalence, Compare, CompareNegative}
 use Rattle.reference.specs.declared.operands.DataOperation.{DataOperation}
-use Rattle.reference.specs.declared.operands.DataOperation.TheVariants.{And, BitClear, Or, OrNot, ExclusiveOr, Add, AddWithCarry, SubtractWithCarry, Subtract, ReverseSubtract}
+use Rattle.reference.specs.declared.operands.DataOperation.TheVariants.{And, BitClear, Or, OrNot, ExclusiveOr, Add}
+use Rattle.reference.specs.declared.operands.DataOperation.TheVariants.{AddWithCarry, SubtractWithCarry, Subtract}
+use Rattle.reference.specs.declared.operands.DataOperation.TheVariants.{ReverseSubtract}
 use Rattle.reference.specs.declared.operands.Immediate.{Immediate}
 use Rattle.reference.specs.declared.operands.MoveOperation.{MoveOperation}
 use Rattle.reference.specs.declared.operands.MoveOperation.TheVariants.{Move, MoveNot}
@@ -88,13 +92,15 @@ compare_expanded operation n (Some second) =
 -- the same, unless a register is refused
 unfoldable pub compare_immediate_row : Comparison → ℕ → Option Immediate → Decoded
 compare_immediate_row operation n second =
-    unless (is_refused_first (compares_sp operation) n) place.Anywhere cause.Registers (compare_expanded operation n second)
+    unless (is_refused_first (compares_sp operation) n) place.Anywhere cause.Registers
+    (compare_expanded operation n second)
 
 -- MOV and MVN of a modified immediate, unless that is UNPREDICTABLE
 abbrev pub move_expanded : MoveOperation → Bool → ℕ → Option Immediate → Decoded
 move_expanded operation s d None = Unpredictable place.Anywhere cause.Immediate
 move_expanded operation s d (Some source) =
-    long (DataProcessing (MoveImmediate (record { operation = operation; flags = flags_if s; destination = d; source = source })))
+    long (DataProcessing (MoveImmediate
+    (record { operation = operation; flags = flags_if s; destination = d; source = source })))
 
 -- the same, unless a register is refused
 unfoldable pub move_immediate_row : MoveOperation → Bool → ℕ → Option Immediate → Decoded

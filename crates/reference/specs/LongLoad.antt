@@ -1,5 +1,5 @@
--- The rows of 32 bits in "Load byte, memory hints", "Load halfword, memory hints" and "Load word" (ARM DDI 0403, "32-bit
--- Thumb instruction encoding").
+-- The rows of 32 bits in "Load byte, memory hints", "Load halfword, memory hints" and "Load word" (ARM DDI 0403,
+-- "32-bit Thumb instruction encoding").
 use Rattle.std.specs.Prelude.{ℕ, Bool, true, false, not, ◌&&◌, ◌||◌, ◌==◌, if◌then◌else◌, List, [], ◌∷◌, codes}
 use Rattle.reference.specs.declared.access.Size.{Size}
 use Rattle.reference.specs.declared.access.Size.TheVariants.{Word}
@@ -40,12 +40,14 @@ is_refused_load size t = not (is_word size) && is_bad t
 unfoldable pub load_literal_row : LoadForm → ℕ → ℕ → Decoded
 load_literal_row form t offset =
     unless (is_refused_load form.size t) (place_of_load form.size t) cause.Registers
-    (placed 4 (place_of_load form.size t) (LoadStore (LoadLiteral (record { form = form; target = t; offset = offset }))))
+    (placed 4 (place_of_load form.size t)
+    (LoadStore (LoadLiteral (record { form = form; target = t; offset = offset }))))
 
 -- a load at a register and an offset: a base that is written isn't the target
 unfoldable pub load_at_row : LoadForm → ℕ → ImmediateAddress → Decoded
 load_at_row form t address =
-    unless (is_refused_load form.size t || writes_back address.indexing && address.base == t) (place_of_load form.size t) cause.Registers
+    unless (is_refused_load form.size t || writes_back address.indexing && address.base == t)
+    (place_of_load form.size t) cause.Registers
     (placed 4 (place_of_load form.size t)
     (LoadStore (LoadImmediate (record { form = form; target = t; address = address; unprivileged = false }))))
 
@@ -58,7 +60,8 @@ load_unprivileged_row form t address =
 -- a load at two registers
 unfoldable pub load_indexed_row : IndexedLoad → Decoded
 load_indexed_row o =
-    unless (is_bad o.address.index || is_refused_load o.form.size o.target) (place_of_load o.form.size o.target) cause.Registers
+    unless (is_bad o.address.index || is_refused_load o.form.size o.target) (place_of_load o.form.size o.target)
+    cause.Registers
     (placed 4 (place_of_load o.form.size o.target) (LoadStore (LoadRegister o)))
 
 -- PLD and PLI, where a byte would be loaded to PC; where a halfword would be, the hint is unallocated

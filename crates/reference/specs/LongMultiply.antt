@@ -2,7 +2,8 @@
 -- accumulate, and divide", and the coprocessors' (ARM DDI 0403, "32-bit Thumb instruction encoding").
 use Rattle.std.specs.Prelude.{ℕ, ◌||◌, ◌==◌, List, [], ◌∷◌, codes}
 use Rattle.reference.specs.declared.instruction.BlockPlace.TheVariants as place
-use Rattle.reference.specs.declared.instruction.DataProcessing.TheVariants.{Multiply, MultiplyAccumulate, MultiplyLong, Divide}
+use Rattle.reference.specs.declared.instruction.DataProcessing.TheVariants.{Multiply, MultiplyAccumulate, MultiplyLong}
+use Rattle.reference.specs.declared.instruction.DataProcessing.TheVariants.{Divide}
 use Rattle.reference.specs.declared.instruction.Decoded.{Decoded}
 use Rattle.reference.specs.declared.instruction.Decoded.TheVariants.{NoCoprocessor}
 use Rattle.reference.specs.declared.instruction.Instruction.TheVariants.{DataProcessing}
@@ -29,7 +30,8 @@ product_sum operation f = record { operation = operation; destination = f.d; fir
 -- MLA and MLS
 unfoldable pub multiply_accumulate_row : ProductSum → Decoded
 multiply_accumulate_row o =
-    unless (is_bad o.first || (is_bad o.addend || (is_bad o.destination || is_bad o.second))) place.Anywhere cause.Registers
+    unless (is_bad o.first || (is_bad o.addend || (is_bad o.destination || is_bad o.second))) place.Anywhere
+    cause.Registers
     (long (DataProcessing (MultiplyAccumulate o)))
 
 -- SMULL, UMULL, SMLAL and UMLAL: the two destinations differ

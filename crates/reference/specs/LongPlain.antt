@@ -1,7 +1,10 @@
--- The rows of 32 bits in "Data processing (plain binary immediate)" (ARM DDI 0403, "32-bit Thumb instruction encoding").
+-- The rows of 32 bits in "Data processing (plain binary immediate)" (ARM DDI 0403, "32-bit Thumb instruction
+-- encoding").
 use Rattle.std.specs.Prelude.{ℕ, ◌+◌, ◌-◌, ◌*◌, ◌^◌, nat_lt, true, false, ◌||◌, List, [], ◌∷◌, codes}
 use Rattle.reference.specs.declared.instruction.BlockPlace.TheVariants as place
-use Rattle.reference.specs.declared.instruction.DataProcessing.TheVariants.{DataImmediate, MoveImmediate, MoveTop, Address, Saturate, ExtractField, InsertField, ClearField}
+use Rattle.reference.specs.declared.instruction.DataProcessing.TheVariants.{DataImmediate, MoveImmediate, MoveTop}
+use Rattle.reference.specs.declared.instruction.DataProcessing.TheVariants.{Address, Saturate, ExtractField}
+use Rattle.reference.specs.declared.instruction.DataProcessing.TheVariants.{InsertField, ClearField}
 use Rattle.reference.specs.declared.instruction.Decoded.{Decoded}
 use Rattle.reference.specs.declared.instruction.Instruction.TheVariants.{DataProcessing}
 use Rattle.reference.specs.declared.operands.DataOperation.{DataOperation}
@@ -32,7 +35,8 @@ add_wide_row operation n d imm12 =
 -- ADR
 unfoldable pub address_wide_row : ℕ → ℕ → Decoded
 address_wide_row d offset =
-    unless (is_bad d) place.Anywhere cause.Registers (long (DataProcessing (Address (record { destination = d; offset = offset }))))
+    unless (is_bad d) place.Anywhere cause.Registers
+    (long (DataProcessing (Address (record { destination = d; offset = offset }))))
 
 -- imm4:i:imm3:imm8, a halfword of which the top four bits are apart
 unfoldable pub halfword : ℕ → ℕ → ℕ
@@ -42,17 +46,20 @@ halfword top imm12 = top * 2 ^ 12 + imm12
 unfoldable pub move_wide_row : ℕ → ℕ → Decoded
 move_wide_row d imm16 =
     unless (is_bad d) place.Anywhere cause.Registers
-    (long (DataProcessing (MoveImmediate (record { operation = Move; flags = flags.Never; destination = d; source = number imm16 }))))
+    (long (DataProcessing (MoveImmediate
+    (record { operation = Move; flags = flags.Never; destination = d; source = number imm16 }))))
 
 -- MOVT
 unfoldable pub move_top_row : ℕ → ℕ → Decoded
 move_top_row d imm16 =
-    unless (is_bad d) place.Anywhere cause.Registers (long (DataProcessing (MoveTop (record { destination = d; value = imm16 }))))
+    unless (is_bad d) place.Anywhere cause.Registers
+    (long (DataProcessing (MoveTop (record { destination = d; value = imm16 }))))
 
 -- SSAT and USAT
 unfoldable pub saturate_row : Saturation → Decoded
 saturate_row o =
-    unless (is_bad o.destination || is_bad o.source.register) place.Anywhere cause.Registers (long (DataProcessing (Saturate o)))
+    unless (is_bad o.destination || is_bad o.source.register) place.Anywhere cause.Registers
+    (long (DataProcessing (Saturate o)))
 
 -- SBFX and UBFX: the field ends at most at bit 31
 unfoldable pub extract_field_row : FieldRead → Decoded

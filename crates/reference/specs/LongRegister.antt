@@ -1,5 +1,5 @@
--- The rows of 32 bits in "Data processing (register)" and "Miscellaneous operations" (ARM DDI 0403, "32-bit Thumb instruction
--- encoding").
+-- The rows of 32 bits in "Data processing (register)" and "Miscellaneous operations" (ARM DDI 0403, "32-bit Thumb
+-- instruction encoding").
 use Rattle.std.specs.Prelude.{ℕ, ◌*◌, not, ◌||◌, ◌==◌, if◌then◌else◌, List, [], ◌∷◌, codes}
 use Rattle.reference.specs.declared.access.Size.{Size}
 use Rattle.reference.specs.declared.access.Size.TheVariants.{Byte, Halfword}
@@ -9,7 +9,9 @@ use Rattle.reference.specs.declared.instruction.Decoded.{Decoded}
 use Rattle.reference.specs.declared.instruction.Instruction.TheVariants.{DataProcessing}
 use Rattle.reference.specs.declared.operands.Extend.{Extend as Extension}
 use Rattle.reference.specs.declared.operands.Rearrangement.{Rearrangement}
-use Rattle.reference.specs.declared.operands.Rearrangement.TheVariants.{ReverseWord, ReverseHalfwords, ReverseSignedHalfword, ReverseBits, CountLeadingZeros}
+use Rattle.reference.specs.declared.operands.Rearrangement.TheVariants.{ReverseWord, ReverseHalfwords}
+use Rattle.reference.specs.declared.operands.Rearrangement.TheVariants.{ReverseSignedHalfword, ReverseBits}
+use Rattle.reference.specs.declared.operands.Rearrangement.TheVariants.{CountLeadingZeros}
 use Rattle.reference.specs.declared.operands.ShiftByRegister.{ShiftByRegister as RegisterShift}
 use Rattle.reference.specs.declared.shift.ShiftType.{ShiftType}
 use Rattle.reference.specs.declared.shift.ShiftType.TheVariants.{Lsl, Lsr, Asr, Ror}

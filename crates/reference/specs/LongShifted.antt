@@ -7,7 +7,9 @@ use Rattle.reference.specs.declared.instruction.Instruction.TheVariants.{DataPro
 use Rattle.reference.specs.declared.operands.Comparison.{Comparison}
 use Rattle.reference.specs.declared.operands.Comparison.TheVariants.{Test, TestEquivalence, Compare, CompareNegative}
 use Rattle.reference.specs.declared.operands.DataOperation.{DataOperation}
-use Rattle.reference.specs.declared.operands.DataOperation.TheVariants.{And, BitClear, Or, OrNot, ExclusiveOr, Add, AddWithCarry, SubtractWithCarry, Subtract, ReverseSubtract}
+use Rattle.reference.specs.declared.operands.DataOperation.TheVariants.{And, BitClear, Or, OrNot, ExclusiveOr, Add}
+use Rattle.reference.specs.declared.operands.DataOperation.TheVariants.{AddWithCarry, SubtractWithCarry, Subtract}
+use Rattle.reference.specs.declared.operands.DataOperation.TheVariants.{ReverseSubtract}
 use Rattle.reference.specs.declared.operands.MoveOperation.TheVariants.{Move, MoveNot}
 use Rattle.reference.specs.declared.operands.ShiftedRegister.{ShiftedRegister}
 use Rattle.reference.specs.declared.shift.Shift.{Shift}
@@ -64,13 +66,15 @@ is_refused_move s d source =
 unfoldable pub move_shifted_row : Bool → ℕ → ShiftedRegister → Decoded
 move_shifted_row s d source =
     unless (is_refused_move s d source) place.Anywhere cause.Registers
-    (long (DataProcessing (MoveRegister (record { operation = Move; flags = flags_if s; destination = d; source = source }))))
+    (long (DataProcessing (MoveRegister
+    (record { operation = Move; flags = flags_if s; destination = d; source = source }))))
 
 -- MVN of a shifted register
 unfoldable pub move_not_shifted_row : Bool → ℕ → ShiftedRegister → Decoded
 move_not_shifted_row s d source =
     unless (is_bad d || is_bad source.register) place.Anywhere cause.Registers
-    (long (DataProcessing (MoveRegister (record { operation = MoveNot; flags = flags_if s; destination = d; source = source }))))
+    (long (DataProcessing (MoveRegister
+    (record { operation = MoveNot; flags = flags_if s; destination = d; source = source }))))
 
 -- ---- the rows: logical operations, then sums
 

@@ -1,5 +1,5 @@
--- The rows of 32 bits in "Store single data item" (ARM DDI 0403, "32-bit Thumb instruction encoding"). The size 11 and the
--- base 1111 are UNDEFINED.
+-- The rows of 32 bits in "Store single data item" (ARM DDI 0403, "32-bit Thumb instruction encoding"). The size 11 and
+-- the base 1111 are UNDEFINED.
 use Rattle.std.specs.Prelude.{ℕ, Bool, true, false, not, ◌&&◌, ◌||◌, ◌==◌, if◌then◌else◌, List, [], ◌∷◌, codes}
 use Rattle.reference.specs.declared.access.Size.{Size}
 use Rattle.reference.specs.declared.access.Size.TheVariants.{Byte, Halfword, Word}

@@ -1,5 +1,5 @@
--- Where things stand in the address space (ARM DDI 0403, "The system address map"; where RAM and the device window stand
--- is this project's choice).
+-- Where things stand in the address space (ARM DDI 0403, "The system address map"; where RAM and the device window
+-- stand is this project's choice).
 use Rattle.std.specs.Prelude.{ℕ, ◌/◌, ◌^◌, Bool, ◌||◌, ◌==◌}
 
 -- RAM begins here; flash ends here, or before
@@ -13,7 +13,8 @@ window_base = 0x4000_0000
 abbrev pub is_in_window : ℕ → Bool
 is_in_window a = a / 2 ^ 12 == 0x4_0000
 
--- its registers: a word stored to OUT sends its low byte to the console, a word loaded from TICK is the clock's low word
+-- its registers: a word stored to OUT sends its low byte to the console, a word loaded from TICK is the clock's low
+-- word
 abbrev pub out_register : ℕ
 out_register = 0x4000_0000
 

@@ -1,6 +1,6 @@
 -- What an instruction asks for, and what it makes of the answers (ARM DDI 0403, "Alphabetical list of ARMv7-M Thumb
--- instructions"). The chapter of its family has both; this one says in which order its place in an IT block, its condition
--- and its family are asked.
+-- instructions"). The chapter of its family has both; this one says in which order its place in an IT block, its
+-- condition and its family are asked.
 use Rattle.std.specs.Prelude.{ℕ, Bool, false, not, ◌&&◌, ◌||◌, if◌then◌else◌, List, [], Result, Ok, Err}
 use Rattle.reference.specs.declared.access.Request.{Request}
 use Rattle.reference.specs.declared.failure.Failure.{Failure}
@@ -10,7 +10,8 @@ use Rattle.reference.specs.declared.instruction.BlockPlace.{BlockPlace}
 use Rattle.reference.specs.declared.instruction.BlockPlace.TheVariants.{Anywhere, LastOnly, Never}
 use Rattle.reference.specs.declared.instruction.CodedInstruction.{CodedInstruction}
 use Rattle.reference.specs.declared.instruction.Instruction.{Instruction}
-use Rattle.reference.specs.declared.instruction.Instruction.TheVariants.{DataProcessing, LoadStore, LoadStoreMultiple, Exclusive, Branch, System}
+use Rattle.reference.specs.declared.instruction.Instruction.TheVariants.{DataProcessing, LoadStore, LoadStoreMultiple}
+use Rattle.reference.specs.declared.instruction.Instruction.TheVariants.{Exclusive, Branch, System}
 use Rattle.reference.specs.declared.stop.Stop.TheVariants.{Unpredictable}
 use Rattle.reference.specs.declared.stop.UnpredictableCase.TheVariants.{ItBlock}
 use Rattle.reference.specs.Arithmetic.{in_it_block, last_in_it_block, condition_passed}

@@ -1,6 +1,7 @@
 -- Values that are placed into a machine from outside, in Thread mode, between steps. A placement takes no tick and has
 -- no line (profile).
-use Rattle.std.specs.Prelude.{ℕ, ◌%◌, Bool, true, not, ◌||◌, nat_lt, ◌==◌, if◌then◌else◌, is_some, Option, Some, None, Result, Ok, Err}
+use Rattle.std.specs.Prelude.{ℕ, ◌%◌, Bool, true, not, ◌||◌, nat_lt, ◌==◌, if◌then◌else◌, is_some, Option, Some, None}
+use Rattle.std.specs.Prelude.{Result, Ok, Err}
 use Rattle.reference.specs.declared.access.Answer.{Answer}
 use Rattle.reference.specs.declared.access.Answer.TheVariants as answer
 use Rattle.reference.specs.declared.access.Kind.TheVariants.{Store}
@@ -32,7 +33,8 @@ is_there m (Word address value) = (is_in_flash m address 4 || is_in_ram m addres
 -- MSR by privileged code in Thread mode
 abbrev pub with_special_placed : State → SpecialRegister → ℕ → State
 with_special_placed s special value =
-    with_exceptions (with_registers s (with_special s.registers special value)) (with_mask s.bus.system.nvic special value)
+    with_exceptions (with_registers s (with_special s.registers special value))
+    (with_mask s.bus.system.nvic special value)
 
 abbrev pub special_taken : State → Option SpecialRegister → ℕ → Result State PlaceFault
 special_taken s None value = Err NoSuchPlace

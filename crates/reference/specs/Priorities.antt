@@ -4,11 +4,14 @@
 --
 -- A priority stands here 2 higher than in the manual, so that it's a whole number: 0 for the manual's -2, 1 for its -1,
 -- b + 2 for the byte b, and 258 for its 256.
-use Rattle.std.specs.Prelude.{ℕ, zero, suc, ◌+◌, ◌-◌, ◌*◌, ◌/◌, ◌%◌, ◌^◌, min, Bool, true, false, not, ◌&&◌, ◌||◌, ◌==◌, nat_lt, nat_le, if◌then◌else◌, List, slice_index, slice_index_or, slice_set, replicate, Option, Some, None}
+use Rattle.std.specs.Prelude.{ℕ, zero, suc, ◌+◌, ◌-◌, ◌*◌, ◌/◌, ◌%◌, ◌^◌, min, Bool, true, false, not, ◌&&◌, ◌||◌, ◌==◌}
+use Rattle.std.specs.Prelude.{nat_lt, nat_le, if◌then◌else◌, List, slice_index, slice_index_or, slice_set, replicate}
+use Rattle.std.specs.Prelude.{Option, Some, None}
 use Rattle.reference.specs.declared.exception.Escalation.{Escalation}
 use Rattle.reference.specs.declared.exception.Escalation.TheVariants.{Itself, HardFault, Lockup}
 use Rattle.reference.specs.declared.exception.Masks.{Masks}
-use Rattle.reference.specs.declared.exception.TheConstants.{NMI, HARD_FAULT, MEM_MANAGE, USAGE_FAULT, SV_CALL, PEND_SV, SYS_TICK, FIRST_LINE, MOST_LINES, EXCEPTIONS}
+use Rattle.reference.specs.declared.exception.TheConstants.{NMI, HARD_FAULT, MEM_MANAGE, USAGE_FAULT, SV_CALL, PEND_SV}
+use Rattle.reference.specs.declared.exception.TheConstants.{SYS_TICK, FIRST_LINE, MOST_LINES, EXCEPTIONS}
 use Rattle.reference.specs.Words.{is_bit}
 
 -- each set and the priorities have a place for each number below EXCEPTIONS, also for one that no exception has

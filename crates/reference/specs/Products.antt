@@ -1,6 +1,7 @@
 -- Multiplication and division (ARM DDI 0403, "Alphabetical list of ARMv7-M Thumb instructions": MUL, MLA, MLS, SMULL,
 -- UMULL, SMLAL, UMLAL, SDIV and UDIV, the operation of each).
-use Rattle.std.specs.Prelude.{ℕ, ◌+◌, ◌-◌, ◌*◌, ◌/◌, ◌%◌, ◌^◌, nat_lt, Bool, ◌==◌, if◌then◌else◌, ℤ, pos, negsuc, ◌+ℤ◌, ◌-ℤ◌, ◌*ℤ◌, int_div}
+use Rattle.std.specs.Prelude.{ℕ, ◌+◌, ◌-◌, ◌*◌, ◌/◌, ◌%◌, ◌^◌, nat_lt, Bool, ◌==◌, if◌then◌else◌, ℤ, pos, negsuc, ◌+ℤ◌}
+use Rattle.std.specs.Prelude.{◌-ℤ◌, ◌*ℤ◌, int_div}
 use Rattle.reference.specs.declared.operands.Accumulation.{Accumulation}
 use Rattle.reference.specs.declared.operands.Accumulation.TheVariants.{Add, Subtract}
 use Rattle.reference.specs.declared.operands.Divide.{Divide}

@@ -1,7 +1,9 @@
 -- The registers of the Memory Protection Unit, and which region an address belongs to (ARM DDI 0403, "Protected Memory
--- System Architecture, PMSAv7": "Register support for PMSAv7 in the SCS", and the pseudocode of ValidateAddress()). What
--- the manual calls UNPREDICTABLE at a write stops by name and changes nothing (profile).
-use Rattle.std.specs.Prelude.{◌≡◌, ℕ, zero, suc, ◌+◌, ◌-◌, ◌*◌, ◌/◌, ◌%◌, ◌^◌, ◌<◌, ◌≤◌, ◌⊎◌, Bool, true, not, ◌&&◌, ◌||◌, ◌==◌, nat_lt, nat_le, if◌then◌else◌, List, length, slice_index_or, slice_set, replicate, Option, Some, None, Result, Ok, Err, bit_and}
+-- System Architecture, PMSAv7": "Register support for PMSAv7 in the SCS", and the pseudocode of ValidateAddress()).
+-- What the manual calls UNPREDICTABLE at a write stops by name and changes nothing (profile).
+use Rattle.std.specs.Prelude.{◌≡◌, ℕ, zero, suc, ◌+◌, ◌-◌, ◌*◌, ◌/◌, ◌%◌, ◌^◌, ◌<◌, ◌≤◌, ◌⊎◌, Bool, true, not, ◌&&◌}
+use Rattle.std.specs.Prelude.{◌||◌, ◌==◌, nat_lt, nat_le, if◌then◌else◌, List, length, slice_index_or, slice_set}
+use Rattle.std.specs.Prelude.{replicate, Option, Some, None, Result, Ok, Err, bit_and}
 use Rattle.reference.specs.declared.mpu.MpuRegister.{MpuRegister}
 use Rattle.reference.specs.declared.mpu.MpuRegister.TheVariants as register
 use Rattle.reference.specs.declared.mpu.MpuStop.{MpuStop}
@@ -143,7 +145,8 @@ is_taken attributes =
     && (nat_le 7 (size attributes) || (switched_off attributes == 0)))
 
 abbrev pub write_attributes : Mpu → ℕ → Result Mpu MpuStop
-write_attributes m value = if is_taken (kept value) then Ok (with_attributes m m.number (kept value)) else Err stop.Region
+write_attributes m value = if is_taken (kept value) then Ok (with_attributes m m.number (kept value))
+    else Err stop.Region
 
 -- the registers after a write of a value, or why it stops; MPU_TYPE ignores writes
 unfoldable pub write : Mpu → MpuRegister → ℕ → Result Mpu MpuStop

@@ -1,5 +1,6 @@
 -- The core registers (ARM DDI 0403, "Registers" of the programmers' model, and the pseudocode of R[]).
-use Rattle.std.specs.Prelude.{ℕ, ◌+◌, ◌*◌, ◌/◌, ◌%◌, ◌^◌, Bool, false, not, ◌&&◌, ◌||◌, ◌==◌, if◌then◌else◌, List, Option, None, slice_index, slice_set, replicate}
+use Rattle.std.specs.Prelude.{ℕ, ◌+◌, ◌*◌, ◌/◌, ◌%◌, ◌^◌, Bool, false, not, ◌&&◌, ◌||◌, ◌==◌, if◌then◌else◌, List}
+use Rattle.std.specs.Prelude.{Option, None, slice_index, slice_set, replicate}
 use Rattle.reference.specs.declared.registers.Flags.{Flags}
 use Rattle.reference.specs.declared.registers.Marked.{Marked}
 use Rattle.reference.specs.Words.{word_sum, is_bit}

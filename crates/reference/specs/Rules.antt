@@ -1,15 +1,18 @@
 -- Which rule decides an access, and what it grants (ARM DDI 0403, "Protected Memory System Architecture, PMSAv7": "MPU
 -- fault handling", and the pseudocode of ValidateAddress(), DefaultAttrs() and CheckPermission()). The first case that
 -- fits decides.
-use Rattle.std.specs.Prelude.{◌≡◌, ℕ, ◌/◌, ◌^◌, ◌<◌, Bool, true, false, not, ◌&&◌, ◌||◌, ◌==◌, nat_lt, nat_le, if◌then◌else◌, Option, Some, None, ⊤}
+use Rattle.std.specs.Prelude.{◌≡◌, ℕ, ◌/◌, ◌^◌, ◌<◌, Bool, true, false, not, ◌&&◌, ◌||◌, ◌==◌, nat_lt, nat_le}
+use Rattle.std.specs.Prelude.{if◌then◌else◌, Option, Some, None, ⊤}
 use Rattle.reference.specs.declared.access.Decision.{Decision}
 use Rattle.reference.specs.declared.access.Kind.{Kind}
 use Rattle.reference.specs.declared.access.Kind.TheVariants.{Fetch, Load, Store, Push, Pop, Vector, Probe}
 use Rattle.reference.specs.declared.access.Rule.{Rule}
-use Rattle.reference.specs.declared.access.Rule.TheVariants.{NeverExecute, VectorRead, PrivatePeripheralBus, MpuOff, NegativePriority, Region, Background, NoRegion}
+use Rattle.reference.specs.declared.access.Rule.TheVariants.{NeverExecute, VectorRead, PrivatePeripheralBus, MpuOff}
+use Rattle.reference.specs.declared.access.Rule.TheVariants.{NegativePriority, Region, Background, NoRegion}
 use Rattle.reference.specs.Kinds.{is_fetch, is_vector}
 use Rattle.reference.specs.Map.{system_base, is_in_ppb}
-use Rattle.reference.specs.Regions.{Mpu, region, owner, permission, never_executes, is_on, is_on_below_zero, has_background, IsOwner}
+use Rattle.reference.specs.Regions.{Mpu, region, owner, permission, never_executes, is_on, is_on_below_zero}
+use Rattle.reference.specs.Regions.{has_background, IsOwner}
 
 -- whether the default map lets code be executed there, by address bits 31:29: code, RAM and external RAM, but no device
 -- and no system address

@@ -1,5 +1,5 @@
--- The rows of 16 bits in "Conditional branch, and Supervisor Call" and "Unconditional Branch" (ARM DDI 0403, "16-bit Thumb
--- instruction encoding").
+-- The rows of 16 bits in "Conditional branch, and Supervisor Call" and "Unconditional Branch" (ARM DDI 0403, "16-bit
+-- Thumb instruction encoding").
 use Rattle.std.specs.Prelude.{ℕ, ◌*◌, List, [], ◌∷◌, codes}
 use Rattle.reference.specs.declared.instruction.BlockPlace.TheVariants as place
 use Rattle.reference.specs.declared.instruction.Branch.TheVariants as branch
@@ -14,11 +14,13 @@ use Rattle.reference.specs.Words.{sign_extended}
 -- B with a condition: the offset counts halfwords, and is signed
 unfoldable pub branch_if_row : ℕ → ℕ → Decoded
 branch_if_row condition halfwords =
-    placed 2 place.Never (Branch (branch.Conditional (record { condition = condition; offset = sign_extended 9 (halfwords * 2) })))
+    placed 2 place.Never (Branch (branch.Conditional
+    (record { condition = condition; offset = sign_extended 9 (halfwords * 2) })))
 
 -- B: the offset counts halfwords, and is signed
 unfoldable pub branch_row : ℕ → Decoded
-branch_row halfwords = placed 2 place.LastOnly (Branch (branch.Immediate (record { offset = sign_extended 12 (halfwords * 2) })))
+branch_row halfwords = placed 2 place.LastOnly
+    (Branch (branch.Immediate (record { offset = sign_extended 12 (halfwords * 2) })))
 
 -- ---- the rows
 

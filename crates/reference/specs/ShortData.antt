@@ -1,11 +1,13 @@
 -- The rows of 16 bits in "Data processing" (ARM DDI 0403, "16-bit Thumb instruction encoding").
 use Rattle.std.specs.Prelude.{ℕ, List, [], ◌∷◌, codes}
-use Rattle.reference.specs.declared.instruction.DataProcessing.TheVariants.{MoveRegister, CompareRegister, ShiftByRegister, Multiply}
+use Rattle.reference.specs.declared.instruction.DataProcessing.TheVariants.{MoveRegister, CompareRegister}
+use Rattle.reference.specs.declared.instruction.DataProcessing.TheVariants.{ShiftByRegister, Multiply}
 use Rattle.reference.specs.declared.instruction.Decoded.{Decoded}
 use Rattle.reference.specs.declared.instruction.Instruction.TheVariants.{DataProcessing}
 use Rattle.reference.specs.declared.operands.Comparison.{Comparison}
 use Rattle.reference.specs.declared.operands.Comparison.TheVariants.{Test, Compare, CompareNegative}
-use Rattle.reference.specs.declared.operands.DataOperation.TheVariants.{And, BitClear, Or, ExclusiveOr, AddWithCarry, SubtractWithCarry, ReverseSubtract}
+use Rattle.reference.specs.declared.operands.DataOperation.TheVariants.{And, BitClear, Or, ExclusiveOr, AddWithCarry}
+use Rattle.reference.specs.declared.operands.DataOperation.TheVariants.{SubtractWithCarry, ReverseSubtract}
 use Rattle.reference.specs.declared.operands.FlagSetting.TheVariants as flags
 use Rattle.reference.specs.declared.operands.MoveOperation.TheVariants.{MoveNot}
 use Rattle.reference.specs.declared.shift.ShiftType.{ShiftType}

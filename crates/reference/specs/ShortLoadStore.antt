@@ -6,7 +6,8 @@ use Rattle.reference.specs.declared.access.Size.TheVariants.{Byte, Halfword, Wor
 use Rattle.reference.specs.declared.instruction.BlockPlace.TheVariants as place
 use Rattle.reference.specs.declared.instruction.Decoded.{Decoded}
 use Rattle.reference.specs.declared.instruction.Instruction.TheVariants.{LoadStore, LoadStoreMultiple}
-use Rattle.reference.specs.declared.instruction.LoadStore.TheVariants.{LoadImmediate, LoadRegister, LoadLiteral, StoreImmediate, StoreRegister}
+use Rattle.reference.specs.declared.instruction.LoadStore.TheVariants.{LoadImmediate, LoadRegister, LoadLiteral}
+use Rattle.reference.specs.declared.instruction.LoadStore.TheVariants.{StoreImmediate, StoreRegister}
 use Rattle.reference.specs.declared.instruction.LoadStoreMultiple.TheVariants.{LoadMultiple, StoreMultiple}
 use Rattle.reference.specs.declared.operands.ListOrder.TheVariants.{IncrementAfter}
 use Rattle.reference.specs.declared.stop.UnpredictableCase.TheVariants.{EmptyList, StoredBase}
@@ -18,12 +19,17 @@ use Rattle.reference.specs.Words.{is_bit}
 -- LDR at the PC and an offset, which counts words
 unfoldable pub load_literal_word_row : ℕ → ℕ → Decoded
 load_literal_word_row t words =
-    short (LoadStore (LoadLiteral (record { form = record { size = Word; signed = false }; target = t; offset = words * 4 })))
+    short (LoadStore (LoadLiteral (record {
+      form = record { size = Word; signed = false };
+      target = t;
+      offset = words * 4;
+    })))
 
 -- a store at two registers
 unfoldable pub store_register_row : Size → ℕ → ℕ → ℕ → Decoded
 store_register_row size t n m =
-    short (LoadStore (StoreRegister (record { size = size; target = t; address = record { base = n; index = m; shift = 0 } })))
+    short (LoadStore (StoreRegister
+    (record { size = size; target = t; address = record { base = n; index = m; shift = 0 } })))
 
 -- a load at two registers
 unfoldable pub load_register_row : Size → Bool → ℕ → ℕ → ℕ → Decoded
@@ -37,7 +43,8 @@ load_register_row size signed t n m =
 -- a store at a register and an offset
 unfoldable pub store_number_row : Size → ℕ → ℕ → ℕ → Decoded
 store_number_row size t n offset =
-    short (LoadStore (StoreImmediate (record { size = size; target = t; address = at_offset n offset; unprivileged = false })))
+    short (LoadStore (StoreImmediate
+    (record { size = size; target = t; address = at_offset n offset; unprivileged = false })))
 
 -- a load at a register and an offset
 unfoldable pub load_number_row : Size → ℕ → ℕ → ℕ → Decoded
@@ -58,13 +65,15 @@ unfoldable pub store_list_row : ℕ → ℕ → Decoded
 store_list_row n list =
     unless (list == 0) place.Anywhere EmptyList
     (unless (is_above_lowest n list) place.Anywhere StoredBase
-    (short (LoadStoreMultiple (StoreMultiple (record { base = n; list = list; order = IncrementAfter; write_back = true })))))
+    (short (LoadStoreMultiple (StoreMultiple
+    (record { base = n; list = list; order = IncrementAfter; write_back = true })))))
 
 -- LDM, which writes back where the base isn't in the list
 unfoldable pub load_list_row : ℕ → ℕ → Decoded
 load_list_row n list =
     unless (list == 0) place.Anywhere EmptyList
-    (short (LoadStoreMultiple (LoadMultiple (record { base = n; list = list; order = IncrementAfter; write_back = not (is_bit list n) }))))
+    (short (LoadStoreMultiple (LoadMultiple
+    (record { base = n; list = list; order = IncrementAfter; write_back = not (is_bit list n) }))))
 
 -- ---- the rows: at the PC or at two registers, at a register and an offset, of several registers
 

@@ -7,7 +7,8 @@ use Rattle.reference.specs.declared.instruction.BlockPlace.TheVariants as place
 use Rattle.reference.specs.declared.instruction.Branch.TheVariants as branch
 use Rattle.reference.specs.declared.instruction.DataProcessing.TheVariants.{DataImmediate, Address, Extend, Rearrange}
 use Rattle.reference.specs.declared.instruction.Decoded.{Decoded}
-use Rattle.reference.specs.declared.instruction.Instruction.TheVariants.{Branch, DataProcessing, LoadStoreMultiple, System}
+use Rattle.reference.specs.declared.instruction.Instruction.TheVariants.{Branch, DataProcessing, LoadStoreMultiple}
+use Rattle.reference.specs.declared.instruction.Instruction.TheVariants.{System}
 use Rattle.reference.specs.declared.instruction.LoadStoreMultiple.TheVariants.{LoadMultiple, StoreMultiple}
 use Rattle.reference.specs.declared.instruction.System.TheVariants.{ChangeProcessorState, Hint, Breakpoint}
 use Rattle.reference.specs.declared.operands.DataOperation.{DataOperation}
@@ -15,7 +16,8 @@ use Rattle.reference.specs.declared.operands.DataOperation.TheVariants.{Add, Sub
 use Rattle.reference.specs.declared.operands.FlagSetting.TheVariants as flags
 use Rattle.reference.specs.declared.operands.ListOrder.TheVariants.{IncrementAfter, DecrementBefore}
 use Rattle.reference.specs.declared.operands.Rearrangement.{Rearrangement}
-use Rattle.reference.specs.declared.operands.Rearrangement.TheVariants.{ReverseWord, ReverseHalfwords, ReverseSignedHalfword}
+use Rattle.reference.specs.declared.operands.Rearrangement.TheVariants.{ReverseWord, ReverseHalfwords}
+use Rattle.reference.specs.declared.operands.Rearrangement.TheVariants.{ReverseSignedHalfword}
 use Rattle.reference.specs.declared.stop.UnpredictableCase.TheVariants.{EmptyList, ItBlock, Registers}
 use Rattle.reference.specs.Patterns.{unspaced}
 use Rattle.reference.specs.RowOperands.{number, hint_of}
@@ -43,31 +45,36 @@ extend_row signed size d m =
 
 -- REV, REV16 and REVSH
 unfoldable pub rearrange_row : Rearrangement → ℕ → ℕ → Decoded
-rearrange_row operation d m = short (DataProcessing (Rearrange (record { operation = operation; destination = d; source = m })))
+rearrange_row operation d m = short
+    (DataProcessing (Rearrange (record { operation = operation; destination = d; source = m })))
 
 -- PUSH of registers from R0 to R7, and of LR
 unfoldable pub push_row : ℕ → ℕ → Decoded
 push_row lr list =
     unless (lr * 2 ^ 14 + list == 0) place.Anywhere EmptyList
-    (short (LoadStoreMultiple (StoreMultiple (record { base = 13; list = lr * 2 ^ 14 + list; order = DecrementBefore; write_back = true }))))
+    (short (LoadStoreMultiple (StoreMultiple
+    (record { base = 13; list = lr * 2 ^ 14 + list; order = DecrementBefore; write_back = true }))))
 
 -- POP of registers from R0 to R7, and of PC
 unfoldable pub pop_row : ℕ → ℕ → Decoded
 pop_row pc list =
     unless (pc * 2 ^ 15 + list == 0) (last_only_if (pc == 1)) EmptyList
     (placed 2 (last_only_if (pc == 1))
-    (LoadStoreMultiple (LoadMultiple (record { base = 13; list = pc * 2 ^ 15 + list; order = IncrementAfter; write_back = true }))))
+    (LoadStoreMultiple (LoadMultiple
+    (record { base = 13; list = pc * 2 ^ 15 + list; order = IncrementAfter; write_back = true }))))
 
 -- CBZ and CBNZ: the offset counts halfwords
 unfoldable pub compare_and_branch_row : Bool → ℕ → ℕ → Decoded
 compare_and_branch_row nonzero halfwords n =
-    placed 2 place.Never (Branch (branch.CompareAndBranch (record { nonzero = nonzero; register = n; offset = halfwords * 2 })))
+    placed 2 place.Never (Branch (branch.CompareAndBranch
+    (record { nonzero = nonzero; register = n; offset = halfwords * 2 })))
 
 -- CPS
 unfoldable pub change_state_row : Bool → Bool → Bool → Decoded
 change_state_row disables primask faultmask =
     unless (not primask && not faultmask) place.Never Registers
-    (placed 2 place.Never (System (ChangeProcessorState (record { disables = disables; primask = primask; faultmask = faultmask }))))
+    (placed 2 place.Never (System (ChangeProcessorState
+    (record { disables = disables; primask = primask; faultmask = faultmask }))))
 
 -- BKPT
 unfoldable pub breakpoint_row : ℕ → Decoded

@@ -2,7 +2,8 @@
 -- encoding").
 use Rattle.std.specs.Prelude.{ℕ, List, [], ◌∷◌, codes}
 use Rattle.reference.specs.declared.instruction.BlockPlace.TheVariants as place
-use Rattle.reference.specs.declared.instruction.DataProcessing.TheVariants.{DataImmediate, DataRegister, MoveImmediate, MoveRegister, CompareImmediate}
+use Rattle.reference.specs.declared.instruction.DataProcessing.TheVariants.{DataImmediate, DataRegister, MoveImmediate}
+use Rattle.reference.specs.declared.instruction.DataProcessing.TheVariants.{MoveRegister, CompareImmediate}
 use Rattle.reference.specs.declared.instruction.Decoded.{Decoded}
 use Rattle.reference.specs.declared.instruction.Instruction.TheVariants.{DataProcessing}
 use Rattle.reference.specs.declared.operands.Comparison.TheVariants.{Compare}
@@ -19,7 +20,12 @@ use Rattle.reference.specs.Rows.{Row, short, placed}
 unfoldable pub move_low_row : ℕ → ℕ → Decoded
 move_low_row d m =
     placed 2 place.Never
-    (DataProcessing (MoveRegister (record { operation = Move; flags = flags.Always; destination = d; source = unshifted m })))
+    (DataProcessing (MoveRegister (record {
+      operation = Move;
+      flags = flags.Always;
+      destination = d;
+      source = unshifted m;
+    })))
 
 -- a shift by a number: MOV of a shifted register
 unfoldable pub shift_number_row : ℕ → ℕ → ℕ → ℕ → Decoded
@@ -56,7 +62,8 @@ data_number_row operation d n value =
 -- MOV of a number
 unfoldable pub move_number_row : ℕ → ℕ → Decoded
 move_number_row d value =
-    short (DataProcessing (MoveImmediate (record { operation = Move; flags = flags.OutsideBlock; destination = d; source = number value })))
+    short (DataProcessing (MoveImmediate
+    (record { operation = Move; flags = flags.OutsideBlock; destination = d; source = number value })))
 
 -- CMP with a number
 unfoldable pub compare_number_row : ℕ → ℕ → Decoded

@@ -20,7 +20,13 @@ unfoldable pub add_high_row : ℕ → ℕ → Decoded
 add_high_row d m =
     unless (d == 15 && m == 15) (last_only_if (d == 15)) Registers
     (placed 2 (last_only_if (d == 15))
-    (DataProcessing (DataRegister (record { operation = Add; flags = flags.Never; destination = d; first = d; second = unshifted m }))))
+    (DataProcessing (DataRegister (record {
+      operation = Add;
+      flags = flags.Never;
+      destination = d;
+      first = d;
+      second = unshifted m;
+    }))))
 
 -- CMP of any registers, of which one is above R7
 unfoldable pub compare_high_row : ℕ → ℕ → Decoded
@@ -32,7 +38,12 @@ compare_high_row n m =
 unfoldable pub move_high_row : ℕ → ℕ → Decoded
 move_high_row d m =
     placed 2 (last_only_if (d == 15))
-    (DataProcessing (MoveRegister (record { operation = Move; flags = flags.Never; destination = d; source = unshifted m })))
+    (DataProcessing (MoveRegister (record {
+      operation = Move;
+      flags = flags.Never;
+      destination = d;
+      source = unshifted m;
+    })))
 
 -- BX
 unfoldable pub branch_exchange_row : ℕ → Decoded
@@ -41,7 +52,8 @@ branch_exchange_row m = placed 2 place.LastOnly (Branch (branch.Exchange (record
 -- BLX
 unfoldable pub branch_link_exchange_row : ℕ → Decoded
 branch_link_exchange_row m =
-    unless (m == 15) place.LastOnly Registers (placed 2 place.LastOnly (Branch (branch.Exchange (record { links = true; target = m }))))
+    unless (m == 15) place.LastOnly Registers
+    (placed 2 place.LastOnly (Branch (branch.Exchange (record { links = true; target = m }))))
 
 -- ---- the rows
 

@@ -1,11 +1,15 @@
 -- The special registers: what MRS reads, and what MSR and CPS write (ARM DDI 0403, the operation of MRS, MSR and CPS).
 -- The stack pointers, CONTROL and the parts of xPSR are in fields of `Registers`. The masks are in `Nvic`.
-use Rattle.std.specs.Prelude.{ℕ, ◌+◌, ◌*◌, ◌/◌, ◌%◌, ◌^◌, Bool, true, false, not, ◌&&◌, ◌||◌, ◌==◌, nat_lt, if◌then◌else◌, Option, Some, None}
+use Rattle.std.specs.Prelude.{ℕ, ◌+◌, ◌*◌, ◌/◌, ◌%◌, ◌^◌, Bool, true, false, not, ◌&&◌, ◌||◌, ◌==◌, nat_lt}
+use Rattle.std.specs.Prelude.{if◌then◌else◌, Option, Some, None}
 use Rattle.reference.specs.declared.exception.Masks.{Masks}
 use Rattle.reference.specs.declared.operands.ChangeProcessorState.{ChangeProcessorState}
 use Rattle.reference.specs.declared.operands.SpecialRegister.{SpecialRegister}
-use Rattle.reference.specs.declared.operands.SpecialRegister.TheVariants.{Apsr, Iapsr, Eapsr, Xpsr, Ipsr, Epsr, Iepsr, Msp, Psp, Primask, Basepri, BasepriMax, Faultmask, Control}
-use Rattle.reference.specs.Priorities.{Nvic, execution_priority, hard_fault_priority, kept, with_primask, with_faultmask, with_basepri}
+use Rattle.reference.specs.declared.operands.SpecialRegister.TheVariants.{Apsr, Iapsr, Eapsr, Xpsr, Ipsr, Epsr, Iepsr}
+use Rattle.reference.specs.declared.operands.SpecialRegister.TheVariants.{Msp, Psp, Primask, Basepri, BasepriMax}
+use Rattle.reference.specs.declared.operands.SpecialRegister.TheVariants.{Faultmask, Control}
+use Rattle.reference.specs.Priorities.{Nvic, execution_priority, hard_fault_priority, kept, with_primask}
+use Rattle.reference.specs.Priorities.{with_faultmask, with_basepri}
 use Rattle.reference.specs.Registers.{Registers, is_handler, is_privileged, apsr, flags_of, control, weighed}
 use Rattle.reference.specs.Words.{is_bit}
 

@@ -1,6 +1,7 @@
--- The state in which a machine starts (ARM DDI 0403, TakeReset()). What flash and RAM hold where no segment goes, and the
--- registers that TakeReset() leaves UNKNOWN, are the profile's.
-use Rattle.std.specs.Prelude.{ℕ, ◌+◌, ◌*◌, Bool, true, false, ◌&&◌, ◌||◌, if◌then◌else◌, List, [], ◌∷◌, length, replicate, None, Result, Ok, Err, unwrap_or}
+-- The state in which a machine starts (ARM DDI 0403, TakeReset()). What flash and RAM hold where no segment goes, and
+-- the registers that TakeReset() leaves UNKNOWN, are the profile's.
+use Rattle.std.specs.Prelude.{ℕ, ◌+◌, ◌*◌, Bool, true, false, ◌&&◌, ◌||◌, if◌then◌else◌, List, [], ◌∷◌, length}
+use Rattle.std.specs.Prelude.{replicate, None, Result, Ok, Err, unwrap_or}
 use Rattle.reference.specs.declared.fault.StartFault.{StartFault}
 use Rattle.reference.specs.declared.fault.StartFault.TheVariants.{SegmentOutsideMemory}
 use Rattle.reference.specs.declared.script.ScriptedEvent.{ScriptedEvent}

@@ -1,7 +1,8 @@
 -- The registers of configuration, and those that say what a fault was (ARM DDI 0403, "System Control Block": "Vector
 -- Table Offset Register", "System Control Register", "Configuration and Control Register", "Configurable Fault Status
 -- Register", "HardFault Status Register", "MemManage Address Register" and "BusFault Address Register").
-use Rattle.std.specs.Prelude.{ℕ, ◌-◌, ◌*◌, ◌/◌, ◌^◌, Bool, true, false, ◌==◌, if◌then◌else◌, Option, Some, None, Result, Ok, Err, bit_and, bit_or}
+use Rattle.std.specs.Prelude.{ℕ, ◌-◌, ◌*◌, ◌/◌, ◌^◌, Bool, true, false, ◌==◌, if◌then◌else◌, Option, Some, None, Result}
+use Rattle.std.specs.Prelude.{Ok, Err, bit_and, bit_or}
 use Rattle.reference.specs.declared.stop.LeftOut.TheVariants.{IgnoredBusFaults, SleepOnExit}
 use Rattle.reference.specs.declared.stop.Stop.{Stop}
 use Rattle.reference.specs.declared.stop.Stop.TheVariants.{OutOfProfile}

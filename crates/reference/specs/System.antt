@@ -1,6 +1,7 @@
 -- The System Control Space (ARM DDI 0403, "System Control Space"): its state, what an access to it does, and what a
 -- tick does to it. Each block of registers has a chapter of its own.
-use Rattle.std.specs.Prelude.{ℕ, zero, suc, ◌+◌, ◌-◌, ◌*◌, ◌/◌, ◌%◌, ◌^◌, Bool, true, false, not, ◌&&◌, ◌||◌, ◌==◌, if◌then◌else◌, List, Option, Some, None, Result, Ok, Err}
+use Rattle.std.specs.Prelude.{ℕ, zero, suc, ◌+◌, ◌-◌, ◌*◌, ◌/◌, ◌%◌, ◌^◌, Bool, true, false, not, ◌&&◌, ◌||◌, ◌==◌}
+use Rattle.std.specs.Prelude.{if◌then◌else◌, List, Option, Some, None, Result, Ok, Err}
 use Rattle.reference.specs.declared.access.Answer.{Answer}
 use Rattle.reference.specs.declared.access.Answer.TheVariants as answer
 use Rattle.reference.specs.declared.access.Request.{Request}
@@ -16,7 +17,9 @@ use Rattle.reference.specs.declared.system.SystemRegister.{SystemRegister}
 use Rattle.reference.specs.declared.system.SystemRegister.TheVariants as register
 use Rattle.reference.specs.Control.{control_at, read_control, write_control}
 use Rattle.reference.specs.Handlers.{handler_priority_at, read_shcsr, write_shcsr}
-use Rattle.reference.specs.Interrupts.{ictr, interrupts_at, word_number, read_interrupts, write_interrupts, interrupt_priority_at, read_priorities, write_priorities, stir_address, triggered}
+use Rattle.reference.specs.Interrupts.{ictr, interrupts_at, word_number, read_interrupts, write_interrupts}
+use Rattle.reference.specs.Interrupts.{interrupt_priority_at, read_priorities, write_priorities, stir_address}
+use Rattle.reference.specs.Interrupts.{triggered}
 use Rattle.reference.specs.Kinds.{bytes_in, is_word, is_load, is_store}
 use Rattle.reference.specs.Priorities.{Nvic, is_interrupt, with_pending, with_active, reset_nvic}
 use Rattle.reference.specs.Regions.{Mpu, register_at as mpu_at, read as read_mpu, write as write_mpu, stop_of, fresh}
@@ -171,7 +174,8 @@ written s q register.Ictr = Ok s
 written s q (register.SysTick it) = Ok (with_systick s (write_systick s.time.systick it q.value))
 written s q (register.Interrupts it k) = Ok (with_nvic s (write_interrupts s.nvic it k q.value))
 written s q (register.Priorities first) =
-    Ok (with_nvic s (write_priorities s.nvic (first + first_byte q.access.size q.access.address) q.value (bytes_in q.access.size)))
+    Ok (with_nvic s (write_priorities s.nvic (first + first_byte q.access.size q.access.address) q.value
+    (bytes_in q.access.size)))
 written s q (register.Control it) = nvic_written s (write_control s.nvic it q.value)
 written s q register.Shcsr = nvic_written s (write_shcsr s.nvic q.value)
 written s q (register.Status it) = status_written s (write_status s.status it (in_place q))
@@ -182,7 +186,8 @@ written s q register.Unlisted = Ok s
 -- unprivileged code may store a word to STIR where CCR.USERSETMPEND is 1, and nothing else
 abbrev pub is_allowed : System → Request → Bool
 is_allowed s q =
-    q.access.privileged || (is_store q.access.kind && is_word q.access.size && (q.access.address == stir_address) && usersetmpend s.status)
+    q.access.privileged || (is_store q.access.kind && is_word q.access.size && (q.access.address == stir_address)
+    && usersetmpend s.status)
 
 -- an access to a register: its privilege is asked first, then its width
 unfoldable pub register_access : ℕ → System → Request → SystemRegister → Replied

@@ -1,12 +1,13 @@
--- The instructions for special registers, the hints, SVC and BKPT (ARM DDI 0403, the operation of CPS, MSR, MRS, WFI, SVC,
--- BKPT and the other hints): none asks for an access, and what each does beside the PC is its ending.
+-- The instructions for special registers, the hints, SVC and BKPT (ARM DDI 0403, the operation of CPS, MSR, MRS, WFI,
+-- SVC, BKPT and the other hints): none asks for an access, and what each does beside the PC is its ending.
 use Rattle.std.specs.Prelude.{ℕ, Bool, true, false}
 use Rattle.reference.specs.declared.instruction.Ending.{Ending}
 use Rattle.reference.specs.declared.instruction.Ending.TheVariants as ending
 use Rattle.reference.specs.declared.instruction.Hint.{Hint as HintWord}
 use Rattle.reference.specs.declared.instruction.Hint.TheVariants as hint
 use Rattle.reference.specs.declared.instruction.System.{System}
-use Rattle.reference.specs.declared.instruction.System.TheVariants.{ChangeProcessorState, MoveToSpecial, MoveFromSpecial, Hint, SupervisorCall, Breakpoint}
+use Rattle.reference.specs.declared.instruction.System.TheVariants.{ChangeProcessorState, MoveToSpecial}
+use Rattle.reference.specs.declared.instruction.System.TheVariants.{MoveFromSpecial, Hint, SupervisorCall, Breakpoint}
 use Rattle.reference.specs.ProgramCounter.{Finished, moves_on}
 use Rattle.reference.specs.Registers.{Registers, register}
 

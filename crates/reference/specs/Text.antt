@@ -1,6 +1,8 @@
--- The text of the trace (profile): one line for each event, and one for the stop. Each line ends with a line feed. Ticks,
--- sizes, and the numbers of regions, exceptions and breakpoints are decimal, all other numbers hexadecimal, in upper case.
-use Rattle.std.specs.Prelude.{ℕ, ◌+◌, ◌/◌, ◌%◌, nat_lt, Bool, true, false, if◌then◌else◌, List, [], ◌∷◌, ◌++◌, Option, Some, None, codes, decimal}
+-- The text of the trace (profile): one line for each event, and one for the stop. Each line ends with a line feed.
+-- Ticks, sizes, and the numbers of regions, exceptions and breakpoints are decimal, all other numbers hexadecimal, in
+-- upper case.
+use Rattle.std.specs.Prelude.{ℕ, ◌+◌, ◌/◌, ◌%◌, nat_lt, Bool, true, false, if◌then◌else◌, List, [], ◌∷◌, ◌++◌, Option}
+use Rattle.std.specs.Prelude.{Some, None, codes, decimal}
 use Rattle.reference.specs.declared.access.Access.{Access}
 use Rattle.reference.specs.declared.access.Cause.{Cause}
 use Rattle.reference.specs.declared.access.Cause.TheVariants.{Mpu, Bus}
@@ -8,17 +10,25 @@ use Rattle.reference.specs.declared.access.DecidedAccess.{DecidedAccess}
 use Rattle.reference.specs.declared.access.Kind.{Kind}
 use Rattle.reference.specs.declared.access.Kind.TheVariants.{Fetch, Load, Store, Push, Pop, Vector, Probe}
 use Rattle.reference.specs.declared.access.Rule.{Rule}
-use Rattle.reference.specs.declared.access.Rule.TheVariants.{NeverExecute, VectorRead, PrivatePeripheralBus, MpuOff, NegativePriority, Region, Background, NoRegion}
+use Rattle.reference.specs.declared.access.Rule.TheVariants.{NeverExecute, VectorRead, PrivatePeripheralBus, MpuOff}
+use Rattle.reference.specs.declared.access.Rule.TheVariants.{NegativePriority, Region, Background, NoRegion}
 use Rattle.reference.specs.declared.event.Event.{Event}
 use Rattle.reference.specs.declared.event.Happening.{Happening}
-use Rattle.reference.specs.declared.event.Happening.TheVariants.{Accessed, ConsoleByte, ReturnBegan, HandlerEntered, FaultRecorded}
+use Rattle.reference.specs.declared.event.Happening.TheVariants.{Accessed, ConsoleByte, ReturnBegan, HandlerEntered}
+use Rattle.reference.specs.declared.event.Happening.TheVariants.{FaultRecorded}
 use Rattle.reference.specs.declared.event.RecordedFault.{RecordedFault}
 use Rattle.reference.specs.declared.stop.LeftOut.{LeftOut}
-use Rattle.reference.specs.declared.stop.LeftOut.TheVariants.{ExclusiveDevice, UnalignedDevice, RegisterWidth, ActiveBit, IgnoredBusFaults, SleepOnExit, ResetControl, ClockEnd}
+use Rattle.reference.specs.declared.stop.LeftOut.TheVariants.{ExclusiveDevice, UnalignedDevice, RegisterWidth}
+use Rattle.reference.specs.declared.stop.LeftOut.TheVariants.{ActiveBit, IgnoredBusFaults, SleepOnExit, ResetControl}
+use Rattle.reference.specs.declared.stop.LeftOut.TheVariants.{ClockEnd}
 use Rattle.reference.specs.declared.stop.Stop.{Stop}
-use Rattle.reference.specs.declared.stop.Stop.TheVariants.{StepLimit, Breakpoint, Lockup, Unpredictable, OutOfProfile, ResetRequested}
+use Rattle.reference.specs.declared.stop.Stop.TheVariants.{StepLimit, Breakpoint, Lockup, Unpredictable, OutOfProfile}
+use Rattle.reference.specs.declared.stop.Stop.TheVariants.{ResetRequested}
 use Rattle.reference.specs.declared.stop.UnpredictableCase.{UnpredictableCase}
-use Rattle.reference.specs.declared.stop.UnpredictableCase.TheVariants.{Encoding, ItBlock, EmptyList, Registers, StoredBase, Immediate, BitField, SpecialRegister, LoadPc, LiteralPc, MpuRegion, MpuControl, Icsr, ExceptionReturn, PoppedPc}
+use Rattle.reference.specs.declared.stop.UnpredictableCase.TheVariants.{Encoding, ItBlock, EmptyList, Registers}
+use Rattle.reference.specs.declared.stop.UnpredictableCase.TheVariants.{StoredBase, Immediate, BitField}
+use Rattle.reference.specs.declared.stop.UnpredictableCase.TheVariants.{SpecialRegister, LoadPc, LiteralPc, MpuRegion}
+use Rattle.reference.specs.declared.stop.UnpredictableCase.TheVariants.{MpuControl, Icsr, ExceptionReturn, PoppedPc}
 use Rattle.reference.specs.Kinds.{bytes_in}
 
 -- the digit of a number below 16
@@ -31,7 +41,8 @@ hex_byte n = hex_digit (n / 16) ∷ hex_digit (n % 16) ∷ []
 
 -- eight digits
 abbrev pub hex_word : ℕ → List ℕ
-hex_word n = ((hex_byte (n / 0x100_0000) ++ hex_byte (n / 0x1_0000 % 256)) ++ hex_byte (n / 0x100 % 256)) ++ hex_byte (n % 256)
+hex_word n = ((hex_byte (n / 0x100_0000) ++ hex_byte (n / 0x1_0000 % 256)) ++ hex_byte (n / 0x100 % 256))
+    ++ hex_byte (n % 256)
 
 abbrev pub line_feed : List ℕ
 line_feed = 10 ∷ []

@@ -1,7 +1,8 @@
 -- Time: the clock, SysTick (ARM DDI 0403, "System timer, SysTick"), the lines of the external interrupts and the script
--- of events. That each tick is one count of SysTick is this project's choice, and so is all that is said of the clock, of
--- lines and of scripts (profile).
-use Rattle.std.specs.Prelude.{ℕ, ◌+◌, ◌-◌, ◌%◌, ◌^◌, ◌<◌, min, Bool, true, false, ◌&&◌, ◌||◌, nat_le, ◌==◌, ◌≡◌, if◌then◌else◌, List, [], ◌∷◌, take, drop, slice_set, slice_index_or, replicate}
+-- of events. That each tick is one count of SysTick is this project's choice, and so is all that is said of the clock,
+-- of lines and of scripts (profile).
+use Rattle.std.specs.Prelude.{ℕ, ◌+◌, ◌-◌, ◌%◌, ◌^◌, ◌<◌, min, Bool, true, false, ◌&&◌, ◌||◌, nat_le, ◌==◌, ◌≡◌}
+use Rattle.std.specs.Prelude.{if◌then◌else◌, List, [], ◌∷◌, take, drop, slice_set, slice_index_or, replicate}
 use Rattle.std.specs.List.{prefix_len, list_any}
 use Rattle.reference.specs.declared.exception.TheConstants.{NMI, SYS_TICK, FIRST_LINE, MOST_LINES}
 use Rattle.reference.specs.declared.script.ScriptedEvent.{ScriptedEvent}

@@ -1,6 +1,7 @@
 -- Operations on two operands, moves, comparisons, shifts by a register and ADR (ARM DDI 0403, "Alphabetical list of
 -- ARMv7-M Thumb instructions", the operation of each). The PC still stands at the instruction: going on is the step's.
-use Rattle.std.specs.Prelude.{ℕ, ◌+◌, ◌-◌, ◌*◌, ◌/◌, ◌%◌, ◌^◌, Bool, true, false, not, if◌then◌else◌, bit_and, bit_or, bit_xor}
+use Rattle.std.specs.Prelude.{ℕ, ◌+◌, ◌-◌, ◌*◌, ◌/◌, ◌%◌, ◌^◌, Bool, true, false, not, if◌then◌else◌, bit_and, bit_or}
+use Rattle.std.specs.Prelude.{bit_xor}
 use Rattle.std.specs.Option.{unwrap_or}
 use Rattle.reference.specs.declared.operands.Address.{Address}
 use Rattle.reference.specs.declared.operands.CompareImmediate.{CompareImmediate}
@@ -9,7 +10,9 @@ use Rattle.reference.specs.declared.operands.Comparison.{Comparison}
 use Rattle.reference.specs.declared.operands.Comparison.TheVariants.{Test, TestEquivalence, Compare, CompareNegative}
 use Rattle.reference.specs.declared.operands.DataImmediate.{DataImmediate}
 use Rattle.reference.specs.declared.operands.DataOperation.{DataOperation}
-use Rattle.reference.specs.declared.operands.DataOperation.TheVariants.{And, BitClear, Or, OrNot, ExclusiveOr, Add, AddWithCarry, SubtractWithCarry, Subtract, ReverseSubtract}
+use Rattle.reference.specs.declared.operands.DataOperation.TheVariants.{And, BitClear, Or, OrNot, ExclusiveOr, Add}
+use Rattle.reference.specs.declared.operands.DataOperation.TheVariants.{AddWithCarry, SubtractWithCarry, Subtract}
+use Rattle.reference.specs.declared.operands.DataOperation.TheVariants.{ReverseSubtract}
 use Rattle.reference.specs.declared.operands.DataRegister.{DataRegister}
 use Rattle.reference.specs.declared.operands.FlagSetting.{FlagSetting}
 use Rattle.reference.specs.declared.operands.FlagSetting.TheVariants.{Never, OutsideBlock, Always}

@@ -1,8 +1,11 @@
 -- Each write to a register of the exceptions leaves the sets and the bytes as the board has them.
-use Rattle.std.proofs.Common.{ℕ, zero, suc, ◌+◌, ◌*◌, ◌/◌, ◌%◌, ◌^◌, not, ◌&&◌, ◌||◌, ◌==◌, nat_lt, Bool, true, false, if◌then◌else◌, Result, bit_and}
-use Rattle.nvic.proofs.Boards.{pending_of_board, enabled_of_board, priority_of_board, group_of_board, primask_of_board, faultmask_of_board, basepri_of_board}
+use Rattle.std.proofs.Common.{ℕ, zero, suc, ◌+◌, ◌*◌, ◌/◌, ◌%◌, ◌^◌, not, ◌&&◌, ◌||◌, ◌==◌, nat_lt, Bool, true, false}
+use Rattle.std.proofs.Common.{if◌then◌else◌, Result, bit_and}
+use Rattle.nvic.proofs.Boards.{pending_of_board, enabled_of_board, priority_of_board, group_of_board, primask_of_board}
+use Rattle.nvic.proofs.Boards.{faultmask_of_board, basepri_of_board}
 use Rattle.nvic.specs.Laws.{IsOfBoard}
-use Rattle.reference.specs.declared.exception.TheConstants.{NMI, MEM_MANAGE, BUS_FAULT, USAGE_FAULT, SV_CALL, PEND_SV, SYS_TICK, FIRST_LINE, EXCEPTIONS}
+use Rattle.reference.specs.declared.exception.TheConstants.{NMI, MEM_MANAGE, BUS_FAULT, USAGE_FAULT, SV_CALL, PEND_SV}
+use Rattle.reference.specs.declared.exception.TheConstants.{SYS_TICK, FIRST_LINE, EXCEPTIONS}
 use Rattle.reference.specs.declared.operands.ChangeProcessorState.{ChangeProcessorState}
 use Rattle.reference.specs.declared.operands.SpecialRegister.{SpecialRegister}
 use Rattle.reference.specs.declared.operands.SpecialRegister.TheVariants as special
@@ -13,9 +16,11 @@ use Rattle.reference.specs.declared.system.InterruptRegister.{InterruptRegister}
 use Rattle.reference.specs.declared.system.InterruptRegister.TheVariants.{Iser, Icer, Ispr, Icpr, Iabr}
 use Rattle.reference.specs.Control.{set_or_cleared, write_icsr, write_aircr, write_control}
 use Rattle.reference.specs.Handlers.{handlers_active, with_handlers_pending, with_handlers_enabled, write_shcsr}
-use Rattle.reference.specs.Interrupts.{first_exception, with_one, with_bit, with_bits_below, write_interrupts, write_priorities, triggered}
+use Rattle.reference.specs.Interrupts.{first_exception, with_one, with_bit, with_bits_below, write_interrupts}
+use Rattle.reference.specs.Interrupts.{write_priorities, triggered}
 use Rattle.reference.specs.Priorities.{Nvic, kept, execution_priority, hard_fault_priority}
-use Rattle.reference.specs.SpecialRegisters.{faultmask_written, is_tighter, basepri_max_written, with_mask, write_mask, change_state}
+use Rattle.reference.specs.SpecialRegisters.{faultmask_written, is_tighter, basepri_max_written, with_mask, write_mask}
+use Rattle.reference.specs.SpecialRegisters.{change_state}
 use Rattle.reference.specs.System.{with_pended_at, with_pended_below, with_pended}
 use Rattle.reference.specs.Words.{is_bit}
 use Rattle.scs.specs.Writes.{left}
@@ -28,7 +33,8 @@ either false x y first second = second
 abbrev LeavesBoard : Nvic → Result Nvic Stop → Type 0
 LeavesBoard n made = IsOfBoard (left n made)
 
-either_made : (n : Nvic) (test : Bool) (x y : Result Nvic Stop) → LeavesBoard n x → LeavesBoard n y → LeavesBoard n (if test then x else y)
+either_made : (n : Nvic) (test : Bool) (x y : Result Nvic Stop) → LeavesBoard n x → LeavesBoard n y
+    → LeavesBoard n (if test then x else y)
 either_made n true x y first second = first
 either_made n false x y first second = second
 
@@ -42,16 +48,20 @@ one n Ispr x h = pending_of_board n x true h
 one n Icpr x h = pending_of_board n x false h
 one n Iabr x h = h
 
-bit : (n : Nvic) (register : InterruptRegister) (x value b : ℕ) → IsOfBoard n → IsOfBoard (with_bit n register x value b)
+bit : (n : Nvic) (register : InterruptRegister) (x value b : ℕ) → IsOfBoard n
+    → IsOfBoard (with_bit n register x value b)
 unfolding with_bit
 bit n register x value b h = either (is_bit value b) _ _ (one n register (x + b) h) h
 
-bits : (n : Nvic) (register : InterruptRegister) (x value b : ℕ) → IsOfBoard n → IsOfBoard (with_bits_below n register x value b)
+bits : (n : Nvic) (register : InterruptRegister) (x value b : ℕ) → IsOfBoard n
+    → IsOfBoard (with_bits_below n register x value b)
 unfolding with_bits_below
 bits n register x value zero h = h
-bits n register x value (suc b) h = bit (with_bits_below n register x value b) register x value b (bits n register x value b h)
+bits n register x value (suc b) h =
+    bit (with_bits_below n register x value b) register x value b (bits n register x value b h)
 
-pub interrupts : (n : Nvic) (register : InterruptRegister) (k value : ℕ) → IsOfBoard n → IsOfBoard (write_interrupts n register k value)
+pub interrupts : (n : Nvic) (register : InterruptRegister) (k value : ℕ) → IsOfBoard n
+    → IsOfBoard (write_interrupts n register k value)
 unfolding write_interrupts
 interrupts n register k value h = bits n register (first_exception k) value 32 h
 
@@ -85,7 +95,8 @@ aircr n value h =
     (either_made n (is_bit value 0 || is_bit value 1) _ _ h
     (either_made n (is_bit value 2) _ _ h (group_of_board n (value / 2 ^ 8 % 8) h)))
 
-pub control : (n : Nvic) (register : ControlRegister) (value : ℕ) → IsOfBoard n → LeavesBoard n (write_control n register value)
+pub control : (n : Nvic) (register : ControlRegister) (value : ℕ) → IsOfBoard n
+    → LeavesBoard n (write_control n register value)
 unfolding write_control
 control n Cpuid value h = h
 control n Icsr value h = icsr n value h
@@ -144,11 +155,13 @@ mask n special.BasepriMax value h = basepri_max n (value % 2 ^ 8) h
 mask n special.Faultmask value h = faultmask n (is_bit value 0) h
 mask n special.Control value h = h
 
-pub masks : (privileged : Bool) (n : Nvic) (register : SpecialRegister) (value : ℕ) → IsOfBoard n → IsOfBoard (write_mask privileged n register value)
+pub masks : (privileged : Bool) (n : Nvic) (register : SpecialRegister) (value : ℕ) → IsOfBoard n
+    → IsOfBoard (write_mask privileged n register value)
 unfolding write_mask
 masks privileged n register value h = either privileged _ _ (mask n register value h) h
 
-pub change : (privileged : Bool) (n : Nvic) (o : ChangeProcessorState) → IsOfBoard n → IsOfBoard (change_state privileged n o)
+pub change : (privileged : Bool) (n : Nvic) (o : ChangeProcessorState) → IsOfBoard n
+    → IsOfBoard (change_state privileged n o)
 unfolding change_state
 change privileged n o h =
     let primask = either o.primask _ _ (primask_of_board n o.disables h) h in

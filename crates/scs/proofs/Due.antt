@@ -4,7 +4,8 @@ use Rattle.reference.specs.Priorities.{Nvic, with_due_at, with_due_below, with_d
 use Rattle.reference.specs.System.{with_pended_at, with_pended_below, with_pended}
 use Rattle.reference.specs.Time.{IsSetOf}
 
-due_below : (n : Nvic) (due : List ℕ) (test : ℕ → Bool) → IsSetOf due test → (x : ℕ) → x ≤ 256 → with_due_below n due x ≡ with_pended_below n test x
+due_below : (n : Nvic) (due : List ℕ) (test : ℕ → Bool) → IsSetOf due test → (x : ℕ) → x ≤ 256
+    → with_due_below n due x ≡ with_pended_below n test x
 unfolding with_due_below with_due_at with_pended_below with_pended_at
 due_below n due test same zero within = refl
 due_below n due test same (suc x) within =

@@ -22,5 +22,7 @@ within Byte address v = byte_within (v % 256) (address % 4) (omega arith) (omega
 within Halfword address v = halfword_within (v % 65536) (address / 2 % 2) (omega arith) (omega arith)
 within Word address v = omega arith
 
-pub placed : (size : Size) (address v : ℕ) → v % 256 ^ bytes_in size * 2 ^ (8 * first_byte size address) % 2 ^ 32 ≡ v % 256 ^ bytes_in size * 2 ^ (8 * first_byte size address)
+pub placed : (size : Size) (address v : ℕ)
+    → v % 256 ^ bytes_in size * 2 ^ (8 * first_byte size address) % 2 ^ 32
+    ≡ v % 256 ^ bytes_in size * 2 ^ (8 * first_byte size address)
 placed size address v = let small = within size address v in omega arith

@@ -5,7 +5,8 @@ use Rattle.reference.specs.declared.stop.Stop.{Stop as Why}
 use Rattle.reference.specs.declared.system.SystemRegister.{SystemRegister}
 use Rattle.reference.specs.Answers.{LeavesUnlessDone}
 use Rattle.reference.specs.Kinds.{is_load, is_store}
-use Rattle.reference.specs.System.{System, Replied, replied, is_allowed, has_width, written, register_at, register_access, system_access}
+use Rattle.reference.specs.System.{System, Replied, replied, is_allowed, has_width, written, register_at}
+use Rattle.reference.specs.System.{register_access, system_access}
 
 abbrev Keeps : System → Replied → Type 0
 Keeps s r = LeavesUnlessDone r.answer s r.system
@@ -26,7 +27,9 @@ register_keeps x s q it =
     (either s (is_store q.access.kind) _ _ (replied_keeps s (written s q it)) tt))
 
 -- an access that isn't carried out leaves the system as it was
-pub system_keeps : (x : ℕ) (s : System) (q : Request) → LeavesUnlessDone (system_access x s q).answer s (system_access x s q).system
+pub system_keeps : (x : ℕ) (s : System) (q : Request)
+    → LeavesUnlessDone (system_access x s q).answer s (system_access x s q).system
 unfolding system_access
 system_keeps x s q =
-    either s (is_load q.access.kind || is_store q.access.kind) _ _ (register_keeps x s q (register_at (q.access.address / 4 * 4))) refl
+    either s (is_load q.access.kind || is_store q.access.kind) _ _
+    (register_keeps x s q (register_at (q.access.address / 4 * 4))) refl

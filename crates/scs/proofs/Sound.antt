@@ -1,5 +1,6 @@
 -- The system is sound after a reset and stays so.
-use Rattle.std.proofs.Common.{◌≡◌, ◌⊎◌, ℕ, ◌+◌, ◌-◌, ◌/◌, ◌*◌, ◌^◌, ◌<◌, ◌||◌, ◌==◌, not, Bool, true, false, if◌then◌else◌, List, Result, Ok, Err, arith}
+use Rattle.std.proofs.Common.{◌≡◌, ◌⊎◌, ℕ, ◌+◌, ◌-◌, ◌/◌, ◌*◌, ◌^◌, ◌<◌, ◌||◌, ◌==◌, not, Bool, true, false}
+use Rattle.std.proofs.Common.{if◌then◌else◌, List, Result, Ok, Err, arith}
 use Rattle.clock.proofs.Scripts.{applies_those}
 use Rattle.clock.specs.Laws.{IsSortedFrom}
 use Rattle.mpu.proofs.Writes.{sound_at_reset, sound_after_write}
@@ -19,7 +20,10 @@ use Rattle.reference.specs.Kinds.{bytes_in, is_load, is_store}
 use Rattle.reference.specs.Priorities.{Nvic, with_active}
 use Rattle.reference.specs.Regions.{Mpu, IsSound as IsSoundMpu, left as left_mpu, write as write_mpu}
 use Rattle.reference.specs.Status.{Status, write_status}
-use Rattle.reference.specs.System.{System, Replied, replied, with_nvic, with_systick, nvic_written, status_written, mpu_written, in_place, first_byte, is_allowed, has_width, after_read, written, register_at, register_access, system_access, after_tick, reset_system, is_held, deactivated}
+use Rattle.reference.specs.System.{System, Replied, replied, with_nvic, with_systick, nvic_written, status_written}
+use Rattle.reference.specs.System.{mpu_written, in_place, first_byte, is_allowed, has_width, after_read, written}
+use Rattle.reference.specs.System.{register_at, register_access, system_access, after_tick, reset_system, is_held}
+use Rattle.reference.specs.System.{deactivated}
 use Rattle.reference.specs.SysTickRegisters.{after_systick_read, write_systick}
 use Rattle.reference.specs.Time.{SysTick, next_current, tick_pends, after_tick as time_after_tick}
 use Rattle.scs.proofs.Boards.{interrupts, priorities, trigger, control, shcsr, pended}
@@ -41,7 +45,8 @@ nvic_changed s n h board = record {
   script = h.script;
 }
 
-systick_changed : (s : System) (t : SysTick) → IsSound s → t.reload < 2 ^ 24 → t.current < 2 ^ 24 → IsSound (with_systick s t)
+systick_changed : (s : System) (t : SysTick) → IsSound s → t.reload < 2 ^ 24 → t.current < 2 ^ 24
+    → IsSound (with_systick s t)
 systick_changed s t h reload current = record {
   mpu = h.mpu;
   nvic = h.nvic;
@@ -50,7 +55,8 @@ systick_changed s t h reload current = record {
   script = h.script;
 }
 
-nvic_left : (s : System) (made : Result Nvic Stop) → IsSound s → IsOfBoard (left s.nvic made) → IsSound (left s (nvic_written s made))
+nvic_left : (s : System) (made : Result Nvic Stop) → IsSound s → IsOfBoard (left s.nvic made)
+    → IsSound (left s (nvic_written s made))
 nvic_left s (Ok n) h board = nvic_changed s n h board
 nvic_left s (Err why) h board = h
 
@@ -64,7 +70,8 @@ status_left s (Ok st) h = record {
 }
 status_left s (Err why) h = h
 
-mpu_left : (s : System) (made : Result Mpu MpuStop) → IsSound s → IsSoundMpu (left_mpu s.mpu made) → IsSound (left s (mpu_written s made))
+mpu_left : (s : System) (made : Result Mpu MpuStop) → IsSound s → IsSoundMpu (left_mpu s.mpu made)
+    → IsSound (left s (mpu_written s made))
 mpu_left s (Ok m) h sound = record {
   mpu = sound;
   nvic = h.nvic;
@@ -76,7 +83,8 @@ mpu_left s (Err why) h sound = h
 
 -- ---- accesses
 
-systick_read : (s : System) (it : SysTickRegister) → IsSound s → IsSound (with_systick s (after_systick_read s.time.systick it))
+systick_read : (s : System) (it : SysTickRegister) → IsSound s
+    → IsSound (with_systick s (after_systick_read s.time.systick it))
 unfolding after_systick_read
 systick_read s Csr h = systick_changed s _ h h.reload h.current
 systick_read s Rvr h = systick_changed s _ h h.reload h.current
@@ -95,7 +103,8 @@ read_sound s (register.Mpu it) h = h
 read_sound s register.Stir h = h
 read_sound s register.Unlisted h = h
 
-systick_written : (s : System) (it : SysTickRegister) (value : ℕ) → IsSound s → IsSound (with_systick s (write_systick s.time.systick it value))
+systick_written : (s : System) (it : SysTickRegister) (value : ℕ) → IsSound s
+    → IsSound (with_systick s (write_systick s.time.systick it value))
 unfolding write_systick
 systick_written s Csr value h = systick_changed s _ h h.reload h.current
 systick_written s Rvr value h = systick_changed s _ h (omega arith) h.current
@@ -107,7 +116,8 @@ written_sound s q register.Ictr h = h
 written_sound s q (register.SysTick it) h = systick_written s it q.value h
 written_sound s q (register.Interrupts it k) h = nvic_changed s _ h (interrupts s.nvic it k q.value h.nvic)
 written_sound s q (register.Priorities first) h =
-    nvic_changed s _ h (priorities s.nvic (first + first_byte q.access.size q.access.address) q.value (bytes_in q.access.size) h.nvic)
+    nvic_changed s _ h (priorities s.nvic (first + first_byte q.access.size q.access.address) q.value
+    (bytes_in q.access.size) h.nvic)
 written_sound s q (register.Control it) h =
     nvic_left s (write_control s.nvic it q.value) h (control s.nvic it q.value h.nvic)
 written_sound s q register.Shcsr h = nvic_left s (write_shcsr s.nvic q.value) h (shcsr s.nvic q.value h.nvic)
@@ -121,11 +131,13 @@ replied_sound : (s : System) (made : Result System Stop) → IsSound (left s mad
 replied_sound s (Ok after) h = h
 replied_sound s (Err why) h = h
 
-either_replied : (test : Bool) (x y : Replied) → IsSound x.system → IsSound y.system → IsSound (if test then x else y).system
+either_replied : (test : Bool) (x y : Replied) → IsSound x.system → IsSound y.system
+    → IsSound (if test then x else y).system
 either_replied true x y first second = first
 either_replied false x y first second = second
 
-register_sound : (x : ℕ) (s : System) (q : Request) (it : SystemRegister) → IsSound s → IsSound (register_access x s q it).system
+register_sound : (x : ℕ) (s : System) (q : Request) (it : SystemRegister) → IsSound s
+    → IsSound (register_access x s q it).system
 unfolding register_access
 register_sound x s q it h =
     either_replied (not (is_allowed s q)) _ _ h
@@ -137,7 +149,8 @@ register_sound x s q it h =
 pub access_sound : (x : ℕ) (s : System) (q : Request) → IsSound s → IsSound (system_access x s q).system
 unfolding system_access
 access_sound x s q h =
-    either_replied (is_load q.access.kind || is_store q.access.kind) _ _ (register_sound x s q (register_at (q.access.address / 4 * 4)) h) h
+    either_replied (is_load q.access.kind || is_store q.access.kind) _ _
+    (register_sound x s q (register_at (q.access.address / 4 * 4)) h) h
 
 -- ---- a tick
 
@@ -147,7 +160,8 @@ within false a b m first second = second
 
 counted_within : (t : SysTick) → t.reload < 2 ^ 24 → t.current < 2 ^ 24 → next_current t < 2 ^ 24
 counted_within t reload current =
-    within t.enable _ t.current (2 ^ 24) (within (t.current == 0) t.reload (t.current - 1) (2 ^ 24) reload (omega arith)) current
+    within t.enable _ t.current (2 ^ 24)
+    (within (t.current == 0) t.reload (t.current - 1) (2 ^ 24) reload (omega arith)) current
 
 pub tick_sound : (s : System) → IsSound s → IsSound (after_tick s)
 unfolding after_tick time_after_tick
@@ -169,7 +183,8 @@ deactivated_sound s x h =
     (nvic_changed s _ h (pending_of_board (with_active s.nvic x false) x true idle))
     (nvic_changed s _ h idle)
 
-pub reset_sound : (flash_base lines bits regions : ℕ) (script : List ScriptedEvent) → (regions ≡ 8) ⊎ (regions ≡ 16) → IsSortedFrom 1 script → IsSound (reset_system flash_base lines bits regions script)
+pub reset_sound : (flash_base lines bits regions : ℕ) (script : List ScriptedEvent) → (regions ≡ 8) ⊎ (regions ≡ 16)
+    → IsSortedFrom 1 script → IsSound (reset_system flash_base lines bits regions script)
 reset_sound flash_base lines bits regions script known sorted = record {
   mpu = sound_at_reset regions known;
   nvic = reset_of_board lines bits;

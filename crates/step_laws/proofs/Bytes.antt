@@ -1,5 +1,6 @@
 -- One access, and a list of them.
-use Rattle.std.proofs.Common.{◌≡◌, inl, inr, ℕ, zero, suc, ◌+◌, ◌/◌, nat_le, nat_lt, Bool, true, false, ◌&&◌, ◌||◌, if◌then◌else◌, List, [], ◌∷◌, length, Some, Result, Ok, Err, refl, ap, arith}
+use Rattle.std.proofs.Common.{◌≡◌, inl, inr, ℕ, zero, suc, ◌+◌, ◌/◌, nat_le, nat_lt, Bool, true, false, ◌&&◌, ◌||◌}
+use Rattle.std.proofs.Common.{if◌then◌else◌, List, [], ◌∷◌, length, Some, Result, Ok, Err, refl, ap, arith}
 use Rattle.std.proofs.lemmas.Bool.Decides.{nat_tests}
 use Rattle.reference.specs.declared.access.Answer.TheVariants as answer
 use Rattle.reference.specs.declared.access.Decision.{Decision}
@@ -9,7 +10,8 @@ use Rattle.reference.specs.declared.access.Request.{Request}
 use Rattle.reference.specs.declared.access.Rule.{Rule}
 use Rattle.reference.specs.declared.event.Event.{Event}
 use Rattle.reference.specs.declared.failure.Failure.{Failure}
-use Rattle.reference.specs.Accesses.{Answered, Served, carried_out, performed_by, decided, decision, perform, accessed, console_line, told, value_of, followed, perform_all}
+use Rattle.reference.specs.Accesses.{Answered, Served, carried_out, performed_by, decided, decision, perform, accessed}
+use Rattle.reference.specs.Accesses.{console_line, told, value_of, followed, perform_all}
 use Rattle.reference.specs.Kinds.{bytes_in, is_probe, is_write}
 use Rattle.reference.specs.Map.{is_in_ppb, is_in_window}
 use Rattle.reference.specs.Memory.{Memory, is_in_ram, bytes_of, overwritten}

@@ -9,16 +9,20 @@ use Rattle.reference.specs.declared.failure.Failure.{Failure}
 use Rattle.reference.specs.declared.failure.Failure.TheVariants as failure
 use Rattle.reference.specs.declared.failure.UsageFault.TheVariants.{InvalidReturn}
 use Rattle.reference.specs.Accesses.{Served, perform, told, value_of}
-use Rattle.reference.specs.ExceptionEntry.{pushes, entering, stacked, begin_entry, vector_read, vector_taken, exception_taken, taken_if_any, take_vector}
-use Rattle.reference.specs.ExceptionReturn.{with_entry, fits_mode, unstacked, frame_read, pops, pop_stack, chained, returned, exception_ended, is_allowed, return_line, exception_return}
+use Rattle.reference.specs.ExceptionEntry.{pushes, entering, stacked, begin_entry, vector_read, vector_taken}
+use Rattle.reference.specs.ExceptionEntry.{exception_taken, taken_if_any, take_vector}
+use Rattle.reference.specs.ExceptionReturn.{with_entry, fits_mode, unstacked, frame_read, pops, pop_stack, chained}
+use Rattle.reference.specs.ExceptionReturn.{returned, exception_ended, is_allowed, return_line, exception_return}
 use Rattle.reference.specs.Frames.{has_reserved_ones, popped_pc}
 use Rattle.reference.specs.Memory.{Memory}
 use Rattle.reference.specs.State.{State, with_bus, with_system}
 use Rattle.reference.specs.Words.{is_bit}
 use Rattle.step_laws.specs.AccessLaw.{OnlyCovered}
-use Rattle.step_laws.proofs.Lines.{granted-nil, granted-cons, granted-append, EndIn, failure_in, ends-append, covered-append, covered-more}
+use Rattle.step_laws.proofs.Lines.{granted-nil, granted-cons, granted-append, EndIn, failure_in, ends-append}
+use Rattle.step_laws.proofs.Lines.{covered-append, covered-more}
 use Rattle.step_laws.proofs.Bytes.{either, perform_writes, told_ends, ServedWell, served_well}
-use Rattle.step_laws.proofs.Faults.{IsLawful, MayGoOn, at_first, goes_on_lawful, failed_granted, failed_lawful, vector_refused_lawful}
+use Rattle.step_laws.proofs.Faults.{IsLawful, MayGoOn, at_first, goes_on_lawful, failed_granted, failed_lawful}
+use Rattle.step_laws.proofs.Faults.{vector_refused_lawful}
 
 -- ---- entry
 

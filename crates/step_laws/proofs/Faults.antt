@@ -1,5 +1,6 @@
 -- A failure: what it leaves of the lines, and the line of its fault.
-use Rattle.std.proofs.Common.{◌≡◌, ◌⊎◌, inl, inr, ℕ, Bool, true, false, if◌then◌else◌, List, [], ◌∷◌, ◌++◌, bit_and, bit_or, Some, refl, ◌∙◌, ap, append_assoc}
+use Rattle.std.proofs.Common.{◌≡◌, ◌⊎◌, inl, inr, ℕ, Bool, true, false, if◌then◌else◌, List, [], ◌∷◌, ◌++◌, bit_and}
+use Rattle.std.proofs.Common.{bit_or, Some, refl, ◌∙◌, ap, append_assoc}
 use Rattle.std.proofs.lemmas.Nat.{and_or_self, and_or_apart}
 use Rattle.std.specs.Int.Bits.{or_zero_r}
 use Rattle.reference.specs.declared.access.Access.{Access}
@@ -18,7 +19,9 @@ use Rattle.reference.specs.declared.fault_status.FaultAddress.{FaultAddress}
 use Rattle.reference.specs.declared.fault_status.FaultAddress.TheVariants.{NotKept, Mmfar, Bfar}
 use Rattle.reference.specs.declared.fault_status.FaultEffect.{FaultEffect}
 use Rattle.reference.specs.declared.fault_status.TheConstants.{FORCED}
-use Rattle.reference.specs.Faults.{access_fault, fault_of, usage_fault_of, vector_fault, with_fault_address, recorded, fault_line, with_status, pended_by_fault, locked_up, escalated, faulted, failed, supervisor_called_by, supervisor_called}
+use Rattle.reference.specs.Faults.{access_fault, fault_of, usage_fault_of, vector_fault, with_fault_address, recorded}
+use Rattle.reference.specs.Faults.{fault_line, with_status, pended_by_fault, locked_up, escalated, faulted, failed}
+use Rattle.reference.specs.Faults.{supervisor_called_by, supervisor_called}
 use Rattle.reference.specs.Memory.{Memory, byte_at}
 use Rattle.reference.specs.ExceptionEntry.{vector_refused}
 use Rattle.reference.specs.Priorities.{is_fixed}

@@ -1,8 +1,10 @@
 -- What a frame gives back.
-use Rattle.std.proofs.Common.{◌≡◌, ℕ, ◌*◌, ◌/◌, Bool, true, false, not, ◌&&◌, ◌==◌, if◌then◌else◌, List, length, get_or, refl, ◌∙◌, ap, arith}
+use Rattle.std.proofs.Common.{◌≡◌, ℕ, ◌*◌, ◌/◌, Bool, true, false, not, ◌&&◌, ◌==◌, if◌then◌else◌, List, length, get_or}
+use Rattle.std.proofs.Common.{refl, ◌∙◌, ap, arith}
 use Rattle.std.proofs.lemmas.List.{get_or-set_same, get_or-set_other}
 use Rattle.std.proofs.Math.ListN.{set, length-set}
-use Rattle.reference.specs.Frames.{exc_return, frame, frame_base, frame_of, returns_on_psp, with_frame, with_frame_of, above_frame, pushed_xpsr, popped_xpsr, popped}
+use Rattle.reference.specs.Frames.{exc_return, frame, frame_base, frame_of, returns_on_psp, with_frame, with_frame_of}
+use Rattle.reference.specs.Frames.{above_frame, pushed_xpsr, popped_xpsr, popped}
 use Rattle.reference.specs.Registers.{Registers, is_handler, uses_psp, sp, with_sp}
 use Rattle.step_laws.specs.FrameLaw.{FrameGivesBack}
 use Rattle.step_laws.proofs.Words.{flags_back, it_back, thumb_back, exception_back, sp_back}

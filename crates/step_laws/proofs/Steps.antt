@@ -1,5 +1,6 @@
 -- The phases of a step, from the last one up.
-use Rattle.std.proofs.Common.{◌≡◌, inl, ℕ, nat_le, false, ◌==◌, List, [], ◌++◌, Option, Some, None, Result, Ok, Err, refl}
+use Rattle.std.proofs.Common.{◌≡◌, inl, ℕ, nat_le, false, ◌==◌, List, [], ◌++◌, Option, Some, None, Result, Ok, Err}
+use Rattle.std.proofs.Common.{refl}
 use Rattle.reference.specs.declared.access.Request.{Request}
 use Rattle.reference.specs.declared.event.Event.{Event}
 use Rattle.reference.specs.declared.failure.Failure.{Failure}
@@ -19,13 +20,16 @@ use Rattle.reference.specs.Memory.{Memory}
 use Rattle.reference.specs.Operations.{result_of}
 use Rattle.reference.specs.ProgramCounter.{Finished, moves_on}
 use Rattle.reference.specs.State.{State, ticked, with_bus, with_registers}
-use Rattle.reference.specs.Step.{ended, finished, served, performed_all, planned, without_meaning, executed, fetching, and_told, fetched_second, with_second, fetched_first, instruction, sleeps_on, phase, running, unless_stopped, step}
+use Rattle.reference.specs.Step.{ended, finished, served, performed_all, planned, without_meaning, executed, fetching}
+use Rattle.reference.specs.Step.{and_told, fetched_second, with_second, fetched_first, instruction, sleeps_on, phase}
+use Rattle.reference.specs.Step.{running, unless_stopped, step}
 use Rattle.reference.specs.Time.{last_tick}
 use Rattle.reference.specs.Words.{word_sum}
 use Rattle.step_laws.specs.AccessLaw.{OnlyCovered}
 use Rattle.step_laws.proofs.Lines.{granted-nil, granted-append, EndIn, failure_in, ends-append, covered-append}
 use Rattle.step_laws.proofs.Bytes.{either, perform_writes, told_ends, ServedWell, served_well}
-use Rattle.step_laws.proofs.Faults.{IsLawful, MayGoOn, at_first, goes_on_lawful, failed_granted, failed_lawful, supervisor_lawful}
+use Rattle.step_laws.proofs.Faults.{IsLawful, MayGoOn, at_first, goes_on_lawful, failed_granted, failed_lawful}
+use Rattle.step_laws.proofs.Faults.{supervisor_lawful}
 use Rattle.step_laws.proofs.Exceptions.{entry_lawful, vector_step_lawful, return_lawful}
 
 -- ---- the end of an instruction

@@ -1,5 +1,6 @@
 -- What holds of the accesses of a step, whatever the state (ARM DDI 0403, MemA[], "Fault behavior").
-use Rattle.std.specs.Prelude.{◌≡◌, ◌⊎◌, ℕ, ◌+◌, nat_le, nat_lt, Bool, false, not, ◌&&◌, is_some, bit_and, List, [], ◌∷◌, ◌++◌, All, Some}
+use Rattle.std.specs.Prelude.{◌≡◌, ◌⊎◌, ℕ, ◌+◌, nat_le, nat_lt, Bool, false, not, ◌&&◌, is_some, bit_and, List, [], ◌∷◌}
+use Rattle.std.specs.Prelude.{◌++◌, All, Some}
 use Rattle.std.specs.List.{list_any}
 use Rattle.reference.specs.declared.access.Access.{Access}
 use Rattle.reference.specs.declared.access.Cause.{Cause}
@@ -7,7 +8,8 @@ use Rattle.reference.specs.declared.access.DecidedAccess.{DecidedAccess}
 use Rattle.reference.specs.declared.access.Rule.{Rule}
 use Rattle.reference.specs.declared.event.Event.{Event}
 use Rattle.reference.specs.declared.event.Happening.{Happening}
-use Rattle.reference.specs.declared.event.Happening.TheVariants.{Accessed, ConsoleByte, ReturnBegan, HandlerEntered, FaultRecorded}
+use Rattle.reference.specs.declared.event.Happening.TheVariants.{Accessed, ConsoleByte, ReturnBegan, HandlerEntered}
+use Rattle.reference.specs.declared.event.Happening.TheVariants.{FaultRecorded}
 use Rattle.reference.specs.declared.event.RecordedFault.{RecordedFault}
 use Rattle.reference.specs.declared.exception.TheConstants.{HARD_FAULT}
 use Rattle.reference.specs.declared.fault_status.FaultEffect.{FaultEffect}

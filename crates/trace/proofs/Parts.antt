@@ -16,7 +16,8 @@ tick_and_tail page e = simp append_assoc
 
 -- the tail of an access is its head with its outcome, and its rule
 pub head_and_rule : (page : List ℕ) (d : DecidedAccess) →
-    (page ++ (access_head d.access ++ (outcome_text d.refused ++ codes " "))) ++ (rule_text d.rule ++ line_feed) ≡ page ++ tail (Accessed d)
+    (page ++ (access_head d.access ++ (outcome_text d.refused ++ codes " "))) ++ (rule_text d.rule ++ line_feed) ≡ page
+    ++ tail (Accessed d)
 unfolding access_head tail
 head_and_rule page d = simp append_assoc
 

@@ -4,7 +4,8 @@ use Rattle.access_table.proofs.boundaries.add_region.Goals as goal
 
 pub returns-then-is_enabled-clause-parts : goal.returns-then-is_enabled-clause-parts
 returns-then-is_enabled-clause-parts c =
-    parted _ c.args.region (rw (c.of.ensures.begin, c.of.ensures.length, c.of.ensures.count) at c.add_to.ensures.boundaries)
+    parted _ c.args.region (rw (c.of.ensures.begin, c.of.ensures.length, c.of.ensures.count) at
+    c.add_to.ensures.boundaries)
 
 pub returns-else-is_enabled-clause-parts : goal.returns-else-is_enabled-clause-parts
 returns-else-is_enabled-clause-parts c =

@@ -13,7 +13,8 @@ pub each-preserved : goal.each-preserved
 each-preserved c = elim c.if-not-is_same.branch [
   | then-not-is_same w ↦ rw (w.intervals-is, w.first-is, w.region-is) (record {
     made = rw w.push.ensures.items (made_next _ _ _ _ _ _ _ c.requires.parts c.requires.order (omega arith)
-        (let h = c.type_inv.points c.each.point-index in search (rules, h)) c.each.invariant.made c.owner-next.ensures.value
+        (let h = c.type_inv.points c.each.point-index in search (rules, h)) c.each.invariant.made
+        c.owner-next.ensures.value
         (λ e. let t = c.is_same.ensures.1 e in let f = w.if-not-is_same.true in cc) c.owner-next.ensures.within);
     few = let e = w.push.ensures.len in let f = c.each.invariant.few in omega (arith, e, f);
   })

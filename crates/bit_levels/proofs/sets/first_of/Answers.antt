@@ -13,4 +13,5 @@ pub returns : goal.returns
 returns c =
     let few : c.saturating_sub-dropped.result ≤ 8 = (let e = c.saturating_sub-dropped.ensures in omega (arith, e)) in
     all_empty c.args.sets.now c.told-sets
-    (empty_all c.args.sets.now _ (all_places c.saturating_sub-dropped.result c.each.place few c.each-test.false) c.each.invariant)
+    (empty_all c.args.sets.now _ (all_places c.saturating_sub-dropped.result c.each.place few c.each-test.false)
+    c.each.invariant)

@@ -7,18 +7,30 @@ use Rattle.debugger.proofs.answers.run_on.Goals.{else-steps-test, then-steps-tes
 
 pub returns-in-Err : goal.returns-in-Err
 returns-in-Err g c =
-    run_cut _ _ _ _ _ _ _ _ _ c.steps-test.true (sym c.ends_at.ensures ∙ c.if-ends_at.false) c.steps.invariant c.in-Err.ensures
+    run_cut _ _ _ _ _ _ _ _ _ c.steps-test.true (sym c.ends_at.ensures ∙ c.if-ends_at.false) c.steps.invariant
+    c.in-Err.ensures
 
 pub steps-preserved : goal.steps-preserved
 steps-preserved g c =
-    run_more _ _ _ _ _ _ _ _ _ c.steps-test.true (sym c.ends_at.ensures ∙ c.if-ends_at.false) c.steps.invariant c.in-Ok.ensures
+    run_more _ _ _ _ _ _ _ _ _ c.steps-test.true (sym c.ends_at.ensures ∙ c.if-ends_at.false) c.steps.invariant
+    c.in-Ok.ensures
 
 pub returns-in-Ok-put_end : goal.returns-in-Ok-put_end
 returns-in-Ok-put_end g c =
-    let ends : (c.steps.left ≡ 0) ⊎ (ends_at c.args.breakpoints.now c.steps.machine.state ≡ true) = elim c.steps-test.branch [ else-steps-test w ↦ inl (omega arith) | then-steps-test+then-ends_at w ↦ inr (sym w.ends_at.ensures ∙ w.if-ends_at.true) ] in
+    let ends : (c.steps.left ≡ 0) ⊎ (ends_at c.args.breakpoints.now c.steps.machine.state ≡ true) =
+    elim c.steps-test.branch [
+      | else-steps-test w ↦ inl (omega arith)
+      | then-steps-test+then-ends_at w ↦ inr
+          (sym w.ends_at.ensures ∙ w.if-ends_at.true)
+    ] in
     all_told _ _ _ _ _ _ _ _ (run_ends _ _ _ _ _ _ _ ends c.steps.invariant) c.in-Ok-put_end.ensures
 
 pub returns-in-Err-put_end : goal.returns-in-Err-put_end
 returns-in-Err-put_end g c =
-    let ends : (c.steps.left ≡ 0) ⊎ (ends_at c.args.breakpoints.now c.steps.machine.state ≡ true) = elim c.steps-test.branch [ else-steps-test w ↦ inl (omega arith) | then-steps-test+then-ends_at w ↦ inr (sym w.ends_at.ensures ∙ w.if-ends_at.true) ] in
+    let ends : (c.steps.left ≡ 0) ⊎ (ends_at c.args.breakpoints.now c.steps.machine.state ≡ true) =
+    elim c.steps-test.branch [
+      | else-steps-test w ↦ inl (omega arith)
+      | then-steps-test+then-ends_at w ↦ inr
+          (sym w.ends_at.ensures ∙ w.if-ends_at.true)
+    ] in
     rest_cut _ _ _ _ _ _ _ _ (run_ends _ _ _ _ _ _ _ ends c.steps.invariant) c.in-Err-put_end.ensures

@@ -6,7 +6,8 @@ use Rattle.exec.proofs.load_store_multiple.load_list.Given as goal
 -- the registers from the number on are still to be given the values from the place on
 abbrev pub invariant-registers : goal.invariant-registers
 invariant-registers l = record {
-  rest : loaded (registers_between l.list l.number 15) (drop l.place l.values) l.regs ≡ loaded (registers_below 15 l.list) l.values l.fn.regs;
+  rest : loaded (registers_between l.list l.number 15) (drop l.place l.values) l.regs
+      ≡ loaded (registers_below 15 l.list) l.values l.fn.regs;
   count : l.place + length (registers_between l.list l.number 15) ≡ length (registers_below 15 l.list);
   few : l.place ≤ l.number;
 }

@@ -7,4 +7,5 @@ use Rattle.machine.proofs.start.are_placed.Given as goal
 -- the segments behind the index decide
 abbrev pub invariant-segments : goal.invariant-segments
 invariant-segments l =
-    are_placed (blank (numbers_of l.board)) (map segment_of (drop l.segment-index l.segments)) ≡ are_placed (blank (numbers_of l.board)) (map segment_of l.segments)
+    are_placed (blank (numbers_of l.board)) (map segment_of (drop l.segment-index l.segments))
+    ≡ are_placed (blank (numbers_of l.board)) (map segment_of l.segments)

@@ -7,5 +7,6 @@ use Rattle.machine.proofs.start.load_segments.Given as goal
 abbrev pub invariant-segments : goal.invariant-segments
 invariant-segments l = record {
   placed : are_placed l.space (map segment_of (drop l.segment-index l.segments)) ≡ true;
-  rest : loaded l.space (map segment_of (drop l.segment-index l.segments)) ≡ loaded l.fn.space (map segment_of l.segments);
+  rest : loaded l.space (map segment_of (drop l.segment-index l.segments))
+      ≡ loaded l.fn.space (map segment_of l.segments);
 }

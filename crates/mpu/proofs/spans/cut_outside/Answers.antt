@@ -12,7 +12,8 @@ overflow_cast-result-else-from-far c =
 pub returns-then-from-far-clause-alike : goal.returns-then-from-far-clause-alike
 returns-then-from-far-clause-alike c = λ a from to.
     matches_outside c.args.region a c.args.address
-    (outside_before c.args.region a _ _ c.size.ensures.value c.block_of-far.ensures.first (omega arith)) c.requires.outside
+    (outside_before c.args.region a _ _ c.size.ensures.value c.block_of-far.ensures.first (omega arith))
+    c.requires.outside
 
 pub returns-else-from-far-clause-first : goal.returns-else-from-far-clause-first
 returns-else-from-far-clause-first c =
@@ -24,4 +25,5 @@ returns-else-from-far-clause-first c =
 pub returns-else-from-far-clause-alike : goal.returns-else-from-far-clause-alike
 returns-else-from-far-clause-alike c = λ a from to.
     matches_outside c.args.region a c.args.address
-    (outside_behind c.args.region a _ _ c.size.ensures.value c.block_of-far.ensures.next (omega arith)) c.requires.outside
+    (outside_behind c.args.region a _ _ c.size.ensures.value c.block_of-far.ensures.next (omega arith))
+    c.requires.outside

@@ -1,4 +1,5 @@
-use Rattle.nvic.proofs.Boards.{reset_of_board, pending_of_board, enabled_of_board, active_of_board, priority_of_board, group_of_board, primask_of_board, faultmask_of_board, basepri_of_board, due_of_board}
+use Rattle.nvic.proofs.Boards.{reset_of_board, pending_of_board, enabled_of_board, active_of_board, priority_of_board}
+use Rattle.nvic.proofs.Boards.{group_of_board, primask_of_board, faultmask_of_board, basepri_of_board, due_of_board}
 use Rattle.nvic.proofs.laws.changes_stay_on_the_board.Goals as goal
 
 pub returns-clause-reset : goal.returns-clause-reset

@@ -4,4 +4,5 @@ use Rattle.space.proofs.Blocks.{written_over}
 use Rattle.space.proofs.memory.put_bytes.Goals as goal
 
 pub returns : goal.returns
-returns c = written_over c.args.block.now c.args.bytes.now c.copy_from_slice.new.self c.args.at _ c.copy_from_slice.ensures.after (omega arith)
+returns c = written_over c.args.block.now c.args.bytes.now c.copy_from_slice.new.self c.args.at _
+    c.copy_from_slice.ensures.after (omega arith)

@@ -8,4 +8,5 @@ returns-in-Some c = λ m stands.
     let within = rw (← v) at c.find-place.ensures.within in
     let there = rw (← v) at c.find-place.ensures.there in
     by_own _ m c.args.kind c.args.address c.args.privileged c.find-place.result.0 c.in-Some.number _ s within there
-    (rw c.deref.ensures.0 at c.in-Some.is) (c.self.invariant.within _ _ within) c.by_region.ensures.rule c.by_region.ensures.granted
+    (rw c.deref.ensures.0 at c.in-Some.is) (c.self.invariant.within _ _ within) c.by_region.ensures.rule
+    c.by_region.ensures.granted

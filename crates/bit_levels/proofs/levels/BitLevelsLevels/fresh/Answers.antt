@@ -12,5 +12,7 @@ invariant_of-result c = (
 )
 
 pub returns : goal.returns
-returns c = reset_is c.all_empty-levels.result c.empty-held.result c.empty-enabled.result c.empty-active.result c.args.lines c.args.priority_bits _
-    c.all_empty-levels.ensures c.empty-held.ensures c.empty-enabled.ensures c.empty-active.ensures (let h = c.min.ensures in search rules)
+returns c = reset_is c.all_empty-levels.result c.empty-held.result c.empty-enabled.result c.empty-active.result
+    c.args.lines c.args.priority_bits _
+    c.all_empty-levels.ensures c.empty-held.ensures c.empty-enabled.ensures c.empty-active.ensures
+    (let h = c.min.ensures in search rules)

@@ -6,4 +6,7 @@ pub returns-then-is_empty : goal.returns-then-is_empty
 returns-then-is_empty g c = (no_lines _ c.args.events.now c.if-is_empty.ensures, refl)
 
 pub returns-in-Err : goal.returns-in-Err
-returns-in-Err g c = (none_taken _ _ c.args.events.now c.if-is_empty.ensures c.in-Err.ensures.known, c.in-Err.ensures.fault)
+returns-in-Err g c = (
+  none_taken _ _ c.args.events.now c.if-is_empty.ensures c.in-Err.ensures.known,
+  c.in-Err.ensures.fault,
+)
