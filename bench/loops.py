@@ -16,8 +16,12 @@ LOOPS = {
 
 
 # RBAR, with VALID and the region's number, and RASR of regions that all grant everything. The first covers all addresses;
-# seven more stand over one another in RAM, from 256 bytes upward, so that each fetch asks all eight.
-REGIONS = [(0x00000010, 0x0300003F)] + [(0x20000010 | number, 0x0300000F + 2 * (number - 1)) for number in range(1, 8)]
+# the others overlap in RAM, from 256 bytes upward, so that each fetch asks all of them.
+REGIONS = [(0x00000010, 0x0300003F)] + [(0x20000010 | number, 0x0300000F + 2 * (number - 1)) for number in range(1, 16)]
+
+# What a board has beside its numbers of lines and regions and its events, and how many events a script has at most.
+SIZES = "flash_base = 0\nflash_size = 0x10_0000\nram_size = 0x10_0000\npriority_bits = 8\n"
+EVENTS = 65_536
 
 # LDR R0, table; LDR R1, RBAR; LDR R4, count; then for each region LDM R0!, {R2, R3}; STR R2, [R1]; STR R3, [R1, #4];
 # SUBS R4, #1; BNE; and MOVS R5, #1; SUBS R1, #8; STR R5, [R1], which is MPU_CTRL; LDR R1, word. One of the ends follows.
@@ -25,6 +29,14 @@ SET_UP = [0x4806, 0x4907, 0x4C07, 0xC80C, 0x600A, 0x604B, 0x3C01, 0xD1FA, 0x2501
 
 # LDR R1, address; B 0x100.
 START = [0x4900, 0xE05D]
+
+# LDR R0, SYST_CSR; LDR R1, reload; STR R1, [R0, #4]; STR R1, [R0, #8]; MOVS R2, #7; STR R2, [R0]; LDR R1, address; B 0x100:
+# SysTick counts 1,000 ticks and raises its exception at 0.
+TIMER = [0x4803, 0x4904, 0x6041, 0x6081, 0x2207, 0x6002, 0x4902, 0xE057]
+TIMER_WORDS = [0xE000E010, 999, 0x20000010]
+
+# The vector of SysTick, and its handler: BX LR.
+TIMER_VECTOR, HANDLER, RETURN = 0x3C, 0xF0, 0x4770
 
 # B 0x100, where SET_UP stands at 0x40; or BX R1. A NOP fills the word.
 TO_LOOP = [0xE052, 0xBF00]
@@ -49,6 +61,23 @@ def image(halfwords, regions=()):
     """An ELF file of one segment at 0: the vector table, the start code at 0x40, the loop at 0x100."""
     memory = struct.pack("<II", 0x20001000, 0x41).ljust(0x40, b"\0") + start_code(regions)
     return elf(memory.ljust(0x100, b"\0") + b"".join(struct.pack("<H", halfword) for halfword in halfwords))
+
+
+def timer_image(halfwords):
+    """An ELF file as `image`, but its start code runs SysTick, whose handler returns at once."""
+    vectors = struct.pack("<II", 0x20001000, 0x41).ljust(TIMER_VECTOR, b"\0") + struct.pack("<I", HANDLER | 1)
+    memory = vectors + struct.pack("<8H3I", *TIMER, *TIMER_WORDS)
+    memory = memory.ljust(HANDLER, b"\0") + struct.pack("<H", RETURN)
+    return elf(memory.ljust(0x100, b"\0") + b"".join(struct.pack("<H", halfword) for halfword in halfwords))
+
+
+def script(ticks, kinds=("rise", "fall", "pulse")):
+    """A script: an event at each of some ticks, of the kinds and of the lines in turn."""
+    events = []
+    for number, tick in enumerate(ticks):
+        line, what = number // len(kinds) % 240, kinds[number % len(kinds)]
+        events.append(f'[[event]]\nat = {tick}\nline = {line}\nwhat = "{what}"\n')
+    return "".join(events)
 
 
 def elf(memory):
@@ -77,6 +106,11 @@ def with_regions(flash, regions):
 def traced(marm, board, steps, path):
     """The command that runs an image and writes its trace."""
     return [marm, "run", "--board", board, "--steps", str(steps), path]
+
+
+def to_file(words, folder):
+    """The command that runs these words with their output in a file of a folder."""
+    return ["sh", "-c", 'file=$1; shift; exec "$@" >"$file"', "sh", os.path.join(folder, "trace"), *words]
 
 
 def trace_of(words):

@@ -5,23 +5,10 @@ import subprocess
 import sys
 from concurrent.futures import ThreadPoolExecutor
 
-from loops import LOOPS, REGIONS, flash_of, image, traced, with_regions, written
+from loops import EVENTS, LOOPS, REGIONS, SIZES, flash_of, image, script, timer_image, traced, with_regions, written
 
 MARM, PROGRAM, FOLDER = sys.argv[1:4]
 STEPS = int(sys.argv[4])
-
-# What all boards have, and how many events a script has.
-SIZES = "flash_base = 0\nflash_size = 0x10_0000\nram_size = 0x10_0000\npriority_bits = 8\n"
-EVENTS = 65_536
-
-
-def script(ticks, kinds=("rise", "fall", "pulse")):
-    """Returns a script: an event at each of some ticks, of the kinds and of the lines in turn."""
-    events = []
-    for number, tick in enumerate(ticks):
-        line, what = number // len(kinds) % 240, kinds[number % len(kinds)]
-        events.append(f'[[event]]\nat = {tick}\nline = {line}\nwhat = "{what}"\n')
-    return "".join(events)
 
 
 def boards():
@@ -65,17 +52,22 @@ def programs(regions):
     return paths
 
 
+def timer_programs():
+    """Returns the path of each loop whose start code runs SysTick, by its name."""
+    return {name: written(FOLDER, name + "-timer", timer_image(code)) for name, (code, _) in LOOPS.items()}
+
+
 def rows():
-    """Returns the name, the board and the regions of each row."""
-    found = [(name, text, []) for name, text in boards().items()]
+    """Returns the name, the board and the programs of each row."""
+    found = [(name, text, programs([])) for name, text in boards().items()]
     quiet = boards()["no script, 8 lines"]
-    return found[:1] + [(f"regions: {count}", quiet, REGIONS[:count]) for count in (1, 8)] + found[1:]
+    regions = [(f"regions: {count}", quiet + "regions = 16\n", programs(REGIONS[:count])) for count in (1, 8, 16)]
+    return found[:1] + regions + [("SysTick each 1,000", quiet, timer_programs())] + found[1:]
 
 
 first = {}
-for number, (name, text, regions) in enumerate(rows()):
+for number, (name, text, paths) in enumerate(rows()):
     board = written(FOLDER, f"board{number}.toml", text.encode())
-    paths = programs(regions)
     if number == 0:
         print(f"{'':24}" + "".join(f"{name:>20}" for name in paths))
     line = f"{name:24}"

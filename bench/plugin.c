@@ -1,0 +1,75 @@
+/* A plugin of QEMU that writes, for each instruction, the lines that marm writes: its fetch, a halfword a line, and its
+   loads and stores. It knows nothing of the MPU, so it writes what they are where the MPU is off. It ends QEMU after a
+   number of steps: -plugin plugin.so,steps=N. */
+#include <qemu-plugin.h>
+#include <stdint.h>
+#include <stdio.h>
+#include <stdlib.h>
+#include <string.h>
+#include <unistd.h>
+
+QEMU_PLUGIN_EXPORT int qemu_plugin_version = QEMU_PLUGIN_VERSION;
+
+static char page[1 << 16];
+static size_t used;
+static char digits[24];
+static int first = 23;
+static long left = 1000000;
+static const char hex[] = "0123456789ABCDEF";
+
+static void hand_on(void) {
+    if (write(1, page, used) < 0) exit(1);
+    used = 0;
+}
+
+static void count(void) {
+    int at = 22;
+    while (digits[at] == '9') digits[at--] = '0';
+    if (at < first) { digits[at] = '1'; first = at; } else digits[at]++;
+}
+
+static void line(char kind, uint32_t address, char size) {
+    if (used > sizeof page - 64) hand_on();
+    char *p = page + used;
+    memcpy(p, digits + first, 23 - first);
+    p += 23 - first;
+    *p++ = ' '; *p++ = kind; *p++ = ' ';
+    for (int shift = 28; shift >= 0; shift -= 4) *p++ = hex[address >> shift & 15];
+    *p++ = ' '; *p++ = size;
+    memcpy(p, " p ok off\n", 10);
+    used = p + 10 - page;
+}
+
+/* An instruction is about to be carried out; `what` has its address, and in bit 0 whether it has two halfwords. */
+static void fetched(unsigned processor, void *what) {
+    (void)processor;
+    if (left-- == 0) { hand_on(); exit(0); }
+    count();
+    uint32_t address = (uintptr_t)what & ~1u;
+    line('F', address, '2');
+    if ((uintptr_t)what & 1) line('F', address + 2, '2');
+}
+
+static void accessed(unsigned processor, qemu_plugin_meminfo_t how, uint64_t address, void *data) {
+    (void)processor;
+    (void)data;
+    line(qemu_plugin_mem_is_store(how) ? 'S' : 'L', address, '0' + (1 << qemu_plugin_mem_size_shift(how)));
+}
+
+static void translated(qemu_plugin_id_t id, struct qemu_plugin_tb *block) {
+    (void)id;
+    for (size_t number = 0; number < qemu_plugin_tb_n_insns(block); number++) {
+        struct qemu_plugin_insn *one = qemu_plugin_tb_get_insn(block, number);
+        uintptr_t what = qemu_plugin_insn_vaddr(one) | (qemu_plugin_insn_size(one) == 4);
+        qemu_plugin_register_vcpu_insn_exec_cb(one, fetched, QEMU_PLUGIN_CB_NO_REGS, (void *)what);
+        qemu_plugin_register_vcpu_mem_cb(one, accessed, QEMU_PLUGIN_CB_NO_REGS, QEMU_PLUGIN_MEM_RW, NULL);
+    }
+}
+
+QEMU_PLUGIN_EXPORT int qemu_plugin_install(qemu_plugin_id_t id, const qemu_info_t *info, int words, char **word) {
+    (void)info;
+    for (int number = 0; number < words; number++)
+        if (strncmp(word[number], "steps=", 6) == 0) left = atol(word[number] + 6);
+    qemu_plugin_register_vcpu_tb_trans_cb(id, translated);
+    return 0;
+}
