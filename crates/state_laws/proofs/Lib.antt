@@ -1,7 +1,6 @@
 mod Nvic
 mod Sets
 mod Ticks
-mod Regions
 mod Systems
 mod Accesses
 mod Faults
