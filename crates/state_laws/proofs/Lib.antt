@@ -1,4 +1,5 @@
 mod Nvic
+mod Lengths
 mod Sets
 mod Ticks
 mod Systems
