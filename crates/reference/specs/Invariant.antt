@@ -53,11 +53,12 @@ pub record IsAhead (lines : ℕ) (t : Time) : Type 0 where
   pub script : IsScriptFrom lines (t.ticks + 1) t.script
   pub levels : length t.high ≡ MOST_LINES
 
--- R0 to R12 are there, the two stack pointers are multiples of 4, IT has eight bits, and IPSR nine
+-- R0 to R12 are there, the two stack pointers are multiples of 4, the PC is even, IT has eight bits, and IPSR nine
 pub record HasRegisters (r : Registers) : Type 0 where
   pub all : length r.general ≡ 13
   pub msp : r.msp % 4 ≡ 0
   pub psp : r.psp % 4 ≡ 0
+  pub pc : r.pc % 2 ≡ 0
   pub it : r.it < 2 ^ 8
   pub exception : r.exception < 2 ^ 9
 

@@ -1,5 +1,5 @@
 -- The phases of a step keep what holds of the core registers, from the last one up.
-use Rattle.std.proofs.Common.{ℕ, ◌*◌, ◌/◌, nat_le, false, ◌||◌, ◌==◌, List, [], ◌++◌, length, Option, Some, None, Result, Ok, Err, refl, arith}
+use Rattle.std.proofs.Common.{◌≡◌, ℕ, ◌*◌, ◌/◌, ◌%◌, nat_le, false, ◌||◌, ◌==◌, List, [], ◌++◌, length, Option, Some, None, Result, Ok, Err, refl, arith}
 use Rattle.std.proofs.lemmas.List.{length-replicate}
 use Rattle.reference.specs.declared.access.Request.{Request}
 use Rattle.reference.specs.declared.event.Event.{Event}
@@ -28,6 +28,7 @@ use Rattle.reference.specs.Step.{ended, finished, served, performed_all, planned
 use Rattle.reference.specs.Time.{last_tick}
 use Rattle.state_laws.proofs.Effects.{result_kept}
 use Rattle.state_laws.proofs.Frames.{Has, LeavesGood, failed_kept, supervisor_kept, entry_kept, vector_step_kept, return_kept}
+use Rattle.state_laws.proofs.Lengths.{HasEvenLength, decoding_even}
 use Rattle.state_laws.proofs.Nvic.{either}
 use Rattle.state_laws.proofs.Registers.{Leaves, alike, with_flags, msp_kept, psp_kept, register_kept, moves_on_kept}
 
@@ -49,7 +50,7 @@ special_kept r Primask value h = h
 special_kept r Basepri value h = h
 special_kept r BasepriMax value h = h
 special_kept r Faultmask value h = h
-special_kept r Control value h = alike r _ refl refl refl refl refl h
+special_kept r Control value h = alike r _ refl refl refl refl refl refl h
 
 write_special_kept : (r : Registers) (special : SpecialRegister) (value : ℕ) → HasRegisters r →
     HasRegisters (write_special r special value)
@@ -73,53 +74,53 @@ finished_kept s events f h = ended_kept (with_registers s f.registers) events f.
 
 -- ---- its accesses
 
-end_kept : (s : State) (events : List Event) (i : CodedInstruction) (all : Served) (end : Option Failure) → Has s →
-    LeavesGood (served s events i all end)
-end_kept s events i all None h =
+end_kept : (s : State) (events : List Event) (i : CodedInstruction) → i.length % 2 ≡ 0 → (all : Served)
+    (end : Option Failure) → Has s → LeavesGood (served s events i all end)
+end_kept s events i even all None h =
     finished_kept (with_bus s all.bus) (events ++ all.events) (result_of i s.registers all.values)
-    (result_kept i s.registers all.values h)
-end_kept s events i all (Some why) h = failed_kept (with_bus s all.bus) (events ++ all.events) why h
+    (result_kept i even s.registers all.values h)
+end_kept s events i even all (Some why) h = failed_kept (with_bus s all.bus) (events ++ all.events) why h
 
-performed_kept : (s : State) (events : List Event) (i : CodedInstruction) (qs : List Request) → Has s →
-    LeavesGood (performed_all s events i qs)
+performed_kept : (s : State) (events : List Event) (i : CodedInstruction) → i.length % 2 ≡ 0 →
+    (qs : List Request) → Has s → LeavesGood (performed_all s events i qs)
 unfolding performed_all
-performed_kept s events i qs h =
+performed_kept s events i even qs h =
     let all = perform_all s.registers.exception s.bus.system.time.ticks s.bus qs in
-    end_kept s events i all all.failure h
+    end_kept s events i even all all.failure h
 
-planned_kept : (s : State) (events : List Event) (i : CodedInstruction) (asked : Result (List Request) Failure) →
-    Has s → LeavesGood (planned s events i asked)
-planned_kept s events i (Ok qs) h = performed_kept s events i qs h
-planned_kept s events i (Err why) h = failed_kept s events why h
+planned_kept : (s : State) (events : List Event) (i : CodedInstruction) → i.length % 2 ≡ 0 →
+    (asked : Result (List Request) Failure) → Has s → LeavesGood (planned s events i asked)
+planned_kept s events i even (Ok qs) h = performed_kept s events i even qs h
+planned_kept s events i even (Err why) h = failed_kept s events why h
 
 -- ---- the decoded instruction
 
-meaningless_kept : (s : State) (events : List Event) (length : ℕ) (fault : UsageFault) → Has s →
+meaningless_kept : (s : State) (events : List Event) (length : ℕ) → length % 2 ≡ 0 → (fault : UsageFault) → Has s →
     LeavesGood (without_meaning s events length fault)
-meaningless_kept s events length fault h =
+meaningless_kept s events length even fault h =
     either LeavesGood (condition_passed s.registers.it s.registers.flags) _ _
     (λ passed. failed_kept s events (failure.Usage fault) h)
-    (λ skipped. finished_kept s events (moves_on length s.registers) (moves_on_kept length s.registers h))
+    (λ skipped. finished_kept s events (moves_on length s.registers) (moves_on_kept length even s.registers h))
 
-executed_kept : (s : State) (events : List Event) (length : ℕ) (d : Decoded) → Has s →
-    LeavesGood (executed s events length d)
-executed_kept s events length (decoded.Instr i) h = planned_kept s events i _ h
-executed_kept s events length decoded.Undefined h = meaningless_kept s events length UndefinedInstruction h
-executed_kept s events length decoded.NoCoprocessor h = meaningless_kept s events length NoCoprocessor h
-executed_kept s events length (decoded.Unpredictable place why) h = h
+executed_kept : (s : State) (events : List Event) (length : ℕ) → length % 2 ≡ 0 → (d : Decoded) → HasEvenLength d →
+    Has s → LeavesGood (executed s events length d)
+executed_kept s events length even (decoded.Instr i) own h = planned_kept s events i own _ h
+executed_kept s events length even decoded.Undefined own h = meaningless_kept s events length even UndefinedInstruction h
+executed_kept s events length even decoded.NoCoprocessor own h = meaningless_kept s events length even NoCoprocessor h
+executed_kept s events length even (decoded.Unpredictable place why) own h = h
 
 -- ---- the fetches
 
 second_kept : (s : State) (events : List Event) (hw1 : ℕ) (answer : Result ℕ Failure) → Has s →
     LeavesGood (fetched_second s events hw1 answer)
-second_kept s events hw1 (Ok hw2) h = executed_kept s events 4 _ h
+second_kept s events hw1 (Ok hw2) h = executed_kept s events 4 refl _ (decoding_even hw1 hw2) h
 second_kept s events hw1 (Err why) h = failed_kept s events why h
 
 with_second_kept : (s : State) (events : List Event) (hw1 : ℕ) → Has s → LeavesGood (with_second s events hw1)
 unfolding with_second
 with_second_kept s events hw1 h =
     either LeavesGood (instruction_length hw1 == 4) _ _ (λ long. second_kept _ _ hw1 _ h)
-    (λ short. executed_kept s events 2 _ h)
+    (λ short. executed_kept s events 2 refl _ (decoding_even hw1 0) h)
 
 first_kept : (s : State) (events : List Event) (answer : Result ℕ Failure) → Has s →
     LeavesGood (fetched_first s events answer)
@@ -161,6 +162,7 @@ reset_has stack entry = record {
   all = length-replicate {A = ℕ} 13 0;
   msp = omega arith;
   psp = omega arith;
+  pc = omega arith;
   it = omega arith;
   exception = omega arith;
 }

@@ -1,6 +1,7 @@
 -- A start gives the invariant, and a value that was placed keeps it.
 use Rattle.std.proofs.Common.{◌≡◌, ◌⊎◌, inl, inr, ℕ, ◌≤◌, min, Bool, true, false, not, ◌||◌, ◌==◌, is_some, List, Option, Some, None, Result, Ok, Err, refl, sym, subst, arith}
 use Rattle.std.proofs.lemmas.Bool.Decides.{nat_tests}
+use Rattle.mpu.proofs.Writes.{sound_at_reset}
 use Rattle.reference.specs.declared.access.Answer.{Answer}
 use Rattle.reference.specs.declared.access.Answer.TheVariants as answer
 use Rattle.reference.specs.declared.exception.TheConstants.{MOST_LINES}
@@ -27,8 +28,7 @@ use Rattle.state_laws.proofs.Registers.{register_kept}
 use Rattle.state_laws.proofs.Entries.{none, step_called}
 use Rattle.state_laws.proofs.Faults.{HasWhole}
 use Rattle.state_laws.proofs.Nvic.{either}
-use Rattle.state_laws.proofs.Regions.{sound_at_reset}
-use Rattle.state_laws.proofs.Sets.{bytes_at_reset, sets_at_reset}
+use Rattle.state_laws.proofs.Sets.{sets_of_board, top_bits_of_board, board_of, board_at_reset}
 use Rattle.state_laws.proofs.Steps.{step_whole}
 use Rattle.state_laws.proofs.Systems.{IsWhole, placed_mask_whole}
 use Rattle.state_laws.proofs.Ticks.{timely_at_start}
@@ -39,15 +39,15 @@ sound : (lines bits : ℕ) (s : System) → IsWhole lines bits s → SystemInvar
 sound lines bits s h = record {
   clock = h.time.clock;
   timer = h.time.timer;
-  priorities = h.nvic.priorities;
-  sets = h.nvic.sets;
+  priorities = top_bits_of_board lines bits s.nvic h.nvic;
+  sets = sets_of_board lines bits s.nvic h.nvic;
   script = rw h.nvic.same_lines h.time.ahead;
   regions = h.mpu;
 }
 
 whole : (s : System) → SystemInvariant s → IsWhole s.nvic.lines s.nvic.priority_bits s
 whole s h = record {
-  nvic = record { same_lines = refl; same_bits = refl; priorities = h.priorities; sets = h.sets };
+  nvic = board_of s.nvic h.priorities h.sets;
   time = record { clock = h.clock; timer = h.timer; ahead = h.script };
   mpu = h.regions;
 }
@@ -156,12 +156,7 @@ start_gives board image h =
           (reset_system board.numbers.flash_base board.numbers.lines board.numbers.priority_bits board.numbers.regions
           board.script)
           (record {
-            nvic = record {
-              same_lines = refl;
-              same_bits = refl;
-              priorities = bytes_at_reset board.numbers.lines board.numbers.priority_bits;
-              sets = sets_at_reset board.numbers.lines board.numbers.priority_bits;
-            };
+            nvic = board_at_reset board.numbers.lines board.numbers.priority_bits;
             time =
                 timely_at_start (min board.numbers.lines MOST_LINES) board.script
                 (subst (λ lines. IsScriptFrom lines 1 board.script) (sym (all_lines board.numbers.lines h.lines)) h.script);

@@ -102,7 +102,7 @@ faulted_called : (lines bits : ℕ) (s : State) (events : List Event) (f : Fault
 unfolding faulted
 faulted_called lines bits s events f is h =
     escalated_called (recorded s f) events f.exception _
-    (escalation_follows s.bus.system.nvic f.exception h.nvic.sets.pending.places is.small
+    (escalation_follows s.bus.system.nvic f.exception h.nvic.board.pending.places is.small
     (is.exists s.bus.system.nvic.lines))
 
 failed_called : (lines bits : ℕ) (s : State) (events : List Event) (why : Failure) → HasWhole lines bits s →

@@ -1,7 +1,10 @@
 -- A fault, SVC, and the entry into a handler and the return from it keep what holds of the core registers.
-use Rattle.std.proofs.Common.{◌≡◌, ℕ, zero, suc, ◌%◌, ◌^◌, ◌<◌, nat_lt, Bool, true, false, not, List, [], ◌∷◌, ◌++◌, Option, Some, None, Result, Ok, Err, bit_or, length, ◌∙◌, ap, arith}
+use Rattle.std.proofs.Common.{◌≡◌, ℕ, ◌%◌, ◌/◌, ◌==◌, ◌^◌, ◌<◌, Bool, true, false, not, List, [], ◌∷◌, ◌++◌, Option, Some, None, Result, Ok, Err, bit_or, length, ◌∙◌, ap, refl, arith}
+use Rattle.std.proofs.lemmas.Bool.Decides.{nat_tests}
 use Rattle.std.proofs.lemmas.List.{length-set}
 use Rattle.std.proofs.lemmas.Nat.{or_mod}
+use Rattle.nvic.proofs.Best.{candidate_is}
+use Rattle.nvic.specs.Laws.{IsCandidate}
 use Rattle.reference.specs.declared.event.Event.{Event}
 use Rattle.reference.specs.declared.exception.Escalation.{Escalation}
 use Rattle.reference.specs.declared.exception.Escalation.TheVariants.{Itself, HardFault, Lockup}
@@ -16,12 +19,12 @@ use Rattle.reference.specs.ExceptionReturn.{with_entry, fits_mode, unstacked, fr
 use Rattle.reference.specs.Faults.{fault_of, usage_fault_of, recorded, escalated, faulted, failed, supervisor_called_by, supervisor_called}
 use Rattle.reference.specs.Frames.{frame_base, in_handler, frame_of, returns_on_psp, above_frame, general_popped, popped_pc, popped_xpsr, with_frame_of, popped, has_reserved_ones}
 use Rattle.reference.specs.Invariant.{HasRegisters}
-use Rattle.reference.specs.Priorities.{Nvic, priority_of, group_priority, execution_priority, is_ready, better_of, with_ready, best_below, best, if_preempts, candidate, is_fixed}
+use Rattle.reference.specs.Priorities.{Nvic, candidate, is_fixed}
 use Rattle.reference.specs.Registers.{Registers, sp}
 use Rattle.reference.specs.State.{State, Stepped, with_bus, with_system}
 use Rattle.reference.specs.Words.{word_sum, is_bit}
 use Rattle.state_laws.proofs.Nvic.{either}
-use Rattle.state_laws.proofs.Registers.{sp_kept, psp_kept, msp_kept, moves_on_kept}
+use Rattle.state_laws.proofs.Registers.{sp_kept, psp_kept, msp_kept, exchange_kept, moves_on_kept}
 
 -- the registers of a state, and those of what a step makes of one
 abbrev pub Has : State → Type 0
@@ -49,7 +52,7 @@ failed_kept s events (failure.Stop why) h = h
 
 called_kept : (s : State) (events : List Event) (e : Escalation) → Has s →
     LeavesGood (supervisor_called_by s events e)
-called_kept s events Itself h = moves_on_kept 2 s.registers h
+called_kept s events Itself h = moves_on_kept 2 refl s.registers h
 called_kept s events HardFault h = h
 called_kept s events Lockup h = h
 
@@ -63,37 +66,12 @@ abbrev IsBelow : ℕ → Option ℕ → Type 0
 IsBelow k None = Unit {0}
 IsBelow k (Some x) = x < k
 
-below_next : (k : ℕ) (o : Option ℕ) → IsBelow k o → IsBelow (suc k) o
-below_next k None h = tt
-below_next k (Some x) h = omega arith
-
-better_below : (n : Nvic) (x : ℕ) (before : Option ℕ) → IsBelow x before → IsBelow (suc x) (better_of n before x)
-better_below n x None h = omega arith
-better_below n x (Some y) h =
-    either (IsBelow (suc x)) (nat_lt (priority_of n x) (priority_of n y)) _ _ (λ e. omega arith) (λ e. omega arith)
-
-ready_below : (n : Nvic) (x : ℕ) (before : Option ℕ) → IsBelow x before → IsBelow (suc x) (with_ready n x before)
-unfolding with_ready
-ready_below n x before h =
-    either (IsBelow (suc x)) (is_ready n x) _ _ (λ e. better_below n x before h) (λ e. below_next x before h)
-
-best_small : (n : Nvic) (k : ℕ) → IsBelow k (best_below n k)
-unfolding best_below
-best_small n zero = tt
-best_small n (suc k) = ready_below n k (best_below n k) (best_small n k)
-
-preempting_small : (n : Nvic) (k : ℕ) (o : Option ℕ) → IsBelow k o → IsBelow k (if_preempts n o)
-preempting_small n k None h = tt
-preempting_small n k (Some x) h =
-    either (IsBelow k) (nat_lt (group_priority n x) (execution_priority n)) _ _ (λ e. h) (λ e. tt)
-
-best_is_small : (n : Nvic) → IsBelow EXCEPTIONS (best n)
-unfolding best
-best_is_small n = best_small n EXCEPTIONS
-
 candidate_small : (n : Nvic) → IsBelow EXCEPTIONS (candidate n)
-unfolding candidate
-candidate_small n = preempting_small n EXCEPTIONS (best n) (best_is_small n)
+candidate_small n = lead (candidate n) (candidate_is n)
+  where
+    lead : (o : Option ℕ) → IsCandidate n o → IsBelow EXCEPTIONS o
+    lead None c = tt
+    lead (Some x) c = c.0.0.in_range
 
 -- ---- entry
 
@@ -114,6 +92,7 @@ handler_kept r x e vector small h = record {
   all = h.all;
   msp = h.msp;
   psp = h.psp;
+  pc = (exchange_kept r vector h).pc;
   it = omega arith;
   exception = omega arith;
 }
@@ -155,19 +134,25 @@ frame_of_kept : (r : Registers) (e v : ℕ) → v % 4 ≡ 0 → HasRegisters r �
 frame_of_kept r e v aligned h =
     either HasRegisters (returns_on_psp e) _ _ (λ f. psp_kept r v aligned h) (λ f. msp_kept r v aligned h)
 
+-- a return address without its bit 0 is even
+is_even : (v : ℕ) → is_bit v 0 ≡ false → v % 2 ≡ 0
+is_even v e = grind (arith, nat_tests)
+
 popped_length : (general frame : List ℕ) → length (general_popped general frame) ≡ length general
 popped_length general frame =
     length-set _ 12 _ ∙ length-set _ 3 _ ∙ length-set _ 2 _ ∙ length-set _ 1 _ ∙ length-set general 0 _
 
-popped_kept : (r : Registers) (e : ℕ) (frame : List ℕ) → HasRegisters r → HasRegisters (popped r e frame)
+popped_kept : (r : Registers) (e : ℕ) (frame : List ℕ) → is_bit (popped_pc frame) 0 ≡ false → HasRegisters r →
+    HasRegisters (popped r e frame)
 unfolding popped
-popped_kept r e frame h =
+popped_kept r e frame even h =
     let moved = frame_of_kept r e (above_frame (frame_of r e) (popped_xpsr frame))
     (above_aligned (frame_of r e) (popped_xpsr frame) (frame_aligned r e h)) h in
     record {
       all = popped_length r.general frame ∙ h.all;
       msp = moved.msp;
       psp = moved.psp;
+      pc = is_even (popped_pc frame) even;
       it = omega arith;
       exception = omega arith;
     }
@@ -179,7 +164,7 @@ unstacked_kept s events e frame h =
     either LeavesGood (not (fits_mode e frame)) _ _
     (λ is. failed_kept (with_entry s e) events (failure.Usage InvalidReturn) h)
     (λ is. either LeavesGood (is_bit (popped_pc frame) 0) _ _ (λ odd. h)
-    (λ even. popped_kept s.registers e frame h))
+    (λ even. popped_kept s.registers e frame even h))
 
 read_kept : (s : State) (events : List Event) (e : ℕ) (all : Served) (end : Option Failure) → Has s →
     LeavesGood (frame_read s events e all end)

@@ -1,7 +1,7 @@
 mod Nvic
+mod Lengths
 mod Sets
 mod Ticks
-mod Regions
 mod Systems
 mod Accesses
 mod Faults

@@ -1,5 +1,6 @@
 -- The System Control Space keeps what holds of it: in an access, in a tick, and where an exception is taken or ends.
 use Rattle.std.proofs.Common.{ℕ, ◌+◌, ◌*◌, ◌/◌, ◌<◌, Bool, true, false, not, ◌||◌, ◌==◌, Result, Ok, Err}
+use Rattle.mpu.proofs.Writes.{sound_after_write}
 use Rattle.reference.specs.declared.access.Request.{Request}
 use Rattle.reference.specs.declared.exception.TheConstants.{NMI}
 use Rattle.reference.specs.declared.mpu.MpuStop.{MpuStop}
@@ -12,24 +13,23 @@ use Rattle.reference.specs.ExceptionEntry.{activated}
 use Rattle.reference.specs.ExceptionReturn.{exception_ended}
 use Rattle.reference.specs.Kinds.{bytes_in, is_load, is_store}
 use Rattle.reference.specs.Priorities.{Nvic, with_pending, with_active}
-use Rattle.reference.specs.Regions.{Mpu, IsSound, write as write_mpu}
+use Rattle.reference.specs.Regions.{Mpu, IsSound, left, write as write_mpu}
 use Rattle.reference.specs.SpecialRegisters.{with_mask, write_mask, change_state}
 use Rattle.reference.specs.Status.{Status, write_status}
 use Rattle.reference.specs.System.{System, Replied, replied, with_nvic, nvic_written, status_written, mpu_written, first_byte, in_place, after_read, written, is_allowed, has_width, register_access, system_access, register_at, after_tick, is_held, deactivated}
 use Rattle.reference.specs.SysTickRegisters.{after_systick_read, write_systick}
 use Rattle.reference.specs.Time.{last_tick, tick_pends}
 use Rattle.state_laws.proofs.Nvic.{either, IfDone, interrupts_kept, priorities_kept, triggered_kept, control_kept, shcsr_kept, mask_kept, write_mask_kept, state_kept, activated_kept, pended_kept}
-use Rattle.state_laws.proofs.Regions.{SoundIfDone, sound_after_write}
-use Rattle.state_laws.proofs.Sets.{IsOfBoard, board_kept}
+use Rattle.state_laws.proofs.Sets.{HasBoard, board_kept}
 use Rattle.state_laws.proofs.Ticks.{IsTimely, read_bits, write_bits, with_timer, tick_timely}
 
 -- what holds of the System Control Space of a board with these lines and these bits of a priority
 pub record IsWhole (lines bits : ℕ) (s : System) : Type 0 where
-  pub nvic : IsOfBoard lines bits s.nvic
+  pub nvic : HasBoard lines bits s.nvic
   pub time : IsTimely lines s.time
   pub mpu : IsSound s.mpu
 
-nvic_whole : (lines bits : ℕ) (s : System) (n : Nvic) → IsOfBoard lines bits n → IsWhole lines bits s →
+nvic_whole : (lines bits : ℕ) (s : System) (n : Nvic) → HasBoard lines bits n → IsWhole lines bits s →
     IsWhole lines bits (with_nvic s n)
 nvic_whole lines bits s n new h = record { nvic = new; time = h.time; mpu = h.mpu }
 
@@ -40,7 +40,7 @@ status_whole lines bits s st h = record { nvic = h.nvic; time = h.time; mpu = h.
 -- ---- a write
 
 nvic_done : (lines bits : ℕ) (s : System) (r : Result Nvic Stop) → IsWhole lines bits s →
-    IfDone (IsOfBoard lines bits) r → IfDone (IsWhole lines bits) (nvic_written s r)
+    IfDone (HasBoard lines bits) r → IfDone (IsWhole lines bits) (nvic_written s r)
 nvic_done lines bits s (Ok n) h new = nvic_whole lines bits s n new h
 nvic_done lines bits s (Err why) h new = tt
 
@@ -49,7 +49,7 @@ status_done : (lines bits : ℕ) (s : System) (r : Result Status Stop) → IsWho
 status_done lines bits s (Ok st) h = status_whole lines bits s st h
 status_done lines bits s (Err why) h = tt
 
-mpu_done : (lines bits : ℕ) (s : System) (r : Result Mpu MpuStop) → IsWhole lines bits s → SoundIfDone r →
+mpu_done : (lines bits : ℕ) (s : System) (r : Result Mpu MpuStop) → IsWhole lines bits s → IsSound (left s.mpu r) →
     IfDone (IsWhole lines bits) (mpu_written s r)
 mpu_done lines bits s (Ok m) h new = record { nvic = h.nvic; time = h.time; mpu = new }
 mpu_done lines bits s (Err why) h new = tt
@@ -67,21 +67,21 @@ written_whole lines bits s q (register.SysTick it) h = record {
 }
 written_whole lines bits s q (register.Interrupts it k) h =
     nvic_whole lines bits s _
-    (interrupts_kept (IsOfBoard lines bits) (board_kept lines bits) s.nvic it k q.value h.nvic) h
+    (interrupts_kept (HasBoard lines bits) (board_kept lines bits) s.nvic it k q.value h.nvic) h
 written_whole lines bits s q (register.Priorities first) h =
     nvic_whole lines bits s _
-    (priorities_kept (IsOfBoard lines bits) (board_kept lines bits) s.nvic
+    (priorities_kept (HasBoard lines bits) (board_kept lines bits) s.nvic
     (first + first_byte q.access.size q.access.address) q.value (bytes_in q.access.size) h.nvic)
     h
 written_whole lines bits s q (register.Control it) h =
-    nvic_done lines bits s _ h (control_kept (IsOfBoard lines bits) (board_kept lines bits) s.nvic it q.value h.nvic)
+    nvic_done lines bits s _ h (control_kept (HasBoard lines bits) (board_kept lines bits) s.nvic it q.value h.nvic)
 written_whole lines bits s q register.Shcsr h =
-    nvic_done lines bits s _ h (shcsr_kept (IsOfBoard lines bits) (board_kept lines bits) s.nvic q.value h.nvic)
+    nvic_done lines bits s _ h (shcsr_kept (HasBoard lines bits) (board_kept lines bits) s.nvic q.value h.nvic)
 written_whole lines bits s q (register.Status it) h = status_done lines bits s (write_status s.status it (in_place q)) h
 written_whole lines bits s q (register.Mpu it) h =
     mpu_done lines bits s (write_mpu s.mpu it q.value) h (sound_after_write s.mpu it q.value h.mpu)
 written_whole lines bits s q register.Stir h =
-    nvic_whole lines bits s _ (triggered_kept (IsOfBoard lines bits) (board_kept lines bits) s.nvic q.value h.nvic) h
+    nvic_whole lines bits s _ (triggered_kept (HasBoard lines bits) (board_kept lines bits) s.nvic q.value h.nvic) h
 written_whole lines bits s q register.Unlisted h = h
 
 -- ---- an access
@@ -140,23 +140,23 @@ pending_whole lines bits s x on h =
 pub activated_whole : (lines bits : ℕ) (s : System) (x : ℕ) → IsWhole lines bits s →
     IsWhole lines bits (with_nvic s (activated s.nvic x))
 activated_whole lines bits s x h =
-    nvic_whole lines bits s _ (activated_kept (IsOfBoard lines bits) (board_kept lines bits) s.nvic x h.nvic) h
+    nvic_whole lines bits s _ (activated_kept (HasBoard lines bits) (board_kept lines bits) s.nvic x h.nvic) h
 
 pub placed_mask_whole : (lines bits : ℕ) (s : System) (special : SpecialRegister) (value : ℕ) →
     IsWhole lines bits s → IsWhole lines bits (with_nvic s (with_mask s.nvic special value))
 placed_mask_whole lines bits s special value h =
-    nvic_whole lines bits s _ (mask_kept (IsOfBoard lines bits) (board_kept lines bits) s.nvic special value h.nvic) h
+    nvic_whole lines bits s _ (mask_kept (HasBoard lines bits) (board_kept lines bits) s.nvic special value h.nvic) h
 
 pub mask_whole : (lines bits : ℕ) (s : System) (privileged : Bool) (special : SpecialRegister) (value : ℕ) →
     IsWhole lines bits s → IsWhole lines bits (with_nvic s (write_mask privileged s.nvic special value))
 mask_whole lines bits s privileged special value h =
     nvic_whole lines bits s _
-    (write_mask_kept (IsOfBoard lines bits) (board_kept lines bits) privileged s.nvic special value h.nvic) h
+    (write_mask_kept (HasBoard lines bits) (board_kept lines bits) privileged s.nvic special value h.nvic) h
 
 pub state_whole : (lines bits : ℕ) (s : System) (privileged : Bool) (o : ChangeProcessorState) →
     IsWhole lines bits s → IsWhole lines bits (with_nvic s (change_state privileged s.nvic o))
 state_whole lines bits s privileged o h =
-    nvic_whole lines bits s _ (state_kept (IsOfBoard lines bits) (board_kept lines bits) privileged s.nvic o h.nvic) h
+    nvic_whole lines bits s _ (state_kept (HasBoard lines bits) (board_kept lines bits) privileged s.nvic o h.nvic) h
 
 deactivated_whole : (lines bits : ℕ) (s : System) (x : ℕ) → IsWhole lines bits s →
     IsWhole lines bits (deactivated s x)
@@ -179,7 +179,7 @@ pub tick_whole : (lines bits : ℕ) (s : System) → s.time.ticks < last_tick �
     IsWhole lines bits (after_tick s)
 unfolding after_tick
 tick_whole lines bits s early h = record {
-  nvic = pended_kept (IsOfBoard lines bits) (board_kept lines bits) s.nvic (tick_pends s.time) h.nvic;
+  nvic = pended_kept (HasBoard lines bits) (board_kept lines bits) s.nvic (tick_pends s.time) h.nvic;
   time = tick_timely lines s.time early h.time;
   mpu = h.mpu;
 }

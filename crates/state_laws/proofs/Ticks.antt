@@ -1,8 +1,8 @@
 -- The clock, SysTick, the script and the lines: a tick, and the registers of SysTick.
-use Rattle.std.proofs.Common.{◌≡◌, ℕ, ◌+◌, ◌-◌, ◌^◌, ◌<◌, Bool, true, false, ◌==◌, List, [], ◌∷◌, length, refl, sym, subst, ◌∙◌, arith, inl, inr}
-use Rattle.std.proofs.Math.Nat.{eq-or-lt_of_le}
-use Rattle.std.proofs.lemmas.Grind.{common_steps}
+use Rattle.std.proofs.Common.{◌≡◌, ℕ, zero, suc, ◌+◌, ◌-◌, ◌^◌, ◌<◌, Bool, true, false, ◌==◌, List, [], ◌∷◌, drop, length, refl, ◌∙◌, arith}
 use Rattle.std.proofs.lemmas.List.{length-set, length-replicate}
+use Rattle.clock.proofs.Scripts.{applies_those}
+use Rattle.clock.specs.Laws.{IsSortedFrom}
 use Rattle.reference.specs.declared.exception.TheConstants.{MOST_LINES}
 use Rattle.reference.specs.declared.script.ScriptedEvent.{ScriptedEvent}
 use Rattle.reference.specs.declared.script.Signal.{Signal}
@@ -12,7 +12,7 @@ use Rattle.reference.specs.declared.system.SysTickRegister.TheVariants.{Csr, Rvr
 use Rattle.reference.specs.Boards.{IsScriptFrom}
 use Rattle.reference.specs.Invariant.{IsWithinClock, HasTimerBits, IsAhead}
 use Rattle.reference.specs.SysTickRegisters.{after_systick_read, write_systick}
-use Rattle.reference.specs.Time.{Time, SysTick, last_tick, counted, with_signal, with_events, events_at, events_after, after_tick, start_time}
+use Rattle.reference.specs.Time.{Time, SysTick, last_tick, counted, with_signal, with_events, events_at, due_count, events_after, after_tick, start_time}
 use Rattle.state_laws.proofs.Nvic.{either}
 
 -- what holds of time on a board with these lines
@@ -23,23 +23,23 @@ pub record IsTimely (lines : ℕ) (t : Time) : Type 0 where
 
 -- ---- the script
 
-left_now : (tick : ℕ) (e : ScriptedEvent) (events : List ScriptedEvent) → tick ≡ e.at →
-    events_after tick (e ∷ events) ≡ events_after tick events
-left_now tick e events q = grind (arith, common_steps)
+sorted : (lines tick : ℕ) (script : List ScriptedEvent) → IsScriptFrom lines tick script → IsSortedFrom tick script
+sorted lines tick [] s = tt
+sorted lines tick (e ∷ events) s = (s.0, sorted lines e.at events s.3)
 
-left_later : (tick : ℕ) (e : ScriptedEvent) (events : List ScriptedEvent) → tick < e.at →
-    events_after tick (e ∷ events) ≡ e ∷ events
-left_later tick e events h = grind (arith, common_steps)
+-- a script without its first events is one, from each tick on from which it is sorted
+dropped : (lines before tick n : ℕ) (script : List ScriptedEvent) → IsScriptFrom lines before script →
+    IsSortedFrom tick (drop n script) → IsScriptFrom lines tick (drop n script)
+dropped lines before tick zero [] s order = tt
+dropped lines before tick (suc n) [] s order = tt
+dropped lines before tick zero (e ∷ events) s order = (order.0, s.1, s.2, s.3)
+dropped lines before tick (suc n) (e ∷ events) s order = dropped lines e.at tick n events s.3 order
 
 left : (lines tick : ℕ) (script : List ScriptedEvent) → IsScriptFrom lines tick script →
     IsScriptFrom lines (tick + 1) (events_after tick script)
-left lines tick [] s = tt
-left lines tick (e ∷ events) s =
-    elim (eq-or-lt_of_le s.0) [
-      | inl q ↦ rw (left_now tick e events q)
-          (left lines tick events (subst (λ a. IsScriptFrom lines a events) (sym q) s.3))
-      | inr h ↦ rw (left_later tick e events h) (omega arith, s.1, s.2, s.3)
-    ]
+left lines tick script s =
+    dropped lines tick (tick + 1) (due_count tick script) script s
+    (applies_those tick script (sorted lines tick script s)).1
 
 -- ---- the levels
 
