@@ -9,6 +9,7 @@ ghost use Rattle.board.specs.Texts.{are_tables, change, event_in, events, is_tab
 
 use crate::keys::{LINE_KEYS, NMI_KEYS, has_only};
 use crate::values::{find, number, word};
+use reference::exception::MOST_LINES;
 use reference::fault::BoardFault;
 use reference::script::{InterruptLine, ScriptedEvent, Signal};
 use std::alloc::Global;
@@ -60,7 +61,7 @@ pub fn script_of(
     lines: u8,
     values: &[Value],
 ) -> Result<Vec<ScriptedEvent>, BoardFault>
-    requires { lines ≤ 240 }
+    requires { lines ≤ MOST_LINES }
     ensures { Answers (λ events. events.items) result (script_in lines FIRST_TICK (items_view values.now)) }
 {
     let mut events = Vec::new(alloc);
@@ -95,7 +96,7 @@ fn gather(events: &mut Vec<ScriptedEvent>, is_complete: bool, event: ScriptedEve
 // An event that is no earlier than a tick.
 #[tactic(auto, unfolding(crate::specs::Texts::timely_event))]
 fn timely_event(lines: u8, before: u64, value: &Value) -> Result<ScriptedEvent, BoardFault>
-    requires { lines ≤ 240 }
+    requires { lines ≤ MOST_LINES }
     ensures { result ≡ timely_event lines before (view value.now) }
 {
     let Some(fields) = value.as_table() else {
@@ -111,7 +112,7 @@ fn timely_event(lines: u8, before: u64, value: &Value) -> Result<ScriptedEvent, 
 // One event.
 #[tactic(auto, unfolding(crate::specs::Texts::event_in))]
 fn event_of(lines: u8, event: &Table) -> Result<ScriptedEvent, BoardFault>
-    requires { lines ≤ 240 }
+    requires { lines ≤ MOST_LINES }
     ensures { result ≡ event_in lines (table_view event.now) }
 {
     let at = number(find(event, "at"))?;
@@ -124,7 +125,7 @@ fn event_of(lines: u8, event: &Table) -> Result<ScriptedEvent, BoardFault>
 
 // The signal of an event, by whether it has `nmi`.
 fn signal_of(lines: u8, event: &Table, value: Option<&Value>) -> Result<Signal, BoardFault>
-    requires { lines ≤ 240 }
+    requires { lines ≤ MOST_LINES }
     ensures { result ≡ signal_in lines (table_view event.now) (option_map (λ v. view v.now) value.entry) }
 {
     match value {
@@ -136,7 +137,7 @@ fn signal_of(lines: u8, event: &Table, value: Option<&Value>) -> Result<Signal, 
 // The signal of an event that names a line of the board.
 #[tactic(auto, unfolding(crate::specs::Texts::line_signal))]
 fn line_signal(lines: u8, event: &Table) -> Result<Signal, BoardFault>
-    requires { lines ≤ 240 }
+    requires { lines ≤ MOST_LINES }
     ensures { result ≡ line_signal lines (table_view event.now) }
 {
     let line = number(find(event, "line"))?;

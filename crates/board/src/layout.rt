@@ -11,6 +11,7 @@ ghost use Rattle.board.specs.Texts.{numbers_in, where_ok};
 
 use crate::values::{find, number, number_or};
 use reference::board::Layout;
+use reference::exception::MOST_LINES;
 use reference::fault::BoardFault;
 use reference::map::RAM_BASE;
 use reference::mpu::RegionCount;
@@ -20,8 +21,6 @@ use toml::Table;
 const BLOCK: u64 = 1024;
 
 const MOST_BYTES: u64 = 0x10_0000;
-
-const MOST_LINES: u64 = 240;
 
 // How many regions there are where the text doesn't say it.
 const DEFAULT_REGIONS: u64 = 8;
@@ -105,9 +104,9 @@ fn is_priority_bits(bits: u64) -> bool
 // Whether there can be so many lines.
 fn is_line_count(lines: u64) -> bool
     ensures test { result ≡ is_line_count lines }
-    ensures few { OnTrue result (lines ≤ 240) }
+    ensures few { OnTrue result (lines ≤ MOST_LINES) }
 {
-    lines <= MOST_LINES
+    lines <= u64::from(MOST_LINES)
 }
 
 // The number of regions that the MPU can have.
