@@ -130,7 +130,8 @@ unfolding compare_shifted_row data_shifted_row
 sum_shifted_rows_even = search unless_even
 
 plain_rows_even : EachEven plain_rows
-unfolding add_wide_row address_wide_row clear_field_row extract_field_row insert_field_row move_top_row move_wide_row saturate_row
+unfolding add_wide_row address_wide_row clear_field_row extract_field_row insert_field_row move_top_row
+    move_wide_row saturate_row
 plain_rows_even = search unless_even
 
 long_control_rows_even : EachEven long_control_rows
@@ -212,5 +213,6 @@ meaning_even rows number h = found_even rows number h
 pub decoding_even : (hw1 hw2 : ℕ) → HasEvenLength (decoding hw1 hw2)
 unfolding decoding short_meaning long_meaning
 decoding_even hw1 hw2 =
-    either HasEvenLength (instruction_length hw1 == 4) _ _ (λ long. meaning_even (rows_of long_tables) _ (all_even long_tables long_even))
+    either HasEvenLength (instruction_length hw1 == 4) _ _
+    (λ long. meaning_even (rows_of long_tables) _ (all_even long_tables long_even))
     (λ short. meaning_even (rows_of short_tables) hw1 (all_even short_tables short_even))
