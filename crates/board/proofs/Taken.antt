@@ -3,7 +3,6 @@ use Rattle.std.proofs.Common.{◌≡◌, ℕ, ◌≤◌, true, refl, arith}
 use Rattle.std.proofs.lemmas.Bool.Decides.{nat_tests}
 use Rattle.board.specs.declared.whole.Board.{Board}
 use Rattle.board.specs.Seen.{described}
-use Rattle.reference.specs.declared.board.Layout.{Layout}
 use Rattle.reference.specs.declared.mpu.RegionCount.{RegionCount}
 use Rattle.reference.specs.declared.mpu.RegionCount.TheVariants.{Eight, Sixteen}
 use Rattle.reference.specs.Boards.{IsScript, is_line_count, is_region_count}

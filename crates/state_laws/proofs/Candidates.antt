@@ -1,5 +1,5 @@
 -- There is a candidate still where more exceptions become pending, and where a fault is taken.
-use Rattle.std.proofs.Common.{◌≡◌, ℕ, zero, suc, ◌<◌, min, Bool, true, false, ◌&&◌, is_some, nat_lt, List, [], ◌∷◌, length, slice_index_or, slice_set, Option, Some, None, refl, ap, arith}
+use Rattle.std.proofs.Common.{◌≡◌, ℕ, zero, suc, ◌<◌, min, Bool, true, false, ◌&&◌, is_some, nat_lt, List, length, slice_set, Option, Some, None, refl, ap, arith}
 use Rattle.std.proofs.lemmas.Bool.{ltb-true, ltb-false}
 use Rattle.std.proofs.lemmas.List.{get_or-set_same}
 use Rattle.nvic.proofs.Best.{candidate_is}

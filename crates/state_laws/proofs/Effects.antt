@@ -1,5 +1,5 @@
 -- What an instruction makes of the core registers keeps what holds of them.
-use Rattle.std.proofs.Common.{ℕ, Bool, List, [], ◌∷◌, drop, slice_index, refl, ◌%◌, ◌≡◌, arith}
+use Rattle.std.proofs.Common.{ℕ, Bool, List, [], ◌∷◌, drop, slice_index, ◌%◌, ◌≡◌, arith}
 use Rattle.reference.specs.declared.instruction.Branch.{Branch}
 use Rattle.reference.specs.declared.instruction.Branch.TheVariants as branch
 use Rattle.reference.specs.declared.instruction.CodedInstruction.{CodedInstruction}
