@@ -5,6 +5,7 @@
 ghost use Rattle.std.specs.Prelude.{◌≡◌, ◌⊎◌, Err, IfOk};
 ghost use Rattle.toml.specs.View.{table_view};
 ghost use Rattle.reference.specs.Boards.{IsScript};
+ghost use Rattle.reference.specs.Invariant.{IsBoard};
 ghost use Rattle.reference.specs.declared.fault.BoardFault.TheVariants.{OutOfMemory as Wanting};
 ghost use Rattle.board.specs.Texts.{board_in, board_of};
 ghost use Rattle.board.specs.Seen.{Answers, described};
@@ -33,6 +34,7 @@ pub use whole::Board;
 pub fn read_board(alloc: Global, text: &str) -> Result<Board, BoardFault>
     ensures answer { Answers described result (board_of text.now) ⊎ (result ≡ Err Wanting) }
     ensures script { IfOk result (λ board. IsScript board.layout.lines board.events.items) }
+    ensures board { IfOk result (λ board. IsBoard (described board)) }
 {
     let document = match toml::table_from_str(alloc, text) {
         Ok(document) => document,
@@ -44,10 +46,11 @@ pub fn read_board(alloc: Global, text: &str) -> Result<Board, BoardFault>
 
 /// The board that a parsed document describes, or the first refusal. Want of memory is answered only
 /// where nothing is refused.
-#[tactic(auto, using(crate::proofs::Ordered::script_is), unfolding(crate::specs::Texts::board_in))]
+#[tactic(auto, using(crate::proofs::Ordered::script_is, crate::proofs::Taken::is_board), unfolding(crate::specs::Texts::board_in))]
 pub fn board_of_table(alloc: Global, document: &Table) -> Result<Board, BoardFault>
     ensures answer { Answers described result (board_in (table_view document.now)) }
     ensures script { IfOk result (λ board. IsScript board.layout.lines board.events.items) }
+    ensures board { IfOk result (λ board. IsBoard (described board)) }
 {
     let layout = layout_of(document)?;
     if !has_only(&BOARD_KEYS, document) {

@@ -1,7 +1,9 @@
 -- There is a candidate still where more exceptions become pending, and where a fault is taken.
-use Rattle.std.proofs.Common.{◌≡◌, ℕ, zero, suc, ◌<◌, min, Bool, true, false, ◌&&◌, is_some, nat_lt, List, [], ◌∷◌, length, slice_index_or, slice_set, Option, Some, None, refl, ap, arith}
+use Rattle.std.proofs.Common.{◌≡◌, ℕ, zero, suc, ◌<◌, min, Bool, true, false, ◌&&◌, is_some, nat_lt, List, length, slice_set, Option, Some, None, refl, ap, arith}
 use Rattle.std.proofs.lemmas.Bool.{ltb-true, ltb-false}
+use Rattle.std.proofs.lemmas.List.{get_or-set_same}
 use Rattle.nvic.proofs.Best.{candidate_is}
+use Rattle.nvic.proofs.Boards.{at_each}
 use Rattle.nvic.specs.Laws.{IsReady, IsCandidate}
 use Rattle.reference.specs.declared.exception.Escalation.{Escalation}
 use Rattle.reference.specs.declared.exception.Escalation.TheVariants.{Itself, HardFault, Lockup}
@@ -47,17 +49,8 @@ execution_kept : (n : Nvic) (p : List Bool) → execution_priority (record n { p
 unfolding execution_priority
 execution_kept n p = ap (λ least. min least (boosted n.group n.masks)) (least_kept n p EXCEPTIONS)
 
-grows : (s : List Bool) (x y : ℕ) → slice_index_or s y false ≡ true → slice_index_or (slice_set s x true) y false ≡ true
-grows [] x y e = e
-grows (b ∷ s) zero zero e = refl
-grows (b ∷ s) zero (suc y) e = e
-grows (b ∷ s) (suc x) zero e = e
-grows (b ∷ s) (suc x) (suc y) e = grows s x y e
-
-is_there : (s : List Bool) (x : ℕ) → x < length s → slice_index_or (slice_set s x true) x false ≡ true
-is_there [] x h = absurd (omega arith)
-is_there (b ∷ s) zero h = refl
-is_there (b ∷ s) (suc x) h = is_there s x (omega arith)
+grows : (s : List Bool) (x y : ℕ) → is_in s y ≡ true → is_in (slice_set s x true) y ≡ true
+grows s x y = at_each (λ j b. is_in s j ≡ true → b ≡ true) s x true false (λ e. refl) (λ j e. e) y
 
 both : (a b c : Bool) → (a ≡ true → c ≡ true) → (a && b) ≡ true → (c && b) ≡ true
 both true b true f e = e
@@ -106,7 +99,7 @@ raised_calls n x places small exists enabled above =
       number = x;
       ready = record {
         in_range = small;
-        ready = rw (is_there n.pending x (rw places small), enabled) refl;
+        ready = rw (get_or-set_same n.pending x true false (rw places small), enabled) refl;
       };
       above = rw (execution_kept n (slice_set n.pending x true)) above;
     }))

@@ -105,8 +105,10 @@ meaningless_kept s events length even fault h =
 executed_kept : (s : State) (events : List Event) (length : ℕ) → length % 2 ≡ 0 → (d : Decoded) → HasEvenLength d →
     Has s → LeavesGood (executed s events length d)
 executed_kept s events length even (decoded.Instr i) own h = planned_kept s events i own _ h
-executed_kept s events length even decoded.Undefined own h = meaningless_kept s events length even UndefinedInstruction h
-executed_kept s events length even decoded.NoCoprocessor own h = meaningless_kept s events length even NoCoprocessor h
+executed_kept s events length even decoded.Undefined own h =
+    meaningless_kept s events length even UndefinedInstruction h
+executed_kept s events length even decoded.NoCoprocessor own h =
+    meaningless_kept s events length even NoCoprocessor h
 executed_kept s events length even (decoded.Unpredictable place why) own h = h
 
 -- ---- the fetches

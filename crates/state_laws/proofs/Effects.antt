@@ -1,5 +1,5 @@
 -- What an instruction makes of the core registers keeps what holds of them.
-use Rattle.std.proofs.Common.{ℕ, Bool, List, [], ◌∷◌, drop, slice_index, refl, ◌%◌, ◌≡◌, arith}
+use Rattle.std.proofs.Common.{ℕ, Bool, List, [], ◌∷◌, drop, slice_index, ◌%◌, ◌≡◌, arith}
 use Rattle.reference.specs.declared.instruction.Branch.{Branch}
 use Rattle.reference.specs.declared.instruction.Branch.TheVariants as branch
 use Rattle.reference.specs.declared.instruction.CodedInstruction.{CodedInstruction}
@@ -43,10 +43,13 @@ written_kept : (setting : FlagSetting) (d : ℕ) (given : ℕ × Flags) (r : Reg
     HasRegisters (written setting d given r)
 written_kept setting d given r h =
     let value = register_kept r d given.0 h in
-    either HasRegisters (sets_flags setting r) _ _ (λ e. with_flags (with_register r d given.0) given.1 value) (λ e. value)
+    either HasRegisters (sets_flags setting r) _ _ (λ e. with_flags (with_register r d given.0) given.1 value)
+    (λ e. value)
 
 processed_kept : (i : DataProcessing) (r : Registers) → HasRegisters r → HasRegisters (processed i r)
-unfolding processed data_immediate data_register compare_immediate compare_register move_immediate move_register move_top shift_by_register address multiply multiply_accumulate multiply_long divide saturate extract_field insert_field clear_field extend rearrange
+unfolding processed data_immediate data_register compare_immediate compare_register move_immediate move_register
+    move_top shift_by_register address multiply multiply_accumulate multiply_long divide saturate extract_field
+    insert_field clear_field extend rearrange
 processed_kept (data_processing.DataImmediate o) r h = written_kept o.flags o.destination _ r h
 processed_kept (data_processing.DataRegister o) r h = written_kept o.flags o.destination _ r h
 processed_kept (data_processing.MoveImmediate o) r h = written_kept o.flags o.destination _ r h
@@ -60,7 +63,8 @@ processed_kept (data_processing.Multiply o) r h = written_kept o.flags o.destina
 processed_kept (data_processing.MultiplyAccumulate o) r h = register_kept r o.destination _ h
 processed_kept (data_processing.MultiplyLong o) r h = register_kept _ o.low _ (register_kept r o.high _ h)
 processed_kept (data_processing.Divide o) r h = register_kept r o.destination _ h
-processed_kept (data_processing.Saturate o) r h = with_flags (with_register r o.destination _) _ (register_kept r o.destination _ h)
+processed_kept (data_processing.Saturate o) r h =
+    with_flags (with_register r o.destination _) _ (register_kept r o.destination _ h)
 processed_kept (data_processing.ExtractField o) r h = register_kept r o.destination _ h
 processed_kept (data_processing.InsertField o) r h = register_kept r o.destination _ h
 processed_kept (data_processing.ClearField o) r h = register_kept r o.destination _ h
@@ -103,8 +107,8 @@ loaded_kept (n ∷ ns) values r h =
     loaded_kept ns (drop 1 values) (with_register r n (slice_index values 0))
     (register_kept r n (slice_index values 0) h)
 
-load_multiple_kept : (bytes : ℕ) → bytes % 2 ≡ 0 → (o : LoadMultiple) (values : List ℕ) (r : Registers) → HasRegisters r →
-    Leaves (load_multiple bytes o values r)
+load_multiple_kept : (bytes : ℕ) → bytes % 2 ≡ 0 → (o : LoadMultiple) (values : List ℕ) (r : Registers) →
+    HasRegisters r → Leaves (load_multiple bytes o values r)
 unfolding load_multiple
 load_multiple_kept bytes even o values r h =
     let moved = moved_kept o.write_back o.base o.order o.list r h in
@@ -112,11 +116,12 @@ load_multiple_kept bytes even o values r h =
     either Leaves (is_bit o.list 15) _ _ (λ e. exchanges_kept _ (loaded_below_pc o values r) below)
     (λ e. moves_on_kept bytes even (loaded_below_pc o values r) below)
 
-multiple_kept : (length : ℕ) → length % 2 ≡ 0 → (i : LoadStoreMultiple) (r : Registers) (values : List ℕ) → HasRegisters r →
-    Leaves (load_store_multiple_effect length i r values)
+multiple_kept : (length : ℕ) → length % 2 ≡ 0 → (i : LoadStoreMultiple) (r : Registers) (values : List ℕ) →
+    HasRegisters r → Leaves (load_store_multiple_effect length i r values)
 unfolding load_store_multiple_effect
 multiple_kept length even (multiple.LoadDual o) r values h =
-    moves_on_kept length even _ (loaded_kept (o.first ∷ o.second ∷ []) values (with_base o.address r) (base_kept o.address r h))
+    moves_on_kept length even _
+    (loaded_kept (o.first ∷ o.second ∷ []) values (with_base o.address r) (base_kept o.address r h))
 multiple_kept length even (multiple.LoadDualLiteral o) r values h =
     moves_on_kept length even _ (loaded_kept (o.first ∷ o.second ∷ []) values r h)
 multiple_kept length even (multiple.StoreDual o) r values h =
@@ -146,7 +151,8 @@ branch_kept length even (branch.Immediate o) r values h = branches_by_kept o.off
 branch_kept length even (branch.Conditional o) r values h =
     either Leaves (condition_holds o.condition r.flags) _ _ (λ e. branches_by_kept o.offset r h)
     (λ e. moves_on_kept length even r h)
-branch_kept length even (branch.WithLink o) r values h = branches_by_kept o.offset (with_link length r) (link_kept length r h)
+branch_kept length even (branch.WithLink o) r values h =
+    branches_by_kept o.offset (with_link length r) (link_kept length r h)
 branch_kept length even (branch.Exchange o) r values h =
     either Leaves o.links _ _
     (λ e. branches_kept (with_exchange (with_link length r) (register r o.target))
@@ -158,7 +164,8 @@ branch_kept length even (branch.Table o) r values h = branches_by_kept _ r h
 branch_kept length even (branch.IfThen o) r values h =
     pc_kept (record r { it = begun o }) _ (next_even r.pc length h.pc even) (with_it r (begun o) (omega arith) h)
 
-system_kept : (length : ℕ) → length % 2 ≡ 0 → (i : System) (r : Registers) → HasRegisters r → Leaves (system_effect length i r)
+system_kept : (length : ℕ) → length % 2 ≡ 0 → (i : System) (r : Registers) → HasRegisters r →
+    Leaves (system_effect length i r)
 unfolding system_effect
 system_kept length even (system.ChangeProcessorState o) r h = moves_on_kept length even r h
 system_kept length even (system.MoveToSpecial o) r h = moves_on_kept length even r h

@@ -159,7 +159,8 @@ start_gives board image h =
             nvic = board_at_reset board.numbers.lines board.numbers.priority_bits;
             time =
                 timely_at_start (min board.numbers.lines MOST_LINES) board.script
-                (subst (λ lines. IsScriptFrom lines 1 board.script) (sym (all_lines board.numbers.lines h.lines)) h.script);
+                (subst (λ lines. IsScriptFrom lines 1 board.script) (sym (all_lines board.numbers.lines h.lines))
+                h.script);
             mpu = sound_at_reset board.numbers.regions (regions_known board.numbers.regions h.regions);
           });
     })

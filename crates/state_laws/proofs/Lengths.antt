@@ -11,8 +11,7 @@ use Rattle.reference.specs.declared.operands.SpecialRegister.{SpecialRegister}
 use Rattle.reference.specs.declared.stop.UnpredictableCase.{UnpredictableCase}
 use Rattle.reference.specs.Decoding.{rows_of, short_tables, long_tables, short_meaning, long_meaning, instruction_length, decoding}
 use Rattle.reference.specs.Patterns.{is_as_printed, field}
-use Rattle.reference.specs.Rows.{Row, Letters, letters, applies, as_printed, by_row, by_found, meaning, unless}
-use Rattle.reference.specs.SpecialRegisters.{special_of}
+use Rattle.reference.specs.Rows.{Row, Letters, letters, applies, as_printed, by_found, meaning, unless}
 use Rattle.reference.specs.LongControl.{branch_wide_if_row, branch_wide_row, branch_with_link_row, from_special, long_control_rows, move_from_special_row, move_to_special_row, to_special}
 use Rattle.reference.specs.LongDual.{dual_rows, load_dual_literal_row, load_dual_row, load_exclusive_row, store_dual_row, store_exclusive_row, table_branch_row}
 use Rattle.reference.specs.LongImmediate.{compare_expanded, compare_immediate_row, data_expanded, data_immediate_row, logical_immediate_rows, move_expanded, move_immediate_row, sum_immediate_rows}
@@ -130,7 +129,8 @@ unfolding compare_shifted_row data_shifted_row
 sum_shifted_rows_even = search unless_even
 
 plain_rows_even : EachEven plain_rows
-unfolding add_wide_row address_wide_row clear_field_row extract_field_row insert_field_row move_top_row move_wide_row saturate_row
+unfolding add_wide_row address_wide_row clear_field_row extract_field_row insert_field_row move_top_row
+    move_wide_row saturate_row
 plain_rows_even = search unless_even
 
 long_control_rows_even : EachEven long_control_rows
@@ -181,15 +181,10 @@ all_even [] h = tt
 all_even (table ∷ tables) h = joined table (rows_of tables) h.0 (all_even tables h.1)
 
 short_even : TablesEven short_tables
-short_even =
-    (shifts_and_moves_even, (data_low_rows_even, (data_high_rows_even, (special_rows_even, (register_access_rows_even,
-    (number_access_rows_even, (adjusting_rows_even, (controlling_rows_even, (branch_rows_even, tt)))))))))
+short_even = search (shifts_and_moves_even, data_low_rows_even, data_high_rows_even, special_rows_even, register_access_rows_even, number_access_rows_even, adjusting_rows_even, controlling_rows_even, branch_rows_even)
 
 long_even : TablesEven long_tables
-long_even =
-    (logical_immediate_rows_even, (sum_immediate_rows_even, (logical_shifted_rows_even, (sum_shifted_rows_even,
-    (plain_rows_even, (long_control_rows_even, (multiple_rows_even, (dual_rows_even, (store_rows_even,
-    (narrow_load_rows_even, (word_load_rows_even, (register_rows_even, (product_rows_even, tt)))))))))))))
+long_even = search (logical_immediate_rows_even, sum_immediate_rows_even, logical_shifted_rows_even, sum_shifted_rows_even, plain_rows_even, long_control_rows_even, multiple_rows_even, dual_rows_even, store_rows_even, narrow_load_rows_even, word_load_rows_even, register_rows_even, product_rows_even)
 
 -- ---- the meaning of halfwords
 
@@ -212,5 +207,6 @@ meaning_even rows number h = found_even rows number h
 pub decoding_even : (hw1 hw2 : ℕ) → HasEvenLength (decoding hw1 hw2)
 unfolding decoding short_meaning long_meaning
 decoding_even hw1 hw2 =
-    either HasEvenLength (instruction_length hw1 == 4) _ _ (λ long. meaning_even (rows_of long_tables) _ (all_even long_tables long_even))
+    either HasEvenLength (instruction_length hw1 == 4) _ _
+    (λ long. meaning_even (rows_of long_tables) _ (all_even long_tables long_even))
     (λ short. meaning_even (rows_of short_tables) hw1 (all_even short_tables short_even))
