@@ -34,7 +34,7 @@ pub fn program<R: Files + AllocGlobal, I: Read + Drop, W: Write + Drop, E: Write
 }
 
 /// Writes the answer to words that name no run and no session. Returns 2, 0 for the version, 5 where that fails.
-fn answer<W: Write + Drop, E: Write>(fault: WordsFault, mut out: W, err: &mut E) -> u8
+pub fn answer<W: Write + Drop, E: Write>(fault: WordsFault, mut out: W, err: &mut E) -> u8
     ensures { (result ≡ 2) ⊎ ((result ≡ 0) ⊎ (result ≡ 5)) }
 {
     match fault {

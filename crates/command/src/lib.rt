@@ -12,9 +12,10 @@ mod noting;
 mod request;
 
 pub use command_line::WordsFault;
-pub use commands::program;
+pub use commands::{answer, program};
 pub use debugging::debug;
 pub use engine::go;
+pub use explanations::explain;
 pub use fault::{Fault, tell};
 pub use files::{FileFault, InputFile, read_file, words};
 pub use request::{Request, Task, read_words};

@@ -31,7 +31,10 @@ pub fn write_problem<W: Write>(out: &mut W, problem: &Problem<'_>) -> io::Result
             "{name} is no key here: the keys are {known}"
         ),
         Problem::Order(at, before) => {
-            writeln!(out, "at is {at}, and the event before it is at {before}")
+            writeln!(
+                out,
+                "at is {at}, and the event before it is at {before}: events come in the order of at"
+            )
         }
     }
 }

@@ -42,7 +42,8 @@ fn write_document_reason<W: Write>(
     fault: BoardFault,
 ) -> io::Result<()> {
     if let Some(problem) = numbers_problem(document) {
-        return write_problem(out, &problem);
+        write_problem(out, &problem)?;
+        return write_misplaced(out, document, &problem);
     }
     if let Some(problem) = unknown(document, &BOARD_KEYS, BOARD_KEY_NAMES) {
         return write_problem(out, &problem);
@@ -54,6 +55,26 @@ fn write_document_reason<W: Write>(
             write_problem(out, &problem)
         }
         None => writeln!(out, "{fault}"),
+    }
+}
+
+/// Writes, after a missing key, the first key that isn't known: it may be the missing one misspelled, or
+/// the name of a table that the keys of the board are in.
+fn write_misplaced<W: Write>(
+    out: &mut W,
+    document: &Table,
+    problem: &Problem<'_>,
+) -> io::Result<()> {
+    match *problem {
+        Problem::Missing(_) => {}
+        Problem::Value(_, _) | Problem::Unknown(_, _) | Problem::Order(_, _) => return Ok(()),
+    }
+    match unknown(document, &BOARD_KEYS, BOARD_KEY_NAMES) {
+        Some(other) => {
+            write!(out, "  ")?;
+            write_problem(out, &other)
+        }
+        None => Ok(()),
     }
 }
 

@@ -127,6 +127,88 @@ out Example:
 out   marm run --board examples/boards/small.toml --steps 10 examples/first.elf
 err marm: usage
 
+the help of debug
+words debug --help
+ends 2
+out Reads commands from standard input and writes their answers to standard output
+out
+out Usage: marm debug --board <FILE> <IMAGE>
+out
+out Arguments:
+out   <IMAGE>  The image: an ELF file for ARM of at most 16 MiB, linked to run
+out
+out Options:
+out       --board <FILE>  The board: a TOML file of at most 16 MiB with the memory, the lines and the events
+out   -h, --help          Print help
+out
+out Commands, one a line on standard input; numbers are decimal, or hexadecimal after 0x:
+out   step               makes a step: its trace lines, then `at <pc>` or the stop line
+out   run <n>            makes up to n steps, from 1 to 1000000, and ends at a breakpoint
+out   break <a>          sets a breakpoint at an address, at most 16
+out   regs               shows the core registers
+out   mem <a> <n>        shows n bytes from an address on, from 1 to 256
+out   regions            shows RBAR and RASR of each region of the MPU
+out   explain <a> p|u r|w|x
+out                      shows the rule that would decide an access by privileged (p) or unprivileged (u)
+out                      code that reads, writes or executes, and whether the rule would grant it
+out   quit               ends the session, as the end of the input does
+out
+out Answers `error 1` (no such command, or another number of words), `error 2` (a word isn't allowed there)
+out and `error 3` (16 breakpoints are set) change nothing.
+out
+out Exit status:
+out   0  the session ended
+out   2  the words are wrong, or help was asked for (marm: usage)
+out   3  the image or the board is refused, or memory ran out for the board or the machine
+out      (marm: load, board, start, size)
+out   5  reading or writing failed, or memory ran out for the words or a file (marm: io)
+out
+out Example:
+out   echo 'explain 0x20000000 u w' |
+out   marm debug --board examples/boards/small.toml examples/first.elf
+err marm: usage
+
+help as a word, of debug
+words help debug
+ends 2
+out Reads commands from standard input and writes their answers to standard output
+out
+out Usage: marm debug --board <FILE> <IMAGE>
+out
+out Arguments:
+out   <IMAGE>  The image: an ELF file for ARM of at most 16 MiB, linked to run
+out
+out Options:
+out       --board <FILE>  The board: a TOML file of at most 16 MiB with the memory, the lines and the events
+out   -h, --help          Print help
+out
+out Commands, one a line on standard input; numbers are decimal, or hexadecimal after 0x:
+out   step               makes a step: its trace lines, then `at <pc>` or the stop line
+out   run <n>            makes up to n steps, from 1 to 1000000, and ends at a breakpoint
+out   break <a>          sets a breakpoint at an address, at most 16
+out   regs               shows the core registers
+out   mem <a> <n>        shows n bytes from an address on, from 1 to 256
+out   regions            shows RBAR and RASR of each region of the MPU
+out   explain <a> p|u r|w|x
+out                      shows the rule that would decide an access by privileged (p) or unprivileged (u)
+out                      code that reads, writes or executes, and whether the rule would grant it
+out   quit               ends the session, as the end of the input does
+out
+out Answers `error 1` (no such command, or another number of words), `error 2` (a word isn't allowed there)
+out and `error 3` (16 breakpoints are set) change nothing.
+out
+out Exit status:
+out   0  the session ended
+out   2  the words are wrong, or help was asked for (marm: usage)
+out   3  the image or the board is refused, or memory ran out for the board or the machine
+out      (marm: load, board, start, size)
+out   5  reading or writing failed, or memory ran out for the words or a file (marm: io)
+out
+out Example:
+out   echo 'explain 0x20000000 u w' |
+out   marm debug --board examples/boards/small.toml examples/first.elf
+err marm: usage
+
 an option that does not exist
 words run --frob --board board.toml --steps 10 image.elf
 ends 2
@@ -191,7 +273,65 @@ a file that is not there
 words run --board board.toml --steps 10 missing.elf
 ends 5
 err marm: io
-err   missing.elf: No such file or directory (os error 2)";
+err   missing.elf: No such file or directory (os error 2)
+
+a board that is not there
+words run --board missing.toml --steps 10 image.elf
+ends 5
+err marm: io
+err   missing.toml: No such file or directory (os error 2)
+
+a folder in place of the image
+words run --board board.toml --steps 10 .
+ends 5
+err marm: io
+err   .: Is a directory (os error 21)
+
+a folder in place of the board
+words debug --board . image.elf
+ends 5
+err marm: io
+err   .: Is a directory (os error 21)
+
+two images
+words run --board board.toml --steps 10 image.elf other.elf
+ends 2
+err marm: usage
+err error: unexpected argument 'other.elf' found
+err
+err Usage: marm run --board <FILE> --steps <N> <IMAGE>
+err
+err For more information, try '--help'.
+
+an option of run, to debug
+words debug --board board.toml --steps 10 image.elf
+ends 2
+err marm: usage
+err error: unexpected argument '--steps' found
+err
+err   tip: to pass '--steps' as a value, use '-- --steps'
+err
+err Usage: marm debug --board <FILE> <IMAGE>
+err
+err For more information, try '--help'.
+
+an option without its value
+words run --steps 10 image.elf --board
+ends 2
+err marm: usage
+err error: a value is required for '--board <FILE>' but none was supplied
+err
+err For more information, try '--help'.
+
+an option twice
+words run --board board.toml --board board.toml --steps 10 image.elf
+ends 2
+err marm: usage
+err error: the argument '--board <FILE>' cannot be used multiple times
+err
+err Usage: marm run --board <FILE> --steps <N> <IMAGE>
+err
+err For more information, try '--help'.";
 
 #[test]
 fn words_are_answered(rt: HostRuntime) -> Result<(), Fail> {

@@ -1,11 +1,11 @@
-//! A writer that takes little, and runs that write to it.
+//! A reader that ends early and a writer that takes little, and runs that write to it.
 
 ghost use Rattle.std.specs.Prelude.{◌≡◌};
 
 use arrayvec::ArrayVec;
 use machine::{Decider, DueTicks, Levels, Machine, Over, RunFault, Stop};
 use std::io;
-use std::io::Write;
+use std::io::{Read, Write};
 use std::marker::Brand;
 use std::sync::ledger::{Blank, Ledger};
 
@@ -19,6 +19,27 @@ pub(super) type Text = ArrayVec<u8, ROOM>;
 pub(super) fn push_line(text: &mut Text, line: &str) -> Option<()> {
     text.try_extend_from_slice(line.as_bytes()).ok()?;
     text.try_push(b'\n').ok()
+}
+
+/// A reader that returns `left` bytes of a text, and then fails.
+#[derive(Drop)]
+pub(super) struct Short<'a> {
+    pub(super) text: &'a [u8],
+    pub(super) left: usize,
+}
+
+impl Read for Short<'_> {
+    fn read(&mut self, buf: &mut [u8]) -> io::Result<usize> {
+        match self.text.split_first() {
+            Some((byte, rest)) if self.left > 0 && !buf.is_empty() => {
+                buf[0] = *byte;
+                self.text = rest;
+                self.left -= 1;
+                Ok(1)
+            }
+            _ => Err(io::Error::from(io::ErrorKind::BrokenPipe)),
+        }
+    }
 }
 
 /// A writer that takes `most` bytes a call and `left` in all, and then fails or takes none.

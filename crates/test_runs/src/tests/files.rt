@@ -1,12 +1,16 @@
 //! The command: runs from the bytes of files, what it tells, and its words.
 
-use super::cut::{Cut, Text, push_line};
+use super::cut::{Cut, Short, Text, push_line};
 use super::elf_files::ElfFile;
 use board::BoardFault;
-use command::{Fault, FileFault, Task, program, read_file, read_words, tell};
+use command::{
+    Fault, FileFault, InputFile, Task, WordsFault, answer, explain, program, read_file, read_words,
+    tell,
+};
 use machine::StartFault;
 use std::alloc::Global;
 use std::fs::OpenFile;
+use std::io::Read;
 use std::test::*;
 use std::{fs, io, str};
 use test_tables::{Rows, byte_at, check, check_between, number_at, part};
@@ -23,6 +27,9 @@ const SMALL: &str =
 const IMAGE_PATH: &str = "image.elf";
 
 const BOARD_PATH: &str = "board.toml";
+
+/// Standard input without a byte.
+const NO_INPUT: &[u8] = b"";
 
 /// The words of a case that has none of its own.
 const RUN_WORDS: &str = "run --board board.toml --steps 10 image.elf";
@@ -143,12 +150,12 @@ struct Ended {
 
 impl Ended {
     /// Runs the program on files, with room for `room` bytes of standard output.
-    fn of(
+    fn of<I: Read + Drop>(
         rt: &HostRuntime,
         words: &str,
         image: &[u8],
         board: &[u8],
-        input: &[u8],
+        input: I,
         room: usize,
     ) -> io::Result<Self> {
         let mut given = Vec::new(rt.alloc());
@@ -225,6 +232,12 @@ byte 4 2
 ends 3
 err marm: load 3 NotElf32Little
 err   image.elf: e_ident[EI_CLASS] is 2 and e_ident[EI_DATA] is 1, where 1 and 1 are needed: 32 bits, little endian
+
+big endian
+byte 5 2
+ends 3
+err marm: load 3 NotElf32Little
+err   image.elf: e_ident[EI_CLASS] is 1 and e_ident[EI_DATA] is 2, where 1 and 1 are needed: 32 bits, little endian
 
 an object file
 byte 10 1
@@ -318,6 +331,22 @@ ends 3
 err marm: board 2 MissingKey
 err   board.toml: the key lines is missing: it takes an integer from 0 to 240
 
+a key is misspelled
+board flash-base = 0
+board flash_size = 4096
+ends 3
+err marm: board 2 MissingKey
+err   board.toml: the key flash_base is missing: it takes a multiple of 1024, at least 0
+err   flash-base is no key here: the keys are flash_base, flash_size, ram_size, priority_bits, lines, regions and event
+
+the keys are in a table
+board [board]
+board flash_base = 0
+ends 3
+err marm: board 2 MissingKey
+err   board.toml: the key flash_base is missing: it takes a multiple of 1024, at least 0
+err   board is no key here: the keys are flash_base, flash_size, ram_size, priority_bits, lines, regions and event
+
 a word in place of a number
 board flash_base = \"0\"
 ends 3
@@ -352,7 +381,7 @@ board at = 1
 board nmi = true
 ends 3
 err marm: board 5 EventsOutOfOrder
-err   board.toml: event 2: at is 1, and the event before it is at 2
+err   board.toml: event 2: at is 1, and the event before it is at 2: events come in the order of at
 
 another key
 board flash_base = 0
@@ -415,6 +444,31 @@ board priority_bits = [4]
 ends 3
 err marm: board 3 WrongKind
 err   board.toml: priority_bits is of the type array: it takes an integer from 3 to 8
+
+two bits of a priority
+board flash_base = 0
+board flash_size = 4096
+board ram_size = 8192
+board priority_bits = 2
+ends 3
+err marm: board 4 OutOfRange
+err   board.toml: priority_bits is 2: it takes an integer from 3 to 8
+
+241 lines
+board flash_base = 0
+board flash_size = 4096
+board ram_size = 8192
+board priority_bits = 3
+board lines = 241
+ends 3
+err marm: board 4 OutOfRange
+err   board.toml: lines is 241: it takes an integer from 0 to 240
+
+nine regions
+with regions = 9
+ends 3
+err marm: board 4 OutOfRange
+err   board.toml: regions is 9: it takes 8 or 16, and 8 where it isn't there
 
 events that are no list
 with event = 1
@@ -511,17 +565,79 @@ fn runs_of_files(rt: HostRuntime) -> Result<(), Fail> {
 
 #[test]
 fn a_writer_that_fails_ends_the_run(rt: HostRuntime) -> Result<(), Fail> {
-    let ended = Ended::of(&rt, RUN_WORDS, &FIRST, SMALL.as_bytes(), b"", 7)?;
+    let ended = Ended::of(&rt, RUN_WORDS, &FIRST, SMALL.as_bytes(), NO_INPUT, 7)?;
     assert!(rt; ended.is(5, b"1 F 000", b"marm: io\n  standard output: broken pipe\n"));
     Ok(())
 }
 
 #[test]
 fn a_board_that_is_no_text_is_refused(rt: HostRuntime) -> Result<(), Fail> {
-    let ended = Ended::of(&rt, RUN_WORDS, &FIRST, b"# \xFF", b"", 512)?;
+    let ended = Ended::of(&rt, RUN_WORDS, &FIRST, b"# \xFF", NO_INPUT, 512)?;
     let err = b"marm: board 1 NotToml\n  board.toml: the file isn't a text in UTF-8\n";
     assert!(rt; ended.is(3, b"", err));
     Ok(())
+}
+
+#[test]
+fn a_reader_that_fails_is_named(rt: HostRuntime) -> Result<(), Fail> {
+    let input = Short {
+        text: b"step\nstep\n",
+        left: 5,
+    };
+    let words = "debug --board board.toml image.elf";
+    let ended = Ended::of(&rt, words, &FIRST, SMALL.as_bytes(), input, 512)?;
+    let out = b"1 F 00000008 2 p ok off\nat 0000000A\n";
+    assert!(rt; ended.is(5, out, b"marm: io\n  standard input: broken pipe\n"));
+    Ok(())
+}
+
+#[test]
+fn a_version_that_cannot_be_written_is_io(rt: HostRuntime) -> Result<(), Fail> {
+    let ended = Ended::of(&rt, "--version", &FIRST, SMALL.as_bytes(), NO_INPUT, 0)?;
+    assert!(rt; ended.is(5, b"", b"marm: io\n  standard output: broken pipe\n"));
+    Ok(())
+}
+
+#[test]
+fn words_without_memory_are_io(rt: HostRuntime) {
+    let mut out = Cut::whole();
+    let mut err = Cut::whole();
+    let status = answer(WordsFault::OutOfMemory, &mut out, &mut err);
+    assert!(rt; status == 5 && out.text.is_empty());
+    let line = b"marm: io\n  no memory was found for the words\n";
+    assert!(rt; err.text.as_slice() == line.as_slice());
+}
+
+/// Whether the reason of a fault of the first image on the small board is this line.
+fn is_explained(alloc: Global, fault: Fault, line: &[u8]) -> bool {
+    let image = InputFile {
+        path: IMAGE_PATH,
+        bytes: &FIRST,
+    };
+    let board = InputFile {
+        path: BOARD_PATH,
+        bytes: SMALL.as_bytes(),
+    };
+    let mut err = Cut::whole();
+    explain(alloc, fault, image, board, &mut err).is_ok() && err.text.as_slice() == line
+}
+
+#[test]
+fn files_without_memory_are_explained(rt: HostRuntime) {
+    assert!(rt;
+        is_explained(
+            rt.alloc(),
+            Fault::Board(BoardFault::OutOfMemory),
+            b"  board.toml: no memory was found for the board\n"
+        )
+    );
+    assert!(rt;
+        is_explained(
+            rt.alloc(),
+            Fault::Start(StartFault::NoMemory),
+            b"  image.elf: no memory was found for the machine\n"
+        )
+    );
 }
 
 /// Whether a fault's line and status are these.
@@ -577,6 +693,17 @@ fn a_file_of_16_mebibytes_is_read(rt: HostRuntime) -> Result<(), Fail> {
 #[test]
 fn a_file_above_16_mebibytes_is_refused(rt: HostRuntime) -> Result<(), Fail> {
     assert!(rt; matches!(read_big(&rt, 0x100_0001)?, Err(FileFault::Size)));
+    Ok(())
+}
+
+#[test]
+fn a_large_file_is_named(rt: HostRuntime) -> Result<(), Fail> {
+    fs::create(&rt, BIG)?.set_len(0x100_0001)?;
+    let words = "run --board board.toml --steps 10 big.bin";
+    let ended = Ended::of(&rt, words, &FIRST, SMALL.as_bytes(), NO_INPUT, 512)?;
+    fs::remove_file(&rt, BIG)?;
+    let err = b"marm: size\n  big.bin: the file has more than 16777216 bytes (16 MiB)\n";
+    assert!(rt; ended.is(3, b"", err));
     Ok(())
 }
 

@@ -2,13 +2,11 @@
 
 ghost use Rattle.std.specs.Prelude.{◌≡◌};
 
-use super::cut::Cut;
+use super::cut::{Cut, Short};
 use super::files::Ends;
 use super::machines::machine_with;
 use debugger::{SessionFault, session};
 use machine::{Over, Slow};
-use std::io;
-use std::io::Read;
 use std::marker::Brand;
 use std::sync::ledger::{Blank, Ledger};
 use std::test::*;
@@ -233,27 +231,6 @@ reg E FFFFFFFF";
 /// What a session of three commands writes: 24, 24 and 18 bytes of a run, then the byte at 8.
 static ANSWERS: [u8; 79] =
     *b"1 F 00000008 2 p ok off\n2 F 0000000A 2 p ok off\nstop breakpoint 0\n00000008: 05\n";
-
-/// A reader that gives `left` bytes of a text, and then fails.
-#[derive(Drop)]
-struct Short<'a> {
-    text: &'a [u8],
-    left: usize,
-}
-
-impl Read for Short<'_> {
-    fn read(&mut self, buf: &mut [u8]) -> io::Result<usize> {
-        match self.text.split_first() {
-            Some((byte, rest)) if self.left > 0 && !buf.is_empty() => {
-                buf[0] = *byte;
-                self.text = rest;
-                self.left -= 1;
-                Ok(1)
-            }
-            _ => Err(io::Error::from(io::ErrorKind::BrokenPipe)),
-        }
-    }
-}
 
 /// Holds a session of a text, of which the reader gives `left` bytes before it fails.
 fn talk(machine: &mut Slow, text: &[u8], left: usize, out: &mut Cut) -> Result<(), SessionFault> {

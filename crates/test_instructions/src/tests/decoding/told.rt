@@ -6,7 +6,7 @@ use reference::instruction::{
 use reference::operands::{ImmediateAddress, LoadForm, RegisterAddress, ShiftedRegister};
 use reference::registers::Register;
 
-/// The number of the variant, and behind it the operands.
+/// The number of the variant, and then the operands.
 pub type Told = [u32; 8];
 
 fn number(register: Register) -> u32 {
@@ -49,7 +49,7 @@ fn register_address(operand: RegisterAddress) -> [u32; 3] {
     ]
 }
 
-/// The operations that give a register from two operands, and ADR.
+/// The operations on two operands.
 fn told_data(instruction: &Instruction) -> Option<Told> {
     match instruction {
         Instruction::DataProcessing(DataProcessing::DataImmediate(o)) => Some([
@@ -71,6 +71,13 @@ fn told_data(instruction: &Instruction) -> Option<Told> {
             let flags = o.flags as u32;
             Some([1, o.operation as u32, flags, d, n, m, kind, amount])
         }
+        _ => None,
+    }
+}
+
+/// The shifts by a register, and ADR.
+fn told_shifts(instruction: &Instruction) -> Option<Told> {
+    match instruction {
         Instruction::DataProcessing(DataProcessing::ShiftByRegister(o)) => Some([
             7,
             o.shift_type as u32,
@@ -361,7 +368,7 @@ fn told_branches(instruction: &Instruction) -> Option<Told> {
     }
 }
 
-/// Control.
+/// IT, CPS, MSR and MRS.
 fn told_control(instruction: &Instruction) -> Option<Told> {
     match instruction {
         Instruction::Branch(Branch::IfThen(o)) => Some([
@@ -391,6 +398,13 @@ fn told_control(instruction: &Instruction) -> Option<Told> {
         Instruction::System(System::MoveFromSpecial(o)) => {
             Some([41, o.special as u32, number(o.destination), 0, 0, 0, 0, 0])
         }
+        _ => None,
+    }
+}
+
+/// The hints, SVC and BKPT.
+fn told_calls(instruction: &Instruction) -> Option<Told> {
+    match instruction {
         Instruction::System(System::Hint(hint)) => Some([42, *hint as u32, 0, 0, 0, 0, 0, 0]),
         Instruction::System(System::SupervisorCall(number)) => Some([
             43,
@@ -419,6 +433,7 @@ fn told_control(instruction: &Instruction) -> Option<Told> {
 /// What an instruction says: each is of one family.
 pub fn told_operands(instruction: &Instruction) -> Option<Told> {
     told_data(instruction)
+        .or(told_shifts(instruction))
         .or(told_moves(instruction))
         .or(told_comparisons(instruction))
         .or(told_products(instruction))
@@ -431,4 +446,5 @@ pub fn told_operands(instruction: &Instruction) -> Option<Told> {
         .or(told_exclusive(instruction))
         .or(told_branches(instruction))
         .or(told_control(instruction))
+        .or(told_calls(instruction))
 }
