@@ -1,6 +1,6 @@
 -- Accesses that are performed one by one.
 use Rattle.std.proofs.Common.{◌≡◌, ℕ, suc, ◌+◌, ◌<◌, ◌≤◌, List, [], ◌∷◌, ◌++◌, length, drop, get_or, Some, None, Ok}
-use Rattle.std.proofs.Common.{Err, refl, sym, ap, append_assoc, add-one}
+use Rattle.std.proofs.Common.{Err, refl, sym, ap, ◌∙◌, append_assoc, add-one}
 use Rattle.std.proofs.Math.ListN.{drop_of_length-le}
 use Rattle.std.proofs.Math.Seq.{drop-cons}
 use Rattle.std.proofs.lemmas.List.{append-nil}
@@ -9,6 +9,7 @@ use Rattle.reference.specs.declared.access.Request.{Request}
 use Rattle.reference.specs.declared.event.Event.{Event}
 use Rattle.reference.specs.Accesses.{Served, followed, perform, perform_all, told, value_of}
 use Rattle.reference.specs.State.{Bus}
+use Rattle.trace.specs.Emission.{Emission}
 
 -- what accesses leave behind lines and values that are there already
 abbrev pub behind : List Event → List ℕ → Served → Served
@@ -69,3 +70,23 @@ all_served exception tick b requests i events values all past rest =
       ap (λ (s : Served). s.values) whole,
       sym (ap (λ (s : Served). s.failure) whole),
     )
+
+-- a sink took these events, and is otherwise as it was at the start
+pub emitted_all : (start now : Emission) (all : List Event) → now ≡ record start { events = now.events }
+    → now.events ≡ all → now ≡ record start { events = all }
+emitted_all start now all same whole = same ∙ ap (λ (es : List Event). record start { events = es }) whole
+
+-- it took more events after those
+pub emitted_on : (start mid new : Emission) (more all : List Event) → new ≡ record mid { events = mid.events ++ more }
+    → mid ≡ record start { events = mid.events } → mid.events ++ more ≡ all → new ≡ record start { events = all }
+emitted_on start mid new more all told same whole =
+    told ∙ ap (λ (m : Emission). record m { events = mid.events ++ more }) same
+    ∙ ap (λ (es : List Event). record start { events = es }) whole
+
+-- and is still otherwise as it was at the start
+pub still_before : (start mid new : Emission) (events : List Event) → new ≡ record mid { events = events }
+    → mid ≡ record start { events = mid.events } → new ≡ record start { events = new.events }
+still_before start mid new events told same =
+    let whole : new ≡ record start { events = events } =
+    told ∙ ap (λ (m : Emission). record m { events = events }) same in
+    whole ∙ ap (λ (es : List Event). record start { events = es }) (sym (ap (λ (e : Emission). e.events) whole))

@@ -12,9 +12,7 @@ use bounded::Bounded;
 use reference::access::{Cause, DecidedAccess, MOST_REQUESTS, Performed, Request, Rule};
 use reference::event::{Event, Happening, MOST_EVENTS};
 use reference::failure::Failure;
-
-/// The events of one step, in their order.
-pub type Events = Bounded<Event, MOST_EVENTS>;
+use trace::sink::Sink;
 
 /// The accesses that an instruction, or a frame, asks for, in their order.
 pub type Requests = Bounded<Request, MOST_REQUESTS>;
@@ -25,20 +23,20 @@ pub type Values = Bounded<u32, MOST_REQUESTS>;
 /// Makes accesses one by one, each in the state that the one before left, to the first failure.
 /// `exception` is the number of the exception that runs. `values` becomes what they read.
 #[inline(always)]
-pub fn serve<D: Decider, L: Levels, U: DueTicks>(
+pub fn serve<D: Decider, L: Levels, U: DueTicks, S: Sink>(
     exception: u16,
     bus: &mut Bus<D, L, U>,
     tick: u64,
-    events: &mut Events,
+    events: &mut S,
     requests: &[Request],
     values: &mut Values,
 ) -> Result<(), Failure>
-    requires room { length events.old.items + most_lines requests.now ≤ MOST_EVENTS }
+    requires room { length (S.emitted events.old).events + most_lines requests.now ≤ MOST_EVENTS }
     requires few { length requests.now ≤ MOST_REQUESTS }
     ensures bus { bus.new ≡ (perform_all exception tick bus.old requests.now).bus }
-    ensures events { events.new.items ≡ events.old.items ++ (perform_all exception tick bus.old requests.now).events }
+    ensures events { S.emitted events.new ≡ record (S.emitted events.old) { events = (S.emitted events.old).events ++ (perform_all exception tick bus.old requests.now).events } }
     ensures answer { Serves (perform_all exception tick bus.old requests.now) values.new result }
-    ensures room { length events.new.items ≤ length events.old.items + most_lines requests.now }
+    ensures room { length (S.emitted events.new).events ≤ length (S.emitted events.old).events + most_lines requests.now }
     ensures whole { IfOk result (λ done. length values.new.items ≡ length requests.now) }
 {
     values.clear();
@@ -53,30 +51,30 @@ pub fn serve<D: Decider, L: Levels, U: DueTicks>(
 
 /// Makes one access, and appends its lines.
 #[inline(always)]
-pub fn access<D: Decider, L: Levels, U: DueTicks>(
+pub fn access<D: Decider, L: Levels, U: DueTicks, S: Sink>(
     exception: u16,
     bus: &mut Bus<D, L, U>,
     tick: u64,
-    events: &mut Events,
+    events: &mut S,
     request: &Request,
 ) -> Result<u32, Failure>
-    requires { length events.old.items + lines_of request.now ≤ MOST_EVENTS }
+    requires { length (S.emitted events.old).events + lines_of request.now ≤ MOST_EVENTS }
     ensures bus { bus.new ≡ (perform exception bus.old request.now).bus }
-    ensures events { events.new.items ≡ events.old.items ++ told tick request.now (perform exception bus.old request.now).performed }
-    ensures room { length events.new.items ≤ length events.old.items + lines_of request.now }
+    ensures events { S.emitted events.new ≡ record (S.emitted events.old) { events = (S.emitted events.old).events ++ told tick request.now (perform exception bus.old request.now).performed } }
+    ensures room { length (S.emitted events.new).events ≤ length (S.emitted events.old).events + lines_of request.now }
     ensures answer { result ≡ value_of request.now (perform exception bus.old request.now).performed }
     ensures narrow { IfOk result (λ value. value < 256 ^ bytes_in request.now.access.size) }
 {
     match bus.perform(exception, request) {
         Performed::Done(rule, value) => {
-            events.push(accessed(tick, request, rule, None));
+            events.emit(accessed(tick, request, rule, None));
             if is_out(request) {
-                events.push(console_line(tick, request.value));
+                events.emit(console_line(tick, request.value));
             }
             Ok(value)
         }
         Performed::Denied(rule, cause) => {
-            events.push(accessed(tick, request, rule, Some(cause)));
+            events.emit(accessed(tick, request, rule, Some(cause)));
             Err(Failure::Refused(request.access, cause))
         }
         Performed::Stop(why) => Err(Failure::Stop(why)),

@@ -5,7 +5,7 @@ ghost use Rattle.reference.specs.declared.access.Size.TheVariants.{Word};
 ghost use Rattle.reference.specs.LoadStore.{request};
 ghost use Rattle.reference.specs.ExceptionEntry.{words_from as words_from_of, pushes as pushes_of, vector_read as vector_read_of, handler_entered, vector_refused, exception_taken, begin_entry, take_vector};
 
-use crate::accesses::{Events, Requests, Values};
+use crate::accesses::{Requests, Values};
 use crate::faults::vector_fault;
 use crate::state::Core;
 use access::{Decider, DueTicks, Levels};
@@ -14,6 +14,7 @@ use reference::event::{Event, Happening, MOST_EVENTS};
 use reference::exception::{HARD_FAULT, NMI};
 use reference::failure::Failure;
 use regs::Regs;
+use trace::sink::Sink;
 
 /// Returns accesses to words that follow one another upward from an address.
 pub fn words_from(kind: Kind, privileged: bool, address: u32, values: &[u32]) -> Requests
@@ -61,10 +62,10 @@ fn pushes(regs: &Regs) -> Requests
 impl<D: Decider, L: Levels, U: DueTicks> Core<D, L, U> {
     /// Pushes the frame: a Stack step.
     #[tactic(auto, using(crate::proofs::Room::pushed_lines, crate::proofs::Room::pushed_words), unfolding(reference::specs::ExceptionEntry::begin_entry))]
-    pub fn begin_entry(&mut self, events: &mut Events)
-        requires { events.old.items ≡ [] }
+    pub fn begin_entry<S: Sink>(&mut self, events: &mut S)
+        requires { (S.emitted events.old).events ≡ [] }
         ensures state { self.new ≡ (begin_entry self.old).state }
-        ensures events { events.new.items ≡ (begin_entry self.old).events }
+        ensures events { S.emitted events.new ≡ record (S.emitted events.old) { events = (begin_entry self.old).events } }
     {
         let requests = pushes(&self.regs);
         let mut values = Values::new();
@@ -79,10 +80,10 @@ impl<D: Decider, L: Levels, U: DueTicks> Core<D, L, U> {
 
     /// Takes the candidate of this moment: a Vector step.
     #[tactic(auto, unfolding(reference::specs::ExceptionEntry::take_vector))]
-    pub fn take_vector(&mut self, events: &mut Events, exc_return: u32)
-        requires { events.old.items ≡ [] }
+    pub fn take_vector<S: Sink>(&mut self, events: &mut S, exc_return: u32)
+        requires { (S.emitted events.old).events ≡ [] }
         ensures state { self.new ≡ (take_vector self.old exc_return).state }
-        ensures events { events.new.items ≡ (take_vector self.old exc_return).events }
+        ensures events { S.emitted events.new ≡ record (S.emitted events.old) { events = (take_vector self.old exc_return).events } }
     {
         if let Some(exception) = self.candidate() {
             self.take_exception(events, exc_return, exception);
@@ -91,11 +92,11 @@ impl<D: Decider, L: Levels, U: DueTicks> Core<D, L, U> {
 
     /// Reads the vector of an exception, and begins its handler.
     #[tactic(auto, unfolding(reference::specs::ExceptionEntry::exception_taken))]
-    fn take_exception(&mut self, events: &mut Events, exc_return: u32, exception: u16)
-        requires empty { events.old.items ≡ [] }
+    fn take_exception<S: Sink>(&mut self, events: &mut S, exc_return: u32, exception: u16)
+        requires empty { (S.emitted events.old).events ≡ [] }
         requires small { exception < 256 }
         ensures state { self.new ≡ (exception_taken self.old exc_return exception).state }
-        ensures events { events.new.items ≡ (exception_taken self.old exc_return exception).events }
+        ensures events { S.emitted events.new ≡ record (S.emitted events.old) { events = (exception_taken self.old exc_return exception).events } }
     {
         let request = self.vector_read(exception);
         match self.access(events, &request) {
@@ -120,13 +121,19 @@ impl<D: Decider, L: Levels, U: DueTicks> Core<D, L, U> {
     }
 
     /// Begins the handler of an exception at its vector.
-    fn enter_handler(&mut self, events: &mut Events, exc_return: u32, exception: u16, vector: u32)
-        requires room { length events.old.items < MOST_EVENTS }
+    fn enter_handler<S: Sink>(
+        &mut self,
+        events: &mut S,
+        exc_return: u32,
+        exception: u16,
+        vector: u32,
+    )
+        requires room { length (S.emitted events.old).events < MOST_EVENTS }
         requires small { exception < 256 }
-        ensures state { self.new ≡ (handler_entered self.old events.old.items exception exc_return vector).state }
-        ensures events { events.new.items ≡ (handler_entered self.old events.old.items exception exc_return vector).events }
+        ensures state { self.new ≡ (handler_entered self.old (S.emitted events.old).events exception exc_return vector).state }
+        ensures events { S.emitted events.new ≡ record (S.emitted events.old) { events = (handler_entered self.old (S.emitted events.old).events exception exc_return vector).events } }
     {
-        events.push(Event {
+        events.emit(Event {
             tick: self.bus.system.ticks(),
             what: Happening::HandlerEntered(exception),
         });
@@ -137,10 +144,10 @@ impl<D: Decider, L: Levels, U: DueTicks> Core<D, L, U> {
     }
 
     /// Makes HardFault pending where a vector is refused; it is lockup for NMI and HardFault.
-    fn refuse_vector(&mut self, events: &mut Events, exception: u16)
-        requires { length events.old.items < MOST_EVENTS }
-        ensures state { self.new ≡ (vector_refused self.old events.old.items exception).state }
-        ensures events { events.new.items ≡ (vector_refused self.old events.old.items exception).events }
+    fn refuse_vector<S: Sink>(&mut self, events: &mut S, exception: u16)
+        requires { length (S.emitted events.old).events < MOST_EVENTS }
+        ensures state { self.new ≡ (vector_refused self.old (S.emitted events.old).events exception).state }
+        ensures events { S.emitted events.new ≡ record (S.emitted events.old) { events = (vector_refused self.old (S.emitted events.old).events exception).events } }
     {
         self.record(vector_fault());
         if exception == NMI || exception == HARD_FAULT {

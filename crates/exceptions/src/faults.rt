@@ -3,7 +3,6 @@
 ghost use Rattle.std.specs.Prelude.{◌≡◌, ◌<◌, ◌++◌, ◌∷◌, [], length};
 ghost use Rattle.reference.specs.Faults.{access_fault, fault_of as fault_of_access, usage_fault_of as usage_fault_of_word, mem_manage as mem_manage_of, bus_fault as bus_fault_of, usage_fault as usage_fault_of_bit, vector_fault as vector_fault_of, fault_line as fault_line_of, recorded, pended_by_fault, forced, locked_up, escalated, faulted, failed, supervisor_called};
 
-use crate::accesses::Events;
 use crate::state::Core;
 use access::{Decider, DueTicks, Levels};
 use reference::access::{Access, Cause, Kind};
@@ -16,6 +15,7 @@ use reference::fault_status::{
     UNSTKERR, VECTTBL,
 };
 use reference::stop::Stop;
+use trace::sink::Sink;
 
 /// The length of SVC in bytes.
 const SVC_LENGTH: u32 = 2;
@@ -133,41 +133,41 @@ impl<D: Decider, L: Levels, U: DueTicks> Core<D, L, U> {
     }
 
     /// Makes an exception pending by a fault.
-    pub fn pend_by_fault(&mut self, events: &mut Events, exception: u16)
-        requires { length events.old.items < MOST_EVENTS }
-        ensures state { self.new ≡ (pended_by_fault self.old events.old.items exception).state }
-        ensures events { events.new.items ≡ (pended_by_fault self.old events.old.items exception).events }
+    pub fn pend_by_fault<S: Sink>(&mut self, events: &mut S, exception: u16)
+        requires { length (S.emitted events.old).events < MOST_EVENTS }
+        ensures state { self.new ≡ (pended_by_fault self.old (S.emitted events.old).events exception).state }
+        ensures events { S.emitted events.new ≡ record (S.emitted events.old) { events = (pended_by_fault self.old (S.emitted events.old).events exception).events } }
     {
-        events.push(self.fault_line(exception));
+        events.emit(self.fault_line(exception));
         self.bus.system.pend(exception);
     }
 
     /// Makes HardFault pending in place of a fault that can't be taken.
-    fn force(&mut self, events: &mut Events)
-        requires { length events.old.items < MOST_EVENTS }
-        ensures state { self.new ≡ (forced self.old events.old.items).state }
-        ensures events { events.new.items ≡ (forced self.old events.old.items).events }
+    fn force<S: Sink>(&mut self, events: &mut S)
+        requires { length (S.emitted events.old).events < MOST_EVENTS }
+        ensures state { self.new ≡ (forced self.old (S.emitted events.old).events).state }
+        ensures events { S.emitted events.new ≡ record (S.emitted events.old) { events = (forced self.old (S.emitted events.old).events).events } }
     {
         self.bus.system.set_fault_bits(0, FORCED);
         self.pend_by_fault(events, HARD_FAULT);
     }
 
     /// Stops the core by lockup.
-    pub fn lock_up(&mut self, events: &mut Events)
-        requires { length events.old.items < MOST_EVENTS }
-        ensures state { self.new ≡ (locked_up self.old events.old.items).state }
-        ensures events { events.new.items ≡ (locked_up self.old events.old.items).events }
+    pub fn lock_up<S: Sink>(&mut self, events: &mut S)
+        requires { length (S.emitted events.old).events < MOST_EVENTS }
+        ensures state { self.new ≡ (locked_up self.old (S.emitted events.old).events).state }
+        ensures events { S.emitted events.new ≡ record (S.emitted events.old) { events = (locked_up self.old (S.emitted events.old).events).events } }
     {
-        events.push(self.fault_line(0));
+        events.emit(self.fault_line(0));
         self.end(Stop::Lockup);
     }
 
     /// Records a fault, and pends its exception by the priority of this moment.
     #[tactic(auto, unfolding(reference::specs::Faults::faulted))]
-    pub fn raise(&mut self, events: &mut Events, fault: FaultEffect)
-        requires { length events.old.items < MOST_EVENTS }
-        ensures state { self.new ≡ (faulted self.old events.old.items fault).state }
-        ensures events { events.new.items ≡ (faulted self.old events.old.items fault).events }
+    pub fn raise<S: Sink>(&mut self, events: &mut S, fault: FaultEffect)
+        requires { length (S.emitted events.old).events < MOST_EVENTS }
+        ensures state { self.new ≡ (faulted self.old (S.emitted events.old).events fault).state }
+        ensures events { S.emitted events.new ≡ record (S.emitted events.old) { events = (faulted self.old (S.emitted events.old).events fault).events } }
     {
         self.record(fault);
         match self.escalation(fault.exception) {
@@ -180,10 +180,10 @@ impl<D: Decider, L: Levels, U: DueTicks> Core<D, L, U> {
     /// Raises the fault of an access or of an instruction, or stops.
     #[cold]
     #[inline(never)]
-    pub fn fail(&mut self, events: &mut Events, failure: Failure)
-        requires { length events.old.items < MOST_EVENTS }
-        ensures state { self.new ≡ (failed self.old events.old.items failure).state }
-        ensures events { events.new.items ≡ (failed self.old events.old.items failure).events }
+    pub fn fail<S: Sink>(&mut self, events: &mut S, failure: Failure)
+        requires { length (S.emitted events.old).events < MOST_EVENTS }
+        ensures state { self.new ≡ (failed self.old (S.emitted events.old).events failure).state }
+        ensures events { S.emitted events.new ≡ record (S.emitted events.old) { events = (failed self.old (S.emitted events.old).events failure).events } }
     {
         match failure {
             Failure::Refused(access, cause) => self.raise(events, fault_of(&access, cause)),
@@ -194,10 +194,10 @@ impl<D: Decider, L: Levels, U: DueTicks> Core<D, L, U> {
 
     /// Calls the supervisor as SVC does.
     #[tactic(auto, unfolding(reference::specs::Faults::supervisor_called))]
-    pub fn call_supervisor(&mut self, events: &mut Events)
-        requires { length events.old.items < MOST_EVENTS }
-        ensures state { self.new ≡ (supervisor_called self.old events.old.items).state }
-        ensures events { events.new.items ≡ (supervisor_called self.old events.old.items).events }
+    pub fn call_supervisor<S: Sink>(&mut self, events: &mut S)
+        requires { length (S.emitted events.old).events < MOST_EVENTS }
+        ensures state { self.new ≡ (supervisor_called self.old (S.emitted events.old).events).state }
+        ensures events { S.emitted events.new ≡ record (S.emitted events.old) { events = (supervisor_called self.old (S.emitted events.old).events).events } }
     {
         match self.escalation(SV_CALL) {
             Escalation::Itself => {

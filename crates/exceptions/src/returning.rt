@@ -9,7 +9,7 @@ ghost use Rattle.reference.specs.Frames.{has_reserved_ones as has_reserved_ones_
 ghost use Rattle.reference.specs.Priorities.{candidate};
 ghost use Rattle.reference.specs.State.{with_system};
 
-use crate::accesses::{Events, Requests, Values};
+use crate::accesses::{Requests, Values};
 use crate::entry::words_from;
 use crate::state::Core;
 use access::{Decider, DueTicks, Levels};
@@ -19,6 +19,7 @@ use reference::exception::NMI;
 use reference::failure::{Failure, UsageFault};
 use reference::stop::{Stop, UnpredictableCase};
 use regs::{Regs, returns_on_psp, returns_to_handler};
+use trace::sink::Sink;
 
 /// Where the return address stands in a frame.
 const PC: usize = 6;
@@ -77,12 +78,12 @@ fn pops(regs: &Regs, exc_return: u32) -> Requests
 impl<D: Decider, L: Levels, U: DueTicks> Core<D, L, U> {
     /// Returns from an exception.
     #[tactic(auto, unfolding(reference::specs::ExceptionReturn::exception_return))]
-    pub fn return_from(&mut self, events: &mut Events, exc_return: u32)
-        requires { length events.old.items + 10 ≤ MOST_EVENTS }
-        ensures state { self.new ≡ (exception_return self.old events.old.items exc_return).state }
-        ensures events { events.new.items ≡ (exception_return self.old events.old.items exc_return).events }
+    pub fn return_from<S: Sink>(&mut self, events: &mut S, exc_return: u32)
+        requires { length (S.emitted events.old).events + 10 ≤ MOST_EVENTS }
+        ensures state { self.new ≡ (exception_return self.old (S.emitted events.old).events exc_return).state }
+        ensures events { S.emitted events.new ≡ record (S.emitted events.old) { events = (exception_return self.old (S.emitted events.old).events exc_return).events } }
     {
-        events.push(Event {
+        events.emit(Event {
             tick: self.bus.system.ticks(),
             what: Happening::ReturnBegan(exc_return),
         });
@@ -125,10 +126,10 @@ impl<D: Decider, L: Levels, U: DueTicks> Core<D, L, U> {
     }
 
     /// Begins the entry of the next exception, if there is one, or pops the frame.
-    fn chain(&mut self, events: &mut Events, exc_return: u32)
-        requires { length events.old.items + 9 ≤ MOST_EVENTS }
-        ensures state { self.new ≡ (chained self.old events.old.items exc_return (candidate self.old.bus.system.nvic)).state }
-        ensures events { events.new.items ≡ (chained self.old events.old.items exc_return (candidate self.old.bus.system.nvic)).events }
+    fn chain<S: Sink>(&mut self, events: &mut S, exc_return: u32)
+        requires { length (S.emitted events.old).events + 9 ≤ MOST_EVENTS }
+        ensures state { self.new ≡ (chained self.old (S.emitted events.old).events exc_return (candidate self.old.bus.system.nvic)).state }
+        ensures events { S.emitted events.new ≡ record (S.emitted events.old) { events = (chained self.old (S.emitted events.old).events exc_return (candidate self.old.bus.system.nvic)).events } }
     {
         if self.candidate().is_some() {
             self.entry = Some(exc_return);
@@ -138,10 +139,10 @@ impl<D: Decider, L: Levels, U: DueTicks> Core<D, L, U> {
     }
 
     /// Raises the fault of a return that isn't allowed, and begins an entry.
-    fn refuse_return(&mut self, events: &mut Events, exc_return: u32)
-        requires { length events.old.items < MOST_EVENTS }
-        ensures state { self.new ≡ (failed (with_entry self.old exc_return) events.old.items (Usage InvalidReturn)).state }
-        ensures events { events.new.items ≡ (failed (with_entry self.old exc_return) events.old.items (Usage InvalidReturn)).events }
+    fn refuse_return<S: Sink>(&mut self, events: &mut S, exc_return: u32)
+        requires { length (S.emitted events.old).events < MOST_EVENTS }
+        ensures state { self.new ≡ (failed (with_entry self.old exc_return) (S.emitted events.old).events (Usage InvalidReturn)).state }
+        ensures events { S.emitted events.new ≡ record (S.emitted events.old) { events = (failed (with_entry self.old exc_return) (S.emitted events.old).events (Usage InvalidReturn)).events } }
     {
         self.entry = Some(exc_return);
         self.fail(events, Failure::Usage(UsageFault::InvalidReturn));
@@ -149,10 +150,10 @@ impl<D: Decider, L: Levels, U: DueTicks> Core<D, L, U> {
 
     /// Pops the frame.
     #[tactic(auto, using(crate::proofs::Room::popped_lines, crate::proofs::Room::popped_words), unfolding(reference::specs::ExceptionReturn::pop_stack))]
-    fn pop_stack(&mut self, events: &mut Events, exc_return: u32)
-        requires { length events.old.items + 9 ≤ MOST_EVENTS }
-        ensures state { self.new ≡ (pop_stack self.old events.old.items exc_return).state }
-        ensures events { events.new.items ≡ (pop_stack self.old events.old.items exc_return).events }
+    fn pop_stack<S: Sink>(&mut self, events: &mut S, exc_return: u32)
+        requires { length (S.emitted events.old).events + 9 ≤ MOST_EVENTS }
+        ensures state { self.new ≡ (pop_stack self.old (S.emitted events.old).events exc_return).state }
+        ensures events { S.emitted events.new ≡ record (S.emitted events.old) { events = (pop_stack self.old (S.emitted events.old).events exc_return).events } }
     {
         let requests = pops(&self.regs, exc_return);
         let mut values = Values::new();
@@ -168,11 +169,11 @@ impl<D: Decider, L: Levels, U: DueTicks> Core<D, L, U> {
 
     /// Takes the registers from the frame, once it's checked.
     #[tactic(auto, unfolding(reference::specs::ExceptionReturn::unstacked))]
-    fn unstack(&mut self, events: &mut Events, exc_return: u32, frame: &[u32])
-        requires room { length events.old.items < MOST_EVENTS }
+    fn unstack<S: Sink>(&mut self, events: &mut S, exc_return: u32, frame: &[u32])
+        requires room { length (S.emitted events.old).events < MOST_EVENTS }
         requires words { length frame.now ≡ 8 }
-        ensures state { self.new ≡ (unstacked self.old events.old.items exc_return frame.now).state }
-        ensures events { events.new.items ≡ (unstacked self.old events.old.items exc_return frame.now).events }
+        ensures state { self.new ≡ (unstacked self.old (S.emitted events.old).events exc_return frame.now).state }
+        ensures events { S.emitted events.new ≡ record (S.emitted events.old) { events = (unstacked self.old (S.emitted events.old).events exc_return frame.now).events } }
     {
         if !fits_mode(exc_return, frame) {
             self.refuse_return(events, exc_return);

@@ -13,7 +13,6 @@ pub use access::{Ahead, Counting, Decider, DueTicks, Levels, PlainLevels, Search
 pub use access_table::Table;
 pub use bit_levels::{BitLevels, KeptAnswers};
 pub use board::{Board, InterruptLine, ScriptedEvent, Signal};
-pub use exceptions::Events;
 pub use foresight::StepKind;
 pub use output::{In, IoFault, Out, Over, Paged};
 pub use readers::RegValues;
@@ -25,4 +24,5 @@ pub use reference::mpu::RegionCount;
 pub use reference::place::Place;
 pub use reference::stop::Stop;
 pub use trace::lines::{Text, event_line, stop_line};
+pub use trace::sink::Events;
 pub use whole::{Fast, Machine, RunFault, Slow};

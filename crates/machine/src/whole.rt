@@ -26,7 +26,6 @@ use bit_levels::{BitLevels, KeptAnswers};
 use board::Board;
 use decode::Memo;
 use elf::Image;
-use exceptions::Events;
 use output::Out;
 use reference::access::{Decision, Kind};
 use reference::event::MOST_EVENTS;
@@ -35,6 +34,7 @@ use reference::place::Place;
 use reference::stop::Stop;
 use std::alloc::Global;
 use std::marker::Model;
+use trace::sink::Events;
 
 /// Why a run didn't end.
 #[derive(Clone, Copy)]
@@ -93,6 +93,7 @@ impl<D: Decider, L: Levels, U: DueTicks> Machine<D, L, U> {
         ensures stop { result ≡ self.new.state.stop }
         ensures few { length events.new.items ≤ MOST_EVENTS }
     {
+        events.clear();
         self.core.step(events, &mut self.memo);
         prove!(events.len() <= MOST_EVENTS);
         self.core.stop()

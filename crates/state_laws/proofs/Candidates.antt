@@ -1,5 +1,6 @@
 -- There is a candidate still where more exceptions become pending, and where a fault is taken.
-use Rattle.std.proofs.Common.{◌≡◌, ℕ, zero, suc, ◌<◌, min, Bool, true, false, ◌&&◌, is_some, nat_lt, List, length, slice_set, Option, Some, None, refl, ap, arith}
+use Rattle.std.proofs.Common.{◌≡◌, ℕ, zero, suc, ◌<◌, min, Bool, true, false, ◌&&◌, is_some, nat_lt, List, length}
+use Rattle.std.proofs.Common.{slice_set, Option, Some, None, refl, ap, arith}
 use Rattle.std.proofs.lemmas.Bool.{ltb-true, ltb-false}
 use Rattle.std.proofs.lemmas.List.{get_or-set_same}
 use Rattle.nvic.proofs.Best.{candidate_is}
@@ -8,7 +9,8 @@ use Rattle.nvic.specs.Laws.{IsReady, IsCandidate}
 use Rattle.reference.specs.declared.exception.Escalation.{Escalation}
 use Rattle.reference.specs.declared.exception.Escalation.TheVariants.{Itself, HardFault, Lockup}
 use Rattle.reference.specs.declared.exception.TheConstants.{EXCEPTIONS, HARD_FAULT}
-use Rattle.reference.specs.Priorities.{Nvic, is_in, is_enabled, is_exception, is_negative, group_priority, lessened, least_active, boosted, execution_priority, candidate, with_pending, escalation}
+use Rattle.reference.specs.Priorities.{Nvic, is_in, is_enabled, is_exception, is_negative, group_priority, lessened}
+use Rattle.reference.specs.Priorities.{least_active, boosted, execution_priority, candidate, with_pending, escalation}
 use Rattle.reference.specs.System.{with_pended_at, with_pended_below, with_pended}
 use Rattle.state_laws.proofs.Nvic.{either}
 

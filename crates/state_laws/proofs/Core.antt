@@ -1,5 +1,6 @@
 -- The phases of a step keep what holds of the core registers, from the last one up.
-use Rattle.std.proofs.Common.{◌≡◌, ℕ, ◌*◌, ◌/◌, ◌%◌, nat_le, false, ◌||◌, ◌==◌, List, [], ◌++◌, length, Option, Some, None, Result, Ok, Err, refl, arith}
+use Rattle.std.proofs.Common.{◌≡◌, ℕ, ◌*◌, ◌/◌, ◌%◌, nat_le, false, ◌||◌, ◌==◌, List, [], ◌++◌, length, Option, Some}
+use Rattle.std.proofs.Common.{None, Result, Ok, Err, refl, arith}
 use Rattle.std.proofs.lemmas.List.{length-replicate}
 use Rattle.reference.specs.declared.access.Request.{Request}
 use Rattle.reference.specs.declared.event.Event.{Event}
@@ -13,7 +14,9 @@ use Rattle.reference.specs.declared.instruction.Decoded.TheVariants as decoded
 use Rattle.reference.specs.declared.instruction.Ending.{Ending}
 use Rattle.reference.specs.declared.instruction.Ending.TheVariants as ending
 use Rattle.reference.specs.declared.operands.SpecialRegister.{SpecialRegister}
-use Rattle.reference.specs.declared.operands.SpecialRegister.TheVariants.{Apsr, Iapsr, Eapsr, Xpsr, Ipsr, Epsr, Iepsr, Msp, Psp, Primask, Basepri, BasepriMax, Faultmask, Control}
+use Rattle.reference.specs.declared.operands.SpecialRegister.TheVariants.{Apsr, Iapsr, Eapsr, Xpsr, Ipsr, Epsr, Iepsr}
+use Rattle.reference.specs.declared.operands.SpecialRegister.TheVariants.{Msp, Psp, Primask, Basepri, BasepriMax}
+use Rattle.reference.specs.declared.operands.SpecialRegister.TheVariants.{Faultmask, Control}
 use Rattle.reference.specs.declared.stop.Stop.{Stop}
 use Rattle.reference.specs.Accesses.{Served, perform_all}
 use Rattle.reference.specs.Arithmetic.{condition_passed}
@@ -24,10 +27,13 @@ use Rattle.reference.specs.ProgramCounter.{Finished, moves_on}
 use Rattle.reference.specs.Registers.{Registers, is_privileged, flags_of, reset_registers}
 use Rattle.reference.specs.SpecialRegisters.{read_special, is_open, with_special, write_special}
 use Rattle.reference.specs.State.{State, ticked, with_bus, with_registers}
-use Rattle.reference.specs.Step.{ended, finished, served, performed_all, planned, without_meaning, executed, fetched_second, with_second, fetched_first, instruction, sleeps_on, phase, running, unless_stopped, step}
+use Rattle.reference.specs.Step.{ended, finished, served, performed_all, planned, without_meaning, executed}
+use Rattle.reference.specs.Step.{fetched_second, with_second, fetched_first, instruction, sleeps_on, phase, running}
+use Rattle.reference.specs.Step.{unless_stopped, step}
 use Rattle.reference.specs.Time.{last_tick}
 use Rattle.state_laws.proofs.Effects.{result_kept}
-use Rattle.state_laws.proofs.Frames.{Has, LeavesGood, failed_kept, supervisor_kept, entry_kept, vector_step_kept, return_kept}
+use Rattle.state_laws.proofs.Frames.{Has, LeavesGood, failed_kept, supervisor_kept, entry_kept, vector_step_kept}
+use Rattle.state_laws.proofs.Frames.{return_kept}
 use Rattle.state_laws.proofs.Lengths.{HasEvenLength, decoding_even}
 use Rattle.state_laws.proofs.Nvic.{either}
 use Rattle.state_laws.proofs.Registers.{Leaves, alike, with_flags, msp_kept, psp_kept, register_kept, moves_on_kept}

@@ -27,15 +27,20 @@ use Rattle.reference.specs.Exclusives.{exclusive_effect}
 use Rattle.reference.specs.Fields.{saturate, extract_field, insert_field, clear_field, extend, rearrange}
 use Rattle.reference.specs.Invariant.{HasRegisters}
 use Rattle.reference.specs.LoadStore.{with_base, writes_back, load_store_effect, offset_address}
-use Rattle.reference.specs.LoadStoreMultiple.{registers_below, with_moved_base, moved_base, loaded, loaded_below_pc, load_multiple, load_store_multiple_effect}
+use Rattle.reference.specs.LoadStoreMultiple.{registers_below, with_moved_base, moved_base, loaded, loaded_below_pc}
+use Rattle.reference.specs.LoadStoreMultiple.{load_multiple, load_store_multiple_effect}
 use Rattle.reference.specs.Operations.{is_carried_out, effect, result_of}
 use Rattle.reference.specs.Products.{multiply, multiply_accumulate, multiply_long, divide}
 use Rattle.reference.specs.Registers.{Registers, register, with_register, with_exchange}
 use Rattle.reference.specs.SystemInstructions.{system_effect}
-use Rattle.reference.specs.TwoOperands.{sets_flags, written, data_immediate, data_register, compare_immediate, compare_register, move_immediate, move_register, move_top, shift_by_register, address}
+use Rattle.reference.specs.TwoOperands.{sets_flags, written, data_immediate, data_register, compare_immediate}
+use Rattle.reference.specs.TwoOperands.{compare_register, move_immediate, move_register, move_top, shift_by_register}
+use Rattle.reference.specs.TwoOperands.{address}
 use Rattle.reference.specs.Words.{is_bit}
 use Rattle.state_laws.proofs.Nvic.{either}
-use Rattle.state_laws.proofs.Registers.{Leaves, with_flags, with_monitor, pc_kept, exchange_kept, register_kept, with_it, next_even, moves_on_kept, branches_kept, branches_by_kept, exchanges_kept, loads_into_kept}
+use Rattle.state_laws.proofs.Registers.{Leaves, with_flags, with_monitor, pc_kept, exchange_kept, register_kept}
+use Rattle.state_laws.proofs.Registers.{with_it, next_even, moves_on_kept, branches_kept, branches_by_kept}
+use Rattle.state_laws.proofs.Registers.{exchanges_kept, loads_into_kept}
 
 -- ---- the instructions that compute
 

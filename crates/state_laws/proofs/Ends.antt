@@ -1,5 +1,6 @@
 -- A start gives the invariant, and a value that was placed keeps it.
-use Rattle.std.proofs.Common.{◌≡◌, ◌⊎◌, inl, inr, ℕ, ◌≤◌, min, Bool, true, false, not, ◌||◌, ◌==◌, is_some, List, Option, Some, None, Result, Ok, Err, refl, sym, subst, arith}
+use Rattle.std.proofs.Common.{◌≡◌, ◌⊎◌, inl, inr, ℕ, ◌≤◌, min, Bool, true, false, not, ◌||◌, ◌==◌, is_some, List}
+use Rattle.std.proofs.Common.{Option, Some, None, Result, Ok, Err, refl, sym, subst, arith}
 use Rattle.std.proofs.lemmas.Bool.Decides.{nat_tests}
 use Rattle.mpu.proofs.Writes.{sound_at_reset}
 use Rattle.reference.specs.declared.access.Answer.{Answer}

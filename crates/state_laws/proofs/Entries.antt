@@ -1,5 +1,6 @@
 -- An entry phase without a stop has a candidate after each phase of a step.
-use Rattle.std.proofs.Common.{◌≡◌, ℕ, ◌<◌, nat_le, Bool, true, false, not, ◌==◌, is_some, List, [], ◌∷◌, ◌++◌, length, Option, Some, None, Result, Ok, Err, refl, ◌∙◌, ap, arith}
+use Rattle.std.proofs.Common.{◌≡◌, ℕ, ◌<◌, nat_le, Bool, true, false, not, ◌==◌, is_some, List, [], ◌∷◌, ◌++◌, length}
+use Rattle.std.proofs.Common.{Option, Some, None, Result, Ok, Err, refl, ◌∙◌, ap, arith}
 use Rattle.reference.specs.declared.access.Cause.{Cause}
 use Rattle.reference.specs.declared.access.Cause.TheVariants as cause
 use Rattle.reference.specs.declared.access.Decision.{Decision}
@@ -14,7 +15,8 @@ use Rattle.reference.specs.declared.exception.TheConstants.{EXCEPTIONS, HARD_FAU
 use Rattle.reference.specs.declared.failure.Failure.{Failure}
 use Rattle.reference.specs.declared.failure.Failure.TheVariants as failure
 use Rattle.reference.specs.declared.failure.UsageFault.{UsageFault}
-use Rattle.reference.specs.declared.failure.UsageFault.TheVariants.{UndefinedInstruction, InvalidState, InvalidReturn, NoCoprocessor, Unaligned, DivideByZero}
+use Rattle.reference.specs.declared.failure.UsageFault.TheVariants.{UndefinedInstruction, InvalidState, InvalidReturn}
+use Rattle.reference.specs.declared.failure.UsageFault.TheVariants.{NoCoprocessor, Unaligned, DivideByZero}
 use Rattle.reference.specs.declared.fault_status.FaultEffect.{FaultEffect}
 use Rattle.reference.specs.declared.instruction.CodedInstruction.{CodedInstruction}
 use Rattle.reference.specs.declared.instruction.Decoded.{Decoded}
@@ -22,12 +24,16 @@ use Rattle.reference.specs.declared.instruction.Decoded.TheVariants as decoded
 use Rattle.reference.specs.declared.instruction.Ending.{Ending}
 use Rattle.reference.specs.declared.instruction.Ending.TheVariants as ending
 use Rattle.reference.specs.declared.stop.Stop.{Stop}
-use Rattle.reference.specs.Accesses.{Answered, Served, carried_out, decided, decision, perform, perform_all, value_of, followed}
+use Rattle.reference.specs.Accesses.{Answered, Served, carried_out, decided, decision, perform, perform_all, value_of}
+use Rattle.reference.specs.Accesses.{followed}
 use Rattle.reference.specs.Arithmetic.{condition_passed}
 use Rattle.reference.specs.Decoding.{instruction_length}
-use Rattle.reference.specs.ExceptionEntry.{words_from, pushes, entering, stacked, begin_entry, vector_read, vector_taken, exception_taken, taken_if_any, take_vector}
-use Rattle.reference.specs.ExceptionReturn.{with_entry, fits_mode, unstacked, frame_read, pops, pop_stack, chained, returned, exception_ended, is_allowed, return_line, exception_return}
-use Rattle.reference.specs.Faults.{access_fault, fault_of, usage_fault_of, recorded, escalated, faulted, failed, supervisor_called_by, supervisor_called}
+use Rattle.reference.specs.ExceptionEntry.{words_from, pushes, entering, stacked, begin_entry, vector_read}
+use Rattle.reference.specs.ExceptionEntry.{vector_taken, exception_taken, taken_if_any, take_vector}
+use Rattle.reference.specs.ExceptionReturn.{with_entry, fits_mode, unstacked, frame_read, pops, pop_stack, chained}
+use Rattle.reference.specs.ExceptionReturn.{returned, exception_ended, is_allowed, return_line, exception_return}
+use Rattle.reference.specs.Faults.{access_fault, fault_of, usage_fault_of, recorded, escalated, faulted, failed}
+use Rattle.reference.specs.Faults.{supervisor_called_by, supervisor_called}
 use Rattle.reference.specs.Frames.{frame, frame_base, has_reserved_ones, popped_pc}
 use Rattle.reference.specs.Kinds.{is_probe}
 use Rattle.reference.specs.LoadStore.{request}
@@ -36,7 +42,9 @@ use Rattle.reference.specs.Operations.{result_of}
 use Rattle.reference.specs.Priorities.{candidate, is_exception, is_fixed}
 use Rattle.reference.specs.Registers.{is_privileged, sp}
 use Rattle.reference.specs.State.{State, Bus, Stepped, ticked, with_bus, with_registers, with_system}
-use Rattle.reference.specs.Step.{ended, served, performed_all, planned, without_meaning, executed, fetching, fetched_second, with_second, fetched_first, instruction, sleeps_on, phase, running, unless_stopped, step}
+use Rattle.reference.specs.Step.{ended, served, performed_all, planned, without_meaning, executed, fetching}
+use Rattle.reference.specs.Step.{fetched_second, with_second, fetched_first, instruction, sleeps_on, phase, running}
+use Rattle.reference.specs.Step.{unless_stopped, step}
 use Rattle.reference.specs.System.{System, system_access, after_tick}
 use Rattle.reference.specs.Time.{last_tick, tick_pends}
 use Rattle.reference.specs.Words.{word_sum, is_bit}

@@ -10,9 +10,12 @@ use Rattle.reference.specs.declared.failure.Failure.TheVariants as failure
 use Rattle.reference.specs.declared.failure.UsageFault.TheVariants.{InvalidReturn}
 use Rattle.reference.specs.declared.fault_status.FaultEffect.{FaultEffect}
 use Rattle.reference.specs.Accesses.{Served, perform_all}
-use Rattle.reference.specs.ExceptionEntry.{pushes, entering, stacked, begin_entry, vector_read, vector_refused, vector_taken, exception_taken, taken_if_any, take_vector}
-use Rattle.reference.specs.ExceptionReturn.{with_entry, fits_mode, unstacked, frame_read, pops, pop_stack, chained, returned, exception_ended, is_allowed, return_line, exception_return}
-use Rattle.reference.specs.Faults.{fault_of, usage_fault_of, vector_fault, recorded, escalated, faulted, failed, supervisor_called_by, supervisor_called}
+use Rattle.reference.specs.ExceptionEntry.{pushes, entering, stacked, begin_entry, vector_read, vector_refused}
+use Rattle.reference.specs.ExceptionEntry.{vector_taken, exception_taken, taken_if_any, take_vector}
+use Rattle.reference.specs.ExceptionReturn.{with_entry, fits_mode, unstacked, frame_read, pops, pop_stack, chained}
+use Rattle.reference.specs.ExceptionReturn.{returned, exception_ended, is_allowed, return_line, exception_return}
+use Rattle.reference.specs.Faults.{fault_of, usage_fault_of, vector_fault, recorded, escalated, faulted, failed}
+use Rattle.reference.specs.Faults.{supervisor_called_by, supervisor_called}
 use Rattle.reference.specs.Frames.{has_reserved_ones, popped_pc}
 use Rattle.reference.specs.Priorities.{is_fixed}
 use Rattle.reference.specs.State.{State, Stepped, with_bus, with_system}

@@ -1,5 +1,6 @@
 -- A fault, SVC, and the entry into a handler and the return from it keep what holds of the core registers.
-use Rattle.std.proofs.Common.{◌≡◌, ℕ, ◌%◌, ◌^◌, ◌<◌, Bool, true, false, not, List, [], ◌∷◌, ◌++◌, Option, Some, None, Result, Ok, Err, bit_or, length, ◌∙◌, ap, refl, arith}
+use Rattle.std.proofs.Common.{◌≡◌, ℕ, ◌%◌, ◌^◌, ◌<◌, Bool, true, false, not, List, [], ◌∷◌, ◌++◌, Option, Some, None}
+use Rattle.std.proofs.Common.{Result, Ok, Err, bit_or, length, ◌∙◌, ap, refl, arith}
 use Rattle.std.proofs.lemmas.Bool.Decides.{nat_tests}
 use Rattle.std.proofs.lemmas.List.{length-set}
 use Rattle.std.proofs.lemmas.Nat.{or_mod}
@@ -14,10 +15,14 @@ use Rattle.reference.specs.declared.failure.Failure.TheVariants as failure
 use Rattle.reference.specs.declared.failure.UsageFault.TheVariants.{InvalidReturn}
 use Rattle.reference.specs.declared.fault_status.FaultEffect.{FaultEffect}
 use Rattle.reference.specs.Accesses.{Served, perform_all}
-use Rattle.reference.specs.ExceptionEntry.{pushes, entering, stacked, begin_entry, vector_taken, exception_taken, taken_if_any, take_vector}
-use Rattle.reference.specs.ExceptionReturn.{with_entry, fits_mode, unstacked, frame_read, pops, pop_stack, chained, returned, exception_ended, is_allowed, return_line, exception_return}
-use Rattle.reference.specs.Faults.{fault_of, usage_fault_of, recorded, escalated, faulted, failed, supervisor_called_by, supervisor_called}
-use Rattle.reference.specs.Frames.{frame_base, in_handler, frame_of, returns_on_psp, above_frame, general_popped, popped_pc, popped_xpsr, with_frame_of, popped, has_reserved_ones}
+use Rattle.reference.specs.ExceptionEntry.{pushes, entering, stacked, begin_entry, vector_taken, exception_taken}
+use Rattle.reference.specs.ExceptionEntry.{taken_if_any, take_vector}
+use Rattle.reference.specs.ExceptionReturn.{with_entry, fits_mode, unstacked, frame_read, pops, pop_stack, chained}
+use Rattle.reference.specs.ExceptionReturn.{returned, exception_ended, is_allowed, return_line, exception_return}
+use Rattle.reference.specs.Faults.{fault_of, usage_fault_of, recorded, escalated, faulted, failed, supervisor_called_by}
+use Rattle.reference.specs.Faults.{supervisor_called}
+use Rattle.reference.specs.Frames.{frame_base, in_handler, frame_of, returns_on_psp, above_frame, general_popped}
+use Rattle.reference.specs.Frames.{popped_pc, popped_xpsr, with_frame_of, popped, has_reserved_ones}
 use Rattle.reference.specs.Invariant.{HasRegisters}
 use Rattle.reference.specs.Priorities.{Nvic, candidate, is_fixed}
 use Rattle.reference.specs.Registers.{Registers, sp}

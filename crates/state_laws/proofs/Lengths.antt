@@ -9,25 +9,40 @@ use Rattle.reference.specs.declared.operands.Immediate.{Immediate}
 use Rattle.reference.specs.declared.operands.MoveOperation.{MoveOperation}
 use Rattle.reference.specs.declared.operands.SpecialRegister.{SpecialRegister}
 use Rattle.reference.specs.declared.stop.UnpredictableCase.{UnpredictableCase}
-use Rattle.reference.specs.Decoding.{rows_of, short_tables, long_tables, short_meaning, long_meaning, instruction_length, decoding}
+use Rattle.reference.specs.Decoding.{rows_of, short_tables, long_tables, short_meaning, long_meaning}
+use Rattle.reference.specs.Decoding.{instruction_length, decoding}
 use Rattle.reference.specs.Patterns.{is_as_printed, field}
 use Rattle.reference.specs.Rows.{Row, Letters, letters, applies, as_printed, by_found, meaning, unless}
-use Rattle.reference.specs.LongControl.{branch_wide_if_row, branch_wide_row, branch_with_link_row, from_special, long_control_rows, move_from_special_row, move_to_special_row, to_special}
-use Rattle.reference.specs.LongDual.{dual_rows, load_dual_literal_row, load_dual_row, load_exclusive_row, store_dual_row, store_exclusive_row, table_branch_row}
-use Rattle.reference.specs.LongImmediate.{compare_expanded, compare_immediate_row, data_expanded, data_immediate_row, logical_immediate_rows, move_expanded, move_immediate_row, sum_immediate_rows}
-use Rattle.reference.specs.LongLoad.{load_at_row, load_indexed_row, load_literal_row, load_unprivileged_row, memory_hint_indexed_row, memory_hint_row, narrow_load_rows, word_load_rows}
+use Rattle.reference.specs.LongControl.{branch_wide_if_row, branch_wide_row, branch_with_link_row, from_special}
+use Rattle.reference.specs.LongControl.{long_control_rows, move_from_special_row, move_to_special_row, to_special}
+use Rattle.reference.specs.LongDual.{dual_rows, load_dual_literal_row, load_dual_row, load_exclusive_row}
+use Rattle.reference.specs.LongDual.{store_dual_row, store_exclusive_row, table_branch_row}
+use Rattle.reference.specs.LongImmediate.{compare_expanded, compare_immediate_row, data_expanded, data_immediate_row}
+use Rattle.reference.specs.LongImmediate.{logical_immediate_rows, move_expanded, move_immediate_row, sum_immediate_rows}
+use Rattle.reference.specs.LongLoad.{load_at_row, load_indexed_row, load_literal_row, load_unprivileged_row}
+use Rattle.reference.specs.LongLoad.{memory_hint_indexed_row, memory_hint_row, narrow_load_rows, word_load_rows}
 use Rattle.reference.specs.LongMultiple.{load_list_wide_row, multiple_rows, store_list_wide_row}
-use Rattle.reference.specs.LongMultiply.{divide_row, multiply_accumulate_row, multiply_long_row, multiply_wide_row, product_rows}
-use Rattle.reference.specs.LongPlain.{add_wide_row, address_wide_row, clear_field_row, extract_field_row, insert_field_row, move_top_row, move_wide_row, plain_rows, saturate_row}
+use Rattle.reference.specs.LongMultiply.{divide_row, multiply_accumulate_row, multiply_long_row, multiply_wide_row}
+use Rattle.reference.specs.LongMultiply.{product_rows}
+use Rattle.reference.specs.LongPlain.{add_wide_row, address_wide_row, clear_field_row, extract_field_row}
+use Rattle.reference.specs.LongPlain.{insert_field_row, move_top_row, move_wide_row, plain_rows, saturate_row}
 use Rattle.reference.specs.LongRegister.{extend_wide_row, rearrange_wide_row, register_rows, shift_by_register_row}
-use Rattle.reference.specs.LongShifted.{compare_shifted_row, data_shifted_row, logical_shifted_rows, move_not_shifted_row, move_shifted_row, sum_shifted_rows}
+use Rattle.reference.specs.LongShifted.{compare_shifted_row, data_shifted_row, logical_shifted_rows}
+use Rattle.reference.specs.LongShifted.{move_not_shifted_row, move_shifted_row, sum_shifted_rows}
 use Rattle.reference.specs.LongStore.{store_at_row, store_indexed_row, store_rows, store_unprivileged_row}
 use Rattle.reference.specs.ShortBranches.{branch_if_row, branch_row, branch_rows}
-use Rattle.reference.specs.ShortData.{compare_registers_row, data_high_rows, data_low_rows, move_not_row, multiply_row, shift_register_row}
-use Rattle.reference.specs.ShortLoadStore.{load_list_row, load_literal_word_row, load_number_row, load_register_row, number_access_rows, register_access_rows, store_list_row, store_number_row, store_register_row}
-use Rattle.reference.specs.ShortMiscellaneous.{address_row, adjusting_rows, breakpoint_row, change_state_row, compare_and_branch_row, controlling_rows, extend_row, if_then_row, pop_row, push_row, rearrange_row, sp_number_row}
-use Rattle.reference.specs.ShortShifts.{compare_number_row, data_number_row, data_registers_row, move_low_row, move_number_row, shift_number_row, shifts_and_moves}
-use Rattle.reference.specs.ShortSpecial.{add_high_row, branch_exchange_row, branch_link_exchange_row, compare_high_row, move_high_row, special_rows}
+use Rattle.reference.specs.ShortData.{compare_registers_row, data_high_rows, data_low_rows, move_not_row, multiply_row}
+use Rattle.reference.specs.ShortData.{shift_register_row}
+use Rattle.reference.specs.ShortLoadStore.{load_list_row, load_literal_word_row, load_number_row, load_register_row}
+use Rattle.reference.specs.ShortLoadStore.{number_access_rows, register_access_rows, store_list_row, store_number_row}
+use Rattle.reference.specs.ShortLoadStore.{store_register_row}
+use Rattle.reference.specs.ShortMiscellaneous.{address_row, adjusting_rows, breakpoint_row, change_state_row}
+use Rattle.reference.specs.ShortMiscellaneous.{compare_and_branch_row, controlling_rows, extend_row, if_then_row}
+use Rattle.reference.specs.ShortMiscellaneous.{pop_row, push_row, rearrange_row, sp_number_row}
+use Rattle.reference.specs.ShortShifts.{compare_number_row, data_number_row, data_registers_row, move_low_row}
+use Rattle.reference.specs.ShortShifts.{move_number_row, shift_number_row, shifts_and_moves}
+use Rattle.reference.specs.ShortSpecial.{add_high_row, branch_exchange_row, branch_link_exchange_row, compare_high_row}
+use Rattle.reference.specs.ShortSpecial.{move_high_row, special_rows}
 use Rattle.state_laws.proofs.Nvic.{either}
 
 -- an instruction, if it is one, has an even number of bytes
@@ -181,10 +196,34 @@ all_even [] h = tt
 all_even (table ∷ tables) h = joined table (rows_of tables) h.0 (all_even tables h.1)
 
 short_even : TablesEven short_tables
-short_even = search (shifts_and_moves_even, data_low_rows_even, data_high_rows_even, special_rows_even, register_access_rows_even, number_access_rows_even, adjusting_rows_even, controlling_rows_even, branch_rows_even)
+short_even = search (
+  shifts_and_moves_even,
+  data_low_rows_even,
+  data_high_rows_even,
+  special_rows_even,
+  register_access_rows_even,
+  number_access_rows_even,
+  adjusting_rows_even,
+  controlling_rows_even,
+  branch_rows_even,
+)
 
 long_even : TablesEven long_tables
-long_even = search (logical_immediate_rows_even, sum_immediate_rows_even, logical_shifted_rows_even, sum_shifted_rows_even, plain_rows_even, long_control_rows_even, multiple_rows_even, dual_rows_even, store_rows_even, narrow_load_rows_even, word_load_rows_even, register_rows_even, product_rows_even)
+long_even = search (
+  logical_immediate_rows_even,
+  sum_immediate_rows_even,
+  logical_shifted_rows_even,
+  sum_shifted_rows_even,
+  plain_rows_even,
+  long_control_rows_even,
+  multiple_rows_even,
+  dual_rows_even,
+  store_rows_even,
+  narrow_load_rows_even,
+  word_load_rows_even,
+  register_rows_even,
+  product_rows_even,
+)
 
 -- ---- the meaning of halfwords
 

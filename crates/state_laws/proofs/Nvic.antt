@@ -1,9 +1,13 @@
 -- What each small change of the exceptions keeps, each change by a register, an instruction, a tick or a handler keeps.
-use Rattle.std.proofs.Common.{◌≡◌, ℕ, zero, suc, ◌+◌, ◌*◌, ◌/◌, ◌%◌, ◌^◌, ◌<◌, Bool, true, false, not, ◌&&◌, ◌||◌, ◌==◌, nat_lt, bit_and, Result, Ok, Err, refl, arith, if◌then◌else◌}
-use Rattle.reference.specs.declared.exception.TheConstants.{NMI, MEM_MANAGE, BUS_FAULT, USAGE_FAULT, SV_CALL, PEND_SV, SYS_TICK, FIRST_LINE, EXCEPTIONS}
+use Rattle.std.proofs.Common.{◌≡◌, ℕ, zero, suc, ◌+◌, ◌*◌, ◌/◌, ◌%◌, ◌^◌, ◌<◌, Bool, true, false, not, ◌&&◌, ◌||◌, ◌==◌}
+use Rattle.std.proofs.Common.{nat_lt, bit_and, Result, Ok, Err, refl, arith, if◌then◌else◌}
+use Rattle.reference.specs.declared.exception.TheConstants.{NMI, MEM_MANAGE, BUS_FAULT, USAGE_FAULT, SV_CALL, PEND_SV}
+use Rattle.reference.specs.declared.exception.TheConstants.{SYS_TICK, FIRST_LINE, EXCEPTIONS}
 use Rattle.reference.specs.declared.operands.ChangeProcessorState.{ChangeProcessorState}
 use Rattle.reference.specs.declared.operands.SpecialRegister.{SpecialRegister}
-use Rattle.reference.specs.declared.operands.SpecialRegister.TheVariants.{Apsr, Iapsr, Eapsr, Xpsr, Ipsr, Epsr, Iepsr, Msp, Psp, Primask, Basepri, BasepriMax, Faultmask, Control}
+use Rattle.reference.specs.declared.operands.SpecialRegister.TheVariants.{Apsr, Iapsr, Eapsr, Xpsr, Ipsr, Epsr, Iepsr}
+use Rattle.reference.specs.declared.operands.SpecialRegister.TheVariants.{Msp, Psp, Primask, Basepri, BasepriMax}
+use Rattle.reference.specs.declared.operands.SpecialRegister.TheVariants.{Faultmask, Control}
 use Rattle.reference.specs.declared.stop.Stop.{Stop}
 use Rattle.reference.specs.declared.system.ControlRegister.{ControlRegister}
 use Rattle.reference.specs.declared.system.ControlRegister.TheVariants.{Cpuid, Icsr, Aircr}
@@ -12,9 +16,13 @@ use Rattle.reference.specs.declared.system.InterruptRegister.TheVariants.{Iser, 
 use Rattle.reference.specs.Control.{set_or_cleared, write_icsr, write_aircr, write_control}
 use Rattle.reference.specs.ExceptionEntry.{activated}
 use Rattle.reference.specs.Handlers.{handlers_active, with_handlers_pending, with_handlers_enabled, write_shcsr}
-use Rattle.reference.specs.Interrupts.{first_exception, with_one, with_bit, with_bits_below, write_interrupts, write_priorities, triggered}
-use Rattle.reference.specs.Priorities.{Nvic, execution_priority, hard_fault_priority, kept, with_pending, with_active, with_enabled, with_priority, with_group, with_primask, with_faultmask, with_basepri}
-use Rattle.reference.specs.SpecialRegisters.{faultmask_written, is_tighter, basepri_max_written, with_mask, write_mask, with_primask_if, with_faultmask_if, change_state}
+use Rattle.reference.specs.Interrupts.{first_exception, with_one, with_bit, with_bits_below, write_interrupts}
+use Rattle.reference.specs.Interrupts.{write_priorities, triggered}
+use Rattle.reference.specs.Priorities.{Nvic, execution_priority, hard_fault_priority, kept, with_pending, with_active}
+use Rattle.reference.specs.Priorities.{with_enabled, with_priority, with_group, with_primask, with_faultmask}
+use Rattle.reference.specs.Priorities.{with_basepri}
+use Rattle.reference.specs.SpecialRegisters.{faultmask_written, is_tighter, basepri_max_written, with_mask, write_mask}
+use Rattle.reference.specs.SpecialRegisters.{with_primask_if, with_faultmask_if, change_state}
 use Rattle.reference.specs.System.{with_pended_at, with_pended_below, with_pended}
 use Rattle.reference.specs.Words.{is_bit}
 

@@ -1,11 +1,14 @@
 -- Each small change of the exceptions keeps the board's numbers, its sets and its priority bytes.
 use Rattle.std.proofs.Common.{◌≡◌, ℕ, ◌-◌, ◌^◌, ◌<◌, ◌≤◌, Bool, List, replicate, slice_index, refl, arith, ◌∙◌}
 use Rattle.std.proofs.Math.Nat.{div-mul-le_self}
-use Rattle.nvic.proofs.Boards.{at_each, same_each, pending_of_board, active_of_board, enabled_of_board, priority_of_board, group_of_board, primask_of_board, faultmask_of_board, basepri_of_board, reset_of_board}
+use Rattle.nvic.proofs.Boards.{at_each, same_each, pending_of_board, active_of_board, enabled_of_board}
+use Rattle.nvic.proofs.Boards.{priority_of_board, group_of_board, primask_of_board, faultmask_of_board}
+use Rattle.nvic.proofs.Boards.{basepri_of_board, reset_of_board}
 use Rattle.nvic.specs.Laws.{IsSetOf, IsOfBoard}
 use Rattle.reference.specs.declared.exception.TheConstants.{EXCEPTIONS}
 use Rattle.reference.specs.Invariant.{KeepsTopBits, HasOnly, HasExceptionsOfBoard}
-use Rattle.reference.specs.Priorities.{Nvic, is_switched, has_byte, kept, with_enabled, with_priority, with_basepri, reset_nvic}
+use Rattle.reference.specs.Priorities.{Nvic, is_switched, has_byte, kept, with_enabled, with_priority, with_basepri}
+use Rattle.reference.specs.Priorities.{reset_nvic}
 use Rattle.state_laws.proofs.Nvic.{either, IsKept}
 
 -- the numbers of the board, its sets and its priority bytes

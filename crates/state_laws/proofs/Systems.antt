@@ -16,10 +16,13 @@ use Rattle.reference.specs.Priorities.{Nvic, with_pending, with_active}
 use Rattle.reference.specs.Regions.{Mpu, IsSound, left, write as write_mpu}
 use Rattle.reference.specs.SpecialRegisters.{with_mask, write_mask, change_state}
 use Rattle.reference.specs.Status.{Status, write_status}
-use Rattle.reference.specs.System.{System, Replied, replied, with_nvic, nvic_written, status_written, mpu_written, first_byte, in_place, after_read, written, is_allowed, has_width, register_access, system_access, register_at, after_tick, is_held, deactivated}
+use Rattle.reference.specs.System.{System, Replied, replied, with_nvic, nvic_written, status_written, mpu_written}
+use Rattle.reference.specs.System.{first_byte, in_place, after_read, written, is_allowed, has_width, register_access}
+use Rattle.reference.specs.System.{system_access, register_at, after_tick, is_held, deactivated}
 use Rattle.reference.specs.SysTickRegisters.{after_systick_read, write_systick}
 use Rattle.reference.specs.Time.{last_tick, tick_pends}
-use Rattle.state_laws.proofs.Nvic.{either, IfDone, interrupts_kept, priorities_kept, triggered_kept, control_kept, shcsr_kept, mask_kept, write_mask_kept, state_kept, activated_kept, pended_kept}
+use Rattle.state_laws.proofs.Nvic.{either, IfDone, interrupts_kept, priorities_kept, triggered_kept, control_kept}
+use Rattle.state_laws.proofs.Nvic.{shcsr_kept, mask_kept, write_mask_kept, state_kept, activated_kept, pended_kept}
 use Rattle.state_laws.proofs.Sets.{HasBoard, board_kept}
 use Rattle.state_laws.proofs.Ticks.{IsTimely, read_bits, write_bits, with_timer, tick_timely}
 

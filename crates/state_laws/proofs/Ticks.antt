@@ -1,5 +1,6 @@
 -- The clock, SysTick, the script and the lines: a tick, and the registers of SysTick.
-use Rattle.std.proofs.Common.{◌≡◌, ℕ, zero, suc, ◌+◌, ◌-◌, ◌^◌, ◌<◌, Bool, true, false, ◌==◌, List, [], ◌∷◌, drop, length, refl, ◌∙◌, arith}
+use Rattle.std.proofs.Common.{◌≡◌, ℕ, zero, suc, ◌+◌, ◌-◌, ◌^◌, ◌<◌, Bool, true, false, ◌==◌, List, [], ◌∷◌, drop}
+use Rattle.std.proofs.Common.{length, refl, ◌∙◌, arith}
 use Rattle.std.proofs.lemmas.List.{length-set, length-replicate}
 use Rattle.clock.proofs.Scripts.{applies_those}
 use Rattle.clock.specs.Laws.{IsSortedFrom}
@@ -12,7 +13,8 @@ use Rattle.reference.specs.declared.system.SysTickRegister.TheVariants.{Csr, Rvr
 use Rattle.reference.specs.Boards.{IsScriptFrom}
 use Rattle.reference.specs.Invariant.{IsWithinClock, HasTimerBits, IsAhead}
 use Rattle.reference.specs.SysTickRegisters.{after_systick_read, write_systick}
-use Rattle.reference.specs.Time.{Time, SysTick, last_tick, counted, with_signal, with_events, events_at, due_count, events_after, after_tick, start_time}
+use Rattle.reference.specs.Time.{Time, SysTick, last_tick, counted, with_signal, with_events, events_at, due_count}
+use Rattle.reference.specs.Time.{events_after, after_tick, start_time}
 use Rattle.state_laws.proofs.Nvic.{either}
 
 -- what holds of time on a board with these lines

@@ -4,5 +4,6 @@
 mod hex;
 pub mod lines;
 pub mod page;
+pub mod sink;
 pub mod tick;
 mod words;

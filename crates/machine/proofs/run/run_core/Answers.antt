@@ -1,7 +1,8 @@
-use Rattle.std.proofs.Common.{◌≡◌, ◌⊎◌, inl, inr, ◌∙◌, sym, refl, arith, IsSome, is_some, false}
+use Rattle.std.proofs.Common.{◌≡◌, ◌⊎◌, inl, inr, ◌∙◌, sym, refl, ap, arith, IsSome, is_some, false}
 use Rattle.std.proofs.KnownBytes.{Appends-nil}
 use Rattle.machine.proofs.Running.{none_made, none_told, after_on, told_on, made_on, not_some, cut_in_step, cut_in_stop}
 use Rattle.machine.proofs.Running.{all_told, all_made, ends_so, alone}
+use Rattle.trace.specs.Emission.{Emission}
 use Rattle.machine.proofs.run.run_core.Goals as goal
 use Rattle.machine.proofs.run.run_core.Goals.{else-steps-test, then-steps-test+then-is_some}
 
@@ -22,7 +23,7 @@ steps-preserved g c =
       core = c.step.ensures.state ∙ after_on _ _ _ c.steps.invariant.core;
       made = made_on _ _ _ c.steps.invariant.made c.steps.invariant.core (not_some _ going);
       told = told_on _ _ _ _ _ _ _ c.steps.invariant.told c.in-Ok.ensures.0
-          (c.as_slice.ensures.value ∙ c.step.ensures.events) c.steps.invariant.core;
+          (c.as_slice.ensures.value ∙ ap (λ (e : Emission). e.events) c.step.ensures.events) c.steps.invariant.core;
       same = c.in-Ok.ensures.1 ∙ c.steps.invariant.same;
     }
 
@@ -32,13 +33,13 @@ returns-in-Err-clause-cut g c =
     cut_in_step _ _ _ _ _ _ _ _ _ (omega arith)
     (made_on _ _ _ c.steps.invariant.made c.steps.invariant.core (not_some _ going))
     (c.step.ensures.state ∙ after_on _ _ _ c.steps.invariant.core) c.steps.invariant.told c.in-Err.ensures.0
-    (c.as_slice.ensures.value ∙ c.step.ensures.events) c.steps.invariant.core
+    (c.as_slice.ensures.value ∙ ap (λ (e : Emission). e.events) c.step.ensures.events) c.steps.invariant.core
 
 pub returns-in-Ok-put_all-clause-written : goal.returns-in-Ok-put_all-clause-written
 returns-in-Ok-put_all-clause-written g c =
     let ends : (c.steps.made ≡ c.args.limit) ⊎ IsSome c.steps.core.stop =
     elim c.steps-test.branch [ else-steps-test w ↦ inl (omega arith) | then-steps-test+then-is_some w ↦ inr cc ] in
-    let text = alone _ _ _ _ c.as_slice-2.ensures c.put_stop.ensures.text c.clear.ensures in
+    let text = alone _ _ _ _ c.as_slice-2.ensures c.put_stop.ensures.text c.clear-2.ensures in
     all_told _ _ _ _ _ _ _ _ c.steps.invariant.few c.steps.invariant.core c.steps.invariant.told
     (rw text at c.in-Ok-put_all.ensures.0) (cc) ends
 
@@ -58,6 +59,6 @@ pub returns-in-Err-put_all-clause-cut : goal.returns-in-Err-put_all-clause-cut
 returns-in-Err-put_all-clause-cut g c =
     let ends : (c.steps.made ≡ c.args.limit) ⊎ IsSome c.steps.core.stop =
     elim c.steps-test.branch [ else-steps-test w ↦ inl (omega arith) | then-steps-test+then-is_some w ↦ inr cc ] in
-    let text = alone _ _ _ _ c.as_slice-2.ensures c.put_stop.ensures.text c.clear.ensures in
+    let text = alone _ _ _ _ c.as_slice-2.ensures c.put_stop.ensures.text c.clear-2.ensures in
     cut_in_stop _ _ _ _ _ _ _ _ c.steps.invariant.few c.steps.invariant.made c.steps.invariant.core
     c.steps.invariant.told (rw text at c.in-Err-put_all.ensures.0) (cc) ends

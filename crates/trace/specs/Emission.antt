@@ -1,0 +1,10 @@
+-- What a sink of events has taken.
+use Rattle.std.specs.Prelude.{ℕ, List, Option}
+use Rattle.reference.specs.declared.event.Event.{Event}
+
+-- the events that a sink has taken so far; and how it was before them: the bytes that it had written, where they are
+-- known, and how many of its calls had failed
+pub record Emission : Type 0 where
+  pub written : Option (List ℕ)
+  pub faults : ℕ
+  pub events : List Event

@@ -1,0 +1,29 @@
+//! What takes the events of a step, one by one.
+
+ghost use Rattle.std.specs.Prelude.{◌≡◌, ◌<◌, [], ◌∷◌, ◌++◌, length, None};
+ghost use Rattle.trace.specs.Emission.{Emission};
+
+use bounded::Bounded;
+use reference::event::{Event, MOST_EVENTS};
+
+/// What takes the events of a step, one by one. A contract sees the events that it has taken so far.
+pub trait Sink {
+    ghost emitted: { Self → Emission };
+
+    /// Takes an event. There must be room for it.
+    fn emit(&mut self, event: Event)
+        requires { length (emitted self.old).events < MOST_EVENTS }
+        ensures { emitted self.new ≡ record (emitted self.old) { events = (emitted self.old).events ++ event ∷ [] } };
+}
+
+/// The events of one step, in their order.
+pub type Events = Bounded<Event, MOST_EVENTS>;
+
+impl Sink for Bounded<Event, MOST_EVENTS> {
+    ghost emitted = { λ list. record { written = None; faults = 0; events = list.items } };
+
+    #[inline(always)]
+    fn emit(&mut self, event: Event) {
+        self.push(event);
+    }
+}
