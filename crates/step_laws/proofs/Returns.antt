@@ -16,7 +16,8 @@ use Rattle.reference.specs.Memory.{Memory}
 use Rattle.reference.specs.Registers.{Registers, is_privileged, sp}
 use Rattle.reference.specs.State.{State, Stepped, with_bus, with_system}
 use Rattle.reference.specs.Words.{is_bit}
-use Rattle.step_laws.specs.FrameLaw.{AreRegisters, AreBack, AreApart, KeepsFrame, IsFree, IsStacked, HasFrameOf, ReturnGivesBack}
+use Rattle.reference.specs.Invariant.{AreApart}
+use Rattle.step_laws.specs.FrameLaw.{AreRegisters, AreBack, KeepsFrame, IsFree, IsStacked, HasFrameOf, ReturnGivesBack}
 use Rattle.step_laws.proofs.Bytes.{either}
 use Rattle.step_laws.proofs.Frames.{gives_back, pushed_sp}
 use Rattle.step_laws.proofs.Stacks.{HoldsWords, AreWords, words_pushed, words_popped, frame_stays}

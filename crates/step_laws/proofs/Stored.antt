@@ -4,7 +4,7 @@ use Rattle.std.proofs.lemmas.Bool.Decides.{nat_tests}
 use Rattle.std.proofs.lemmas.List.{length-take, get_or_append_left, get_or-append_right}
 use Rattle.reference.specs.Map.{ram_base}
 use Rattle.reference.specs.Memory.{Memory, is_in_flash, is_in_ram, number_in, number_at, byte_at, bytes_of, with_bytes, overwritten}
-use Rattle.step_laws.specs.FrameLaw.{AreApart}
+use Rattle.reference.specs.Invariant.{AreApart}
 use Rattle.step_laws.proofs.Blocks.{length-with_bytes, length-front}
 
 -- the bytes at an address are those of a word
