@@ -1,5 +1,5 @@
 -- What a return gives back of the registers that an entry pushed (ARM DDI 0403, PushStack() and PopStack()).
-use Rattle.std.specs.Prelude.{◌≡◌, ℕ, ◌+◌, ◌%◌, ◌^◌, ◌<◌, ◌≤◌, List, slice_index, length, None}
+use Rattle.std.specs.Prelude.{◌≡◌, ℕ, ◌%◌, ◌^◌, ◌<◌, List, slice_index, length, None}
 use Rattle.reference.specs.declared.event.Event.{Event}
 use Rattle.reference.specs.Accesses.{perform_all}
 use Rattle.reference.specs.ExceptionEntry.{pushes, begin_entry}
