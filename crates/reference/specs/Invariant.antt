@@ -2,7 +2,9 @@
 -- `state_laws`. Outside of it each definition has a value too, on which nothing rests.
 use Rattle.std.specs.Prelude.{◌≡◌, ℕ, ◌+◌, ◌%◌, ◌^◌, ◌<◌, ◌≤◌, Bool, true, is_some, List, length, slice_index, None}
 use Rattle.reference.specs.declared.exception.TheConstants.{EXCEPTIONS, MOST_LINES}
-use Rattle.reference.specs.Boards.{Described, IsScript, IsScriptFrom, is_line_count, is_region_count}
+use Rattle.reference.specs.Boards.{Described, IsScript, IsScriptFrom, is_flash, is_line_count, is_region_count}
+use Rattle.reference.specs.Map.{ram_base}
+use Rattle.reference.specs.Memory.{Memory}
 use Rattle.reference.specs.Priorities.{Nvic, is_in, is_exception, is_switched, kept, candidate}
 use Rattle.reference.specs.Regions.{IsSound}
 use Rattle.reference.specs.Registers.{Registers}
@@ -62,6 +64,10 @@ pub record HasRegisters (r : Registers) : Type 0 where
   pub it : r.it < 2 ^ 8
   pub exception : r.exception < 2 ^ 9
 
+-- flash ends where RAM begins, or below
+abbrev pub AreApart : Memory → Type 0
+AreApart m = m.flash_base + length m.flash ≤ ram_base
+
 -- ---- the invariant
 
 -- what holds of the System Control Space
@@ -79,12 +85,14 @@ pub record Invariant (s : State) : Type 0 where
   pub registers : HasRegisters s.registers
   -- an entry phase has a candidate, unless the machine has stopped
   pub entry : s.stop ≡ None → is_some s.entry ≡ true → is_some (candidate s.bus.system.nvic) ≡ true
+  pub memory : AreApart s.bus.memory
   pub system : SystemInvariant s.bus.system
 
 -- ---- the board that it needs
 
--- a board whose numbers of lines and regions are in range, and whose script is one of its lines
+-- a board whose flash and whose numbers of lines and regions are in range, and whose script is one of its lines
 pub record IsBoard (board : Described) : Type 0 where
+  pub flash : is_flash board.numbers.flash_base board.numbers.flash_size ≡ true
   pub lines : is_line_count board.numbers.lines ≡ true
   pub regions : is_region_count board.numbers.regions ≡ true
   pub script : IsScript board.numbers.lines board.script

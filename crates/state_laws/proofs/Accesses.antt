@@ -1,43 +1,49 @@
--- An access, and a list of them, keep what holds of the System Control Space.
+-- An access, and a list of them, keep what holds of the System Control Space and of memory.
 use Rattle.std.proofs.Common.{◌≡◌, ℕ, Bool, true, false, List, [], ◌∷◌, Result, Ok, Err, refl}
 use Rattle.reference.specs.declared.access.Decision.{Decision}
 use Rattle.reference.specs.declared.access.Request.{Request}
 use Rattle.reference.specs.declared.event.Event.{Event}
 use Rattle.reference.specs.declared.failure.Failure.{Failure}
-use Rattle.reference.specs.Accesses.{Answered, Served, carried_out, decided, decision, perform, value_of, followed}
-use Rattle.reference.specs.Accesses.{perform_all}
+use Rattle.reference.specs.Accesses.{Answered, Served, carried_out, decided, decision, perform, value_of, followed, perform_all}
+use Rattle.reference.specs.Invariant.{AreApart}
 use Rattle.reference.specs.Kinds.{is_probe}
 use Rattle.reference.specs.Map.{is_in_ppb}
 use Rattle.reference.specs.State.{Bus}
+use Rattle.state_laws.proofs.Memories.{space_apart}
 use Rattle.state_laws.proofs.Nvic.{either}
 use Rattle.state_laws.proofs.Systems.{IsWhole, access_whole}
 
-pub carried_whole : (lines bits x : ℕ) (b : Bus) (q : Request) → IsWhole lines bits b.system →
-    IsWhole lines bits (carried_out x b q).bus.system
+-- what holds of the System Control Space, and of memory
+abbrev pub IsWholeBus : ℕ → ℕ → Bus → Type 0
+IsWholeBus lines bits b = IsWhole lines bits b.system × AreApart b.memory
+
+pub carried_whole : (lines bits x : ℕ) (b : Bus) (q : Request) → IsWholeBus lines bits b →
+    IsWholeBus lines bits (carried_out x b q).bus
 unfolding carried_out
 carried_whole lines bits x b q h =
-    either (λ (a : Answered). IsWhole lines bits a.bus.system) (is_probe q.access.kind) _ _ (λ e. h)
-    (λ e. either (λ (a : Answered). IsWhole lines bits a.bus.system) (is_in_ppb q.access.address) _ _
-    (λ f. access_whole lines bits x b.system q h) (λ f. h))
+    either (λ (a : Answered). IsWholeBus lines bits a.bus) (is_probe q.access.kind) _ _ (λ e. h)
+    (λ e. either (λ (a : Answered). IsWholeBus lines bits a.bus) (is_in_ppb q.access.address) _ _
+    (λ f. (access_whole lines bits x b.system q h.0, h.1))
+    (λ f. (h.0, space_apart b.memory b.system.time.ticks q h.1)))
 
 decided_whole : (lines bits x : ℕ) (b : Bus) (q : Request) (d : Decision) (granted : Bool) → d.granted ≡ granted →
-    IsWhole lines bits b.system → IsWhole lines bits (decided x b q d).bus.system
+    IsWholeBus lines bits b → IsWholeBus lines bits (decided x b q d).bus
 decided_whole lines bits x b q d true e h = rw e (carried_whole lines bits x b q h)
 decided_whole lines bits x b q d false e h = rw e h
 
-pub perform_whole : (lines bits x : ℕ) (b : Bus) (q : Request) → IsWhole lines bits b.system →
-    IsWhole lines bits (perform x b q).bus.system
+pub perform_whole : (lines bits x : ℕ) (b : Bus) (q : Request) → IsWholeBus lines bits b →
+    IsWholeBus lines bits (perform x b q).bus
 unfolding perform
 perform_whole lines bits x b q h = decided_whole lines bits x b q (decision b q) _ refl h
 
 followed_whole : (lines bits : ℕ) (events : List Event) (after : Bus) (value : Result ℕ Failure) (rest : Served) →
-    IsWhole lines bits after.system → IsWhole lines bits rest.bus.system →
-    IsWhole lines bits (followed events after value rest).bus.system
+    IsWholeBus lines bits after → IsWholeBus lines bits rest.bus →
+    IsWholeBus lines bits (followed events after value rest).bus
 followed_whole lines bits events after (Ok value) rest first others = others
 followed_whole lines bits events after (Err why) rest first others = first
 
-pub served_whole : (lines bits x tick : ℕ) (b : Bus) (qs : List Request) → IsWhole lines bits b.system →
-    IsWhole lines bits (perform_all x tick b qs).bus.system
+pub served_whole : (lines bits x tick : ℕ) (b : Bus) (qs : List Request) → IsWholeBus lines bits b →
+    IsWholeBus lines bits (perform_all x tick b qs).bus
 unfolding perform_all
 served_whole lines bits x tick b [] h = h
 served_whole lines bits x tick b (q ∷ qs) h =

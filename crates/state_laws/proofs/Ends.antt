@@ -15,6 +15,7 @@ use Rattle.reference.specs.Boards.{Described, is_line_count, is_region_count, Is
 use Rattle.reference.specs.Images.{Segment}
 use Rattle.reference.specs.Invariant.{IsBoard, HasRegisters, SystemInvariant, Invariant}
 use Rattle.reference.specs.Map.{is_in_ppb}
+use Rattle.reference.specs.Memory.{bytes_of}
 use Rattle.reference.specs.Places.{is_word_aligned, is_there, special_taken, register_taken, store_of, taken, place}
 use Rattle.reference.specs.Registers.{is_handler}
 use Rattle.reference.specs.SpecialRegisters.{special_of}
@@ -23,11 +24,12 @@ use Rattle.reference.specs.State.{Bus, State}
 use Rattle.reference.specs.Step.{step}
 use Rattle.reference.specs.System.{System, reset_system}
 use Rattle.state_laws.specs.StateLaw.{IfGiven}
-use Rattle.state_laws.proofs.Accesses.{carried_whole}
+use Rattle.state_laws.proofs.Accesses.{IsWholeBus, carried_whole}
 use Rattle.state_laws.proofs.Core.{special_kept, step_kept, reset_has}
 use Rattle.state_laws.proofs.Registers.{register_kept}
 use Rattle.state_laws.proofs.Entries.{none, step_called}
 use Rattle.state_laws.proofs.Faults.{HasWhole}
+use Rattle.state_laws.proofs.Memories.{overwritten_apart, start_apart}
 use Rattle.state_laws.proofs.Nvic.{either}
 use Rattle.state_laws.proofs.Sets.{sets_of_board, top_bits_of_board, board_of, board_at_reset}
 use Rattle.state_laws.proofs.Steps.{step_whole}
@@ -53,20 +55,23 @@ whole s h = record {
   mpu = h.regions;
 }
 
+whole_state : (s : State) → Invariant s → HasWhole s.bus.system.nvic.lines s.bus.system.nvic.priority_bits s
+whole_state s h = (whole s.bus.system h.system, h.memory)
+
 -- ---- a step
 
 pub step_keeps : (s : State) → Invariant s → Invariant (step s).state
 step_keeps s h = record {
   registers = step_kept s h.registers;
-  entry = step_called _ _ s (whole s.bus.system h.system) h.entry;
+  entry = step_called _ _ s (whole_state s h) h.entry;
+  memory = (step_whole _ _ s (whole_state s h)).1;
   system =
-      sound s.bus.system.nvic.lines s.bus.system.nvic.priority_bits _
-      (step_whole _ _ s (whole s.bus.system h.system));
+      sound s.bus.system.nvic.lines s.bus.system.nvic.priority_bits _ (step_whole _ _ s (whole_state s h)).0;
 }
 
 -- ---- a value that is placed
 
--- what holds of the registers, and of the System Control Space
+-- what holds of the registers, of memory and of the System Control Space
 record IsGood (lines bits : ℕ) (s : State) : Type 0 where
   registers : HasRegisters s.registers
   entry : s.entry ≡ None
@@ -81,11 +86,11 @@ special_placed lines bits s None value h = tt
 special_placed lines bits s (Some special) value h = record {
   registers = special_kept s.registers special value h.registers;
   entry = h.entry;
-  system = placed_mask_whole lines bits s.bus.system special value h.system;
+  system = (placed_mask_whole lines bits s.bus.system special value h.system.0, h.system.1);
 }
 
 register_placed : (lines bits : ℕ) (s : State) (after : Bus) (a : Answer) → HasRegisters s.registers → s.entry ≡ None →
-    IsWhole lines bits after.system → IsPlaced lines bits (register_taken s after a)
+    IsWholeBus lines bits after → IsPlaced lines bits (register_taken s after a)
 register_placed lines bits s after (answer.Value value) r out h = record { registers = r; entry = out; system = h }
 register_placed lines bits s after answer.Error r out h = tt
 register_placed lines bits s after (answer.Stop why) r out h = tt
@@ -99,7 +104,11 @@ taken_placed lines bits s (Word address value) h =
     either (IsPlaced lines bits) (is_in_ppb address) _ _
     (λ e. register_placed lines bits s a.bus a.answer h.registers h.entry
     (carried_whole lines bits s.registers.exception s.bus (store_of address value) h.system))
-    (λ e. record { registers = h.registers; entry = h.entry; system = h.system })
+    (λ e. record {
+      registers = h.registers;
+      entry = h.entry;
+      system = (h.system.0, overwritten_apart s.bus.memory address (bytes_of 4 value) h.system.1);
+    })
 
 no_entry : (stop : Bool) (entry : Option ℕ) (handler : Bool) → (stop || is_some entry || handler) ≡ false → entry ≡ None
 no_entry stop None handler e = refl
@@ -122,14 +131,15 @@ placed lines bits s p r h =
 pub place_keeps : (s : State) (p : Place) → Invariant s → IfGiven Invariant (place s p)
 place_keeps s p h =
     lead (place s p)
-    (placed s.bus.system.nvic.lines s.bus.system.nvic.priority_bits s p h.registers (whole s.bus.system h.system))
+    (placed s.bus.system.nvic.lines s.bus.system.nvic.priority_bits s p h.registers (whole_state s h))
   where
     lead : (r : Result State PlaceFault) → IsPlaced s.bus.system.nvic.lines s.bus.system.nvic.priority_bits r →
         IfGiven Invariant r
     lead (Ok after) w = record {
       registers = w.registers;
       entry = λ stop entry. none _ _ w.entry entry;
-      system = sound _ _ after.bus.system w.system;
+      memory = w.system.1;
+      system = sound _ _ after.bus.system w.system.0;
     }
     lead (Err why) w = tt
 
@@ -152,6 +162,7 @@ start_gives board image h =
     (λ e. record {
       registers = reset_has _ _;
       entry = λ stop entry. absurd (let w : ⊥ = cc in w);
+      memory = start_apart board.numbers image h.flash;
       system =
           sound (min board.numbers.lines MOST_LINES) board.numbers.priority_bits
           (reset_system board.numbers.flash_base board.numbers.lines board.numbers.priority_bits board.numbers.regions

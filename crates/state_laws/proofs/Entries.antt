@@ -48,12 +48,12 @@ use Rattle.reference.specs.Step.{unless_stopped, step}
 use Rattle.reference.specs.System.{System, system_access, after_tick}
 use Rattle.reference.specs.Time.{last_tick, tick_pends}
 use Rattle.reference.specs.Words.{word_sum, is_bit}
-use Rattle.state_laws.proofs.Accesses.{perform_whole, served_whole}
+use Rattle.state_laws.proofs.Accesses.{IsWholeBus, perform_whole, served_whole}
 use Rattle.state_laws.proofs.Candidates.{Calls, Follows, pending_calls, pended_calls, escalation_follows}
 use Rattle.state_laws.proofs.Faults.{HasWhole}
 use Rattle.state_laws.proofs.Nvic.{either}
 use Rattle.state_laws.proofs.Steps.{is_early}
-use Rattle.state_laws.proofs.Systems.{IsWhole, ended_whole, tick_whole}
+use Rattle.state_laws.proofs.Systems.{ended_whole, tick_whole}
 
 -- an entry phase has a candidate, unless the machine has stopped
 abbrev pub IsCalled : State → Type 0
@@ -110,7 +110,7 @@ faulted_called : (lines bits : ℕ) (s : State) (events : List Event) (f : Fault
 unfolding faulted
 faulted_called lines bits s events f is h =
     escalated_called (recorded s f) events f.exception _
-    (escalation_follows s.bus.system.nvic f.exception h.nvic.board.pending.places is.small
+    (escalation_follows s.bus.system.nvic f.exception h.0.nvic.board.pending.places is.small
     (is.exists s.bus.system.nvic.lines))
 
 failed_called : (lines bits : ℕ) (s : State) (events : List Event) (why : Failure) → HasWhole lines bits s →
@@ -188,7 +188,7 @@ pushes_leave s =
 -- ---- entry
 
 stacked_called : (lines bits : ℕ) (s : State) (all : Served) (end : Option Failure) →
-    IsWhole lines bits all.bus.system → Calls all.bus.system.nvic → LeavesCalled (stacked s all end)
+    IsWholeBus lines bits all.bus → Calls all.bus.system.nvic → LeavesCalled (stacked s all end)
 stacked_called lines bits s all None h c = λ stop entry. c
 stacked_called lines bits s all (Some why) h c = failed_called lines bits (with_bus s all.bus) all.events why h
 
@@ -244,7 +244,7 @@ unstacked_called lines bits s events e frame h out =
     (λ even stop entry. none _ _ out entry))
 
 read_called : (lines bits : ℕ) (s : State) (events : List Event) (e : ℕ) (all : Served) (end : Option Failure) →
-    IsWhole lines bits all.bus.system → s.entry ≡ None → LeavesCalled (frame_read s events e all end)
+    IsWholeBus lines bits all.bus → s.entry ≡ None → LeavesCalled (frame_read s events e all end)
 read_called lines bits s events e all None h out =
     unstacked_called lines bits (with_bus s all.bus) (events ++ all.events) e all.values h out
 read_called lines bits s events e all (Some why) h out =
@@ -277,7 +277,7 @@ return_called lines bits s before e h out =
     either LeavesCalled (has_reserved_ones e) _ _
     (λ ones. returned_called lines bits (with_system s (exception_ended s.bus.system s.registers.exception))
     (before ++ return_line s e ∷ []) e (is_allowed s e)
-    (ended_whole lines bits s.bus.system s.registers.exception h) out)
+    (ended_whole lines bits s.bus.system s.registers.exception h.0, h.1) out)
     (λ other stop entry. some_none _ _ stop)
 
 -- ---- an instruction
@@ -294,7 +294,7 @@ ended_called lines bits s events (ending.Breakpoint number) h out = λ stop entr
 ended_called lines bits s events (ending.ExceptionReturn value) h out = return_called lines bits s events value h out
 
 end_called : (lines bits : ℕ) (s : State) (events : List Event) (i : CodedInstruction) (all : Served)
-    (end : Option Failure) → IsWhole lines bits all.bus.system → s.entry ≡ None →
+    (end : Option Failure) → IsWholeBus lines bits all.bus → s.entry ≡ None →
     LeavesCalled (served s events i all end)
 end_called lines bits s events i all None h out =
     let f = result_of i s.registers all.values in
@@ -380,7 +380,7 @@ running_called : (lines bits : ℕ) (s : State) → s.stop ≡ None → HasWhole
 running_called lines bits s going h c =
     either LeavesCalled (nat_le last_tick s.bus.system.time.ticks) _ _ (λ late stop entry. some_none _ _ stop)
     (λ early. phase_called lines bits (ticked s) s.entry _ refl refl
-    (tick_whole lines bits s.bus.system (is_early s.bus.system.time.ticks early) h)
+    (tick_whole lines bits s.bus.system (is_early s.bus.system.time.ticks early) h.0, h.1)
     (λ entering. tick_calls s.bus.system (c going entering)))
 
 stopped_called : (lines bits : ℕ) (s : State) (why : Option Stop) → s.stop ≡ why → HasWhole lines bits s →

@@ -20,13 +20,13 @@ use Rattle.reference.specs.Frames.{has_reserved_ones, popped_pc}
 use Rattle.reference.specs.Priorities.{is_fixed}
 use Rattle.reference.specs.State.{State, Stepped, with_bus, with_system}
 use Rattle.reference.specs.Words.{is_bit}
-use Rattle.state_laws.proofs.Accesses.{perform_whole, served_whole}
+use Rattle.state_laws.proofs.Accesses.{IsWholeBus, perform_whole, served_whole}
 use Rattle.state_laws.proofs.Nvic.{either}
-use Rattle.state_laws.proofs.Systems.{IsWhole, status_whole, pending_whole, activated_whole, ended_whole}
+use Rattle.state_laws.proofs.Systems.{status_whole, pending_whole, activated_whole, ended_whole}
 
 -- the same of a state, and of what a step makes of one
 abbrev pub HasWhole : ℕ → ℕ → State → Type 0
-HasWhole lines bits s = IsWhole lines bits s.bus.system
+HasWhole lines bits s = IsWholeBus lines bits s.bus
 
 abbrev pub LeavesWhole : ℕ → ℕ → Stepped → Type 0
 LeavesWhole lines bits step = HasWhole lines bits step.state
@@ -35,13 +35,13 @@ LeavesWhole lines bits step = HasWhole lines bits step.state
 
 recorded_whole : (lines bits : ℕ) (s : State) (f : FaultEffect) → HasWhole lines bits s →
     HasWhole lines bits (recorded s f)
-recorded_whole lines bits s f h = status_whole lines bits s.bus.system _ h
+recorded_whole lines bits s f h = (status_whole lines bits s.bus.system _ h.0, h.1)
 
 escalated_whole : (lines bits : ℕ) (s : State) (events : List Event) (x : ℕ) (e : Escalation) →
     HasWhole lines bits s → LeavesWhole lines bits (escalated s events x e)
-escalated_whole lines bits s events x Itself h = pending_whole lines bits s.bus.system x true h
+escalated_whole lines bits s events x Itself h = (pending_whole lines bits s.bus.system x true h.0, h.1)
 escalated_whole lines bits s events x HardFault h =
-    pending_whole lines bits _ HARD_FAULT true (status_whole lines bits s.bus.system _ h)
+    (pending_whole lines bits _ HARD_FAULT true (status_whole lines bits s.bus.system _ h.0), h.1)
 escalated_whole lines bits s events x Lockup h = h
 
 faulted_whole : (lines bits : ℕ) (s : State) (events : List Event) (f : FaultEffect) → HasWhole lines bits s →
@@ -59,7 +59,7 @@ failed_whole lines bits s events (failure.Stop why) h = h
 
 called_whole : (lines bits : ℕ) (s : State) (events : List Event) (e : Escalation) → HasWhole lines bits s →
     LeavesWhole lines bits (supervisor_called_by s events e)
-called_whole lines bits s events Itself h = pending_whole lines bits s.bus.system SV_CALL true h
+called_whole lines bits s events Itself h = (pending_whole lines bits s.bus.system SV_CALL true h.0, h.1)
 called_whole lines bits s events HardFault h = escalated_whole lines bits s events SV_CALL HardFault h
 called_whole lines bits s events Lockup h = h
 
@@ -71,7 +71,7 @@ supervisor_whole lines bits s events h = called_whole lines bits s events _ h
 -- ---- entry
 
 stacked_whole : (lines bits : ℕ) (s : State) (all : Served) (end : Option Failure) →
-    IsWhole lines bits all.bus.system → LeavesWhole lines bits (stacked s all end)
+    IsWholeBus lines bits all.bus → LeavesWhole lines bits (stacked s all end)
 stacked_whole lines bits s all None h = h
 stacked_whole lines bits s all (Some why) h = failed_whole lines bits (with_bus s all.bus) all.events why h
 
@@ -86,11 +86,11 @@ refused_whole : (lines bits : ℕ) (s : State) (events : List Event) (x : ℕ) �
     LeavesWhole lines bits (vector_refused s events x)
 refused_whole lines bits s events x h =
     either (LeavesWhole lines bits) (is_fixed x) _ _ (λ e. recorded_whole lines bits s vector_fault h)
-    (λ e. pending_whole lines bits _ HARD_FAULT true (recorded_whole lines bits s vector_fault h))
+    (λ e. (pending_whole lines bits _ HARD_FAULT true (recorded_whole lines bits s vector_fault h).0, h.1))
 
 vector_whole : (lines bits : ℕ) (s : State) (events : List Event) (x e : ℕ) (answer : Result ℕ Failure) →
     HasWhole lines bits s → LeavesWhole lines bits (vector_taken s events x e answer)
-vector_whole lines bits s events x e (Ok vector) h = activated_whole lines bits s.bus.system x h
+vector_whole lines bits s events x e (Ok vector) h = (activated_whole lines bits s.bus.system x h.0, h.1)
 vector_whole lines bits s events x e (Err (failure.Refused access cause)) h = refused_whole lines bits s events x h
 vector_whole lines bits s events x e (Err (failure.Usage fault)) h =
     failed_whole lines bits s events (failure.Usage fault) h
@@ -123,7 +123,7 @@ unstacked_whole lines bits s events e frame h =
     (λ is. either (LeavesWhole lines bits) (is_bit (popped_pc frame) 0) _ _ (λ odd. h) (λ even. h))
 
 read_whole : (lines bits : ℕ) (s : State) (events : List Event) (e : ℕ) (all : Served) (end : Option Failure) →
-    IsWhole lines bits all.bus.system → LeavesWhole lines bits (frame_read s events e all end)
+    IsWholeBus lines bits all.bus → LeavesWhole lines bits (frame_read s events e all end)
 read_whole lines bits s events e all None h =
     unstacked_whole lines bits (with_bus s all.bus) (events ++ all.events) e all.values h
 read_whole lines bits s events e all (Some why) h =
@@ -155,5 +155,5 @@ return_whole lines bits s before e h =
     either (LeavesWhole lines bits) (has_reserved_ones e) _ _
     (λ ones. returned_whole lines bits (with_system s (exception_ended s.bus.system s.registers.exception))
     (before ++ return_line s e ∷ []) e (is_allowed s e)
-    (ended_whole lines bits s.bus.system s.registers.exception h))
+    (ended_whole lines bits s.bus.system s.registers.exception h.0, h.1))
     (λ other. h)

@@ -3,6 +3,7 @@ mod Lengths
 mod Sets
 mod Ticks
 mod Systems
+mod Memories
 mod Accesses
 mod Faults
 mod Steps

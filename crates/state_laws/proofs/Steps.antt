@@ -1,6 +1,5 @@
 -- The phases of a step keep what holds of the System Control Space, from the last one up.
-use Rattle.std.proofs.Common.{◌≡◌, ℕ, ◌<◌, nat_le, false, ◌==◌, List, [], ◌++◌, Option, Some, None, Result, Ok, Err}
-use Rattle.std.proofs.Common.{arith}
+use Rattle.std.proofs.Common.{◌≡◌, ℕ, ◌<◌, nat_le, false, ◌==◌, List, [], ◌++◌, Option, Some, None, Result, Ok, Err, arith}
 use Rattle.std.proofs.lemmas.Bool.Decides.{nat_tests}
 use Rattle.reference.specs.declared.access.Request.{Request}
 use Rattle.reference.specs.declared.event.Event.{Event}
@@ -21,16 +20,13 @@ use Rattle.reference.specs.Operations.{result_of}
 use Rattle.reference.specs.ProgramCounter.{Finished, moves_on}
 use Rattle.reference.specs.Registers.{is_privileged}
 use Rattle.reference.specs.State.{State, ticked, with_bus, with_registers}
-use Rattle.reference.specs.Step.{ended, finished, served, performed_all, planned, without_meaning, executed, fetching}
-use Rattle.reference.specs.Step.{fetched_second, with_second, fetched_first, instruction, sleeps_on, phase, running}
-use Rattle.reference.specs.Step.{unless_stopped, step}
+use Rattle.reference.specs.Step.{ended, finished, served, performed_all, planned, without_meaning, executed, fetching, fetched_second, with_second, fetched_first, instruction, sleeps_on, phase, running, unless_stopped, step}
 use Rattle.reference.specs.Time.{last_tick}
 use Rattle.reference.specs.Words.{word_sum}
-use Rattle.state_laws.proofs.Accesses.{perform_whole, served_whole}
-use Rattle.state_laws.proofs.Faults.{HasWhole, LeavesWhole, failed_whole, supervisor_whole, entry_whole}
-use Rattle.state_laws.proofs.Faults.{vector_step_whole, return_whole}
+use Rattle.state_laws.proofs.Accesses.{IsWholeBus, perform_whole, served_whole}
+use Rattle.state_laws.proofs.Faults.{HasWhole, LeavesWhole, failed_whole, supervisor_whole, entry_whole, vector_step_whole, return_whole}
 use Rattle.state_laws.proofs.Nvic.{either}
-use Rattle.state_laws.proofs.Systems.{IsWhole, mask_whole, state_whole, tick_whole}
+use Rattle.state_laws.proofs.Systems.{mask_whole, state_whole, tick_whole}
 
 -- ---- the end of an instruction
 
@@ -39,9 +35,9 @@ ended_whole : (lines bits : ℕ) (s : State) (events : List Event) (end : Ending
 ended_whole lines bits s events ending.Next h = h
 ended_whole lines bits s events (ending.ReadSpecial o) h = h
 ended_whole lines bits s events (ending.WriteSpecial special value) h =
-    mask_whole lines bits s.bus.system (is_privileged s.registers) special value h
+    (mask_whole lines bits s.bus.system (is_privileged s.registers) special value h.0, h.1)
 ended_whole lines bits s events (ending.ChangeState o) h =
-    state_whole lines bits s.bus.system (is_privileged s.registers) o h
+    (state_whole lines bits s.bus.system (is_privileged s.registers) o h.0, h.1)
 ended_whole lines bits s events ending.Sleep h = h
 ended_whole lines bits s events (ending.SupervisorCall number) h = supervisor_whole lines bits s events h
 ended_whole lines bits s events (ending.Breakpoint number) h = h
@@ -54,7 +50,7 @@ finished_whole lines bits s events f h = ended_whole lines bits (with_registers 
 -- ---- its accesses
 
 end_whole : (lines bits : ℕ) (s : State) (events : List Event) (i : CodedInstruction) (all : Served)
-    (end : Option Failure) → IsWhole lines bits all.bus.system → LeavesWhole lines bits (served s events i all end)
+    (end : Option Failure) → IsWholeBus lines bits all.bus → LeavesWhole lines bits (served s events i all end)
 end_whole lines bits s events i all None h =
     finished_whole lines bits (with_bus s all.bus) (events ++ all.events) (result_of i s.registers all.values) h
 end_whole lines bits s events i all (Some why) h =
@@ -139,7 +135,7 @@ running_whole : (lines bits : ℕ) (s : State) → HasWhole lines bits s → Lea
 running_whole lines bits s h =
     either (LeavesWhole lines bits) (nat_le last_tick s.bus.system.time.ticks) _ _ (λ late. h)
     (λ early. phase_whole lines bits (ticked s) s.entry _
-    (tick_whole lines bits s.bus.system (is_early s.bus.system.time.ticks early) h))
+    (tick_whole lines bits s.bus.system (is_early s.bus.system.time.ticks early) h.0, h.1))
 
 stopped_whole : (lines bits : ℕ) (s : State) (why : Option Stop) → HasWhole lines bits s →
     LeavesWhole lines bits (unless_stopped s why)

@@ -1,4 +1,4 @@
-mod Blocks
+pub mod Blocks
 mod Lines
 mod Bytes
 mod Faults

@@ -1,6 +1,5 @@
 -- A return that reaches its end, after an entry whose pushes were carried out.
-use Rattle.std.proofs.Common.{◌≡◌, ℕ, ◌≤◌, Bool, true, false, not, List, [], ◌∷◌, ◌++◌, length, Option, Some, None}
-use Rattle.std.proofs.Common.{refl, sym, ◌∙◌, ap, subst, arith}
+use Rattle.std.proofs.Common.{◌≡◌, ℕ, ◌≤◌, Bool, true, false, not, List, [], ◌∷◌, ◌++◌, length, Option, Some, None, refl, sym, ◌∙◌, ap, subst, arith}
 use Rattle.reference.specs.declared.event.Event.{Event}
 use Rattle.reference.specs.declared.exception.Escalation.{Escalation}
 use Rattle.reference.specs.declared.exception.Escalation.TheVariants.{Itself, HardFault, Lockup}
@@ -10,18 +9,15 @@ use Rattle.reference.specs.declared.failure.UsageFault.TheVariants.{InvalidRetur
 use Rattle.reference.specs.declared.fault_status.FaultEffect.{FaultEffect}
 use Rattle.reference.specs.Accesses.{Served, perform_all}
 use Rattle.reference.specs.ExceptionEntry.{pushes, entering, begin_entry}
-use Rattle.reference.specs.ExceptionReturn.{with_entry, fits_mode, unstacked, frame_read, returns_privileged, pops}
-use Rattle.reference.specs.ExceptionReturn.{pop_stack, chained, returned, exception_ended, is_allowed, return_line}
-use Rattle.reference.specs.ExceptionReturn.{exception_return}
+use Rattle.reference.specs.ExceptionReturn.{with_entry, fits_mode, unstacked, frame_read, returns_privileged, pops, pop_stack, chained, returned, exception_ended, is_allowed, return_line, exception_return}
 use Rattle.reference.specs.Faults.{escalated, faulted, failed}
-use Rattle.reference.specs.Frames.{exc_return, frame, frame_base, frame_of, has_reserved_ones, popped_pc, popped}
-use Rattle.reference.specs.Frames.{with_frame}
+use Rattle.reference.specs.Frames.{exc_return, frame, frame_base, frame_of, has_reserved_ones, popped_pc, popped, with_frame}
 use Rattle.reference.specs.Memory.{Memory}
 use Rattle.reference.specs.Registers.{Registers, is_privileged, sp}
 use Rattle.reference.specs.State.{State, Stepped, with_bus, with_system}
 use Rattle.reference.specs.Words.{is_bit}
-use Rattle.step_laws.specs.FrameLaw.{AreRegisters, AreBack, AreApart, KeepsFrame, IsFree, IsStacked, HasFrameOf}
-use Rattle.step_laws.specs.FrameLaw.{ReturnGivesBack}
+use Rattle.reference.specs.Invariant.{AreApart}
+use Rattle.step_laws.specs.FrameLaw.{AreRegisters, AreBack, KeepsFrame, IsFree, IsStacked, HasFrameOf, ReturnGivesBack}
 use Rattle.step_laws.proofs.Bytes.{either}
 use Rattle.step_laws.proofs.Frames.{gives_back, pushed_sp}
 use Rattle.step_laws.proofs.Stacks.{HoldsWords, AreWords, words_pushed, words_popped, frame_stays}

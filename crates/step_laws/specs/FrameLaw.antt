@@ -1,11 +1,11 @@
 -- What a return gives back of the registers that an entry pushed (ARM DDI 0403, PushStack() and PopStack()).
-use Rattle.std.specs.Prelude.{◌≡◌, ℕ, ◌+◌, ◌%◌, ◌^◌, ◌<◌, ◌≤◌, List, slice_index, length, None}
+use Rattle.std.specs.Prelude.{◌≡◌, ℕ, ◌%◌, ◌^◌, ◌<◌, List, slice_index, length, None}
 use Rattle.reference.specs.declared.event.Event.{Event}
 use Rattle.reference.specs.Accesses.{perform_all}
 use Rattle.reference.specs.ExceptionEntry.{pushes, begin_entry}
 use Rattle.reference.specs.ExceptionReturn.{exception_return}
 use Rattle.reference.specs.Frames.{exc_return, frame, frame_of, with_frame, popped}
-use Rattle.reference.specs.Map.{ram_base}
+use Rattle.reference.specs.Invariant.{AreApart}
 use Rattle.reference.specs.Memory.{Memory, byte_at}
 use Rattle.reference.specs.Registers.{Registers, is_handler, uses_psp, sp}
 use Rattle.reference.specs.State.{State}
@@ -50,10 +50,6 @@ FrameGivesBack r u =
     AreBack r (popped u (exc_return r) (frame r))
 
 -- ---- an entry, and a return
-
--- flash ends where RAM begins, or below
-abbrev pub AreApart : Memory → Type 0
-AreApart m = m.flash_base + length m.flash ≤ ram_base
 
 -- the 32 bytes of a frame are as they were
 abbrev pub KeepsFrame : Memory → Memory → ℕ → Type 0
