@@ -204,6 +204,18 @@ fn tell_file<E: Write>(path: &str, fault: &FileFault, err: &mut E) -> u8
     }
 }
 
+/// Writes why the words can't be read, and returns the status.
+pub fn refuse_words<E: Write>(error: &io::Error, err: &mut E) -> u8
+    ensures { result ≡ 5 }
+{
+    if matches!(error.kind(), io::ErrorKind::InvalidData) {
+        let status = tell(Fault::Io, err);
+        let _ = writeln!(err, "  a word isn't a text in UTF-8");
+        return status;
+    }
+    tell_io("the words", error, err)
+}
+
 /// Writes what the system says of a file or a stream, and returns the status.
 fn tell_io<E: Write>(path: &str, error: &io::Error, err: &mut E) -> u8
     ensures { result ≡ 5 }

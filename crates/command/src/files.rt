@@ -2,7 +2,6 @@
 
 ghost use Rattle.std.specs.Prelude.{◌≤◌, IfOk, vec_len};
 
-use crate::fault::Fault;
 use std::io::Read;
 use std::rt::{Env, Files};
 use std::{env, fs, io};
@@ -11,15 +10,10 @@ use std::{env, fs, io};
 const LIMIT: u64 = 0x100_0000;
 
 /// Returns all words, the program's name among them.
-pub fn words<R: Env + AllocGlobal>(rt: &R) -> Result<Vec<String>, Fault> {
+pub fn words<R: Env + AllocGlobal>(rt: &R) -> io::Result<Vec<String>> {
     let mut words = Vec::new(rt.alloc());
-    let Ok(given) = env::args(rt) else {
-        return Err(Fault::Io);
-    };
-    for word in given {
-        if words.push(word).is_err() {
-            return Err(Fault::Io);
-        }
+    for word in env::args(rt)? {
+        words.push(word)?;
     }
     Ok(words)
 }

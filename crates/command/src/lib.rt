@@ -12,7 +12,7 @@ mod noting;
 mod request;
 
 pub use command_line::WordsFault;
-pub use commands::{answer, program};
+pub use commands::{answer, program, refuse_words};
 pub use debugging::debug;
 pub use engine::go;
 pub use explanations::explain;

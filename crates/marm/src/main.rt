@@ -2,7 +2,7 @@
 //! commands on standard input.
 #![tactic(auto)]
 
-use command::{program, tell, words};
+use command::{program, refuse_words, words};
 use std::io;
 use std::process::ExitCode;
 
@@ -10,7 +10,7 @@ fn main(rt: HostRuntime) -> ExitCode {
     let mut err = rt.stderr();
     let status = match words(&rt) {
         Ok(words) => program(&rt, words.as_slice(), rt.stdin(), io::writer(&rt), &mut err),
-        Err(fault) => tell(fault, &mut err),
+        Err(error) => refuse_words(&error, &mut err),
     };
     ExitCode::from(status)
 }

@@ -209,6 +209,27 @@ out   echo 'explain 0x20000000 u w' |
 out   marm debug --board examples/boards/small.toml examples/first.elf
 err marm: usage
 
+help as a word, of help
+words help help
+ends 2
+out Print this message or the help of the given subcommand(s)
+out
+out Usage: marm help [COMMAND]...
+out
+out Arguments:
+out   [COMMAND]...  Print help for the subcommand(s)
+err marm: usage
+
+help as a word, of a word that does not exist
+words help frob
+ends 2
+err marm: usage
+err error: unrecognized subcommand 'frob'
+err
+err Usage: marm <COMMAND>
+err
+err For more information, try '--help'.
+
 an option that does not exist
 words run --frob --board board.toml --steps 10 image.elf
 ends 2

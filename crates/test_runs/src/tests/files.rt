@@ -5,7 +5,7 @@ use super::elf_files::ElfFile;
 use board::BoardFault;
 use command::{
     Fault, FileFault, InputFile, Task, WordsFault, answer, explain, program, read_file, read_words,
-    tell,
+    refuse_words, tell,
 };
 use machine::StartFault;
 use std::alloc::Global;
@@ -606,6 +606,20 @@ fn words_without_memory_are_io(rt: HostRuntime) {
     assert!(rt; status == 5 && out.text.is_empty());
     let line = b"marm: io\n  no memory was found for the words\n";
     assert!(rt; err.text.as_slice() == line.as_slice());
+}
+
+/// Whether words that can't be read for this reason end in this line.
+fn are_refused(kind: io::ErrorKind, line: &[u8]) -> bool {
+    let mut err = Cut::whole();
+    refuse_words(&io::Error::from(kind), &mut err) == 5 && err.text.as_slice() == line
+}
+
+#[test]
+fn words_that_cannot_be_read_are_io(rt: HostRuntime) {
+    let text = b"marm: io\n  a word isn't a text in UTF-8\n";
+    assert!(rt; are_refused(io::ErrorKind::InvalidData, text));
+    let memory = b"marm: io\n  the words: out of memory\n";
+    assert!(rt; are_refused(io::ErrorKind::OutOfMemory, memory));
 }
 
 /// Whether the reason of a fault of the first image on the small board is this line.
