@@ -9,8 +9,9 @@ use reference::access::{Access, Answer, Kind, Request, Size};
 use reference::script::{InterruptLine, ScriptedEvent, Signal};
 use reference::stop::{LeftOut, Stop, UnpredictableCase};
 use scs::System;
+use std::alloc::Global;
 use std::test::*;
-use test_tables::{Rows, check, halfword_at, number, number_at, part, word};
+use test_tables::{Rows, byte_at, check, halfword_at, number, number_at, part, word};
 
 type PlainSystem = System<Search, PlainLevels, Counting>;
 
@@ -421,6 +422,81 @@ L word E000ED9C 00000000 p | 20000007 | and has its base";
 fn a_region_that_is_not_there(rt: HostRuntime) -> Result<(), Fail> {
     let system = reset(Vec::new(rt.alloc()));
     check(REGIONS, &mut Steps { system })
+}
+
+/// The same as `REGISTERS`, on a board with 240 lines, 8 priority bits and 16 regions.
+const FULL_SIZES: &str = "\
+E000E004 00000007 | word | 0 00000007 | ICTR
+E000E100 00000000 | word | 0 FFFFFFFF | ISER0
+E000E104 00000000 | word | 0 FFFFFFFF | ISER1
+E000E108 00000000 | word | 0 FFFFFFFF | ISER2
+E000E10C 00000000 | word | 0 FFFFFFFF | ISER3
+E000E110 00000000 | word | 0 FFFFFFFF | ISER4
+E000E114 00000000 | word | 0 FFFFFFFF | ISER5
+E000E118 00000000 | word | 0 FFFFFFFF | ISER6
+E000E11C 00000000 | word | 0 0000FFFF | ISER7 has the lines up to 239
+E000E180 FFFFFFFF | word | 0 00000000 | ICER0
+E000E184 FFFFFFFF | word | 0 00000000 | ICER1
+E000E198 FFFFFFFF | word | 0 00000000 | ICER6
+E000E19C 0000FFFF | word | 0 00000000 | ICER7
+E000E200 00000000 | word | 0 FFFFFFFF | ISPR0
+E000E204 00000000 | word | 0 FFFFFFFF | ISPR1
+E000E218 00000000 | word | 0 FFFFFFFF | ISPR6
+E000E21C 00000000 | word | 0 0000FFFF | ISPR7
+E000E280 FFFFFFFF | word | 0 00000000 | ICPR0
+E000E284 FFFFFFFF | word | 0 00000000 | ICPR1
+E000E298 FFFFFFFF | word | 0 00000000 | ICPR6
+E000E29C 0000FFFF | word | 0 00000000 | ICPR7
+E000E300 00000000 | word | 0 00000000 | IABR0
+E000E31C 00000000 | word | 0 00000000 | IABR7
+E000E320 00000000 | any | 0 00000000 | beyond IABR
+E000E400 00000000 | any | 0 FFFFFFFF | IPR0
+E000E420 00000000 | any | 0 FFFFFFFF | IPR8
+E000E4EC 00000000 | any | 0 FFFFFFFF | IPR59
+E000E4F0 00000000 | any | 0 00000000 | beyond IPR
+E000ED90 00001000 | word | 0 00001000 | MPU_TYPE
+E000ED98 00000000 | word | mpu-region 00000000 00000010 | MPU_RNR, region 16
+E000ED98 00000000 | word | 0 0000000F 0000000F | MPU_RNR, region 15
+E000ED9C 0000000F | word | 0 FFFFFFEF | MPU_RBAR of region 15
+E000EDA0 00000000 | word | 0 173FFF3F | MPU_RASR of region 15
+E000EDA4 FFFFFFEF | word | 0 20000008 20000018 | MPU_RBAR_A1 selects region 8
+E000EDA8 00000000 | word | 0 00000013 00000013 | MPU_RASR_A1 of region 8";
+
+#[test]
+fn each_register_of_the_full_sizes(rt: HostRuntime) -> Result<(), Fail> {
+    let system = System::reset(0, 240, 8, 16, Vec::new(rt.alloc()));
+    check(FULL_SIZES, &mut Registers { system })
+}
+
+/// Boards with some number of lines.
+#[derive(Drop)]
+struct Types {
+    alloc: Global,
+}
+
+impl Rows for Types {
+    fn holds(&mut self, row: &str) -> Option<bool> {
+        let lines = byte_at(part(row, 0), 0)?;
+        let mut system: PlainSystem = System::reset(0, lines, 4, 8, Vec::new(self.alloc));
+        Some(loaded(&mut system, 0xE000_E004)? == number_at(part(row, 1), 0)?)
+    }
+}
+
+/// How many lines the board has; ICTR.INTLINESNUM, the words of ISER that they need, less 1.
+const TYPES: &str = "\
+00 | 0
+01 | 0
+20 | 0
+21 | 1
+40 | 1
+41 | 2
+E0 | 6
+E1 | 7
+F0 | 7";
+
+#[test]
+fn ictr_counts_the_words_of_lines(rt: HostRuntime) -> Result<(), Fail> {
+    check(TYPES, &mut Types { alloc: rt.alloc() })
 }
 
 #[test]
