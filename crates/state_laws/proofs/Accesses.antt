@@ -4,7 +4,8 @@ use Rattle.reference.specs.declared.access.Decision.{Decision}
 use Rattle.reference.specs.declared.access.Request.{Request}
 use Rattle.reference.specs.declared.event.Event.{Event}
 use Rattle.reference.specs.declared.failure.Failure.{Failure}
-use Rattle.reference.specs.Accesses.{Answered, Served, carried_out, decided, decision, perform, value_of, followed, perform_all}
+use Rattle.reference.specs.Accesses.{Answered, Served, carried_out, decided, decision, perform, value_of, followed}
+use Rattle.reference.specs.Accesses.{perform_all}
 use Rattle.reference.specs.Invariant.{AreApart}
 use Rattle.reference.specs.Kinds.{is_probe}
 use Rattle.reference.specs.Map.{is_in_ppb}

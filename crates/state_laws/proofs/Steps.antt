@@ -1,5 +1,6 @@
 -- The phases of a step keep what holds of the System Control Space, from the last one up.
-use Rattle.std.proofs.Common.{◌≡◌, ℕ, ◌<◌, nat_le, false, ◌==◌, List, [], ◌++◌, Option, Some, None, Result, Ok, Err, arith}
+use Rattle.std.proofs.Common.{◌≡◌, ℕ, ◌<◌, nat_le, false, ◌==◌, List, [], ◌++◌, Option, Some, None, Result, Ok, Err}
+use Rattle.std.proofs.Common.{arith}
 use Rattle.std.proofs.lemmas.Bool.Decides.{nat_tests}
 use Rattle.reference.specs.declared.access.Request.{Request}
 use Rattle.reference.specs.declared.event.Event.{Event}
@@ -20,11 +21,14 @@ use Rattle.reference.specs.Operations.{result_of}
 use Rattle.reference.specs.ProgramCounter.{Finished, moves_on}
 use Rattle.reference.specs.Registers.{is_privileged}
 use Rattle.reference.specs.State.{State, ticked, with_bus, with_registers}
-use Rattle.reference.specs.Step.{ended, finished, served, performed_all, planned, without_meaning, executed, fetching, fetched_second, with_second, fetched_first, instruction, sleeps_on, phase, running, unless_stopped, step}
+use Rattle.reference.specs.Step.{ended, finished, served, performed_all, planned, without_meaning, executed, fetching}
+use Rattle.reference.specs.Step.{fetched_second, with_second, fetched_first, instruction, sleeps_on, phase, running}
+use Rattle.reference.specs.Step.{unless_stopped, step}
 use Rattle.reference.specs.Time.{last_tick}
 use Rattle.reference.specs.Words.{word_sum}
 use Rattle.state_laws.proofs.Accesses.{IsWholeBus, perform_whole, served_whole}
-use Rattle.state_laws.proofs.Faults.{HasWhole, LeavesWhole, failed_whole, supervisor_whole, entry_whole, vector_step_whole, return_whole}
+use Rattle.state_laws.proofs.Faults.{HasWhole, LeavesWhole, failed_whole, supervisor_whole, entry_whole}
+use Rattle.state_laws.proofs.Faults.{vector_step_whole, return_whole}
 use Rattle.state_laws.proofs.Nvic.{either}
 use Rattle.state_laws.proofs.Systems.{mask_whole, state_whole, tick_whole}
 

@@ -1,5 +1,6 @@
 -- A return that reaches its end, after an entry whose pushes were carried out.
-use Rattle.std.proofs.Common.{◌≡◌, ℕ, ◌≤◌, Bool, true, false, not, List, [], ◌∷◌, ◌++◌, length, Option, Some, None, refl, sym, ◌∙◌, ap, subst, arith}
+use Rattle.std.proofs.Common.{◌≡◌, ℕ, ◌≤◌, Bool, true, false, not, List, [], ◌∷◌, ◌++◌, length, Option, Some, None}
+use Rattle.std.proofs.Common.{refl, sym, ◌∙◌, ap, subst, arith}
 use Rattle.reference.specs.declared.event.Event.{Event}
 use Rattle.reference.specs.declared.exception.Escalation.{Escalation}
 use Rattle.reference.specs.declared.exception.Escalation.TheVariants.{Itself, HardFault, Lockup}
@@ -9,9 +10,12 @@ use Rattle.reference.specs.declared.failure.UsageFault.TheVariants.{InvalidRetur
 use Rattle.reference.specs.declared.fault_status.FaultEffect.{FaultEffect}
 use Rattle.reference.specs.Accesses.{Served, perform_all}
 use Rattle.reference.specs.ExceptionEntry.{pushes, entering, begin_entry}
-use Rattle.reference.specs.ExceptionReturn.{with_entry, fits_mode, unstacked, frame_read, returns_privileged, pops, pop_stack, chained, returned, exception_ended, is_allowed, return_line, exception_return}
+use Rattle.reference.specs.ExceptionReturn.{with_entry, fits_mode, unstacked, frame_read, returns_privileged, pops}
+use Rattle.reference.specs.ExceptionReturn.{pop_stack, chained, returned, exception_ended, is_allowed, return_line}
+use Rattle.reference.specs.ExceptionReturn.{exception_return}
 use Rattle.reference.specs.Faults.{escalated, faulted, failed}
-use Rattle.reference.specs.Frames.{exc_return, frame, frame_base, frame_of, has_reserved_ones, popped_pc, popped, with_frame}
+use Rattle.reference.specs.Frames.{exc_return, frame, frame_base, frame_of, has_reserved_ones, popped_pc, popped}
+use Rattle.reference.specs.Frames.{with_frame}
 use Rattle.reference.specs.Memory.{Memory}
 use Rattle.reference.specs.Registers.{Registers, is_privileged, sp}
 use Rattle.reference.specs.State.{State, Stepped, with_bus, with_system}

@@ -1,9 +1,11 @@
 -- A word that is written to RAM is read back, by its bytes.
-use Rattle.std.proofs.Common.{◌≡◌, ℕ, suc, ◌+◌, ◌-◌, ◌^◌, ◌<◌, ◌≤◌, Bool, true, false, List, ◌++◌, length, take, drop, get_or, Some, refl, sym, ◌∙◌, ap, arith}
+use Rattle.std.proofs.Common.{◌≡◌, ℕ, suc, ◌+◌, ◌-◌, ◌^◌, ◌<◌, ◌≤◌, Bool, true, false, List, ◌++◌, length, take, drop}
+use Rattle.std.proofs.Common.{get_or, Some, refl, sym, ◌∙◌, ap, arith}
 use Rattle.std.proofs.lemmas.Bool.Decides.{nat_tests}
 use Rattle.std.proofs.lemmas.List.{length-take, get_or_append_left, get_or-append_right}
 use Rattle.reference.specs.Map.{ram_base}
-use Rattle.reference.specs.Memory.{Memory, is_in_flash, is_in_ram, number_in, number_at, byte_at, bytes_of, with_bytes, overwritten}
+use Rattle.reference.specs.Memory.{Memory, is_in_flash, is_in_ram, number_in, number_at, byte_at, bytes_of, with_bytes}
+use Rattle.reference.specs.Memory.{overwritten}
 use Rattle.reference.specs.Invariant.{AreApart}
 use Rattle.step_laws.proofs.Blocks.{length-with_bytes, length-front}
 
