@@ -11,14 +11,15 @@ use Rattle.nvic.proofs.Best.{best_exactly}
 use Rattle.nvic.specs.Laws.{IsReady, ComesFirst}
 use Rattle.reference.specs.declared.exception.TheConstants.{NMI, HARD_FAULT, EXCEPTIONS}
 use Rattle.reference.specs.declared.exception.Masks.{Masks}
-use Rattle.reference.specs.Priorities.{Nvic, best, is_always_enabled, is_due, is_enabled, is_fixed, is_in, is_ready}
+use Rattle.reference.specs.Priorities.{Nvic, best, is_always_enabled, is_in_words, is_enabled, is_fixed, is_in}
+use Rattle.reference.specs.Priorities.{is_ready}
 use Rattle.reference.specs.Priorities.{priority_of}
 
 -- the levels are those of the exceptions
 pub record IsOf (n : Nvic) (levels : List (List ℕ)) (held enabled : List ℕ) : Type 0 where
   pub kept : IsKept levels held enabled n.priorities
   pub pending : n.pending ≡ flags (is_waiting levels held n.priorities)
-  pub enabled_is : n.enabled ≡ flags (is_due enabled)
+  pub enabled_is : n.enabled ≡ flags (is_in_words enabled)
 
 -- the levels that are seen as exceptions are theirs
 pub of_view : (levels : List (List ℕ)) (held enabled active priorities : List ℕ) (group : ℕ) (masks : Masks)
@@ -26,8 +27,8 @@ pub of_view : (levels : List (List ℕ)) (held enabled active priorities : List 
     → IsKept levels held enabled priorities
     → IsOf (record {
       pending = flags (is_waiting levels held priorities);
-      enabled = flags (is_due enabled);
-      active = flags (is_due active);
+      enabled = flags (is_in_words enabled);
+      active = flags (is_in_words active);
       priorities = priorities;
       group = group;
       masks = masks;
@@ -51,8 +52,8 @@ unnot false e = refl
 
 -- a ready exception that isn't fixed is in its level
 in_its_level : (n : Nvic) (levels : List (List ℕ)) (held enabled : List ℕ) (y : ℕ) → IsOf n levels held enabled
-    → IsReady n y → is_fixed y ≡ false → is_due (level levels (slice_index n.priorities y)) y ≡ true
-in_its_level n levels held enabled y of ready free = lead (is_due held y) refl waiting
+    → IsReady n y → is_fixed y ≡ false → is_in_words (level levels (slice_index n.priorities y)) y ≡ true
+in_its_level n levels held enabled y of ready free = lead (is_in_words held y) refl waiting
   where
     waiting : is_waiting levels held n.priorities y ≡ true
     waiting =
@@ -65,14 +66,15 @@ in_its_level n levels held enabled y of ready free = lead (is_due held y) refl w
 
     levelled : is_levelled enabled y ≡ true
     levelled =
-        let e : is_in n.enabled y ≡ is_due enabled y =
-        ap (λ s. is_in s y) of.enabled_is ∙ flag (is_due enabled) y ready.in_range in
-        let f : (is_always_enabled y || is_due enabled y) ≡ true = ap (λ b. is_always_enabled y || b) (sym e) ∙ on in
+        let e : is_in n.enabled y ≡ is_in_words enabled y =
+        ap (λ s. is_in s y) of.enabled_is ∙ flag (is_in_words enabled) y ready.in_range in
+        let f : (is_always_enabled y || is_in_words enabled y) ≡ true =
+        ap (λ b. is_always_enabled y || b) (sym e) ∙ on in
         rw (f, free) refl
 
-    lead : (b : Bool) → is_due held y ≡ b
-        → (is_due held y || is_due (level levels (slice_index n.priorities y)) y) ≡ true
-        → is_due (level levels (slice_index n.priorities y)) y ≡ true
+    lead : (b : Bool) → is_in_words held y ≡ b
+        → (is_in_words held y || is_in_words (level levels (slice_index n.priorities y)) y) ≡ true
+        → is_in_words (level levels (slice_index n.priorities y)) y ≡ true
     lead true e w = let f = of.kept.in_held y ready.in_range e in let g = levelled in absurd (let w : ⊥ = cc in w)
     lead false e w = rw e at w
 
@@ -101,28 +103,28 @@ unfixed n y nmi fault ready = first (y == NMI) refl
 -- an exception in a level is ready, isn't fixed and has that priority byte
 level_ready : (n : Nvic) (levels : List (List ℕ)) (held enabled : List ℕ) (p x : ℕ) → IsOf n levels held enabled
     → x < EXCEPTIONS
-    → is_due (level levels p) x ≡ true → IsReady n x × (is_fixed x ≡ false) × (slice_index n.priorities x ≡ p)
+    → is_in_words (level levels p) x ≡ true → IsReady n x × (is_fixed x ≡ false) × (slice_index n.priorities x ≡ p)
 level_ready n levels held enabled p x of small there = (record { in_range = small; ready = ready }, free, byte)
   where
     byte : slice_index n.priorities x ≡ p
     byte = (of.kept.in_level p x small there).0
 
-    levelled : ((is_always_enabled x || is_due enabled x) && not (is_fixed x)) ≡ true
+    levelled : ((is_always_enabled x || is_in_words enabled x) && not (is_fixed x)) ≡ true
     levelled = (of.kept.in_level p x small there).1
 
     free : is_fixed x ≡ false
-    free = unnot (is_fixed x) (right_is (is_always_enabled x || is_due enabled x) (not (is_fixed x)) levelled)
+    free = unnot (is_fixed x) (right_is (is_always_enabled x || is_in_words enabled x) (not (is_fixed x)) levelled)
 
     pending : is_in n.pending x ≡ true
     pending =
         ap (λ s. is_in s x) of.pending ∙ flag (is_waiting levels held n.priorities) x small
-        ∙ (let e : is_due (level levels (slice_index n.priorities x)) x ≡ true = rw byte there in
-        rw e (or-true (is_due held x)))
+        ∙ (let e : is_in_words (level levels (slice_index n.priorities x)) x ≡ true = rw byte there in
+        rw e (or-true (is_in_words held x)))
 
     on : is_enabled n x ≡ true
     on =
-        let e : is_in n.enabled x ≡ is_due enabled x =
-        ap (λ s. is_in s x) of.enabled_is ∙ flag (is_due enabled) x small in
+        let e : is_in n.enabled x ≡ is_in_words enabled x =
+        ap (λ s. is_in s x) of.enabled_is ∙ flag (is_in_words enabled) x small in
         ap (λ b. is_always_enabled x || b) e ∙ left_is _ _ levelled
 
     ready : is_ready n x ≡ true
@@ -152,7 +154,7 @@ best_found n levels held enabled p x of nmi fault before first =
         free : is_fixed y ≡ false
         free = unfixed n y nmi fault ready
 
-        there : is_due (level levels (slice_index n.priorities y)) y ≡ true
+        there : is_in_words (level levels (slice_index n.priorities y)) y ≡ true
         there = in_its_level n levels held enabled y of ready free
 
         px : priority_of n x ≡ p + 2
@@ -178,12 +180,12 @@ best_found n levels held enabled p x of nmi fault before first =
             later (inr h) = h
             later (inl h) =
                 let none = first.2 y h in
-                let t : is_due (level levels p) y ≡ true = (let s = same in rw s at there) in
+                let t : is_in_words (level levels p) y ≡ true = (let s = same in rw s at there) in
                 absurd (let w : ⊥ = cc in w)
 
 pub best_absent : (n : Nvic) (levels : List (List ℕ)) (held enabled : List ℕ) → IsOf n levels held enabled
     → is_in n.pending NMI ≡ false → is_in n.pending HARD_FAULT ≡ false
-    → ((p : ℕ) (y : ℕ) → y < EXCEPTIONS → is_due (level levels p) y ≡ false) → None ≡ best n
+    → ((p : ℕ) (y : ℕ) → y < EXCEPTIONS → is_in_words (level levels p) y ≡ false) → None ≡ best n
 best_absent n levels held enabled of nmi fault none = (best_exactly n None).0 (λ y ready.
     let free = unfixed n y nmi fault ready in
     let t = in_its_level n levels held enabled y of ready free in
@@ -194,13 +196,13 @@ best_absent n levels held enabled of nmi fault none = (best_exactly n None).0 (�
 -- a level has the exceptions that are ready, aren't fixed and have its priority byte
 pub level_exactly : (n : Nvic) (levels : List (List ℕ)) (held enabled : List ℕ) (p x : ℕ) → IsOf n levels held enabled
     → x < EXCEPTIONS
-    → is_due (level levels p) x ≡ (is_ready n x && not (is_fixed x) && (slice_index n.priorities x == p))
-level_exactly n levels held enabled p x of small = lead (is_due (level levels p) x) refl
+    → is_in_words (level levels p) x ≡ (is_ready n x && not (is_fixed x) && (slice_index n.priorities x == p))
+level_exactly n levels held enabled p x of small = lead (is_in_words (level levels p) x) refl
   where
     all : Bool
     all = is_ready n x && not (is_fixed x) && (slice_index n.priorities x == p)
 
-    lead : (b : Bool) → is_due (level levels p) x ≡ b → is_due (level levels p) x ≡ all
+    lead : (b : Bool) → is_in_words (level levels p) x ≡ b → is_in_words (level levels p) x ≡ all
     lead true e =
         let r = level_ready n levels held enabled p x of small e in
         let i = r.0.ready in
@@ -218,7 +220,7 @@ level_exactly n levels held enabled p x of small = lead (is_due (level levels p)
             (right_is (is_ready n x && not (is_fixed x)) (slice_index n.priorities x == p) t) in
             let free = unnot (is_fixed x) f in
             let there = in_its_level n levels held enabled x of (record { in_range = small; ready = i }) free in
-            let t2 : is_due (level levels p) x ≡ true = rw q at there in
+            let t2 : is_in_words (level levels p) x ≡ true = rw q at there in
             cc
 
 -- ---- the fixed ones

@@ -8,7 +8,7 @@ use Rattle.nvic.proofs.Boards.{at_each, same_each}
 use Rattle.bit_levels.proofs.Kept.{not_true}
 use Rattle.bit_levels.specs.Sets.{level, AreEmpty, AreKeptBytes, AreSpaced, IsFirstOf, IsKept}
 use Rattle.reference.specs.declared.exception.TheConstants.{EXCEPTIONS}
-use Rattle.reference.specs.Priorities.{is_due, kept}
+use Rattle.reference.specs.Priorities.{is_in_words, kept}
 
 pub in_range : (place d : ℕ) → place < 256 / 2 ^ d → place * 2 ^ d < 256
 in_range place d h =
@@ -62,12 +62,12 @@ empty_next bits levels place spaced before here q h y k =
 
     lead : ((q < place * 2 ^ (8 - bits)) ⊎ (place * 2 ^ (8 - bits) ≤ q))
         → ((place * 2 ^ (8 - bits) < q) ⊎ (q ≤ place * 2 ^ (8 - bits)))
-        → is_due (level levels q) y ≡ false
+        → is_in_words (level levels q) y ≡ false
     lead (inl below) _ = before q below y k
     lead (inr from) (inr upto) =
         let e : q ≡ place * 2 ^ (8 - bits) = omega (arith, from, upto) in
         rw e (here y k)
-    lead (inr from) (inl above) = not_true (is_due (level levels q) y) (λ t.
+    lead (inr from) (inl above) = not_true (is_in_words (level levels q) y) (λ t.
         let whole : q / 2 ^ (8 - bits) * 2 ^ (8 - bits) ≡ q = spaced q y k t in
         let low : place ≤ q / 2 ^ (8 - bits) = le-div place q (2 ^ (8 - bits)) some from in
         let high : q / 2 ^ (8 - bits) < place + 1 = div_below q (2 ^ (8 - bits)) (place + 1) some h in

@@ -3,7 +3,7 @@ use Rattle.std.specs.Prelude.{◌≡◌, ℕ, ◌<◌, Bool, true, false, not, �
 use Rattle.std.specs.Prelude.{slice_index_or, Option, Some, None}
 use Rattle.std.specs.List.{range_with_len}
 use Rattle.reference.specs.declared.exception.TheConstants.{EXCEPTIONS}
-use Rattle.reference.specs.Priorities.{is_always_enabled, is_due, is_fixed, kept}
+use Rattle.reference.specs.Priorities.{is_always_enabled, is_in_words, is_fixed, kept}
 
 -- a set of the reference, which has a place for each number, of the exceptions with a test
 unfoldable pub flags : (ℕ → Bool) → List Bool
@@ -15,31 +15,31 @@ level levels p = slice_index_or levels p []
 
 -- whether x is pending: in the set of its priority byte, or held elsewhere
 abbrev pub is_waiting : List (List ℕ) → List ℕ → List ℕ → ℕ → Bool
-is_waiting levels held priorities x = is_due held x || is_due (level levels (slice_index priorities x)) x
+is_waiting levels held priorities x = is_in_words held x || is_in_words (level levels (slice_index priorities x)) x
 
 -- whether x is in the set of its priority byte where it's pending: it's enabled, and its priority isn't fixed
 abbrev pub is_levelled : List ℕ → ℕ → Bool
-is_levelled enabled x = (is_always_enabled x || is_due enabled x) && not (is_fixed x)
+is_levelled enabled x = (is_always_enabled x || is_in_words enabled x) && not (is_fixed x)
 
 -- what stands in a level is pending and enabled and has that priority byte, and what else is pending is held
 pub record IsKept (levels : List (List ℕ)) (held enabled priorities : List ℕ) : Type 0 where
-  pub in_level : (p x : ℕ) → x < EXCEPTIONS → is_due (level levels p) x ≡ true
+  pub in_level : (p x : ℕ) → x < EXCEPTIONS → is_in_words (level levels p) x ≡ true
       → (slice_index priorities x ≡ p) × (is_levelled enabled x ≡ true)
-  pub in_held : (x : ℕ) → x < EXCEPTIONS → is_due held x ≡ true → is_levelled enabled x ≡ false
+  pub in_held : (x : ℕ) → x < EXCEPTIONS → is_in_words held x ≡ true → is_levelled enabled x ≡ false
 
 -- the first exception of a set of bits
 abbrev pub IsFirstOf : List ℕ → Option ℕ → Type 0
-IsFirstOf set (Some x) = (x < EXCEPTIONS) × (is_due set x ≡ true) × ((y : ℕ) → y < x → is_due set y ≡ false)
-IsFirstOf set None = (y : ℕ) → y < EXCEPTIONS → is_due set y ≡ false
+IsFirstOf set (Some x) = (x < EXCEPTIONS) × (is_in_words set x ≡ true) × ((y : ℕ) → y < x → is_in_words set y ≡ false)
+IsFirstOf set None = (y : ℕ) → y < EXCEPTIONS → is_in_words set y ≡ false
 
 -- no exception is in a level before one
 abbrev pub AreEmpty : List (List ℕ) → ℕ → Type 0
-AreEmpty levels p = (q : ℕ) → q < p → (y : ℕ) → y < EXCEPTIONS → is_due (level levels q) y ≡ false
+AreEmpty levels p = (q : ℕ) → q < p → (y : ℕ) → y < EXCEPTIONS → is_in_words (level levels q) y ≡ false
 
 -- the first exception of the first level that isn't empty
 abbrev pub IsFirstLevelled : List (List ℕ) → Option ℕ → Type 0
 IsFirstLevelled levels (Some x) = (p : ℕ) × AreEmpty levels p × IsFirstOf (level levels p) (Some x)
-IsFirstLevelled levels None = (p : ℕ) (y : ℕ) → y < EXCEPTIONS → is_due (level levels p) y ≡ false
+IsFirstLevelled levels None = (p : ℕ) (y : ℕ) → y < EXCEPTIONS → is_in_words (level levels p) y ≡ false
 
 -- each priority byte has only bits that the board keeps
 abbrev pub AreKeptBytes : ℕ → List ℕ → Type 0
@@ -47,4 +47,4 @@ AreKeptBytes bits priorities = (x : ℕ) → kept bits (slice_index priorities x
 
 -- an exception is only in the set of a byte that has only bits that the board keeps
 abbrev pub AreSpaced : ℕ → List (List ℕ) → Type 0
-AreSpaced bits levels = (p : ℕ) (y : ℕ) → y < EXCEPTIONS → is_due (level levels p) y ≡ true → kept bits p ≡ p
+AreSpaced bits levels = (p : ℕ) (y : ℕ) → y < EXCEPTIONS → is_in_words (level levels p) y ≡ true → kept bits p ≡ p

@@ -3,7 +3,7 @@
 ghost use Rattle.std.specs.Prelude.{◌≡◌, ◌&&◌, ◌==◌, ◌<◌, false, not, slice_index, slice_set};
 ghost use Rattle.bit_levels.specs.Sets.{is_levelled as is_levelled_of};
 ghost use Rattle.reference.specs.declared.exception.TheConstants.{NMI, HARD_FAULT};
-ghost use Rattle.reference.specs.Priorities.{best as best_of, is_due, is_fixed, is_in, is_ready, kept as kept_of};
+ghost use Rattle.reference.specs.Priorities.{best as best_of, is_in_words, is_fixed, is_in, is_ready, kept as kept_of};
 
 use crate::sets::{Set, Sets, all_empty, empty, first_of, has, put, put_at};
 use nvic::{Levels, grouped, has_byte, is_always_enabled, is_exception, is_switched, kept};
@@ -33,14 +33,14 @@ pub struct BitLevels {
 impl Model for BitLevels {
     ghost use Rattle.std.specs.Prelude.{◌<◌, ◌≤◌};
     ghost use Rattle.bit_levels.specs.Sets.{flags, is_waiting, AreKeptBytes, IsKept};
-    ghost use Rattle.reference.specs.Priorities.{Nvic, is_due};
+    ghost use Rattle.reference.specs.Priorities.{Nvic, is_in_words};
 
     ghost Value = { Nvic };
 
     ghost view = { λ l. record {
       pending = flags (is_waiting l.levels l.held l.priorities);
-      enabled = flags (is_due l.enabled);
-      active = flags (is_due l.active);
+      enabled = flags (is_in_words l.enabled);
+      active = flags (is_in_words l.active);
       priorities = l.priorities;
       group = l.group;
       masks = l.masks;
@@ -55,7 +55,7 @@ impl BitLevels {
     /// Returns the set of the exceptions that are pending and enabled and have a priority byte, NMI
     /// and HardFault excepted.
     pub fn level(&self, priority: u8) -> &Set
-        ensures { (x : _) → x < 256 → is_due result.now x ≡ (is_ready self.now x && not (is_fixed x) && (slice_index self.now.priorities x == priority)) }
+        ensures { (x : _) → x < 256 → is_in_words result.now x ≡ (is_ready self.now x && not (is_fixed x) && (slice_index self.now.priorities x == priority)) }
     {
         &self.levels[priority as usize]
     }

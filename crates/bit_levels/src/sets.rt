@@ -2,7 +2,7 @@
 
 ghost use Rattle.std.specs.Prelude.{◌≡◌, ◌==◌, ◌&&◌, ◌<◌, ◌≤◌, ◌*◌, ◌/◌, ◌^◌, ℕ, false, if◌then◌else◌};
 ghost use Rattle.bit_levels.specs.Sets.{AreSpaced, IsFirstLevelled, IsFirstOf, level};
-ghost use Rattle.reference.specs.Priorities.{is_due};
+ghost use Rattle.reference.specs.Priorities.{is_in_words};
 
 use reference::exception::EXCEPTIONS;
 
@@ -18,7 +18,7 @@ pub type Sets = [Set; EXCEPTIONS as usize];
 /// Whether a set has an exception.
 #[inline]
 pub fn has(set: &Set, number: u8) -> bool
-    ensures { result ≡ is_due set.now number }
+    ensures { result ≡ is_in_words set.now number }
 {
     set[(number / 32) as usize] >> (number % 32) & 1 == 1
 }
@@ -26,7 +26,7 @@ pub fn has(set: &Set, number: u8) -> bool
 /// Puts an exception into a set, or takes it out.
 #[tactic(auto, using(crate::proofs::Bits::put_in, crate::proofs::Bits::taken_out))]
 pub fn put(set: &mut Set, number: u8, on: bool)
-    ensures { (y : ℕ) → y < 256 → is_due set.new y ≡ (if y == number then on else is_due set.old y) }
+    ensures { (y : ℕ) → y < 256 → is_in_words set.new y ≡ (if y == number then on else is_in_words set.old y) }
 {
     let word = (number / 32) as usize;
     let bit = 1 << (number % 32);
@@ -40,7 +40,7 @@ pub fn put(set: &mut Set, number: u8, on: bool)
 /// Puts an exception into the set of a priority byte, or takes it out.
 #[tactic(auto, using(crate::proofs::Bits::put_level))]
 pub fn put_at(sets: &mut Sets, priority: u8, number: u8, on: bool)
-    ensures { (p : ℕ) (y : ℕ) → y < 256 → is_due (level sets.new p) y ≡ (if (p == priority) && (y == number) then on else is_due (level sets.old p) y) }
+    ensures { (p : ℕ) (y : ℕ) → y < 256 → is_in_words (level sets.new p) y ≡ (if (p == priority) && (y == number) then on else is_in_words (level sets.old p) y) }
 {
     let mut set = sets[priority as usize];
     put(&mut set, number, on);
@@ -90,14 +90,14 @@ fn byte_at(place: u16, dropped: u8) -> usize
 /// Returns an empty set.
 #[tactic(auto, using(crate::proofs::Bits::none_due))]
 pub fn empty() -> Set
-    ensures { (x : ℕ) → is_due result x ≡ false }
+    ensures { (x : ℕ) → is_in_words result x ≡ false }
 {
     [0; 8]
 }
 
 /// Returns an empty set for each priority byte.
 pub fn all_empty() -> Sets
-    ensures { (p : ℕ) (x : ℕ) → is_due (level result p) x ≡ false }
+    ensures { (p : ℕ) (x : ℕ) → is_in_words (level result p) x ≡ false }
 {
     let set = empty();
     [set; EXCEPTIONS as usize]

@@ -12,7 +12,8 @@ use Rattle.reference.specs.declared.fault.BoardFault.TheVariants.{EventsOutOfOrd
 use Rattle.reference.specs.declared.script.ScriptedEvent.{ScriptedEvent}
 use Rattle.reference.specs.declared.script.Signal.{Signal}
 use Rattle.reference.specs.declared.script.Signal.TheVariants.{Rise, Fall, Pulse, Nmi}
-use Rattle.reference.specs.Boards.{Numbers, Described, is_whole, is_size, is_flash, is_priority_bits, is_line_count}
+use Rattle.reference.specs.Boards.{Numbers, Described, is_whole_blocks, is_size, is_flash, is_priority_bits}
+use Rattle.reference.specs.Boards.{is_line_count}
 use Rattle.reference.specs.Boards.{is_region_count, default_regions, is_tick, first_tick, most_events}
 
 -- one step, and then another with what it gave
@@ -26,7 +27,7 @@ abbrev pub of_kind : {A : Type 0} → Option A → Result A BoardFault
 of_kind None = Err WrongKind
 of_kind (Some value) = Ok value
 
--- an integer that isn't negative: a whole number (`is_whole` in `Boards` is about whole blocks)
+-- an integer that isn't negative: a whole number (`is_whole_blocks` in `Boards` is about whole blocks)
 abbrev pub whole : Option ℤ → Result ℕ BoardFault
 whole None = Err WrongKind
 whole (Some (pos n)) = Ok n
@@ -74,7 +75,7 @@ nmi_keys = codes "at" ∷ codes "nmi" ∷ []
 -- the six numbers, one after another
 unfoldable pub numbers_in : Members → Result Numbers BoardFault
 numbers_in document = do
-  flash_base ← where_ok is_whole (number (get_member (codes "flash_base") document))
+  flash_base ← where_ok is_whole_blocks (number (get_member (codes "flash_base") document))
   flash_size ← where_ok (is_flash flash_base) (number (get_member (codes "flash_size") document))
   ram_size ← where_ok is_size (number (get_member (codes "ram_size") document))
   priority_bits ← where_ok is_priority_bits (number (get_member (codes "priority_bits") document))

@@ -4,7 +4,7 @@ ghost use Rattle.std.specs.Prelude.{◌≡◌, ◌<◌, ◌≤◌, ◌+◌, ◌%
 ghost use Rattle.std.specs.Bool.{OnTrue};
 ghost use Rattle.reference.specs.Map.{ram_base};
 ghost use Rattle.toml.specs.View.{table_view};
-ghost use Rattle.reference.specs.Boards.{is_whole, is_size, is_flash, is_priority_bits, is_line_count, is_region_count, numbers_of};
+ghost use Rattle.reference.specs.Boards.{is_whole_blocks, is_size, is_flash, is_priority_bits, is_line_count, is_region_count, numbers_of};
 ghost use Rattle.reference.specs.Regions.{region_number};
 ghost use Rattle.board.specs.Seen.{Gives};
 ghost use Rattle.board.specs.Texts.{numbers_in, where_ok};
@@ -31,7 +31,7 @@ pub fn layout_of(document: &Table) -> Result<Layout, BoardFault>
     ensures { Gives numbers_of result (numbers_in (table_view document.now)) }
 {
     let flash_base = number(find(document, "flash_base"))?;
-    if !is_whole(flash_base) {
+    if !is_whole_blocks(flash_base) {
         return Err(BoardFault::OutOfRange);
     }
     let flash_size = number(find(document, "flash_size"))?;
@@ -63,8 +63,8 @@ pub fn layout_of(document: &Table) -> Result<Layout, BoardFault>
 }
 
 // Whether a number of bytes is one of whole blocks.
-fn is_whole(bytes: u64) -> bool
-    ensures test { result ≡ is_whole bytes }
+fn is_whole_blocks(bytes: u64) -> bool
+    ensures test { result ≡ is_whole_blocks bytes }
     ensures whole { OnTrue result (bytes % 1024 ≡ 0) }
 {
     bytes % BLOCK == 0
@@ -77,7 +77,7 @@ fn is_size(bytes: u64) -> bool
     ensures least { OnTrue result (1024 ≤ bytes) }
     ensures most { OnTrue result (bytes ≤ 0x10_0000) }
 {
-    is_whole(bytes) && BLOCK <= bytes && bytes <= MOST_BYTES
+    is_whole_blocks(bytes) && BLOCK <= bytes && bytes <= MOST_BYTES
 }
 
 // Whether flash can have this many bytes at a base.

@@ -5,7 +5,7 @@ use Rattle.std.proofs.Common.{arith, ap, w32}
 use Rattle.std.proofs.lemmas.Bool.{eq-eqb}
 use Rattle.std.proofs.lemmas.Grind.{common_steps}
 use Rattle.std.proofs.lemmas.Nat.Bits.{bit_at_set_same, bit_at_set_other}
-use Rattle.reference.specs.Priorities.{is_due}
+use Rattle.reference.specs.Priorities.{is_in_words}
 use Rattle.reference.specs.Words.{is_bit}
 
 -- a word with bit k set
@@ -19,5 +19,6 @@ bit_kept : (v k i : ℕ) → k < 32 → i ≢ k → is_bit (with_bit v k) i ≡ 
 bit_kept v k i h d = ap (λ b. b == 1) (bit_at_set_other w32 v k h i d)
 
 pub put_in : (words : List ℕ) (x n : ℕ) → x < 256 → n < 256 → length words ≡ 8 →
-    is_due (slice_set words (x / 32) (with_bit (slice_index words (x / 32)) (x % 32))) n ≡ ((n == x) || is_due words n)
+    is_in_words (slice_set words (x / 32) (with_bit (slice_index words (x / 32)) (x % 32))) n
+    ≡ ((n == x) || is_in_words words n)
 put_in words x n lx ln l = grind (arith, common_steps, bit_set, bit_kept)

@@ -2,7 +2,7 @@
 
 ghost use Rattle.std.specs.Prelude.{◌≡◌, ◌==◌, ◌||◌, ◌<◌, ℕ};
 ghost use Rattle.std.specs.List.{list_any};
-ghost use Rattle.reference.specs.Priorities.{is_due};
+ghost use Rattle.reference.specs.Priorities.{is_in_words};
 ghost use Rattle.reference.specs.Time.{pends, line_exception, timer_pends};
 
 use crate::timer::SysTick;
@@ -19,7 +19,7 @@ pub const NOTHING: Due = [0; 8];
 #[inline]
 #[tactic(auto, using(crate::proofs::Words::put_in))]
 fn put(due: &mut Due, number: u8)
-    ensures { (n : ℕ) → n < 256 → is_due due.new n ≡ ((n == number) || is_due due.old n) }
+    ensures { (n : ℕ) → n < 256 → is_in_words due.new n ≡ ((n == number) || is_in_words due.old n) }
 {
     let word = (number / 32) as usize;
     due[word] |= 1 << (number % 32);
@@ -28,7 +28,7 @@ fn put(due: &mut Due, number: u8)
 /// Puts the exception that a signal pends into a set, if there is one.
 #[inline]
 fn put_signal(due: &mut Due, signal: Signal)
-    ensures { (n : ℕ) → n < 256 → is_due due.new n ≡ (pends signal n || is_due due.old n) }
+    ensures { (n : ℕ) → n < 256 → is_in_words due.new n ≡ (pends signal n || is_in_words due.old n) }
 {
     match signal {
         Signal::Rise(line) | Signal::Pulse(line) => put(due, exception_of(line)),
@@ -45,7 +45,7 @@ fn exception_of(line: InterruptLine) -> u8
 
 /// Puts the exceptions that events pend into a set.
 pub fn put_events(due: &mut Due, events: &[ScriptedEvent])
-    ensures { (n : ℕ) → n < 256 → is_due due.new n ≡ (list_any (λ e. pends e.what n) events.now || is_due due.old n) }
+    ensures { (n : ℕ) → n < 256 → is_in_words due.new n ≡ (list_any (λ e. pends e.what n) events.now || is_in_words due.old n) }
 {
     for event in events {
         put_signal(due, event.what);
@@ -55,7 +55,7 @@ pub fn put_events(due: &mut Due, events: &[ScriptedEvent])
 /// Puts SysTick's exception into a set, where its next count pends it.
 #[inline]
 pub fn put_timer(due: &mut Due, timer: &SysTick)
-    ensures { (n : ℕ) → n < 256 → is_due due.new n ≡ (timer_pends timer.now n || is_due due.old n) }
+    ensures { (n : ℕ) → n < 256 → is_in_words due.new n ≡ (timer_pends timer.now n || is_in_words due.old n) }
 {
     if timer.will_pend() {
         put(due, SYS_TICK as u8);

@@ -8,14 +8,14 @@ use Rattle.reference.specs.declared.access.Rule.TheVariants.{NeverExecute, Vecto
 use Rattle.reference.specs.declared.access.Rule.TheVariants.{NegativePriority, Region, Background, NoRegion}
 use Rattle.reference.specs.Kinds.{is_vector}
 use Rattle.reference.specs.Regions.{Mpu, owner, is_on, IsOwner}
-use Rattle.reference.specs.Rules.{default_map, Asked, Fits, IsFirstFit, place, granted_to, before_regions, by_owner}
+use Rattle.reference.specs.Rules.{default_map, Asked, Fits, IsFirstFit, rank, granted_to, before_regions, by_owner}
 use Rattle.reference.specs.Rules.{first_of_two, decision_of, is_never_executed, is_ppb_data, is_off_below_zero}
 use Rattle.reference.specs.Rules.{is_background}
 use Rattle.mpu.proofs.Belonging.{only_owner, owner_is}
 
 -- ---- rules by their places
 
--- the rule of a place that only one rule has
+-- the rule of a rank that only one rule has
 rule_at : ℕ → Rule
 rule_at n =
     if n == 0 then NeverExecute
@@ -26,21 +26,21 @@ rule_at n =
     else if n == 6 then Background
     else NoRegion
 
-rule_of_place : (r : Rule) → (place r ≡ 5 → ⊥) → rule_at (place r) ≡ r
+rule_of_rank : (r : Rule) → (rank r ≡ 5 → ⊥) → rule_at (rank r) ≡ r
 unfolding rule_at
-rule_of_place NeverExecute _ = refl
-rule_of_place VectorRead _ = refl
-rule_of_place PrivatePeripheralBus _ = refl
-rule_of_place MpuOff _ = refl
-rule_of_place NegativePriority _ = refl
-rule_of_place (Region k) h = absurd (h refl)
-rule_of_place Background _ = refl
-rule_of_place NoRegion _ = refl
+rule_of_rank NeverExecute _ = refl
+rule_of_rank VectorRead _ = refl
+rule_of_rank PrivatePeripheralBus _ = refl
+rule_of_rank MpuOff _ = refl
+rule_of_rank NegativePriority _ = refl
+rule_of_rank (Region k) h = absurd (h refl)
+rule_of_rank Background _ = refl
+rule_of_rank NoRegion _ = refl
 
-same_rule : (r s : Rule) → place r ≡ place s → (place s ≡ 5 → ⊥) → r ≡ s
-same_rule r s e h = sym (rule_of_place r (λ f. h (sym e ∙ f))) ∙ ap rule_at e ∙ rule_of_place s h
+same_rule : (r s : Rule) → rank r ≡ rank s → (rank s ≡ 5 → ⊥) → r ≡ s
+same_rule r s e h = sym (rule_of_rank r (λ f. h (sym e ∙ f))) ∙ ap rule_at e ∙ rule_of_rank s h
 
-number_of : (r : Rule) → place r ≡ 5 → (k : ℕ) × (r ≡ Region k)
+number_of : (r : Rule) → rank r ≡ 5 → (k : ℕ) × (r ≡ Region k)
 number_of NeverExecute h = absurd (let wrong : ⊥ = omega arith in wrong)
 number_of VectorRead h = absurd (let wrong : ⊥ = omega arith in wrong)
 number_of PrivatePeripheralBus h = absurd (let wrong : ⊥ = omega arith in wrong)
@@ -52,28 +52,28 @@ number_of NoRegion h = absurd (let wrong : ⊥ = omega arith in wrong)
 
 -- ---- the cases that don't fit
 
--- none of the cases above a place fits
+-- none of the cases above a rank fits
 abbrev Missed : Mpu → Asked → ℕ → Type 0
-Missed m q n = (r : Rule) → place r < n → Fits m q r → ⊥
+Missed m q n = (r : Rule) → rank r < n → Fits m q r → ⊥
 
 nothing_above : (m : Mpu) (q : Asked) → Missed m q 0
 nothing_above m q r above f = omega arith
 
-and_rule : (m : Mpu) (q : Asked) (s : Rule) → (place s ≡ 5 → ⊥) → Missed m q (place s) → (Fits m q s → ⊥)
-    → Missed m q (place s + 1)
-and_rule m q s h before here r above f = lead (cases_lt (place r) (place s))
+and_rule : (m : Mpu) (q : Asked) (s : Rule) → (rank s ≡ 5 → ⊥) → Missed m q (rank s) → (Fits m q s → ⊥)
+    → Missed m q (rank s + 1)
+and_rule m q s h before here r above f = lead (cases_lt (rank r) (rank s))
   where
-    lead : ((place r < place s) ⊎ (place s ≤ place r)) → ⊥
+    lead : ((rank r < rank s) ⊎ (rank s ≤ rank r)) → ⊥
     lead (inl under) = before r under f
-    lead (inr over) = let e : place r ≡ place s = omega arith in here (subst (Fits m q) (same_rule r s e h) f)
+    lead (inr over) = let e : rank r ≡ rank s = omega arith in here (subst (Fits m q) (same_rule r s e h) f)
 
 and_regions : (m : Mpu) (q : Asked) → Missed m q 5 → ((k : ℕ) → IsOwner m q.address (Some k) → ⊥) → Missed m q 6
-and_regions m q before here r above f = lead (cases_lt (place r) 5)
+and_regions m q before here r above f = lead (cases_lt (rank r) 5)
   where
-    lead : ((place r < 5) ⊎ (5 ≤ place r)) → ⊥
+    lead : ((rank r < 5) ⊎ (5 ≤ rank r)) → ⊥
     lead (inl under) = before r under f
     lead (inr over) =
-        let e : place r ≡ 5 = omega arith in
+        let e : rank r ≡ 5 = omega arith in
         let n = number_of r e in
         here n.0 (subst (Fits m q) n.1 f)
 
@@ -146,10 +146,10 @@ decision_is m q = fit m q _ _ _ _ _ (owner m q.address) refl refl refl refl refl
 
 -- ---- two such decisions are one
 
-same_case : (m : Mpu) (q : Asked) (r s : Rule) → place r ≡ place s → Fits m q r → Fits m q s → r ≡ s
-same_case m q r s e f g = lead (place s == 5) refl
+same_case : (m : Mpu) (q : Asked) (r s : Rule) → rank r ≡ rank s → Fits m q r → Fits m q s → r ≡ s
+same_case m q r s e f g = lead (rank s == 5) refl
   where
-    regions : place r ≡ 5 → place s ≡ 5 → r ≡ s
+    regions : rank r ≡ 5 → rank s ≡ 5 → r ≡ s
     regions at_r at_s =
         let j = number_of r at_r in
         let k = number_of s at_s in
@@ -157,9 +157,9 @@ same_case m q r s e f g = lead (place s == 5) refl
         let h : j.0 ≡ k.0 = cc in
         j.1 ∙ ap Region h ∙ sym k.1
 
-    lead : (b : Bool) → (place s == 5) ≡ b → r ≡ s
-    lead true t = let at_s : place s ≡ 5 = eqb-true (place s) 5 t in regions (e ∙ at_s) at_s
-    lead false t = same_rule r s e (λ h. unlike (place s == 5) t (eq-eqb (place s) 5 h))
+    lead : (b : Bool) → (rank s == 5) ≡ b → r ≡ s
+    lead true t = let at_s : rank s ≡ 5 = eqb-true (rank s) 5 t in regions (e ∙ at_s) at_s
+    lead false t = same_rule r s e (λ h. unlike (rank s == 5) t (eq-eqb (rank s) 5 h))
 
 same_decision : (d e : Decision) → d.rule ≡ e.rule → d.granted ≡ e.granted → d ≡ e
 same_decision d e p g =
@@ -169,15 +169,15 @@ same_decision d e p g =
 only_decision : (m : Mpu) (q : Asked) (d e : Decision) → IsFirstFit m q d → IsFirstFit m q e → d ≡ e
 only_decision m q d e f g = same_decision d e same (f.granted ∙ ap (granted_to m q) same ∙ sym g.granted)
   where
-    places : ((place d.rule < place e.rule) ⊎ (place e.rule ≤ place d.rule))
-        → ((place e.rule < place d.rule) ⊎ (place d.rule ≤ place e.rule)) → place d.rule ≡ place e.rule
+    places : ((rank d.rule < rank e.rule) ⊎ (rank e.rule ≤ rank d.rule))
+        → ((rank e.rule < rank d.rule) ⊎ (rank d.rule ≤ rank e.rule)) → rank d.rule ≡ rank e.rule
     places (inl under) _ = absurd (g.first d.rule under f.fits)
     places (inr _) (inl over) = absurd (f.first e.rule over g.fits)
     places (inr above) (inr below) = omega arith
 
     same : d.rule ≡ e.rule
     same = same_case m q d.rule e.rule
-        (places (cases_lt (place d.rule) (place e.rule)) (cases_lt (place e.rule) (place d.rule))) f.fits g.fits
+        (places (cases_lt (rank d.rule) (rank e.rule)) (cases_lt (rank e.rule) (rank d.rule))) f.fits g.fits
 
 pub decision_exactly : (m : Mpu) (q : Asked) (d : Decision)
     → IsFirstFit m q d ↔ (d ≡ decision_of m q.address q.kind q.privileged q.below_zero)

@@ -4,7 +4,7 @@ use Rattle.std.proofs.Common.{◌∷◌, replicate, get_or, set, slice_index, sl
 use Rattle.std.proofs.lemmas.List.{length-set, length-replicate}
 use Rattle.std.proofs.lemmas.Nat.{pow_pos}
 use Rattle.std.proofs.Math.Nat.{mul-div_left, zero-div, zero-mul}
-use Rattle.reference.specs.Priorities.{Nvic, is_due, is_exception, is_switched, has_byte, kept, with_member}
+use Rattle.reference.specs.Priorities.{Nvic, is_in_words, is_exception, is_switched, has_byte, kept, with_member}
 use Rattle.reference.specs.Priorities.{with_pending, with_active, with_enabled, with_priority, with_group, with_primask}
 use Rattle.reference.specs.Priorities.{with_faultmask, with_basepri, with_due_at, with_due_below, with_due, reset_nvic}
 use Rattle.reference.specs.declared.exception.TheConstants.{EXCEPTIONS, MOST_LINES}
@@ -177,7 +177,7 @@ basepri_of_board n b h = record {
 
 due_at_of_board : (n : Nvic) (due : List ℕ) (x : ℕ) → IsOfBoard n → IsOfBoard (with_due_at n due x)
 unfolding with_due_at
-due_at_of_board n due x h = split (is_due due x)
+due_at_of_board n due x h = split (is_in_words due x)
   where
     split : (b : Bool) → IsOfBoard (if b then with_pending n x true else n)
     split true = pending_of_board n x true h

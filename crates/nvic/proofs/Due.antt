@@ -4,7 +4,8 @@ use Rattle.std.proofs.Common.{set, refl, sym, ◌∙◌, ap, arith}
 use Rattle.std.proofs.Math.Bool.{or-true, or-false}
 use Rattle.std.proofs.lemmas.List.{length-set, get_or-set_same, get_or-set_other}
 use Rattle.reference.specs.declared.exception.TheConstants.{EXCEPTIONS}
-use Rattle.reference.specs.Priorities.{Nvic, is_in, is_due, is_exception, with_pending, with_due_at, with_due_below}
+use Rattle.reference.specs.Priorities.{Nvic, is_in, is_in_words, is_exception, with_pending, with_due_at}
+use Rattle.reference.specs.Priorities.{with_due_below}
 use Rattle.reference.specs.Priorities.{with_due}
 use Rattle.nvic.proofs.Best.{or_last}
 use Rattle.nvic.specs.Laws.{AddsDue}
@@ -31,9 +32,9 @@ put_other s x y true false h = refl
 put_other s x y false exists h = refl
 
 at_pending : (n : Nvic) (due : List ℕ) (x : ℕ)
-    → (with_due_at n due x).pending ≡ put n.pending x (is_due due x) (is_exception n.lines x)
+    → (with_due_at n due x).pending ≡ put n.pending x (is_in_words due x) (is_exception n.lines x)
 unfolding with_due_at
-at_pending n due x = split (is_due due x)
+at_pending n due x = split (is_in_words due x)
   where
     split : (b : Bool) → (if b then with_pending n x true else n).pending ≡ put n.pending x b (is_exception n.lines x)
     split true = refl
@@ -41,7 +42,7 @@ at_pending n due x = split (is_due due x)
 
 at_rest : (n : Nvic) (due : List ℕ) (x : ℕ) → with_due_at n due x ≡ record n { pending = (with_due_at n due x).pending }
 unfolding with_due_at
-at_rest n due x = split (is_due due x)
+at_rest n due x = split (is_in_words due x)
   where
     split : (b : Bool) → (if b then with_pending n x true else n)
         ≡ record n { pending = (if b then with_pending n x true else n).pending }
@@ -67,7 +68,7 @@ below_length n due zero = refl
 below_length n due (suc k) =
     let m = with_due_below n due k in
     ap length (at_pending m due k)
-    ∙ put_length m.pending k (is_due due k) (is_exception m.lines k)
+    ∙ put_length m.pending k (is_in_words due k) (is_exception m.lines k)
     ∙ below_length n due k
 
 -- those from k upward are left
@@ -78,11 +79,11 @@ below_left n due (suc k) y h =
     let m = with_due_below n due k in
     let apart : y ≡ k → ⊥ = λ e. omega arith in
     ap (λ s. is_in s y) (at_pending m due k)
-    ∙ put_other m.pending k y (is_due due k) (is_exception m.lines k) apart
+    ∙ put_other m.pending k y (is_in_words due k) (is_exception m.lines k) apart
     ∙ below_left n due k y (omega arith)
 
 abbrev after : Nvic → List ℕ → ℕ → Bool
-after n due y = is_in n.pending y || (is_due due y && is_exception n.lines y)
+after n due y = is_in n.pending y || (is_in_words due y && is_exception n.lines y)
 
 -- k is looked at
 below_here : (n : Nvic) (due : List ℕ) (k : ℕ) → k < length n.pending
@@ -93,9 +94,9 @@ below_here n due k h =
     let long = below_length n due k in
     let room : k < length m.pending = omega (arith, long) in
     ap (λ s. is_in s k) (at_pending m due k)
-    ∙ put_here m.pending k (is_due due k) (is_exception m.lines k) room
-    ∙ ap (λ b. b || (is_due due k && is_exception m.lines k)) (below_left n due k k (omega arith))
-    ∙ ap (λ l. is_in n.pending k || (is_due due k && is_exception l k)) (below_lines n due k)
+    ∙ put_here m.pending k (is_in_words due k) (is_exception m.lines k) room
+    ∙ ap (λ b. b || (is_in_words due k && is_exception m.lines k)) (below_left n due k k (omega arith))
+    ∙ ap (λ l. is_in n.pending k || (is_in_words due k && is_exception l k)) (below_lines n due k)
 
 kept_below : (n : Nvic) (due : List ℕ) (k y : ℕ) → y < k
     → is_in (with_due_below n due (suc k)).pending y ≡ is_in (with_due_below n due k).pending y
@@ -103,7 +104,8 @@ unfolding with_due_below
 kept_below n due k y h =
     let m = with_due_below n due k in
     let apart : y ≡ k → ⊥ = λ e. omega arith in
-    ap (λ s. is_in s y) (at_pending m due k) ∙ put_other m.pending k y (is_due due k) (is_exception m.lines k) apart
+    ap (λ s. is_in s y) (at_pending m due k)
+    ∙ put_other m.pending k y (is_in_words due k) (is_exception m.lines k) apart
 
 -- those below k are as they should be
 below_done : (n : Nvic) (due : List ℕ) (k : ℕ) → k ≤ length n.pending

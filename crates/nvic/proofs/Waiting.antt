@@ -4,7 +4,8 @@ use Rattle.std.proofs.Common.{[], ◌∷◌, length, slice_set, slice_index_or, 
 use Rattle.std.proofs.Math.Nat.{zero-div}
 use Rattle.std.proofs.lemmas.List.Sums.{sum_by-set, sum_by-cons, count_by-le-length}
 use Rattle.reference.specs.declared.exception.TheConstants.{EXCEPTIONS}
-use Rattle.reference.specs.Priorities.{Nvic, is_in, with_ready, best_below, best, is_due, with_due_at, with_due_below}
+use Rattle.reference.specs.Priorities.{Nvic, is_in, with_ready, best_below, best, is_in_words, with_due_at}
+use Rattle.reference.specs.Priorities.{with_due_below}
 use Rattle.reference.specs.Priorities.{with_due}
 use Rattle.reference.specs.Words.{is_bit}
 use Rattle.nvic.proofs.Boards.{same_each}
@@ -48,7 +49,7 @@ none_at_first = refl
 no_bit : (w k : ℕ) → w ≡ 0 → is_bit w k ≡ false
 no_bit w k e = rw (e, zero-div (2 ^ k)) refl
 
-nothing_due : (x : ℕ) → is_due (replicate 8 0) x ≡ false
+nothing_due : (x : ℕ) → is_in_words (replicate 8 0) x ≡ false
 nothing_due x = no_bit (slice_index (replicate 8 0) (x / 32)) (x % 32) (same_each 8 0 (x / 32))
 
 nothing_below : (n : Nvic) (k : ℕ) → with_due_below n (replicate 8 0) k ≡ n

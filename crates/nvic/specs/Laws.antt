@@ -3,7 +3,7 @@
 use Rattle.std.specs.Prelude.{◌≡◌, ℕ, ◌<◌, ◌≤◌, ◌⊎◌, Bool, true, ◌&&◌, ◌||◌, List, length, slice_index, Option, Some}
 use Rattle.std.specs.Prelude.{None}
 use Rattle.reference.specs.declared.exception.TheConstants.{EXCEPTIONS, MOST_LINES}
-use Rattle.reference.specs.Priorities.{Nvic, is_exception, is_switched, kept, is_in, is_due, is_ready, priority_of}
+use Rattle.reference.specs.Priorities.{Nvic, is_exception, is_switched, kept, is_in, is_in_words, is_ready, priority_of}
 use Rattle.reference.specs.Priorities.{group_priority, execution_priority, hard_fault_priority, of_byte, grouped}
 use Rattle.reference.specs.Priorities.{lowest}
 
@@ -64,5 +64,5 @@ pub record IsOfBoard (n : Nvic) : Type 0 where
 -- beside the exceptions that were pending those of the board are that are due, and nothing else has changed
 pub record AddsDue (n : Nvic) (due : List ℕ) (m : Nvic) : Type 0 where
   pub pending : (x : ℕ) → x < EXCEPTIONS
-      → is_in m.pending x ≡ (is_in n.pending x || (is_due due x && is_exception n.lines x))
+      → is_in m.pending x ≡ (is_in n.pending x || (is_in_words due x && is_exception n.lines x))
   pub rest : m ≡ record n { pending = m.pending }

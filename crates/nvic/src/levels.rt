@@ -4,7 +4,7 @@ ghost use Rattle.std.specs.Prelude.{◌≡◌, ◌<◌, true, false, min, nat_lt
 ghost use Rattle.reference.specs.declared.exception.TheConstants.{EXCEPTIONS};
 ghost use Rattle.reference.specs.Priorities.{Nvic, is_in, is_enabled as is_enabled_of, best as best_of, is_interrupt_pending as is_interrupt_pending_of, is_other_active as is_other_active_of, least_active, group_priority as group_priority_of, is_below_zero as is_below_zero_of, execution_priority as execution_priority_of, candidate as candidate_of, candidate_unmasked as candidate_unmasked_of, boosted as boosted_of, candidate_after as candidate_after_of, escalation, with_pending, with_active, with_enabled, with_priority, with_group, with_primask, with_faultmask, with_basepri, with_due, with_due_at, reset_nvic};
 
-use crate::numbers::{is_due, is_interrupt};
+use crate::numbers::{is_in_words, is_interrupt};
 use crate::priorities::{boosted, fixed_or, grouped};
 use reference::exception::{EXCEPTIONS, Escalation, HARD_FAULT, Masks, NMI, Priority};
 
@@ -132,7 +132,7 @@ pub trait Levels: Drop {
         requires { number < 256 }
         ensures { content self.new ≡ with_due_at (content self.old) due.now number }
     {
-        if is_due(due, number) {
+        if is_in_words(due, number) {
             self.pend(number);
         }
     }

@@ -1,7 +1,7 @@
 //! Which numbers exceptions have, and what can be done with each.
 
 ghost use Rattle.std.specs.Prelude.{◌≡◌, ◌+◌, ◌<◌, ◌≤◌, true};
-ghost use Rattle.reference.specs.Priorities.{is_fixed as is_fixed_of, is_always_enabled as is_always_enabled_of, is_interrupt as is_interrupt_of, is_switched as is_switched_of, is_exception as is_exception_of, has_byte as has_byte_of, is_due as is_due_of};
+ghost use Rattle.reference.specs.Priorities.{is_fixed as is_fixed_of, is_always_enabled as is_always_enabled_of, is_interrupt as is_interrupt_of, is_switched as is_switched_of, is_exception as is_exception_of, has_byte as has_byte_of, is_in_words as is_in_words_of};
 
 use reference::exception::{
     FIRST_LINE, HARD_FAULT, MEM_MANAGE, NMI, PEND_SV, SV_CALL, SYS_TICK, USAGE_FAULT,
@@ -57,9 +57,9 @@ pub fn has_byte(lines: u8, number: u16) -> bool
 
 /// Whether a set of bits has a number: bit n mod 32 of word n / 32.
 #[inline]
-pub fn is_due(due: &[u32; 8], number: u16) -> bool
+pub fn is_in_words(due: &[u32; 8], number: u16) -> bool
     requires { number < 256 }
-    ensures { result ≡ is_due_of due.now number }
+    ensures { result ≡ is_in_words_of due.now number }
 {
     due[(number / 32) as usize] >> (number % 32) & 1 == 1
 }

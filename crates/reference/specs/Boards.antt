@@ -53,12 +53,12 @@ abbrev pub first_tick : ℕ
 first_tick = 1
 
 -- a number of bytes that is a multiple of `block`: a whole number of blocks
-abbrev pub is_whole : ℕ → Bool
-is_whole bytes = bytes % block == 0
+abbrev pub is_whole_blocks : ℕ → Bool
+is_whole_blocks bytes = bytes % block == 0
 
 -- a size of flash or RAM
 abbrev pub is_size : ℕ → Bool
-is_size bytes = (is_whole bytes && nat_le block bytes) && nat_le bytes most_bytes
+is_size bytes = (is_whole_blocks bytes && nat_le block bytes) && nat_le bytes most_bytes
 
 -- flash of a size at a base, which ends where RAM begins, or before
 abbrev pub is_flash : ℕ → ℕ → Bool

@@ -16,7 +16,7 @@ use Rattle.reference.specs.declared.stop.UnpredictableCase.TheVariants as unpred
 use Rattle.reference.specs.Accesses.{Served, perform_all}
 use Rattle.reference.specs.ExceptionEntry.{words_from}
 use Rattle.reference.specs.Faults.{failed}
-use Rattle.reference.specs.Frames.{returns_to_handler, returns_to_thread, has_reserved_ones, frame_of, popped_pc}
+use Rattle.reference.specs.Frames.{returns_to_handler, returns_to_thread, has_reserved_ones, frame_pointer, popped_pc}
 use Rattle.reference.specs.Frames.{popped_exception, popped}
 use Rattle.reference.specs.Priorities.{candidate, is_in, is_other_active, with_faultmask}
 use Rattle.reference.specs.Registers.{Registers}
@@ -54,7 +54,7 @@ returns_privileged r e = returns_to_handler e || not r.unprivileged
 
 -- the words of the frame, popped with the privilege of the code that is returned to
 unfoldable pub pops : Registers → ℕ → List Request
-pops r e = words_from Pop (returns_privileged r e) (frame_of r e) (replicate 8 0)
+pops r e = words_from Pop (returns_privileged r e) (frame_pointer r e) (replicate 8 0)
 
 -- a refused pop is a fault at the priority of this moment
 unfoldable pub pop_stack : State → List Event → ℕ → Stepped

@@ -54,8 +54,8 @@ in_handler r x e vector =
 -- ---- the way out
 
 -- the stack pointer that EXC_RETURN names
-abbrev pub frame_of : Registers → ℕ → ℕ
-frame_of r e = if returns_on_psp e then r.psp else r.msp
+abbrev pub frame_pointer : Registers → ℕ → ℕ
+frame_pointer r e = if returns_on_psp e then r.psp else r.msp
 
 -- a stack pointer above a frame, with bit 2 as it was before the push
 abbrev pub above_frame : ℕ → ℕ → ℕ
@@ -91,7 +91,7 @@ with_frame_of r e v = if returns_on_psp e then record r { psp = v } else record 
 -- the registers after a return, with nothing marked: ClearExclusiveLocal()
 unfoldable pub popped : Registers → ℕ → List ℕ → Registers
 popped r e frame =
-    record (with_frame_of r e (above_frame (frame_of r e) (popped_xpsr frame))) {
+    record (with_frame_of r e (above_frame (frame_pointer r e) (popped_xpsr frame))) {
       general = general_popped r.general frame;
       lr = slice_index frame 5;
       pc = popped_pc frame;

@@ -216,12 +216,12 @@ abbrev pub with_basepri : Nvic → ℕ → Nvic
 with_basepri n b = record n { masks = record n.masks { basepri = kept n.priority_bits b } }
 
 -- whether bit x mod 32 of word x / 32 is 1: whether the set of exceptions that eight words hold has x
-abbrev pub is_due : List ℕ → ℕ → Bool
-is_due due x = is_bit (slice_index due (x / 32)) (x % 32)
+abbrev pub is_in_words : List ℕ → ℕ → Bool
+is_in_words due x = is_bit (slice_index due (x / 32)) (x % 32)
 
 -- x becomes pending where it's due
 unfoldable pub with_due_at : Nvic → List ℕ → ℕ → Nvic
-with_due_at n due x = if is_due due x then with_pending n x true else n
+with_due_at n due x = if is_in_words due x then with_pending n x true else n
 
 -- of the exceptions below x, those that are due become pending
 unfoldable pub with_due_below : Nvic → List ℕ → ℕ → Nvic

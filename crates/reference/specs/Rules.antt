@@ -119,16 +119,16 @@ pub record Asked : Type 0 where
   pub privileged : Bool
   pub below_zero : Bool
 
--- a rule's place in the table, from the top
-abbrev pub place : Rule → ℕ
-place NeverExecute = 0
-place VectorRead = 1
-place PrivatePeripheralBus = 2
-place MpuOff = 3
-place NegativePriority = 4
-place (Region k) = 5
-place Background = 6
-place NoRegion = 7
+-- a rule's rank in the table: how many cases are above its own
+abbrev pub rank : Rule → ℕ
+rank NeverExecute = 0
+rank VectorRead = 1
+rank PrivatePeripheralBus = 2
+rank MpuOff = 3
+rank NegativePriority = 4
+rank (Region k) = 5
+rank Background = 6
+rank NoRegion = 7
 
 -- the case of a rule, as its line of the table says it, whatever the lines above say
 abbrev pub Fits : Mpu → Asked → Rule → Type 0
@@ -155,5 +155,5 @@ granted_to m q NoRegion = false
 -- a decision names the first case that fits, and grants what that case grants
 pub record IsFirstFit (m : Mpu) (q : Asked) (d : Decision) : Type 0 where
   pub fits : Fits m q d.rule
-  pub first : (r : Rule) → place r < place d.rule → Fits m q r → ⊥
+  pub first : (r : Rule) → rank r < rank d.rule → Fits m q r → ⊥
   pub granted : d.granted ≡ granted_to m q d.rule

@@ -8,7 +8,7 @@ use Rattle.reference.specs.declared.exception.TheConstants.{NMI, SYS_TICK, FIRST
 use Rattle.reference.specs.declared.script.ScriptedEvent.{ScriptedEvent}
 use Rattle.reference.specs.declared.script.Signal.{Signal}
 use Rattle.reference.specs.declared.script.Signal.TheVariants.{Rise, Fall, Pulse, Nmi}
-use Rattle.reference.specs.Priorities.{is_due}
+use Rattle.reference.specs.Priorities.{is_in_words}
 use Rattle.reference.specs.Registers.{weighed}
 use Rattle.reference.specs.Words.{is_bit}
 
@@ -141,7 +141,7 @@ start_time script = record { ticks = 0; systick = reset_systick; high = replicat
 
 -- these eight words hold exactly the exceptions for which the test holds
 abbrev pub IsSetOf : List ℕ → (ℕ → Bool) → Type 0
-IsSetOf words test = (n : ℕ) → n < 256 → is_due words n ≡ test n
+IsSetOf words test = (n : ℕ) → n < 256 → is_in_words words n ≡ test n
 
 -- When something is due
 

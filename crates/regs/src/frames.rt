@@ -2,7 +2,7 @@
 //! `ExceptionTaken()` and `PopStack()`).
 
 ghost use Rattle.std.specs.Prelude.{◌≡◌, ◌<◌, length};
-ghost use Rattle.reference.specs.Frames.{exc_return as exc_return_of, returns_to_handler as returns_to_handler_of, returns_on_psp as returns_on_psp_of, frame_base, frame as words_of, with_frame, in_handler, frame_of, above_frame as above_frame_of, general_popped, it_of as it_of_word, popped};
+ghost use Rattle.reference.specs.Frames.{exc_return as exc_return_of, returns_to_handler as returns_to_handler_of, returns_on_psp as returns_on_psp_of, frame_base, frame as words_of, with_frame, in_handler, frame_pointer, above_frame as above_frame_of, general_popped, it_of as it_of_word, popped};
 ghost use Rattle.reference.specs.Registers.{sp};
 
 use crate::{Regs, flags_of, weighed};
@@ -97,7 +97,7 @@ impl Regs {
 
     /// Returns the stack pointer that an EXC_RETURN names.
     pub fn returned_stack(&self, exc_return: u32) -> u32
-        ensures { result ≡ frame_of self.now exc_return }
+        ensures { result ≡ frame_pointer self.now exc_return }
     {
         if returns_on_psp(exc_return) {
             self.psp

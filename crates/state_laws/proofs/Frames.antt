@@ -21,7 +21,7 @@ use Rattle.reference.specs.ExceptionReturn.{with_entry, fits_mode, unstacked, fr
 use Rattle.reference.specs.ExceptionReturn.{returned, exception_ended, is_allowed, return_line, exception_return}
 use Rattle.reference.specs.Faults.{fault_of, usage_fault_of, recorded, escalated, faulted, failed, supervisor_called_by}
 use Rattle.reference.specs.Faults.{supervisor_called}
-use Rattle.reference.specs.Frames.{frame_base, in_handler, frame_of, returns_on_psp, above_frame, general_popped}
+use Rattle.reference.specs.Frames.{frame_base, in_handler, frame_pointer, returns_on_psp, above_frame, general_popped}
 use Rattle.reference.specs.Frames.{popped_pc, popped_xpsr, with_frame_of, popped, has_reserved_ones}
 use Rattle.reference.specs.Invariant.{HasRegisters}
 use Rattle.reference.specs.Priorities.{Nvic, candidate, is_fixed}
@@ -132,7 +132,7 @@ above_aligned base xpsr e =
     let up : word_sum base 0x20 % 4 ≡ 0 = omega arith in
     either (λ x. x % 4 ≡ 0) (is_bit xpsr 9) _ _ (λ f. raised (word_sum base 0x20) up) (λ f. up)
 
-frame_aligned : (r : Registers) (e : ℕ) → HasRegisters r → frame_of r e % 4 ≡ 0
+frame_aligned : (r : Registers) (e : ℕ) → HasRegisters r → frame_pointer r e % 4 ≡ 0
 frame_aligned r e h = either (λ x. x % 4 ≡ 0) (returns_on_psp e) _ _ (λ f. h.psp) (λ f. h.msp)
 
 frame_of_kept : (r : Registers) (e v : ℕ) → v % 4 ≡ 0 → HasRegisters r → HasRegisters (with_frame_of r e v)
@@ -151,8 +151,8 @@ popped_kept : (r : Registers) (e : ℕ) (frame : List ℕ) → is_bit (popped_pc
     HasRegisters (popped r e frame)
 unfolding popped
 popped_kept r e frame even h =
-    let moved = frame_of_kept r e (above_frame (frame_of r e) (popped_xpsr frame))
-    (above_aligned (frame_of r e) (popped_xpsr frame) (frame_aligned r e h)) h in
+    let moved = frame_of_kept r e (above_frame (frame_pointer r e) (popped_xpsr frame))
+    (above_aligned (frame_pointer r e) (popped_xpsr frame) (frame_aligned r e h)) h in
     record {
       all = popped_length r.general frame ∙ h.all;
       msp = moved.msp;

@@ -3,7 +3,8 @@ use Rattle.std.proofs.Common.{◌≡◌, ℕ, ◌*◌, ◌/◌, Bool, true, fals
 use Rattle.std.proofs.Common.{refl, ◌∙◌, ap, arith}
 use Rattle.std.proofs.lemmas.List.{get_or-set_same, get_or-set_other}
 use Rattle.std.proofs.Math.ListN.{set, length-set}
-use Rattle.reference.specs.Frames.{exc_return, frame, frame_base, frame_of, returns_on_psp, with_frame, with_frame_of}
+use Rattle.reference.specs.Frames.{exc_return, frame, frame_base, frame_pointer, returns_on_psp, with_frame}
+use Rattle.reference.specs.Frames.{with_frame_of}
 use Rattle.reference.specs.Frames.{above_frame, pushed_xpsr, popped_xpsr, popped}
 use Rattle.reference.specs.Registers.{Registers, is_handler, uses_psp, sp, with_sp}
 use Rattle.step_laws.specs.FrameLaw.{FrameGivesBack}
@@ -66,10 +67,10 @@ stack_given u e v true is = rw is refl
 stack_given u e v false is = rw is refl
 
 popped_sp : (u : Registers) (e : ℕ) (frame : List ℕ) (psp : Bool) → returns_on_psp e ≡ psp →
-    uses_psp (popped u e frame) ≡ psp → sp (popped u e frame) ≡ above_frame (frame_of u e) (popped_xpsr frame)
+    uses_psp (popped u e frame) ≡ psp → sp (popped u e frame) ≡ above_frame (frame_pointer u e) (popped_xpsr frame)
 unfolding popped
 popped_sp u e frame psp named used =
-    sp_is (popped u e frame) psp used ∙ stack_given u e (above_frame (frame_of u e) (popped_xpsr frame)) psp named
+    sp_is (popped u e frame) psp used ∙ stack_given u e (above_frame (frame_pointer u e) (popped_xpsr frame)) psp named
 
 -- ---- all of it
 

@@ -14,7 +14,7 @@ use Rattle.reference.specs.ExceptionReturn.{with_entry, fits_mode, unstacked, fr
 use Rattle.reference.specs.ExceptionReturn.{pop_stack, chained, returned, exception_ended, is_allowed, return_line}
 use Rattle.reference.specs.ExceptionReturn.{exception_return}
 use Rattle.reference.specs.Faults.{escalated, faulted, failed}
-use Rattle.reference.specs.Frames.{exc_return, frame, frame_base, frame_of, has_reserved_ones, popped_pc, popped}
+use Rattle.reference.specs.Frames.{exc_return, frame, frame_base, frame_pointer, has_reserved_ones, popped_pc, popped}
 use Rattle.reference.specs.Frames.{with_frame}
 use Rattle.reference.specs.Memory.{Memory}
 use Rattle.reference.specs.Registers.{Registers, is_privileged, sp}
@@ -111,12 +111,12 @@ frame_words r is =
     (is.words 0, (is.words 1, (is.words 2, (is.words 3, (is.words 12, (is.lr, (is.pc, (last, tt))))))))
 
 pops_back : (t : State) (e : ℕ) (r : Registers) → AreRegisters r → AreApart t.bus.memory →
-    HoldsWords t.bus.memory (frame_of t.registers e) (frame r) → (pops_of t e).failure ≡ None →
+    HoldsWords t.bus.memory (frame_pointer t.registers e) (frame r) → (pops_of t e).failure ≡ None →
     (pops_of t e).values ≡ frame r
 unfolding pops frame
 pops_back t e r is apart holds done =
     words_popped t.registers.exception t.bus.system.time.ticks (returns_privileged t.registers e) t.bus
-    (frame_of t.registers e) (frame r) apart holds (frame_words r is) done
+    (frame_pointer t.registers e) (frame r) apart holds (frame_words r is) done
 
 eight : (r : Registers) → length (frame r) ≤ 8
 unfolding frame

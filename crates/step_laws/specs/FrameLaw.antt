@@ -4,7 +4,7 @@ use Rattle.reference.specs.declared.event.Event.{Event}
 use Rattle.reference.specs.Accesses.{perform_all}
 use Rattle.reference.specs.ExceptionEntry.{pushes, begin_entry}
 use Rattle.reference.specs.ExceptionReturn.{exception_return}
-use Rattle.reference.specs.Frames.{exc_return, frame, frame_of, with_frame, popped}
+use Rattle.reference.specs.Frames.{exc_return, frame, frame_pointer, with_frame, popped}
 use Rattle.reference.specs.Invariant.{AreApart}
 use Rattle.reference.specs.Memory.{Memory, byte_at}
 use Rattle.reference.specs.Registers.{Registers, is_handler, uses_psp, sp}
@@ -46,7 +46,7 @@ pub record AreBack (r back : Registers) : Type 0 where
 -- stack pointer that EXC_RETURN names is as it was after the push.
 abbrev pub FrameGivesBack : Registers → Registers → Type 0
 FrameGivesBack r u =
-    AreRegisters r → length u.general ≡ 13 → frame_of u (exc_return r) ≡ sp (with_frame r) →
+    AreRegisters r → length u.general ≡ 13 → frame_pointer u (exc_return r) ≡ sp (with_frame r) →
     AreBack r (popped u (exc_return r) (frame r))
 
 -- ---- an entry, and a return
@@ -69,7 +69,7 @@ pub record IsStacked (s : State) : Type 0 where
 pub record HasFrameOf (s u : State) : Type 0 where
   pub all : length u.registers.general ≡ 13
   pub apart : AreApart u.bus.memory
-  pub stack : frame_of u.registers (exc_return s.registers) ≡ sp (begin_entry s).state.registers
+  pub stack : frame_pointer u.registers (exc_return s.registers) ≡ sp (begin_entry s).state.registers
   pub bytes : KeepsFrame (begin_entry s).state.bus.memory u.bus.memory (sp (begin_entry s).state.registers)
 
 -- A return gives back what an entry pushed, whatever else is in the state on the return: where it neither stops nor
