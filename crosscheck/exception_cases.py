@@ -217,4 +217,5 @@ def fixed_cases():
         fixed_case("ldr r1, =0x30000001", "ldr r0, [r1]"),
         fixed_case("ldr r1, =0x00000100", "str r0, [r1]"),
         fixed_case("ldr r1, =0x20001ffc", "ldm r1, {r2, r3}"),
+        fixed_case("ldr r1, =0x20000802", "strex r3, r2, [r1]"),
     ]
