@@ -1,5 +1,5 @@
--- One access, and a list of them (ARM DDI 0403, MemA[] and MemU[]; what the bus takes is the profile's). The rule is
--- asked first, then the bus.
+-- One access, and a list of them (ARM DDI 0403, MemA[]; what the bus takes is the profile's). The rule is asked first,
+-- then the bus. An unaligned access of MemU[] is a list of accesses of a byte, which `transfer` of LoadStore makes.
 use Rattle.std.specs.Prelude.{ℕ, ◌%◌, if◌then◌else◌, List, [], ◌∷◌, ◌++◌, Option, Some, None, Result, Ok, Err}
 use Rattle.reference.specs.declared.access.Answer.{Answer}
 use Rattle.reference.specs.declared.access.Answer.TheVariants as answer
@@ -29,11 +29,11 @@ pub record Answered : Type 0 where
   pub bus : Bus
   pub answer : Answer
 
--- the bus with what flash, RAM and the device window made of an access
+-- the answer of flash, RAM or the device window, and the bus with their memory after the access
 abbrev pub lifted : Bus → Reached → Answered
 lifted b r = record { bus = record b { memory = r.memory }; answer = r.answer }
 
--- the bus with what a system register made of it
+-- the answer of a system register, and the bus with the system registers after the access
 abbrev pub lifted_system : Bus → Replied → Answered
 lifted_system b r = record { bus = record b { system = r.system }; answer = r.answer }
 
@@ -87,7 +87,7 @@ abbrev pub console_line : ℕ → Request → List Event
 console_line tick q =
     if is_out q then record { tick = tick; what = ConsoleByte (q.value % 256) } ∷ [] else []
 
--- the lines of an access: none where the machine stops before it
+-- the lines of an access, given how it was performed: none where the access stops the machine
 abbrev pub told : ℕ → Request → Performed → List Event
 told tick q (performed.Done rule value) = accessed tick q rule None ∷ console_line tick q
 told tick q (performed.Denied rule cause) = accessed tick q rule (Some cause) ∷ []
@@ -109,7 +109,8 @@ pub record Served : Type 0 where
   pub values : List ℕ
   pub failure : Option Failure
 
--- the first access, and what the others leave after it: nothing is asked after a failure
+-- what a list leaves, given the events, the bus and the value or failure of its first access, and what the others leave
+-- after it; no access is made after a failure
 abbrev pub followed : List Event → Bus → Result ℕ Failure → Served → Served
 followed events after (Ok value) rest = record rest { events = events ++ rest.events; values = value ∷ rest.values }
 followed events after (Err why) rest = record { bus = after; events = events; values = []; failure = Some why }

@@ -54,7 +54,7 @@ sign_extended_by n x = if is_bit x 31 then x + (2 ^ n - 1) * 2 ^ 32 else x
 abbrev pub asr_c : ℕ → ℕ → ℕ × Bool
 asr_c x n = (sign_extended_by n x / 2 ^ n, is_bit (sign_extended_by n x) (n - 1))
 
--- the word turned right by n below 32: LSR(x, n) OR LSL(x, 32 - n), whose bits stand apart
+-- the word turned right by n below 32: LSR(x, n) OR LSL(x, 32 - n), which have no bit in common
 abbrev pub turned : ℕ → ℕ → ℕ
 turned x n = x / 2 ^ n + x * 2 ^ (32 - n) % 2 ^ 32
 

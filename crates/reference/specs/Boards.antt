@@ -1,5 +1,5 @@
 -- What a board is (profile): its numbers, each with its range, and the script of what happens on its lines. What the
--- text of a board means stands in the crate `board`, over the `toml` crate's meaning of a document.
+-- text of a board means is defined in the crate `board`, over the `toml` crate's meaning of a document.
 use Rattle.std.specs.Prelude.{ℕ, ◌+◌, ◌%◌, ◌<◌, ◌≤◌, Bool, ◌&&◌, ◌||◌, nat_le, ◌==◌, List, [], ◌∷◌}
 use Rattle.reference.specs.declared.board.Layout.{Layout}
 use Rattle.reference.specs.declared.script.ScriptedEvent.{ScriptedEvent}
@@ -48,7 +48,7 @@ most_lines = 240
 abbrev pub most_events : ℕ
 most_events = 65536
 
--- the tick of the first event
+-- the earliest tick that an event may have
 abbrev pub first_tick : ℕ
 first_tick = 1
 

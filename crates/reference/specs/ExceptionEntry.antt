@@ -1,5 +1,6 @@
 -- Exception entry in two steps: the frame is pushed, and the vector is read (ARM DDI 0403, ExceptionEntry():
--- PushStack() and ExceptionTaken(); that they are two steps, and what comes between, is the profile's).
+-- PushStack() and ExceptionTaken(); that they are two steps, and what comes between, is the profile's). In this file
+-- `e` is the value of EXC_RETURN, which the handler gets in LR, and `x` is the number of the exception that is taken.
 use Rattle.std.specs.Prelude.{ℕ, ◌*◌, Bool, true, false, if◌then◌else◌, List, [], ◌∷◌, ◌++◌, Option, Some, None, Result}
 use Rattle.std.specs.Prelude.{Ok, Err}
 use Rattle.reference.specs.declared.access.Kind.{Kind}
@@ -96,6 +97,6 @@ abbrev pub taken_if_any : State → ℕ → Option ℕ → Stepped
 taken_if_any s e None = record { state = s; events = [] }
 taken_if_any s e (Some x) = exception_taken s e x
 
--- A Vector step: the exception is chosen anew, so a late one with a better priority is taken in place of the first.
+-- A Vector step: the exception is chosen anew, so a late one of a higher priority is taken in place of the first.
 unfoldable pub take_vector : State → ℕ → Stepped
 take_vector s e = taken_if_any s e (candidate s.bus.system.nvic)

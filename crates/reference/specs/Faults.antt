@@ -81,7 +81,7 @@ with_fault_address st (Bfar address) = with_bfar st address
 abbrev pub with_status : State → Status → State
 with_status s st = with_system s (record s.bus.system { status = st })
 
--- the bits and the address of a fault stand in the status registers
+-- the bits of a fault are set in the status registers, and its address is kept there
 abbrev pub recorded : State → FaultEffect → State
 recorded s f = with_status s (with_fault_address (with_fault_bits s.bus.system.status f.cfsr f.hfsr) f.address)
 

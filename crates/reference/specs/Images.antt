@@ -9,7 +9,7 @@ use Rattle.reference.specs.declared.fault.LoadFault.TheVariants.{Truncated, NotE
 use Rattle.reference.specs.declared.fault.LoadFault.TheVariants.{NotArm, HeaderSize, SegmentOutsideFile, SegmentOverlap}
 use Rattle.reference.specs.declared.fault.LoadFault.TheVariants.{TooManySegments}
 
--- bytes that stand at an address before the first step
+-- bytes that are at an address before the first step
 pub record Segment : Type 0 where
   pub address : ℕ
   pub bytes : List ℕ
@@ -60,7 +60,7 @@ arm_machine = 40
 abbrev pub load_type : ℕ
 load_type = 1
 
--- the fields of the program header that stands at a place of the file
+-- the fields of the program header at a place of the file
 abbrev pub p_type : List ℕ → ℕ → ℕ
 p_type file at = number_in file at 4
 

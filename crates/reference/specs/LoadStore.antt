@@ -117,7 +117,7 @@ load traps form t privileged address =
 
 -- ---- values
 
--- the number that the values read make: one value, or bytes of which the lowest stands first
+-- the number that the values read make: one value, or bytes of which the lowest is first
 unfoldable pub joined : List ℕ → ℕ
 joined [] = 0
 joined (value ∷ values) = (value + 256 * joined values) % 2 ^ 32

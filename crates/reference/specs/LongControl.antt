@@ -18,8 +18,8 @@ use Rattle.reference.specs.Rows.{Letters, Row, long, placed, unless, is_bad}
 use Rattle.reference.specs.SpecialRegisters.{special_of}
 use Rattle.reference.specs.Words.{sign_extended}
 
--- the parts of a branch's offset: S, J1, J2, imm10 or imm6, and imm11. In the rows the letters J, K, j and i stand for
--- J1, J2, imm10 or imm6, and imm11
+-- the parts of a branch's offset: S, J1, J2, imm10 or imm6, and imm11. In the rows the letters J, K, j and i are J1,
+-- J2, imm10 or imm6, and imm11
 pub record BranchOffset : Type 0 where
   pub sign : ℕ
   pub j1 : ℕ

@@ -1,5 +1,5 @@
--- Where things stand in the address space (ARM DDI 0403, "The system address map"; where RAM and the device window
--- stand is this project's choice).
+-- The address space (ARM DDI 0403, "The system address map"; the addresses of RAM and of the device window are this
+-- project's choice).
 use Rattle.std.specs.Prelude.{ℕ, ◌/◌, ◌^◌, Bool, ◌||◌, ◌==◌}
 
 -- RAM begins here; flash ends here, or before
@@ -21,7 +21,7 @@ out_register = 0x4000_0000
 abbrev pub tick_register : ℕ
 tick_register = 0x4000_0004
 
--- the system address space, where no code stands, begins here
+-- the system address space, where no code can be, begins here
 abbrev pub system_base : ℕ
 system_base = 0xE000_0000
 

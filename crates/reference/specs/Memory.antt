@@ -1,5 +1,5 @@
--- Memory, a partial map from addresses to bytes: flash and RAM. Where flash stands and how large both are is the
--- board's.
+-- Memory, a partial map from addresses to bytes: flash and RAM. The board says where flash begins and how
+-- large both are.
 use Rattle.std.specs.Prelude.{ℕ, zero, suc, ◌+◌, ◌-◌, ◌*◌, ◌/◌, ◌%◌, Bool, ◌&&◌, nat_le, if◌then◌else◌, List, [], ◌∷◌}
 use Rattle.std.specs.Prelude.{◌++◌, length, take, drop, slice_index, Option, Some, None}
 use Rattle.reference.specs.Map.{ram_base}
@@ -19,7 +19,7 @@ is_in_flash m a n = is_within m.flash_base (length m.flash) a n
 abbrev pub is_in_ram : Memory → ℕ → ℕ → Bool
 is_in_ram m a n = is_within ram_base (length m.ram) a n
 
--- the number in the n bytes from a place of a list on: the lowest byte stands first
+-- the number in the n bytes from a place of a list on: the lowest byte is first
 abbrev pub number_in : List ℕ → ℕ → ℕ → ℕ
 number_in bytes at zero = 0
 number_in bytes at (suc n) = slice_index bytes at + 256 * number_in bytes (at + 1) n
@@ -43,7 +43,7 @@ abbrev pub bytes_of : ℕ → ℕ → List ℕ
 bytes_of zero v = []
 bytes_of (suc n) v = v % 256 ∷ bytes_of n (v / 256)
 
--- the block with these bytes from place `at` on: what stood before them, the bytes, and what stood behind them
+-- the block with these bytes from place `at` on: what was before them, the bytes, and what was after them
 abbrev pub with_bytes : List ℕ → ℕ → List ℕ → List ℕ
 with_bytes block at bytes = (take at block ++ bytes) ++ drop (at + length bytes) block
 

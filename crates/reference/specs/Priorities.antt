@@ -2,8 +2,9 @@
 -- (ARM DDI 0403, "Exception number definition", "Exception priorities and preemption", "Priority escalation", and the
 -- pseudocode of ExecutionPriority()).
 --
--- A priority stands here 2 higher than in the manual, so that it's a whole number: 0 for the manual's -2, 1 for its -1,
--- b + 2 for the byte b, and 258 for its 256.
+-- A priority is here the manual's number plus 2, so that it's a whole number: 0 for the manual's -2, 1 for its -1,
+-- b + 2 for the byte b, and 258 for its 256. A higher priority is a lower number, as in the manual. The best of some
+-- exceptions is the one of the highest priority; of several, the one with the lowest exception number.
 use Rattle.std.specs.Prelude.{ℕ, zero, suc, ◌+◌, ◌-◌, ◌*◌, ◌/◌, ◌%◌, ◌^◌, min, Bool, true, false, not, ◌&&◌, ◌||◌, ◌==◌}
 use Rattle.std.specs.Prelude.{nat_lt, nat_le, if◌then◌else◌, List, slice_index, slice_index_or, slice_set, replicate}
 use Rattle.std.specs.Prelude.{Option, Some, None}
@@ -81,7 +82,7 @@ lowest = 258
 abbrev pub is_negative : ℕ → Bool
 is_negative p = nat_lt p (of_byte 0)
 
--- exception x has one of the fixed priorities, or this one
+-- the fixed priority of exception x if it has one, otherwise `other`
 abbrev pub fixed_or : ℕ → ℕ → ℕ
 fixed_or x other = if x == NMI then nmi_priority else if x == HARD_FAULT then hard_fault_priority else other
 
@@ -97,11 +98,11 @@ grouped group b = b / 2 ^ (group + 1) * 2 ^ (group + 1)
 abbrev pub group_priority : Nvic → ℕ → ℕ
 group_priority n x = fixed_or x (of_byte (grouped n.group (slice_index n.priorities x)))
 
--- the less of p and the group priority of exception x, where that is active
+-- the higher priority of p and the group priority of exception x, if x is active; otherwise p
 abbrev pub lessened : Nvic → ℕ → ℕ → ℕ
 lessened n x p = if is_in n.active x then min (group_priority n x) p else p
 
--- the least group priority of the active exceptions below x
+-- the highest group priority of the active exceptions with numbers below x; 256 if none of them is active
 unfoldable pub least_active : Nvic → ℕ → ℕ
 least_active n zero = lowest
 least_active n (suc x) = lessened n x (least_active n x)
@@ -118,29 +119,29 @@ boosted group m =
 unfoldable pub execution_priority : Nvic → ℕ
 execution_priority n = min (least_active n EXCEPTIONS) (boosted n.group n.masks)
 
--- an exception that could be taken
+-- whether exception x is pending and enabled
 abbrev pub is_ready : Nvic → ℕ → Bool
 is_ready n x = is_in n.pending x && is_enabled n x
 
--- x, if there is no `before` or x is more urgent; otherwise `before`: on a tie its lower number decides
+-- x, if there is no `before` or x has a higher priority; otherwise `before`, which has the lower number
 abbrev pub better_of : Nvic → Option ℕ → ℕ → Option ℕ
 better_of n None x = Some x
 better_of n (Some before) x = if nat_lt (priority_of n x) (priority_of n before) then Some x else Some before
 
--- `before`; or x, where x is pending and enabled, and there is no `before` or x is more urgent
+-- the better one of `before` and x, if x is pending and enabled; otherwise `before`
 unfoldable pub with_ready : Nvic → ℕ → Option ℕ → Option ℕ
 with_ready n x before = if is_ready n x then better_of n before x else before
 
--- the one with the least priority of the exceptions below x that are pending and enabled, and of several the first
+-- the best of the exceptions with numbers below x that are pending and enabled
 unfoldable pub best_below : Nvic → ℕ → Option ℕ
 best_below n zero = None
 best_below n (suc x) = with_ready n x (best_below n x)
 
--- the best of all, whatever is active or masked: ICSR.VECTPENDING
+-- the best of all exceptions that are pending and enabled, whatever is active or masked: ICSR.VECTPENDING
 unfoldable pub best : Nvic → Option ℕ
 best n = best_below n EXCEPTIONS
 
--- an exception preempts where its group priority is below the execution priority
+-- an exception preempts where its group priority is higher (a lower number) than the execution priority
 abbrev pub if_preempts : Nvic → Option ℕ → Option ℕ
 if_preempts n None = None
 if_preempts n (Some x) = if nat_lt (group_priority n x) (execution_priority n) then Some x else None
@@ -149,7 +150,7 @@ if_preempts n (Some x) = if nat_lt (group_priority n x) (execution_priority n) t
 unfoldable pub candidate : Nvic → Option ℕ
 candidate n = if_preempts n (best n)
 
--- whether the execution priority is below 0
+-- whether the execution priority is below the manual's 0
 abbrev pub is_below_zero : Nvic → Bool
 is_below_zero n = is_negative (execution_priority n)
 
@@ -161,7 +162,7 @@ escalation n x =
     else if is_negative (execution_priority n) then Lockup
     else HardFault
 
--- whether a test holds of one of the exceptions below x
+-- whether a test holds of one of the numbers below x
 unfoldable pub some_below : (ℕ → Bool) → ℕ → Bool
 some_below test zero = false
 some_below test (suc x) = some_below test x || test x
@@ -223,7 +224,7 @@ is_in_words due x = is_bit (slice_index due (x / 32)) (x % 32)
 unfoldable pub with_due_at : Nvic → List ℕ → ℕ → Nvic
 with_due_at n due x = if is_in_words due x then with_pending n x true else n
 
--- of the exceptions below x, those that are due become pending
+-- of the exceptions with numbers below x, those that are due become pending
 unfoldable pub with_due_below : Nvic → List ℕ → ℕ → Nvic
 with_due_below n due zero = n
 with_due_below n due (suc x) = with_due_at (with_due_below n due x) due x
@@ -240,8 +241,7 @@ candidate_after n due primask = candidate (with_primask (with_due n due) primask
 unfoldable pub candidate_unmasked : Nvic → Option ℕ
 candidate_unmasked n = candidate (with_primask n false)
 
--- after a reset: nothing is pending, enabled or active, every priority byte is 0, the most urgent, and nothing is
--- masked
+-- after a reset: nothing is pending, enabled or active, every priority byte is 0, and nothing is masked
 abbrev pub reset_nvic : ℕ → ℕ → Nvic
 reset_nvic lines bits = record {
   pending = replicate EXCEPTIONS false;

@@ -74,11 +74,11 @@ fresh count = record { control = 0; number = 0; count = count; regions = replica
 
 -- The registers' addresses
 
--- the aliases stand 8, 16 and 24 bytes above their registers
+-- the aliases are 8, 16 and 24 bytes above their registers
 abbrev pub is_aliased : ℕ → ℕ → Bool
 is_aliased first a = (a == first) || (a == first + 8) || (a == first + 16) || (a == first + 24)
 
--- the register at an address of a word, if one of the MPU stands there
+-- the register of the MPU at an address of a word, if there is one
 abbrev pub register_at : ℕ → Option MpuRegister
 register_at a =
     if a == 0xE000_ED90 then Some register.Type
@@ -90,7 +90,7 @@ register_at a =
 
 -- Reading a register
 
--- MPU_TYPE.DREGION stands from bit 8 on; RBAR reads VALID as 0 and REGION as RNR
+-- MPU_TYPE.DREGION is from bit 8 on; RBAR reads VALID as 0 and REGION as RNR
 unfoldable pub read : Mpu → MpuRegister → ℕ
 read m register.Type = m.count * 256
 read m register.Control = m.control
@@ -186,7 +186,7 @@ pub record IsSound (m : Mpu) : Type 0 where
 abbrev pub agrees : Region → ℕ → Bool
 agrees r a = a / 2 ^ (size r.attributes + 1) == r.base / 2 ^ (size r.attributes + 1)
 
--- the eighth of the region that an address stands in
+-- the eighth of the region that an address is in
 abbrev pub subregion : Region → ℕ → ℕ
 subregion r a = a / 2 ^ (size r.attributes - 2) % 8
 

@@ -33,7 +33,7 @@ abbrev pub are_placed : Memory → List Segment → Bool
 are_placed m [] = true
 are_placed m (s ∷ segments) = is_placed m s && are_placed m segments
 
--- an entry of the vector table, which stands at the beginning of flash
+-- an entry of the vector table, which is at the beginning of flash
 abbrev pub vector : Memory → ℕ → ℕ
 vector m number = unwrap_or (number_at m (m.flash_base + 4 * number) 4) 0
 

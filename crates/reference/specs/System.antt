@@ -58,7 +58,8 @@ single_at word =
     else if word == stir_address then register.Stir
     else register.Unlisted
 
--- the register at a word of the Private Peripheral Bus
+-- the register at a word of the Private Peripheral Bus; `register.Priorities` is the four bytes of a word of IPR or of
+-- SHPR, with the number of the exception that the first byte is for
 unfoldable pub register_at : ℕ → SystemRegister
 register_at word =
     in_block register.SysTick (systick_at word)

@@ -9,7 +9,7 @@ pub enum Stop {
     Breakpoint(u8),
     /// A fault arose where no fault can be taken.
     Lockup,
-    /// The manual calls the case UNPREDICTABLE, and this project stops there by name.
+    /// The manual calls the case UNPREDICTABLE, or the value stored UNKNOWN, and this project stops there by name.
     Unpredictable(UnpredictableCase),
     /// The case is left out of this project's profile.
     OutOfProfile(LeftOut),
@@ -17,7 +17,7 @@ pub enum Stop {
     ResetRequested,
 }
 
-/// The UNPREDICTABLE cases that stop the machine.
+/// The cases that stop the machine: UNPREDICTABLE, or a stored value that is UNKNOWN.
 #[derive(Clone, Copy)]
 pub enum UnpredictableCase {
     /// A bit that should be 0 or should be 1 isn't.
@@ -28,7 +28,7 @@ pub enum UnpredictableCase {
     EmptyList,
     /// A register that the row doesn't allow there.
     Registers,
-    /// A base register is stored that isn't the lowest of the list.
+    /// A base register is stored that isn't the lowest of the list: the value stored is UNKNOWN.
     StoredBase,
     /// A modified immediate with a byte of 0.
     Immediate,
