@@ -40,8 +40,8 @@ TalksFrom (Ok s) before after out out' result =
     Talked s before after out out' result ⊎ Refuses (Start NoMemory) before after out out' result
 TalksFrom (Err refusal) before after out out' result = Refuses (Start refusal) before after out out' result
 
--- an image or a board that is refused is refused as the definition refuses it, the image first; memory for the board may
--- be wanting in place of what comes behind the image
+-- an image or a board that is refused is refused as the definition refuses it, the image first; out of memory for
+-- the board may take the place of every later refusal
 abbrev pub Debugs : Result (List Segment) LoadFault → Result Described BoardFault → Source → Source → Sink → Sink → Result (Unit {0}) Fault → Type 0
 Debugs (Ok image) (Ok board) before after out out' result =
     TalksFrom (start board image) before after out out' result ⊎ Refuses (Board OutOfMemory) before after out out' result

@@ -60,8 +60,8 @@ abbrev pub Starts : ℕ → Result State StartFault → Gathered → Gathered �
 Starts steps (Ok s) old new result = Runs steps s old new result ⊎ Refuses (Start NoMemory) old new result
 Starts steps (Err refusal) old new result = Refuses (Start refusal) old new result
 
--- an image or a board that is refused is refused as the definition refuses it, the image first; memory for the board may
--- be wanting in place of what comes behind the image
+-- an image or a board that is refused is refused as the definition refuses it, the image first; out of memory for
+-- the board may take the place of every later refusal
 abbrev pub Executes : Result (List Segment) LoadFault → Result Described BoardFault → ℕ → Gathered → Gathered → Result Stop Fault → Type 0
 Executes (Ok image) (Ok board) steps old new result =
     Starts steps (start board image) old new result ⊎ Refuses (Board OutOfMemory) old new result

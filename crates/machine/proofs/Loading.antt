@@ -9,7 +9,7 @@ use Rattle.reference.specs.Images.{Segment}
 use Rattle.reference.specs.Memory.{Memory, is_in_flash, is_in_ram, is_within, overwritten, with_bytes}
 use Rattle.reference.specs.Start.{is_placed, are_placed, loaded}
 
--- the segment at a place, and those behind it
+-- the segment at a place, and the later ones
 front : (segments : List Lent) (i : ℕ) (d : Lent) → i < length segments → map segment_of (drop i segments) ≡ segment_of (get_or segments i d) ∷ map segment_of (drop (i + 1) segments)
 front segments i d below = rw (add-one, drop-cons segments i d) refl
 
@@ -25,7 +25,7 @@ first_false false y e = refl
 pub not_placed : (m : Memory) (segments : List Lent) (i : ℕ) (d : Lent) → i < length segments → is_placed m (segment_of (get_or segments i d)) ≡ false → are_placed m (map segment_of (drop i segments)) ≡ false
 not_placed m segments i d below out = rw (front segments i d below) (first_false _ _ out)
 
--- the next one is placed, and those behind it are
+-- the next one is placed, and the later ones are
 pub next_placed : (m : Memory) (segments : List Lent) (i : ℕ) (d : Lent) → i < length segments → are_placed m (map segment_of (drop i segments)) ≡ true → (is_placed m (segment_of (get_or segments i d)) ≡ true) × (are_placed m (map segment_of (drop (i + 1) segments)) ≡ true)
 next_placed m segments i d below placed = both_true _ _ (rw (front segments i d below) at placed)
 
@@ -59,7 +59,7 @@ stay_placed : (m : Memory) (a : ℕ) (bytes : List ℕ) (segments : List Segment
 stay_placed m a bytes segments placed all =
     placed_alike m (overwritten m a bytes) segments (alike m a bytes _ _ refl refl placed) ∙ all
 
--- when one is loaded, those behind it stay placed
+-- when one is loaded, the later ones stay placed
 pub others_stay : (m : Memory) (segments : List Lent) (i : ℕ) (d : Lent) → i < length segments → are_placed m (map segment_of (drop i segments)) ≡ true → are_placed (overwritten m (get_or segments i d).address (get_or segments i d).bytes.now) (map segment_of (drop (i + 1) segments)) ≡ true
 others_stay m segments i d below placed =
     let next = next_placed m segments i d below placed in

@@ -1,4 +1,4 @@
--- Runs of the reference machine: one step more, and no more steps behind a stop.
+-- Runs of the reference machine: one step more, and no more steps after a stop.
 use Rattle.std.proofs.Common.{◌≡◌, ◌⊎◌, inl, inr, ℕ, zero, suc, ◌+◌, ◌-◌, ◌<◌, ◌≤◌, List, [], ◌∷◌, ◌++◌, Option, Some, None, IsSome, refl, sym, ◌∙◌, ap, append_assoc, add-one, add-zero, arith, unwrap_or, is_some, false, below_more}
 use Rattle.std.proofs.lemmas.List.{append-nil}
 use Rattle.std.specs.Io.KnownBytes.{Appends}
@@ -52,7 +52,7 @@ lines-append (x ∷ xs) ys = rw (lines-append xs ys, append_assoc) refl
 pub told_more : (n : ℕ) (s : State) → lines (events_of (n + 1) s) ≡ lines (events_of n s) ++ lines (step (after n s)).events
 told_more n s = rw (events_more n s) (lines-append (events_of n s) (step (after n s)).events)
 
--- behind a stop nothing changes any more
+-- after a stop nothing changes any more
 pub after_stop : (m k : ℕ) (s : State) → IsSome (after m s).stop → (after (m + k) s ≡ after m s) × (events_of (m + k) s ≡ events_of m s)
 after_stop m zero s some = (rw add-zero refl, rw add-zero refl)
 after_stop m (suc k) s some =
@@ -133,7 +133,7 @@ alone text page cleared line t p e = t ∙ rw e at p
 pub after_on : (n : ℕ) (s core : State) → core ≡ after n s → (step core).state ≡ after (n + 1) s
 after_on n s core now = rw (now, after_more n s) refl
 
--- the stop that is told is that of the whole run
+-- the stop that is returned is that of the whole run
 pub ends_so : (limit : ℕ) (s core : State) (shown : Stop) → shown ≡ unwrap_or core.stop StepLimit → core ≡ after limit s → shown ≡ ending_of limit s
 ends_so limit s core shown same now = rw (← now) same
 
