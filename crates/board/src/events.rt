@@ -54,7 +54,7 @@ fn are_tables(values: &[Value]) -> bool
     true
 }
 
-// The events of a list of tables, on a board of so many lines. A refusal is answered before
+// The events of a list of tables, on a board of `lines` lines. A refusal is answered before
 // out of memory: where an event has no room, those after it are looked at all the same.
 pub fn script_of(
     alloc: Global,

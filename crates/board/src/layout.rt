@@ -92,7 +92,7 @@ fn is_flash(base: u64, bytes: u64) -> bool
     is_size(bytes) && base + bytes <= u64::from(RAM_BASE)
 }
 
-// Whether so many bits of a priority can be kept.
+// Whether a priority of `bits` bits can be kept.
 fn is_priority_bits(bits: u64) -> bool
     ensures test { result ≡ is_priority_bits bits }
     ensures enough { OnTrue result (3 ≤ bits) }
@@ -101,7 +101,7 @@ fn is_priority_bits(bits: u64) -> bool
     (3..=8).contains(&bits)
 }
 
-// Whether there can be so many lines.
+// Whether a board can have `lines` lines.
 fn is_line_count(lines: u64) -> bool
     ensures test { result ≡ is_line_count lines }
     ensures few { OnTrue result (lines ≤ MOST_LINES) }

@@ -1,4 +1,4 @@
-//! A list of at most so many elements, kept in place. To clear it writes no element, so a list that is
+//! A list of at most `ROOM` elements, kept in place. To clear it writes no element, so a list that is
 //! filled anew at each step of a machine costs what is put into it.
 #![tactic(auto)]
 

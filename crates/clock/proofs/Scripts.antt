@@ -19,7 +19,7 @@ none tick from (e ∷ events) h s =
     let rest : named tick events ≡ [] = none tick e.at events (omega arith) s.1 in
     grind (arith, common_steps)
 
--- an event of the tick, and one behind it
+-- an event of the tick, and a later one
 those_now : (tick : ℕ) (e : ScriptedEvent) (events : List ScriptedEvent) → tick ≡ e.at →
     events_at tick events ≡ named tick events → events_at tick (e ∷ events) ≡ named tick (e ∷ events)
 those_now tick e events q rest = grind (arith, common_steps)

@@ -28,7 +28,7 @@ AppliesThoseOfTheTick tick script =
     IsSortedFrom tick script →
     (events_at tick script ≡ filter (λ e. e.at == tick) script) × IsSortedFrom (tick + 1) (events_after tick script)
 
--- SysTick after so many counts
+-- SysTick after a number of counts
 abbrev pub counts : ℕ → SysTick → SysTick
 counts zero t = t
 counts (suc k) t = counted (counts k t)

@@ -7,7 +7,7 @@ ghost use Rattle.reference.specs.Words.{bits, sign_extended};
 use reference::operands::{ClearField, ExtractField, InsertField};
 use regs::Regs;
 
-/// So many low bits.
+/// The lowest `width` bits.
 #[inline]
 #[tactic(auto, using(crate::proofs::Parts::all_bits))]
 fn low_bits(x: u32, width: u8) -> u32
@@ -34,7 +34,7 @@ fn up(x: u32, low: u8) -> u32
     if low < 32 { x << low } else { 0 }
 }
 
-/// A number of so many bits, whose highest one becomes the bits above it.
+/// A number of `width` bits, whose highest one becomes the bits above it.
 #[inline]
 #[tactic(auto, using(crate::proofs::Parts::sign_lemmas))]
 fn sign_extended(width: u8, x: u32) -> u32
@@ -48,7 +48,7 @@ fn sign_extended(width: u8, x: u32) -> u32
     }
 }
 
-/// So many low bits, extended with their sign or with zeros.
+/// The lowest `width` bits, extended with their sign or with zeros.
 #[inline]
 pub fn extended(is_signed: bool, width: u8, x: u32) -> u32
     ensures { result ≡ extended is_signed width x }

@@ -11,10 +11,10 @@ use reference::operands::Saturate;
 use reference::registers::Flags;
 use regs::Regs;
 
-/// A range of so many bits, or of more, has each word in it.
+/// A range of this many bits, or of more, has each word in it.
 const WIDEST: u8 = 32;
 
-/// The least number of so many bits.
+/// The least number of `bits` bits.
 #[inline]
 fn least(is_signed: bool, bits: u8) -> i64
     requires { bits ≤ WIDEST }
@@ -27,7 +27,7 @@ fn least(is_signed: bool, bits: u8) -> i64
     }
 }
 
-/// The greatest number of so many bits that has no sign.
+/// The greatest unsigned number of `bits` bits.
 #[inline]
 fn ones(bits: u8) -> i64
     requires { bits ≤ WIDEST }
@@ -36,7 +36,7 @@ fn ones(bits: u8) -> i64
     ((1u64 << bits) - 1) as i64
 }
 
-/// The greatest number of so many bits.
+/// The greatest number of `bits` bits.
 #[inline]
 fn greatest(is_signed: bool, bits: u8) -> i64
     requires { bits ≤ WIDEST }

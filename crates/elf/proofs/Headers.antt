@@ -12,7 +12,7 @@ use Rattle.elf.specs.Segment.{segment_in}
 abbrev Read : Type 0
 Read = Result (List Segment) LoadFault
 
--- segments in front of those that are read behind them
+-- segments, followed by those that are read after them
 abbrev pub after : List Segment → Read → Read
 after done (Ok rest) = Ok (done ++ rest)
 after done (Err fault) = Err fault
@@ -22,12 +22,12 @@ abbrev pub left_from : List ℕ → ℕ → ℕ → ℕ → Read
 left_from file table count index =
     segments_of file (table + program_header_size * index) (count - index)
 
--- one segment that is read in front of those behind it
+-- one segment that is read, followed by the later ones
 abbrev joined : Result Segment LoadFault → Read → Read
 joined (Ok segment) rest = in_front segment rest
 joined (Err fault) rest = Err fault
 
--- what the header at a place adds to the segments of those behind it, by whether it is of a segment
+-- what the header at a place adds to the segments of the later headers, by whether it is of a segment
 abbrev header_if : Bool → List ℕ → ℕ → Read → Read
 header_if is_of_segment file at rest =
     if not is_of_segment then rest
@@ -48,7 +48,7 @@ after-in_front : (done : List Segment) (segment : Segment) (rest : Read) →
 after-in_front done segment (Ok rest) = ap Ok (sym (append_assoc done (segment ∷ []) rest))
 after-in_front done segment (Err fault) = refl
 
--- the header at an index, and those behind it
+-- the header at an index, and the later ones
 left_from-next : (file : List ℕ) (table count index : ℕ) → index < count →
     left_from file table count index
     ≡ with_header file (table + program_header_size * index) (left_from file table count (index + 1))

@@ -7,7 +7,7 @@ ghost use Rattle.elf.specs.Segment.{segment_of};
 
 use crate::image::Segment;
 
-// Whether some segment shares an address with one behind it. The second clause says the same of all
+// Whether some segment shares an address with a later one. The second clause says the same of all
 // pairs and all addresses.
 pub fn have_overlap(segments: &[Segment<'_>]) -> bool
     ensures test { result ≡ have_overlap (map segment_of segments.now) }
@@ -42,7 +42,7 @@ fn share_an_address(one: &Segment<'_>, other: &Segment<'_>) -> bool
     u64::from(one.address.max(other.address)) < target_end(one).min(target_end(other))
 }
 
-// The address behind a segment's last byte, in whole numbers.
+// The address after a segment's last byte, in whole numbers.
 fn target_end(segment: &Segment<'_>) -> u64
     ensures { result ≡ target_end (segment_of segment.now) }
 {

@@ -62,7 +62,7 @@ pub first_request : (kind : Kind) (address list : ℕ) (r : Registers) →
     word_requests kind address (registers_between list 0 16) r ≡ word_requests kind address (registers_of list) r
 first_request kind address list r = rw (from_0 list 16) refl
 
--- behind the last none is
+-- no register comes after the last one, so no request
 pub last_request : (kind : Kind) (address list low : ℕ) (r : Registers) (items whole : List Request) → low ≡ 16 →
     items ++ word_requests kind address (registers_between list low 16) r ≡ whole → items ≡ whole
 last_request kind address list low r items whole end all =
@@ -107,7 +107,7 @@ pub first_loaded : (list : ℕ) (values : List ℕ) (r : Registers) →
     loaded (registers_between list 0 15) (drop 0 values) r ≡ loaded (registers_below 15 list) values r
 first_loaded list values r = rw (from_0 list 15) refl
 
--- behind the last none is
+-- no register comes after the last one, so none is loaded
 pub last_loaded : (list : ℕ) (values : List ℕ) (r : Registers) → loaded (registers_between list 15 15) values r ≡ r
 last_loaded list values r = rw (from_top list 15, loaded_none) refl
 
@@ -133,7 +133,7 @@ unlisted_loaded list low values r below has = rw (unlisted list low 15 below has
 pub first_count : (list : ℕ) → length (registers_between list 0 15) ≡ length (registers_below 15 list)
 first_count list = rw (from_0 list 15) refl
 
--- behind the last none is
+-- no register comes after the last one, so the count is 0
 pub last_count : (list : ℕ) → length (registers_between list 15 15) ≡ 0
 last_count list = rw (from_top list 15) refl
 

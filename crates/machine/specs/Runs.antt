@@ -20,7 +20,7 @@ abbrev pub CutInStop : ℕ → State → ℕ → Option (List ℕ) → Option (L
 CutInStop n s steps old new =
     ((steps ≡ n) ⊎ IsSome (after steps s).stop) × IsCutAfter old new (lines (events_of n s)) (stop_line (ending_of n s))
 
--- a run of at most n steps from a state was cut short after so many of them: each of them was made, the machine is
+-- a run of at most n steps from a state was cut short after `steps` of them: each of them was made, the machine is
 -- in the state after them, and what went out is a beginning of the trace
 pub record Leaves (n : ℕ) (s : State) (steps : ℕ) (old new : Option (List ℕ)) (last : State) : Type 0 where
   pub few : steps ≤ n

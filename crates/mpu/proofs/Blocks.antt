@@ -59,7 +59,7 @@ outside_behind r a s next e f h = lead (rw e at f)
         let b = behind_block a r.base (2 ^ (size r.attributes + 1)) (pow_pos _) (rw g at h) in
         not_at _ _ (λ e. omega arith)
 
--- an address behind the first of a block with which it doesn't agree is behind all of it
+-- an address above the first of a block with which it doesn't agree is above the whole block
 pub past_block : (r : Region) (a s first next : ℕ) → agrees r a ≡ false → s ≡ size r.attributes
     → first ≡ r.base / 2 ^ (s + 1) * 2 ^ (s + 1) → next ≡ r.base / 2 ^ (s + 1) * 2 ^ (s + 1) + 2 ^ (s + 1)
     → first ≤ a → next ≤ a

@@ -66,7 +66,7 @@ sound_after_write m register.Attributes value s =
     left-taken m (with_attributes m m.number (kept value)) (is_taken (kept value)) stop.Region s
     (λ h. with_region-sound m m.number (record (region m m.number) { attributes = kept value }) s (s.based m.number) h)
 
--- each of so many empty regions is empty
+-- each of `n` empty regions is empty
 each-empty : (P : Region → Type 0) (n k : ℕ) → P empty → P (slice_index_or (replicate n empty) k empty)
 each-empty P zero k e = e
 each-empty P (suc n) zero e = e

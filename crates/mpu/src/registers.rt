@@ -22,7 +22,7 @@ pub(crate) const ENABLE: u32 = 0;
 /// The bit for HFNMIENA: it's on for code whose execution priority is below 0 too.
 pub(crate) const HFNMIENA: u32 = 1;
 
-/// The bit for PRIVDEFENA: privileged code has the default map behind the regions.
+/// The bit for PRIVDEFENA: where no region matches, privileged code has the default map.
 pub(crate) const PRIVDEFENA: u32 = 2;
 
 /// The bit of RBAR that says that REGION is selected.

@@ -4,7 +4,7 @@ use Rattle.reference.specs.Boards.{numbers_of}
 use Rattle.reference.specs.Start.{are_placed, blank}
 use Rattle.machine.proofs.start.are_placed.Given as goal
 
--- the segments behind the index decide
+-- the segments from the index on decide
 abbrev pub invariant-segments : goal.invariant-segments
 invariant-segments l =
     are_placed (blank (numbers_of l.board)) (map segment_of (drop l.segment-index l.segments))

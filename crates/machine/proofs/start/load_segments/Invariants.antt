@@ -3,7 +3,7 @@ use Rattle.elf.specs.Segment.{segment_of}
 use Rattle.reference.specs.Start.{are_placed, loaded}
 use Rattle.machine.proofs.start.load_segments.Given as goal
 
--- those behind the index are still to be loaded
+-- those from the index on are still to be loaded
 abbrev pub invariant-segments : goal.invariant-segments
 invariant-segments l = record {
   placed : are_placed l.space (map segment_of (drop l.segment-index l.segments)) ≡ true;
