@@ -181,10 +181,34 @@ all_even [] h = tt
 all_even (table ∷ tables) h = joined table (rows_of tables) h.0 (all_even tables h.1)
 
 short_even : TablesEven short_tables
-short_even = search (shifts_and_moves_even, data_low_rows_even, data_high_rows_even, special_rows_even, register_access_rows_even, number_access_rows_even, adjusting_rows_even, controlling_rows_even, branch_rows_even)
+short_even = search (
+  shifts_and_moves_even,
+  data_low_rows_even,
+  data_high_rows_even,
+  special_rows_even,
+  register_access_rows_even,
+  number_access_rows_even,
+  adjusting_rows_even,
+  controlling_rows_even,
+  branch_rows_even,
+)
 
 long_even : TablesEven long_tables
-long_even = search (logical_immediate_rows_even, sum_immediate_rows_even, logical_shifted_rows_even, sum_shifted_rows_even, plain_rows_even, long_control_rows_even, multiple_rows_even, dual_rows_even, store_rows_even, narrow_load_rows_even, word_load_rows_even, register_rows_even, product_rows_even)
+long_even = search (
+  logical_immediate_rows_even,
+  sum_immediate_rows_even,
+  logical_shifted_rows_even,
+  sum_shifted_rows_even,
+  plain_rows_even,
+  long_control_rows_even,
+  multiple_rows_even,
+  dual_rows_even,
+  store_rows_even,
+  narrow_load_rows_even,
+  word_load_rows_even,
+  register_rows_even,
+  product_rows_even,
+)
 
 -- ---- the meaning of halfwords
 
