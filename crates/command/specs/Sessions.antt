@@ -23,12 +23,14 @@ whole_of s = record { state = s; broken = false }
 abbrev pub Talks : State → Whole → Source → Source → Sink → Sink → Result (Unit {0}) Fault → Type 0
 Talks s last before after out out' (Ok done) = Holds (whole_of s) last before after out out'
 Talks s last before after out out' (Err fault) =
-    (fault ≡ Io) × (FailsToRead (whole_of s) last before after out out' ⊎ FailsToWrite (whole_of s) last before after out out')
+    (fault ≡ Io) × (FailsToRead (whole_of s) last before after out out' ⊎ FailsToWrite (whole_of s) last before after
+    out out')
 
 -- a session of a machine, whatever the machine is at its end
-pub record Talked (s : State) (before after : Source) (out out' : Sink) (result : Result (Unit {0}) Fault) : Type 0 where
-  pub last : Whole
-  pub talks : Talks s last before after out out' result
+pub record Talked (s : State) (before after : Source) (out out' : Sink) (result : Result (Unit {0}) Fault) : Type 0
+  where
+    pub last : Whole
+    pub talks : Talks s last before after out out' result
 
 -- a refusal, with which nothing is read and nothing is written
 abbrev pub Refuses : Fault → Source → Source → Sink → Sink → Result (Unit {0}) Fault → Type 0
@@ -42,9 +44,11 @@ TalksFrom (Err refusal) before after out out' result = Refuses (Start refusal) b
 
 -- an image or a board that is refused is refused as the definition refuses it, the image first; out of memory for
 -- the board may take the place of every later refusal
-abbrev pub Debugs : Result (List Segment) LoadFault → Result Described BoardFault → Source → Source → Sink → Sink → Result (Unit {0}) Fault → Type 0
+abbrev pub Debugs : Result (List Segment) LoadFault → Result Described BoardFault → Source → Source → Sink → Sink
+    → Result (Unit {0}) Fault → Type 0
 Debugs (Ok image) (Ok board) before after out out' result =
-    TalksFrom (start board image) before after out out' result ⊎ Refuses (Board OutOfMemory) before after out out' result
+    TalksFrom (start board image) before after out out' result ⊎ Refuses (Board OutOfMemory) before after out out'
+    result
 Debugs (Ok image) (Err refusal) before after out out' result =
     Refuses (Board refusal) before after out out' result ⊎ Refuses (Board OutOfMemory) before after out out' result
 Debugs (Err refusal) board before after out out' result = Refuses (Load refusal) before after out out' result
@@ -55,7 +59,8 @@ session_status (Ok done) = 0
 session_status (Err fault) = fault_status fault
 
 -- an image is debugged on a board, and the status is that of its end
-pub record DebugsTo (image : Result (List Segment) LoadFault) (board : Result Described BoardFault) (before after : Source) (out out' : Sink) (status : ℕ) : Type 0 where
+pub record DebugsTo (image : Result (List Segment) LoadFault) (board : Result Described BoardFault)
+    (before after : Source) (out out' : Sink) (status : ℕ) : Type 0 where
   pub result : Result (Unit {0}) Fault
   pub debugged : Debugs image board before after out out' result
   pub is : status ≡ session_status result

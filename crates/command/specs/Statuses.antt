@@ -45,8 +45,8 @@ abbrev pub Reads : Result Described BoardFault → Result TheBoard BoardFault �
 Reads read (Ok board) = read ≡ Ok (described board)
 Reads read (Err fault) = (read ≡ Err fault) ⊎ (fault ≡ OutOfMemory)
 
--- a run from a state ends with the reference machine's stop, and its whole trace went out; or a call of the writer failed,
--- and what was put is a prefix of the trace
+-- a run from a state ends with the reference machine's stop, and its whole trace went out; or a call of the writer
+-- failed, and what was put is a prefix of the trace
 abbrev pub Runs : ℕ → State → Gathered → Gathered → Result Stop Fault → Type 0
 Runs steps s old new (Ok why) = (why ≡ ending_of steps s) × SendsAll (trace steps s) old new
 Runs steps s old new (Err fault) = (fault ≡ Io) × IsCut (trace steps s) old new
@@ -62,7 +62,8 @@ Starts steps (Err refusal) old new result = Refuses (Start refusal) old new resu
 
 -- an image or a board that is refused is refused as the definition refuses it, the image first; out of memory for
 -- the board may take the place of every later refusal
-abbrev pub Executes : Result (List Segment) LoadFault → Result Described BoardFault → ℕ → Gathered → Gathered → Result Stop Fault → Type 0
+abbrev pub Executes : Result (List Segment) LoadFault → Result Described BoardFault → ℕ → Gathered → Gathered
+    → Result Stop Fault → Type 0
 Executes (Ok image) (Ok board) steps old new result =
     Starts steps (start board image) old new result ⊎ Refuses (Board OutOfMemory) old new result
 Executes (Ok image) (Err refusal) steps old new result =
@@ -75,7 +76,8 @@ status_of (Ok why) = stop_status why
 status_of (Err fault) = fault_status fault
 
 -- an image is run on a board, and the status is that of its end
-pub record GoesTo (image : Result (List Segment) LoadFault) (board : Result Described BoardFault) (steps : ℕ) (old new : Gathered) (status : ℕ) : Type 0 where
+pub record GoesTo (image : Result (List Segment) LoadFault) (board : Result Described BoardFault) (steps : ℕ)
+    (old new : Gathered) (status : ℕ) : Type 0 where
   pub result : Result Stop Fault
   pub executed : Executes image board steps old new result
   pub is : status ≡ status_of result

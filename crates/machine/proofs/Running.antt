@@ -1,5 +1,7 @@
 -- Runs of the reference machine: one step more, and no more steps after a stop.
-use Rattle.std.proofs.Common.{◌≡◌, ◌⊎◌, inl, inr, ℕ, zero, suc, ◌+◌, ◌-◌, ◌<◌, ◌≤◌, List, [], ◌∷◌, ◌++◌, Option, Some, None, IsSome, refl, sym, ◌∙◌, ap, append_assoc, add-one, add-zero, arith, unwrap_or, is_some, false, below_more}
+use Rattle.std.proofs.Common.{◌≡◌, ◌⊎◌, inl, inr, ℕ, zero, suc, ◌+◌, ◌-◌, ◌<◌, ◌≤◌, List, [], ◌∷◌, ◌++◌, Option, Some}
+use Rattle.std.proofs.Common.{None, IsSome, refl, sym, ◌∙◌, ap, append_assoc, add-one, add-zero, arith, unwrap_or}
+use Rattle.std.proofs.Common.{is_some, false, below_more}
 use Rattle.std.proofs.lemmas.List.{append-nil}
 use Rattle.std.specs.Io.KnownBytes.{Appends}
 use Rattle.std.proofs.KnownBytes.{Appends-trans}
@@ -49,11 +51,13 @@ unfolding lines
 lines-append [] ys = refl
 lines-append (x ∷ xs) ys = rw (lines-append xs ys, append_assoc) refl
 
-pub told_more : (n : ℕ) (s : State) → lines (events_of (n + 1) s) ≡ lines (events_of n s) ++ lines (step (after n s)).events
+pub told_more : (n : ℕ) (s : State)
+    → lines (events_of (n + 1) s) ≡ lines (events_of n s) ++ lines (step (after n s)).events
 told_more n s = rw (events_more n s) (lines-append (events_of n s) (step (after n s)).events)
 
 -- after a stop nothing changes any more
-pub after_stop : (m k : ℕ) (s : State) → IsSome (after m s).stop → (after (m + k) s ≡ after m s) × (events_of (m + k) s ≡ events_of m s)
+pub after_stop : (m k : ℕ) (s : State) → IsSome (after m s).stop
+    → (after (m + k) s ≡ after m s) × (events_of (m + k) s ≡ events_of m s)
 after_stop m zero s some = (rw add-zero refl, rw add-zero refl)
 after_stop m (suc k) s some =
     let e : m + suc k ≡ (m + k) + 1 = omega arith in
@@ -64,12 +68,16 @@ after_stop m (suc k) s some =
     )
 
 -- a run is over where all its steps were made, or the machine has stopped
-pub over : (made limit : ℕ) (s : State) → made ≤ limit → (made ≡ limit) ⊎ IsSome (after made s).stop → (after limit s ≡ after made s) × (events_of limit s ≡ events_of made s)
+pub over : (made limit : ℕ) (s : State) → made ≤ limit → (made ≡ limit) ⊎ IsSome (after made s).stop
+    → (after limit s ≡ after made s) × (events_of limit s ≡ events_of made s)
 over made limit s few (inl e) = rw (← e) (refl, refl)
-over made limit s few (inr some) = let e : made + (limit - made) ≡ limit = omega arith in rw e at (after_stop made (limit - made) s some)
+over made limit s few (inr some) = let e : made + (limit - made) ≡ limit = omega arith in
+    rw e at (after_stop made (limit - made) s some)
 
 -- the lines of one step more went out
-pub told_on : (old mid new : Option (List ℕ)) (n : ℕ) (s core : State) (shown : List Event) → Appends old mid (lines (events_of n s)) → Appends mid new (lines shown) → shown ≡ (step core).events → core ≡ after n s → Appends old new (lines (events_of (n + 1) s))
+pub told_on : (old mid new : Option (List ℕ)) (n : ℕ) (s core : State) (shown : List Event)
+    → Appends old mid (lines (events_of n s)) → Appends mid new (lines shown) → shown ≡ (step core).events
+    → core ≡ after n s → Appends old new (lines (events_of (n + 1) s))
 told_on old mid new n s core shown told more same now =
     rw (told_more n s, ← now, ← same) (Appends-trans old mid new (lines (events_of n s)) (lines shown) told more)
 
@@ -78,11 +86,13 @@ not_some None e = refl
 not_some (Some why) e = absurd cc
 
 -- one step more was made
-pub made_on : (n : ℕ) (s core : State) → ((k : ℕ) → k < n → (after k s).stop ≡ None) → core ≡ after n s → core.stop ≡ None → (k : ℕ) → k < n + 1 → (after k s).stop ≡ None
+pub made_on : (n : ℕ) (s core : State) → ((k : ℕ) → k < n → (after k s).stop ≡ None) → core ≡ after n s
+    → core.stop ≡ None → (k : ℕ) → k < n + 1 → (after k s).stop ≡ None
 made_on n s core made now going = below_more _ _ made (rw (← now) going)
 
 -- what went out before a text that was cut short
-pub cut_after : (old mid new : Option (List ℕ)) (before text : List ℕ) → Appends old mid before → IsCutShort mid new text → IsCutAfter old new before text
+pub cut_after : (old mid new : Option (List ℕ)) (before text : List ℕ) → Appends old mid before
+    → IsCutShort mid new text → IsCutAfter old new before text
 cut_after old mid new before text went cut = record {
   front = cut.front;
   byte = cut.byte;
@@ -92,10 +102,14 @@ cut_after old mid new before text went cut = record {
 }
 
 -- a step's lines were cut short
-pub cut_in_step : (old mid new : Option (List ℕ)) (limit n : ℕ) (s core last : State) (shown : List Event) → n < limit → ((k : ℕ) → k < n + 1 → (after k s).stop ≡ None) → last ≡ after (n + 1) s → Appends old mid (lines (events_of n s)) → IsCutShort mid new (lines shown) → shown ≡ (step core).events → core ≡ after n s → Leaves limit s (n + 1) old new last
+pub cut_in_step : (old mid new : Option (List ℕ)) (limit n : ℕ) (s core last : State) (shown : List Event) → n < limit
+    → ((k : ℕ) → k < n + 1 → (after k s).stop ≡ None) → last ≡ after (n + 1) s → Appends old mid (lines (events_of n s))
+    → IsCutShort mid new (lines shown) → shown ≡ (step core).events → core ≡ after n s
+    → Leaves limit s (n + 1) old new last
 cut_in_step old mid new limit n s core last shown few made state told cut same now =
     let back : n + 1 - 1 ≡ n = omega arith in
-    let whole : IsCutAfter old new (lines (events_of n s)) (lines (step (after n s)).events) = rw (← now, ← same) (cut_after old mid new (lines (events_of n s)) (lines shown) told cut) in
+    let whole : IsCutAfter old new (lines (events_of n s)) (lines (step (after n s)).events) =
+    rw (← now, ← same) (cut_after old mid new (lines (events_of n s)) (lines shown) told cut) in
     record {
       few = omega arith;
       made = made;
@@ -104,7 +118,10 @@ cut_in_step old mid new limit n s core last shown few made state told cut same n
     }
 
 -- the line of the stop was cut short
-pub cut_in_stop : (old mid new : Option (List ℕ)) (limit n : ℕ) (s core : State) (shown : Stop) → n ≤ limit → ((k : ℕ) → k < n → (after k s).stop ≡ None) → core ≡ after n s → Appends old mid (lines (events_of n s)) → IsCutShort mid new (stop_line shown) → shown ≡ unwrap_or core.stop StepLimit → (n ≡ limit) ⊎ IsSome core.stop → Leaves limit s n old new core
+pub cut_in_stop : (old mid new : Option (List ℕ)) (limit n : ℕ) (s core : State) (shown : Stop) → n ≤ limit
+    → ((k : ℕ) → k < n → (after k s).stop ≡ None) → core ≡ after n s → Appends old mid (lines (events_of n s))
+    → IsCutShort mid new (stop_line shown) → shown ≡ unwrap_or core.stop StepLimit → (n ≡ limit) ⊎ IsSome core.stop
+    → Leaves limit s n old new core
 cut_in_stop old mid new limit n s core shown few made now told cut same ends =
     let ends' : (n ≡ limit) ⊎ IsSome (after n s).stop = rw (← now) ends in
     let done = over n limit s few ends' in
@@ -113,7 +130,9 @@ cut_in_stop old mid new limit n s core shown few made now told cut same ends =
     record { few = few; made = made; state = now; cut = inr (ends', whole) }
 
 -- the whole trace went out
-pub all_told : (old mid new : Option (List ℕ)) (limit n : ℕ) (s core : State) (shown : Stop) → n ≤ limit → core ≡ after n s → Appends old mid (lines (events_of n s)) → Appends mid new (stop_line shown) → shown ≡ unwrap_or core.stop StepLimit → (n ≡ limit) ⊎ IsSome core.stop → Appends old new (trace limit s)
+pub all_told : (old mid new : Option (List ℕ)) (limit n : ℕ) (s core : State) (shown : Stop) → n ≤ limit
+    → core ≡ after n s → Appends old mid (lines (events_of n s)) → Appends mid new (stop_line shown)
+    → shown ≡ unwrap_or core.stop StepLimit → (n ≡ limit) ⊎ IsSome core.stop → Appends old new (trace limit s)
 unfolding trace
 all_told old mid new limit n s core shown few now told more same ends =
     let ends' : (n ≡ limit) ⊎ IsSome (after n s).stop = rw (← now) ends in
@@ -121,7 +140,8 @@ all_told old mid new limit n s core shown few now told more same ends =
     rw (done.1, done.0, ← now, ← same) (Appends-trans old mid new (lines (events_of n s)) (stop_line shown) told more)
 
 -- the machine stands behind all steps
-pub all_made : (limit n : ℕ) (s core : State) → n ≤ limit → core ≡ after n s → (n ≡ limit) ⊎ IsSome core.stop → core ≡ after limit s
+pub all_made : (limit n : ℕ) (s core : State) → n ≤ limit → core ≡ after n s → (n ≡ limit) ⊎ IsSome core.stop
+    → core ≡ after limit s
 all_made limit n s core few now ends =
     let ends' : (n ≡ limit) ⊎ IsSome (after n s).stop = rw (← now) ends in now ∙ sym (over n limit s few ends').0
 
@@ -134,7 +154,8 @@ pub after_on : (n : ℕ) (s core : State) → core ≡ after n s → (step core)
 after_on n s core now = rw (now, after_more n s) refl
 
 -- the stop that is returned is that of the whole run
-pub ends_so : (limit : ℕ) (s core : State) (shown : Stop) → shown ≡ unwrap_or core.stop StepLimit → core ≡ after limit s → shown ≡ ending_of limit s
+pub ends_so : (limit : ℕ) (s core : State) (shown : Stop) → shown ≡ unwrap_or core.stop StepLimit → core ≡ after limit s
+    → shown ≡ ending_of limit s
 ends_so limit s core shown same now = rw (← now) same
 
 -- the events of a run begin with those of its first steps
@@ -153,7 +174,9 @@ continues m (suc k) s =
     }
 
 -- the lines of a run begin with those of its first steps
-lines_continue : (m n : ℕ) (s : State) → m + 1 ≤ n → (others : List Event) × (lines (events_of n s) ≡ lines (events_of m s) ++ lines (step (after m s)).events ++ lines others)
+lines_continue : (m n : ℕ) (s : State) → m + 1 ≤ n
+    → (others : List Event) × (lines (events_of n s) ≡ lines (events_of m s) ++ lines (step (after m s)).events
+    ++ lines others)
 lines_continue m n s few =
     let e : (m + 1) + (n - (m + 1)) ≡ n = omega arith in
     let all = continues (m + 1) (n - (m + 1)) s in
@@ -161,7 +184,8 @@ lines_continue m n s few =
     (all.others, rw (whole, lines-append (events_of (m + 1) s) all.others, told_more m s, append_assoc) refl)
 
 -- what went out before a text that was cut short is a prefix of what begins so
-prefix_of : (old new : Option (List ℕ)) (before text behind all : List ℕ) → IsCutAfter old new before text → all ≡ before ++ text ++ behind → GrowsByPrefix old new all
+prefix_of : (old new : Option (List ℕ)) (before text behind all : List ℕ) → IsCutAfter old new before text
+    → all ≡ before ++ text ++ behind → GrowsByPrefix old new all
 prefix_of old new before text behind all cut e = record {
   front = before ++ cut.front;
   behind = cut.byte ∷ (cut.behind ++ behind);
@@ -170,7 +194,8 @@ prefix_of old new before text behind all cut e = record {
 }
 
 -- what a run that was cut short put is a prefix of the trace
-pub left_prefix : (n : ℕ) (s : State) (steps : ℕ) (old new : Option (List ℕ)) (last : State) → Leaves n s steps old new last → GrowsByPrefix old new (trace n s)
+pub left_prefix : (n : ℕ) (s : State) (steps : ℕ) (old new : Option (List ℕ)) (last : State)
+    → Leaves n s steps old new last → GrowsByPrefix old new (trace n s)
 unfolding trace
 left_prefix n s steps old new last left = elim left.cut [
   | inl in_step ↦
