@@ -3,8 +3,9 @@
 -- pseudocode of ExecutionPriority()).
 --
 -- A priority is here the manual's number plus 2, so that it's a whole number: 0 for the manual's -2, 1 for its -1,
--- b + 2 for the byte b, and 258 for its 256. A higher priority is a lower number, as in the manual. The best of some
--- exceptions is the one of the highest priority; of several, the one with the lowest exception number.
+-- b + 2 for the byte b, and 258 for its 256. A higher priority is a lower number, as in the manual; "below" and
+-- "above" compare numbers. The best of some exceptions is the one of the highest priority; of several, the one with the
+-- lowest exception number.
 use Rattle.std.specs.Prelude.{ℕ, zero, suc, ◌+◌, ◌-◌, ◌*◌, ◌/◌, ◌%◌, ◌^◌, min, Bool, true, false, not, ◌&&◌, ◌||◌, ◌==◌}
 use Rattle.std.specs.Prelude.{nat_lt, nat_le, if◌then◌else◌, List, slice_index, slice_index_or, slice_set, replicate}
 use Rattle.std.specs.Prelude.{Option, Some, None}
@@ -102,7 +103,7 @@ group_priority n x = fixed_or x (of_byte (grouped n.group (slice_index n.priorit
 abbrev pub lessened : Nvic → ℕ → ℕ → ℕ
 lessened n x p = if is_in n.active x then min (group_priority n x) p else p
 
--- the highest group priority of the active exceptions with numbers below x; 256 if none of them is active
+-- the highest group priority of the active exceptions with numbers below x; `lowest` if none of them is active
 unfoldable pub least_active : Nvic → ℕ → ℕ
 least_active n zero = lowest
 least_active n (suc x) = lessened n x (least_active n x)
