@@ -21,7 +21,7 @@ at_each P (x ∷ xs) zero v d p h (suc j) = h (suc j)
 at_each P (x ∷ xs) (suc i) v d p h zero = h zero
 at_each P (x ∷ xs) (suc i) v d p h (suc j) = at_each (λ k a. P (suc k) a) xs i v d p (λ k. h (suc k)) j
 
--- a list of one value has it at each place, and behind it stands what is asked for
+-- a list of one value has it at each place, and after its end the value that is asked for
 pub same_each : {A : Type 0} (n : ℕ) (v : A) (j : ℕ) → get_or (replicate n v) j v ≡ v
 same_each zero v j = refl
 same_each (suc n) v zero = refl

@@ -15,8 +15,8 @@ use reference::exception::{EXCEPTIONS, Escalation, HARD_FAULT, Masks, NMI, Prior
 pub trait Levels: Drop {
     ghost content: { Self → Nvic };
 
-    /// After a reset, on a board with so many lines, of which the first 240 are taken, whose
-    /// priority bytes keep so many of their top bits.
+    /// After a reset, on a board with this number of lines, of which the first 240 are taken, whose
+    /// priority bytes keep this number of their top bits.
     fn fresh(lines: u8, priority_bits: u8) -> Self
         ensures { content result ≡ reset_nvic lines priority_bits };
 

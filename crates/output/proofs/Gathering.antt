@@ -1,4 +1,4 @@
--- Lines that wait on a page behind the bytes that a writer took.
+-- Lines that wait on a page, after the bytes that a writer took.
 use Rattle.std.proofs.Common.{◌≡◌, ℕ, suc, ◌+◌, ◌<◌, List, [], ◌∷◌, length, take, drop, Option, Result, Ok, Err, refl}
 use Rattle.std.proofs.Common.{sym, arith, length-append, false, true, ◌==◌}
 use Rattle.std.proofs.KnownBytes.{Appends-nil, Appends-kept, Keeps-trans, append_known-kept, append_known-moved}

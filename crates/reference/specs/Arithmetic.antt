@@ -146,7 +146,7 @@ current_condition it = if in_it_block it then it / 2 ^ 4 else 14
 abbrev pub condition_passed : ℕ → Flags → Bool
 condition_passed it f = condition_holds (current_condition it) f
 
--- ITAdvance(): the low five bits move left by one, and behind the last instruction of the block all are 0; outside a
+-- ITAdvance(): the low five bits move left by one, and after the last instruction of the block all are 0; outside a
 -- block nothing moves (profile)
 abbrev pub it_advance : ℕ → ℕ
 it_advance it =

@@ -26,7 +26,7 @@ use Rattle.reference.specs.Words.{bits, bit_at, is_bit, sign_extended}
 
 -- ---- saturation
 
--- the least number of so many bits: -2^(bits - 1) of the signed ones, or 0
+-- the least number of this many bits: -2^(bits - 1) of the signed ones, or 0
 abbrev pub least : Bool → ℕ → ℤ
 least is_signed bits = if is_signed then neg_ℤ (pos (2 ^ (bits - 1))) else pos 0
 
@@ -54,7 +54,7 @@ saturate o r =
 
 -- ---- bit fields
 
--- so many low bits of x, extended with their sign or with zeros
+-- the lowest bits of x, extended with their sign or with zeros
 abbrev pub extended : Bool → ℕ → ℕ → ℕ
 extended is_signed width x = if is_signed then sign_extended width (x % 2 ^ width) else x % 2 ^ width
 

@@ -88,7 +88,7 @@ segment_at file at = record {
   bytes = slice_range file (p_offset file at) (segment_end file at);
 }
 
--- one segment more, in front of those behind it
+-- one segment more, before the others
 abbrev pub in_front : Segment → Result (List Segment) LoadFault → Result (List Segment) LoadFault
 in_front segment (Ok segments) = Ok (segment ∷ segments)
 in_front segment (Err fault) = Err fault

@@ -75,7 +75,7 @@ abbrev pub request : Kind → Bool → Size → ℕ → ℕ → Request
 request kind privileged size address value =
     record { access = record { address = address; kind = kind; size = size; privileged = privileged }; value = value }
 
--- whether an address is a multiple of so many bytes
+-- whether an address is a multiple of the size in bytes
 abbrev pub is_aligned : Size → ℕ → Bool
 is_aligned size address = address % bytes_in size == 0
 

@@ -9,7 +9,7 @@ pub record Memory : Type 0 where
   pub flash : List ℕ
   pub ram : List ℕ
 
--- whether n bytes from a on lie wholly in a block of so many bytes from base on
+-- whether n bytes from a on are all in a block of `size` bytes from base on
 abbrev pub is_within : ℕ → ℕ → ℕ → ℕ → Bool
 is_within base size a n = nat_le base a && nat_le (a + n) (base + size)
 

@@ -68,7 +68,7 @@ region m k = slice_index_or m.regions k empty
 abbrev pub with_region : Mpu → ℕ → Region → Mpu
 with_region m k r = record m { regions = slice_set m.regions k r }
 
--- the registers after a reset, with so many regions
+-- the registers after a reset, with this number of regions
 abbrev pub fresh : ℕ → Mpu
 fresh count = record { control = 0; number = 0; count = count; regions = replicate 16 empty }
 

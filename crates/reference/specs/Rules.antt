@@ -80,20 +80,20 @@ granted_by ap xn Probe privileged = may_write ap privileged
 abbrev pub grants : ℕ → Kind → Bool → Bool
 grants attributes kind privileged = granted_by (permission attributes) (never_executes attributes) kind privileged
 
--- The regions, and what is behind them
+-- The regions, and the rules after them
 
--- privileged code has the default map behind the regions, where MPU_CTRL.PRIVDEFENA is 1
+-- privileged code has the default map where no region matches and MPU_CTRL.PRIVDEFENA is 1
 abbrev pub is_background : ℕ → Bool → Bool
 is_background control privileged = privileged && has_background control
 
--- what decides behind the regions
+-- what decides where no region matches
 abbrev pub behind_regions : ℕ → ℕ → Kind → Bool → Decision
 behind_regions control a kind privileged =
     if is_background control privileged
     then record { rule = Background; granted = default_map a kind }
     else record { rule = NoRegion; granted = false }
 
--- the region that the address belongs to decides; where it belongs to none, what is behind them
+-- the region that the address belongs to decides; where it belongs to none, the rules after them
 abbrev pub by_owner : Mpu → Kind → ℕ → Bool → Option ℕ → Decision
 by_owner m kind a privileged (Some k) =
     record { rule = Region k; granted = grants (region m k).attributes kind privileged }

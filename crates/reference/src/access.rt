@@ -79,7 +79,7 @@ pub enum Size {
 }
 
 impl Size {
-    /// So many bytes: 1, 2 or 4.
+    /// The number of bytes: 1, 2 or 4.
     #[inline]
     pub fn bytes(self) -> u32
         ensures { result ≡ bytes_in self }
@@ -114,9 +114,9 @@ pub enum Rule {
     NegativePriority,
     /// The region of this number decides, from 0 to 15.
     Region(u8),
-    /// No region matches, and privileged code has the default map behind them.
+    /// No region matches, and privileged code has the default map.
     Background,
-    /// No region matches, and nothing is behind them.
+    /// No region matches, and there is no default map.
     NoRegion,
 }
 

@@ -22,7 +22,7 @@ pub enum Decoded {
     NoCoprocessor,
     /// A row that stops the machine by name, wherever it is met: how the row stands in an IT block,
     /// which is asked before any cause but `Encoding`, and the first cause of those that the row
-    /// alone decides. Beside `Encoding` the first is of no matter.
+    /// alone decides. Beside `Encoding` the first has no effect.
     Unpredictable(BlockPlace, UnpredictableCase),
 }
 

@@ -365,7 +365,7 @@ pub struct StoreRegister {
     pub address: RegisterAddress,
 }
 
-/// Two registers are loaded from two words, one behind the other.
+/// Two registers are loaded from two words, one after the other.
 #[derive(Clone, Copy)]
 pub struct LoadDual {
     pub first: Register,
@@ -382,7 +382,7 @@ pub struct LoadDualLiteral {
     pub offset: u32,
 }
 
-/// Two registers are stored to two words, one behind the other.
+/// Two registers are stored to two words, one after the other.
 #[derive(Clone, Copy)]
 pub struct StoreDual {
     pub first: Register,

@@ -63,7 +63,7 @@ impl Regs {
     }
 }
 
-/// The eight bits of IT behind an instruction.
+/// The eight bits of IT after an instruction.
 #[inline]
 fn it_advanced(it: u8) -> u8
     ensures { result ≡ advanced it }

@@ -5,7 +5,7 @@ use lib.Ieee.Fits.{and_l, and_r}
 use Rattle.reference.specs.Text.{hex_digit}
 use Rattle.trace.specs.declared.hex.TheConstants.{PAIRS}
 
--- the first so many pairs of the table are right
+-- the first pairs of the table, up to a number, are right
 abbrev are_pairs : ℕ → Bool
 are_pairs zero = true
 are_pairs (suc p) =

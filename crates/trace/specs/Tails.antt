@@ -1,4 +1,4 @@
--- What stands behind the tick in a line.
+-- What follows the tick in a line.
 use Rattle.std.specs.Prelude.{ℕ, List, ◌++◌, codes, decimal}
 use Rattle.reference.specs.declared.access.Access.{Access}
 use Rattle.reference.specs.declared.event.Happening.{Happening}
@@ -9,7 +9,7 @@ use Rattle.reference.specs.Text.{kind_text, hex_word, privilege_text, happening_
 unfoldable pub tail : Happening → List ℕ
 tail what = codes " " ++ (happening_text what ++ line_feed)
 
--- what has the same length in the line of each access: from the space behind the tick to the one before the outcome
+-- what has the same length in the line of each access: from the space after the tick to the one before the outcome
 unfoldable pub access_head : Access → List ℕ
 access_head a =
     codes " " ++ (kind_text a.kind ++ (codes " " ++ (hex_word a.address

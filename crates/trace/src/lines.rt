@@ -13,13 +13,13 @@ use reference::access::{Access, Cause, DecidedAccess, Rule};
 use reference::event::{Event, Happening, RecordedFault};
 use reference::stop::Stop;
 
-/// The most bytes behind the tick of a line. A tick takes 21 bytes at most, so a line takes 64.
+/// The most bytes after the tick of a line. A tick takes 21 bytes at most, so a line takes 64.
 const TAIL_ROOM: usize = 43;
 
 /// The most bytes between the tick of an access and its rule.
 const HEAD_ROOM: usize = 20;
 
-/// The most bytes of a rule and the line feed behind it.
+/// The most bytes of a rule and the line feed after it.
 const RULE_ROOM: usize = 22;
 
 /// The most bytes between `stop ` and the line feed.
@@ -290,7 +290,7 @@ impl<const ROOM: usize> Page<ROOM> {
     }
 }
 
-/// What has the same length in the line of each access that was done, from the space behind the tick
+/// What has the same length in the line of each access that was done, from the space after the tick
 /// to the one before the rule.
 #[inline(always)]
 fn done_head_of(access: &Access) -> [u8; 19]

@@ -48,7 +48,7 @@ pub(super) struct Case {
 /// The numbers of a line.
 type Numbers = ArrayVec<u32, 24>;
 
-/// The numbers behind the first word of a line.
+/// The numbers after the first word of a line.
 fn numbers_of(line: &str) -> Option<Numbers> {
     let mut numbers = Numbers::new();
     'words: for word in line.split_whitespace().skip(1) {

@@ -394,7 +394,7 @@ impl Rows for Blocks {
 }
 
 /// IT; whether that is in a block and last there, its condition, and whether that holds with Z
-/// alone; IT behind the instruction; what the row is.
+/// alone; IT after the instruction; what the row is.
 const IT: &str = "\
 00 | - - E passed | 00 | outside a block
 08 | block last 0 passed | 00 | EQ, the last

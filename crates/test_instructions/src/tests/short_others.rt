@@ -1,5 +1,5 @@
 //! Instructions of 16 bits that load, store, branch or control: 62 cases on which Unicorn 2.0.1 and QEMU 7.2 agree
-//! (Cortex-M3, Thread mode, privileged, the MPU off). The lines are told in `lines`.
+//! (Cortex-M3, Thread mode, privileged, the MPU off). `lines` says what a line is.
 
 /// The cases, in the order of their rows' names.
 pub(super) const SHORT_OTHERS: &str = "\

@@ -23,7 +23,7 @@ struct Accesses {
 }
 
 impl Rows for Accesses {
-    /// Whether the next access is told to be what its row says.
+    /// Whether the next access has the lines that its row says.
     fn holds(&mut self, row: &str) -> Option<bool> {
         let (rule, outcome) = told(self.bus.perform(0, &request(part(row, 0))?));
         let wanted = part(row, 1);

@@ -15,7 +15,7 @@ ram_size = 8192
 priority_bits = 4
 lines = 8";
 
-/// Puts something behind a text. A growth that is refused is asked for again, once.
+/// Appends to a text. A growth that is refused is asked for again, once.
 fn push(text: &mut String, more: &str) -> Option<()> {
     match text.push_str(more) {
         Ok(()) => Some(()),
@@ -23,7 +23,7 @@ fn push(text: &mut String, more: &str) -> Option<()> {
     }
 }
 
-/// Puts a line behind a text.
+/// Appends a line to a text.
 fn push_line(text: &mut String, line: &str) -> Option<()> {
     push(text, line)?;
     push(text, "\n")
@@ -88,7 +88,7 @@ impl Rows for Lines {
     }
 }
 
-/// A place, 0 to 4 for the lines of the small board, and 5 for one behind them; what the text is; the
+/// A place, 0 to 4 for the lines of the small board, and 5 for one after them; what the text is; the
 /// line that stands there.
 const LINES: &str = "\
 0 | MissingKey |
@@ -627,7 +627,7 @@ fn small_board(rt: HostRuntime) {
     assert!(rt; is_small_board(rt.alloc()) == Some(true), "the small board");
 }
 
-/// The small board with so many events that have nothing in them.
+/// The small board with this number of events that have nothing in them.
 fn crowded(alloc: Global, count: u32) -> Option<String> {
     let mut text = text_of(alloc, 5, "", "event = [")?;
     'events: for _ in 0..count {
@@ -637,7 +637,7 @@ fn crowded(alloc: Global, count: u32) -> Option<String> {
     Some(text)
 }
 
-/// The small board with so many empty events.
+/// The small board with this number of empty events.
 #[derive(Drop)]
 struct Crowds {
     alloc: Global,

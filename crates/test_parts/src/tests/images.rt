@@ -22,7 +22,7 @@ fn push_bytes(file: &mut File, text: &str, between: char) -> Option<()> {
     Some(())
 }
 
-/// The file of a listing, whose lines have bytes ahead of the bar and say behind it what they are.
+/// The file of a listing, whose lines have bytes before the bar and say after it what they are.
 fn file_of(listing: &str) -> Option<File> {
     let mut file = File::new();
     'lines: for line in listing.lines() {
@@ -172,7 +172,7 @@ impl Rows for Beginnings {
 }
 
 /// The bytes that are put at places of the worked file; the least length of some beginnings, and
-/// the one behind the greatest; their refusal; what the row is.
+/// the one after the greatest; their refusal; what the row is.
 const BEGINNINGS: &str = "\
 | 0 54 | Truncated | in the headers
 | 54 60 | SegmentOutsideFile | in the segment
@@ -220,7 +220,7 @@ fn pairs_of_segments() -> Result<(), Fail> {
     check(PAIRS, &mut Answered { listing: PAIRED })
 }
 
-/// Puts a program header of the four bytes at 834 behind a file.
+/// Appends a program header of the four bytes at 834 to a file.
 fn push_program_header(file: &mut File, address: u8) -> Option<()> {
     push_bytes(file, "01 00 00 00 34 08 00 00 00 00 00 00", ' ')?;
     push_byte(file, address)?;
@@ -231,7 +231,7 @@ fn push_program_header(file: &mut File, address: u8) -> Option<()> {
     )
 }
 
-/// A table of 64 program headers, all of the four bytes behind it, at addresses that are 4 apart;
+/// A table of 64 program headers, all of the four bytes after it, at addresses that are 4 apart;
 /// the last of them goes to `last`.
 fn crowded(last: u8) -> Option<File> {
     let mut file = edited(WORKED, "2C:40")?;
@@ -270,7 +270,7 @@ fn most_program_headers(rt: HostRuntime) {
 
 /// A file that a linker made: LLD 14.0.6, `clang --target=thumbv7m-none-eabi -mcpu=cortex-m3 -c`
 /// and `ld.lld -n -s -T link.ld`, from these sources. `.vectors` and `.text` go to flash at 0,
-/// `.data` runs at 0x20000000 and is loaded behind the text, and `.bss` isn't in the file.
+/// `.data` runs at 0x20000000 and is loaded after the text, and `.bss` isn't in the file.
 ///
 /// ```text
 ///     .section .vectors, "a"          MEMORY { FLASH (rx) : ORIGIN = 0, LENGTH = 4K

@@ -59,7 +59,7 @@ fn has_priority(levels: &PlainLevels, wanted: &str) -> bool {
     i16::from_str_radix(wanted, 16).ok() == Some(levels.execution_priority().number())
 }
 
-/// Whether the group of the byte FF is the one wanted, where so many bits are kept.
+/// Whether the group of the byte FF is the one wanted, where this number of bits is kept.
 fn is_group(priority_bits: u8, group: u8, wanted: &str) -> bool {
     let mut levels = PlainLevels::fresh(8, priority_bits);
     levels.set_group(group);

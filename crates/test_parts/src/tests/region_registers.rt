@@ -93,7 +93,7 @@ fn regions_that_are_shown() -> Result<(), Fail> {
     check(SHOWN, &mut Shown)
 }
 
-/// Deciders, which go by new registers once they are told of them, and not before.
+/// Deciders, which use new registers once they have reloaded, and not before.
 #[derive(Drop)]
 struct Reloaded;
 
@@ -110,7 +110,7 @@ impl Rows for Reloaded {
     }
 }
 
-/// The name of the registers; an access; what decides it before the decider is told of them, and what
+/// The name of the registers; an access; what decides it before the decider reloads, and what
 /// afterwards; the region that the address belongs to; what the row is.
 const SIXTEEN: &str = "\
 sixteen | L 20000000 u | off ok | r9 mpu | 9 | the first byte of regions 2 and 9

@@ -1,4 +1,4 @@
-//! What decides each access: regions and rules around them, and the bus behind them.
+//! What decides each access: regions and rules around them, and the bus after them.
 
 use super::run::check_runs;
 use std::test::*;

@@ -15,7 +15,7 @@ const ROOM: usize = 4096;
 /// What a run writes.
 pub(super) type Text = ArrayVec<u8, ROOM>;
 
-/// Puts a line behind a text.
+/// Appends a line to a text.
 pub(super) fn push_line(text: &mut Text, line: &str) -> Option<()> {
     text.try_extend_from_slice(line.as_bytes()).ok()?;
     text.try_push(b'\n').ok()
@@ -83,7 +83,7 @@ impl Write for Cut {
     }
 }
 
-/// A run of at most so many steps.
+/// A run of at most this number of steps.
 pub(super) fn run<D: Decider, L: Levels, U: DueTicks>(
     machine: &mut Machine<D, L, U>,
     steps: u32,

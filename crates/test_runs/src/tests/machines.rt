@@ -22,7 +22,7 @@ fn interrupt_line(line: &str) -> Option<InterruptLine> {
     }
 }
 
-/// What happens by the words behind the tick of an event.
+/// What happens by the words after the tick of an event.
 fn signal(line: &str) -> Option<Signal> {
     match word(line, 2) {
         "nmi" => Some(Signal::Nmi),

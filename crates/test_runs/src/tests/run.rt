@@ -4,12 +4,12 @@
 //! | Line | What it says |
 //! |---|---|
 //! | `event TICK SIGNAL LINE` | the script has this event: `rise`, `fall`, `pulse`, or `nmi`, which has no line |
-//! | `board LINES REGIONS` | the board has so many lines and regions, where they aren't 8 and 8 |
+//! | `board LINES REGIONS` | how many lines and regions the board has, where it isn't 8 and 8 |
 //! | `vectors ADDRESS` | the word is placed at each entry of the vector table, from that of NMI to that of line 7 |
 //! | `word ADDRESS VALUE` | a word is placed |
 //! | `reg NUMBER VALUE`, `special NUMBER VALUE` | a register is placed, `special` as MSR numbers it |
 //! | `refused WHY` and a place | the place is refused so |
-//! | `steps COUNT` | at most so many steps are made |
+//! | `steps COUNT` | the most steps that are made |
 //! | `trace` and a line | a line of what all the steps write |
 //! | `after reg REGISTER VALUE` | what the register holds now: R0 to R12 by number, others by name |
 //! | `after byte ADDRESS VALUE` | what stands there now, or `none` |

@@ -13,7 +13,7 @@ fn tells(machine: &mut Slow, events: &mut Events, line: &str) -> bool {
     event_line(&told[0]).as_slice() == line.as_bytes()
 }
 
-/// Whether a machine stops, or has stopped, by a step that tells so many events.
+/// Whether a machine stops, or has stopped, by a step of this number of events.
 fn stops(machine: &mut Slow, events: &mut Events, told: usize, line: &str) -> bool {
     let Some(stop) = machine.step(events) else {
         return false;

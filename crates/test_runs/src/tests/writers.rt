@@ -22,12 +22,12 @@ reg E FFFFFFFF";
 static FIRST_TRACE: [u8; 66] =
     *b"1 F 00000008 2 p ok off\n2 F 0000000A 2 p ok off\nstop breakpoint 0\n";
 
-/// Whether a writer got so many bytes of the trace.
+/// Whether a writer got this number of bytes of the trace.
 fn got(out: &Cut, bytes: usize) -> bool {
     out.text.len() == bytes && FIRST_TRACE.starts_with(out.text.as_slice())
 }
 
-/// Whether a writer of so many bytes breaks a machine, in the step whose line it cuts.
+/// Whether a writer of this number of bytes breaks a machine, in the step whose line it cuts.
 fn breaks(machine: &mut Slow, left: usize, fails: bool) -> bool {
     let mut out = Cut::new(left, 512, fails);
     let wanted = if left < 24 { 1 } else { 2 };
