@@ -196,6 +196,7 @@ def fixed_cases():
     """Returns the smallest case of each known deviation (exception_known.py), in its order."""
     regions = [(MPU_RBAR, 0x20000010), (MPU_RASR, ALL_RAM[1]), (MPU_RBAR, 0x200008B1), (MPU_RASR, 0x9)]
     regions += [(MPU_RBAR, 0x12), (MPU_RASR, ALL_FLASH[1]), (MPU_CTRL, 1)]
+    eighths = [(MPU_RBAR, 0x20000010), (MPU_RASR, ALL_RAM[1]), (MPU_RBAR, 0x20000811), (MPU_RASR, 0x010F), *regions[4:]]
     number = piece("mrs r1, msp", "ldr r0, [r1, #28]", "orr r0, r0, #0x1f0", "str r0, [r1, #28]", "ldr r1, =0xfffffff1", "bx r1")
     disable = piece("ldr r1, =0xe000e180", "ldr r0, =0x00010000", "str r0, [r1]")
     return [
@@ -218,4 +219,6 @@ def fixed_cases():
         fixed_case("ldr r1, =0x00000100", "str r0, [r1]"),
         fixed_case("ldr r1, =0x20001ffc", "ldm r1, {r2, r3}"),
         fixed_case("ldr r1, =0x20000802", "strex r3, r2, [r1]"),
+        fixed_case("svc #0", actions={11: piece("mrs r1, msp", "ldr r0, =0x00000800", "str r0, [r1, #28]")}),
+        fixed_case("ldr r1, =0x2000081c", "ldr r0, [r1]", "ldr r0, [r1, #4]", settings=eighths),
     ]
