@@ -12,6 +12,11 @@ emission written faults name now [] = record { writer = name; written = written 
 emission written faults name now (first ∷ later) =
     record { writer = name; written = written first.0; faults = faults first.0; events = first.1 ∷ map (λ entry. entry.1) later }
 
+-- no event has come yet
+abbrev pub BeforeStep : {O : Type 0} → (O → Option (List ℕ)) → (O → ℕ) → ℕ → O → List (O × Event) → Type 0
+BeforeStep written faults name now items =
+    emission written faults name now items ≡ record { writer = name; written = written now; faults = faults now; events = [] }
+
 -- the lines of the events so far: they went out and no call failed, or a prefix of them did and one call failed
 abbrev pub WritesSoFar : Emission → Option (List ℕ) → ℕ → Bool → Type 0
 WritesSoFar e now faults false = Appends e.written now (lines e.events) × (faults ≡ e.faults)

@@ -1,7 +1,7 @@
 //! A sink that writes the line of each event at once.
 
 ghost use Rattle.std.specs.Prelude.{◌≡◌, [], Option};
-ghost use Rattle.output.specs.Emitting.{PutsUnless, WritesSoFar, emission};
+ghost use Rattle.output.specs.Emitting.{BeforeStep, PutsUnless, WritesSoFar, emission};
 ghost use Rattle.output.specs.Output.{Put};
 ghost use Rattle.reference.specs.Text.{line, lines};
 
@@ -29,7 +29,7 @@ impl<'a, O: Out> Lines<'a, O> {
     pub fn new(out: &'a mut O) -> Lines<'a, O>
         ensures same_writer { result.out.ghost_name ≡ out.entry.ghost_name }
         ensures now { result.out.now ≡ out.old }
-        ensures empty { emission O.written O.faults result.out.ghost_name result.out.now result.history.items ≡ record { writer = result.out.ghost_name; written = O.written out.old; faults = O.faults out.old; events = [] } }
+        ensures empty { BeforeStep O.written O.faults result.out.ghost_name result.out.now result.history.items }
     {
         Lines {
             out,
@@ -46,7 +46,7 @@ impl<'a, O: Out> Lines<'a, O> {
         ensures same_writer { self.new.out.ghost_name ≡ self.old.out.ghost_name }
         ensures now { self.new.out.now ≡ self.old.out.now }
         ensures put { Put (emission O.written O.faults self.old.out.ghost_name self.old.out.now self.old.history.items).written (O.written self.old.out.now) (emission O.written O.faults self.old.out.ghost_name self.old.out.now self.old.history.items).faults (O.faults self.old.out.now) (lines (emission O.written O.faults self.old.out.ghost_name self.old.out.now self.old.history.items).events) result }
-        ensures empty { emission O.written O.faults self.new.out.ghost_name self.new.out.now self.new.history.items ≡ record { writer = self.old.out.ghost_name; written = O.written self.old.out.now; faults = O.faults self.old.out.now; events = [] } }
+        ensures empty { BeforeStep O.written O.faults self.new.out.ghost_name self.new.out.now self.new.history.items }
     {
         let failed = self.failed;
         self.history = History::new();
