@@ -15,7 +15,7 @@ use trace::tick::Tick;
 /// further one is begun.
 #[derive(Drop)]
 pub struct Lines<'a, O: Out> {
-    pub out: &'a mut O,
+    out: &'a mut O,
     page: LinePage,
     tick: Tick,
     failed: bool,
@@ -52,6 +52,17 @@ impl<'a, O: Out> Lines<'a, O> {
         self.history = History::new();
         self.failed = false;
         if failed { Err(IoFault) } else { Ok(()) }
+    }
+
+    /// Puts bytes between two steps.
+    pub fn put_all(&mut self, bytes: &[u8]) -> Result<(), IoFault>
+        ensures same_writer { self.new.out.ghost_name ≡ self.old.out.ghost_name }
+        ensures put { Put (O.written self.old.out.now) (O.written self.new.out.now) (O.faults self.old.out.now) (O.faults self.new.out.now) bytes.now result }
+    {
+        let result = self.out.put_all(bytes);
+        self.history = History::new();
+        self.failed = false;
+        result
     }
 }
 
