@@ -1,15 +1,16 @@
 use Rattle.std.proofs.Common.{◌≡◌, ◌⊎◌, inl, inr, ◌∙◌, sym, refl, ap, arith, IsSome, is_some, false}
 use Rattle.std.proofs.KnownBytes.{Appends-nil}
 use Rattle.machine.proofs.Running.{none_made, none_told, after_on, told_on, made_on, not_some, cut_in_step, cut_in_stop, all_told, all_made, ends_so, alone}
-use Rattle.trace.specs.Emission.{Emission}
-use Rattle.machine.proofs.run.run_core.Goals as goal
-use Rattle.machine.proofs.run.run_core.Goals.{else-steps-test, then-steps-test+then-is_some}
+use Rattle.machine.proofs.run.run_onto.Goals as goal
+use Rattle.machine.proofs.run.run_onto.Goals.{else-steps-test, then-steps-test+then-is_some}
 
 pub steps-init : goal.steps-init
 steps-init g c = record {
   few = omega arith;
   core = sym (none_made c.args.core.now);
   made = λ k below. absurd (omega arith);
+  same_writer = refl;
+  empty = c.requires;
   told = rw (none_told c.args.core.now) (Appends-nil _);
   same = refl;
 }
@@ -19,10 +20,12 @@ steps-preserved g c =
     let going : is_some c.steps.core.stop ≡ false = cc in
     record {
       few = omega arith;
-      core = c.step.ensures.state ∙ after_on _ _ _ c.steps.invariant.core;
+      core = c.step_onto.ensures.state ∙ after_on _ _ _ c.steps.invariant.core;
       made = made_on _ _ _ c.steps.invariant.made c.steps.invariant.core (not_some _ going);
-      told = told_on _ _ _ _ _ _ _ c.steps.invariant.told c.in-Ok.ensures.0 (c.as_slice.ensures.value ∙ ap (λ (e : Emission). e.events) c.step.ensures.events) c.steps.invariant.core;
-      same = c.in-Ok.ensures.1 ∙ c.steps.invariant.same;
+      same_writer = c.step_onto.ensures.same_writer ∙ c.steps.invariant.same_writer;
+      empty = c.step_onto.ensures.empty;
+      told = told_on _ _ _ _ _ _ _ c.steps.invariant.told c.in-Ok.ensures.put.0 refl c.steps.invariant.core;
+      same = c.in-Ok.ensures.put.1 ∙ c.steps.invariant.same;
     }
 
 pub returns-in-Err-clause-cut : goal.returns-in-Err-clause-cut
@@ -30,14 +33,14 @@ returns-in-Err-clause-cut g c =
     let going : is_some c.steps.core.stop ≡ false = cc in
     cut_in_step _ _ _ _ _ _ _ _ _ (omega arith)
     (made_on _ _ _ c.steps.invariant.made c.steps.invariant.core (not_some _ going))
-    (c.step.ensures.state ∙ after_on _ _ _ c.steps.invariant.core) c.steps.invariant.told c.in-Err.ensures.0
-    (c.as_slice.ensures.value ∙ ap (λ (e : Emission). e.events) c.step.ensures.events) c.steps.invariant.core
+    (c.step_onto.ensures.state ∙ after_on _ _ _ c.steps.invariant.core) c.steps.invariant.told c.in-Err.ensures.put.0
+    refl c.steps.invariant.core
 
 pub returns-in-Ok-put_all-clause-written : goal.returns-in-Ok-put_all-clause-written
 returns-in-Ok-put_all-clause-written g c =
     let ends : (c.steps.made ≡ c.args.limit) ⊎ IsSome c.steps.core.stop = elim c.steps-test.branch [ else-steps-test w ↦ inl (omega arith) | then-steps-test+then-is_some w ↦ inr cc ] in
-    let text = alone _ _ _ _ c.as_slice-2.ensures c.put_stop.ensures.text c.clear-2.ensures in
-    all_told _ _ _ _ _ _ _ _ c.steps.invariant.few c.steps.invariant.core c.steps.invariant.told (rw text at c.in-Ok-put_all.ensures.0) (cc) ends
+    let text = alone _ _ _ _ c.as_slice.ensures c.put_stop.ensures.text c.new-page.ensures in
+    all_told _ _ _ _ _ _ _ _ c.steps.invariant.few c.steps.invariant.core c.steps.invariant.told (rw text at c.in-Ok-put_all.ensures.put.0) (cc) ends
 
 pub returns-in-Ok-put_all-clause-state : goal.returns-in-Ok-put_all-clause-state
 returns-in-Ok-put_all-clause-state g c =
@@ -52,5 +55,5 @@ returns-in-Ok-put_all-clause-stop g c =
 pub returns-in-Err-put_all-clause-cut : goal.returns-in-Err-put_all-clause-cut
 returns-in-Err-put_all-clause-cut g c =
     let ends : (c.steps.made ≡ c.args.limit) ⊎ IsSome c.steps.core.stop = elim c.steps-test.branch [ else-steps-test w ↦ inl (omega arith) | then-steps-test+then-is_some w ↦ inr cc ] in
-    let text = alone _ _ _ _ c.as_slice-2.ensures c.put_stop.ensures.text c.clear-2.ensures in
-    cut_in_stop _ _ _ _ _ _ _ _ c.steps.invariant.few c.steps.invariant.made c.steps.invariant.core c.steps.invariant.told (rw text at c.in-Err-put_all.ensures.0) (cc) ends
+    let text = alone _ _ _ _ c.as_slice.ensures c.put_stop.ensures.text c.new-page.ensures in
+    cut_in_stop _ _ _ _ _ _ _ _ c.steps.invariant.few c.steps.invariant.made c.steps.invariant.core c.steps.invariant.told (rw text at c.in-Err-put_all.ensures.put.0) (cc) ends
