@@ -1,4 +1,5 @@
 pub mod AtOnce
+mod Emitting
 mod Foreseen
 mod Loading
 pub mod Running

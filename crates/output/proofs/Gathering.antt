@@ -63,3 +63,11 @@ some_lines (event ∷ events) e = simp length-append (omega arith)
 pub none_taken : (old new : Option (List ℕ)) (events : List Event) → false ≡ (length events == 0) → Keeps old new
     → IsCutShort old new (lines events)
 none_taken old new events some kept = some_bytes old new (lines events) (some_lines events some) kept
+
+some_line : (e : Event) → 0 < length (line e)
+unfolding line
+some_line e = simp length-append (omega arith)
+
+-- none of a line was taken
+pub no_line_taken : (old new : Option (List ℕ)) (e : Event) → Keeps old new → IsCutShort old new (line e)
+no_line_taken old new e kept = some_bytes old new (line e) (some_line e) kept

@@ -1,2 +1,4 @@
+mod Emitting
 mod Gathering
 mod Sending
+mod Walks

@@ -1,3 +1,4 @@
+pub mod Emitting
 pub mod Gathered
 pub mod Input
 pub mod Output

@@ -1,16 +1,19 @@
 //! A writer that gathers the lines of many steps, so that the writer below is called seldom.
 
 ghost use Rattle.std.specs.Prelude.{◌≡◌, ◌+◌, ◌≤◌, [], length, drop, OnOk, OnErr};
-ghost use Rattle.reference.specs.Text.{lines};
+ghost use Rattle.reference.specs.Text.{line, lines};
 ghost use Rattle.std.specs.Io.KnownBytes.{append_known, Keeps};
 
-use crate::writer::{IoFault, Out, StepPage};
+use crate::writer::{IoFault, LinePage, Out, StepPage};
 use reference::event::{Event, MOST_EVENTS};
 use trace::page::Page;
 use trace::tick::Tick;
 
 /// How many bytes are gathered at most.
 const ROOM: usize = 0x4000;
+
+/// How many bytes of a page leave room for a line.
+const FULL: usize = ROOM - 64;
 
 /// How many bytes of a page leave room for a step's lines.
 const ALMOST_FULL: usize = ROOM - 2560;
@@ -82,6 +85,23 @@ impl<O: Out + Drop> Out for Paged<O> {
             Ok(()) => self.inner.put(bytes),
             Err(fault) => Err(fault),
         }
+    }
+
+    #[inline(always)]
+    fn put_line(
+        &mut self,
+        _page: &mut LinePage,
+        tick: &mut Tick,
+        event: &Event,
+    ) -> Result<(), IoFault> {
+        if self.page.len() > FULL {
+            match self.flush() {
+                Ok(()) => {}
+                Err(fault) => return Err(fault),
+            }
+        }
+        self.page.put_event(tick, event);
+        Ok(())
     }
 
     fn put_lines(

@@ -3,7 +3,7 @@
 ghost use Rattle.std.specs.Prelude.{◌≡◌, ℕ, ◌+◌, ◌<◌, ◌≤◌, List, length, Option};
 ghost use Rattle.output.specs.Input.{Received};
 ghost use Rattle.output.specs.Output.{Took, Put};
-ghost use Rattle.reference.specs.Text.{lines};
+ghost use Rattle.reference.specs.Text.{line, lines};
 
 use reference::event::{Event, MOST_EVENTS};
 use std::io::{Read, Write};
@@ -15,6 +15,9 @@ use trace::tick::Tick;
 
 /// Room for the lines of a step, each of at most 64 bytes.
 pub type StepPage = Page<2560>;
+
+/// Room for one line.
+pub type LinePage = Page<64>;
 
 /// A writer or a reader failed.
 #[derive(Clone, Copy, Debug, Error)]
@@ -48,6 +51,21 @@ pub trait Out {
             }
         }
         Ok(())
+    }
+
+    /// Puts the line of an event. `page` is room for its text, and `tick` for digits.
+    fn put_line(
+        &mut self,
+        page: &mut LinePage,
+        tick: &mut Tick,
+        event: &Event,
+    ) -> Result<(), IoFault>
+        ensures { Put (written self.old) (written self.new) (faults self.old) (faults self.new) (line event.now) result }
+    {
+        page.clear();
+        page.put_event(tick, event);
+        let text = page.as_slice();
+        self.put_all(text)
     }
 
     /// Puts the lines of a step's events. `page` is room for their text, and `tick` for digits.

@@ -3,8 +3,9 @@ use Rattle.std.specs.Prelude.{ℕ, List, Option}
 use Rattle.reference.specs.declared.event.Event.{Event}
 
 -- the events that a sink has taken so far; and how it was before them: the bytes that it had written, where they are
--- known, and how many of its calls had failed
+-- known, and how many of its calls had failed. `writer` names the writer that it lends, 0 where it lends none
 pub record Emission : Type 0 where
+  pub writer : ℕ
   pub written : Option (List ℕ)
   pub faults : ℕ
   pub events : List Event
