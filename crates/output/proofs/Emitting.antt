@@ -1,5 +1,7 @@
 -- The lines of a step's events, put one by one.
-use Rattle.std.proofs.Common.{◌≡◌, ℕ, ◌+◌, ◌-◌, ◌<◌, Bool, true, false, List, [], ◌∷◌, ◌++◌, length, take, drop, Option, Some, None, Result, Ok, Err, map, refl, sym, ap, ◌∙◌, append_assoc, length-append, length-drop, take_all, arith}
+use Rattle.std.proofs.Common.{◌≡◌, ℕ, ◌+◌, ◌-◌, ◌<◌, Bool, true, false, List, [], ◌∷◌, ◌++◌, length, take, drop, Option}
+use Rattle.std.proofs.Common.{Some, None, Result, Ok, Err, map, refl, sym, ap, ◌∙◌, append_assoc, length-append}
+use Rattle.std.proofs.Common.{length-drop, take_all, arith}
 use Rattle.std.proofs.KnownBytes.{Appends-nil, Appends-trans}
 use Rattle.std.proofs.Math.Logic.{∥∥₁_elim, ∥∥₁_map}
 use Rattle.std.proofs.Props.{props}
@@ -18,13 +20,25 @@ lines_more [] e = append-nil (line e)
 lines_more (event ∷ events) e = rw (lines_more events e, append_assoc) refl
 
 -- one event more
-pub one_more : {O : Type 0} (written : O → Option (List ℕ)) (faults : O → ℕ) (name : ℕ) (old new : O) (items : List (O × Event)) (e : Event) → emission written faults name new (items ++ (old, e) ∷ []) ≡ record (emission written faults name old items) { events = (emission written faults name old items).events ++ e ∷ [] }
+pub one_more : {O : Type 0} (written : O → Option (List ℕ)) (faults : O → ℕ) (name : ℕ) (old new : O)
+    (items : List (O × Event)) (e : Event)
+    → emission written faults name new (items ++ (old, e) ∷ [])
+    ≡ record (emission written faults name old items) {
+      events =
+          (emission written faults name old items).events ++ e ∷ [];
+    }
 one_more written faults name old new [] e = refl
 one_more {O} written faults name old new (first ∷ later) e =
-    ap (λ (es : List Event). record { writer = name; written = written first.0; faults = faults first.0; events = first.1 ∷ es }) (map-append (λ (entry : O × Event). entry.1) later ((old, e) ∷ []))
+    ap (λ (es : List Event). record {
+      writer = name;
+      written = written first.0;
+      faults = faults first.0;
+      events = first.1 ∷ es;
+    }) (map-append (λ (entry : O × Event). entry.1) later ((old, e) ∷ []))
 
 -- a text that was cut short is cut short before a longer one
-cut_before : (old new : Option (List ℕ)) (text more : List ℕ) → IsCutShort old new text → IsCutShort old new (text ++ more)
+cut_before : (old new : Option (List ℕ)) (text more : List ℕ) → IsCutShort old new text
+    → IsCutShort old new (text ++ more)
 cut_before old new text more cut = record {
   front = cut.front;
   byte = cut.byte;
@@ -34,7 +48,8 @@ cut_before old new text more cut = record {
 }
 
 -- a text that went out, and one after it that was cut short
-cut_behind : (old mid new : Option (List ℕ)) (text more : List ℕ) → Appends old mid text → IsCutShort mid new more → IsCutShort old new (text ++ more)
+cut_behind : (old mid new : Option (List ℕ)) (text more : List ℕ) → Appends old mid text → IsCutShort mid new more
+    → IsCutShort old new (text ++ more)
 cut_behind old mid new text more went cut = record {
   front = text ++ cut.front;
   byte = cut.byte;
@@ -44,17 +59,28 @@ cut_behind old mid new text more went cut = record {
 }
 
 -- the line of one event more
-pub line_more : (e : Emission) (event : Event) (mid new : Option (List ℕ)) (before now : ℕ) (failed after : Bool) → WritesSoFar e mid before failed → PutsUnless failed mid new before now (line event) after → WritesSoFar (record e { events = e.events ++ event ∷ [] }) new now after
+pub line_more : (e : Emission) (event : Event) (mid new : Option (List ℕ)) (before now : ℕ) (failed after : Bool)
+    → WritesSoFar e mid before failed → PutsUnless failed mid new before now (line event) after
+    → WritesSoFar (record e { events = e.events ++ event ∷ [] }) new now after
 line_more e event mid new before now true true so_far put =
-    rw (put.0, put.1) (rw (lines_more e.events event) (cut_before e.written mid (lines e.events) (line event) so_far.0), so_far.1)
+    rw (put.0, put.1) (
+      rw (lines_more e.events event) (cut_before e.written mid (lines e.events) (line event) so_far.0),
+      so_far.1,
+    )
 line_more e event mid new before now true false so_far put = absurd put
-line_more e event mid new before now false false so_far put =
-    (rw (lines_more e.events event) (Appends-trans e.written mid new (lines e.events) (line event) so_far.0 put.0), put.1 ∙ so_far.1)
-line_more e event mid new before now false true so_far put =
-    (rw (lines_more e.events event) (cut_behind e.written mid new (lines e.events) (line event) so_far.0 put.0), put.1 ∙ ap (λ (n : ℕ). n + 1) so_far.1)
+line_more e event mid new before now false false so_far put = (
+  rw (lines_more e.events event) (Appends-trans e.written mid new (lines e.events) (line event) so_far.0 put.0),
+  put.1 ∙ so_far.1,
+)
+line_more e event mid new before now false true so_far put = (
+  rw (lines_more e.events event) (cut_behind e.written mid new (lines e.events) (line event) so_far.0 put.0),
+  put.1
+      ∙ ap (λ (n : ℕ). n + 1) so_far.1,
+)
 
 -- before the first event
-pub none_yet : {O : Type 0} (written : O → Option (List ℕ)) (faults : O → ℕ) (name : ℕ) (now : O) → WritesSoFar (emission written faults name now []) (written now) (faults now) false
+pub none_yet : {O : Type 0} (written : O → Option (List ℕ)) (faults : O → ℕ) (name : ℕ) (now : O)
+    → WritesSoFar (emission written faults name now []) (written now) (faults now) false
 unfolding lines
 none_yet written faults name now = (Appends-nil (written now), refl)
 
@@ -73,7 +99,8 @@ no_byte : (front : List ℕ) (byte : ℕ) (behind : List ℕ) → [] ≡ front +
 no_byte [] byte behind e = absurd cc
 no_byte (first ∷ front) byte behind e = absurd cc
 
-cut_at : (xs ys text rest : List ℕ) (n : ℕ) → ys ≡ xs ++ take n text → rest ≡ drop n text → 0 < length rest → IsCutShort (Some xs) (Some ys) text
+cut_at : (xs ys text rest : List ℕ) (n : ℕ) → ys ≡ xs ++ take n text → rest ≡ drop n text → 0 < length rest
+    → IsCutShort (Some xs) (Some ys) text
 cut_at xs ys text [] n grew is some = absurd (let wrong : 0 < 0 = some in omega arith)
 cut_at xs ys text (byte ∷ behind) n grew is some = record {
   front = take n text;
@@ -83,11 +110,14 @@ cut_at xs ys text (byte ∷ behind) n grew is some = record {
   went = grew;
 }
 
-count_of : (xs ys text : List ℕ) → (cut : IsCutShort (Some xs) (Some ys) text) → length ys - length xs ≡ length cut.front
-count_of xs ys text cut = let e : length ys ≡ length xs + length cut.front = ap length cut.went ∙ length-append xs cut.front in omega (arith, e)
+count_of : (xs ys text : List ℕ) → (cut : IsCutShort (Some xs) (Some ys) text)
+    → length ys - length xs ≡ length cut.front
+count_of xs ys text cut = let e : length ys ≡ length xs + length cut.front =
+    ap length cut.went ∙ length-append xs cut.front in omega (arith, e)
 
 front_of : (front rest : List ℕ) → take (length front) (front ++ rest) ≡ front
-front_of front rest = take-append-le (length front) front rest (omega arith) ∙ take_all (length front) front (omega arith)
+front_of front rest = take-append-le (length front) front rest (omega arith)
+    ∙ take_all (length front) front (omega arith)
 
 grew_by : (xs ys text : List ℕ) → IsCutShort (Some xs) (Some ys) text → ys ≡ xs ++ take (length ys - length xs) text
 grew_by xs ys text cut = rw (count_of xs ys text cut, cut.whole, front_of cut.front (cut.byte ∷ cut.behind)) cut.went
@@ -95,7 +125,8 @@ grew_by xs ys text cut = rw (count_of xs ys text cut, cut.whole, front_of cut.fr
 is_left : (xs ys text : List ℕ) → IsCutShort (Some xs) (Some ys) text → 0 < length (drop (length ys - length xs) text)
 is_left xs ys text cut =
     let n = count_of xs ys text cut in
-    let all : length text ≡ length cut.front + length (cut.byte ∷ cut.behind) = ap length cut.whole ∙ length-append cut.front (cut.byte ∷ cut.behind) in
+    let all : length text ≡ length cut.front + length (cut.byte ∷ cut.behind) =
+    ap length cut.whole ∙ length-append cut.front (cut.byte ∷ cut.behind) in
     rw (n, length-drop) (omega (arith, all))
 
 cut_found : (old new : Option (List ℕ)) (text : List ℕ) → ∥ IsCutShort old new text ∥₁ → IsCutShort old new text
@@ -106,6 +137,9 @@ cut_found (Some xs) (Some ys) text cut =
     cut_at xs ys text (drop (length ys - length xs) text) (length ys - length xs)
     (∥∥₁_elim cut (search props) (grew_by xs ys text)) refl (∥∥₁_elim cut (search props) (is_left xs ys text))
 
-pub found : (e : Emission) (now : Option (List ℕ)) (faults : ℕ) (failed : Bool) → ∥ WritesSoFar e now faults failed ∥₁ → WritesSoFar e now faults failed
-found e now faults false so_far = (went_found e.written now (lines e.events) (∥∥₁_map so_far (λ w. w.0)), ∥∥₁_elim so_far (search props) (λ w. w.1))
-found e now faults true so_far = (cut_found e.written now (lines e.events) (∥∥₁_map so_far (λ w. w.0)), ∥∥₁_elim so_far (search props) (λ w. w.1))
+pub found : (e : Emission) (now : Option (List ℕ)) (faults : ℕ) (failed : Bool) → ∥ WritesSoFar e now faults failed ∥₁
+    → WritesSoFar e now faults failed
+found e now faults false so_far =
+    (went_found e.written now (lines e.events) (∥∥₁_map so_far (λ w. w.0)), ∥∥₁_elim so_far (search props) (λ w. w.1))
+found e now faults true so_far =
+    (cut_found e.written now (lines e.events) (∥∥₁_map so_far (λ w. w.0)), ∥∥₁_elim so_far (search props) (λ w. w.1))

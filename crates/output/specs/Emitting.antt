@@ -10,19 +10,26 @@ use Rattle.trace.specs.Emission.{Emission}
 abbrev pub emission : {O : Type 0} → (O → Option (List ℕ)) → (O → ℕ) → ℕ → O → List (O × Event) → Emission
 emission written faults name now [] = record { writer = name; written = written now; faults = faults now; events = [] }
 emission written faults name now (first ∷ later) =
-    record { writer = name; written = written first.0; faults = faults first.0; events = first.1 ∷ map (λ entry. entry.1) later }
+    record {
+      writer = name;
+      written = written first.0;
+      faults = faults first.0;
+      events = first.1 ∷ map (λ entry. entry.1) later;
+    }
 
 -- no event has come yet
 abbrev pub BeforeStep : {O : Type 0} → (O → Option (List ℕ)) → (O → ℕ) → ℕ → O → List (O × Event) → Type 0
 BeforeStep written faults name now items =
-    emission written faults name now items ≡ record { writer = name; written = written now; faults = faults now; events = [] }
+    emission written faults name now items
+    ≡ record { writer = name; written = written now; faults = faults now; events = [] }
 
 -- the lines of the events so far: they went out and no call failed, or a prefix of them did and one call failed
 abbrev pub WritesSoFar : Emission → Option (List ℕ) → ℕ → Bool → Type 0
 WritesSoFar e now faults false = Appends e.written now (lines e.events) × (faults ≡ e.faults)
 WritesSoFar e now faults true = IsCutShort e.written now (lines e.events) × (faults ≡ e.faults + 1)
 
--- a line after others: it isn't begun where one of those failed; otherwise it went out, or it failed and a prefix of it did
+-- a line after others: it isn't begun where one of those failed; otherwise it went out, or it failed and a prefix of it
+-- did
 abbrev pub PutsUnless : Bool → Option (List ℕ) → Option (List ℕ) → ℕ → ℕ → List ℕ → Bool → Type 0
 PutsUnless true old new before now text true = (new ≡ old) × (now ≡ before)
 PutsUnless true old new before now text false = ⊥

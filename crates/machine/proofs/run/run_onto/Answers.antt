@@ -1,6 +1,7 @@
 use Rattle.std.proofs.Common.{◌≡◌, ◌⊎◌, inl, inr, ◌∙◌, sym, refl, ap, arith, IsSome, is_some, false}
 use Rattle.std.proofs.KnownBytes.{Appends-nil}
-use Rattle.machine.proofs.Running.{none_made, none_told, after_on, told_on, made_on, not_some, cut_in_step, cut_in_stop, all_told, all_made, ends_so, alone}
+use Rattle.machine.proofs.Running.{none_made, none_told, after_on, told_on, made_on, not_some, cut_in_step, cut_in_stop}
+use Rattle.machine.proofs.Running.{all_told, all_made, ends_so, alone}
 use Rattle.machine.proofs.run.run_onto.Goals as goal
 use Rattle.machine.proofs.run.run_onto.Goals.{else-steps-test, then-steps-test+then-is_some}
 
@@ -38,22 +39,28 @@ returns-in-Err-clause-cut g c =
 
 pub returns-in-Ok-put_all-clause-written : goal.returns-in-Ok-put_all-clause-written
 returns-in-Ok-put_all-clause-written g c =
-    let ends : (c.steps.made ≡ c.args.limit) ⊎ IsSome c.steps.core.stop = elim c.steps-test.branch [ else-steps-test w ↦ inl (omega arith) | then-steps-test+then-is_some w ↦ inr cc ] in
+    let ends : (c.steps.made ≡ c.args.limit) ⊎ IsSome c.steps.core.stop =
+    elim c.steps-test.branch [ else-steps-test w ↦ inl (omega arith) | then-steps-test+then-is_some w ↦ inr cc ] in
     let text = alone _ _ _ _ c.as_slice.ensures c.put_stop.ensures.text c.new-page.ensures in
-    all_told _ _ _ _ _ _ _ _ c.steps.invariant.few c.steps.invariant.core c.steps.invariant.told (rw text at c.in-Ok-put_all.ensures.put.0) (cc) ends
+    all_told _ _ _ _ _ _ _ _ c.steps.invariant.few c.steps.invariant.core c.steps.invariant.told
+    (rw text at c.in-Ok-put_all.ensures.put.0) (cc) ends
 
 pub returns-in-Ok-put_all-clause-state : goal.returns-in-Ok-put_all-clause-state
 returns-in-Ok-put_all-clause-state g c =
-    let ends : (c.steps.made ≡ c.args.limit) ⊎ IsSome c.steps.core.stop = elim c.steps-test.branch [ else-steps-test w ↦ inl (omega arith) | then-steps-test+then-is_some w ↦ inr cc ] in
+    let ends : (c.steps.made ≡ c.args.limit) ⊎ IsSome c.steps.core.stop =
+    elim c.steps-test.branch [ else-steps-test w ↦ inl (omega arith) | then-steps-test+then-is_some w ↦ inr cc ] in
     all_made _ _ _ _ c.steps.invariant.few c.steps.invariant.core ends
 
 pub returns-in-Ok-put_all-clause-stop : goal.returns-in-Ok-put_all-clause-stop
 returns-in-Ok-put_all-clause-stop g c =
-    let ends : (c.steps.made ≡ c.args.limit) ⊎ IsSome c.steps.core.stop = elim c.steps-test.branch [ else-steps-test w ↦ inl (omega arith) | then-steps-test+then-is_some w ↦ inr cc ] in
+    let ends : (c.steps.made ≡ c.args.limit) ⊎ IsSome c.steps.core.stop =
+    elim c.steps-test.branch [ else-steps-test w ↦ inl (omega arith) | then-steps-test+then-is_some w ↦ inr cc ] in
     ends_so _ _ _ _ (cc) (all_made _ _ _ _ c.steps.invariant.few c.steps.invariant.core ends)
 
 pub returns-in-Err-put_all-clause-cut : goal.returns-in-Err-put_all-clause-cut
 returns-in-Err-put_all-clause-cut g c =
-    let ends : (c.steps.made ≡ c.args.limit) ⊎ IsSome c.steps.core.stop = elim c.steps-test.branch [ else-steps-test w ↦ inl (omega arith) | then-steps-test+then-is_some w ↦ inr cc ] in
+    let ends : (c.steps.made ≡ c.args.limit) ⊎ IsSome c.steps.core.stop =
+    elim c.steps-test.branch [ else-steps-test w ↦ inl (omega arith) | then-steps-test+then-is_some w ↦ inr cc ] in
     let text = alone _ _ _ _ c.as_slice.ensures c.put_stop.ensures.text c.new-page.ensures in
-    cut_in_stop _ _ _ _ _ _ _ _ c.steps.invariant.few c.steps.invariant.made c.steps.invariant.core c.steps.invariant.told (rw text at c.in-Err-put_all.ensures.put.0) (cc) ends
+    cut_in_stop _ _ _ _ _ _ _ _ c.steps.invariant.few c.steps.invariant.made c.steps.invariant.core
+    c.steps.invariant.told (rw text at c.in-Err-put_all.ensures.put.0) (cc) ends

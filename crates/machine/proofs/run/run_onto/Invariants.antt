@@ -12,7 +12,8 @@ invariant-steps g l = record {
   made : (k : ℕ) → k < l.made → (after k l.fn.core).stop ≡ None;
   same_writer : l.lines.out.ghost_name ≡ l.fn.lines.out.ghost_name;
   empty : BeforeStep g.W.Out.written g.W.Out.faults l.lines.out.ghost_name l.lines.out.now l.lines.history.items;
-  told : Appends (g.W.Out.written l.fn.lines.out.now) (g.W.Out.written l.lines.out.now) (lines (events_of l.made l.fn.core));
+  told : Appends (g.W.Out.written l.fn.lines.out.now) (g.W.Out.written l.lines.out.now)
+      (lines (events_of l.made l.fn.core));
   same : g.W.Out.faults l.lines.out.now ≡ g.W.Out.faults l.fn.lines.out.now;
 }
 

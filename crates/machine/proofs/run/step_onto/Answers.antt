@@ -5,7 +5,8 @@ use Rattle.machine.proofs.run.step_onto.Goals as goal
 
 pub returns-clause-same_writer : goal.returns-clause-same_writer
 returns-clause-same_writer g c =
-    c.end.ensures.same_writer ∙ same_writer g.W.Out.written g.W.Out.faults _ _ c.args.lines.now.out.now c.step.new.events.out.now _ _ _ c.step.ensures.events
+    c.end.ensures.same_writer ∙ same_writer g.W.Out.written g.W.Out.faults _ _ c.args.lines.now.out.now
+    c.step.new.events.out.now _ _ _ c.step.ensures.events
 
 pub returns-clause-put : goal.returns-clause-put
 returns-clause-put g c =
