@@ -69,7 +69,8 @@ abbrev pub chained : State → List Event → ℕ → Option ℕ → Stepped
 chained s events e (Some x) = record { state = with_entry s e; events = events }
 chained s events e None = pop_stack s events e
 
--- the exception isn't active any more: a return that isn't allowed is a fault, at the priority of this moment
+-- after DeActivate(): a return that passed the check goes on; any other is UsageFault INVPC, at the priority of this
+-- moment
 abbrev pub returned : State → List Event → ℕ → Bool → Stepped
 returned s events e true = chained s events e (candidate s.bus.system.nvic)
 returned s events e false = failed (with_entry s e) events (Usage InvalidReturn)

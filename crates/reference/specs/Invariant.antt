@@ -23,7 +23,7 @@ pub record HasTimerBits (t : SysTick) : Type 0 where
   pub reload : t.reload < 2 ^ 24
   pub current : t.current < 2 ^ 24
 
--- a byte of which the board keeps each bit that is set
+-- a priority byte with no bits set but those that the board keeps
 pub record IsKeptByte (bits b : ℕ) : Type 0 where
   pub byte : b < 2 ^ 8
   pub kept : kept bits b ≡ b
@@ -49,8 +49,8 @@ pub record HasExceptionsOfBoard (n : Nvic) : Type 0 where
   pub active : HasOnly (is_exception n.lines) n.active
   pub lines : n.lines ≤ MOST_LINES
 
--- the events that are still to come are a script of a board with these lines, later than the clock, and there is a
--- level for each line
+-- the events that are still to come are a script of a board with these lines, later than the clock, and for each
+-- line there is whether it is high
 pub record IsAhead (lines : ℕ) (t : Time) : Type 0 where
   pub script : IsScriptFrom lines (t.ticks + 1) t.script
   pub levels : length t.high ≡ MOST_LINES
@@ -77,7 +77,7 @@ pub record SystemInvariant (s : System) : Type 0 where
   pub priorities : KeepsTopBits s.nvic
   pub sets : HasExceptionsOfBoard s.nvic
   pub script : IsAhead s.nvic.lines s.time
-  -- enabled regions are such as a write takes
+  -- each enabled region has attributes that a write to RASR accepts
   pub regions : IsSound s.mpu
 
 -- what holds of the state

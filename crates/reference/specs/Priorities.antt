@@ -59,7 +59,7 @@ has_byte lines x = is_exception lines x && not (is_fixed x)
 abbrev pub is_in : List Bool → ℕ → Bool
 is_in set x = slice_index_or set x false
 
--- whether x is enabled, be it always
+-- whether x is enabled, those that always are included
 abbrev pub is_enabled : Nvic → ℕ → Bool
 is_enabled n x = is_always_enabled x || is_in n.enabled x
 

@@ -87,7 +87,7 @@ has_width register.Unlisted size = true
 
 -- ---- the bytes of a word that an access takes
 
--- the first of them; an access is aligned
+-- the number of the first byte of the word that an access takes; an access is aligned
 abbrev pub first_byte : Size → ℕ → ℕ
 first_byte Byte address = address % 4
 first_byte Halfword address = address / 2 % 2 * 2

@@ -165,7 +165,7 @@ script_due (e ∷ events) = e.at
 abbrev pub event_applies_next : Time → Bool
 event_applies_next t = nat_le (script_due t.script) (t.ticks + 1)
 
--- the earlier of SysTick's due tick and the tick `event` of the script's next event, and `never` at the latest
+-- the earlier of SysTick's next 0 and the tick `event` of the script's next event, but no later than `never`
 abbrev pub next_due : ℕ → SysTick → ℕ → ℕ
 next_due ticks t event = min never (min (timer_due ticks t) event)
 

@@ -1,5 +1,5 @@
 //! Runs images on a board and prints what each of them writes to its console, and why its run ended.
-//! The gate runs it over the firmware of `examples/firmware` and compares what it prints.
+//! CI runs it over the firmware of `examples/firmware` and compares what it prints.
 #![tactic(auto)]
 
 use board::{Board, read_board};
