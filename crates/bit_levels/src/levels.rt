@@ -48,7 +48,7 @@ impl Model for BitLevels {
       priority_bits = l.bits;
     } };
 
-    ghost invariant = { λ l. (l.group < 8) × (l.lines ≤ 240) × IsKept l.levels l.held l.enabled l.priorities × AreKeptBytes l.bits l.priorities };
+    ghost invariant = { λ l. (l.group < 8) × (l.lines ≤ MOST_LINES) × IsKept l.levels l.held l.enabled l.priorities × AreKeptBytes l.bits l.priorities };
 }
 
 impl BitLevels {

@@ -3,6 +3,7 @@ use Rattle.std.proofs.Common.{◌≡◌, ℕ, ◌+◌, ◌%◌, ◌≤◌, true,
 use Rattle.std.proofs.lemmas.Bool.Decides.{nat_tests}
 use Rattle.board.specs.declared.whole.Board.{Board}
 use Rattle.board.specs.Seen.{described}
+use Rattle.reference.specs.declared.exception.TheConstants.{MOST_LINES}
 use Rattle.reference.specs.declared.mpu.RegionCount.{RegionCount}
 use Rattle.reference.specs.declared.mpu.RegionCount.TheVariants.{Eight, Sixteen}
 use Rattle.reference.specs.Boards.{IsScript, is_flash, is_line_count, is_region_count}
@@ -10,7 +11,7 @@ use Rattle.reference.specs.Invariant.{IsBoard}
 use Rattle.reference.specs.Map.{ram_base}
 use Rattle.reference.specs.Regions.{region_number}
 
-few_lines : (lines : ℕ) → lines ≤ 240 → is_line_count lines ≡ true
+few_lines : (lines : ℕ) → lines ≤ MOST_LINES → is_line_count lines ≡ true
 few_lines lines few = grind (arith, nat_tests)
 
 flash_fits : (base size : ℕ) → size % 1024 ≡ 0 → 1024 ≤ size → size ≤ 0x10_0000 → base + size ≤ ram_base →

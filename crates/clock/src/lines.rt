@@ -3,10 +3,11 @@
 ghost use Rattle.std.specs.Prelude.{◌≡◌, false, slice_index_or};
 ghost use Rattle.reference.specs.Time.{with_signal, with_events};
 
+use reference::exception::MOST_LINES;
 use reference::script::{InterruptLine, ScriptedEvent, Signal};
 
 /// How many lines there can be.
-pub const LINES: usize = InterruptLine::MOST as usize;
+pub const LINES: usize = MOST_LINES as usize;
 
 /// For each line, whether it is high.
 pub type Levels = [bool; LINES];

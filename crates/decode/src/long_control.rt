@@ -9,7 +9,9 @@ ghost use Rattle.reference.specs.RowOperands.{number};
 use encodings::operands::{hint, sign_extend};
 use encodings::outcomes::{is_bad, long, placed, unless, unless_refused};
 use encodings::rows;
-use reference::instruction::{BlockPlace, Branch, Decoded, Exclusive, Hint, Instruction, System};
+use reference::instruction::{
+    BlockPlace, Branch, Decoded, Exclusive, Hint, Instruction, InstructionLength, System,
+};
 use reference::operands::{
     ConditionalBranch, MoveFromSpecial, MoveToSpecial, Offset, SpecialRegister,
 };
@@ -93,7 +95,7 @@ fn branch_with_link(offset: u32) -> Decoded
     ensures { result ≡ branch_with_link_row offset }
 {
     placed(
-        4,
+        InstructionLength::Long,
         BlockPlace::LastOnly,
         Instruction::Branch(Branch::WithLink(Offset { offset })),
     )
@@ -105,7 +107,7 @@ fn branch_wide(offset: u32) -> Decoded
     ensures { result ≡ branch_wide_row offset }
 {
     placed(
-        4,
+        InstructionLength::Long,
         BlockPlace::LastOnly,
         Instruction::Branch(Branch::Immediate(Offset { offset })),
     )
@@ -120,7 +122,7 @@ fn branch_wide_if(condition: u8, offset: u32) -> Decoded
         condition,
         offset,
     }));
-    placed(4, BlockPlace::Never, instruction)
+    placed(InstructionLength::Long, BlockPlace::Never, instruction)
 }
 
 /// Returns MSR: the mask is 10, since there are no GE flags to write.

@@ -12,7 +12,7 @@ use encodings::rows;
 use reference::access::Size;
 use reference::access::Size::Word;
 use reference::instruction::{
-    BlockPlace, Branch, Decoded, Exclusive, Instruction, LoadStoreMultiple,
+    BlockPlace, Branch, Decoded, Exclusive, Instruction, InstructionLength, LoadStoreMultiple,
 };
 use reference::operands::{
     ImmediateAddress, Indexing, LoadDual, LoadDualLiteral, LoadExclusive, StoreDual,
@@ -116,7 +116,12 @@ fn table_branch(size: Size, n: Register, m: Register) -> Decoded
         index: m,
     }));
     let refused = n.number() == 13 || is_bad(m);
-    placed_unless(refused, 4, BlockPlace::LastOnly, instruction)
+    placed_unless(
+        refused,
+        InstructionLength::Long,
+        BlockPlace::LastOnly,
+        instruction,
+    )
 }
 
 /// Returns the address of LDRD and STRD.

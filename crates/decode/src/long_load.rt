@@ -11,7 +11,9 @@ use encodings::operands::{
 use encodings::outcomes::{is_bad, last_only_if, long, long_unless, placed_unless, unless_refused};
 use encodings::rows;
 use reference::access::Size;
-use reference::instruction::{BlockPlace, Decoded, Hint, Instruction, LoadStore, System};
+use reference::instruction::{
+    BlockPlace, Decoded, Hint, Instruction, InstructionLength, LoadStore, System,
+};
 use reference::operands::{
     ImmediateAddress, LoadForm, LoadImmediate, LoadLiteral, LoadRegister, RegisterAddress,
 };
@@ -159,7 +161,7 @@ fn load_literal(form: LoadForm, t: Register, offset: u32) -> Decoded
         target: t,
         offset,
     }));
-    placed_unless(refused, 4, place, instruction)
+    placed_unless(refused, InstructionLength::Long, place, instruction)
 }
 
 /// Returns a load at a register and an offset: a base that is written isn't the target.
@@ -176,7 +178,7 @@ fn load_at(form: LoadForm, t: Register, address: ImmediateAddress) -> Decoded
         address,
         unprivileged: false,
     }));
-    placed_unless(refused, 4, place, instruction)
+    placed_unless(refused, InstructionLength::Long, place, instruction)
 }
 
 /// Returns the same as by unprivileged code, which goes neither to SP nor to PC.
@@ -209,7 +211,7 @@ fn load_indexed(form: LoadForm, t: Register, n: Register, m: Register, shift: u8
             shift,
         },
     }));
-    placed_unless(refused, 4, place, instruction)
+    placed_unless(refused, InstructionLength::Long, place, instruction)
 }
 
 /// Returns PLD and PLI, where a byte would be loaded to PC; where a halfword would be, the hint is

@@ -8,7 +8,9 @@ ghost use Rattle.reference.specs.LongMultiple.{has_few, load_list_wide_row, mult
 use encodings::operands::is_in_list;
 use encodings::outcomes::{last_only_if, long_unless, placed_unless, unless};
 use encodings::rows;
-use reference::instruction::{BlockPlace, Decoded, Instruction, LoadStoreMultiple};
+use reference::instruction::{
+    BlockPlace, Decoded, Instruction, InstructionLength, LoadStoreMultiple,
+};
 use reference::operands::ListOrder::{DecrementBefore, IncrementAfter};
 use reference::operands::{ListOrder, LoadMultiple, StoreMultiple};
 use reference::registers::{Register, RegisterList};
@@ -89,6 +91,6 @@ fn load_list_wide(n: Register, list: u16, order: ListOrder, write_back: bool) ->
             write_back,
         },
     ));
-    let allowed = placed_unless(refused, 4, place, instruction);
+    let allowed = placed_unless(refused, InstructionLength::Long, place, instruction);
     unless(has_few(list), place, UnpredictableCase::EmptyList, allowed)
 }

@@ -8,7 +8,7 @@ ghost use Rattle.reference.specs.ShortBranches.{branch_if_row, branch_row, branc
 use encodings::operands::sign_extend;
 use encodings::outcomes::{placed, short};
 use encodings::rows;
-use reference::instruction::{BlockPlace, Branch, Decoded, Instruction, System};
+use reference::instruction::{BlockPlace, Branch, Decoded, Instruction, InstructionLength, System};
 use reference::operands::{ConditionalBranch, Offset};
 
 /// Returns what a halfword means by these rows.
@@ -36,7 +36,7 @@ fn branch_if(condition: u8, halfwords: u8) -> Decoded
         condition,
         offset: sign_extend(9, halfwords as u32 * 2),
     }));
-    placed(2, BlockPlace::Never, instruction)
+    placed(InstructionLength::Short, BlockPlace::Never, instruction)
 }
 
 /// Returns B: the offset counts halfwords, and is signed.
@@ -48,5 +48,5 @@ fn branch(halfwords: u32) -> Decoded
     let instruction = Instruction::Branch(Branch::Immediate(Offset {
         offset: sign_extend(12, halfwords * 2),
     }));
-    placed(2, BlockPlace::LastOnly, instruction)
+    placed(InstructionLength::Short, BlockPlace::LastOnly, instruction)
 }

@@ -12,7 +12,8 @@ use encodings::rows;
 use reference::access::Size;
 use reference::access::Size::{Byte, Halfword};
 use reference::instruction::{
-    BlockPlace, Branch, DataProcessing, Decoded, Instruction, LoadStoreMultiple, System,
+    BlockPlace, Branch, DataProcessing, Decoded, Instruction, InstructionLength, LoadStoreMultiple,
+    System,
 };
 use reference::operands::DataOperation::{Add, Subtract};
 use reference::operands::Rearrangement::{ReverseHalfwords, ReverseSignedHalfword, ReverseWord};
@@ -159,7 +160,7 @@ fn pop(pc: u16, list: u8) -> Decoded
         list == 0,
         place,
         UnpredictableCase::EmptyList,
-        placed(2, place, instruction),
+        placed(InstructionLength::Short, place, instruction),
     )
 }
 
@@ -174,7 +175,7 @@ fn compare_and_branch(nonzero: bool, halfwords: u32, n: Register) -> Decoded
         register: n,
         offset: halfwords * 2,
     }));
-    placed(2, BlockPlace::Never, instruction)
+    placed(InstructionLength::Short, BlockPlace::Never, instruction)
 }
 
 /// Returns CPS.
@@ -187,7 +188,12 @@ fn change_state(disables: bool, primask: bool, faultmask: bool) -> Decoded
         primask,
         faultmask,
     }));
-    placed_unless(!primask && !faultmask, 2, BlockPlace::Never, instruction)
+    placed_unless(
+        !primask && !faultmask,
+        InstructionLength::Short,
+        BlockPlace::Never,
+        instruction,
+    )
 }
 
 /// Returns BKPT.
@@ -215,7 +221,7 @@ fn if_then(condition: u8, mask: u8) -> Decoded
         BlockPlace::Never,
         UnpredictableCase::ItBlock,
         placed(
-            2,
+            InstructionLength::Short,
             BlockPlace::Never,
             Instruction::Branch(Branch::IfThen(IfThen { condition, mask })),
         ),

@@ -8,7 +8,7 @@ ghost use Rattle.reference.specs.ShortShifts.{compare_number_row, data_number_ro
 use encodings::operands::{number, unshifted};
 use encodings::outcomes::{placed, short};
 use encodings::rows;
-use reference::instruction::{BlockPlace, DataProcessing, Decoded, Instruction};
+use reference::instruction::{BlockPlace, DataProcessing, Decoded, Instruction, InstructionLength};
 use reference::operands::DataOperation::{Add, Subtract};
 use reference::operands::{
     CompareImmediate, Comparison, DataImmediate, DataOperation, DataRegister, FlagSetting,
@@ -59,7 +59,7 @@ fn move_low(d: Register, m: Register) -> Decoded
         destination: d,
         source: unshifted(m),
     }));
-    placed(2, BlockPlace::Never, instruction)
+    placed(InstructionLength::Short, BlockPlace::Never, instruction)
 }
 
 /// Returns a shift by a number: MOV of a shifted register.

@@ -8,7 +8,9 @@ ghost use Rattle.reference.specs.ShortSpecial.{add_high_row, branch_exchange_row
 use encodings::operands::unshifted;
 use encodings::outcomes::{last_only_if, placed, placed_unless, short, unless_refused};
 use encodings::rows;
-use reference::instruction::{BlockPlace, Branch, DataProcessing, Decoded, Instruction};
+use reference::instruction::{
+    BlockPlace, Branch, DataProcessing, Decoded, Instruction, InstructionLength,
+};
 use reference::operands::{
     BranchExchange, CompareRegister, Comparison, DataOperation, DataRegister, FlagSetting,
     MoveOperation, MoveRegister,
@@ -42,7 +44,12 @@ fn add_high(d: Register, m: Register) -> Decoded
         first: d,
         second: unshifted(m),
     }));
-    placed_unless(d.number() == 15 && m.number() == 15, 2, place, instruction)
+    placed_unless(
+        d.number() == 15 && m.number() == 15,
+        InstructionLength::Short,
+        place,
+        instruction,
+    )
 }
 
 /// Returns CMP of any registers, of which one is above R7.
@@ -74,7 +81,11 @@ fn move_high(d: Register, m: Register) -> Decoded
         destination: d,
         source: unshifted(m),
     }));
-    placed(2, last_only_if(d.number() == 15), instruction)
+    placed(
+        InstructionLength::Short,
+        last_only_if(d.number() == 15),
+        instruction,
+    )
 }
 
 /// Returns BX.
@@ -86,7 +97,7 @@ fn branch_exchange(m: Register) -> Decoded
         links: false,
         target: m,
     }));
-    placed(2, BlockPlace::LastOnly, instruction)
+    placed(InstructionLength::Short, BlockPlace::LastOnly, instruction)
 }
 
 /// Returns BLX.
@@ -98,5 +109,10 @@ fn branch_link_exchange(m: Register) -> Decoded
         links: true,
         target: m,
     }));
-    placed_unless(m.number() == 15, 2, BlockPlace::LastOnly, instruction)
+    placed_unless(
+        m.number() == 15,
+        InstructionLength::Short,
+        BlockPlace::LastOnly,
+        instruction,
+    )
 }

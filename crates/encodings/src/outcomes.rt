@@ -5,24 +5,26 @@ ghost use Rattle.reference.specs.Rows.{as_printed, short, long, placed, last_onl
 ghost use Rattle.reference.specs.declared.instruction.BlockPlace.TheVariants.{Anywhere};
 ghost use Rattle.reference.specs.declared.stop.UnpredictableCase.TheVariants.{Registers};
 
-use reference::instruction::{BlockPlace, CodedInstruction, Decoded, Instruction};
+use reference::instruction::{
+    BlockPlace, CodedInstruction, Decoded, Instruction, InstructionLength,
+};
 use reference::registers::Register;
 use reference::stop::UnpredictableCase;
 
-/// Returns an instruction of two bytes at any position in an IT block.
+/// Returns an instruction of one halfword at any position in an IT block.
 #[inline]
 pub fn short(instruction: Instruction) -> Decoded
     ensures { result ≡ short instruction }
 {
-    placed(2, BlockPlace::Anywhere, instruction)
+    placed(InstructionLength::Short, BlockPlace::Anywhere, instruction)
 }
 
-/// Returns an instruction of four bytes at any position in an IT block.
+/// Returns an instruction of two halfwords at any position in an IT block.
 #[inline]
 pub fn long(instruction: Instruction) -> Decoded
     ensures { result ≡ long instruction }
 {
-    placed(4, BlockPlace::Anywhere, instruction)
+    placed(InstructionLength::Long, BlockPlace::Anywhere, instruction)
 }
 
 /// Returns whether a register is SP or PC: `BadReg()`.
@@ -33,9 +35,9 @@ pub fn is_bad(register: Register) -> bool
     register.number() == 13 || register.number() == 15
 }
 
-/// Returns an instruction of that many bytes at that position in an IT block.
+/// Returns an instruction of that length at that position in an IT block.
 #[inline]
-pub fn placed(length: u8, place: BlockPlace, instruction: Instruction) -> Decoded
+pub fn placed(length: InstructionLength, place: BlockPlace, instruction: Instruction) -> Decoded
     ensures { result ≡ placed length place instruction }
 {
     Decoded::Instr(CodedInstruction {
@@ -87,7 +89,7 @@ pub fn unless_refused(refused: bool, decoded: Decoded) -> Decoded
     )
 }
 
-/// Returns an instruction of four bytes at any position in an IT block, unless it refuses its
+/// Returns an instruction of two halfwords at any position in an IT block, unless it refuses its
 /// registers.
 #[inline]
 pub fn long_unless(refused: bool, instruction: Instruction) -> Decoded
@@ -96,12 +98,12 @@ pub fn long_unless(refused: bool, instruction: Instruction) -> Decoded
     unless_refused(refused, long(instruction))
 }
 
-/// Returns an instruction of that many bytes at that position in an IT block, unless it refuses its
+/// Returns an instruction of that length at that position in an IT block, unless it refuses its
 /// registers.
 #[inline]
 pub fn placed_unless(
     refused: bool,
-    length: u8,
+    length: InstructionLength,
     place: BlockPlace,
     instruction: Instruction,
 ) -> Decoded

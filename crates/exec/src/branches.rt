@@ -10,7 +10,7 @@ use crate::planning::Requests;
 use crate::program_counter::{branch_by, branched, exchange, move_on};
 use reference::access::{Access, Kind};
 use reference::failure::{Failure, Traps};
-use reference::instruction::{Branch, Ending};
+use reference::instruction::{Branch, Ending, InstructionLength};
 use reference::operands::{
     BranchExchange, CompareAndBranch, ConditionalBranch, IfThen, TableBranch,
 };
@@ -53,10 +53,10 @@ pub fn plan(
     }
 }
 
-/// Carries out a branch of `length` bytes.
+/// Carries out a branch of that length.
 #[inline]
 #[tactic(auto, unfolding(reference::specs::Branches::branch_effect))]
-pub fn finish(length: u8, branch: &Branch, regs: &mut Regs, values: &[u32]) -> Ending
+pub fn finish(length: InstructionLength, branch: &Branch, regs: &mut Regs, values: &[u32]) -> Ending
     ensures { finished_as regs.new result ≡ branch_effect length branch.now regs.old values.now }
 {
     match branch {
@@ -74,7 +74,11 @@ pub fn finish(length: u8, branch: &Branch, regs: &mut Regs, values: &[u32]) -> E
 
 /// B with a condition of its own.
 #[inline]
-fn conditional_branch(regs: &mut Regs, length: u8, operands: &ConditionalBranch) -> Ending
+fn conditional_branch(
+    regs: &mut Regs,
+    length: InstructionLength,
+    operands: &ConditionalBranch,
+) -> Ending
     ensures { finished_as regs.new result ≡ conditional_branch length operands.now regs.old }
 {
     if regs.condition(operands.condition) {
@@ -85,16 +89,16 @@ fn conditional_branch(regs: &mut Regs, length: u8, operands: &ConditionalBranch)
 
 /// LR is given the address of the next instruction, with bit 0 set.
 #[inline]
-fn link(regs: &mut Regs, length: u8)
+fn link(regs: &mut Regs, length: InstructionLength)
     ensures { regs.new ≡ with_link length regs.old }
 {
-    let next = regs.pc().wrapping_add(u32::from(length));
+    let next = regs.pc().wrapping_add(length.bytes());
     regs.set(Register::new(LR), (next & !1) + 1);
 }
 
 /// BL.
 #[inline]
-fn branch_with_link(regs: &mut Regs, length: u8, offset: u32) -> Ending
+fn branch_with_link(regs: &mut Regs, length: InstructionLength, offset: u32) -> Ending
     ensures { finished_as regs.new result ≡ branches_by offset (with_link length regs.old) }
 {
     link(regs, length);
@@ -103,7 +107,7 @@ fn branch_with_link(regs: &mut Regs, length: u8, offset: u32) -> Ending
 
 /// BX, and BLX, which never returns from an exception.
 #[inline]
-fn branch_exchange(regs: &mut Regs, length: u8, operands: &BranchExchange) -> Ending
+fn branch_exchange(regs: &mut Regs, length: InstructionLength, operands: &BranchExchange) -> Ending
     ensures { finished_as regs.new result ≡ branch_exchange length operands.now regs.old }
 {
     let target = regs.get(operands.target);
@@ -126,7 +130,11 @@ fn takes_branch(operands: &CompareAndBranch, regs: &Regs) -> bool
 
 /// CBZ and CBNZ.
 #[inline]
-fn compare_and_branch(regs: &mut Regs, length: u8, operands: &CompareAndBranch) -> Ending
+fn compare_and_branch(
+    regs: &mut Regs,
+    length: InstructionLength,
+    operands: &CompareAndBranch,
+) -> Ending
     ensures { finished_as regs.new result ≡ compare_and_branch length operands.now regs.old }
 {
     if takes_branch(operands, regs) {
@@ -164,10 +172,10 @@ fn begun(operands: &IfThen) -> u8
 
 /// IT: the block begins with the next instruction, so nothing is advanced.
 #[inline]
-fn if_then(regs: &mut Regs, length: u8, operands: &IfThen) -> Ending
+fn if_then(regs: &mut Regs, length: InstructionLength, operands: &IfThen) -> Ending
     ensures { finished_as regs.new result ≡ if_then length operands.now regs.old }
 {
     regs.set_it(begun(operands));
-    regs.go_on(u32::from(length));
+    regs.go_on(length.bytes());
     Ending::Next
 }

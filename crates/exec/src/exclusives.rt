@@ -12,7 +12,7 @@ use crate::planning::Requests;
 use crate::program_counter::move_on;
 use reference::access::{Access, Kind, Request};
 use reference::failure::{Failure, UsageFault};
-use reference::instruction::{Ending, Exclusive};
+use reference::instruction::{Ending, Exclusive, InstructionLength};
 use reference::map::is_device;
 use reference::operands::{LoadExclusive, StoreExclusive};
 use reference::registers::Register;
@@ -42,9 +42,14 @@ pub fn plan(instruction: &Exclusive, regs: &Regs, requests: &mut Requests) -> Re
     }
 }
 
-/// Carries out an exclusive of `length` bytes with the value that it read.
+/// Carries out an exclusive of that length with the value that it read.
 #[tactic(auto, unfolding(reference::specs::Exclusives::exclusive_effect))]
-pub fn finish(length: u8, instruction: &Exclusive, regs: &mut Regs, values: &[u32]) -> Ending
+pub fn finish(
+    length: InstructionLength,
+    instruction: &Exclusive,
+    regs: &mut Regs,
+    values: &[u32],
+) -> Ending
     ensures { finished_as regs.new result ≡ exclusive_effect length instruction.now regs.old values.now }
 {
     match instruction {

@@ -7,7 +7,7 @@ ghost use Rattle.reference.specs.Operations.{result_of, effect};
 use crate::planning::is_carried_out;
 use crate::program_counter::move_on;
 use crate::{branches, exclusives, load_store, load_store_multiple, processing, system};
-use reference::instruction::{CodedInstruction, Ending, Instruction};
+use reference::instruction::{CodedInstruction, Ending, Instruction, InstructionLength};
 use regs::Regs;
 
 /// Carries out an instruction with the values that it read, in the order of its accesses. Where its
@@ -23,10 +23,15 @@ pub fn finish(coded: &CodedInstruction, regs: &mut Regs, values: &[u32]) -> Endi
     move_on(regs, coded.length)
 }
 
-/// Carries out an instruction of `length` bytes whose condition holds.
+/// Carries out an instruction of that length whose condition holds.
 #[inline]
 #[tactic(auto, unfolding(reference::specs::Operations::effect))]
-fn finish_family(length: u8, instruction: &Instruction, regs: &mut Regs, values: &[u32]) -> Ending
+fn finish_family(
+    length: InstructionLength,
+    instruction: &Instruction,
+    regs: &mut Regs,
+    values: &[u32],
+) -> Ending
     ensures { finished_as regs.new result ≡ effect length instruction.now regs.old values.now }
 {
     match instruction {

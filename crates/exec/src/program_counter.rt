@@ -5,19 +5,19 @@ ghost use Rattle.std.specs.Prelude.{◌≡◌, ◌==◌};
 ghost use Rattle.exec.specs.Plans.{finished_as};
 ghost use Rattle.reference.specs.ProgramCounter.{moves_on, branches, branches_by, is_exception_return, exchanges, loads_into};
 
-use reference::instruction::Ending;
+use reference::instruction::{Ending, InstructionLength};
 use reference::registers::Register;
 use regs::Regs;
 
 // ---- the end of an instruction
 
-/// The PC goes on by the length of the instruction, in bytes.
+/// The PC goes on by the length of the instruction.
 #[inline]
-pub fn move_on(regs: &mut Regs, length: u8) -> Ending
+pub fn move_on(regs: &mut Regs, length: InstructionLength) -> Ending
     ensures { finished_as regs.new result ≡ moves_on length regs.old }
 {
     regs.it_advance();
-    regs.go_on(u32::from(length));
+    regs.go_on(length.bytes());
     Ending::Next
 }
 
@@ -72,7 +72,7 @@ pub fn exchange(regs: &mut Regs, value: u32) -> Ending
 
 /// Writes a loaded value to a register: `LoadWritePC(value)` for the PC.
 #[inline]
-pub fn load_into(regs: &mut Regs, length: u8, target: Register, value: u32) -> Ending
+pub fn load_into(regs: &mut Regs, length: InstructionLength, target: Register, value: u32) -> Ending
     ensures { finished_as regs.new result ≡ loads_into length target value regs.old }
 {
     if is_pc(target) {

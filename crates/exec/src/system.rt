@@ -6,7 +6,7 @@ ghost use Rattle.exec.specs.Plans.{finished_as};
 ghost use Rattle.reference.specs.SystemInstructions.{has_no_condition, hint_ending, moves_on_and, system_effect};
 
 use crate::program_counter::move_on;
-use reference::instruction::{Ending, Hint, System};
+use reference::instruction::{Ending, Hint, InstructionLength, System};
 use regs::Regs;
 
 /// Whether an instruction has no condition, not even that of an IT block.
@@ -24,10 +24,10 @@ pub fn has_no_condition(instruction: &System) -> bool
     }
 }
 
-/// Carries out an instruction of `length` bytes. What it does beside the PC is its ending.
+/// Carries out an instruction of that length. What it does beside the PC is its ending.
 #[inline]
 #[tactic(auto, unfolding(reference::specs::SystemInstructions::system_effect))]
-pub fn finish(length: u8, instruction: &System, regs: &mut Regs) -> Ending
+pub fn finish(length: InstructionLength, instruction: &System, regs: &mut Regs) -> Ending
     ensures { finished_as regs.new result ≡ system_effect length instruction.now regs.old }
 {
     match instruction {
@@ -49,7 +49,7 @@ pub fn finish(length: u8, instruction: &System, regs: &mut Regs) -> Ending
 
 /// The PC goes on, and something else is done.
 #[inline]
-fn move_on_and(ending: Ending, regs: &mut Regs, length: u8) -> Ending
+fn move_on_and(ending: Ending, regs: &mut Regs, length: InstructionLength) -> Ending
     ensures { finished_as regs.new result ≡ moves_on_and ending length regs.old }
 {
     let _ = move_on(regs, length);

@@ -42,7 +42,7 @@ impl Model for PlainLevels {
       priority_bits = l.priority_bits;
     } };
 
-    ghost invariant = { λ l. (l.group < 8) × (l.lines ≤ 240) × (l.waiting ≡ count_in l.pending) };
+    ghost invariant = { λ l. (l.group < 8) × (l.lines ≤ MOST_LINES) × (l.waiting ≡ count_in l.pending) };
 }
 
 impl Levels for PlainLevels {

@@ -1,5 +1,7 @@
 //! The keys of a board and of its events, and what each takes.
 
+use reference::exception::MOST_LINES;
+
 /// A key, and the values that it takes.
 #[derive(Clone, Copy)]
 pub struct Key {
@@ -95,7 +97,7 @@ pub fn is_priority_bits(bits: i64) -> bool {
 
 /// Returns whether a board can have this many lines.
 pub fn is_line_count(lines: i64) -> bool {
-    (0..=240).contains(&lines)
+    (0..=i64::from(MOST_LINES)).contains(&lines)
 }
 
 /// Returns whether an MPU can have this many regions.

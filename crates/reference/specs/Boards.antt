@@ -2,6 +2,7 @@
 -- text of a board means is defined in the crate `board`, over the `toml` crate's meaning of a document.
 use Rattle.std.specs.Prelude.{ℕ, ◌+◌, ◌%◌, ◌<◌, ◌≤◌, Bool, ◌&&◌, ◌||◌, nat_le, ◌==◌, List, [], ◌∷◌}
 use Rattle.reference.specs.declared.board.Layout.{Layout}
+use Rattle.reference.specs.declared.exception.TheConstants.{MOST_LINES}
 use Rattle.reference.specs.declared.script.ScriptedEvent.{ScriptedEvent}
 use Rattle.reference.specs.declared.script.Signal.{Signal}
 use Rattle.reference.specs.declared.script.Signal.TheVariants.{Rise, Fall, Pulse, Nmi}
@@ -42,9 +43,6 @@ block = 1024
 abbrev pub most_bytes : ℕ
 most_bytes = 0x10_0000
 
-abbrev pub most_lines : ℕ
-most_lines = 240
-
 abbrev pub most_events : ℕ
 most_events = 65536
 
@@ -70,7 +68,7 @@ is_priority_bits bits = nat_le 3 bits && nat_le bits 8
 
 -- a number of lines
 abbrev pub is_line_count : ℕ → Bool
-is_line_count lines = nat_le lines most_lines
+is_line_count lines = nat_le lines MOST_LINES
 
 -- a number of MPU regions
 abbrev pub is_region_count : ℕ → Bool

@@ -8,6 +8,7 @@ use Rattle.reference.specs.declared.failure.Traps.{Traps}
 use Rattle.reference.specs.declared.instruction.Branch.{Branch}
 use Rattle.reference.specs.declared.instruction.Branch.TheVariants as branch
 use Rattle.reference.specs.declared.instruction.Ending.TheVariants.{Next}
+use Rattle.reference.specs.declared.instruction.InstructionLength.{InstructionLength}
 use Rattle.reference.specs.declared.operands.BranchExchange.{BranchExchange}
 use Rattle.reference.specs.declared.operands.CompareAndBranch.{CompareAndBranch}
 use Rattle.reference.specs.declared.operands.ConditionalBranch.{ConditionalBranch}
@@ -16,23 +17,23 @@ use Rattle.reference.specs.declared.operands.TableBranch.{TableBranch}
 use Rattle.reference.specs.Arithmetic.{condition_holds}
 use Rattle.reference.specs.Kinds.{bytes_in}
 use Rattle.reference.specs.LoadStore.{transfer, joined}
-use Rattle.reference.specs.ProgramCounter.{Finished, moves_on, branches, branches_by, exchanges}
+use Rattle.reference.specs.ProgramCounter.{Finished, instruction_bytes, moves_on, branches, branches_by, exchanges}
 use Rattle.reference.specs.Registers.{Registers, register, with_register, with_exchange, is_privileged}
 use Rattle.reference.specs.Words.{word_sum}
 
 -- ---- branches
 
 -- B with a condition of its own
-abbrev pub conditional_branch : ℕ → ConditionalBranch → Registers → Finished
+abbrev pub conditional_branch : InstructionLength → ConditionalBranch → Registers → Finished
 conditional_branch length o r =
     if condition_holds o.condition r.flags then branches_by o.offset r else moves_on length r
 
 -- LR = next_instr_addr<31:1> : '1'
-abbrev pub with_link : ℕ → Registers → Registers
-with_link length r = with_register r 14 (word_sum r.pc length / 2 * 2 + 1)
+abbrev pub with_link : InstructionLength → Registers → Registers
+with_link length r = with_register r 14 (word_sum r.pc (instruction_bytes length) / 2 * 2 + 1)
 
 -- BX, and BLX, which never returns from an exception
-abbrev pub branch_exchange : ℕ → BranchExchange → Registers → Finished
+abbrev pub branch_exchange : InstructionLength → BranchExchange → Registers → Finished
 branch_exchange length o r =
     if o.links
     then branches (with_exchange (with_link length r) (register r o.target))
@@ -43,7 +44,7 @@ abbrev pub takes_branch : CompareAndBranch → Registers → Bool
 takes_branch o r = if o.nonzero then not (register r o.register == 0) else register r o.register == 0
 
 -- CBZ and CBNZ
-abbrev pub compare_and_branch : ℕ → CompareAndBranch → Registers → Finished
+abbrev pub compare_and_branch : InstructionLength → CompareAndBranch → Registers → Finished
 compare_and_branch length o r = if takes_branch o r then branches_by o.offset r else moves_on length r
 
 -- the entry of a table: the byte at R[n] + R[m], or the halfword at R[n] + LSL(R[m], 1)
@@ -61,8 +62,8 @@ abbrev pub begun : IfThen → ℕ
 begun o = o.condition % 2 ^ 4 * 2 ^ 4 + o.mask % 2 ^ 4
 
 -- IT: the block begins with the next instruction, so nothing is advanced
-abbrev pub if_then : ℕ → IfThen → Registers → Finished
-if_then length o r = record { registers = record r { it = begun o; pc = word_sum r.pc length }; ending = Next }
+abbrev pub if_then : InstructionLength → IfThen → Registers → Finished
+if_then length o r = record { registers = record r { it = begun o; pc = word_sum r.pc (instruction_bytes length) }; ending = Next }
 
 -- ---- the family
 
@@ -77,7 +78,7 @@ branch_requests traps (branch.Table o) r = transfer traps Load (is_privileged r)
 branch_requests traps (branch.IfThen o) r = Ok []
 
 -- what a branch of that many bytes does
-unfoldable pub branch_effect : ℕ → Branch → Registers → List ℕ → Finished
+unfoldable pub branch_effect : InstructionLength → Branch → Registers → List ℕ → Finished
 branch_effect length (branch.Immediate o) r values = branches_by o.offset r
 branch_effect length (branch.Conditional o) r values = conditional_branch length o r
 branch_effect length (branch.WithLink o) r values = branches_by o.offset (with_link length r)

@@ -13,6 +13,7 @@ use Rattle.reference.specs.declared.instruction.DataProcessing.TheVariants.{Comp
 use Rattle.reference.specs.declared.instruction.DataProcessing.TheVariants.{Multiply, MultiplyAccumulate, MultiplyLong}
 use Rattle.reference.specs.declared.instruction.DataProcessing.TheVariants.{Divide, Saturate, ExtractField, InsertField}
 use Rattle.reference.specs.declared.instruction.DataProcessing.TheVariants.{ClearField, Extend, Rearrange}
+use Rattle.reference.specs.declared.instruction.InstructionLength.{InstructionLength}
 use Rattle.reference.specs.Fields.{saturate, extract_field, insert_field, clear_field, extend, rearrange}
 use Rattle.reference.specs.Products.{multiply, multiply_accumulate, multiply_long, divide}
 use Rattle.reference.specs.ProgramCounter.{Finished, branches, moves_on}
@@ -92,5 +93,5 @@ data_processing_requests traps i r =
     if traps.divide_by_zero && divides_by_zero i r then Err (Usage DivideByZero) else Ok []
 
 -- what an instruction of that many bytes does
-abbrev pub data_processing_effect : ℕ → DataProcessing → Registers → Finished
+abbrev pub data_processing_effect : InstructionLength → DataProcessing → Registers → Finished
 data_processing_effect length i r = if writes_pc i then branches (processed i r) else moves_on length (processed i r)

@@ -12,6 +12,7 @@ use Rattle.reference.specs.declared.failure.Failure.TheVariants.{Usage, Stop}
 use Rattle.reference.specs.declared.failure.UsageFault.TheVariants.{Unaligned}
 use Rattle.reference.specs.declared.instruction.Exclusive.{Exclusive}
 use Rattle.reference.specs.declared.instruction.Exclusive.TheVariants.{Load, Store, Clear}
+use Rattle.reference.specs.declared.instruction.InstructionLength.{InstructionLength}
 use Rattle.reference.specs.declared.operands.StoreExclusive.{StoreExclusive}
 use Rattle.reference.specs.declared.registers.Marked.{Marked}
 use Rattle.reference.specs.declared.stop.LeftOut.TheVariants.{ExclusiveDevice}
@@ -81,7 +82,7 @@ abbrev pub store_status : Bool → ℕ
 store_status passed = if passed then 0 else 1
 
 -- what it does with the value read
-unfoldable pub exclusive_effect : ℕ → Exclusive → Registers → List ℕ → Finished
+unfoldable pub exclusive_effect : InstructionLength → Exclusive → Registers → List ℕ → Finished
 exclusive_effect length (Load o) r values =
     moves_on length (with_register (with_mark r (exclusive_address o.base o.offset r) o.size) o.target (joined values))
 exclusive_effect length (Store o) r values =

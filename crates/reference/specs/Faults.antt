@@ -22,6 +22,7 @@ use Rattle.reference.specs.declared.fault_status.TheConstants.{IACCVIOL, DACCVIO
 use Rattle.reference.specs.declared.fault_status.TheConstants.{IBUSERR, PRECISERR, UNSTKERR, STKERR, BFARVALID}
 use Rattle.reference.specs.declared.fault_status.TheConstants.{UNDEFINSTR, INVSTATE, INVPC, NOCP, UNALIGNED, DIVBYZERO}
 use Rattle.reference.specs.declared.fault_status.TheConstants.{VECTTBL, FORCED}
+use Rattle.reference.specs.declared.instruction.InstructionLength.TheVariants.{Short}
 use Rattle.reference.specs.declared.stop.Stop.TheVariants as stop
 use Rattle.reference.specs.Priorities.{escalation, with_pending}
 use Rattle.reference.specs.ProgramCounter.{moves_on}
@@ -131,7 +132,7 @@ failed s events (failure.Stop why) = stopped s events why
 -- (profile)
 abbrev pub supervisor_called_by : State → List Event → Escalation → Stepped
 supervisor_called_by s events Itself =
-    record { state = pended (with_registers s (moves_on 2 s.registers).registers) SV_CALL; events = events }
+    record { state = pended (with_registers s (moves_on Short s.registers).registers) SV_CALL; events = events }
 supervisor_called_by s events HardFault = forced s events
 supervisor_called_by s events Lockup = locked_up s events
 

@@ -12,6 +12,7 @@ use Rattle.reference.specs.declared.failure.Failure.{Failure}
 use Rattle.reference.specs.declared.failure.Failure.TheVariants.{Usage, Stop}
 use Rattle.reference.specs.declared.failure.Traps.{Traps}
 use Rattle.reference.specs.declared.failure.UsageFault.TheVariants.{Unaligned}
+use Rattle.reference.specs.declared.instruction.InstructionLength.{InstructionLength}
 use Rattle.reference.specs.declared.instruction.LoadStore.{LoadStore}
 use Rattle.reference.specs.declared.instruction.LoadStore.TheVariants.{LoadImmediate, LoadRegister, LoadLiteral}
 use Rattle.reference.specs.declared.instruction.LoadStore.TheVariants.{StoreImmediate, StoreRegister}
@@ -142,7 +143,7 @@ load_store_requests traps (StoreRegister o) r =
     transfer traps Store (is_privileged r) o.size (register_address o.address r) (register r o.target)
 
 -- what it does with the values read
-unfoldable pub load_store_effect : ℕ → LoadStore → Registers → List ℕ → Finished
+unfoldable pub load_store_effect : InstructionLength → LoadStore → Registers → List ℕ → Finished
 load_store_effect length (LoadImmediate o) r values =
     loads_into length o.target (loaded_value o.form values) (with_base o.address r)
 load_store_effect length (LoadRegister o) r values = loads_into length o.target (loaded_value o.form values) r

@@ -10,6 +10,7 @@ use Rattle.reference.specs.declared.access.Size.TheVariants.{Word}
 use Rattle.reference.specs.declared.failure.Failure.{Failure}
 use Rattle.reference.specs.declared.failure.Failure.TheVariants.{Usage, Stop}
 use Rattle.reference.specs.declared.failure.UsageFault.TheVariants.{Unaligned}
+use Rattle.reference.specs.declared.instruction.InstructionLength.{InstructionLength}
 use Rattle.reference.specs.declared.instruction.LoadStoreMultiple.{LoadStoreMultiple}
 use Rattle.reference.specs.declared.instruction.LoadStoreMultiple.TheVariants as family
 use Rattle.reference.specs.declared.operands.ListOrder.{ListOrder}
@@ -94,7 +95,7 @@ loaded_below_pc o values r =
     loaded (registers_below 15 o.list) values (with_moved_base o.write_back o.base o.order o.list r)
 
 -- LDM, LDMDB and POP: at last a value for the PC, LoadWritePC(MemA[address, 4])
-unfoldable pub load_multiple : ℕ → LoadMultiple → List ℕ → Registers → Finished
+unfoldable pub load_multiple : InstructionLength → LoadMultiple → List ℕ → Registers → Finished
 load_multiple bytes o values r =
     if is_bit o.list 15
     then exchanges (slice_index values (length (registers_below 15 o.list))) (loaded_below_pc o values r)
@@ -116,7 +117,7 @@ load_store_multiple_requests (family.StoreMultiple o) r =
     several Store (registers_of o.list) (lowest_address o.order o.list (register r o.base)) r
 
 -- what it does with the values read
-unfoldable pub load_store_multiple_effect : ℕ → LoadStoreMultiple → Registers → List ℕ → Finished
+unfoldable pub load_store_multiple_effect : InstructionLength → LoadStoreMultiple → Registers → List ℕ → Finished
 load_store_multiple_effect length (family.LoadDual o) r values =
     moves_on length (loaded (o.first ∷ o.second ∷ []) values (with_base o.address r))
 load_store_multiple_effect length (family.LoadDualLiteral o) r values =

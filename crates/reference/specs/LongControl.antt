@@ -9,6 +9,7 @@ use Rattle.reference.specs.declared.instruction.Exclusive.TheVariants as exclusi
 use Rattle.reference.specs.declared.instruction.Hint.{Hint as HintWord}
 use Rattle.reference.specs.declared.instruction.Hint.TheVariants as hint
 use Rattle.reference.specs.declared.instruction.Instruction.TheVariants.{Branch, Exclusive, System}
+use Rattle.reference.specs.declared.instruction.InstructionLength.TheVariants.{Long}
 use Rattle.reference.specs.declared.instruction.System.TheVariants.{MoveToSpecial, MoveFromSpecial, Hint}
 use Rattle.reference.specs.declared.operands.SpecialRegister.{SpecialRegister}
 use Rattle.reference.specs.declared.stop.UnpredictableCase.TheVariants as cause
@@ -44,16 +45,16 @@ conditional_offset o =
 
 -- BL
 unfoldable pub branch_with_link_row : ℕ → Decoded
-branch_with_link_row offset = placed 4 place.LastOnly (Branch (branch.WithLink (record { offset = offset })))
+branch_with_link_row offset = placed Long place.LastOnly (Branch (branch.WithLink (record { offset = offset })))
 
 -- B
 unfoldable pub branch_wide_row : ℕ → Decoded
-branch_wide_row offset = placed 4 place.LastOnly (Branch (branch.Immediate (record { offset = offset })))
+branch_wide_row offset = placed Long place.LastOnly (Branch (branch.Immediate (record { offset = offset })))
 
 -- B with a condition
 unfoldable pub branch_wide_if_row : ℕ → ℕ → Decoded
 branch_wide_if_row condition offset =
-    placed 4 place.Never (Branch (branch.Conditional (record { condition = condition; offset = offset })))
+    placed Long place.Never (Branch (branch.Conditional (record { condition = condition; offset = offset })))
 
 abbrev pub to_special : ℕ → Option SpecialRegister → Decoded
 to_special n None = Unpredictable place.Anywhere cause.SpecialRegister

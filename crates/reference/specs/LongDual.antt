@@ -8,6 +8,7 @@ use Rattle.reference.specs.declared.instruction.Branch.TheVariants as branch
 use Rattle.reference.specs.declared.instruction.Decoded.{Decoded}
 use Rattle.reference.specs.declared.instruction.Exclusive.TheVariants as exclusive
 use Rattle.reference.specs.declared.instruction.Instruction.TheVariants.{Branch, Exclusive, LoadStoreMultiple}
+use Rattle.reference.specs.declared.instruction.InstructionLength.TheVariants.{Long}
 use Rattle.reference.specs.declared.instruction.LoadStoreMultiple.TheVariants.{LoadDual, LoadDualLiteral, StoreDual}
 use Rattle.reference.specs.declared.operands.ImmediateAddress.{ImmediateAddress}
 use Rattle.reference.specs.declared.operands.Indexing.{Indexing}
@@ -39,7 +40,7 @@ load_exclusive_row o =
 unfoldable pub table_branch_row : Size → ℕ → ℕ → Decoded
 table_branch_row size n m =
     unless (n == 13 || is_bad m) place.LastOnly cause.Registers
-    (placed 4 place.LastOnly (Branch (branch.Table (record { size = size; base = n; index = m }))))
+    (placed Long place.LastOnly (Branch (branch.Table (record { size = size; base = n; index = m }))))
 
 -- the address of LDRD and STRD: the offset counts words
 abbrev pub dual_address : Letters → ImmediateAddress

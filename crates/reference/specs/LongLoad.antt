@@ -8,6 +8,7 @@ use Rattle.reference.specs.declared.instruction.BlockPlace.TheVariants as place
 use Rattle.reference.specs.declared.instruction.Decoded.{Decoded}
 use Rattle.reference.specs.declared.instruction.Hint.TheVariants as hint
 use Rattle.reference.specs.declared.instruction.Instruction.TheVariants.{LoadStore, System}
+use Rattle.reference.specs.declared.instruction.InstructionLength.TheVariants.{Long}
 use Rattle.reference.specs.declared.instruction.LoadStore.TheVariants.{LoadImmediate, LoadRegister, LoadLiteral}
 use Rattle.reference.specs.declared.instruction.System.TheVariants.{Hint}
 use Rattle.reference.specs.declared.operands.ImmediateAddress.{ImmediateAddress}
@@ -40,7 +41,7 @@ is_refused_load size t = not (is_word size) && is_bad t
 unfoldable pub load_literal_row : LoadForm → ℕ → ℕ → Decoded
 load_literal_row form t offset =
     unless (is_refused_load form.size t) (place_of_load form.size t) cause.Registers
-    (placed 4 (place_of_load form.size t)
+    (placed Long (place_of_load form.size t)
     (LoadStore (LoadLiteral (record { form = form; target = t; offset = offset }))))
 
 -- a load at a register and an offset: a base that is written isn't the target
@@ -48,7 +49,7 @@ unfoldable pub load_at_row : LoadForm → ℕ → ImmediateAddress → Decoded
 load_at_row form t address =
     unless (is_refused_load form.size t || writes_back address.indexing && address.base == t)
     (place_of_load form.size t) cause.Registers
-    (placed 4 (place_of_load form.size t)
+    (placed Long (place_of_load form.size t)
     (LoadStore (LoadImmediate (record { form = form; target = t; address = address; unprivileged = false }))))
 
 -- LDRT and its forms, which refuse SP and PC
@@ -62,7 +63,7 @@ unfoldable pub load_indexed_row : IndexedLoad → Decoded
 load_indexed_row o =
     unless (is_bad o.address.index || is_refused_load o.form.size o.target) (place_of_load o.form.size o.target)
     cause.Registers
-    (placed 4 (place_of_load o.form.size o.target) (LoadStore (LoadRegister o)))
+    (placed Long (place_of_load o.form.size o.target) (LoadStore (LoadRegister o)))
 
 -- PLD and PLI, where a byte would be loaded to PC; where a halfword would be, the hint is unallocated
 unfoldable pub memory_hint_row : ℕ → Decoded

@@ -4,6 +4,7 @@ use Rattle.std.specs.Int.RustNames.{count_ones}
 use Rattle.reference.specs.declared.instruction.BlockPlace.TheVariants as place
 use Rattle.reference.specs.declared.instruction.Decoded.{Decoded}
 use Rattle.reference.specs.declared.instruction.Instruction.TheVariants.{LoadStoreMultiple}
+use Rattle.reference.specs.declared.instruction.InstructionLength.TheVariants.{Long}
 use Rattle.reference.specs.declared.instruction.LoadStoreMultiple.TheVariants.{LoadMultiple, StoreMultiple}
 use Rattle.reference.specs.declared.operands.ListOrder.TheVariants.{IncrementAfter, DecrementBefore}
 use Rattle.reference.specs.declared.operands.LoadMultiple.{LoadMultiple as ListLoad}
@@ -30,7 +31,7 @@ load_list_wide_row o =
     unless (has_few o.list) (last_only_if (is_bit o.list 15)) cause.EmptyList
     (unless (o.base == 15 || (is_bit o.list 15 && is_bit o.list 14 || o.write_back && is_bit o.list o.base))
     (last_only_if (is_bit o.list 15)) cause.Registers
-    (placed 4 (last_only_if (is_bit o.list 15)) (LoadStoreMultiple (LoadMultiple o))))
+    (placed Long (last_only_if (is_bit o.list 15)) (LoadStoreMultiple (LoadMultiple o))))
 
 -- ---- the rows
 

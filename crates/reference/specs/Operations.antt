@@ -12,6 +12,7 @@ use Rattle.reference.specs.declared.instruction.CodedInstruction.{CodedInstructi
 use Rattle.reference.specs.declared.instruction.Instruction.{Instruction}
 use Rattle.reference.specs.declared.instruction.Instruction.TheVariants.{DataProcessing, LoadStore, LoadStoreMultiple}
 use Rattle.reference.specs.declared.instruction.Instruction.TheVariants.{Exclusive, Branch, System}
+use Rattle.reference.specs.declared.instruction.InstructionLength.{InstructionLength}
 use Rattle.reference.specs.declared.stop.Stop.TheVariants.{Unpredictable}
 use Rattle.reference.specs.declared.stop.UnpredictableCase.TheVariants.{ItBlock}
 use Rattle.reference.specs.Arithmetic.{in_it_block, last_in_it_block, condition_passed}
@@ -68,7 +69,7 @@ wants traps i r =
 
 -- what one of that many bytes that is carried out makes of the registers and of the values that it read, in the order
 -- of its accesses
-unfoldable pub effect : ℕ → Instruction → Registers → List ℕ → Finished
+unfoldable pub effect : InstructionLength → Instruction → Registers → List ℕ → Finished
 effect length (DataProcessing i) r values = data_processing_effect length i r
 effect length (LoadStore i) r values = load_store_effect length i r values
 effect length (LoadStoreMultiple i) r values = load_store_multiple_effect length i r values

@@ -2,6 +2,8 @@
 use Rattle.std.specs.Prelude.{ℕ, ◌/◌, ◌^◌, Bool, ◌&&◌, ◌==◌, if◌then◌else◌}
 use Rattle.reference.specs.declared.instruction.Ending.{Ending}
 use Rattle.reference.specs.declared.instruction.Ending.TheVariants.{Next, ExceptionReturn}
+use Rattle.reference.specs.declared.instruction.InstructionLength.{InstructionLength}
+use Rattle.reference.specs.declared.instruction.InstructionLength.TheVariants.{Short, Long}
 use Rattle.reference.specs.Arithmetic.{it_advance}
 use Rattle.reference.specs.Registers.{Registers, register, with_register, with_pc, with_exchange, is_handler}
 use Rattle.reference.specs.Words.{word_sum}
@@ -17,16 +19,21 @@ pub record Finished : Type 0 where
 abbrev pub advanced : Registers → Registers
 advanced r = record r { it = it_advance r.it }
 
+-- the bytes of an instruction
+abbrev pub instruction_bytes : InstructionLength → ℕ
+instruction_bytes Short = 2
+instruction_bytes Long = 4
+
 -- the PC goes on by the length of the instruction
-abbrev pub moves_on : ℕ → Registers → Finished
-moves_on length r = record { registers = record (advanced r) { pc = word_sum r.pc length }; ending = Next }
+abbrev pub moves_on : InstructionLength → Registers → Finished
+moves_on length r = record { registers = record (advanced r) { pc = word_sum r.pc (instruction_bytes length) }; ending = Next }
 
 -- the PC was written
 abbrev pub branches : Registers → Finished
 branches r = record { registers = advanced r; ending = Next }
 
 -- R[d] was written, which for the PC is a branch
-abbrev pub proceeds : ℕ → ℕ → Registers → Finished
+abbrev pub proceeds : InstructionLength → ℕ → Registers → Finished
 proceeds length d r = if d == 15 then branches r else moves_on length r
 
 -- ---- writes of the PC
@@ -47,5 +54,5 @@ exchanges v r =
     else branches (with_exchange r v)
 
 -- R[t] = value, which for the PC is LoadWritePC(value)
-abbrev pub loads_into : ℕ → ℕ → ℕ → Registers → Finished
+abbrev pub loads_into : InstructionLength → ℕ → ℕ → Registers → Finished
 loads_into length t value r = if t == 15 then exchanges value r else moves_on length (with_register r t value)

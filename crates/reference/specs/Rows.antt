@@ -8,6 +8,8 @@ use Rattle.reference.specs.declared.instruction.BlockPlace.TheVariants.{Anywhere
 use Rattle.reference.specs.declared.instruction.Decoded.{Decoded}
 use Rattle.reference.specs.declared.instruction.Decoded.TheVariants.{Instr, Unpredictable}
 use Rattle.reference.specs.declared.instruction.Instruction.{Instruction}
+use Rattle.reference.specs.declared.instruction.InstructionLength.TheVariants.{Short, Long}
+use Rattle.reference.specs.declared.instruction.InstructionLength.{InstructionLength}
 use Rattle.reference.specs.declared.stop.UnpredictableCase.{UnpredictableCase}
 use Rattle.reference.specs.declared.stop.UnpredictableCase.TheVariants.{Encoding}
 use Rattle.reference.specs.Patterns.{fits, is_as_printed, field}
@@ -112,16 +114,16 @@ meaning rows otherwise number = by_found otherwise number (find (λ row. applies
 
 -- ---- what rows make of their fields
 
--- an instruction of two bytes
+-- an instruction of one halfword
 abbrev pub short : Instruction → Decoded
-short instruction = Instr (record { instruction = instruction; length = 2; place = Anywhere })
+short instruction = Instr (record { instruction = instruction; length = Short; place = Anywhere })
 
--- one of four bytes
+-- one of two halfwords
 abbrev pub long : Instruction → Decoded
-long instruction = Instr (record { instruction = instruction; length = 4; place = Anywhere })
+long instruction = Instr (record { instruction = instruction; length = Long; place = Anywhere })
 
--- an instruction of that many bytes at that place in an IT block
-abbrev pub placed : ℕ → BlockPlace → Instruction → Decoded
+-- an instruction of that length at that place in an IT block
+abbrev pub placed : InstructionLength → BlockPlace → Instruction → Decoded
 placed length place instruction = Instr (record { instruction = instruction; length = length; place = place })
 
 -- an instruction that writes the PC may only be the last of an IT block

@@ -6,6 +6,7 @@ use Rattle.reference.specs.declared.instruction.Branch.TheVariants as branch
 use Rattle.reference.specs.declared.instruction.Decoded.{Decoded}
 use Rattle.reference.specs.declared.instruction.Decoded.TheVariants.{Undefined}
 use Rattle.reference.specs.declared.instruction.Instruction.TheVariants.{Branch, System}
+use Rattle.reference.specs.declared.instruction.InstructionLength.TheVariants.{Short}
 use Rattle.reference.specs.declared.instruction.System.TheVariants.{SupervisorCall}
 use Rattle.reference.specs.Patterns.{unspaced}
 use Rattle.reference.specs.Rows.{Row, short, placed}
@@ -14,12 +15,12 @@ use Rattle.reference.specs.Words.{sign_extended}
 -- B with a condition: the offset counts halfwords, and is signed
 unfoldable pub branch_if_row : ℕ → ℕ → Decoded
 branch_if_row condition halfwords =
-    placed 2 place.Never (Branch (branch.Conditional
+    placed Short place.Never (Branch (branch.Conditional
     (record { condition = condition; offset = sign_extended 9 (halfwords * 2) })))
 
 -- B: the offset counts halfwords, and is signed
 unfoldable pub branch_row : ℕ → Decoded
-branch_row halfwords = placed 2 place.LastOnly
+branch_row halfwords = placed Short place.LastOnly
     (Branch (branch.Immediate (record { offset = sign_extended 12 (halfwords * 2) })))
 
 -- ---- the rows

@@ -9,6 +9,7 @@ use Rattle.reference.specs.declared.instruction.DataProcessing.TheVariants.{Data
 use Rattle.reference.specs.declared.instruction.Decoded.{Decoded}
 use Rattle.reference.specs.declared.instruction.Instruction.TheVariants.{Branch, DataProcessing, LoadStoreMultiple}
 use Rattle.reference.specs.declared.instruction.Instruction.TheVariants.{System}
+use Rattle.reference.specs.declared.instruction.InstructionLength.TheVariants.{Short}
 use Rattle.reference.specs.declared.instruction.LoadStoreMultiple.TheVariants.{LoadMultiple, StoreMultiple}
 use Rattle.reference.specs.declared.instruction.System.TheVariants.{ChangeProcessorState, Hint, Breakpoint}
 use Rattle.reference.specs.declared.operands.DataOperation.{DataOperation}
@@ -59,21 +60,21 @@ push_row lr list =
 unfoldable pub pop_row : ℕ → ℕ → Decoded
 pop_row pc list =
     unless (pc * 2 ^ 15 + list == 0) (last_only_if (pc == 1)) EmptyList
-    (placed 2 (last_only_if (pc == 1))
+    (placed Short (last_only_if (pc == 1))
     (LoadStoreMultiple (LoadMultiple
     (record { base = 13; list = pc * 2 ^ 15 + list; order = IncrementAfter; write_back = true }))))
 
 -- CBZ and CBNZ: the offset counts halfwords
 unfoldable pub compare_and_branch_row : Bool → ℕ → ℕ → Decoded
 compare_and_branch_row nonzero halfwords n =
-    placed 2 place.Never (Branch (branch.CompareAndBranch
+    placed Short place.Never (Branch (branch.CompareAndBranch
     (record { nonzero = nonzero; register = n; offset = halfwords * 2 })))
 
 -- CPS
 unfoldable pub change_state_row : Bool → Bool → Bool → Decoded
 change_state_row disables primask faultmask =
     unless (not primask && not faultmask) place.Never Registers
-    (placed 2 place.Never (System (ChangeProcessorState
+    (placed Short place.Never (System (ChangeProcessorState
     (record { disables = disables; primask = primask; faultmask = faultmask }))))
 
 -- BKPT
@@ -88,7 +89,7 @@ is_one_bit mask = mask == 1 || mask == 2 || mask == 4 || mask == 8
 unfoldable pub if_then_row : ℕ → ℕ → Decoded
 if_then_row condition mask =
     unless (condition == 15 || condition == 14 && not (is_one_bit mask)) place.Never ItBlock
-    (placed 2 place.Never (Branch (branch.IfThen (record { condition = condition; mask = mask }))))
+    (placed Short place.Never (Branch (branch.IfThen (record { condition = condition; mask = mask }))))
 
 -- ---- the rows: those that compute, then those that load, store, branch and control
 

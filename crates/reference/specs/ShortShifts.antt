@@ -6,6 +6,7 @@ use Rattle.reference.specs.declared.instruction.DataProcessing.TheVariants.{Data
 use Rattle.reference.specs.declared.instruction.DataProcessing.TheVariants.{MoveRegister, CompareImmediate}
 use Rattle.reference.specs.declared.instruction.Decoded.{Decoded}
 use Rattle.reference.specs.declared.instruction.Instruction.TheVariants.{DataProcessing}
+use Rattle.reference.specs.declared.instruction.InstructionLength.TheVariants.{Short}
 use Rattle.reference.specs.declared.operands.Comparison.TheVariants.{Compare}
 use Rattle.reference.specs.declared.operands.DataOperation.{DataOperation}
 use Rattle.reference.specs.declared.operands.DataOperation.TheVariants.{Add, Subtract}
@@ -19,7 +20,7 @@ use Rattle.reference.specs.Rows.{Row, short, placed}
 -- MOV of a low register, which sets N and Z always
 unfoldable pub move_low_row : ℕ → ℕ → Decoded
 move_low_row d m =
-    placed 2 place.Never
+    placed Short place.Never
     (DataProcessing (MoveRegister (record {
       operation = Move;
       flags = flags.Always;

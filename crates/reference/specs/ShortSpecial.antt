@@ -6,6 +6,7 @@ use Rattle.reference.specs.declared.instruction.Branch.TheVariants as branch
 use Rattle.reference.specs.declared.instruction.DataProcessing.TheVariants.{DataRegister, MoveRegister, CompareRegister}
 use Rattle.reference.specs.declared.instruction.Decoded.{Decoded}
 use Rattle.reference.specs.declared.instruction.Instruction.TheVariants.{Branch, DataProcessing}
+use Rattle.reference.specs.declared.instruction.InstructionLength.TheVariants.{Short}
 use Rattle.reference.specs.declared.operands.Comparison.TheVariants.{Compare}
 use Rattle.reference.specs.declared.operands.DataOperation.TheVariants.{Add}
 use Rattle.reference.specs.declared.operands.FlagSetting.TheVariants as flags
@@ -19,7 +20,7 @@ use Rattle.reference.specs.Rows.{Row, short, placed, last_only_if, unless}
 unfoldable pub add_high_row : ℕ → ℕ → Decoded
 add_high_row d m =
     unless (d == 15 && m == 15) (last_only_if (d == 15)) Registers
-    (placed 2 (last_only_if (d == 15))
+    (placed Short (last_only_if (d == 15))
     (DataProcessing (DataRegister (record {
       operation = Add;
       flags = flags.Never;
@@ -37,7 +38,7 @@ compare_high_row n m =
 -- MOV of any registers, without flags
 unfoldable pub move_high_row : ℕ → ℕ → Decoded
 move_high_row d m =
-    placed 2 (last_only_if (d == 15))
+    placed Short (last_only_if (d == 15))
     (DataProcessing (MoveRegister (record {
       operation = Move;
       flags = flags.Never;
@@ -47,13 +48,13 @@ move_high_row d m =
 
 -- BX
 unfoldable pub branch_exchange_row : ℕ → Decoded
-branch_exchange_row m = placed 2 place.LastOnly (Branch (branch.Exchange (record { links = false; target = m })))
+branch_exchange_row m = placed Short place.LastOnly (Branch (branch.Exchange (record { links = false; target = m })))
 
 -- BLX
 unfoldable pub branch_link_exchange_row : ℕ → Decoded
 branch_link_exchange_row m =
     unless (m == 15) place.LastOnly Registers
-    (placed 2 place.LastOnly (Branch (branch.Exchange (record { links = true; target = m }))))
+    (placed Short place.LastOnly (Branch (branch.Exchange (record { links = true; target = m }))))
 
 -- ---- the rows
 

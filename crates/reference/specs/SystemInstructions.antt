@@ -5,6 +5,7 @@ use Rattle.reference.specs.declared.instruction.Ending.{Ending}
 use Rattle.reference.specs.declared.instruction.Ending.TheVariants as ending
 use Rattle.reference.specs.declared.instruction.Hint.{Hint as HintWord}
 use Rattle.reference.specs.declared.instruction.Hint.TheVariants as hint
+use Rattle.reference.specs.declared.instruction.InstructionLength.{InstructionLength}
 use Rattle.reference.specs.declared.instruction.System.{System}
 use Rattle.reference.specs.declared.instruction.System.TheVariants.{ChangeProcessorState, MoveToSpecial}
 use Rattle.reference.specs.declared.instruction.System.TheVariants.{MoveFromSpecial, Hint, SupervisorCall, Breakpoint}
@@ -33,11 +34,11 @@ hint_ending hint.Barrier = ending.Next
 hint_ending hint.Unallocated = ending.Next
 
 -- the PC goes on, and something else is done
-abbrev pub moves_on_and : Ending → ℕ → Registers → Finished
+abbrev pub moves_on_and : Ending → InstructionLength → Registers → Finished
 moves_on_and e length r = record (moves_on length r) { ending = e }
 
 -- SVC goes on only where its own exception is pended, so its PC stays here
-unfoldable pub system_effect : ℕ → System → Registers → Finished
+unfoldable pub system_effect : InstructionLength → System → Registers → Finished
 system_effect length (ChangeProcessorState o) r = moves_on_and (ending.ChangeState o) length r
 system_effect length (MoveToSpecial o) r = moves_on_and (ending.WriteSpecial o.special (register r o.source)) length r
 system_effect length (MoveFromSpecial o) r = moves_on_and (ending.ReadSpecial o) length r

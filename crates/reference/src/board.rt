@@ -1,6 +1,7 @@
 //! What a board brings to the machine, its script aside.
 
 ghost use Rattle.std.specs.Prelude.{◌≡◌, ◌+◌, ◌%◌, ◌≤◌};
+ghost use Rattle.reference.specs.declared.exception.TheConstants.{MOST_LINES};
 ghost use Rattle.reference.specs.Map.{ram_base};
 
 use crate::mpu::RegionCount;
@@ -33,7 +34,7 @@ pub struct Layout {
     pub ghost small: { ram_size ≤ 0x10_0000 },
     pub ghost bits_are_enough: { 3 ≤ priority_bits },
     pub ghost bits_are_few: { priority_bits ≤ 8 },
-    pub ghost lines_are_few: { lines ≤ 240 },
+    pub ghost lines_are_few: { lines ≤ MOST_LINES },
 }
 
 /// The layout of the small board: 4 KiB of flash at 0 and 8 KiB of RAM.

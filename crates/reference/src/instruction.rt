@@ -1,6 +1,9 @@
 //! The instructions, by family: one variant for each shape of operands, so that every encoding of
 //! one operation gives the same variant.
 
+ghost use Rattle.std.specs.Prelude.{◌≡◌};
+ghost use Rattle.reference.specs.ProgramCounter.{instruction_bytes};
+
 use crate::operands::{
     Address, BranchExchange, ChangeProcessorState, ClearField, CompareAndBranch, CompareImmediate,
     CompareRegister, ConditionalBranch, DataImmediate, DataRegister, Divide, Extend, ExtractField,
@@ -30,9 +33,30 @@ pub enum Decoded {
 #[derive(Clone, Copy)]
 pub struct CodedInstruction {
     pub instruction: Instruction,
-    /// In bytes: 2 or 4.
-    pub length: u8,
+    pub length: InstructionLength,
     pub place: BlockPlace,
+}
+
+/// How long an instruction is.
+#[derive(Clone, Copy)]
+pub enum InstructionLength {
+    /// One halfword.
+    Short,
+    /// Two halfwords.
+    Long,
+}
+
+impl InstructionLength {
+    /// The number of bytes: 2 or 4.
+    #[inline]
+    pub fn bytes(self) -> u32
+        ensures { result ≡ instruction_bytes self }
+    {
+        match self {
+            InstructionLength::Short => 2,
+            InstructionLength::Long => 4,
+        }
+    }
 }
 
 /// Where an instruction may stand in an IT block.

@@ -2,6 +2,7 @@
 
 ghost use Rattle.std.specs.Prelude.{◌≡◌, ◌<◌};
 
+use crate::exception::MOST_LINES;
 use std::marker::Model;
 
 /// The number of an external interrupt line, from 0 to 239: IRQ of the manual, whose exception is
@@ -13,23 +14,21 @@ pub struct InterruptLine {
 
 impl Model for InterruptLine {
     ghost use Rattle.std.specs.Prelude.{ℕ, ◌<◌};
+    ghost use Rattle.reference.specs.declared.exception.TheConstants.{MOST_LINES};
 
     ghost Value = { ℕ };
 
     ghost view = { λ l. l.number };
 
-    ghost invariant = { λ l. l.number < 240 };
+    ghost invariant = { λ l. l.number < MOST_LINES };
 
     ghost inverse = { λ n. record { number = n } };
 }
 
 impl InterruptLine {
-    /// How many lines there can be.
-    pub const MOST: u8 = 240;
-
     /// The line of this number.
     pub const fn new(number: u8) -> Self
-        requires { number < 240 }
+        requires { number < MOST_LINES }
         ensures { result ≡ number }
     {
         InterruptLine { number }
@@ -38,7 +37,7 @@ impl InterruptLine {
     /// Its number, from 0 to 239.
     pub fn number(self) -> u8
         ensures value { result ≡ self }
-        ensures small { result < 240 }
+        ensures small { result < MOST_LINES }
     {
         self.number
     }

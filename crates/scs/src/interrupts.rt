@@ -5,8 +5,11 @@ ghost use Rattle.reference.specs.Interrupts.{ictr as ictr_of, interrupts_at as i
 
 use crate::bits::is_bit;
 use nvic::Levels;
-use reference::exception::FIRST_LINE;
+use reference::exception::{FIRST_LINE, MOST_LINES};
 use reference::system::InterruptRegister;
+
+// The address of the first byte of IPR. There is one byte for each interrupt line.
+const IPR_BASE: u32 = 0xE000_E400;
 
 /// Reads ICTR.
 pub fn ictr<L: Levels>(levels: &L) -> u32
@@ -126,9 +129,11 @@ pub fn write_interrupts<L: Levels>(
 pub fn interrupt_priority_at(word: u32) -> Option<u8>
     ensures { result ≡ interrupt_priority_at_of word }
 {
-    match word {
-        0xE000_E400..=0xE000_E4EF => Some((word - 0xE000_E400) as u8 + FIRST_LINE as u8),
-        _ => None,
+    let end = IPR_BASE + u32::from(MOST_LINES);
+    if IPR_BASE <= word && word < end {
+        Some((word - IPR_BASE) as u8 + FIRST_LINE as u8)
+    } else {
+        None
     }
 }
 

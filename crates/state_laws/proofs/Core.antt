@@ -13,6 +13,8 @@ use Rattle.reference.specs.declared.instruction.Decoded.{Decoded}
 use Rattle.reference.specs.declared.instruction.Decoded.TheVariants as decoded
 use Rattle.reference.specs.declared.instruction.Ending.{Ending}
 use Rattle.reference.specs.declared.instruction.Ending.TheVariants as ending
+use Rattle.reference.specs.declared.instruction.InstructionLength.TheVariants.{Short, Long}
+use Rattle.reference.specs.declared.instruction.InstructionLength.{InstructionLength}
 use Rattle.reference.specs.declared.operands.SpecialRegister.{SpecialRegister}
 use Rattle.reference.specs.declared.operands.SpecialRegister.TheVariants.{Apsr, Iapsr, Eapsr, Xpsr, Ipsr, Epsr, Iepsr}
 use Rattle.reference.specs.declared.operands.SpecialRegister.TheVariants.{Msp, Psp, Primask, Basepri, BasepriMax}
@@ -20,7 +22,7 @@ use Rattle.reference.specs.declared.operands.SpecialRegister.TheVariants.{Faultm
 use Rattle.reference.specs.declared.stop.Stop.{Stop}
 use Rattle.reference.specs.Accesses.{Served, perform_all}
 use Rattle.reference.specs.Arithmetic.{condition_passed}
-use Rattle.reference.specs.Decoding.{instruction_length}
+use Rattle.reference.specs.Decoding.{is_long}
 use Rattle.reference.specs.Invariant.{HasRegisters}
 use Rattle.reference.specs.Operations.{result_of}
 use Rattle.reference.specs.ProgramCounter.{Finished, moves_on}
@@ -34,7 +36,6 @@ use Rattle.reference.specs.Time.{last_tick}
 use Rattle.state_laws.proofs.Effects.{result_kept}
 use Rattle.state_laws.proofs.Frames.{Has, LeavesGood, failed_kept, supervisor_kept, entry_kept, vector_step_kept}
 use Rattle.state_laws.proofs.Frames.{return_kept}
-use Rattle.state_laws.proofs.Lengths.{HasEvenLength, decoding_even}
 use Rattle.state_laws.proofs.Nvic.{either}
 use Rattle.state_laws.proofs.Registers.{Leaves, alike, with_flags, msp_kept, psp_kept, register_kept, moves_on_kept}
 
@@ -80,55 +81,55 @@ finished_kept s events f h = ended_kept (with_registers s f.registers) events f.
 
 -- ---- its accesses
 
-end_kept : (s : State) (events : List Event) (i : CodedInstruction) → i.length % 2 ≡ 0 → (all : Served)
+end_kept : (s : State) (events : List Event) (i : CodedInstruction) (all : Served)
     (end : Option Failure) → Has s → LeavesGood (served s events i all end)
-end_kept s events i even all None h =
+end_kept s events i all None h =
     finished_kept (with_bus s all.bus) (events ++ all.events) (result_of i s.registers all.values)
-    (result_kept i even s.registers all.values h)
-end_kept s events i even all (Some why) h = failed_kept (with_bus s all.bus) (events ++ all.events) why h
+    (result_kept i s.registers all.values h)
+end_kept s events i all (Some why) h = failed_kept (with_bus s all.bus) (events ++ all.events) why h
 
-performed_kept : (s : State) (events : List Event) (i : CodedInstruction) → i.length % 2 ≡ 0 →
+performed_kept : (s : State) (events : List Event) (i : CodedInstruction)
     (qs : List Request) → Has s → LeavesGood (performed_all s events i qs)
 unfolding performed_all
-performed_kept s events i even qs h =
+performed_kept s events i qs h =
     let all = perform_all s.registers.exception s.bus.system.time.ticks s.bus qs in
-    end_kept s events i even all all.failure h
+    end_kept s events i all all.failure h
 
-planned_kept : (s : State) (events : List Event) (i : CodedInstruction) → i.length % 2 ≡ 0 →
+planned_kept : (s : State) (events : List Event) (i : CodedInstruction)
     (asked : Result (List Request) Failure) → Has s → LeavesGood (planned s events i asked)
-planned_kept s events i even (Ok qs) h = performed_kept s events i even qs h
-planned_kept s events i even (Err why) h = failed_kept s events why h
+planned_kept s events i (Ok qs) h = performed_kept s events i qs h
+planned_kept s events i (Err why) h = failed_kept s events why h
 
 -- ---- the decoded instruction
 
-meaningless_kept : (s : State) (events : List Event) (length : ℕ) → length % 2 ≡ 0 → (fault : UsageFault) → Has s →
+meaningless_kept : (s : State) (events : List Event) (length : InstructionLength) (fault : UsageFault) → Has s →
     LeavesGood (without_meaning s events length fault)
-meaningless_kept s events length even fault h =
+meaningless_kept s events length fault h =
     either LeavesGood (condition_passed s.registers.it s.registers.flags) _ _
     (λ passed. failed_kept s events (failure.Usage fault) h)
-    (λ skipped. finished_kept s events (moves_on length s.registers) (moves_on_kept length even s.registers h))
+    (λ skipped. finished_kept s events (moves_on length s.registers) (moves_on_kept length s.registers h))
 
-executed_kept : (s : State) (events : List Event) (length : ℕ) → length % 2 ≡ 0 → (d : Decoded) → HasEvenLength d →
+executed_kept : (s : State) (events : List Event) (length : InstructionLength) (d : Decoded) →
     Has s → LeavesGood (executed s events length d)
-executed_kept s events length even (decoded.Instr i) own h = planned_kept s events i own _ h
-executed_kept s events length even decoded.Undefined own h =
-    meaningless_kept s events length even UndefinedInstruction h
-executed_kept s events length even decoded.NoCoprocessor own h =
-    meaningless_kept s events length even NoCoprocessor h
-executed_kept s events length even (decoded.Unpredictable place why) own h = h
+executed_kept s events length (decoded.Instr i) h = planned_kept s events i _ h
+executed_kept s events length decoded.Undefined h =
+    meaningless_kept s events length UndefinedInstruction h
+executed_kept s events length decoded.NoCoprocessor h =
+    meaningless_kept s events length NoCoprocessor h
+executed_kept s events length (decoded.Unpredictable place why) h = h
 
 -- ---- the fetches
 
 second_kept : (s : State) (events : List Event) (hw1 : ℕ) (answer : Result ℕ Failure) → Has s →
     LeavesGood (fetched_second s events hw1 answer)
-second_kept s events hw1 (Ok hw2) h = executed_kept s events 4 refl _ (decoding_even hw1 hw2) h
+second_kept s events hw1 (Ok hw2) h = executed_kept s events Long _ h
 second_kept s events hw1 (Err why) h = failed_kept s events why h
 
 with_second_kept : (s : State) (events : List Event) (hw1 : ℕ) → Has s → LeavesGood (with_second s events hw1)
 unfolding with_second
 with_second_kept s events hw1 h =
-    either LeavesGood (instruction_length hw1 == 4) _ _ (λ long. second_kept _ _ hw1 _ h)
-    (λ short. executed_kept s events 2 refl _ (decoding_even hw1 0) h)
+    either LeavesGood (is_long hw1) _ _ (λ long. second_kept _ _ hw1 _ h)
+    (λ short. executed_kept s events Short _ h)
 
 first_kept : (s : State) (events : List Event) (answer : Result ℕ Failure) → Has s →
     LeavesGood (fetched_first s events answer)

@@ -153,7 +153,7 @@ regions_known count e = split (count == 8) refl
     split false f = inr (grind (arith, nat_tests, e, f))
 
 all_lines : (lines : ℕ) → is_line_count lines ≡ true → min lines MOST_LINES ≡ lines
-all_lines lines e = let few : lines ≤ 240 = grind (arith, nat_tests, e) in omega arith
+all_lines lines e = let few : lines ≤ MOST_LINES = grind (arith, nat_tests, e) in omega arith
 
 pub start_gives : (board : Described) (image : List Segment) → IsBoard board → IfGiven Invariant (start board image)
 unfolding start

@@ -23,11 +23,13 @@ use Rattle.reference.specs.declared.instruction.Decoded.{Decoded}
 use Rattle.reference.specs.declared.instruction.Decoded.TheVariants as decoded
 use Rattle.reference.specs.declared.instruction.Ending.{Ending}
 use Rattle.reference.specs.declared.instruction.Ending.TheVariants as ending
+use Rattle.reference.specs.declared.instruction.InstructionLength.TheVariants.{Short, Long}
+use Rattle.reference.specs.declared.instruction.InstructionLength.{InstructionLength}
 use Rattle.reference.specs.declared.stop.Stop.{Stop}
 use Rattle.reference.specs.Accesses.{Answered, Served, carried_out, decided, decision, perform, perform_all, value_of}
 use Rattle.reference.specs.Accesses.{followed}
 use Rattle.reference.specs.Arithmetic.{condition_passed}
-use Rattle.reference.specs.Decoding.{instruction_length}
+use Rattle.reference.specs.Decoding.{is_long}
 use Rattle.reference.specs.ExceptionEntry.{words_from, pushes, entering, stacked, begin_entry, vector_read}
 use Rattle.reference.specs.ExceptionEntry.{vector_taken, exception_taken, taken_if_any, take_vector}
 use Rattle.reference.specs.ExceptionReturn.{with_entry, fits_mode, unstacked, frame_read, pops, pop_stack, chained}
@@ -316,13 +318,13 @@ planned_called : (lines bits : ℕ) (s : State) (events : List Event) (i : Coded
 planned_called lines bits s events i (Ok qs) h out = performed_called lines bits s events i qs h out
 planned_called lines bits s events i (Err why) h out = failed_called lines bits s events why h
 
-meaningless_called : (lines bits : ℕ) (s : State) (events : List Event) (length : ℕ) (fault : UsageFault) →
+meaningless_called : (lines bits : ℕ) (s : State) (events : List Event) (length : InstructionLength) (fault : UsageFault) →
     HasWhole lines bits s → s.entry ≡ None → LeavesCalled (without_meaning s events length fault)
 meaningless_called lines bits s events length fault h out =
     either LeavesCalled (condition_passed s.registers.it s.registers.flags) _ _
     (λ passed. failed_called lines bits s events (failure.Usage fault) h) (λ skipped stop entry. none _ _ out entry)
 
-executed_called : (lines bits : ℕ) (s : State) (events : List Event) (length : ℕ) (d : Decoded) →
+executed_called : (lines bits : ℕ) (s : State) (events : List Event) (length : InstructionLength) (d : Decoded) →
     HasWhole lines bits s → s.entry ≡ None → LeavesCalled (executed s events length d)
 executed_called lines bits s events length (decoded.Instr i) h out = planned_called lines bits s events i _ h out
 executed_called lines bits s events length decoded.Undefined h out =
@@ -333,17 +335,17 @@ executed_called lines bits s events length (decoded.Unpredictable place why) h o
 
 second_called : (lines bits : ℕ) (s : State) (events : List Event) (hw1 : ℕ) (answer : Result ℕ Failure) →
     HasWhole lines bits s → s.entry ≡ None → LeavesCalled (fetched_second s events hw1 answer)
-second_called lines bits s events hw1 (Ok hw2) h out = executed_called lines bits s events 4 _ h out
+second_called lines bits s events hw1 (Ok hw2) h out = executed_called lines bits s events Long _ h out
 second_called lines bits s events hw1 (Err why) h out = failed_called lines bits s events why h
 
 with_second_called : (lines bits : ℕ) (s : State) (events : List Event) (hw1 : ℕ) → HasWhole lines bits s →
     s.entry ≡ None → LeavesCalled (with_second s events hw1)
 unfolding with_second
 with_second_called lines bits s events hw1 h out =
-    either LeavesCalled (instruction_length hw1 == 4) _ _
+    either LeavesCalled (is_long hw1) _ _
     (λ long. second_called lines bits _ _ hw1 _
     (perform_whole lines bits s.registers.exception s.bus (fetching s.registers (word_sum s.registers.pc 2)) h) out)
-    (λ short. executed_called lines bits s events 2 _ h out)
+    (λ short. executed_called lines bits s events Short _ h out)
 
 first_called : (lines bits : ℕ) (s : State) (events : List Event) (answer : Result ℕ Failure) →
     HasWhole lines bits s → s.entry ≡ None → LeavesCalled (fetched_first s events answer)

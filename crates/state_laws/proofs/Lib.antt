@@ -1,5 +1,4 @@
 mod Nvic
-mod Lengths
 mod Sets
 mod Ticks
 mod Systems

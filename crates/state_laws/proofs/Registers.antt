@@ -1,11 +1,13 @@
 -- Writes to the core registers keep what holds of them.
 use Rattle.std.proofs.Common.{◌≡◌, ℕ, ◌*◌, ◌/◌, ◌%◌, ◌^◌, ◌<◌, not, ◌==◌, length, Option, refl, ◌∙◌, arith}
 use Rattle.std.proofs.lemmas.List.{length-set}
+use Rattle.reference.specs.declared.instruction.InstructionLength.TheVariants.{Short, Long}
+use Rattle.reference.specs.declared.instruction.InstructionLength.{InstructionLength}
 use Rattle.reference.specs.declared.registers.Flags.{Flags}
 use Rattle.reference.specs.declared.registers.Marked.{Marked}
 use Rattle.reference.specs.Arithmetic.{in_it_block, it_advance}
 use Rattle.reference.specs.Invariant.{HasRegisters}
-use Rattle.reference.specs.ProgramCounter.{Finished, advanced, moves_on, branches, branches_by, is_exception_return}
+use Rattle.reference.specs.ProgramCounter.{Finished, advanced, instruction_bytes, moves_on, branches, branches_by, is_exception_return}
 use Rattle.reference.specs.ProgramCounter.{exchanges, loads_into}
 use Rattle.reference.specs.Registers.{Registers, register, uses_psp, with_sp, with_pc, with_exchange, with_register}
 use Rattle.reference.specs.Words.{word_sum}
@@ -73,13 +75,14 @@ advanced_kept r h = with_it r (it_advance r.it) (advance_small r.it h.it) h
 abbrev pub Leaves : Finished → Type 0
 Leaves f = HasRegisters f.registers
 
--- the address after an instruction of an even number of bytes
-pub next_even : (pc length : ℕ) → pc % 2 ≡ 0 → length % 2 ≡ 0 → word_sum pc length % 2 ≡ 0
-next_even pc length even e = omega arith
+-- the address after an instruction
+pub next_even : (pc : ℕ) (length : InstructionLength) → pc % 2 ≡ 0 → word_sum pc (instruction_bytes length) % 2 ≡ 0
+next_even pc Short even = omega arith
+next_even pc Long even = omega arith
 
-pub moves_on_kept : (length : ℕ) → length % 2 ≡ 0 → (r : Registers) → HasRegisters r → Leaves (moves_on length r)
-moves_on_kept length even r h =
-    pc_kept (advanced r) (word_sum r.pc length) (next_even r.pc length h.pc even) (advanced_kept r h)
+pub moves_on_kept : (length : InstructionLength) (r : Registers) → HasRegisters r → Leaves (moves_on length r)
+moves_on_kept length r h =
+    pc_kept (advanced r) (word_sum r.pc (instruction_bytes length)) (next_even r.pc length h.pc) (advanced_kept r h)
 
 pub branches_kept : (r : Registers) → HasRegisters r → Leaves (branches r)
 branches_kept r h = advanced_kept r h
@@ -93,8 +96,8 @@ exchanges_kept v r h =
     either Leaves (is_exception_return v r) _ _ (λ e. h)
     (λ e. branches_kept (with_exchange r v) (exchange_kept r v h))
 
-pub loads_into_kept : (length : ℕ) → length % 2 ≡ 0 → (t value : ℕ) (r : Registers) → HasRegisters r →
+pub loads_into_kept : (length : InstructionLength) (t value : ℕ) (r : Registers) → HasRegisters r →
     Leaves (loads_into length t value r)
-loads_into_kept length even t value r h =
+loads_into_kept length t value r h =
     either Leaves (t == 15) _ _ (λ e. exchanges_kept value r h)
-    (λ e. moves_on_kept length even (with_register r t value) (register_kept r t value h))
+    (λ e. moves_on_kept length (with_register r t value) (register_kept r t value h))

@@ -13,10 +13,12 @@ use Rattle.reference.specs.declared.instruction.Decoded.{Decoded}
 use Rattle.reference.specs.declared.instruction.Decoded.TheVariants as decoded
 use Rattle.reference.specs.declared.instruction.Ending.{Ending}
 use Rattle.reference.specs.declared.instruction.Ending.TheVariants as ending
+use Rattle.reference.specs.declared.instruction.InstructionLength.TheVariants.{Short, Long}
+use Rattle.reference.specs.declared.instruction.InstructionLength.{InstructionLength}
 use Rattle.reference.specs.declared.stop.Stop.{Stop}
 use Rattle.reference.specs.Accesses.{Served, perform_all}
 use Rattle.reference.specs.Arithmetic.{condition_passed}
-use Rattle.reference.specs.Decoding.{instruction_length}
+use Rattle.reference.specs.Decoding.{is_long}
 use Rattle.reference.specs.Operations.{result_of}
 use Rattle.reference.specs.ProgramCounter.{Finished, moves_on}
 use Rattle.reference.specs.Registers.{is_privileged}
@@ -76,14 +78,14 @@ planned_whole lines bits s events i (Err why) h = failed_whole lines bits s even
 
 -- ---- the decoded instruction
 
-meaningless_whole : (lines bits : ℕ) (s : State) (events : List Event) (length : ℕ) (fault : UsageFault) →
+meaningless_whole : (lines bits : ℕ) (s : State) (events : List Event) (length : InstructionLength) (fault : UsageFault) →
     HasWhole lines bits s → LeavesWhole lines bits (without_meaning s events length fault)
 meaningless_whole lines bits s events length fault h =
     either (LeavesWhole lines bits) (condition_passed s.registers.it s.registers.flags) _ _
     (λ passed. failed_whole lines bits s events (failure.Usage fault) h)
     (λ skipped. finished_whole lines bits s events (moves_on length s.registers) h)
 
-executed_whole : (lines bits : ℕ) (s : State) (events : List Event) (length : ℕ) (d : Decoded) →
+executed_whole : (lines bits : ℕ) (s : State) (events : List Event) (length : InstructionLength) (d : Decoded) →
     HasWhole lines bits s → LeavesWhole lines bits (executed s events length d)
 executed_whole lines bits s events length (decoded.Instr i) h = planned_whole lines bits s events i _ h
 executed_whole lines bits s events length decoded.Undefined h =
@@ -96,17 +98,17 @@ executed_whole lines bits s events length (decoded.Unpredictable place why) h = 
 
 second_whole : (lines bits : ℕ) (s : State) (events : List Event) (hw1 : ℕ) (answer : Result ℕ Failure) →
     HasWhole lines bits s → LeavesWhole lines bits (fetched_second s events hw1 answer)
-second_whole lines bits s events hw1 (Ok hw2) h = executed_whole lines bits s events 4 _ h
+second_whole lines bits s events hw1 (Ok hw2) h = executed_whole lines bits s events Long _ h
 second_whole lines bits s events hw1 (Err why) h = failed_whole lines bits s events why h
 
 with_second_whole : (lines bits : ℕ) (s : State) (events : List Event) (hw1 : ℕ) → HasWhole lines bits s →
     LeavesWhole lines bits (with_second s events hw1)
 unfolding with_second
 with_second_whole lines bits s events hw1 h =
-    either (LeavesWhole lines bits) (instruction_length hw1 == 4) _ _
+    either (LeavesWhole lines bits) (is_long hw1) _ _
     (λ long. second_whole lines bits _ _ hw1 _
     (perform_whole lines bits s.registers.exception s.bus (fetching s.registers (word_sum s.registers.pc 2)) h))
-    (λ short. executed_whole lines bits s events 2 _ h)
+    (λ short. executed_whole lines bits s events Short _ h)
 
 first_whole : (lines bits : ℕ) (s : State) (events : List Event) (answer : Result ℕ Failure) →
     HasWhole lines bits s → LeavesWhole lines bits (fetched_first s events answer)

@@ -12,10 +12,12 @@ use Rattle.reference.specs.declared.instruction.Decoded.{Decoded}
 use Rattle.reference.specs.declared.instruction.Decoded.TheVariants as decoded
 use Rattle.reference.specs.declared.instruction.Ending.{Ending}
 use Rattle.reference.specs.declared.instruction.Ending.TheVariants as ending
+use Rattle.reference.specs.declared.instruction.InstructionLength.TheVariants.{Short, Long}
+use Rattle.reference.specs.declared.instruction.InstructionLength.{InstructionLength}
 use Rattle.reference.specs.declared.stop.Stop.{Stop}
 use Rattle.reference.specs.Accesses.{Served, perform, told, value_of}
 use Rattle.reference.specs.Arithmetic.{condition_passed}
-use Rattle.reference.specs.Decoding.{instruction_length}
+use Rattle.reference.specs.Decoding.{is_long}
 use Rattle.reference.specs.Memory.{Memory}
 use Rattle.reference.specs.Operations.{result_of}
 use Rattle.reference.specs.ProgramCounter.{Finished, moves_on}
@@ -84,14 +86,14 @@ planned_lawful old s events i (Err why) ready = failed_granted old s events why 
 
 -- ---- the decoded instruction
 
-meaningless_lawful : (old : Memory) (s : State) (events : List Event) (length : ℕ) (fault : UsageFault) →
+meaningless_lawful : (old : Memory) (s : State) (events : List Event) (length : InstructionLength) (fault : UsageFault) →
     MayGoOn old s events → IsLawful old (without_meaning s events length fault)
 meaningless_lawful old s events length fault ready =
     either (IsLawful old) (condition_passed s.registers.it s.registers.flags) _ _
     (λ passed. failed_granted old s events (failure.Usage fault) ready)
     (λ skipped. finished_lawful old s events (moves_on length s.registers) ready)
 
-executed_lawful : (old : Memory) (s : State) (events : List Event) (length : ℕ) (d : Decoded) →
+executed_lawful : (old : Memory) (s : State) (events : List Event) (length : InstructionLength) (d : Decoded) →
     MayGoOn old s events → IsLawful old (executed s events length d)
 executed_lawful old s events length (decoded.Instr i) ready = planned_lawful old s events i _ ready
 executed_lawful old s events length decoded.Undefined ready =
@@ -125,17 +127,17 @@ fetch_leaves old s events q ready =
 second_lawful : (old : Memory) (s : State) (events : List Event) (hw1 : ℕ) (answer : Result ℕ Failure) →
     Fetched old s events answer → IsLawful old (fetched_second s events hw1 answer)
 second_lawful old s events hw1 (Ok hw2) fetched =
-    executed_lawful old s events 4 _ (record { granted = fetched.ends; only = fetched.only })
+    executed_lawful old s events Long _ (record { granted = fetched.ends; only = fetched.only })
 second_lawful old s events hw1 (Err why) fetched = failed_lawful old s events why fetched.ends fetched.only
 
 with_second_lawful : (old : Memory) (s : State) (events : List Event) (hw1 : ℕ) → MayGoOn old s events →
     IsLawful old (with_second s events hw1)
 unfolding with_second
 with_second_lawful old s events hw1 ready =
-    either (IsLawful old) (instruction_length hw1 == 4) _ _
+    either (IsLawful old) (is_long hw1) _ _
     (λ long. second_lawful old _ _ hw1 _
     (fetch_leaves old s events (fetching s.registers (word_sum s.registers.pc 2)) ready))
-    (λ short. executed_lawful old s events 2 _ ready)
+    (λ short. executed_lawful old s events Short _ ready)
 
 first_lawful : (old : Memory) (s : State) (events : List Event) (answer : Result ℕ Failure) →
     Fetched old s events answer → IsLawful old (fetched_first s events answer)

@@ -3,7 +3,7 @@ use data_edges_fields::FIELDS;
 use data_edges_moves::MOVES;
 use data_edges_products::PRODUCTS;
 use data_edges_sums::SUMS;
-use decode::{Decoded, decode, length};
+use decode::{Decoded, decode, is_long};
 use edge_stops::STOPS;
 use edges::EDGES;
 use exec::{Failure, Requests, Traps, finish, plan};
@@ -92,8 +92,8 @@ fn runs(case: &mut Case) -> bool {
     let mut left = case.halfwords;
     'instructions: for _ in 0..case.halfwords {
         if left > 0 {
-            let halfwords = length(case.memory.halfword(case.regs.pc())) / 2;
-            left = left.saturating_sub(halfwords as usize);
+            let long = is_long(case.memory.halfword(case.regs.pc()));
+            left = left.saturating_sub(if long { 2 } else { 1 });
             match step(&mut case.regs, &mut case.memory) {
                 Ok(ending) if goes_on(&mut case.regs, ending) => {}
                 _ => return false,

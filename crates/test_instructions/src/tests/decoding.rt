@@ -3,7 +3,7 @@
 ghost use Rattle.std.specs.Prelude.{◌<◌};
 
 use assembled::{COPROCESSORS, LONG_CONTROL, LONG_DATA, LONG_OTHERS, SHORT, UNDEFINED};
-use decode::{CodeLines, Decoded, Reread, decode, length};
+use decode::{CodeLines, Decoded, Reread, decode, is_long};
 use std::test::*;
 use stops::STOPS;
 use test_tables::{Rows, byte_at, check, halfword_at, numbers, part};
@@ -45,7 +45,7 @@ impl Rows for Coded {
         };
         let [_, _, variant, length, place, a, b, c, d, e, f, g] = numbers::<12>(line)?;
         Some(
-            length == u32::from(coded.length)
+            length == coded.length.bytes()
                 && place == coded.place as u32
                 && told_operands(&coded.instruction) == Some([variant, a, b, c, d, e, f, g]),
         )
@@ -114,7 +114,8 @@ struct FirstHalfwords;
 impl Rows for FirstHalfwords {
     fn holds(&mut self, row: &str) -> Option<bool> {
         let hw1 = halfword_at(part(row, 0), 0)?;
-        Some(byte_at(part(row, 1), 0) == Some(length(hw1)))
+        let bytes = if is_long(hw1) { 4 } else { 2 };
+        Some(byte_at(part(row, 1), 0) == Some(bytes))
     }
 }
 

@@ -2,6 +2,7 @@
 //! (ARM DDI 0403, "System timer, SysTick") and from the rules of lines and scripts.
 
 use clock::{Clock, Counting, Due};
+use reference::exception::MOST_LINES;
 use reference::script::{InterruptLine, ScriptedEvent, Signal};
 use std::alloc::Global;
 use std::test::*;
@@ -26,7 +27,7 @@ fn set_of(numbers: &str) -> Option<Due> {
 /// The line of this number.
 fn line(word: &str) -> Option<InterruptLine> {
     let number = byte_at(word, 0)?;
-    if number < InterruptLine::MOST {
+    if number < MOST_LINES {
         Some(InterruptLine::new(number))
     } else {
         None

@@ -5,6 +5,7 @@ use machine::{
     Board, Decider, DueTicks, InterruptLine, Layout, Levels, Machine, Place, PlaceFault,
     RegionCount, SMALL_BOARD, ScriptedEvent, Signal,
 };
+use reference::exception::MOST_LINES;
 use std::alloc::{AllocError, Global};
 use test_tables::{byte_at, number_at, word};
 
@@ -15,7 +16,7 @@ pub(super) static NO_SEGMENTS: [u8; 52] =
 /// The interrupt line that an event is on, if there can be one of its number.
 fn interrupt_line(line: &str) -> Option<InterruptLine> {
     let number = byte_at(line, 3)?;
-    if number < InterruptLine::MOST {
+    if number < MOST_LINES {
         Some(InterruptLine::new(number))
     } else {
         None
