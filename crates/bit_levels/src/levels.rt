@@ -34,6 +34,7 @@ impl Model for BitLevels {
     ghost use Rattle.std.specs.Prelude.{◌<◌, ◌≤◌};
     ghost use Rattle.bit_levels.specs.Sets.{flags, is_waiting, AreKeptBytes, IsKept};
     ghost use Rattle.reference.specs.Priorities.{Nvic, is_in_words};
+    ghost use Rattle.reference.specs.declared.exception.TheConstants.{MOST_LINES};
 
     ghost Value = { Nvic };
 

@@ -28,6 +28,7 @@ impl Model for PlainLevels {
     ghost use Rattle.std.specs.Prelude.{◌≡◌, ◌<◌, ◌≤◌};
     ghost use Rattle.nvic.specs.Waiting.{count_in};
     ghost use Rattle.reference.specs.Priorities.{Nvic};
+    ghost use Rattle.reference.specs.declared.exception.TheConstants.{MOST_LINES};
 
     ghost Value = { Nvic };
 
