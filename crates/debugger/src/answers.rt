@@ -5,40 +5,19 @@ ghost use Rattle.debugger.specs.Answers.{end_piece, ends_at, is_hit, is_instruct
 ghost use Rattle.debugger.specs.Sessions.{Tells};
 
 use debugger_commands::{Breakpoints, end_text};
-use machine::{Decider, DueTicks, Events, IoFault, Levels, Machine, Out, StepKind};
-use output::StepPage;
-use trace::tick::Tick;
+use machine::{Decider, DueTicks, IoFault, Levels, LineRoom, Machine, Out, StepKind};
 
-/// Room for the events of a step and for their lines.
-#[derive(Drop)]
-struct StepRoom {
-    events: Events,
-    page: StepPage,
-    tick: Tick,
-}
-
-impl StepRoom {
-    fn new() -> Self {
-        StepRoom {
-            events: Events::new(),
-            page: StepPage::new(),
-            tick: Tick::new(),
-        }
-    }
-
-    /// Makes a step and writes its lines.
-    fn step<D: Decider, L: Levels, U: DueTicks, W: Out>(
-        &mut self,
-        machine: &mut Machine<D, L, U>,
-        out: &mut W,
-    ) -> Result<(), IoFault>
-        ensures { Tells (step_piece machine.old.state ∷ []) machine.old machine.new (record { written = W.written out.old; faults = W.faults out.old }) (record { written = W.written out.new; faults = W.faults out.new }) result }
-    {
-        let _ = machine.step(&mut self.events);
-        match out.put_lines(&mut self.page, &mut self.tick, self.events.as_slice()) {
-            Ok(()) => Ok(()),
-            Err(fault) => Err(fault),
-        }
+/// Makes a step and writes its lines.
+fn write_step<D: Decider, L: Levels, U: DueTicks, W: Out>(
+    machine: &mut Machine<D, L, U>,
+    room: &mut LineRoom,
+    out: &mut W,
+) -> Result<(), IoFault>
+    ensures { Tells (step_piece machine.old.state ∷ []) machine.old machine.new (record { written = W.written out.old; faults = W.faults out.old }) (record { written = W.written out.new; faults = W.faults out.new }) result }
+{
+    match machine.write_step(room, out) {
+        Ok(()) => Ok(()),
+        Err(fault) => Err(fault),
     }
 }
 
@@ -86,10 +65,10 @@ fn put_end<D: Decider, L: Levels, U: DueTicks, W: Out>(
 /// Makes at most `steps` steps after the first one of a run, and writes their lines and where the
 /// machine is then.
 fn run_on<D: Decider, L: Levels, U: DueTicks, W: Out>(
-    room: &mut StepRoom,
     machine: &mut Machine<D, L, U>,
     breakpoints: &Breakpoints,
     steps: u32,
+    room: &mut LineRoom,
     out: &mut W,
 ) -> Result<(), IoFault>
     ensures { Tells (run_on breakpoints.now steps machine.old.state) machine.old machine.new (record { written = W.written out.old; faults = W.faults out.old }) (record { written = W.written out.new; faults = W.faults out.new }) result }
@@ -99,7 +78,7 @@ fn run_on<D: Decider, L: Levels, U: DueTicks, W: Out>(
         if ends_at(machine, breakpoints) {
             break;
         }
-        match room.step(machine, out) {
+        match write_step(machine, room, out) {
             Ok(()) => {}
             Err(fault) => return Err(fault),
         }
@@ -124,16 +103,16 @@ pub fn run<D: Decider, L: Levels, U: DueTicks, W: Out>(
     if machine.stop().is_some() {
         return put_end(machine, out);
     }
-    let mut room = StepRoom::new();
-    match room.step(machine, out) {
+    let mut room = LineRoom::new();
+    match write_step(machine, &mut room, out) {
         Ok(()) => {}
         Err(fault) => return Err(fault),
     }
     match run_on(
-        &mut room,
         machine,
         breakpoints,
         steps.saturating_sub(1),
+        &mut room,
         out,
     ) {
         Ok(()) => Ok(()),

@@ -6,6 +6,7 @@ ghost use Rattle.exceptions.specs.Serving.{Serves};
 ghost use Rattle.reference.specs.Accesses.{accessed, told, value_of, perform, perform_all};
 ghost use Rattle.reference.specs.declared.event.Happening.TheVariants.{ConsoleByte};
 ghost use Rattle.reference.specs.Kinds.{bytes_in};
+ghost use Rattle.trace.specs.Emission.{with_emitted};
 
 use access::{Bus, Decider, DueTicks, Levels, is_out};
 use bounded::Bounded;
@@ -34,7 +35,7 @@ pub fn serve<D: Decider, L: Levels, U: DueTicks, S: Sink>(
     requires room { length (S.emitted events.old).events + most_lines requests.now ≤ MOST_EVENTS }
     requires few { length requests.now ≤ MOST_REQUESTS }
     ensures bus { bus.new ≡ (perform_all exception tick bus.old requests.now).bus }
-    ensures events { S.emitted events.new ≡ record (S.emitted events.old) { events = (S.emitted events.old).events ++ (perform_all exception tick bus.old requests.now).events } }
+    ensures events { S.emitted events.new ≡ with_emitted (S.emitted events.old) ((S.emitted events.old).events ++ (perform_all exception tick bus.old requests.now).events) }
     ensures answer { Serves (perform_all exception tick bus.old requests.now) values.new result }
     ensures room { length (S.emitted events.new).events ≤ length (S.emitted events.old).events + most_lines requests.now }
     ensures whole { IfOk result (λ done. length values.new.items ≡ length requests.now) }
@@ -60,7 +61,7 @@ pub fn access<D: Decider, L: Levels, U: DueTicks, S: Sink>(
 ) -> Result<u32, Failure>
     requires { length (S.emitted events.old).events + lines_of request.now ≤ MOST_EVENTS }
     ensures bus { bus.new ≡ (perform exception bus.old request.now).bus }
-    ensures events { S.emitted events.new ≡ record (S.emitted events.old) { events = (S.emitted events.old).events ++ told tick request.now (perform exception bus.old request.now).performed } }
+    ensures events { S.emitted events.new ≡ with_emitted (S.emitted events.old) ((S.emitted events.old).events ++ told tick request.now (perform exception bus.old request.now).performed) }
     ensures room { length (S.emitted events.new).events ≤ length (S.emitted events.old).events + lines_of request.now }
     ensures answer { result ≡ value_of request.now (perform exception bus.old request.now).performed }
     ensures narrow { IfOk result (λ value. value < 256 ^ bytes_in request.now.access.size) }

@@ -4,6 +4,7 @@ ghost use Rattle.std.specs.Prelude.{◌≡◌, ◌<◌, ◌≤◌, [], length};
 ghost use Rattle.reference.specs.declared.access.Size.TheVariants.{Word};
 ghost use Rattle.reference.specs.LoadStore.{request};
 ghost use Rattle.reference.specs.ExceptionEntry.{words_from as words_from_of, pushes as pushes_of, vector_read as vector_read_of, handler_entered, vector_refused, exception_taken, begin_entry, take_vector};
+ghost use Rattle.trace.specs.Emission.{with_emitted};
 
 use crate::accesses::{Requests, Values};
 use crate::faults::vector_fault;
@@ -65,7 +66,7 @@ impl<D: Decider, L: Levels, U: DueTicks> Core<D, L, U> {
     pub fn begin_entry<S: Sink>(&mut self, events: &mut S)
         requires { (S.emitted events.old).events ≡ [] }
         ensures state { self.new ≡ (begin_entry self.old).state }
-        ensures events { S.emitted events.new ≡ record (S.emitted events.old) { events = (begin_entry self.old).events } }
+        ensures events { S.emitted events.new ≡ with_emitted (S.emitted events.old) ((begin_entry self.old).events) }
     {
         let requests = pushes(&self.regs);
         let mut values = Values::new();
@@ -83,7 +84,7 @@ impl<D: Decider, L: Levels, U: DueTicks> Core<D, L, U> {
     pub fn take_vector<S: Sink>(&mut self, events: &mut S, exc_return: u32)
         requires { (S.emitted events.old).events ≡ [] }
         ensures state { self.new ≡ (take_vector self.old exc_return).state }
-        ensures events { S.emitted events.new ≡ record (S.emitted events.old) { events = (take_vector self.old exc_return).events } }
+        ensures events { S.emitted events.new ≡ with_emitted (S.emitted events.old) ((take_vector self.old exc_return).events) }
     {
         if let Some(exception) = self.candidate() {
             self.take_exception(events, exc_return, exception);
@@ -96,7 +97,7 @@ impl<D: Decider, L: Levels, U: DueTicks> Core<D, L, U> {
         requires empty { (S.emitted events.old).events ≡ [] }
         requires small { exception < 256 }
         ensures state { self.new ≡ (exception_taken self.old exc_return exception).state }
-        ensures events { S.emitted events.new ≡ record (S.emitted events.old) { events = (exception_taken self.old exc_return exception).events } }
+        ensures events { S.emitted events.new ≡ with_emitted (S.emitted events.old) ((exception_taken self.old exc_return exception).events) }
     {
         let request = self.vector_read(exception);
         match self.access(events, &request) {
@@ -131,7 +132,7 @@ impl<D: Decider, L: Levels, U: DueTicks> Core<D, L, U> {
         requires room { length (S.emitted events.old).events < MOST_EVENTS }
         requires small { exception < 256 }
         ensures state { self.new ≡ (handler_entered self.old (S.emitted events.old).events exception exc_return vector).state }
-        ensures events { S.emitted events.new ≡ record (S.emitted events.old) { events = (handler_entered self.old (S.emitted events.old).events exception exc_return vector).events } }
+        ensures events { S.emitted events.new ≡ with_emitted (S.emitted events.old) ((handler_entered self.old (S.emitted events.old).events exception exc_return vector).events) }
     {
         events.emit(Event {
             tick: self.bus.system.ticks(),
@@ -147,7 +148,7 @@ impl<D: Decider, L: Levels, U: DueTicks> Core<D, L, U> {
     fn refuse_vector<S: Sink>(&mut self, events: &mut S, exception: u16)
         requires { length (S.emitted events.old).events < MOST_EVENTS }
         ensures state { self.new ≡ (vector_refused self.old (S.emitted events.old).events exception).state }
-        ensures events { S.emitted events.new ≡ record (S.emitted events.old) { events = (vector_refused self.old (S.emitted events.old).events exception).events } }
+        ensures events { S.emitted events.new ≡ with_emitted (S.emitted events.old) ((vector_refused self.old (S.emitted events.old).events exception).events) }
     {
         self.record(vector_fault());
         if exception == NMI || exception == HARD_FAULT {

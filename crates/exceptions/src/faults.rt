@@ -2,6 +2,7 @@
 
 ghost use Rattle.std.specs.Prelude.{◌≡◌, ◌<◌, ◌++◌, ◌∷◌, [], length};
 ghost use Rattle.reference.specs.Faults.{access_fault, fault_of as fault_of_access, usage_fault_of as usage_fault_of_word, mem_manage as mem_manage_of, bus_fault as bus_fault_of, usage_fault as usage_fault_of_bit, vector_fault as vector_fault_of, fault_line as fault_line_of, recorded, pended_by_fault, forced, locked_up, escalated, faulted, failed, supervisor_called};
+ghost use Rattle.trace.specs.Emission.{with_emitted};
 
 use crate::state::Core;
 use access::{Decider, DueTicks, Levels};
@@ -136,7 +137,7 @@ impl<D: Decider, L: Levels, U: DueTicks> Core<D, L, U> {
     pub fn pend_by_fault<S: Sink>(&mut self, events: &mut S, exception: u16)
         requires { length (S.emitted events.old).events < MOST_EVENTS }
         ensures state { self.new ≡ (pended_by_fault self.old (S.emitted events.old).events exception).state }
-        ensures events { S.emitted events.new ≡ record (S.emitted events.old) { events = (pended_by_fault self.old (S.emitted events.old).events exception).events } }
+        ensures events { S.emitted events.new ≡ with_emitted (S.emitted events.old) ((pended_by_fault self.old (S.emitted events.old).events exception).events) }
     {
         events.emit(self.fault_line(exception));
         self.bus.system.pend(exception);
@@ -146,7 +147,7 @@ impl<D: Decider, L: Levels, U: DueTicks> Core<D, L, U> {
     fn force<S: Sink>(&mut self, events: &mut S)
         requires { length (S.emitted events.old).events < MOST_EVENTS }
         ensures state { self.new ≡ (forced self.old (S.emitted events.old).events).state }
-        ensures events { S.emitted events.new ≡ record (S.emitted events.old) { events = (forced self.old (S.emitted events.old).events).events } }
+        ensures events { S.emitted events.new ≡ with_emitted (S.emitted events.old) ((forced self.old (S.emitted events.old).events).events) }
     {
         self.bus.system.set_fault_bits(0, FORCED);
         self.pend_by_fault(events, HARD_FAULT);
@@ -156,7 +157,7 @@ impl<D: Decider, L: Levels, U: DueTicks> Core<D, L, U> {
     pub fn lock_up<S: Sink>(&mut self, events: &mut S)
         requires { length (S.emitted events.old).events < MOST_EVENTS }
         ensures state { self.new ≡ (locked_up self.old (S.emitted events.old).events).state }
-        ensures events { S.emitted events.new ≡ record (S.emitted events.old) { events = (locked_up self.old (S.emitted events.old).events).events } }
+        ensures events { S.emitted events.new ≡ with_emitted (S.emitted events.old) ((locked_up self.old (S.emitted events.old).events).events) }
     {
         events.emit(self.fault_line(0));
         self.end(Stop::Lockup);
@@ -167,7 +168,7 @@ impl<D: Decider, L: Levels, U: DueTicks> Core<D, L, U> {
     pub fn raise<S: Sink>(&mut self, events: &mut S, fault: FaultEffect)
         requires { length (S.emitted events.old).events < MOST_EVENTS }
         ensures state { self.new ≡ (faulted self.old (S.emitted events.old).events fault).state }
-        ensures events { S.emitted events.new ≡ record (S.emitted events.old) { events = (faulted self.old (S.emitted events.old).events fault).events } }
+        ensures events { S.emitted events.new ≡ with_emitted (S.emitted events.old) ((faulted self.old (S.emitted events.old).events fault).events) }
     {
         self.record(fault);
         match self.escalation(fault.exception) {
@@ -183,7 +184,7 @@ impl<D: Decider, L: Levels, U: DueTicks> Core<D, L, U> {
     pub fn fail<S: Sink>(&mut self, events: &mut S, failure: Failure)
         requires { length (S.emitted events.old).events < MOST_EVENTS }
         ensures state { self.new ≡ (failed self.old (S.emitted events.old).events failure).state }
-        ensures events { S.emitted events.new ≡ record (S.emitted events.old) { events = (failed self.old (S.emitted events.old).events failure).events } }
+        ensures events { S.emitted events.new ≡ with_emitted (S.emitted events.old) ((failed self.old (S.emitted events.old).events failure).events) }
     {
         match failure {
             Failure::Refused(access, cause) => self.raise(events, fault_of(&access, cause)),
@@ -197,7 +198,7 @@ impl<D: Decider, L: Levels, U: DueTicks> Core<D, L, U> {
     pub fn call_supervisor<S: Sink>(&mut self, events: &mut S)
         requires { length (S.emitted events.old).events < MOST_EVENTS }
         ensures state { self.new ≡ (supervisor_called self.old (S.emitted events.old).events).state }
-        ensures events { S.emitted events.new ≡ record (S.emitted events.old) { events = (supervisor_called self.old (S.emitted events.old).events).events } }
+        ensures events { S.emitted events.new ≡ with_emitted (S.emitted events.old) ((supervisor_called self.old (S.emitted events.old).events).events) }
     {
         match self.escalation(SV_CALL) {
             Escalation::Itself => {

@@ -8,6 +8,7 @@ ghost use Rattle.reference.specs.Faults.{failed};
 ghost use Rattle.reference.specs.Frames.{has_reserved_ones as has_reserved_ones_of, returns_to_thread as returns_to_thread_of};
 ghost use Rattle.reference.specs.Priorities.{candidate};
 ghost use Rattle.reference.specs.State.{with_system};
+ghost use Rattle.trace.specs.Emission.{with_emitted};
 
 use crate::accesses::{Requests, Values};
 use crate::entry::words_from;
@@ -81,7 +82,7 @@ impl<D: Decider, L: Levels, U: DueTicks> Core<D, L, U> {
     pub fn return_from<S: Sink>(&mut self, events: &mut S, exc_return: u32)
         requires { length (S.emitted events.old).events + 10 ≤ MOST_EVENTS }
         ensures state { self.new ≡ (exception_return self.old (S.emitted events.old).events exc_return).state }
-        ensures events { S.emitted events.new ≡ record (S.emitted events.old) { events = (exception_return self.old (S.emitted events.old).events exc_return).events } }
+        ensures events { S.emitted events.new ≡ with_emitted (S.emitted events.old) ((exception_return self.old (S.emitted events.old).events exc_return).events) }
     {
         events.emit(Event {
             tick: self.bus.system.ticks(),
@@ -129,7 +130,7 @@ impl<D: Decider, L: Levels, U: DueTicks> Core<D, L, U> {
     fn chain<S: Sink>(&mut self, events: &mut S, exc_return: u32)
         requires { length (S.emitted events.old).events + 9 ≤ MOST_EVENTS }
         ensures state { self.new ≡ (chained self.old (S.emitted events.old).events exc_return (candidate self.old.bus.system.nvic)).state }
-        ensures events { S.emitted events.new ≡ record (S.emitted events.old) { events = (chained self.old (S.emitted events.old).events exc_return (candidate self.old.bus.system.nvic)).events } }
+        ensures events { S.emitted events.new ≡ with_emitted (S.emitted events.old) ((chained self.old (S.emitted events.old).events exc_return (candidate self.old.bus.system.nvic)).events) }
     {
         if self.candidate().is_some() {
             self.entry = Some(exc_return);
@@ -142,7 +143,7 @@ impl<D: Decider, L: Levels, U: DueTicks> Core<D, L, U> {
     fn refuse_return<S: Sink>(&mut self, events: &mut S, exc_return: u32)
         requires { length (S.emitted events.old).events < MOST_EVENTS }
         ensures state { self.new ≡ (failed (with_entry self.old exc_return) (S.emitted events.old).events (Usage InvalidReturn)).state }
-        ensures events { S.emitted events.new ≡ record (S.emitted events.old) { events = (failed (with_entry self.old exc_return) (S.emitted events.old).events (Usage InvalidReturn)).events } }
+        ensures events { S.emitted events.new ≡ with_emitted (S.emitted events.old) ((failed (with_entry self.old exc_return) (S.emitted events.old).events (Usage InvalidReturn)).events) }
     {
         self.entry = Some(exc_return);
         self.fail(events, Failure::Usage(UsageFault::InvalidReturn));
@@ -153,7 +154,7 @@ impl<D: Decider, L: Levels, U: DueTicks> Core<D, L, U> {
     fn pop_stack<S: Sink>(&mut self, events: &mut S, exc_return: u32)
         requires { length (S.emitted events.old).events + 9 ≤ MOST_EVENTS }
         ensures state { self.new ≡ (pop_stack self.old (S.emitted events.old).events exc_return).state }
-        ensures events { S.emitted events.new ≡ record (S.emitted events.old) { events = (pop_stack self.old (S.emitted events.old).events exc_return).events } }
+        ensures events { S.emitted events.new ≡ with_emitted (S.emitted events.old) ((pop_stack self.old (S.emitted events.old).events exc_return).events) }
     {
         let requests = pops(&self.regs, exc_return);
         let mut values = Values::new();
@@ -173,7 +174,7 @@ impl<D: Decider, L: Levels, U: DueTicks> Core<D, L, U> {
         requires room { length (S.emitted events.old).events < MOST_EVENTS }
         requires words { length frame.now ≡ 8 }
         ensures state { self.new ≡ (unstacked self.old (S.emitted events.old).events exc_return frame.now).state }
-        ensures events { S.emitted events.new ≡ record (S.emitted events.old) { events = (unstacked self.old (S.emitted events.old).events exc_return frame.now).events } }
+        ensures events { S.emitted events.new ≡ with_emitted (S.emitted events.old) ((unstacked self.old (S.emitted events.old).events exc_return frame.now).events) }
     {
         if !fits_mode(exc_return, frame) {
             self.refuse_return(events, exc_return);

@@ -14,7 +14,7 @@ pub use access_table::Table;
 pub use bit_levels::{BitLevels, KeptAnswers};
 pub use board::{Board, InterruptLine, ScriptedEvent, Signal};
 pub use foresight::StepKind;
-pub use output::{In, IoFault, Out, Over, Paged};
+pub use output::{In, IoFault, LineRoom, Out, Over, Paged};
 pub use readers::RegValues;
 pub use reference::access::{Decision, Kind, Rule};
 pub use reference::board::{Layout, SMALL_BOARD};

@@ -12,12 +12,14 @@ ghost use Rattle.reference.specs.Regions.{shown};
 ghost use Rattle.reference.specs.Rules.{decision_of};
 ghost use Rattle.reference.specs.Run.{after, ending_of, trace};
 ghost use Rattle.reference.specs.Start.{start};
+ghost use Rattle.output.specs.Output.{Put};
 ghost use Rattle.reference.specs.Step.{step};
+ghost use Rattle.reference.specs.Text.{lines};
 ghost use Rattle.std.specs.Io.KnownBytes.{Appends};
 
 use crate::foresight::StepKind;
 use crate::readers::RegValues;
-use crate::run::run_core;
+use crate::run::{run_core, write_step};
 use crate::start::start_core;
 use crate::stepping::Processor;
 use access::{Ahead, Counting, Decider, DueTicks, Levels, PlainLevels, Search};
@@ -26,7 +28,7 @@ use bit_levels::{BitLevels, KeptAnswers};
 use board::Board;
 use decode::Memo;
 use elf::Image;
-use output::Out;
+use output::{IoFault, LineRoom, Out};
 use reference::access::{Decision, Kind};
 use reference::event::MOST_EVENTS;
 use reference::fault::{PlaceFault, StartFault};
@@ -97,6 +99,15 @@ impl<D: Decider, L: Levels, U: DueTicks> Machine<D, L, U> {
         self.core.step(events, &mut self.memo);
         prove!(events.len() <= MOST_EVENTS);
         self.core.stop()
+    }
+
+    /// Makes a step and writes its lines. `room` is kept from one step to the next. After a fault a prefix
+    /// of the lines went out.
+    pub fn write_step<W: Out>(&mut self, room: &mut LineRoom, out: &mut W) -> Result<(), IoFault>
+        ensures state { self.new ≡ record self.old { state = (step self.old.state).state } }
+        ensures put { Put (W.written out.old) (W.written out.new) (W.faults out.old) (W.faults out.new) (lines (step self.old.state).events) result }
+    {
+        write_step(&mut self.core, &mut self.memo, out, room)
     }
 
     /// Makes at most `limit` steps, up to the first stop, and writes their trace.

@@ -1,6 +1,6 @@
 -- The lines of a step's events, put one by one.
 use Rattle.std.proofs.Common.{◌≡◌, ℕ, ◌+◌, ◌-◌, ◌<◌, Bool, true, false, List, [], ◌∷◌, ◌++◌, length, take, drop, Option}
-use Rattle.std.proofs.Common.{Some, None, Result, Ok, Err, map, refl, sym, ap, ◌∙◌, append_assoc, length-append}
+use Rattle.std.proofs.Common.{Some, None, refl, sym, ap, ◌∙◌, append_assoc, length-append}
 use Rattle.std.proofs.Common.{length-drop, take_all, arith}
 use Rattle.std.proofs.KnownBytes.{Appends-nil, Appends-trans}
 use Rattle.std.proofs.Math.Logic.{∥∥₁_elim, ∥∥₁_map}
@@ -8,7 +8,7 @@ use Rattle.std.proofs.Props.{props}
 use Rattle.std.proofs.lemmas.List.{append-nil, map-append, take-append-drop, take-append-le}
 use Rattle.std.specs.Io.KnownBytes.{Appends}
 use Rattle.output.specs.Emitting.{PutsUnless, WritesSoFar, emission}
-use Rattle.output.specs.Output.{IsCutShort, Put}
+use Rattle.output.specs.Output.{IsCutShort}
 use Rattle.reference.specs.declared.event.Event.{Event}
 use Rattle.reference.specs.Text.{line, lines}
 use Rattle.trace.specs.Emission.{Emission}

@@ -36,14 +36,6 @@ passed_on start mid new waits bytes before now later (Ok taken) kept none same t
 passed_on start mid new waits bytes before now later (Err fault) kept none same took =
     (Keeps-trans start _ _ kept (append_known-kept mid new waits took.0), rw same at took.1)
 
--- no events, no lines
-pub no_lines : (old : Option (List ℕ)) (events : List Event) → true ≡ (length events == 0)
-    → Appends old old (lines events)
-unfolding lines
-no_lines old [] e = Appends-nil old
-no_lines old (event ∷ events) e =
-    absurd (let wrong : suc (length events) ≡ 0 = grind (arith, nat_tests, e) in omega arith)
-
 some_bytes : (old new : Option (List ℕ)) (text : List ℕ) → 0 < length text → Keeps old new → IsCutShort old new text
 some_bytes old new [] some kept = absurd (let wrong : 0 < 0 = some in omega arith)
 some_bytes old new (byte ∷ behind) some kept = record {
@@ -53,16 +45,6 @@ some_bytes old new (byte ∷ behind) some kept = record {
   whole = refl;
   went = Appends-kept old old new [] (Appends-nil old) kept;
 }
-
-some_lines : (events : List Event) → false ≡ (length events == 0) → 0 < length (lines events)
-unfolding lines line
-some_lines [] e = absurd cc
-some_lines (event ∷ events) e = simp length-append (omega arith)
-
--- none of some lines was taken
-pub none_taken : (old new : Option (List ℕ)) (events : List Event) → false ≡ (length events == 0) → Keeps old new
-    → IsCutShort old new (lines events)
-none_taken old new events some kept = some_bytes old new (lines events) (some_lines events some) kept
 
 some_line : (e : Event) → 0 < length (line e)
 unfolding line

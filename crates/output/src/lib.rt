@@ -2,11 +2,11 @@
 //! Where commands come from: readers that tell what they gave.
 #![tactic(auto)]
 
+mod event_lines;
 mod history;
-mod lines;
 mod paged;
 mod writer;
 
-pub use lines::Lines;
+pub use event_lines::EventLines;
 pub use paged::Paged;
-pub use writer::{In, IoFault, LinePage, Out, Over, StepPage};
+pub use writer::{In, IoFault, LinePage, LineRoom, Out, Over};

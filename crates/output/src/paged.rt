@@ -1,22 +1,18 @@
 //! A writer that gathers the lines of many steps, so that the writer below is called seldom.
 
 ghost use Rattle.std.specs.Prelude.{◌≡◌, ◌+◌, ◌≤◌, [], length, drop, OnOk, OnErr};
-ghost use Rattle.reference.specs.Text.{line, lines};
+ghost use Rattle.reference.specs.Text.{line};
 ghost use Rattle.std.specs.Io.KnownBytes.{append_known, Keeps};
 
-use crate::writer::{IoFault, LinePage, Out, StepPage};
-use reference::event::{Event, MOST_EVENTS};
+use crate::writer::{IoFault, LineRoom, Out};
+use reference::event::Event;
 use trace::page::Page;
-use trace::tick::Tick;
 
 /// How many bytes are gathered at most.
 const ROOM: usize = 0x4000;
 
 /// How many bytes of a page leave room for a line.
 const FULL: usize = ROOM - 64;
-
-/// How many bytes of a page leave room for a step's lines.
-const ALMOST_FULL: usize = ROOM - 2560;
 
 /// A writer that gathers lines on a page. What was put on the page counts as taken: `flush` hands it
 /// on at the end. Where the writer below fails, the lines that were being put aren't taken.
@@ -55,6 +51,8 @@ impl<O: Out + Drop> Paged<O> {
     }
 
     /// Hands the page on. After a fault a beginning of it went on, and the rest is still there.
+    #[cold]
+    #[inline(never)]
     pub fn flush(&mut self) -> Result<(), IoFault>
         ensures known { Keeps (append_known (O.written self.old.inner) (drop self.old.at self.old.page)) (append_known (O.written self.new.inner) (drop self.new.at self.new.page)) }
         ensures empty { OnOk result ((self.new.page ≡ []) × (self.new.at ≡ 0)) }
@@ -88,38 +86,14 @@ impl<O: Out + Drop> Out for Paged<O> {
     }
 
     #[inline(always)]
-    fn put_line(
-        &mut self,
-        _page: &mut LinePage,
-        tick: &mut Tick,
-        event: &Event,
-    ) -> Result<(), IoFault> {
+    fn put_line(&mut self, room: &mut LineRoom, event: &Event) -> Result<(), IoFault> {
         if self.page.len() > FULL {
             match self.flush() {
                 Ok(()) => {}
                 Err(fault) => return Err(fault),
             }
         }
-        self.page.put_event(tick, event);
-        Ok(())
-    }
-
-    fn put_lines(
-        &mut self,
-        _page: &mut StepPage,
-        tick: &mut Tick,
-        events: &[Event],
-    ) -> Result<(), IoFault> {
-        if events.is_empty() {
-            return Ok(());
-        }
-        if self.page.len() > ALMOST_FULL {
-            match self.flush() {
-                Ok(()) => {}
-                Err(fault) => return Err(fault),
-            }
-        }
-        self.page.put_events(tick, events);
+        self.page.put_event(&mut room.tick, event);
         Ok(())
     }
 }

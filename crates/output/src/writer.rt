@@ -3,9 +3,9 @@
 ghost use Rattle.std.specs.Prelude.{◌≡◌, ℕ, ◌+◌, ◌<◌, ◌≤◌, List, length, Option};
 ghost use Rattle.output.specs.Input.{Received};
 ghost use Rattle.output.specs.Output.{Took, Put};
-ghost use Rattle.reference.specs.Text.{line, lines};
+ghost use Rattle.reference.specs.Text.{line};
 
-use reference::event::{Event, MOST_EVENTS};
+use reference::event::Event;
 use std::io::{Read, Write};
 use std::marker::Model;
 use std::sync::ledger::{Blank, Book, Ledger, Share};
@@ -13,11 +13,25 @@ use thiserror::Error;
 use trace::page::Page;
 use trace::tick::Tick;
 
-/// Room for the lines of a step, each of at most 64 bytes.
-pub type StepPage = Page<2560>;
-
 /// Room for one line.
 pub type LinePage = Page<64>;
+
+/// Room for the text of one line, and the digits of its tick, kept for the next one.
+#[derive(Drop)]
+pub struct LineRoom {
+    page: LinePage,
+    pub(crate) tick: Tick,
+}
+
+impl LineRoom {
+    /// Room without text.
+    pub fn new() -> Self {
+        LineRoom {
+            page: LinePage::new(),
+            tick: Tick::new(),
+        }
+    }
+}
 
 /// A writer or a reader failed.
 #[derive(Clone, Copy, Debug, Error)]
@@ -53,34 +67,14 @@ pub trait Out {
         Ok(())
     }
 
-    /// Puts the line of an event. `page` is room for its text, and `tick` for digits.
-    fn put_line(
-        &mut self,
-        page: &mut LinePage,
-        tick: &mut Tick,
-        event: &Event,
-    ) -> Result<(), IoFault>
+    /// Puts the line of an event. `room` is room for its text.
+    fn put_line(&mut self, room: &mut LineRoom, event: &Event) -> Result<(), IoFault>
         ensures { Put (written self.old) (written self.new) (faults self.old) (faults self.new) (line event.now) result }
     {
-        page.clear();
-        page.put_event(tick, event);
-        let text = page.as_slice();
+        room.page.clear();
+        room.page.put_event(&mut room.tick, event);
+        let text = room.page.as_slice();
         self.put_all(text)
-    }
-
-    /// Puts the lines of a step's events. `page` is room for their text, and `tick` for digits.
-    fn put_lines(
-        &mut self,
-        page: &mut StepPage,
-        tick: &mut Tick,
-        events: &[Event],
-    ) -> Result<(), IoFault>
-        requires { length events.now ≤ MOST_EVENTS }
-        ensures { Put (written self.old) (written self.new) (faults self.old) (faults self.new) (lines events.now) result }
-    {
-        page.clear();
-        page.put_events(tick, events);
-        self.put_all(page.as_slice())
     }
 }
 

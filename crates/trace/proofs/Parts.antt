@@ -20,14 +20,3 @@ pub head_and_rule : (page : List ℕ) (d : DecidedAccess) →
     ++ tail (Accessed d)
 unfolding access_head tail
 head_and_rule page d = simp append_assoc
-
--- one more line is on the page, and one fewer is to come
-pub one_line : (page : List ℕ) (events : List Event) (i : ℕ) (d : Event) → i < length events →
-    (page ++ line (get_or events i d)) ++ lines (drop (i + 1) events) ≡ page ++ lines (drop i events)
-unfolding lines
-one_line page events i d h = rw (add-one, drop-cons events i d, append_assoc)
-
--- past the last event no line is to come
-pub no_line : (page : List ℕ) (events : List Event) (i : ℕ) → length events ≤ i → page ++ lines (drop i events) ≡ page
-unfolding lines
-no_line page events i h = rw (drop_all i events h, append-nil)

@@ -9,3 +9,7 @@ pub record Emission : Type 0 where
   pub written : Option (List ℕ)
   pub faults : ℕ
   pub events : List Event
+
+-- the same sink, with these events
+abbrev pub with_emitted : Emission → List Event → Emission
+with_emitted e events = record e { events = events }

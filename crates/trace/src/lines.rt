@@ -1,8 +1,8 @@
 //! The lines of events and of stops.
 
-ghost use Rattle.std.specs.Prelude.{◌≡◌, ◌+◌, ◌*◌, ◌≤◌, ◌++◌, length, codes, decimal};
+ghost use Rattle.std.specs.Prelude.{◌≡◌, ◌+◌, ◌≤◌, ◌++◌, length, codes, decimal};
 ghost use Rattle.reference.specs.declared.event.Happening.TheVariants.{Accessed, ConsoleByte, ReturnBegan, HandlerEntered, FaultRecorded};
-ghost use Rattle.reference.specs.Text.{line, lines, stop_line as line_of_stop, stop_text, outcome_text, rule_text, line_feed};
+ghost use Rattle.reference.specs.Text.{line, stop_line as line_of_stop, stop_text, outcome_text, rule_text, line_feed};
 ghost use Rattle.trace.specs.Tails.{access_head, tail};
 
 use crate::hex;
@@ -47,19 +47,6 @@ pub fn stop_line(stop: &Stop) -> Text
 }
 
 impl<const ROOM: usize> Page<ROOM> {
-    /// Appends the lines of events, one after another.
-    #[inline(always)]
-    #[tactic(auto, using(crate::proofs::Parts::one_line, crate::proofs::Parts::no_line))]
-    pub fn put_events(&mut self, tick: &mut Tick, events: &[Event])
-        requires { length self.old + 64 * length events.now ≤ ROOM }
-        ensures text { self.new ≡ self.old ++ lines events.now }
-        ensures short { length self.new ≤ length self.old + 64 * length events.now }
-    {
-        for event in events {
-            self.put_event(tick, event);
-        }
-    }
-
     /// Appends the line of an event. Most are accesses, so these are asked for first. `tick` keeps the
     /// digits of its tick for the next line.
     #[inline(always)]

@@ -1,7 +1,7 @@
 //! What takes the events of a step, one by one.
 
 ghost use Rattle.std.specs.Prelude.{◌≡◌, ◌<◌, [], ◌∷◌, ◌++◌, length, None};
-ghost use Rattle.trace.specs.Emission.{Emission};
+ghost use Rattle.trace.specs.Emission.{Emission, with_emitted};
 
 use bounded::Bounded;
 use reference::event::{Event, MOST_EVENTS};
@@ -13,7 +13,7 @@ pub trait Sink {
     /// Takes an event. There must be room for it.
     fn emit(&mut self, event: Event)
         requires { length (emitted self.old).events < MOST_EVENTS }
-        ensures { emitted self.new ≡ record (emitted self.old) { events = (emitted self.old).events ++ event ∷ [] } };
+        ensures { emitted self.new ≡ with_emitted (emitted self.old) ((emitted self.old).events ++ event ∷ []) };
 }
 
 /// The events of one step, in their order.

@@ -182,7 +182,9 @@ fn is_begun(page: &mut Page<1024>, tick: &mut Tick) -> bool {
 fn are_lines_so(page: &mut Page<1024>, tick: &mut Tick, ticks: &str, lines: &str) -> Option<bool> {
     let events = consoles(ticks)?;
     page.clear();
-    page.put_events(tick, events.as_slice());
+    for event in events.as_slice() {
+        page.put_event(tick, event);
+    }
     Some(page.as_slice() == lines.as_bytes())
 }
 

@@ -2,16 +2,14 @@ use Rattle.std.proofs.Common.{◌≡◌, ◌⊎◌, inl, inr, ◌∙◌, sym, re
 use Rattle.std.proofs.KnownBytes.{Appends-nil}
 use Rattle.machine.proofs.Running.{none_made, none_told, after_on, told_on, made_on, not_some, cut_in_step, cut_in_stop}
 use Rattle.machine.proofs.Running.{all_told, all_made, ends_so, alone}
-use Rattle.machine.proofs.run.run_onto.Goals as goal
-use Rattle.machine.proofs.run.run_onto.Goals.{else-steps-test, then-steps-test+then-is_some}
+use Rattle.machine.proofs.run.run_core.Goals as goal
+use Rattle.machine.proofs.run.run_core.Goals.{else-steps-test, then-steps-test+then-is_some}
 
 pub steps-init : goal.steps-init
 steps-init g c = record {
   few = omega arith;
   core = sym (none_made c.args.core.now);
   made = λ k below. absurd (omega arith);
-  same_writer = refl;
-  empty = c.requires;
   told = rw (none_told c.args.core.now) (Appends-nil _);
   same = refl;
 }
@@ -21,10 +19,8 @@ steps-preserved g c =
     let going : is_some c.steps.core.stop ≡ false = cc in
     record {
       few = omega arith;
-      core = c.step_onto.ensures.state ∙ after_on _ _ _ c.steps.invariant.core;
+      core = c.write_step.ensures.state ∙ after_on _ _ _ c.steps.invariant.core;
       made = made_on _ _ _ c.steps.invariant.made c.steps.invariant.core (not_some _ going);
-      same_writer = c.step_onto.ensures.same_writer ∙ c.steps.invariant.same_writer;
-      empty = c.step_onto.ensures.empty;
       told = told_on _ _ _ _ _ _ _ c.steps.invariant.told c.in-Ok.ensures.put.0 refl c.steps.invariant.core;
       same = c.in-Ok.ensures.put.1 ∙ c.steps.invariant.same;
     }
@@ -34,7 +30,7 @@ returns-in-Err-clause-cut g c =
     let going : is_some c.steps.core.stop ≡ false = cc in
     cut_in_step _ _ _ _ _ _ _ _ _ (omega arith)
     (made_on _ _ _ c.steps.invariant.made c.steps.invariant.core (not_some _ going))
-    (c.step_onto.ensures.state ∙ after_on _ _ _ c.steps.invariant.core) c.steps.invariant.told c.in-Err.ensures.put.0
+    (c.write_step.ensures.state ∙ after_on _ _ _ c.steps.invariant.core) c.steps.invariant.told c.in-Err.ensures.put.0
     refl c.steps.invariant.core
 
 pub returns-in-Ok-put_all-clause-written : goal.returns-in-Ok-put_all-clause-written

@@ -1,6 +1,6 @@
 use Rattle.output.proofs.Emitting.{found, line_more, one_more}
 use Rattle.output.specs.Emitting.{emission}
-use Rattle.output.proofs.lines.LinesSink.emit.Goals as goal
+use Rattle.output.proofs.event_lines.EventLinesSink.emit.Goals as goal
 
 pub invariant_of-self : goal.invariant_of-self
 invariant_of-self g c = record {

@@ -1,0 +1,7 @@
+use Rattle.output.proofs.Emitting.{none_yet}
+use Rattle.output.proofs.event_lines.EventLines.new.Goals as goal
+
+pub invariant_of-result : goal.invariant_of-result
+invariant_of-result g c = record {
+  writes = rw c.new.ensures (∣ (none_yet g.O.Out.written g.O.Out.faults c.args.out.ghost_name c.args.out.now) ∣₁);
+}
