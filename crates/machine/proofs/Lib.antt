@@ -1,5 +1,4 @@
 pub mod AtOnce
-mod Emitting
 mod Foreseen
 mod Loading
 pub mod Running

@@ -39,7 +39,7 @@ returns-in-Ok-put_all-clause-written g c =
     elim c.steps-test.branch [ else-steps-test w ↦ inl (omega arith) | then-steps-test+then-is_some w ↦ inr cc ] in
     let text = alone _ _ _ _ c.as_slice.ensures c.put_stop.ensures.text c.new-page.ensures in
     all_told _ _ _ _ _ _ _ _ c.steps.invariant.few c.steps.invariant.core c.steps.invariant.told
-    (rw text at c.in-Ok-put_all.ensures.put.0) (cc) ends
+    (rw text at c.in-Ok-put_all.ensures.0) (cc) ends
 
 pub returns-in-Ok-put_all-clause-state : goal.returns-in-Ok-put_all-clause-state
 returns-in-Ok-put_all-clause-state g c =
@@ -59,4 +59,4 @@ returns-in-Err-put_all-clause-cut g c =
     elim c.steps-test.branch [ else-steps-test w ↦ inl (omega arith) | then-steps-test+then-is_some w ↦ inr cc ] in
     let text = alone _ _ _ _ c.as_slice.ensures c.put_stop.ensures.text c.new-page.ensures in
     cut_in_stop _ _ _ _ _ _ _ _ c.steps.invariant.few c.steps.invariant.made c.steps.invariant.core
-    c.steps.invariant.told (rw text at c.in-Err-put_all.ensures.put.0) (cc) ends
+    c.steps.invariant.told (rw text at c.in-Err-put_all.ensures.0) (cc) ends
