@@ -59,7 +59,7 @@ impl<const ROOM: usize> Page<ROOM> {
         tick.put_on(event.tick, self);
         match &event.what {
             Happening::Accessed(access) => self.put_access(access),
-            what => self.put_tail(what),
+            what => self.put_tail(*what),
         }
     }
 
@@ -100,20 +100,21 @@ impl<const ROOM: usize> Page<ROOM> {
         }
     }
 
-    /// Appends all of a line but its tick.
+    /// Appends all of a line but its tick. It takes a copy, so that an event whose line is written in place
+    /// needs no memory; so does `put_rare_head`.
     #[cold]
     #[inline(never)]
-    fn put_tail(&mut self, what: &Happening)
+    fn put_tail(&mut self, what: Happening)
         requires { length self.old + TAIL_ROOM ≤ ROOM }
-        ensures text { self.new ≡ self.old ++ tail what.now }
+        ensures text { self.new ≡ self.old ++ tail what }
         ensures short { length self.new ≤ length self.old + TAIL_ROOM }
     {
         match what {
-            Happening::Accessed(access) => self.put_access(access),
-            Happening::ConsoleByte(byte) => self.put_console_byte(*byte),
-            Happening::ReturnBegan(exc_return) => self.put_return(*exc_return),
-            Happening::HandlerEntered(exception) => self.put_handler(*exception),
-            Happening::FaultRecorded(fault) => self.put_fault(fault),
+            Happening::Accessed(access) => self.put_access(&access),
+            Happening::ConsoleByte(byte) => self.put_console_byte(byte),
+            Happening::ReturnBegan(exc_return) => self.put_return(exc_return),
+            Happening::HandlerEntered(exception) => self.put_handler(exception),
+            Happening::FaultRecorded(fault) => self.put_fault(&fault),
         }
     }
 
@@ -139,7 +140,7 @@ impl<const ROOM: usize> Page<ROOM> {
     {
         match decided.refused {
             None => self.put(&done_head_of(&decided.access)),
-            Some(_) => self.put_rare_head(decided),
+            Some(_) => self.put_rare_head(*decided),
         }
     }
 
@@ -147,9 +148,9 @@ impl<const ROOM: usize> Page<ROOM> {
     #[cold]
     #[inline(never)]
     #[tactic(auto, unfolding(crate::specs::Tails::access_head))]
-    fn put_rare_head(&mut self, decided: &DecidedAccess)
+    fn put_rare_head(&mut self, decided: DecidedAccess)
         requires { length self.old + HEAD_ROOM ≤ ROOM }
-        ensures text { self.new ≡ self.old ++ (access_head decided.now.access ++ (outcome_text decided.now.refused ++ codes " ")) }
+        ensures text { self.new ≡ self.old ++ (access_head decided.access ++ (outcome_text decided.refused ++ codes " ")) }
         ensures short { length self.new ≤ length self.old + HEAD_ROOM }
     {
         let access = &decided.access;
