@@ -1,6 +1,7 @@
 //! The keys of a board and of its events, and what each takes.
 
 use reference::exception::MOST_LINES;
+use reference::mpu::RegionCount;
 
 /// A key, and the values that it takes.
 #[derive(Clone, Copy)]
@@ -102,7 +103,8 @@ pub fn is_line_count(lines: i64) -> bool {
 
 /// Returns whether an MPU can have this many regions.
 pub fn is_region_count(regions: i64) -> bool {
-    regions == 8 || regions == 16
+    regions == i64::from(RegionCount::Eight.number())
+        || regions == i64::from(RegionCount::Sixteen.number())
 }
 
 /// Returns whether an event can have this tick.

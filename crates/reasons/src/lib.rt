@@ -8,6 +8,8 @@ mod keys;
 mod problem;
 mod settings;
 mod start;
+#[cfg(test)]
+mod tests;
 
 pub use image::write_image_reason;
 pub use settings::write_board_reason;

@@ -90,6 +90,61 @@ out r5 00000005 00000000
 out r6 00000006 00000000
 out r7 00000007 00000000
 
+sixteen regions, of which code sets the ninth, the thirteenth and the last
+words debug --board board.toml image.elf
+with regions = 16
+vectors 85
+data 60 2000041C 13000011 0000001F 06000017 20001018 00000000 E000ED9C
+data 7C E000ED94 00000005
+code 84 2760 CF7F C63F CF03 6001
+in run 5
+in regions
+in explain 0x200005FF u w
+in explain 0x20000400 p x
+in explain 0x20000600 u r
+ends 0
+out 1 F 00000084 2 p ok off
+out 2 F 00000086 2 p ok off
+out 2 L 00000060 4 p ok off
+out 2 L 00000064 4 p ok off
+out 2 L 00000068 4 p ok off
+out 2 L 0000006C 4 p ok off
+out 2 L 00000070 4 p ok off
+out 2 L 00000074 4 p ok off
+out 2 L 00000078 4 p ok off
+out 3 F 00000088 2 p ok off
+out 3 S E000ED9C 4 p ok ppb
+out 3 S E000EDA0 4 p ok ppb
+out 3 S E000EDA4 4 p ok ppb
+out 3 S E000EDA8 4 p ok ppb
+out 3 S E000EDAC 4 p ok ppb
+out 3 S E000EDB0 4 p ok ppb
+out 4 F 0000008A 2 p ok off
+out 4 L 0000007C 4 p ok off
+out 4 L 00000080 4 p ok off
+out 5 F 0000008C 2 p ok off
+out 5 S E000ED94 4 p ok ppb
+out at 0000008E
+out r0 00000000 00000000
+out r1 00000001 00000000
+out r2 00000002 00000000
+out r3 00000003 00000000
+out r4 00000004 00000000
+out r5 00000005 00000000
+out r6 00000006 00000000
+out r7 00000007 00000000
+out r8 20001008 00000000
+out r9 00000009 00000000
+out r10 0000000A 00000000
+out r11 0000000B 00000000
+out r12 2000040C 13000011
+out r13 0000000D 00000000
+out r14 0000000E 00000000
+out r15 0000000F 06000017
+out r12 ok
+out r12 mpu
+out none mpu
+
 a breakpoint where the machine is
 words debug --board board.toml image.elf
 in break 8
