@@ -1,5 +1,5 @@
 -- The phases of a step keep what holds of the core registers, from the last one up.
-use Rattle.std.proofs.Common.{◌≡◌, ℕ, ◌*◌, ◌/◌, ◌%◌, nat_le, false, ◌||◌, ◌==◌, List, [], ◌++◌, length, Option, Some}
+use Rattle.std.proofs.Common.{ℕ, ◌*◌, ◌/◌, nat_le, false, ◌||◌, List, [], ◌++◌, length, Option, Some}
 use Rattle.std.proofs.Common.{None, Result, Ok, Err, refl, arith}
 use Rattle.std.proofs.lemmas.List.{length-replicate}
 use Rattle.reference.specs.declared.access.Request.{Request}

@@ -52,30 +52,15 @@ written_kept setting d given r h =
     either HasRegisters (sets_flags setting r) _ _ (λ e. with_flags (with_register r d given.0) given.1 value)
     (λ e. value)
 
+ruleset writes = (written_kept, register_kept, with_flags)
+
+-- the first line splits the cases; the second is one proof for each other variant
 processed_kept : (i : DataProcessing) (r : Registers) → HasRegisters r → HasRegisters (processed i r)
 unfolding processed data_immediate data_register compare_immediate compare_register move_immediate move_register
     move_top shift_by_register address multiply multiply_accumulate multiply_long divide saturate extract_field
     insert_field clear_field extend rearrange
-processed_kept (data_processing.DataImmediate o) r h = written_kept o.flags o.destination _ r h
-processed_kept (data_processing.DataRegister o) r h = written_kept o.flags o.destination _ r h
-processed_kept (data_processing.MoveImmediate o) r h = written_kept o.flags o.destination _ r h
-processed_kept (data_processing.MoveRegister o) r h = written_kept o.flags o.destination _ r h
-processed_kept (data_processing.MoveTop o) r h = register_kept r o.destination _ h
 processed_kept (data_processing.CompareImmediate o) r h = with_flags r _ h
-processed_kept (data_processing.CompareRegister o) r h = with_flags r _ h
-processed_kept (data_processing.ShiftByRegister o) r h = written_kept o.flags o.destination _ r h
-processed_kept (data_processing.Address o) r h = register_kept r o.destination _ h
-processed_kept (data_processing.Multiply o) r h = written_kept o.flags o.destination _ r h
-processed_kept (data_processing.MultiplyAccumulate o) r h = register_kept r o.destination _ h
-processed_kept (data_processing.MultiplyLong o) r h = register_kept _ o.low _ (register_kept r o.high _ h)
-processed_kept (data_processing.Divide o) r h = register_kept r o.destination _ h
-processed_kept (data_processing.Saturate o) r h =
-    with_flags (with_register r o.destination _) _ (register_kept r o.destination _ h)
-processed_kept (data_processing.ExtractField o) r h = register_kept r o.destination _ h
-processed_kept (data_processing.InsertField o) r h = register_kept r o.destination _ h
-processed_kept (data_processing.ClearField o) r h = register_kept r o.destination _ h
-processed_kept (data_processing.Extend o) r h = register_kept r o.destination _ h
-processed_kept (data_processing.Rearrange o) r h = register_kept r o.destination _ h
+processed_kept i r h = search writes
 
 data_kept : (length : InstructionLength) (i : DataProcessing) (r : Registers) → HasRegisters r →
     Leaves (data_processing_effect length i r)

@@ -1,6 +1,6 @@
 -- A fault, SVC, and the entry into a handler and the return from it keep what holds of the core registers.
 use Rattle.std.proofs.Common.{◌≡◌, ℕ, ◌%◌, ◌^◌, ◌<◌, Bool, true, false, not, List, [], ◌∷◌, ◌++◌, Option, Some, None}
-use Rattle.std.proofs.Common.{Result, Ok, Err, bit_or, length, ◌∙◌, ap, refl, arith}
+use Rattle.std.proofs.Common.{Result, Ok, Err, bit_or, length, ◌∙◌, ap, arith}
 use Rattle.std.proofs.lemmas.Bool.Decides.{nat_tests}
 use Rattle.std.proofs.lemmas.List.{length-set}
 use Rattle.std.proofs.lemmas.Nat.{or_mod}
@@ -14,6 +14,7 @@ use Rattle.reference.specs.declared.failure.Failure.{Failure}
 use Rattle.reference.specs.declared.failure.Failure.TheVariants as failure
 use Rattle.reference.specs.declared.failure.UsageFault.TheVariants.{InvalidReturn}
 use Rattle.reference.specs.declared.fault_status.FaultEffect.{FaultEffect}
+use Rattle.reference.specs.declared.instruction.InstructionLength.TheVariants.{Short}
 use Rattle.reference.specs.Accesses.{Served, perform_all}
 use Rattle.reference.specs.ExceptionEntry.{pushes, entering, stacked, begin_entry, vector_taken, exception_taken}
 use Rattle.reference.specs.ExceptionEntry.{taken_if_any, take_vector}
@@ -57,7 +58,7 @@ failed_kept s events (failure.Stop why) h = h
 
 called_kept : (s : State) (events : List Event) (e : Escalation) → Has s →
     LeavesGood (supervisor_called_by s events e)
-called_kept s events Itself h = moves_on_kept 2 refl s.registers h
+called_kept s events Itself h = moves_on_kept Short s.registers h
 called_kept s events HardFault h = h
 called_kept s events Lockup h = h
 
