@@ -63,7 +63,8 @@ begun o = o.condition % 2 ^ 4 * 2 ^ 4 + o.mask % 2 ^ 4
 
 -- IT: the block begins with the next instruction, so nothing is advanced
 abbrev pub if_then : InstructionLength → IfThen → Registers → Finished
-if_then length o r = record { registers = record r { it = begun o; pc = word_sum r.pc (instruction_bytes length) }; ending = Next }
+if_then length o r =
+    record { registers = record r { it = begun o; pc = word_sum r.pc (instruction_bytes length) }; ending = Next }
 
 -- ---- the family
 

@@ -26,7 +26,8 @@ instruction_bytes Long = 4
 
 -- the PC goes on by the length of the instruction
 abbrev pub moves_on : InstructionLength → Registers → Finished
-moves_on length r = record { registers = record (advanced r) { pc = word_sum r.pc (instruction_bytes length) }; ending = Next }
+moves_on length r =
+    record { registers = record (advanced r) { pc = word_sum r.pc (instruction_bytes length) }; ending = Next }
 
 -- the PC was written
 abbrev pub branches : Registers → Finished

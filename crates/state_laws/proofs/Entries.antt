@@ -318,7 +318,8 @@ planned_called : (lines bits : ℕ) (s : State) (events : List Event) (i : Coded
 planned_called lines bits s events i (Ok qs) h out = performed_called lines bits s events i qs h out
 planned_called lines bits s events i (Err why) h out = failed_called lines bits s events why h
 
-meaningless_called : (lines bits : ℕ) (s : State) (events : List Event) (length : InstructionLength) (fault : UsageFault) →
+meaningless_called : (lines bits : ℕ) (s : State) (events : List Event) (length : InstructionLength)
+    (fault : UsageFault) →
     HasWhole lines bits s → s.entry ≡ None → LeavesCalled (without_meaning s events length fault)
 meaningless_called lines bits s events length fault h out =
     either LeavesCalled (condition_passed s.registers.it s.registers.flags) _ _

@@ -7,7 +7,8 @@ use Rattle.reference.specs.declared.registers.Flags.{Flags}
 use Rattle.reference.specs.declared.registers.Marked.{Marked}
 use Rattle.reference.specs.Arithmetic.{in_it_block, it_advance}
 use Rattle.reference.specs.Invariant.{HasRegisters}
-use Rattle.reference.specs.ProgramCounter.{Finished, advanced, instruction_bytes, moves_on, branches, branches_by, is_exception_return}
+use Rattle.reference.specs.ProgramCounter.{Finished, advanced, instruction_bytes, moves_on, branches, branches_by}
+use Rattle.reference.specs.ProgramCounter.{is_exception_return}
 use Rattle.reference.specs.ProgramCounter.{exchanges, loads_into}
 use Rattle.reference.specs.Registers.{Registers, register, uses_psp, with_sp, with_pc, with_exchange, with_register}
 use Rattle.reference.specs.Words.{word_sum}

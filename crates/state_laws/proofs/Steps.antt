@@ -78,7 +78,8 @@ planned_whole lines bits s events i (Err why) h = failed_whole lines bits s even
 
 -- ---- the decoded instruction
 
-meaningless_whole : (lines bits : ℕ) (s : State) (events : List Event) (length : InstructionLength) (fault : UsageFault) →
+meaningless_whole : (lines bits : ℕ) (s : State) (events : List Event) (length : InstructionLength)
+    (fault : UsageFault) →
     HasWhole lines bits s → LeavesWhole lines bits (without_meaning s events length fault)
 meaningless_whole lines bits s events length fault h =
     either (LeavesWhole lines bits) (condition_passed s.registers.it s.registers.flags) _ _

@@ -86,7 +86,8 @@ planned_lawful old s events i (Err why) ready = failed_granted old s events why 
 
 -- ---- the decoded instruction
 
-meaningless_lawful : (old : Memory) (s : State) (events : List Event) (length : InstructionLength) (fault : UsageFault) →
+meaningless_lawful : (old : Memory) (s : State) (events : List Event) (length : InstructionLength)
+    (fault : UsageFault) →
     MayGoOn old s events → IsLawful old (without_meaning s events length fault)
 meaningless_lawful old s events length fault ready =
     either (IsLawful old) (condition_passed s.registers.it s.registers.flags) _ _
