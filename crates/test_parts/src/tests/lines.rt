@@ -183,6 +183,9 @@ fn are_lines_so(page: &mut Page<1024>, tick: &mut Tick, ticks: &str, lines: &str
     let events = consoles(ticks)?;
     page.clear();
     for event in events.as_slice() {
+        if page.len() > 1024 - 64 {
+            return None;
+        }
         page.put_event(tick, event);
     }
     Some(page.as_slice() == lines.as_bytes())
