@@ -46,7 +46,7 @@ for name, (halfwords, _) in LOOPS.items():
 with open(PROGRAM, "rb") as file:
     flash = flash_of(file.read())
 runs["crc32-loop", "marm"] = traced(MARM, quiet, ENOUGH, PROGRAM)
-runs["crc32-loop", "untraced"] = [FIRMWARE, LARGE, PROGRAM]
+runs["crc32-loop", "untraced"] = [FIRMWARE, "--fast", LARGE, PROGRAM]
 runs["crc32-loop", "events"] = traced(MARM, busy, ENOUGH, PROGRAM)
 for count in COUNTS:
     path = written(FOLDER, f"crc32-loop{count}.elf", with_regions(flash, REGIONS[:count]))

@@ -20,6 +20,11 @@ expect() {
     fi
 }
 
+# has TEXT: the last message has this text.
+has() {
+    grep -qF -- "$1" "$work/err" || { echo "the message isn't '$1': $(cat "$work/err")"; failed=1; }
+}
+
 # An image without program headers: the machine can't fetch its first instruction.
 {
     head -c 44 "$top/examples/first.elf"
@@ -27,12 +32,18 @@ expect() {
 } >"$work/empty.elf"
 head -c 33 "$top/examples/first.elf" >"$work/cut.elf"
 board=$top/examples/boards/small.toml
+{
+    cat "$board"
+    for at in $(seq 1 65537); do printf '[[event]]\nat = %s\nnmi = true\n' "$at"; done
+} >"$work/many.toml"
 
 expect 0 "1 F 00000008 2 p ok off" run --board "$board" --steps 10 "$top/examples/first.elf"
 expect 0 "marm 0.1.0" --version
 expect 2 "marm: usage" run --board "$board" "$top/examples/first.elf"
 expect 3 "marm: load 1 Truncated" run --board "$board" --steps 10 "$work/cut.elf"
 expect 3 "marm: board 1 NotToml" run --board "$top/examples/first.elf" --steps 10 "$top/examples/first.elf"
+expect 3 "marm: board 4 OutOfRange" run --board "$work/many.toml" --steps 10 "$top/examples/first.elf"
+has "a list of at most 65536 tables, each written as [[event]]"
 expect 3 "marm: start 10 SegmentOutsideMemory" run --board "${board%small.toml}large.toml" --steps 10 "$top/examples/first.elf"
 expect 4 "1 F FFFFFFFE 2 p mpu xn" run --board "$board" --steps 10 "$work/empty.elf"
 expect 5 "marm: io" run --board "$board" --steps 10 "$work/missing.elf"

@@ -7,30 +7,30 @@ use Rattle.reference.specs.declared.access.Decision.{Decision}
 use Rattle.reference.specs.declared.access.Performed.TheVariants.{Denied}
 use Rattle.reference.specs.declared.access.Request.{Request}
 use Rattle.reference.specs.declared.access.Rule.{Rule}
-use Rattle.reference.specs.Accesses.{Answered, lifted, lifted_system, carried_out, performed_by, granted_by_rule}
+use Rattle.reference.specs.Accesses.{BusAnswer, lifted, lifted_system, answered_by_bus, performed_by, answered_under}
 use Rattle.reference.specs.Accesses.{decided, decision, perform}
 use Rattle.reference.specs.Answers.{LeavesUnlessDone}
 use Rattle.reference.specs.Kinds.{is_probe, is_write, bytes_in}
 use Rattle.reference.specs.Map.{is_in_ppb, is_in_window}
 use Rattle.reference.specs.Memory.{Memory, is_in_ram}
-use Rattle.reference.specs.Space.{Reached, written_to, space_access}
+use Rattle.reference.specs.Space.{SpaceAnswer, written_to, space_access}
 use Rattle.reference.specs.State.{Bus}
-use Rattle.reference.specs.System.{System, Replied, system_access}
+use Rattle.reference.specs.System.{System, SystemAnswer, system_access}
 use Rattle.scs.proofs.Refusals.{system_keeps as refused_leaves}
 
 -- a bus error leaves the bus as it was
-abbrev Keeps : Bus → Answered → Type 0
+abbrev Keeps : Bus → BusAnswer → Type 0
 Keeps b a = a.answer ≡ Error → a.bus ≡ b
 
 -- memory too
-abbrev KeepsMemory : Memory → Reached → Type 0
+abbrev KeepsMemory : Memory → SpaceAnswer → Type 0
 KeepsMemory m r = r.answer ≡ Error → r.memory ≡ m
 
-either : (b : Bus) (test : Bool) (x y : Answered) → Keeps b x → Keeps b y → Keeps b (if test then x else y)
+either : (b : Bus) (test : Bool) (x y : BusAnswer) → Keeps b x → Keeps b y → Keeps b (if test then x else y)
 either b true x y first second = first
 either b false x y first second = second
 
-either_memory : (m : Memory) (test : Bool) (x y : Reached) → KeepsMemory m x → KeepsMemory m y
+either_memory : (m : Memory) (test : Bool) (x y : SpaceAnswer) → KeepsMemory m x → KeepsMemory m y
     → KeepsMemory m (if test then x else y)
 either_memory m true x y first second = first
 either_memory m false x y first second = second
@@ -41,7 +41,7 @@ error_keeps s after (Value value) left e = absurd cc
 error_keeps s after Error left e = left
 error_keeps s after (Stop why) left e = absurd cc
 
-lifted_system_keeps : (b : Bus) (r : Replied) → LeavesUnlessDone r.answer b.system r.system
+lifted_system_keeps : (b : Bus) (r : SystemAnswer) → LeavesUnlessDone r.answer b.system r.system
     → Keeps b (lifted_system b r)
 lifted_system_keeps b r left e = rw (error_keeps b.system r.system r.answer left e) refl
 
@@ -54,11 +54,11 @@ space_keeps : (m : Memory) (ticks : ℕ) (q : Request) → KeepsMemory m (space_
 unfolding space_access
 space_keeps m ticks q = either_memory m (is_write q.access.kind) _ _ (writing_keeps m q) (λ e. refl)
 
-lifted_keeps : (b : Bus) (r : Reached) → KeepsMemory b.memory r → Keeps b (lifted b r)
+lifted_keeps : (b : Bus) (r : SpaceAnswer) → KeepsMemory b.memory r → Keeps b (lifted b r)
 lifted_keeps b r kept e = rw (kept e) refl
 
-carrying_keeps : (exception : ℕ) (b : Bus) (q : Request) → Keeps b (carried_out exception b q)
-unfolding carried_out
+carrying_keeps : (exception : ℕ) (b : Bus) (q : Request) → Keeps b (answered_by_bus exception b q)
+unfolding answered_by_bus
 carrying_keeps exception b q =
     either b (is_probe q.access.kind) _ _ (λ e. absurd cc)
     (either b (is_in_ppb q.access.address) _ _
@@ -71,9 +71,10 @@ is_error rule by Error why e = refl
 is_error rule by (Stop stop) why e = absurd cc
 
 granted_keeps : (exception : ℕ) (b : Bus) (q : Request) (rule by : Rule) (why : Cause)
-    → (granted_by_rule rule (carried_out exception b q)).performed ≡ Denied by why → (carried_out exception b q).bus ≡ b
+    → (answered_under rule (answered_by_bus exception b q)).performed ≡ Denied by why
+    → (answered_by_bus exception b q).bus ≡ b
 granted_keeps exception b q rule by why denied =
-    carrying_keeps exception b q (is_error rule by (carried_out exception b q).answer why denied)
+    carrying_keeps exception b q (is_error rule by (answered_by_bus exception b q).answer why denied)
 
 decided_keeps : (exception : ℕ) (b : Bus) (q : Request) (d : Decision) (granted : Bool) → d.granted ≡ granted
     → (rule : Rule) (why : Cause) → (decided exception b q d).performed ≡ Denied rule why

@@ -12,7 +12,7 @@ use Rattle.mpu.proofs.Blocks.{outside_before, outside_behind, matches_outside, m
 use Rattle.mpu.proofs.Blocks.{alike_disabled}
 use Rattle.mpu.specs.Spans.{grain}
 use Rattle.reference.specs.declared.mpu.Region.{Region}
-use Rattle.reference.specs.Regions.{Mpu, region, matches, is_enabled, size, switched_off, owner}
+use Rattle.reference.specs.Regions.{Mpu, region, matches, is_region_enabled, size, switched_off, owner}
 
 -- ---- numbers
 
@@ -117,7 +117,7 @@ parted points r has a b order small clear = lead (point 0 (omega arith)) (point 
     lead (inl from) (inr to) = let g = fill in inside (omega (arith, from)) (omega (arith, to, g))
 
 -- a region that is disabled has no address
-pub disabled_parts : (points : List ℕ) (r : Region) → is_enabled r.attributes ≡ false → PartsRegion points r
+pub disabled_parts : (points : List ℕ) (r : Region) → is_region_enabled r.attributes ≡ false → PartsRegion points r
 disabled_parts points r e a b order small clear = alike_disabled r a b e
 
 -- ---- all regions

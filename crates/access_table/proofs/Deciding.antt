@@ -7,7 +7,7 @@ use Rattle.access_table.specs.Intervals.{HasAddress, interval}
 use Rattle.access_table.specs.Tables.{HasRights, StandsFor, View}
 use Rattle.mpu.specs.declared.rules.Rights.{Rights}
 use Rattle.reference.specs.Regions.{Mpu, region, owner, permission, never_executes}
-use Rattle.reference.specs.Rules.{by_owner, granted_by}
+use Rattle.reference.specs.Rules.{by_owner, permission_grants}
 use Rattle.reference.specs.declared.access.Decision.{Decision}
 use Rattle.reference.specs.declared.access.Kind.{Kind}
 use Rattle.reference.specs.declared.access.Rule.TheVariants as rule
@@ -33,7 +33,7 @@ pub by_own : (t : View) (m : Mpu) (kind : Kind) (a : ℕ) (privileged : Bool) (p
     → StandsFor t m → place < length t.spans → HasAddress (interval t.spans place) a
     → (interval t.spans place).region ≡ Some k → IfSome (interval t.spans place).region (λ number. number < 16)
     → d.rule ≡ rule.Region k
-    → d.granted ≡ granted_by (get_or t.rights k (record { permission = 0; never_executes = false })).permission
+    → d.granted ≡ permission_grants (get_or t.rights k (record { permission = 0; never_executes = false })).permission
     (get_or t.rights k (record { permission = 0; never_executes = false })).never_executes kind privileged
     → d ≡ by_owner m kind a privileged (owner m a)
 by_own t m kind a privileged place k d stands within there named small r g =

@@ -8,7 +8,7 @@ ghost use Rattle.mpu.specs.Spans.{grain};
 
 use crate::interval::CAPACITY;
 use arrayvec::ArrayVec;
-use mpu::{MpuRegs, Region, is_enabled, size, switched_off};
+use mpu::{MpuRegs, Region, is_region_enabled, size, switched_off};
 
 /// Boundaries of regions.
 pub type Points = ArrayVec<u32, CAPACITY>;
@@ -32,7 +32,7 @@ fn add_region(points: &mut Points, region: Region)
     ensures kept { Keeps points.old.items points.new.items }
     ensures few { length points.new.items ≤ length points.old.items + 9 }
 {
-    if is_enabled(region.attributes) {
+    if is_region_enabled(region.attributes) {
         Pieces::of(region).add_to(points);
     }
 }

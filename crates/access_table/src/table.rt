@@ -13,10 +13,8 @@ use crate::sweep::{Intervals, intervals_of};
 use mpu::{
     Decider, Decision, Kind, MpuRegs, Rights, Span, before_regions, by_region, without_region,
 };
+use reference::mpu::MOST_REGIONS;
 use std::marker::Model;
-
-/// How many regions the table has a place for.
-const PLACES: u8 = 16;
 
 /// The intervals of the addresses, and the rights of the regions.
 #[derive(Drop)]
@@ -24,7 +22,7 @@ pub struct Table {
     /// The intervals of all addresses, in order.
     spans: Intervals,
     /// AP and XN of each region.
-    rights: [Rights; PLACES as usize],
+    rights: [Rights; MOST_REGIONS as usize],
     /// MPU_CTRL.
     control: u32,
 }
@@ -77,11 +75,11 @@ impl Table {
 }
 
 /// Returns AP and XN of each region.
-fn rights_of(registers: &MpuRegs) -> [Rights; PLACES as usize]
+fn rights_of(registers: &MpuRegs) -> [Rights; MOST_REGIONS as usize]
     ensures { HasRights result registers.now 16 }
 {
-    let mut rights = [Rights::of(0); PLACES as usize];
-    for number in 0..PLACES {
+    let mut rights = [Rights::of(0); MOST_REGIONS as usize];
+    for number in 0..MOST_REGIONS {
         rights[number as usize] = Rights::of(registers.at(number).attributes);
     }
     rights

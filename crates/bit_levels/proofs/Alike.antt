@@ -7,7 +7,8 @@ use Rattle.std.proofs.lemmas.List.{get_or-set_other}
 use Rattle.reference.specs.declared.exception.Masks.{Masks}
 use Rattle.reference.specs.declared.exception.TheConstants.{EXCEPTIONS}
 use Rattle.reference.specs.Priorities.{Nvic, best, best_below, better_of, is_enabled, is_exception, is_in, is_ready}
-use Rattle.reference.specs.Priorities.{is_switched, lessened, least_active, with_active, with_enabled, with_group}
+use Rattle.reference.specs.Priorities.{can_be_disabled, raised_by, highest_active, with_active, with_enabled}
+use Rattle.reference.specs.Priorities.{with_group}
 use Rattle.reference.specs.Priorities.{with_member, with_pending, with_ready}
 
 -- ---- the best
@@ -69,34 +70,34 @@ best_of_idle n x on off = best_below_idle n x on EXCEPTIONS off
 
 -- ---- the least priority of the active exceptions
 
-least_below_pending : (n : Nvic) (p : List Bool) (k : ℕ) → least_active (record n { pending = p }) k ≡ least_active n k
-unfolding least_active
+least_below_pending : (n : Nvic) (p : List Bool) (k : ℕ) → highest_active (record n { pending = p }) k ≡ highest_active n k
+unfolding highest_active
 least_below_pending n p zero = refl
-least_below_pending n p (suc k) = ap (lessened n k) (least_below_pending n p k)
+least_below_pending n p (suc k) = ap (raised_by n k) (least_below_pending n p k)
 
 pub least_of_pending : (n : Nvic) (x : ℕ) (on : Bool)
-    → least_active (with_pending n x on) EXCEPTIONS ≡ least_active n EXCEPTIONS
+    → highest_active (with_pending n x on) EXCEPTIONS ≡ highest_active n EXCEPTIONS
 least_of_pending n x on = least_below_pending n (with_member n.lines n.pending x on) EXCEPTIONS
 
-least_below_enabled : (n : Nvic) (e : List Bool) (k : ℕ) → least_active (record n { enabled = e }) k ≡ least_active n k
-unfolding least_active
+least_below_enabled : (n : Nvic) (e : List Bool) (k : ℕ) → highest_active (record n { enabled = e }) k ≡ highest_active n k
+unfolding highest_active
 least_below_enabled n e zero = refl
-least_below_enabled n e (suc k) = ap (lessened n k) (least_below_enabled n e k)
+least_below_enabled n e (suc k) = ap (raised_by n k) (least_below_enabled n e k)
 
 pub least_of_enabled : (n : Nvic) (x : ℕ) (on : Bool)
-    → least_active (with_enabled n x on) EXCEPTIONS ≡ least_active n EXCEPTIONS
-least_of_enabled n x on = lead (is_switched n.lines x)
+    → highest_active (with_enabled n x on) EXCEPTIONS ≡ highest_active n EXCEPTIONS
+least_of_enabled n x on = lead (can_be_disabled n.lines x)
   where
-    lead : (b : Bool) → least_active (if b then record n { enabled = slice_set n.enabled x on } else n) EXCEPTIONS
-        ≡ least_active n EXCEPTIONS
+    lead : (b : Bool) → highest_active (if b then record n { enabled = slice_set n.enabled x on } else n) EXCEPTIONS
+        ≡ highest_active n EXCEPTIONS
     lead true = least_below_enabled n (slice_set n.enabled x on) EXCEPTIONS
     lead false = refl
 
-least_below_masks : (n : Nvic) (m : Masks) (k : ℕ) → least_active (record n { masks = m }) k ≡ least_active n k
-unfolding least_active
+least_below_masks : (n : Nvic) (m : Masks) (k : ℕ) → highest_active (record n { masks = m }) k ≡ highest_active n k
+unfolding highest_active
 least_below_masks n m zero = refl
-least_below_masks n m (suc k) = ap (lessened n k) (least_below_masks n m k)
+least_below_masks n m (suc k) = ap (raised_by n k) (least_below_masks n m k)
 
 pub least_of_masks : (n : Nvic) (m : Masks)
-    → least_active (record n { masks = m }) EXCEPTIONS ≡ least_active n EXCEPTIONS
+    → highest_active (record n { masks = m }) EXCEPTIONS ≡ highest_active n EXCEPTIONS
 least_of_masks n m = least_below_masks n m EXCEPTIONS

@@ -2,7 +2,7 @@
 
 ghost use Rattle.std.specs.Prelude.{◌≡◌};
 ghost use Rattle.reference.specs.declared.exception.TheConstants.{EXCEPTIONS};
-ghost use Rattle.reference.specs.Priorities.{best as best_of, is_below_zero as is_below_zero_of, least_active};
+ghost use Rattle.reference.specs.Priorities.{best as best_of, is_below_zero as is_below_zero_of, highest_active};
 
 use nvic::Levels;
 use reference::exception::{Masks, Priority};
@@ -17,7 +17,7 @@ pub struct KeptAnswers<L: Levels> {
     active_priority: Priority,
     below_zero: bool,
     ghost best_known: { best ≡ best_of (L.content levels) },
-    ghost active_known: { active_priority ≡ least_active (L.content levels) EXCEPTIONS },
+    ghost active_known: { active_priority ≡ highest_active (L.content levels) EXCEPTIONS },
     ghost below_known: { below_zero ≡ is_below_zero_of (L.content levels) },
 }
 

@@ -6,7 +6,9 @@ ghost use Rattle.reference.specs.declared.exception.TheConstants.{NMI, HARD_FAUL
 ghost use Rattle.reference.specs.Priorities.{best as best_of, is_in_words, is_fixed, is_in, is_ready, kept as kept_of};
 
 use crate::sets::{Set, Sets, all_empty, empty, first_of, has, put, put_at};
-use nvic::{Levels, grouped, has_byte, is_always_enabled, is_exception, is_switched, kept};
+use nvic::{
+    Levels, can_be_disabled, grouped, has_priority_byte, is_always_enabled, is_exception, kept,
+};
 use reference::exception::{EXCEPTIONS, HARD_FAULT, MOST_LINES, Masks, NMI, Priority};
 use std::marker::Model;
 
@@ -174,20 +176,20 @@ impl Levels for BitLevels {
     }
 
     fn enable(&mut self, number: u16) {
-        if is_switched(self.lines, number) {
+        if can_be_disabled(self.lines, number) {
             self.switch(number as u8, true);
         }
     }
 
     fn disable(&mut self, number: u16) {
-        if is_switched(self.lines, number) {
+        if can_be_disabled(self.lines, number) {
             self.switch(number as u8, false);
         }
     }
 
     #[tactic(auto, using(crate::proofs::Lists::put_back, crate::proofs::Lists::now_out, crate::proofs::Spaced::kept_again))]
     fn set_priority(&mut self, number: u16, byte: u8) {
-        if !has_byte(self.lines, number) {
+        if !has_priority_byte(self.lines, number) {
             return;
         }
         let waiting = self.is_pending(number);
@@ -274,7 +276,7 @@ impl Levels for BitLevels {
 
     fn active_priority(&self) -> Priority {
         let mut least = Priority::LOWEST;
-        #[tactic(auto, unfolding(reference::specs::Priorities::least_active))]
+        #[tactic(auto, unfolding(reference::specs::Priorities::highest_active))]
         'each: for number in 0..EXCEPTIONS {
             if self.is_active(number) {
                 let priority = self.group_priority(number);

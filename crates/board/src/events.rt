@@ -15,7 +15,8 @@ use reference::script::{InterruptLine, ScriptedEvent, Signal};
 use std::alloc::Global;
 use toml::{Table, Value};
 
-const MOST_EVENTS: usize = 65_536;
+/// The most events that a board can have.
+pub const MOST_SCRIPT_EVENTS: usize = 65_536;
 
 // The tick of the first event, and the last tick of the clock.
 const FIRST_TICK: u64 = 1;
@@ -36,7 +37,7 @@ pub fn events(value: Option<&Value>) -> Result<&[Value], BoardFault>
     if !are_tables(values.as_slice()) {
         return Err(BoardFault::WrongKind);
     }
-    if values.len() > MOST_EVENTS {
+    if values.len() > MOST_SCRIPT_EVENTS {
         return Err(BoardFault::OutOfRange);
     }
     Ok(values.as_slice())

@@ -16,6 +16,7 @@ mod layout;
 mod values;
 mod whole;
 
+pub use events::MOST_SCRIPT_EVENTS;
 use events::{events, script_of};
 use keys::{BOARD_KEYS, has_only};
 use layout::layout_of;

@@ -16,7 +16,7 @@ mod timer;
 
 pub use ahead::Ahead;
 pub use due_ticks::{Counting, DueTicks};
-use lines::Levels;
+use lines::HighLines;
 pub use reference::script::{InterruptLine, ScriptedEvent, Signal};
 pub use sets::Due;
 use sets::NOTHING;
@@ -29,7 +29,7 @@ pub use timer::SysTick;
 pub struct Clock<U: DueTicks> {
     ticks: u64,
     timer: U,
-    high: Levels,
+    high: HighLines,
     script: Vec<ScriptedEvent>,
     /// How many events of the script have applied.
     done: usize,

@@ -1,4 +1,4 @@
-//! The levels of the external interrupt lines.
+//! Which external interrupt lines are high.
 
 ghost use Rattle.std.specs.Prelude.{◌≡◌, false, slice_index_or};
 ghost use Rattle.reference.specs.Time.{with_signal, with_events};
@@ -10,36 +10,36 @@ use reference::script::{InterruptLine, ScriptedEvent, Signal};
 pub const LINES: usize = MOST_LINES as usize;
 
 /// For each line, whether it is high.
-pub type Levels = [bool; LINES];
+pub type HighLines = [bool; LINES];
 
 /// Whether a line is high. A line that can't be isn't.
 #[inline]
-pub fn is_high(levels: &Levels, line: u8) -> bool
-    ensures { result ≡ slice_index_or levels.now line false }
+pub fn is_high(high: &HighLines, line: u8) -> bool
+    ensures { result ≡ slice_index_or high.now line false }
 {
     if (line as usize) < LINES {
-        levels[line as usize]
+        high[line as usize]
     } else {
         false
     }
 }
 
 /// The lines take a signal.
-pub fn take_signal(levels: &mut Levels, signal: Signal)
-    ensures { levels.new ≡ with_signal levels.old signal }
+pub fn take_signal(high: &mut HighLines, signal: Signal)
+    ensures { high.new ≡ with_signal high.old signal }
 {
     match signal {
-        Signal::Rise(line) => levels[line.number() as usize] = true,
-        Signal::Fall(line) => levels[line.number() as usize] = false,
+        Signal::Rise(line) => high[line.number() as usize] = true,
+        Signal::Fall(line) => high[line.number() as usize] = false,
         Signal::Pulse(_) | Signal::Nmi => {}
     }
 }
 
 /// The lines take the signals of events, one after another.
-pub fn take_events(levels: &mut Levels, events: &[ScriptedEvent])
-    ensures { levels.new ≡ with_events levels.old events.now }
+pub fn take_events(high: &mut HighLines, events: &[ScriptedEvent])
+    ensures { high.new ≡ with_events high.old events.now }
 {
     for event in events {
-        take_signal(levels, event.what);
+        take_signal(high, event.what);
     }
 }

@@ -9,7 +9,6 @@ use regs::Regs;
 
 /// ADR.
 #[inline]
-#[tactic(auto, unfolding(reference::specs::TwoOperands::address))]
 pub(crate) fn address(operands: &Address, regs: &mut Regs)
     ensures { regs.new ≡ address operands.now regs.old }
 {

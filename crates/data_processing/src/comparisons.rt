@@ -22,7 +22,6 @@ fn compared_by(comparison: Comparison) -> DataOperation
 
 /// TST, TEQ, CMP and CMN (immediate).
 #[inline]
-#[tactic(auto, unfolding(reference::specs::TwoOperands::compare_immediate))]
 pub(crate) fn compare_immediate(operands: &CompareImmediate, regs: &mut Regs)
     ensures { regs.new ≡ compare_immediate operands.now regs.old }
 {
@@ -33,7 +32,6 @@ pub(crate) fn compare_immediate(operands: &CompareImmediate, regs: &mut Regs)
 
 /// TST, TEQ, CMP and CMN (register).
 #[inline]
-#[tactic(auto, unfolding(reference::specs::TwoOperands::compare_register))]
 pub(crate) fn compare_register(operands: &CompareRegister, regs: &mut Regs)
     ensures { regs.new ≡ compare_register operands.now regs.old }
 {

@@ -63,7 +63,6 @@ pub fn extended(is_signed: bool, width: u8, x: u32) -> u32
 
 /// SBFX and UBFX.
 #[inline]
-#[tactic(auto, unfolding(reference::specs::Fields::extract_field))]
 pub(crate) fn extract_field(operands: &ExtractField, regs: &mut Regs)
     ensures { regs.new ≡ extract_field operands.now regs.old }
 {
@@ -92,7 +91,6 @@ fn inserted(x: u32, y: u32, low: u8, width: u8) -> u32
 
 /// BFI.
 #[inline]
-#[tactic(auto, unfolding(reference::specs::Fields::insert_field))]
 pub(crate) fn insert_field(operands: &InsertField, regs: &mut Regs)
     ensures { regs.new ≡ insert_field operands.now regs.old }
 {
@@ -105,7 +103,6 @@ pub(crate) fn insert_field(operands: &InsertField, regs: &mut Regs)
 
 /// BFC.
 #[inline]
-#[tactic(auto, unfolding(reference::specs::Fields::clear_field))]
 pub(crate) fn clear_field(operands: &ClearField, regs: &mut Regs)
     ensures { regs.new ≡ clear_field operands.now regs.old }
 {

@@ -33,7 +33,6 @@ fn ror(x: u32, rotation: u8) -> u32
 
 /// SXTB, SXTH, UXTB and UXTH.
 #[inline]
-#[tactic(auto, unfolding(reference::specs::Fields::extend))]
 pub(crate) fn extend(operands: &Extend, regs: &mut Regs)
     ensures { regs.new ≡ extend operands.now regs.old }
 {
@@ -64,7 +63,6 @@ fn rearranged(operation: Rearrangement, x: u32) -> u32
 
 /// REV, REV16, REVSH, RBIT and CLZ.
 #[inline]
-#[tactic(auto, unfolding(reference::specs::Fields::rearrange))]
 pub(crate) fn rearrange(operands: &Rearrange, regs: &mut Regs)
     ensures { regs.new ≡ rearrange operands.now regs.old }
 {

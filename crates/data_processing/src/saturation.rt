@@ -116,7 +116,6 @@ fn saturated(is_signed: bool, bits: u8, word: u32) -> (u32, bool)
 
 /// SSAT and USAT.
 #[inline]
-#[tactic(auto, unfolding(reference::specs::Fields::saturate))]
 pub(crate) fn saturate(operands: &Saturate, regs: &mut Regs)
     ensures { regs.new ≡ saturate operands.now regs.old }
 {

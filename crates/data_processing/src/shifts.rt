@@ -23,7 +23,6 @@ fn shifted_by_register(operands: &ShiftByRegister, regs: &Regs) -> (u32, bool)
 
 /// LSL, LSR, ASR and ROR (register).
 #[inline]
-#[tactic(auto, unfolding(reference::specs::TwoOperands::shift_by_register))]
 pub(crate) fn shift_by_register(operands: &ShiftByRegister, regs: &mut Regs)
     ensures { regs.new ≡ shift_by_register operands.now regs.old }
 {

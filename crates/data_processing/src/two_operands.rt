@@ -65,7 +65,6 @@ pub(crate) fn with_shifted(
 
 /// AND, BIC, ORR, ORN, EOR, ADD, ADC, SBC, SUB and RSB (immediate).
 #[inline]
-#[tactic(auto, unfolding(reference::specs::TwoOperands::data_immediate))]
 pub(crate) fn data_immediate(operands: &DataImmediate, regs: &mut Regs)
     ensures { regs.new ≡ data_immediate operands.now regs.old }
 {
@@ -75,7 +74,6 @@ pub(crate) fn data_immediate(operands: &DataImmediate, regs: &mut Regs)
 
 /// AND, BIC, ORR, ORN, EOR, ADD, ADC, SBC, SUB and RSB (register).
 #[inline]
-#[tactic(auto, unfolding(reference::specs::TwoOperands::data_register))]
 pub fn data_register(operands: &DataRegister, regs: &mut Regs)
     ensures { regs.new ≡ data_register operands.now regs.old }
 {

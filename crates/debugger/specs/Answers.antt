@@ -13,6 +13,7 @@ use Rattle.machine.specs.declared.foresight.StepKind.TheVariants as kind
 use Rattle.machine.specs.declared.readers.RegValues.{RegValues}
 use Rattle.machine.specs.Foresight.{next_kind_of}
 use Rattle.machine.specs.Values.{values_of}
+use Rattle.reference.specs.declared.mpu.TheConstants.{MOST_REGIONS}
 use Rattle.reference.specs.Priorities.{is_below_zero}
 use Rattle.reference.specs.Rules.{decision_of}
 use Rattle.reference.specs.State.{State}
@@ -87,7 +88,7 @@ reply_text s breakpoints (Ok (command.Run n)) = []
 reply_text s breakpoints (Ok (command.Break a)) = breakpoint_text breakpoints a
 reply_text s breakpoints (Ok command.Regs) = registers_text (values_of s.registers s.bus.system.nvic.masks)
 reply_text s breakpoints (Ok (command.Memory a n)) = memory_text s.bus.memory a (n + 1)
-reply_text s breakpoints (Ok command.Regions) = region_lines s.bus.system.mpu 16
+reply_text s breakpoints (Ok command.Regions) = region_lines s.bus.system.mpu MOST_REGIONS
 reply_text s breakpoints (Ok (command.Explain a privileged kind)) =
     decision_text (decision_of s.bus.system.mpu a kind privileged (is_below_zero s.bus.system.nvic))
 reply_text s breakpoints (Ok command.Quit) = []

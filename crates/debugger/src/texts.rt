@@ -3,9 +3,11 @@
 ghost use Rattle.std.specs.Prelude.{◌≡◌, ◌+◌, ◌≤◌, ◌++◌, length};
 ghost use Rattle.debugger.specs.Answers.{core_lines, mask_lines, registers_text};
 ghost use Rattle.debugger_commands.specs.Texts.{bytes_text, memory_text, region_lines};
+ghost use Rattle.reference.specs.declared.mpu.TheConstants.{MOST_REGIONS};
 
 use debugger_commands::{Answer, byte_address, put_byte, put_generals, put_region, put_register};
 use machine::{Decider, DueTicks, Levels, Machine, RegValues};
+use reference::mpu::MOST_REGIONS;
 
 /// Appends the lines of the stack pointers, LR, PC and XPSR.
 #[tactic(auto, unfolding(crate::specs::Answers::core_lines))]
@@ -82,10 +84,10 @@ pub fn memory_text<D: Decider, L: Levels, U: DueTicks>(
 /// Returns the lines of the regions that the board has.
 #[tactic(auto, unfolding(debugger_commands::specs::Texts::region_lines))]
 pub fn regions_text<D: Decider, L: Levels, U: DueTicks>(machine: &Machine<D, L, U>) -> Answer
-    ensures { result ≡ region_lines machine.now.state.bus.system.mpu 16 }
+    ensures { result ≡ region_lines machine.now.state.bus.system.mpu MOST_REGIONS }
 {
     let mut page = Answer::new();
-    'numbers: for number in 0..16 {
+    'numbers: for number in 0..MOST_REGIONS {
         put_region(&mut page, number, machine.region(number));
     }
     page

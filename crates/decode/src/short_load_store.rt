@@ -4,7 +4,7 @@
 
 ghost use Rattle.std.specs.Prelude.{◌≡◌, ◌≢◌, ◌==◌, ◌<◌, ◌≤◌, ◌+◌, ◌-◌, ◌*◌, ◌^◌, ◌&&◌, ◌||◌, not, true, false, nat_lt};
 ghost use Rattle.encodings.specs.Masks.{by_masks};
-ghost use Rattle.reference.specs.ShortLoadStore.{load_list_row, load_literal_word_row, load_number_row, load_register_row, number_access_rows, register_access_rows, store_list_row, store_number_row, store_register_row};
+ghost use Rattle.reference.specs.ShortLoadStore.{load_list_row, load_literal_word_row, load_number_row, load_register_row, immediate_and_list_rows, literal_and_register_rows, store_list_row, store_number_row, store_register_row};
 
 use encodings::operands::{at_offset, is_above_lowest, is_in_list};
 use encodings::outcomes::{short, unless};
@@ -21,8 +21,8 @@ use reference::stop::UnpredictableCase;
 
 /// Returns what a halfword means by these rows.
 #[tactic(auto, unfolding(encodings::specs::Masks::by_masks))]
-pub(crate) fn register_access_rows(x: u32) -> Option<Decoded>
-    ensures { result ≡ by_masks register_access_rows x }
+pub(crate) fn literal_and_register_rows(x: u32) -> Option<Decoded>
+    ensures { result ≡ by_masks literal_and_register_rows x }
 {
     rows! { x;
         [01001 ttt iiiiiiii] => |f| load_literal_word(f.register(b't'), f.byte(b'i')),
@@ -51,8 +51,8 @@ pub(crate) fn register_access_rows(x: u32) -> Option<Decoded>
 
 /// Returns what a halfword means by these rows.
 #[tactic(auto, unfolding(encodings::specs::Masks::by_masks))]
-pub(crate) fn number_access_rows(x: u32) -> Option<Decoded>
-    ensures { result ≡ by_masks number_access_rows x }
+pub(crate) fn immediate_and_list_rows(x: u32) -> Option<Decoded>
+    ensures { result ≡ by_masks immediate_and_list_rows x }
 {
     rows! { x;
         [0110 0 iiiii nnn ttt]
@@ -168,7 +168,7 @@ fn store_list(n: Register, list: u8) -> Decoded
     unless(
         list == 0,
         BlockPlace::Anywhere,
-        UnpredictableCase::EmptyList,
+        UnpredictableCase::ShortList,
         unless(
             is_above_lowest(n, list as u16),
             BlockPlace::Anywhere,
@@ -194,7 +194,7 @@ fn load_list(n: Register, list: u8) -> Decoded
     unless(
         list == 0,
         BlockPlace::Anywhere,
-        UnpredictableCase::EmptyList,
+        UnpredictableCase::ShortList,
         short(instruction),
     )
 }

@@ -135,7 +135,7 @@ fn push(lr: u16, list: u8) -> Decoded
     unless(
         list == 0,
         BlockPlace::Anywhere,
-        UnpredictableCase::EmptyList,
+        UnpredictableCase::ShortList,
         short(instruction),
     )
 }
@@ -159,7 +159,7 @@ fn pop(pc: u16, list: u8) -> Decoded
     unless(
         list == 0,
         place,
-        UnpredictableCase::EmptyList,
+        UnpredictableCase::ShortList,
         placed(InstructionLength::Short, place, instruction),
     )
 }

@@ -7,17 +7,17 @@ use Rattle.std.proofs.lemmas.List.{append-nil}
 use Rattle.reference.specs.declared.failure.Failure.{Failure}
 use Rattle.reference.specs.declared.access.Request.{Request}
 use Rattle.reference.specs.declared.event.Event.{Event}
-use Rattle.reference.specs.Accesses.{Served, followed, perform, perform_all, told, value_of}
+use Rattle.reference.specs.Accesses.{ListResult, followed, perform, perform_all, access_lines, value_of}
 use Rattle.reference.specs.State.{Bus}
 use Rattle.trace.specs.Emission.{Emission}
 
 -- what accesses leave behind lines and values that are there already
-abbrev pub behind : List Event → List ℕ → Served → Served
+abbrev pub behind : List Event → List ℕ → ListResult → ListResult
 behind events values all = record all { events = events ++ all.events; values = values ++ all.values }
 
 front : (exception tick : ℕ) (b : Bus) (q : Request) (qs : List Request)
     → perform_all exception tick b (q ∷ qs)
-    ≡ followed (told tick q (perform exception b q).performed) (perform exception b q).bus
+    ≡ followed (access_lines tick q (perform exception b q).performed) (perform exception b q).bus
     (value_of q (perform exception b q).performed) (perform_all exception tick (perform exception b q).bus qs)
 unfolding perform_all
 front exception tick b q qs = refl
@@ -27,7 +27,7 @@ none_left : (exception tick : ℕ) (b : Bus)
 unfolding perform_all
 none_left exception tick b = refl
 
-followed_on : (events : List Event) (values : List ℕ) (lines : List Event) (after : Bus) (value : ℕ) (rest : Served)
+followed_on : (events : List Event) (values : List ℕ) (lines : List Event) (after : Bus) (value : ℕ) (rest : ListResult)
     → behind events values (followed lines after (Ok value) rest) ≡ behind (events ++ lines) (values ++ value ∷ []) rest
 followed_on events values lines after value rest =
     rw (append_assoc events lines rest.events, append_assoc values (value ∷ []) rest.values) refl
@@ -37,38 +37,43 @@ pub one_more : (exception tick : ℕ) (b : Bus) (requests : List Request) (i val
     (events : List Event) (values : List ℕ) → i < length requests
     → value_of (get_or requests i d) (perform exception b (get_or requests i d)).performed ≡ Ok value
     → behind events values (perform_all exception tick b (drop i requests))
-    ≡ behind (events ++ told tick (get_or requests i d) (perform exception b (get_or requests i d)).performed)
+    ≡ behind (events ++ access_lines tick (get_or requests i d) (perform exception b (get_or requests i d)).performed)
     (values ++ value ∷ []) (perform_all exception tick (perform exception b (get_or requests i d)).bus
     (drop (i + 1) requests))
 one_more exception tick b requests i value d events values below went =
     rw (drop-cons requests i d below, add-one, front, went)
-    (followed_on events values (told tick (get_or requests i d) (perform exception b (get_or requests i d)).performed)
+    (followed_on events values
+    (access_lines tick (get_or requests i d) (perform exception b (get_or requests i d)).performed)
     (perform exception b (get_or requests i d)).bus value
     (perform_all exception tick (perform exception b (get_or requests i d)).bus (drop (suc i) requests)))
 
 -- an access failed: the list ends with it
 pub ended_early : (exception tick : ℕ) (b : Bus) (requests : List Request) (i : ℕ) (d : Request) (why : Failure)
-    (events : List Event) (values : List ℕ) (all : Served) → i < length requests
+    (events : List Event) (values : List ℕ) (all : ListResult) → i < length requests
     → value_of (get_or requests i d) (perform exception b (get_or requests i d)).performed ≡ Err why
     → behind events values (perform_all exception tick b (drop i requests)) ≡ all
     → ((perform exception b (get_or requests i d)).bus ≡ all.bus)
-    × (events ++ told tick (get_or requests i d) (perform exception b (get_or requests i d)).performed ≡ all.events)
+    × (events ++ access_lines tick (get_or requests i d) (perform exception b (get_or requests i d)).performed
+    ≡ all.events)
     × (all.failure ≡ Some why)
 ended_early exception tick b requests i d why events values all below failed rest =
-    let whole = rw (drop-cons requests i d below, front, failed) at rest in
-    (ap (λ (s : Served). s.bus) whole, ap (λ (s : Served). s.events) whole, sym (ap (λ (s : Served). s.failure) whole))
+    let whole = rw (drop-cons requests i d below, front, failed) at rest in (
+      ap (λ (s : ListResult). s.bus) whole,
+      ap (λ (s : ListResult). s.events) whole,
+      sym (ap (λ (s : ListResult). s.failure) whole),
+    )
 
 -- no access is left
 pub all_served : (exception tick : ℕ) (b : Bus) (requests : List Request) (i : ℕ) (events : List Event)
-    (values : List ℕ) (all : Served) → length requests ≤ i
+    (values : List ℕ) (all : ListResult) → length requests ≤ i
     → behind events values (perform_all exception tick b (drop i requests)) ≡ all
     → (b ≡ all.bus) × (events ≡ all.events) × (values ≡ all.values) × (all.failure ≡ None)
 all_served exception tick b requests i events values all past rest =
     let whole = rw (drop_of_length-le requests past, none_left, append-nil events, append-nil values) at rest in (
-      ap (λ (s : Served). s.bus) whole,
-      ap (λ (s : Served). s.events) whole,
-      ap (λ (s : Served). s.values) whole,
-      sym (ap (λ (s : Served). s.failure) whole),
+      ap (λ (s : ListResult). s.bus) whole,
+      ap (λ (s : ListResult). s.events) whole,
+      ap (λ (s : ListResult). s.values) whole,
+      sym (ap (λ (s : ListResult). s.failure) whole),
     )
 
 -- a sink took these events, and is otherwise as it was at the start
@@ -79,14 +84,14 @@ emitted_all start now all same whole = same ∙ ap (λ (es : List Event). record
 -- it took more events after those
 pub emitted_on : (start mid new : Emission) (more all : List Event) → new ≡ record mid { events = mid.events ++ more }
     → mid ≡ record start { events = mid.events } → mid.events ++ more ≡ all → new ≡ record start { events = all }
-emitted_on start mid new more all told same whole =
-    told ∙ ap (λ (m : Emission). record m { events = mid.events ++ more }) same
+emitted_on start mid new more all access_lines same whole =
+    access_lines ∙ ap (λ (m : Emission). record m { events = mid.events ++ more }) same
     ∙ ap (λ (es : List Event). record start { events = es }) whole
 
 -- and is still otherwise as it was at the start
 pub still_before : (start mid new : Emission) (events : List Event) → new ≡ record mid { events = events }
     → mid ≡ record start { events = mid.events } → new ≡ record start { events = new.events }
-still_before start mid new events told same =
+still_before start mid new events access_lines same =
     let whole : new ≡ record start { events = events } =
-    told ∙ ap (λ (m : Emission). record m { events = events }) same in
+    access_lines ∙ ap (λ (m : Emission). record m { events = events }) same in
     whole ∙ ap (λ (es : List Event). record start { events = es }) (sym (ap (λ (e : Emission). e.events) whole))

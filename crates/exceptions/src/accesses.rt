@@ -3,7 +3,7 @@
 ghost use Rattle.std.specs.Prelude.{◌≡◌, ◌+◌, ◌≤◌, ◌<◌, ◌^◌, ◌%◌, ◌++◌, length, IfOk};
 ghost use Rattle.exceptions.specs.Room.{lines_of, most_lines};
 ghost use Rattle.exceptions.specs.Serving.{Serves};
-ghost use Rattle.reference.specs.Accesses.{accessed, told, value_of, perform, perform_all};
+ghost use Rattle.reference.specs.Accesses.{accessed, access_lines, value_of, perform, perform_all};
 ghost use Rattle.reference.specs.declared.event.Happening.TheVariants.{ConsoleByte};
 ghost use Rattle.reference.specs.Kinds.{bytes_in};
 ghost use Rattle.trace.specs.Emission.{with_emitted};
@@ -61,7 +61,7 @@ pub fn access<D: Decider, L: Levels, U: DueTicks, S: Sink>(
 ) -> Result<u32, Failure>
     requires { length (S.emitted events.old).events + lines_of request.now ≤ MOST_EVENTS }
     ensures bus { bus.new ≡ (perform exception bus.old request.now).bus }
-    ensures events { S.emitted events.new ≡ with_emitted (S.emitted events.old) ((S.emitted events.old).events ++ told tick request.now (perform exception bus.old request.now).performed) }
+    ensures events { S.emitted events.new ≡ with_emitted (S.emitted events.old) ((S.emitted events.old).events ++ access_lines tick request.now (perform exception bus.old request.now).performed) }
     ensures room { length (S.emitted events.new).events ≤ length (S.emitted events.old).events + lines_of request.now }
     ensures answer { result ≡ value_of request.now (perform exception bus.old request.now).performed }
     ensures narrow { IfOk result (λ value. value < 256 ^ bytes_in request.now.access.size) }

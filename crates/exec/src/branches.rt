@@ -175,7 +175,7 @@ fn begun(operands: &IfThen) -> u8
 fn if_then(regs: &mut Regs, length: InstructionLength, operands: &IfThen) -> Ending
     ensures { finished_as regs.new result ≡ if_then length operands.now regs.old }
 {
-    regs.set_it(begun(operands));
+    regs.set_it_state(begun(operands));
     regs.go_on(length.bytes());
     Ending::Next
 }

@@ -13,7 +13,7 @@ use crate::program_counter::move_on;
 use reference::access::{Access, Kind, Request};
 use reference::failure::{Failure, UsageFault};
 use reference::instruction::{Ending, Exclusive, InstructionLength};
-use reference::map::is_device;
+use reference::map::has_side_effects;
 use reference::operands::{LoadExclusive, StoreExclusive};
 use reference::registers::Register;
 use reference::stop::{LeftOut, Stop};
@@ -129,7 +129,7 @@ fn ask(access: Access, value: u32, requests: &mut Requests) -> Result<(), Failur
     if access.address % access.size.bytes() != 0 {
         return Err(Failure::Usage(UsageFault::Unaligned));
     }
-    if is_device(access.address) {
+    if has_side_effects(access.address) {
         return Err(Failure::Stop(Stop::OutOfProfile(LeftOut::ExclusiveDevice)));
     }
     requests.push(Request { access, value });

@@ -65,7 +65,7 @@ fn plan_family(
 /// Returns whether an instruction is allowed at its place in an IT block and its condition holds.
 #[inline(always)]
 pub fn goes_ahead(coded: &CodedInstruction, regs: &Regs) -> bool
-    ensures { result ≡ (not (is_misplaced coded.now.place regs.now.it) && is_carried_out coded.now.instruction regs.now) }
+    ensures { result ≡ (not (is_misplaced coded.now.place regs.now.it_state) && is_carried_out coded.now.instruction regs.now) }
 {
     !is_misplaced(coded.place, regs) && is_carried_out(&coded.instruction, regs)
 }
@@ -73,7 +73,7 @@ pub fn goes_ahead(coded: &CodedInstruction, regs: &Regs) -> bool
 /// Whether an instruction isn't allowed at its place in an IT block.
 #[inline]
 pub fn is_misplaced(place: BlockPlace, regs: &Regs) -> bool
-    ensures { result ≡ is_misplaced place regs.now.it }
+    ensures { result ≡ is_misplaced place regs.now.it_state }
 {
     match place {
         BlockPlace::Anywhere => false,

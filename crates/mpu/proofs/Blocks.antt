@@ -6,7 +6,7 @@ use Rattle.std.proofs.lemmas.Bool.{leb-true, eqb-true, eq-eqb, cases_lt}
 use Rattle.reference.specs.Words.{is_bit}
 use Rattle.std.proofs.lemmas.Nat.{div_below, le-div, shr-shr}
 use Rattle.reference.specs.declared.mpu.Region.{Region}
-use Rattle.reference.specs.Regions.{Mpu, region, matches, agrees, subregion, is_switched_off, is_enabled, size}
+use Rattle.reference.specs.Regions.{Mpu, region, matches, agrees, subregion, is_switched_off, is_region_enabled, size}
 use Rattle.reference.specs.Regions.{switched_off, owner, owner_below}
 use Rattle.mpu.specs.Spans.{BelongTo, grain}
 
@@ -84,7 +84,7 @@ both_outside false false true s t h k = absurd (let w : ⊥ = cc in w)
 
 pub matches_outside : (r : Region) (a x : ℕ) → agrees r a ≡ false → agrees r x ≡ false → matches r a ≡ matches r x
 unfolding matches
-matches_outside r a x h k = both_outside (is_enabled r.attributes) _ _ _ _ h k
+matches_outside r a x h k = both_outside (is_region_enabled r.attributes) _ _ _ _ h k
 
 no_bit : (x j : ℕ) → j < 8 → x / 2 ^ 8 % 256 ≡ 0 → x / 2 ^ (8 + j) % 2 ≡ 0
 no_bit x zero h e = omega arith
@@ -115,8 +115,9 @@ both_whole : (r : Region) (a x : ℕ) → a / 2 ^ (size r.attributes + 1) ≡ x 
 unfolding matches
 both_whole r a x e s t =
     ap
-    (λ (q : ℕ). is_enabled r.attributes && (q == r.base / 2 ^ (size r.attributes + 1)) && not (is_switched_off r a)) e
-    ∙ ap (λ (o : Bool). is_enabled r.attributes && agrees r x && not o) (s ∙ sym t)
+    (λ (q : ℕ). is_region_enabled r.attributes && (q == r.base / 2 ^ (size r.attributes + 1))
+    && not (is_switched_off r a)) e
+    ∙ ap (λ (o : Bool). is_region_enabled r.attributes && agrees r x && not o) (s ∙ sym t)
 
 both_eighth : (r : Region) (a x : ℕ) → 7 ≤ size r.attributes
     → a / 2 ^ (size r.attributes - 2) ≡ x / 2 ^ (size r.attributes - 2) → matches r a ≡ matches r x
@@ -127,8 +128,9 @@ both_eighth r a x big e =
     rw n (sym (shr-shr a (size r.attributes - 2) 3) ∙ ap (λ (q : ℕ). q / 2 ^ 3) e
     ∙ shr-shr x (size r.attributes - 2) 3) in
     ap
-    (λ (q : ℕ). is_enabled r.attributes && (q == r.base / 2 ^ (size r.attributes + 1)) && not (is_switched_off r a)) p
-    ∙ ap (λ (q : ℕ). is_enabled r.attributes && agrees r x
+    (λ (q : ℕ). is_region_enabled r.attributes && (q == r.base / 2 ^ (size r.attributes + 1))
+    && not (is_switched_off r a)) p
+    ∙ ap (λ (q : ℕ). is_region_enabled r.attributes && agrees r x
     && not (nat_le 7 (size r.attributes) && is_bit r.attributes (8 + q % 8))) e
 
 -- addresses that agree in the bits that matter to a region lie in it alike
@@ -157,7 +159,7 @@ alike_inside r a x g first next e f n from to =
     let b : a / 2 ^ g ≡ x / 2 ^ g = in_block a x (2 ^ g) (pow_pos _) (rw f at from) (rw n at to) in
     matches_inside r a x (rw e at b)
 
-pub alike_disabled : (r : Region) (a x : ℕ) → is_enabled r.attributes ≡ false → matches r a ≡ matches r x
+pub alike_disabled : (r : Region) (a x : ℕ) → is_region_enabled r.attributes ≡ false → matches r a ≡ matches r x
 unfolding matches
 alike_disabled r a x e =
     ap (λ (b : Bool). b && agrees r a && not (is_switched_off r a)) e

@@ -8,7 +8,7 @@ use Rattle.reference.specs.declared.access.Rule.TheVariants.{NeverExecute, Vecto
 use Rattle.reference.specs.declared.access.Rule.TheVariants.{NegativePriority, Region, Background, NoRegion}
 use Rattle.reference.specs.Kinds.{is_vector}
 use Rattle.reference.specs.Regions.{Mpu, owner, is_on, IsOwner}
-use Rattle.reference.specs.Rules.{default_map, Asked, Fits, IsFirstFit, rank, granted_to, before_regions, by_owner}
+use Rattle.reference.specs.Rules.{default_map, Asked, Fits, IsFirstFit, rank, rule_grants, before_regions, by_owner}
 use Rattle.reference.specs.Rules.{first_of_two, decision_of, is_never_executed, is_ppb_data, is_off_below_zero}
 use Rattle.reference.specs.Rules.{is_background}
 use Rattle.mpu.proofs.Belonging.{only_owner, owner_is}
@@ -167,7 +167,7 @@ same_decision d e p g =
     ap (λ r. made r d.granted) p ∙ ap (made e.rule) g
 
 only_decision : (m : Mpu) (q : Asked) (d e : Decision) → IsFirstFit m q d → IsFirstFit m q e → d ≡ e
-only_decision m q d e f g = same_decision d e same (f.granted ∙ ap (granted_to m q) same ∙ sym g.granted)
+only_decision m q d e f g = same_decision d e same (f.granted ∙ ap (rule_grants m q) same ∙ sym g.granted)
   where
     places : ((rank d.rule < rank e.rule) ⊎ (rank e.rule ≤ rank d.rule))
         → ((rank e.rule < rank d.rule) ⊎ (rank d.rule ≤ rank e.rule)) → rank d.rule ≡ rank e.rule

@@ -2,7 +2,7 @@
 use Rattle.std.proofs.Common.{◌≡◌, ℕ, zero, suc, ◌%◌, List, [], ◌∷◌, true, ◌∙◌, slice_index_or, slice_set}
 use Rattle.std.proofs.Math.ListN.{length-set}
 use Rattle.reference.specs.declared.mpu.Region.{Region}
-use Rattle.reference.specs.Regions.{Mpu, IsSound, with_region, empty, is_taken}
+use Rattle.reference.specs.Regions.{Mpu, IsSound, with_region, empty, is_accepted}
 
 -- what holds of the new region and of each old one holds of each region after the change
 each-after : (P : Region → Type 0) (regions : List Region) (k j : ℕ) (r : Region)
@@ -14,12 +14,12 @@ each-after P (x ∷ xs) (suc k) zero r new old = old zero
 each-after P (x ∷ xs) (suc k) (suc j) r new old = each-after P xs k j r new (λ i. old (suc i))
 
 pub with_region-sound : (m : Mpu) (k : ℕ) (r : Region)
-    → IsSound m → r.base % 32 ≡ 0 → is_taken r.attributes ≡ true → IsSound (with_region m k r)
+    → IsSound m → r.base % 32 ≡ 0 → is_accepted r.attributes ≡ true → IsSound (with_region m k r)
 with_region-sound m k r s based taken = record {
   count_known = s.count_known;
   number_within = s.number_within;
   control_small = s.control_small;
   sixteen = length-set m.regions k r ∙ s.sixteen;
   based = λ j. each-after (λ x. x.base % 32 ≡ 0) m.regions k j r based s.based;
-  taken = λ j. each-after (λ x. is_taken x.attributes ≡ true) m.regions k j r taken s.taken;
+  taken = λ j. each-after (λ x. is_accepted x.attributes ≡ true) m.regions k j r taken s.taken;
 }

@@ -8,7 +8,7 @@ use Rattle.reference.specs.declared.mpu.MpuStop.{MpuStop}
 use Rattle.reference.specs.declared.mpu.MpuStop.TheVariants as stop
 use Rattle.reference.specs.declared.mpu.Region.{Region}
 use Rattle.reference.specs.Regions.{Mpu, IsSound, region, empty, fresh, write, write_base, left, selected, based}
-use Rattle.reference.specs.Regions.{with_attributes, kept, is_taken, is_on, is_on_below_zero}
+use Rattle.reference.specs.Regions.{with_attributes, kept_attributes, is_accepted, is_on, is_on_below_zero}
 use Rattle.reference.specs.Words.{is_bit}
 use Rattle.mpu.proofs.Sound.{with_region-sound}
 
@@ -63,8 +63,10 @@ sound_after_write m register.Control value s =
 sound_after_write m register.Number value s = selected-sound m (value % 256) s
 sound_after_write m register.Base value s = write_base-sound m value s
 sound_after_write m register.Attributes value s =
-    left-taken m (with_attributes m m.number (kept value)) (is_taken (kept value)) stop.Region s
-    (λ h. with_region-sound m m.number (record (region m m.number) { attributes = kept value }) s (s.based m.number) h)
+    left-taken m (with_attributes m m.number (kept_attributes value)) (is_accepted (kept_attributes value)) stop.Region
+    s
+    (λ h. with_region-sound m m.number (record (region m m.number) { attributes = kept_attributes value }) s
+    (s.based m.number) h)
 
 -- each of `n` empty regions is empty
 each-empty : (P : Region → Type 0) (n k : ℕ) → P empty → P (slice_index_or (replicate n empty) k empty)
@@ -79,7 +81,7 @@ sound_at_reset count known = record {
   control_small = omega arith;
   sixteen = refl;
   based = λ k. each-empty (λ r. r.base % 32 ≡ 0) 16 k refl;
-  taken = λ k. each-empty (λ r. is_taken r.attributes ≡ true) 16 k refl;
+  taken = λ k. each-empty (λ r. is_accepted r.attributes ≡ true) 16 k refl;
 }
   where
     lead : ((count ≡ 8) ⊎ (count ≡ 16)) → 0 < count

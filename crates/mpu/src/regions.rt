@@ -1,7 +1,7 @@
 //! What the registers of one region say.
 
 ghost use Rattle.std.specs.Prelude.{◌≡◌, ◌<◌};
-ghost use Rattle.reference.specs.Regions.{is_enabled, size, switched_off, permission, is_taken, agrees, is_switched_off, matches};
+ghost use Rattle.reference.specs.Regions.{is_region_enabled, size, switched_off, permission, is_accepted, agrees, is_switched_off, matches};
 ghost use Rattle.reference.specs.Words.{is_bit};
 
 use reference::mpu::Region;
@@ -17,8 +17,8 @@ pub(crate) fn is_bit(word: u32, bit: u32) -> bool
 
 /// RASR.ENABLE.
 #[inline]
-pub fn is_enabled(attributes: u32) -> bool
-    ensures { result ≡ is_enabled attributes }
+pub fn is_region_enabled(attributes: u32) -> bool
+    ensures { result ≡ is_region_enabled attributes }
 {
     is_bit(attributes, 0)
 }
@@ -49,10 +49,10 @@ pub(crate) fn permission(attributes: u32) -> u8
 }
 
 /// Whether RASR takes these attributes.
-pub(crate) fn is_taken(attributes: u32) -> bool
-    ensures { result ≡ is_taken attributes }
+pub(crate) fn is_accepted(attributes: u32) -> bool
+    ensures { result ≡ is_accepted attributes }
 {
-    if !is_enabled(attributes) {
+    if !is_region_enabled(attributes) {
         return true;
     }
     let size = size(attributes);
@@ -65,7 +65,9 @@ pub(crate) fn is_taken(attributes: u32) -> bool
 pub fn matches(region: Region, address: u32) -> bool
     ensures { result ≡ matches region address }
 {
-    is_enabled(region.attributes) && agrees(region, address) && !is_switched_off(region, address)
+    is_region_enabled(region.attributes)
+        && agrees(region, address)
+        && !is_switched_off(region, address)
 }
 
 /// Whether an address and the region's base agree in the bits that its size leaves.

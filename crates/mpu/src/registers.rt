@@ -2,16 +2,16 @@
 
 ghost use Rattle.std.specs.Prelude.{◌≡◌, ◌+◌, ◌%◌, ◌<◌, ◌≤◌, ◌⊎◌, true, IfSome};
 ghost use Rattle.mpu.specs.Spans.{BelongTo};
-ghost use Rattle.reference.specs.Regions.{fresh, read, write, left, answered, shown, region as region_of, with_base, with_attributes, selected, write_control, write_base, based, write_attributes, is_taken, owner, register_at, stop_of};
+ghost use Rattle.reference.specs.Regions.{fresh, read, write, left, answered, shown, region as region_of, with_region_base, with_attributes, selected, write_mpu_ctrl, write_base, based, write_attributes, is_accepted, owner, mpu_register_at, stop_of};
 
-use crate::regions::{is_bit, is_taken, matches};
+use crate::regions::{is_accepted, is_bit, matches};
 use crate::spans::{Span, cut};
-use reference::mpu::{MpuRegister, MpuStop, Region};
+use reference::mpu::{MOST_REGIONS, MpuRegister, MpuStop, Region};
 use reference::stop::{Stop, UnpredictableCase};
 use std::marker::Model;
 
-/// How many regions there is a place for.
-const PLACES: usize = 16;
+/// The most regions, as a length.
+const PLACES: usize = MOST_REGIONS as usize;
 
 /// The bits that RASR keeps: XN, AP, TEX, S, C, B, SRD, SIZE and ENABLE.
 const STORED: u32 = 0x173F_FF3F;
@@ -148,7 +148,7 @@ impl MpuRegs {
     {
         match register {
             MpuRegister::Type => Ok(()),
-            MpuRegister::Control => self.write_control(value),
+            MpuRegister::Control => self.write_mpu_ctrl(value),
             MpuRegister::Number => self.select((value & 0xFF) as u8),
             MpuRegister::Base => self.write_base(value),
             MpuRegister::Attributes => self.write_attributes(value),
@@ -156,9 +156,9 @@ impl MpuRegs {
     }
 
     /// MPU_CTRL: HFNMIENA without ENABLE stops.
-    fn write_control(&mut self, value: u32) -> Result<(), MpuStop>
-        ensures state { self.new ≡ left self.old (write_control self.old value) }
-        ensures answer { result ≡ answered (write_control self.old value) }
+    fn write_mpu_ctrl(&mut self, value: u32) -> Result<(), MpuStop>
+        ensures state { self.new ≡ left self.old (write_mpu_ctrl self.old value) }
+        ensures answer { result ≡ answered (write_mpu_ctrl self.old value) }
     {
         if is_bit(value, HFNMIENA) && !is_bit(value, ENABLE) {
             return Err(MpuStop::Control);
@@ -194,7 +194,7 @@ impl MpuRegs {
     /// The base of the selected region.
     fn set_base(&mut self, base: u32)
         requires { base % 32 ≡ 0 }
-        ensures { self.new ≡ with_base self.old self.old.number base }
+        ensures { self.new ≡ with_region_base self.old self.old.number base }
     {
         self.regions[self.number as usize].base = base;
     }
@@ -205,7 +205,7 @@ impl MpuRegs {
         ensures answer { result ≡ answered (write_attributes self.old value) }
     {
         let attributes = value & STORED;
-        if !is_taken(attributes) {
+        if !is_accepted(attributes) {
             return Err(MpuStop::Region);
         }
         self.set_attributes(attributes);
@@ -214,7 +214,7 @@ impl MpuRegs {
 
     /// The attributes of the selected region.
     fn set_attributes(&mut self, attributes: u32)
-        requires { is_taken attributes ≡ true }
+        requires { is_accepted attributes ≡ true }
         ensures { self.new ≡ with_attributes self.old self.old.number attributes }
     {
         self.regions[self.number as usize].attributes = attributes;
@@ -253,8 +253,8 @@ impl MpuRegs {
 }
 
 /// The register at an address of a word, if one of the MPU stands there: 0xE000ED90 to 0xE000EDB8.
-pub fn register_at(address: u32) -> Option<MpuRegister>
-    ensures { result ≡ register_at address }
+pub fn mpu_register_at(address: u32) -> Option<MpuRegister>
+    ensures { result ≡ mpu_register_at address }
 {
     match address {
         0xE000_ED90 => Some(MpuRegister::Type),

@@ -4,7 +4,7 @@
 ghost use Rattle.std.specs.Prelude.{◌≡◌};
 ghost use Rattle.reference.specs.declared.access.Rule.TheVariants.{Region};
 ghost use Rattle.reference.specs.Regions.{permission, never_executes};
-ghost use Rattle.reference.specs.Rules.{default_map, is_executable, is_off_below_zero, before_regions, may_read, may_write, granted_by, behind_regions};
+ghost use Rattle.reference.specs.Rules.{default_map, is_executable, is_off_below_zero, before_regions, may_read, may_write, permission_grants, after_regions};
 
 use crate::regions::{is_bit, permission};
 use crate::registers::{ENABLE, HFNMIENA, PRIVDEFENA};
@@ -96,7 +96,7 @@ impl Rights {
     /// Whether they grant an access of that kind to code of that privilege: `CheckPermission()`.
     #[inline]
     pub fn grants(self, kind: Kind, privileged: bool) -> bool
-        ensures { result ≡ granted_by self.permission self.never_executes kind privileged }
+        ensures { result ≡ permission_grants self.permission self.never_executes kind privileged }
     {
         match kind {
             Kind::Fetch => self.may_read(privileged) && !self.never_executes,
@@ -132,7 +132,7 @@ impl Rights {
 #[inline]
 pub fn by_region(number: u8, rights: Rights, kind: Kind, privileged: bool) -> Decision
     ensures rule { result.rule ≡ Region number }
-    ensures granted { result.granted ≡ granted_by rights.permission rights.never_executes kind privileged }
+    ensures granted { result.granted ≡ permission_grants rights.permission rights.never_executes kind privileged }
 {
     Decision {
         rule: Rule::Region(number),
@@ -143,7 +143,7 @@ pub fn by_region(number: u8, rights: Rights, kind: Kind, privileged: bool) -> De
 /// The decision where an address belongs to no region, by what MPU_CTRL holds.
 #[inline]
 pub fn without_region(control: u32, address: u32, kind: Kind, privileged: bool) -> Decision
-    ensures { result ≡ behind_regions control address kind privileged }
+    ensures { result ≡ after_regions control address kind privileged }
 {
     if privileged && is_bit(control, PRIVDEFENA) {
         Decision {

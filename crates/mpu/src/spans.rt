@@ -4,7 +4,7 @@ ghost use Rattle.std.specs.Prelude.{◌≡◌, ◌≤◌, ◌/◌, ◌^◌, ◌+
 ghost use Rattle.mpu.specs.Spans.{grain};
 ghost use Rattle.reference.specs.Regions.{agrees, matches};
 
-use crate::regions::{agrees, is_enabled, size, switched_off};
+use crate::regions::{agrees, is_region_enabled, size, switched_off};
 use reference::mpu::Region;
 
 /// Addresses from the first to the last, with both.
@@ -47,7 +47,7 @@ pub(crate) fn cut(region: Region, address: u32, span: Span) -> Span
     ensures to { result.last ≤ span.last }
     ensures alike { (a : ℕ) → result.first ≤ a → a ≤ result.last → matches region a ≡ matches region address }
 {
-    if !is_enabled(region.attributes) {
+    if !is_region_enabled(region.attributes) {
         return span;
     }
     if agrees(region, address) {

@@ -4,7 +4,7 @@ use Rattle.std.proofs.Common.{arith}
 use Rattle.std.proofs.lemmas.Bool.Decides.{nat_tests}
 use Rattle.reference.specs.declared.exception.TheConstants.{NMI, HARD_FAULT, EXCEPTIONS}
 use Rattle.reference.specs.Priorities.{Nvic, is_in, is_negative, is_below_zero, fixed_or, of_byte, grouped}
-use Rattle.reference.specs.Priorities.{group_priority, lessened, least_active, boosted, execution_priority}
+use Rattle.reference.specs.Priorities.{group_priority, raised_by, highest_active, boosted, execution_priority}
 use Rattle.nvic.proofs.Least.{at_most_active}
 
 -- another exception than NMI and HardFault has a priority of 0 or more
@@ -12,7 +12,7 @@ fixed_high : (x other : ℕ) → (x ≡ NMI → ⊥) → (x ≡ HARD_FAULT → �
 fixed_high x other f g = grind (arith, nat_tests)
 
 lessened_high : (n : Nvic) (x p : ℕ) → is_in n.active NMI ≡ false → is_in n.active HARD_FAULT ≡ false → 2 ≤ p
-    → 2 ≤ lessened n x p
+    → 2 ≤ raised_by n x p
 lessened_high n x p f g h = split (is_in n.active x) refl
   where
     split : (b : Bool) → is_in n.active x ≡ b → 2 ≤ (if b then min (group_priority n x) p else p)
@@ -22,10 +22,10 @@ lessened_high n x p f g h = split (is_in n.active x) refl
         omega (arith, high, h)
     split false e = h
 
-active_high : (n : Nvic) (k : ℕ) → is_in n.active NMI ≡ false → is_in n.active HARD_FAULT ≡ false → 2 ≤ least_active n k
-unfolding least_active
+active_high : (n : Nvic) (k : ℕ) → is_in n.active NMI ≡ false → is_in n.active HARD_FAULT ≡ false → 2 ≤ highest_active n k
+unfolding highest_active
 active_high n zero f g = omega arith
-active_high n (suc k) f g = lessened_high n k (least_active n k) f g (active_high n k f g)
+active_high n (suc k) f g = lessened_high n k (highest_active n k) f g (active_high n k f g)
 
 -- the masks raise to -1 under FAULTMASK alone
 boosted_high : (n : Nvic) → n.masks.faultmask ≡ false → 2 ≤ boosted n.group n.masks
@@ -45,7 +45,7 @@ unfolding execution_priority
 below_zero n = split n.masks.faultmask (is_in n.active NMI) (is_in n.active HARD_FAULT) refl refl refl
   where
     split : (f a b : Bool) → n.masks.faultmask ≡ f → is_in n.active NMI ≡ a → is_in n.active HARD_FAULT ≡ b
-        → is_negative (min (least_active n EXCEPTIONS) (boosted n.group n.masks)) ≡ (f || a || b)
+        → is_negative (min (highest_active n EXCEPTIONS) (boosted n.group n.masks)) ≡ (f || a || b)
     split true a b e i j = let h = masked_low n e in is_low _ (omega (arith, h))
     split false true b e i j = let h = at_most_active n EXCEPTIONS NMI (omega arith) i in is_low _ (omega (arith, h))
     split false false true e i j = let h = at_most_active n EXCEPTIONS HARD_FAULT (omega arith) j in

@@ -4,7 +4,8 @@ use Rattle.std.proofs.Common.{◌∷◌, replicate, get_or, set, slice_index, sl
 use Rattle.std.proofs.lemmas.List.{length-set, length-replicate}
 use Rattle.std.proofs.lemmas.Nat.{pow_pos}
 use Rattle.std.proofs.Math.Nat.{mul-div_left, zero-div, zero-mul}
-use Rattle.reference.specs.Priorities.{Nvic, is_in_words, is_exception, is_switched, has_byte, kept, with_member}
+use Rattle.reference.specs.Priorities.{Nvic, is_in_words, is_exception, can_be_disabled, has_priority_byte, kept}
+use Rattle.reference.specs.Priorities.{with_member}
 use Rattle.reference.specs.Priorities.{with_pending, with_active, with_enabled, with_priority, with_group, with_primask}
 use Rattle.reference.specs.Priorities.{with_faultmask, with_basepri, with_due_at, with_due_below, with_due, reset_nvic}
 use Rattle.reference.specs.declared.exception.TheConstants.{EXCEPTIONS, MOST_LINES}
@@ -100,13 +101,13 @@ active_of_board n x on h = record {
 }
 
 pub enabled_of_board : (n : Nvic) (x : ℕ) (on : Bool) → IsOfBoard n → IsOfBoard (with_enabled n x on)
-enabled_of_board n x on h = split (is_switched n.lines x) refl
+enabled_of_board n x on h = split (can_be_disabled n.lines x) refl
   where
-    split : (b : Bool) → is_switched n.lines x ≡ b
+    split : (b : Bool) → can_be_disabled n.lines x ≡ b
         → IsOfBoard (if b then record n { enabled = slice_set n.enabled x on } else n)
     split true e = record {
       pending = h.pending;
-      enabled = set_of (is_switched n.lines) n.enabled x on e h.enabled;
+      enabled = set_of (can_be_disabled n.lines) n.enabled x on e h.enabled;
       active = h.active;
       priorities = h.priorities;
       basepri = h.basepri;
@@ -116,7 +117,7 @@ enabled_of_board n x on h = split (is_switched n.lines x) refl
     split false e = h
 
 pub priority_of_board : (n : Nvic) (x b : ℕ) → IsOfBoard n → IsOfBoard (with_priority n x b)
-priority_of_board n x b h = split (has_byte n.lines x)
+priority_of_board n x b h = split (has_priority_byte n.lines x)
   where
     split : (has : Bool)
         → IsOfBoard (if has then record n { priorities = slice_set n.priorities x (kept n.priority_bits b) } else n)
@@ -195,7 +196,7 @@ due_of_board n due h = due_below_of_board n due EXCEPTIONS h
 pub reset_of_board : (lines bits : ℕ) → IsOfBoard (reset_nvic lines bits)
 reset_of_board lines bits = record {
   pending = empty_set (is_exception (min lines MOST_LINES));
-  enabled = empty_set (is_switched (min lines MOST_LINES));
+  enabled = empty_set (can_be_disabled (min lines MOST_LINES));
   active = empty_set (is_exception (min lines MOST_LINES));
   priorities = no_bytes bits;
   basepri = kept_none bits;

@@ -5,7 +5,7 @@ use Rattle.std.proofs.lemmas.Bool.{eqb-false}
 use Rattle.std.proofs.lemmas.Bool.Decides.{nat_tests}
 use Rattle.reference.specs.declared.exception.TheConstants.{EXCEPTIONS}
 use Rattle.reference.specs.Priorities.{Nvic, hard_fault_priority, is_in, of_byte, grouped, lowest, group_priority}
-use Rattle.reference.specs.Priorities.{lessened, least_active, boosted, execution_priority}
+use Rattle.reference.specs.Priorities.{raised_by, highest_active, boosted, execution_priority}
 use Rattle.nvic.proofs.Best.{or_last}
 use Rattle.nvic.specs.Laws.{Holds, IsLeast}
 use Rattle.nvic.specs.Laws.Holds.{nothing, handler, basepri, primask, faultmask}
@@ -18,40 +18,40 @@ lesser_holds n p q f g =
 -- ---- the active exceptions
 
 -- the least group priority of those below k, and of k if that is active
-held_step : (n : Nvic) (k p : ℕ) → k < EXCEPTIONS → Holds n p → Holds n (lessened n k p)
+held_step : (n : Nvic) (k p : ℕ) → k < EXCEPTIONS → Holds n p → Holds n (raised_by n k p)
 held_step n k p h f = split (is_in n.active k) refl
   where
     split : (b : Bool) → is_in n.active k ≡ b → Holds n (if b then min (group_priority n k) p else p)
     split true e = lesser_holds n (group_priority n k) p (handler k h e refl) f
     split false e = f
 
-held : (n : Nvic) (k : ℕ) → k ≤ EXCEPTIONS → Holds n (least_active n k)
-unfolding least_active
+held : (n : Nvic) (k : ℕ) → k ≤ EXCEPTIONS → Holds n (highest_active n k)
+unfolding highest_active
 held n zero h = nothing refl
-held n (suc k) h = held_step n k (least_active n k) (omega arith) (held n k (omega arith))
+held n (suc k) h = held_step n k (highest_active n k) (omega arith) (held n k (omega arith))
 
-lessened_le : (n : Nvic) (k p : ℕ) → lessened n k p ≤ p
+lessened_le : (n : Nvic) (k p : ℕ) → raised_by n k p ≤ p
 lessened_le n k p = grind arith
 
-lessened_here : (n : Nvic) (k p : ℕ) → is_in n.active k ≡ true → lessened n k p ≤ group_priority n k
+lessened_here : (n : Nvic) (k p : ℕ) → is_in n.active k ≡ true → raised_by n k p ≤ group_priority n k
 lessened_here n k p e = rw e (omega arith)
 
-pub at_most_lowest : (n : Nvic) (k : ℕ) → least_active n k ≤ lowest
-unfolding least_active
+pub at_most_lowest : (n : Nvic) (k : ℕ) → highest_active n k ≤ lowest
+unfolding highest_active
 at_most_lowest n zero = omega arith
-at_most_lowest n (suc k) = let h = lessened_le n k (least_active n k) in let i = at_most_lowest n k in
+at_most_lowest n (suc k) = let h = lessened_le n k (highest_active n k) in let i = at_most_lowest n k in
     omega (arith, h, i)
 
 at_most_next : (n : Nvic) (k p : ℕ) → ((x : ℕ) → x < k → is_in n.active x ≡ true → p ≤ group_priority n x)
-    → (x : ℕ) → x < suc k → is_in n.active x ≡ true → lessened n k p ≤ group_priority n x
+    → (x : ℕ) → x < suc k → is_in n.active x ≡ true → raised_by n k p ≤ group_priority n x
 at_most_next n k p before =
-    or_last (λ x. is_in n.active x ≡ true → lessened n k p ≤ group_priority n x) k
+    or_last (λ x. is_in n.active x ≡ true → raised_by n k p ≤ group_priority n x) k
     (λ x h e. let less = lessened_le n k p in let i = before x h e in omega (arith, less, i)) (lessened_here n k p)
 
-pub at_most_active : (n : Nvic) (k x : ℕ) → x < k → is_in n.active x ≡ true → least_active n k ≤ group_priority n x
-unfolding least_active
+pub at_most_active : (n : Nvic) (k x : ℕ) → x < k → is_in n.active x ≡ true → highest_active n k ≤ group_priority n x
+unfolding highest_active
 at_most_active n zero x h e = absurd (omega arith)
-at_most_active n (suc k) x h e = at_most_next n k (least_active n k) (at_most_active n k) x h e
+at_most_active n (suc k) x h e = at_most_next n k (highest_active n k) (at_most_active n k) x h e
 
 -- ---- the masks
 
@@ -81,7 +81,7 @@ under_basepri f p none g e = grind arith
 
 -- ---- both
 
-below_each : (n : Nvic) (q : ℕ) → Holds n q → (least_active n EXCEPTIONS ≤ q) ⊎ (boosted n.group n.masks ≤ q)
+below_each : (n : Nvic) (q : ℕ) → Holds n q → (highest_active n EXCEPTIONS ≤ q) ⊎ (boosted n.group n.masks ≤ q)
 below_each n q (nothing e) = let h = at_most_lowest n EXCEPTIONS in inl (omega (arith, h, e))
 below_each n q (handler x h a e) = let i = at_most_active n EXCEPTIONS x h a in inl (omega (arith, i, e))
 below_each n q (basepri some e) =
@@ -100,7 +100,7 @@ below_each n q (faultmask on e) =
 least_is : (n : Nvic) → IsLeast n (execution_priority n)
 unfolding execution_priority
 least_is n = record {
-  holds = lesser_holds n (least_active n EXCEPTIONS) (boosted n.group n.masks) (held n EXCEPTIONS (omega arith))
+  holds = lesser_holds n (highest_active n EXCEPTIONS) (boosted n.group n.masks) (held n EXCEPTIONS (omega arith))
       (boosted_holds n);
   least = λ q h. elim (below_each n q h) [ inl i ↦ omega (arith, i) | inr i ↦ omega (arith, i) ];
 }

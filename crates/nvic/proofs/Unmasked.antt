@@ -4,7 +4,7 @@ use Rattle.std.proofs.Common.{if◌then◌else◌, slice_index, Option, Some, No
 use Rattle.std.proofs.lemmas.Bool.Decides.{nat_tests}
 use Rattle.reference.specs.declared.exception.TheConstants.{NMI, EXCEPTIONS}
 use Rattle.reference.specs.Priorities.{Nvic, is_in, is_ready, is_negative, is_below_zero, fixed_or, of_byte, grouped}
-use Rattle.reference.specs.Priorities.{priority_of, group_priority, lessened, least_active, boosted, execution_priority}
+use Rattle.reference.specs.Priorities.{priority_of, group_priority, raised_by, highest_active, boosted, execution_priority}
 use Rattle.reference.specs.Priorities.{with_primask, with_ready, best_below, best, if_preempts, candidate}
 use Rattle.reference.specs.Priorities.{candidate_unmasked}
 use Rattle.nvic.proofs.BelowZero.{below_zero}
@@ -25,14 +25,14 @@ best_open : (n : Nvic) → best (unmask n) ≡ best n
 unfolding best
 best_open n = best_below_open n EXCEPTIONS
 
-least_open : (n : Nvic) (k : ℕ) → least_active (unmask n) k ≡ least_active n k
-unfolding least_active
+least_open : (n : Nvic) (k : ℕ) → highest_active (unmask n) k ≡ highest_active n k
+unfolding highest_active
 least_open n zero = refl
-least_open n (suc k) = ap (λ p. lessened n k p) (least_open n k)
+least_open n (suc k) = ap (λ p. raised_by n k p) (least_open n k)
 
 -- the execution priority were PRIMASK 0
 abbrev pub limit : Nvic → ℕ
-limit n = min (least_active n EXCEPTIONS) (boosted n.group (record n.masks { primask = false }))
+limit n = min (highest_active n EXCEPTIONS) (boosted n.group (record n.masks { primask = false }))
 
 limit_is : (n : Nvic) → execution_priority (unmask n) ≡ limit n
 unfolding execution_priority
@@ -57,7 +57,7 @@ unmasked n = ap (λ o. if_preempts (unmask n) o) (best_open n) ∙ if_preempts_o
 fixed_above : (x other : ℕ) → (x ≡ NMI → ⊥) → 1 ≤ fixed_or x (of_byte other)
 fixed_above x other f = grind (arith, nat_tests)
 
-lessened_above : (n : Nvic) (x p : ℕ) → is_in n.active NMI ≡ false → 1 ≤ p → 1 ≤ lessened n x p
+lessened_above : (n : Nvic) (x p : ℕ) → is_in n.active NMI ≡ false → 1 ≤ p → 1 ≤ raised_by n x p
 lessened_above n x p f h = split (is_in n.active x) refl
   where
     split : (b : Bool) → is_in n.active x ≡ b → 1 ≤ (if b then min (group_priority n x) p else p)
@@ -66,10 +66,10 @@ lessened_above n x p f h = split (is_in n.active x) refl
         omega (arith, above, h)
     split false e = h
 
-active_above : (n : Nvic) (k : ℕ) → is_in n.active NMI ≡ false → 1 ≤ least_active n k
-unfolding least_active
+active_above : (n : Nvic) (k : ℕ) → is_in n.active NMI ≡ false → 1 ≤ highest_active n k
+unfolding highest_active
 active_above n zero f = omega arith
-active_above n (suc k) f = lessened_above n k (least_active n k) f (active_above n k f)
+active_above n (suc k) f = lessened_above n k (highest_active n k) f (active_above n k f)
 
 boosted_above : (n : Nvic) → 1 ≤ boosted n.group n.masks
 boosted_above n = grind arith

@@ -3,7 +3,8 @@
 use Rattle.std.specs.Prelude.{◌≡◌, ℕ, ◌<◌, ◌≤◌, ◌⊎◌, Bool, true, ◌&&◌, ◌||◌, List, length, slice_index, Option, Some}
 use Rattle.std.specs.Prelude.{None}
 use Rattle.reference.specs.declared.exception.TheConstants.{EXCEPTIONS, MOST_LINES}
-use Rattle.reference.specs.Priorities.{Nvic, is_exception, is_switched, kept, is_in, is_in_words, is_ready, priority_of}
+use Rattle.reference.specs.Priorities.{Nvic, is_exception, can_be_disabled, kept, is_in, is_in_words, is_ready}
+use Rattle.reference.specs.Priorities.{priority_of}
 use Rattle.reference.specs.Priorities.{group_priority, execution_priority, hard_fault_priority, of_byte, grouped}
 use Rattle.reference.specs.Priorities.{lowest}
 
@@ -54,7 +55,7 @@ pub record AreKept (bits : ℕ) (bytes : List ℕ) : Type 0 where
 -- the board keeps
 pub record IsOfBoard (n : Nvic) : Type 0 where
   pub pending : IsSetOf (is_exception n.lines) n.pending
-  pub enabled : IsSetOf (is_switched n.lines) n.enabled
+  pub enabled : IsSetOf (can_be_disabled n.lines) n.enabled
   pub active : IsSetOf (is_exception n.lines) n.active
   pub priorities : AreKept n.priority_bits n.priorities
   pub basepri : kept n.priority_bits n.masks.basepri ≡ n.masks.basepri

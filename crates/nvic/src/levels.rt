@@ -2,7 +2,7 @@
 
 ghost use Rattle.std.specs.Prelude.{◌≡◌, ◌<◌, true, false, min, nat_lt, slice_index, IfSome};
 ghost use Rattle.reference.specs.declared.exception.TheConstants.{EXCEPTIONS};
-ghost use Rattle.reference.specs.Priorities.{Nvic, is_in, is_enabled as is_enabled_of, best as best_of, is_interrupt_pending as is_interrupt_pending_of, is_other_active as is_other_active_of, least_active, group_priority as group_priority_of, is_below_zero as is_below_zero_of, execution_priority as execution_priority_of, candidate as candidate_of, candidate_unmasked as candidate_unmasked_of, boosted as boosted_of, candidate_after as candidate_after_of, escalation, with_pending, with_active, with_enabled, with_priority, with_group, with_primask, with_faultmask, with_basepri, with_due, with_due_at, reset_nvic};
+ghost use Rattle.reference.specs.Priorities.{Nvic, is_in, is_enabled as is_enabled_of, best as best_of, is_interrupt_pending as is_interrupt_pending_of, is_other_active as is_other_active_of, highest_active, group_priority as group_priority_of, is_below_zero as is_below_zero_of, execution_priority as execution_priority_of, candidate as candidate_of, candidate_unmasked as candidate_unmasked_of, boosted as boosted_of, candidate_after as candidate_after_of, escalation, with_pending, with_active, with_enabled, with_priority, with_group, with_primask, with_faultmask, with_basepri, with_due, with_due_at, reset_nvic};
 
 use crate::numbers::{is_in_words, is_interrupt};
 use crate::priorities::{boosted, fixed_or, grouped};
@@ -101,7 +101,7 @@ pub trait Levels: Drop {
     /// The least group priority of the active exceptions, and the lowest priority where none is
     /// active.
     fn active_priority(&self) -> Priority
-        ensures { result ≡ least_active (content self.now) EXCEPTIONS };
+        ensures { result ≡ highest_active (content self.now) EXCEPTIONS };
 
     /// The best of the exceptions that are pending and enabled, whatever is active or masked.
     fn best(&self) -> Option<u16>
@@ -185,7 +185,7 @@ pub trait Levels: Drop {
 
     /// The execution priority under these masks.
     fn priority_under(&self, masks: Masks) -> Priority
-        ensures { result ≡ min (least_active (content self.now) EXCEPTIONS) (boosted_of (content self.now).group masks) }
+        ensures { result ≡ min (highest_active (content self.now) EXCEPTIONS) (boosted_of (content self.now).group masks) }
     {
         let held = self.active_priority();
         let masked = boosted(self.group(), masks);

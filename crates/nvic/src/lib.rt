@@ -9,7 +9,7 @@ mod plain;
 mod priorities;
 
 pub use levels::Levels;
-pub use numbers::{has_byte, is_always_enabled, is_exception, is_switched};
+pub use numbers::{can_be_disabled, has_priority_byte, is_always_enabled, is_exception};
 pub use plain::PlainLevels;
 pub use priorities::{grouped, kept};
 pub use reference::exception::{Escalation, Masks, Priority};

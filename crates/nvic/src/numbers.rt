@@ -1,7 +1,7 @@
 //! Which numbers exceptions have, and what can be done with each.
 
 ghost use Rattle.std.specs.Prelude.{◌≡◌, ◌+◌, ◌<◌, ◌≤◌, true};
-ghost use Rattle.reference.specs.Priorities.{is_fixed as is_fixed_of, is_always_enabled as is_always_enabled_of, is_interrupt as is_interrupt_of, is_switched as is_switched_of, is_exception as is_exception_of, has_byte as has_byte_of, is_in_words as is_in_words_of};
+ghost use Rattle.reference.specs.Priorities.{is_fixed as is_fixed_of, is_always_enabled as is_always_enabled_of, is_interrupt as is_interrupt_of, can_be_disabled as can_be_disabled_of, is_exception as is_exception_of, has_priority_byte as has_priority_byte_of, is_in_words as is_in_words_of};
 
 use reference::exception::{
     FIRST_LINE, HARD_FAULT, MEM_MANAGE, NMI, PEND_SV, SV_CALL, SYS_TICK, USAGE_FAULT,
@@ -33,8 +33,8 @@ pub fn is_interrupt(lines: u8, number: u16) -> bool
 
 /// MemManage, BusFault, UsageFault and the interrupts of the board.
 #[inline]
-pub fn is_switched(lines: u8, number: u16) -> bool
-    ensures { result ≡ is_switched_of lines number }
+pub fn can_be_disabled(lines: u8, number: u16) -> bool
+    ensures { result ≡ can_be_disabled_of lines number }
 {
     matches!(number, MEM_MANAGE..=USAGE_FAULT) || is_interrupt(lines, number)
 }
@@ -44,13 +44,13 @@ pub fn is_switched(lines: u8, number: u16) -> bool
 pub fn is_exception(lines: u8, number: u16) -> bool
     ensures { result ≡ is_exception_of lines number }
 {
-    is_always_enabled(number) || is_switched(lines, number)
+    is_always_enabled(number) || can_be_disabled(lines, number)
 }
 
 /// Whether it has a priority byte.
 #[inline]
-pub fn has_byte(lines: u8, number: u16) -> bool
-    ensures { result ≡ has_byte_of lines number }
+pub fn has_priority_byte(lines: u8, number: u16) -> bool
+    ensures { result ≡ has_priority_byte_of lines number }
 {
     is_exception(lines, number) && !is_fixed(number)
 }

@@ -1,10 +1,10 @@
 //! The exceptions as plain sets: each question looks at all of them.
 
 ghost use Rattle.std.specs.Prelude.{◌≡◌, ◌<◌, slice_set};
-ghost use Rattle.reference.specs.Priorities.{priority_of as priority_of_number, group_priority as group_priority_of, is_ready as is_ready_of, least_active as least_active_of, execution_priority as execution_priority_of, better_of as better_of_both, with_ready as with_ready_of};
+ghost use Rattle.reference.specs.Priorities.{priority_of as priority_of_number, group_priority as group_priority_of, is_ready as is_ready_of, highest_active as least_active_of, execution_priority as execution_priority_of, better_of as better_of_both, with_ready as with_ready_of};
 
 use crate::levels::Levels;
-use crate::numbers::{has_byte, is_always_enabled, is_exception, is_switched};
+use crate::numbers::{can_be_disabled, has_priority_byte, is_always_enabled, is_exception};
 use crate::priorities::{boosted, fixed_or, grouped, kept};
 use reference::exception::{EXCEPTIONS, Escalation, MOST_LINES, Masks, Priority};
 use std::marker::Model;
@@ -82,19 +82,19 @@ impl Levels for PlainLevels {
     }
 
     fn enable(&mut self, number: u16) {
-        if is_switched(self.lines, number) {
+        if can_be_disabled(self.lines, number) {
             self.enabled[number as usize] = true;
         }
     }
 
     fn disable(&mut self, number: u16) {
-        if is_switched(self.lines, number) {
+        if can_be_disabled(self.lines, number) {
             self.enabled[number as usize] = false;
         }
     }
 
     fn set_priority(&mut self, number: u16, byte: u8) {
-        if has_byte(self.lines, number) {
+        if has_priority_byte(self.lines, number) {
             self.priorities[number as usize] = kept(self.priority_bits, byte);
         }
     }
@@ -168,7 +168,7 @@ impl Levels for PlainLevels {
 
     fn active_priority(&self) -> Priority {
         let mut least = Priority::LOWEST;
-        #[tactic(auto, unfolding(reference::specs::Priorities::least_active))]
+        #[tactic(auto, unfolding(reference::specs::Priorities::highest_active))]
         'each: for number in 0..EXCEPTIONS {
             if self.active[number as usize] {
                 let priority = self.group_priority(number);

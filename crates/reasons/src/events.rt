@@ -3,10 +3,8 @@
 use crate::keys::{AT, EVENT, EVENT_TABLE, LINE, LINES, NMI, WHAT, is_change, is_tick};
 use crate::problem::Problem;
 use crate::settings::{integer, unknown};
+use board::MOST_SCRIPT_EVENTS;
 use toml::{Table, Value};
-
-/// The most events of a board.
-const MOST_EVENTS: usize = 65_536;
 
 /// A problem of an event.
 #[derive(Clone, Copy)]
@@ -26,7 +24,7 @@ pub fn events_problem(document: &Table) -> Option<EventProblem<'_>> {
         });
     };
     let values = values.as_slice();
-    if values.len() > MOST_EVENTS {
+    if values.len() > MOST_SCRIPT_EVENTS {
         return Some(EventProblem {
             number: 0,
             problem: Problem::Value(EVENT, value),

@@ -18,28 +18,28 @@ use Rattle.reference.specs.Kinds.{is_probe}
 use Rattle.reference.specs.Map.{is_in_ppb}
 use Rattle.reference.specs.Priorities.{is_below_zero}
 use Rattle.reference.specs.Rules.{decision_of}
-use Rattle.reference.specs.Space.{Reached, is_out, space_access}
+use Rattle.reference.specs.Space.{SpaceAnswer, is_out, space_access}
 use Rattle.reference.specs.State.{Bus}
-use Rattle.reference.specs.System.{Replied, system_access}
+use Rattle.reference.specs.System.{SystemAnswer, system_access}
 
 -- ---- the bus
 
 -- what the bus answers to an access that a rule granted, and the bus after it
-pub record Answered : Type 0 where
+pub record BusAnswer : Type 0 where
   pub bus : Bus
   pub answer : Answer
 
 -- the answer of flash, RAM or the device window, and the bus with their memory after the access
-abbrev pub lifted : Bus → Reached → Answered
+abbrev pub lifted : Bus → SpaceAnswer → BusAnswer
 lifted b r = record { bus = record b { memory = r.memory }; answer = r.answer }
 
 -- the answer of a system register, and the bus with the system registers after the access
-abbrev pub lifted_system : Bus → Replied → Answered
+abbrev pub lifted_system : Bus → SystemAnswer → BusAnswer
 lifted_system b r = record { bus = record b { system = r.system }; answer = r.answer }
 
 -- what the bus makes of a request that a rule granted, while IPSR is `exception`; it isn't asked for a probe
-unfoldable pub carried_out : ℕ → Bus → Request → Answered
-carried_out exception b q =
+unfoldable pub answered_by_bus : ℕ → Bus → Request → BusAnswer
+answered_by_bus exception b q =
     if is_probe q.access.kind then record { bus = b; answer = answer.Value 0 }
     else if is_in_ppb q.access.address
     then lifted_system b (system_access exception b.system q)
@@ -48,7 +48,7 @@ carried_out exception b q =
 -- ---- one access
 
 -- what a request is answered, and the bus after it
-pub record Response : Type 0 where
+pub record AccessResult : Type 0 where
   pub bus : Bus
   pub performed : Performed
 
@@ -57,13 +57,13 @@ performed_by rule (answer.Value value) = performed.Done rule value
 performed_by rule answer.Error = performed.Denied rule cause.Bus
 performed_by rule (answer.Stop why) = performed.Stop why
 
-abbrev pub granted_by_rule : Rule → Answered → Response
-granted_by_rule rule a = record { bus = a.bus; performed = performed_by rule a.answer }
+abbrev pub answered_under : Rule → BusAnswer → AccessResult
+answered_under rule a = record { bus = a.bus; performed = performed_by rule a.answer }
 
 -- a request that a rule refused changes nothing
-abbrev pub decided : ℕ → Bus → Request → Decision → Response
+abbrev pub decided : ℕ → Bus → Request → Decision → AccessResult
 decided exception b q d =
-    if d.granted then granted_by_rule d.rule (carried_out exception b q)
+    if d.granted then answered_under d.rule (answered_by_bus exception b q)
     else record { bus = b; performed = performed.Denied d.rule cause.Mpu }
 
 -- the rule that decides a request at the execution priority of this moment, and whether it grants it
@@ -72,7 +72,7 @@ decision b q =
     decision_of b.system.mpu q.access.address q.access.kind q.access.privileged (is_below_zero b.system.nvic)
 
 -- one access: the rule decides, then the bus answers
-unfoldable pub perform : ℕ → Bus → Request → Response
+unfoldable pub perform : ℕ → Bus → Request → AccessResult
 perform exception b q = decided exception b q (decision b q)
 
 -- ---- its lines
@@ -88,10 +88,10 @@ console_line tick q =
     if is_out q then record { tick = tick; what = ConsoleByte (q.value % 256) } ∷ [] else []
 
 -- the lines of an access, given how it was performed: none where the access stops the machine
-abbrev pub told : ℕ → Request → Performed → List Event
-told tick q (performed.Done rule value) = accessed tick q rule None ∷ console_line tick q
-told tick q (performed.Denied rule cause) = accessed tick q rule (Some cause) ∷ []
-told tick q (performed.Stop why) = []
+abbrev pub access_lines : ℕ → Request → Performed → List Event
+access_lines tick q (performed.Done rule value) = accessed tick q rule None ∷ console_line tick q
+access_lines tick q (performed.Denied rule cause) = accessed tick q rule (Some cause) ∷ []
+access_lines tick q (performed.Stop why) = []
 
 -- ---- a list of accesses
 
@@ -103,7 +103,7 @@ value_of q (performed.Stop why) = Err (failure.Stop why)
 
 -- what a list of accesses leaves: the bus, the lines, the values in order, and what ended the list early, if anything
 -- did
-pub record Served : Type 0 where
+pub record ListResult : Type 0 where
   pub bus : Bus
   pub events : List Event
   pub values : List ℕ
@@ -111,16 +111,16 @@ pub record Served : Type 0 where
 
 -- what a list leaves, given the events, the bus and the value or failure of its first access, and what the others leave
 -- after it; no access is made after a failure
-abbrev pub followed : List Event → Bus → Result ℕ Failure → Served → Served
+abbrev pub followed : List Event → Bus → Result ℕ Failure → ListResult → ListResult
 followed events after (Ok value) rest = record rest { events = events ++ rest.events; values = value ∷ rest.values }
 followed events after (Err why) rest = record { bus = after; events = events; values = []; failure = Some why }
 
 -- the accesses are performed one by one, each in the state that the one before left, to the first failure
-unfoldable pub perform_all : ℕ → ℕ → Bus → List Request → Served
+unfoldable pub perform_all : ℕ → ℕ → Bus → List Request → ListResult
 perform_all exception tick b [] = record { bus = b; events = []; values = []; failure = None }
 perform_all exception tick b (q ∷ qs) =
     followed
-    (told tick q (perform exception b q).performed)
+    (access_lines tick q (perform exception b q).performed)
     (perform exception b q).bus
     (value_of q (perform exception b q).performed)
     (perform_all exception tick (perform exception b q).bus qs)

@@ -11,7 +11,7 @@ IsNarrow size (Value value) = value < 256 ^ bytes_in size
 IsNarrow size Error = ⊤
 IsNarrow size (Stop why) = ⊤
 
--- what isn't carried out changes nothing
+-- an access that is a bus error or a stop changes nothing
 abbrev pub LeavesUnlessDone : {A : Type 0} → Answer → A → A → Type 0
 LeavesUnlessDone (Value value) old new = ⊤
 LeavesUnlessDone Error old new = new ≡ old

@@ -54,13 +54,13 @@ sign_extended_by n x = if is_bit x 31 then x + (2 ^ n - 1) * 2 ^ 32 else x
 abbrev pub asr_c : ℕ → ℕ → ℕ × Bool
 asr_c x n = (sign_extended_by n x / 2 ^ n, is_bit (sign_extended_by n x) (n - 1))
 
--- the word turned right by n below 32: LSR(x, n) OR LSL(x, 32 - n), which have no bit in common
-abbrev pub turned : ℕ → ℕ → ℕ
-turned x n = x / 2 ^ n + x * 2 ^ (32 - n) % 2 ^ 32
+-- the word rotated right by n below 32: LSR(x, n) OR LSL(x, 32 - n), which have no bit in common
+abbrev pub rotated : ℕ → ℕ → ℕ
+rotated x n = x / 2 ^ n + x * 2 ^ (32 - n) % 2 ^ 32
 
--- ROR_C(x, n) for n from 1: the word turned by n MOD 32, and its bit 31
+-- ROR_C(x, n) for n from 1: the word rotated by n MOD 32, and its bit 31
 abbrev pub ror_c : ℕ → ℕ → ℕ × Bool
-ror_c x n = (turned x (n % 32), is_bit (turned x (n % 32)) 31)
+ror_c x n = (rotated x (n % 32), is_bit (rotated x (n % 32)) 31)
 
 -- RRX_C(x, c): the carry comes in at bit 31, and bit 0 goes out
 abbrev pub rrx_c : ℕ → Bool → ℕ × Bool
@@ -100,7 +100,7 @@ abbrev pub expand_pattern : ℕ → ℕ → Bool → Option (ℕ × Bool)
 expand_pattern pattern byte c =
     if byte == 0 && not (pattern == 0) then None else Some (replicated pattern byte, c)
 
--- ThumbExpandImm_C(imm12, c): a byte in a pattern, or 1 and the low seven bits turned right by the top five
+-- ThumbExpandImm_C(imm12, c): a byte in a pattern, or 1 and the low seven bits rotated right by the top five
 unfoldable pub expand_imm : ℕ → Bool → Option (ℕ × Bool)
 expand_imm imm12 c =
     if nat_lt imm12 (2 ^ 10)
@@ -123,7 +123,7 @@ base_condition base f =
     else if base == 6 then same f.negative f.overflow && not f.zero
     else true
 
--- ConditionHolds(cond): cond<0> turns the condition round, but in 1111, which always holds
+-- ConditionHolds(cond): where cond<0> is 1 the condition is inverted, except 1111, which always holds
 abbrev pub condition_holds : ℕ → Flags → Bool
 condition_holds condition f =
     if is_bit condition 0 && not (condition == 15)
@@ -132,24 +132,25 @@ condition_holds condition f =
 
 -- InITBlock()
 abbrev pub in_it_block : ℕ → Bool
-in_it_block it = not (it % 2 ^ 4 == 0)
+in_it_block it_state = not (it_state % 2 ^ 4 == 0)
 
 -- LastInITBlock()
 abbrev pub last_in_it_block : ℕ → Bool
-last_in_it_block it = it % 2 ^ 4 == 8
+last_in_it_block it_state = it_state % 2 ^ 4 == 8
 
--- CurrentCond() of an instruction that has none of its own: that of the IT block, or AL outside one
+-- CurrentCond() of an instruction that has none of its own: that of the IT block, or AL outside one. IT<3:0> = 0 with
+-- other bits is UNPREDICTABLE in CurrentCond(); AL here (profile)
 abbrev pub current_condition : ℕ → ℕ
-current_condition it = if in_it_block it then it / 2 ^ 4 else 14
+current_condition it_state = if in_it_block it_state then it_state / 2 ^ 4 else 14
 
 -- ConditionPassed() of such an instruction
 abbrev pub condition_passed : ℕ → Flags → Bool
-condition_passed it f = condition_holds (current_condition it) f
+condition_passed it_state f = condition_holds (current_condition it_state) f
 
 -- ITAdvance(): the low five bits move left by one, and after the last instruction of the block all are 0; outside a
 -- block nothing moves (profile)
 abbrev pub it_advance : ℕ → ℕ
-it_advance it =
-    if not (in_it_block it) then it
-    else if it % 2 ^ 3 == 0 then 0
-    else it / 2 ^ 5 * 2 ^ 5 + it * 2 % 2 ^ 5
+it_advance it_state =
+    if not (in_it_block it_state) then it_state
+    else if it_state % 2 ^ 3 == 0 then 0
+    else it_state / 2 ^ 5 * 2 ^ 5 + it_state * 2 % 2 ^ 5

@@ -64,7 +64,7 @@ begun o = o.condition % 2 ^ 4 * 2 ^ 4 + o.mask % 2 ^ 4
 -- IT: the block begins with the next instruction, so nothing is advanced
 abbrev pub if_then : InstructionLength → IfThen → Registers → Finished
 if_then length o r =
-    record { registers = record r { it = begun o; pc = word_sum r.pc (instruction_bytes length) }; ending = Next }
+    record { registers = record r { it_state = begun o; pc = word_sum r.pc (instruction_bytes length) }; ending = Next }
 
 -- ---- the family
 
@@ -78,7 +78,7 @@ branch_requests traps (branch.CompareAndBranch o) r = Ok []
 branch_requests traps (branch.Table o) r = transfer traps Load (is_privileged r) o.size (entry_address o r) 0
 branch_requests traps (branch.IfThen o) r = Ok []
 
--- what a branch of that many bytes does
+-- what a branch of this length does
 unfoldable pub branch_effect : InstructionLength → Branch → Registers → List ℕ → Finished
 branch_effect length (branch.Immediate o) r values = branches_by o.offset r
 branch_effect length (branch.Conditional o) r values = conditional_branch length o r

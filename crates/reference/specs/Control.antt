@@ -22,7 +22,8 @@ control_at word =
     else if word == 0xE000_ED0C then Some Aircr
     else None
 
--- ICSR.RETTOBASE: a handler runs, of exception x, and no other exception is active
+-- ICSR.RETTOBASE: a handler runs, of exception x, and no other exception is active; it is UNKNOWN in Thread mode, and 0
+-- here (profile)
 abbrev pub rettobase : Nvic → ℕ → Bool
 rettobase n x = not (x == 0) && not (is_other_active n x)
 
@@ -43,7 +44,8 @@ abbrev pub set_or_cleared : Nvic → ℕ → Bool → Bool → Nvic
 set_or_cleared n x set clear =
     if set then with_pending n x true else if clear then with_pending n x false else n
 
--- NMIPENDSET, PENDSVSET and PENDSVCLR, PENDSTSET and PENDSTCLR; a set bit and its clear bit together are UNPREDICTABLE
+-- a write to ICSR acts by NMIPENDSET, PENDSVSET and PENDSVCLR, PENDSTSET and PENDSTCLR; a set bit and its clear bit
+-- together are UNPREDICTABLE
 unfoldable pub write_icsr : Nvic → ℕ → Result Nvic Stop
 write_icsr n value =
     if (is_bit value 28 && is_bit value 27) || (is_bit value 26 && is_bit value 25)
@@ -56,8 +58,8 @@ write_icsr n value =
     PEND_SV (is_bit value 28) (is_bit value 27))
     SYS_TICK (is_bit value 26) (is_bit value 25))
 
--- AIRCR takes a value with the key 0x05FA in VECTKEY: PRIGROUP, or SYSRESETREQ, which ends the run (profile); VECTRESET
--- and VECTCLRACTIVE are left out (profile)
+-- a write to AIRCR is ignored unless VECTKEY is 0x05FA; then it sets PRIGROUP, or with SYSRESETREQ ends the run
+-- (profile); VECTRESET and VECTCLRACTIVE are left out (profile)
 unfoldable pub write_aircr : Nvic → ℕ → Result Nvic Stop
 write_aircr n value =
     if not (value / 2 ^ 16 == 0x05FA) then Ok n

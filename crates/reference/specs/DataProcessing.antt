@@ -1,6 +1,6 @@
 -- The instructions that compute (ARM DDI 0403, "Alphabetical list of ARMv7-M Thumb instructions"): which of them is a
 -- fault, and what each leaves. None makes an access.
-use Rattle.std.specs.Prelude.{ℕ, Bool, false, ◌&&◌, ◌==◌, if◌then◌else◌, List, [], Result, Ok, Err}
+use Rattle.std.specs.Prelude.{Bool, false, ◌&&◌, ◌==◌, if◌then◌else◌, List, [], Result, Ok, Err}
 use Rattle.reference.specs.declared.access.Request.{Request}
 use Rattle.reference.specs.declared.failure.Failure.{Failure}
 use Rattle.reference.specs.declared.failure.Failure.TheVariants.{Usage}
@@ -92,6 +92,6 @@ abbrev pub data_processing_requests : Traps → DataProcessing → Registers →
 data_processing_requests traps i r =
     if traps.divide_by_zero && divides_by_zero i r then Err (Usage DivideByZero) else Ok []
 
--- what an instruction of that many bytes does
+-- what an instruction of this length does
 abbrev pub data_processing_effect : InstructionLength → DataProcessing → Registers → Finished
 data_processing_effect length i r = if writes_pc i then branches (processed i r) else moves_on length (processed i r)

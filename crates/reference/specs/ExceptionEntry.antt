@@ -12,7 +12,7 @@ use Rattle.reference.specs.declared.event.Happening.TheVariants.{HandlerEntered}
 use Rattle.reference.specs.declared.exception.TheConstants.{HARD_FAULT}
 use Rattle.reference.specs.declared.failure.Failure.{Failure}
 use Rattle.reference.specs.declared.failure.Failure.TheVariants as failure
-use Rattle.reference.specs.Accesses.{Served, perform, perform_all, told, value_of}
+use Rattle.reference.specs.Accesses.{ListResult, perform, perform_all, access_lines, value_of}
 use Rattle.reference.specs.Faults.{recorded, vector_fault, pended_by_fault, locked_up, failed}
 use Rattle.reference.specs.Frames.{exc_return, frame, frame_base, with_frame, in_handler}
 use Rattle.reference.specs.LoadStore.{request}
@@ -39,7 +39,7 @@ entering s = record s { registers = with_frame s.registers; asleep = false; entr
 
 -- after a refused push no further word is pushed; its fault is raised, and the entry goes on, unless the machine stops
 -- (profile)
-abbrev pub stacked : State → Served → Option Failure → Stepped
+abbrev pub stacked : State → ListResult → Option Failure → Stepped
 stacked s all None = record { state = with_bus s all.bus; events = all.events }
 stacked s all (Some why) = failed (with_bus s all.bus) all.events why
 
@@ -89,10 +89,11 @@ unfoldable pub exception_taken : State → ℕ → ℕ → Stepped
 exception_taken s e x =
     let q = vector_read s x in
     let answer = perform s.registers.exception s.bus q in
-    vector_taken (with_bus s answer.bus) (told s.bus.system.time.ticks q answer.performed) x e
+    vector_taken (with_bus s answer.bus) (access_lines s.bus.system.time.ticks q answer.performed) x e
     (value_of q answer.performed)
 
--- the candidate of this moment is taken; without a candidate the step only ticks, and the entry stays open
+-- the candidate of this moment is taken; without a candidate (it has one in every state with `Invariant`) the step only
+-- ticks, and the entry stays open
 abbrev pub taken_if_any : State → ℕ → Option ℕ → Stepped
 taken_if_any s e None = record { state = s; events = [] }
 taken_if_any s e (Some x) = exception_taken s e x

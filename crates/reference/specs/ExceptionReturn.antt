@@ -1,6 +1,6 @@
--- Exception return (ARM DDI 0403, ExceptionReturn(), DeActivate() and PopStack(); where it stops by name, and that a
--- fault raised during a return starts an exception entry in the same step, without a push, is the profile's). Read this
--- file from its last function upward.
+-- Exception return (ARM DDI 0403, ExceptionReturn(), DeActivate() and PopStack(); where it stops the machine with a
+-- named stop, and that a fault raised during a return starts an exception entry in the same step, without a push, is
+-- the profile's). Read this file from its last function upward.
 use Rattle.std.specs.Prelude.{ℕ, Bool, true, false, not, ◌&&◌, ◌||◌, ◌==◌, if◌then◌else◌, List, [], ◌∷◌, ◌++◌, Option}
 use Rattle.std.specs.Prelude.{Some, None, replicate}
 use Rattle.reference.specs.declared.access.Kind.TheVariants.{Pop}
@@ -13,7 +13,7 @@ use Rattle.reference.specs.declared.failure.Failure.TheVariants.{Usage}
 use Rattle.reference.specs.declared.failure.UsageFault.TheVariants.{InvalidReturn}
 use Rattle.reference.specs.declared.stop.Stop.TheVariants.{Unpredictable}
 use Rattle.reference.specs.declared.stop.UnpredictableCase.TheVariants as unpredictable
-use Rattle.reference.specs.Accesses.{Served, perform_all}
+use Rattle.reference.specs.Accesses.{ListResult, perform_all}
 use Rattle.reference.specs.ExceptionEntry.{words_from}
 use Rattle.reference.specs.Faults.{failed}
 use Rattle.reference.specs.Frames.{returns_to_handler, returns_to_thread, has_reserved_ones, frame_pointer, popped_pc}
@@ -36,7 +36,8 @@ abbrev pub fits_mode : ℕ → List ℕ → Bool
 fits_mode e frame =
     if returns_to_handler e then not (popped_exception frame == 0) else popped_exception frame == 0
 
--- the frame was read: it's checked, and the registers come from it
+-- the frame was read: it's checked, and the registers come from it. INVPC comes before the stop at an odd return
+-- address; at either, SP and the frame stay (profile)
 unfoldable pub unstacked : State → List Event → ℕ → List ℕ → Stepped
 unstacked s events e frame =
     if not (fits_mode e frame) then failed (with_entry s e) events (Usage InvalidReturn)
@@ -44,7 +45,7 @@ unstacked s events e frame =
     else record { state = with_registers s (popped s.registers e frame); events = events }
 
 -- the frame was read, or a pop was refused
-abbrev pub frame_read : State → List Event → ℕ → Served → Option Failure → Stepped
+abbrev pub frame_read : State → List Event → ℕ → ListResult → Option Failure → Stepped
 frame_read s events e all None = unstacked (with_bus s all.bus) (events ++ all.events) e all.values
 frame_read s events e all (Some why) = failed (with_entry (with_bus s all.bus) e) (events ++ all.events) why
 
@@ -56,7 +57,7 @@ returns_privileged r e = returns_to_handler e || not r.unprivileged
 unfoldable pub pops : Registers → ℕ → List Request
 pops r e = words_from Pop (returns_privileged r e) (frame_pointer r e) (replicate 8 0)
 
--- a refused pop is a fault at the priority of this moment
+-- a refused pop is a fault at the execution priority after DeActivate()
 unfoldable pub pop_stack : State → List Event → ℕ → Stepped
 pop_stack s events e =
     let all = perform_all s.registers.exception s.bus.system.time.ticks s.bus (pops s.registers e) in
@@ -69,8 +70,7 @@ abbrev pub chained : State → List Event → ℕ → Option ℕ → Stepped
 chained s events e (Some x) = record { state = with_entry s e; events = events }
 chained s events e None = pop_stack s events e
 
--- after DeActivate(): a return that passed the check goes on; any other is UsageFault INVPC, at the priority of this
--- moment
+-- a return that passed the check goes on; any other is UsageFault INVPC, at the execution priority after DeActivate()
 abbrev pub returned : State → List Event → ℕ → Bool → Stepped
 returned s events e true = chained s events e (candidate s.bus.system.nvic)
 returned s events e false = failed (with_entry s e) events (Usage InvalidReturn)
@@ -81,7 +81,8 @@ exception_ended t x =
     let after = deactivated t x in
     if x == NMI then after else with_nvic after (with_faultmask after.nvic false)
 
--- the handler's exception is active; a return to Thread mode leaves no other one active, unless CCR.NONBASETHRDENA is 1
+-- the handler's exception is active; a return to Thread mode leaves no other one active, unless CCR.NONBASETHRDENA is
+-- 1, and EXC_RETURN<3:0> is 0001, 1001 or 1101
 abbrev pub is_allowed : State → ℕ → Bool
 is_allowed s e =
     is_in s.bus.system.nvic.active s.registers.exception

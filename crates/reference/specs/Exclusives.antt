@@ -19,7 +19,7 @@ use Rattle.reference.specs.declared.stop.LeftOut.TheVariants.{ExclusiveDevice}
 use Rattle.reference.specs.declared.stop.Stop.TheVariants.{OutOfProfile}
 use Rattle.reference.specs.Kinds.{bytes_in}
 use Rattle.reference.specs.LoadStore.{is_aligned, joined, request}
-use Rattle.reference.specs.Map.{is_device}
+use Rattle.reference.specs.Map.{has_side_effects}
 use Rattle.reference.specs.ProgramCounter.{Finished, moves_on}
 use Rattle.reference.specs.Registers.{Registers, register, with_register, is_privileged}
 use Rattle.reference.specs.Words.{word_sum}
@@ -31,7 +31,7 @@ abbrev pub is_marked_with : Option Marked → ℕ → Size → Bool
 is_marked_with None address size = false
 is_marked_with (Some m) address size = m.address == address && bytes_in m.size == bytes_in size
 
--- ExclusiveMonitorsPass(), but for what it asks of the address
+-- ExclusiveMonitorsPass() without its checks of alignment and permission
 abbrev pub is_marked : Registers → ℕ → Size → Bool
 is_marked r address size = is_marked_with r.monitor address size
 
@@ -53,14 +53,14 @@ exclusive_address base offset r = word_sum (register r base) offset
 unfoldable pub exclusive_access : Kind → Bool → Size → ℕ → ℕ → Result (List Request) Failure
 exclusive_access kind privileged size address value =
     if not (is_aligned size address) then Err (Usage Unaligned)
-    else if is_device address then Err (Stop (OutOfProfile ExclusiveDevice))
+    else if has_side_effects address then Err (Stop (OutOfProfile ExclusiveDevice))
     else Ok (request kind privileged size address value ∷ [])
 
 -- whether a store exclusive passes
 abbrev pub passes : StoreExclusive → Registers → Bool
 passes o r = is_marked r (exclusive_address o.base o.offset r) o.size
 
--- a store that passes stores R[t]; one that fails asks only whether it could
+-- a store that passes stores R[t]; one that fails makes a probe: decided as a store, it writes nothing
 abbrev pub store_requests : StoreExclusive → Registers → Result (List Request) Failure
 store_requests o r =
     if passes o r
@@ -81,7 +81,7 @@ exclusive_requests Clear r = Ok []
 abbrev pub store_status : Bool → ℕ
 store_status passed = if passed then 0 else 1
 
--- what it does with the value read
+-- what such an instruction does with the values read
 unfoldable pub exclusive_effect : InstructionLength → Exclusive → Registers → List ℕ → Finished
 exclusive_effect length (Load o) r values =
     moves_on length (with_register (with_mark r (exclusive_address o.base o.offset r) o.size) o.target (joined values))

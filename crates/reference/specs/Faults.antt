@@ -44,7 +44,8 @@ abbrev pub vector_fault : FaultEffect
 vector_fault = record { exception = HARD_FAULT; cfsr = 0; hfsr = VECTTBL; address = NotKept }
 
 -- the fault of a refused access at an address, by what it was for and what refused it. `Vector Mpu` and `Probe Bus`
--- never occur: the rule `vec` grants every read of a vector, and the bus isn't asked for a probe
+-- never occur: the rule `vec` grants every read of a vector, and the bus isn't asked for a probe. A refused fetch
+-- leaves MMARVALID and MMFAR as they were, and a bus error is always precise, PRECISERR (profile)
 abbrev pub access_fault : Kind → Cause → ℕ → FaultEffect
 access_fault Fetch Mpu address = mem_manage IACCVIOL NotKept
 access_fault Load Mpu address = mem_manage (DACCVIOL + MMARVALID) (Mmfar address)
@@ -120,7 +121,7 @@ escalated s events x Lockup = locked_up s events
 unfoldable pub faulted : State → List Event → FaultEffect → Stepped
 faulted s events f = escalated (recorded s f) events f.exception (escalation s.bus.system.nvic f.exception)
 
--- an access was refused or the instruction faults; or the machine stops by name
+-- an access was refused, the instruction faults, or it stops the machine with a named stop
 abbrev pub failed : State → List Event → Failure → Stepped
 failed s events (failure.Refused access cause) = faulted s events (fault_of access cause)
 failed s events (failure.Usage fault) = faulted s events (usage_fault_of fault)

@@ -1,7 +1,7 @@
 -- Saturation, bit fields, extension, and the bits of one register rearranged (ARM DDI 0403, "Alphabetical list of
 -- ARMv7-M Thumb instructions": SSAT, USAT, SBFX, UBFX, BFI, BFC, SXTB, SXTH, UXTB, UXTH, REV, REV16, REVSH, RBIT and
 -- CLZ, the operation of each; SatQ() and HighestSetBit()). Amounts that no row has (a field that ends above bit 31, a
--- range of more than 32 bits) get a value too, on which nothing rests.
+-- range of more than 32 bits) have a value too, on which nothing depends.
 use Rattle.std.specs.Prelude.{ℕ, zero, suc, ◌+◌, ◌-◌, ◌*◌, ◌/◌, ◌%◌, ◌^◌, Bool, false, not, ◌||◌, if◌then◌else◌, ℤ, pos}
 use Rattle.std.specs.Prelude.{neg_ℤ, int_lt}
 use Rattle.std.specs.Ordering.{int_eq}
@@ -45,7 +45,7 @@ saturated is_signed bits x =
     (low_bits 32 result, not (int_eq result (signed x)))
 
 -- SSAT and USAT of the word shifted, read as signed: Q is set where it is saturated, and stays set otherwise
-unfoldable pub saturate : Saturate → Registers → Registers
+abbrev pub saturate : Saturate → Registers → Registers
 saturate o r =
     let given = saturated o.signed o.bits (shifted o.source r).0 in
     record (with_register r o.destination given.0) {
@@ -59,7 +59,7 @@ abbrev pub extended : Bool → ℕ → ℕ → ℕ
 extended is_signed width x = if is_signed then sign_extended width (x % 2 ^ width) else x % 2 ^ width
 
 -- SBFX and UBFX: R[n]<low + width - 1:low>, extended
-unfoldable pub extract_field : ExtractField → Registers → Registers
+abbrev pub extract_field : ExtractField → Registers → Registers
 extract_field o r = with_register r o.destination (extended o.signed o.width (register r o.source / 2 ^ o.low))
 
 -- x with 0 for x<low + width - 1:low>
@@ -71,12 +71,12 @@ unfoldable pub inserted : ℕ → ℕ → ℕ → ℕ → ℕ
 inserted x y low width = (cleared x low width + y % 2 ^ width * 2 ^ low) % 2 ^ 32
 
 -- BFI
-unfoldable pub insert_field : InsertField → Registers → Registers
+abbrev pub insert_field : InsertField → Registers → Registers
 insert_field o r =
     with_register r o.destination (inserted (register r o.destination) (register r o.source) o.low o.width)
 
 -- BFC
-unfoldable pub clear_field : ClearField → Registers → Registers
+abbrev pub clear_field : ClearField → Registers → Registers
 clear_field o r = with_register r o.destination (cleared (register r o.destination) o.low o.width)
 
 -- ---- extension
@@ -92,7 +92,7 @@ abbrev pub ror : ℕ → ℕ → ℕ
 ror x n = (shift_c x Ror n false).0
 
 -- SXTB, SXTH, UXTB and UXTH: the low byte or halfword of ROR(R[m], rotation), extended
-unfoldable pub extend : Extend → Registers → Registers
+abbrev pub extend : Extend → Registers → Registers
 extend o r =
     with_register r o.destination (extended o.signed (width_of o.size) (ror (register r o.source) o.rotation))
 
@@ -129,5 +129,5 @@ rearranged ReverseBits x = reversed 32 x
 rearranged CountLeadingZeros x = count_leading_zero_bits x
 
 -- REV, REV16, REVSH, RBIT and CLZ
-unfoldable pub rearrange : Rearrange → Registers → Registers
+abbrev pub rearrange : Rearrange → Registers → Registers
 rearrange o r = with_register r o.destination (rearranged o.operation (register r o.source))

@@ -20,7 +20,7 @@ unfoldable pub handler_priority_at : ℕ → Option ℕ
 handler_priority_at word =
     if nat_le shpr_base word && nat_lt word (shpr_base + 12) then Some (MEM_MANAGE + (word - shpr_base)) else None
 
--- SHCSR
+-- SHCSR has no state of its own: it reads the sets of Nvic, so it is 0 after a reset (`reset_nvic` of Priorities)
 
 -- MEMFAULTACT, BUSFAULTACT, USGFAULTACT, SVCALLACT, PENDSVACT and SYSTICKACT
 unfoldable pub handlers_active : Nvic → ℕ

@@ -73,7 +73,7 @@ p_paddr file at = number_in file (at + 12) 4
 abbrev pub p_filesz : List ℕ → ℕ → ℕ
 p_filesz file at = number_in file (at + 16) 4
 
--- a program header is of a segment where it is to be loaded and has bytes
+-- a program header is a segment's if its type is PT_LOAD and it has bytes in the file
 abbrev pub is_segment : List ℕ → ℕ → Bool
 is_segment file at = (p_type file at == load_type) && not (p_filesz file at == 0)
 
@@ -133,7 +133,7 @@ abbrev pub without_overlap : Result (List Segment) LoadFault → Result (List Se
 without_overlap (Ok segments) = if have_overlap segments then Err SegmentOverlap else Ok segments
 without_overlap (Err fault) = Err fault
 
--- the program header table is looked at where there is one
+-- the segments of the table, or the first refusal
 abbrev pub table_of : List ℕ → Result (List Segment) LoadFault
 table_of file =
     if nat_lt most_program_headers (e_phnum file) then Err TooManySegments

@@ -42,7 +42,7 @@ is_shown n Ispr x = is_in n.pending x
 is_shown n Icpr x = is_in n.pending x
 is_shown n Iabr x = is_in n.active x
 
--- the low bits of a word whose bit 0 is exception x, as many as the last argument says
+-- bits 0 to k - 1 of the word whose bit 0 is for exception x; k is the last argument
 unfoldable pub shown_below : Nvic → InterruptRegister → ℕ → ℕ → ℕ
 shown_below n register x zero = 0
 shown_below n register x (suc bit) = shown_below n register x bit + weighed (is_shown n register (x + bit)) (2 ^ bit)
@@ -50,7 +50,8 @@ shown_below n register x (suc bit) = shown_below n register x bit + weighed (is_
 unfoldable pub read_interrupts : Nvic → InterruptRegister → ℕ → ℕ
 read_interrupts n register k = shown_below n register (first_exception k) 32
 
--- what a 1 at exception x does
+-- what a 1 at exception x does. After a 1 of ICPR a line that stays high is not pended again before a deactivation
+-- (profile)
 unfoldable pub with_one : Nvic → InterruptRegister → ℕ → Nvic
 with_one n Iser x = with_enabled n x true
 with_one n Icer x = with_enabled n x false
@@ -62,7 +63,7 @@ with_one n Iabr x = n
 unfoldable pub with_bit : Nvic → InterruptRegister → ℕ → ℕ → ℕ → Nvic
 with_bit n register x value bit = if is_bit value bit then with_one n register (x + bit) else n
 
--- what the lowest bits of a value do
+-- what bits 0 to k - 1 of a value do; k is the last argument
 unfoldable pub with_bits_below : Nvic → InterruptRegister → ℕ → ℕ → ℕ → Nvic
 with_bits_below n register x value zero = n
 with_bits_below n register x value (suc bit) = with_bit (with_bits_below n register x value bit) register x value bit

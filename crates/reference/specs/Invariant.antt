@@ -5,7 +5,7 @@ use Rattle.reference.specs.declared.exception.TheConstants.{EXCEPTIONS, MOST_LIN
 use Rattle.reference.specs.Boards.{Described, IsScript, IsScriptFrom, is_flash, is_line_count, is_region_count}
 use Rattle.reference.specs.Map.{ram_base}
 use Rattle.reference.specs.Memory.{Memory}
-use Rattle.reference.specs.Priorities.{Nvic, is_in, is_exception, is_switched, kept, candidate}
+use Rattle.reference.specs.Priorities.{Nvic, is_in, is_exception, can_be_disabled, kept, candidate}
 use Rattle.reference.specs.Regions.{IsSound}
 use Rattle.reference.specs.Registers.{Registers}
 use Rattle.reference.specs.State.{State}
@@ -45,28 +45,41 @@ pub record HasOnly (test : ℕ → Bool) (set : List Bool) : Type 0 where
 -- ones, and the board has no more lines than there can be
 pub record HasExceptionsOfBoard (n : Nvic) : Type 0 where
   pub pending : HasOnly (is_exception n.lines) n.pending
-  pub enabled : HasOnly (is_switched n.lines) n.enabled
+  pub enabled : HasOnly (can_be_disabled n.lines) n.enabled
   pub active : HasOnly (is_exception n.lines) n.active
   pub lines : n.lines ≤ MOST_LINES
 
--- the events that are still to come are a script of a board with these lines, later than the clock, and for each
--- line there is whether it is high
+-- the events that are still to come are a script of a board with these lines, later than the clock, and `high` has an
+-- element for each line
 pub record IsAhead (lines : ℕ) (t : Time) : Type 0 where
   pub script : IsScriptFrom lines (t.ticks + 1) t.script
-  pub levels : length t.high ≡ MOST_LINES
+  pub high : length t.high ≡ MOST_LINES
 
--- R0 to R12 are there, the two stack pointers are multiples of 4, the PC is even, IT has eight bits, and IPSR nine
+-- a word that is a multiple of 4
+pub record IsStackPointer (v : ℕ) : Type 0 where
+  pub word : v < 2 ^ 32
+  pub aligned : v % 4 ≡ 0
+
+-- a word that is even
+pub record IsCodeAddress (v : ℕ) : Type 0 where
+  pub word : v < 2 ^ 32
+  pub even : v % 2 ≡ 0
+
+-- R0 to R12 are there, they and LR are words, MSP, PSP and PC are words with their lowest bits 0, IT has eight bits,
+-- and IPSR nine
 pub record HasRegisters (r : Registers) : Type 0 where
   pub all : length r.general ≡ 13
-  pub msp : r.msp % 4 ≡ 0
-  pub psp : r.psp % 4 ≡ 0
-  pub pc : r.pc % 2 ≡ 0
-  pub it : r.it < 2 ^ 8
+  pub general : (n : ℕ) → slice_index r.general n < 2 ^ 32
+  pub msp : IsStackPointer r.msp
+  pub psp : IsStackPointer r.psp
+  pub lr : r.lr < 2 ^ 32
+  pub pc : IsCodeAddress r.pc
+  pub it_state : r.it_state < 2 ^ 8
   pub exception : r.exception < 2 ^ 9
 
 -- flash ends where RAM begins, or below
-abbrev pub AreApart : Memory → Type 0
-AreApart m = m.flash_base + length m.flash ≤ ram_base
+abbrev pub FlashEndsBelowRam : Memory → Type 0
+FlashEndsBelowRam m = m.flash_base + length m.flash ≤ ram_base
 
 -- ---- the invariant
 
@@ -85,7 +98,7 @@ pub record Invariant (s : State) : Type 0 where
   pub registers : HasRegisters s.registers
   -- an entry phase has a candidate, unless the machine has stopped
   pub entry : s.stop ≡ None → is_some s.entry ≡ true → is_some (candidate s.bus.system.nvic) ≡ true
-  pub memory : AreApart s.bus.memory
+  pub memory : FlashEndsBelowRam s.bus.memory
   pub system : SystemInvariant s.bus.system
 
 -- ---- the board that it needs

@@ -29,7 +29,7 @@ use Rattle.reference.specs.Arithmetic.{shift_c}
 use Rattle.reference.specs.TwoOperands.{aligned_pc}
 use Rattle.reference.specs.Fields.{extended, width_of}
 use Rattle.reference.specs.Kinds.{bytes_in}
-use Rattle.reference.specs.Map.{is_device}
+use Rattle.reference.specs.Map.{has_side_effects}
 use Rattle.reference.specs.Memory.{bytes_of}
 use Rattle.reference.specs.ProgramCounter.{Finished, moves_on, loads_into}
 use Rattle.reference.specs.Registers.{Registers, register, with_register, is_privileged}
@@ -86,9 +86,9 @@ byte_requests kind privileged address [] = []
 byte_requests kind privileged address (byte ∷ bytes) =
     request kind privileged Byte address byte ∷ byte_requests kind privileged (word_sum address 1) bytes
 
--- whether one of the accesses is where an access can have a side effect
+-- whether one of the accesses is to the device window or the Private Peripheral Bus
 abbrev pub meets_device : List Request → Bool
-meets_device requests = list_any (λ q. is_device q.access.address) requests
+meets_device requests = list_any (λ q. has_side_effects q.access.address) requests
 
 -- an unaligned access stops before any byte where one of them meets a device (profile)
 abbrev pub unaligned : List Request → Result (List Request) Failure
@@ -142,7 +142,7 @@ load_store_requests traps (StoreImmediate o) r =
 load_store_requests traps (StoreRegister o) r =
     transfer traps Store (is_privileged r) o.size (register_address o.address r) (register r o.target)
 
--- what it does with the values read
+-- what such an instruction does with the values read
 unfoldable pub load_store_effect : InstructionLength → LoadStore → Registers → List ℕ → Finished
 load_store_effect length (LoadImmediate o) r values =
     loads_into length o.target (loaded_value o.form values) (with_base o.address r)

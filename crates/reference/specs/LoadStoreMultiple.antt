@@ -44,7 +44,7 @@ abbrev pub lowest_address : ListOrder → ℕ → ℕ → ℕ
 lowest_address IncrementAfter list base = base
 lowest_address DecrementBefore list base = word_sum base (negated (bytes_of_list list))
 
--- where the base moves
+-- the base after the instruction
 abbrev pub moved_base : ListOrder → ℕ → ℕ → ℕ
 moved_base IncrementAfter list base = word_sum base (bytes_of_list list)
 moved_base DecrementBefore list base = word_sum base (negated (bytes_of_list list))
@@ -60,7 +60,7 @@ with_moved_base writes n order list r =
 abbrev pub written_word : Kind → ℕ → Registers → ℕ
 written_word kind n r = if is_store kind then register r n else 0
 
--- the access of its word
+-- the access for register n
 abbrev pub word_request : Kind → ℕ → ℕ → Registers → Request
 word_request kind address n r = request kind (is_privileged r) Word address (written_word kind n r)
 
@@ -69,7 +69,7 @@ unfoldable pub word_requests : Kind → ℕ → List ℕ → Registers → List 
 word_requests kind address [] r = []
 word_requests kind address (n ∷ ns) r = word_request kind address n r ∷ word_requests kind (word_sum address 4) ns r
 
--- their accesses: MemA[] of an address that isn't a multiple of 4 is UsageFault UNALIGNED, whatever
+-- the accesses of several registers: MemA[] of an address that isn't a multiple of 4 is UsageFault UNALIGNED, whatever
 -- CCR.UNALIGN_TRP is
 unfoldable pub several : Kind → List ℕ → ℕ → Registers → Result (List Request) Failure
 several kind registers address r =
@@ -89,7 +89,8 @@ unfoldable pub loaded : List ℕ → List ℕ → Registers → Registers
 loaded [] values r = r
 loaded (n ∷ ns) values r = loaded ns (drop 1 values) (with_register r n (slice_index values 0))
 
--- the base, then R0 to LR. The manual writes the base last; where the list has it, the row doesn't write it back
+-- the base is written back, then R0 to LR are loaded. The manual writes the base last: the same, since no row writes
+-- back a base in its list
 abbrev pub loaded_below_pc : LoadMultiple → List ℕ → Registers → Registers
 loaded_below_pc o values r =
     loaded (registers_below 15 o.list) values (with_moved_base o.write_back o.base o.order o.list r)
@@ -116,7 +117,7 @@ load_store_multiple_requests (family.LoadMultiple o) r =
 load_store_multiple_requests (family.StoreMultiple o) r =
     several Store (registers_of o.list) (lowest_address o.order o.list (register r o.base)) r
 
--- what it does with the values read
+-- what such an instruction does with the values read
 unfoldable pub load_store_multiple_effect : InstructionLength → LoadStoreMultiple → Registers → List ℕ → Finished
 load_store_multiple_effect length (family.LoadDual o) r values =
     moves_on length (loaded (o.first ∷ o.second ∷ []) values (with_base o.address r))

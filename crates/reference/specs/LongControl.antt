@@ -6,11 +6,11 @@ use Rattle.reference.specs.declared.instruction.Branch.TheVariants as branch
 use Rattle.reference.specs.declared.instruction.Decoded.{Decoded}
 use Rattle.reference.specs.declared.instruction.Decoded.TheVariants.{Unpredictable}
 use Rattle.reference.specs.declared.instruction.Exclusive.TheVariants as exclusive
-use Rattle.reference.specs.declared.instruction.Hint.{Hint as HintWord}
+use Rattle.reference.specs.declared.instruction.Hint.{Hint}
 use Rattle.reference.specs.declared.instruction.Hint.TheVariants as hint
 use Rattle.reference.specs.declared.instruction.Instruction.TheVariants.{Branch, Exclusive, System}
 use Rattle.reference.specs.declared.instruction.InstructionLength.TheVariants.{Long}
-use Rattle.reference.specs.declared.instruction.System.TheVariants.{MoveToSpecial, MoveFromSpecial, Hint}
+use Rattle.reference.specs.declared.instruction.System.TheVariants as system
 use Rattle.reference.specs.declared.operands.SpecialRegister.{SpecialRegister}
 use Rattle.reference.specs.declared.stop.UnpredictableCase.TheVariants as cause
 use Rattle.reference.specs.Patterns.{unspaced}
@@ -58,7 +58,7 @@ branch_wide_if_row condition offset =
 
 abbrev pub to_special : ℕ → Option SpecialRegister → Decoded
 to_special n None = Unpredictable place.Anywhere cause.SpecialRegister
-to_special n (Some register) = long (System (MoveToSpecial (record { special = register; source = n })))
+to_special n (Some register) = long (System (system.MoveToSpecial (record { special = register; source = n })))
 
 -- MSR: the mask is 10, since there are no GE flags to write
 unfoldable pub move_to_special_row : ℕ → ℕ → ℕ → Decoded
@@ -68,7 +68,7 @@ move_to_special_row n mask number =
 
 abbrev pub from_special : ℕ → Option SpecialRegister → Decoded
 from_special d None = Unpredictable place.Anywhere cause.SpecialRegister
-from_special d (Some register) = long (System (MoveFromSpecial (record { special = register; destination = d })))
+from_special d (Some register) = long (System (system.MoveFromSpecial (record { special = register; destination = d })))
 
 -- MRS
 unfoldable pub move_from_special_row : ℕ → ℕ → Decoded
@@ -76,7 +76,7 @@ move_from_special_row d number =
     unless (is_bad d) place.Anywhere cause.Registers (from_special d (special_of number))
 
 -- the hints of 32 bits by their number: DBG has the top sixteen
-unfoldable pub long_hint_of : ℕ → HintWord
+unfoldable pub long_hint_of : ℕ → Hint
 long_hint_of number = if nat_lt number 240 then hint_of number else hint.Debug
 
 -- ---- the rows
@@ -102,7 +102,7 @@ abbrev pub nop_t2 : Row
 nop_t2 = record {
   places = unspaced (codes "11110 0 1110 10 oooo 10 z 0 z 000 hhhhhhhh");
   except = [];
-  gives = λ f. long (System (Hint (long_hint_of f.h)));
+  gives = λ f. long (System (system.Hint (long_hint_of f.h)));
 }
 
 -- CLREX, encoding T1
@@ -118,7 +118,7 @@ abbrev pub dsb_t1 : Row
 dsb_t1 = record {
   places = unspaced (codes "11110 0 1110 11 oooo 10 z 0 oooo 0100 xxxx");
   except = [];
-  gives = λ f. long (System (Hint hint.Barrier));
+  gives = λ f. long (System (system.Hint hint.Barrier));
 }
 
 -- DMB, encoding T1
@@ -126,7 +126,7 @@ abbrev pub dmb_t1 : Row
 dmb_t1 = record {
   places = unspaced (codes "11110 0 1110 11 oooo 10 z 0 oooo 0101 xxxx");
   except = [];
-  gives = λ f. long (System (Hint hint.Barrier));
+  gives = λ f. long (System (system.Hint hint.Barrier));
 }
 
 -- ISB, encoding T1
@@ -134,7 +134,7 @@ abbrev pub isb_t1 : Row
 isb_t1 = record {
   places = unspaced (codes "11110 0 1110 11 oooo 10 z 0 oooo 0110 xxxx");
   except = [];
-  gives = λ f. long (System (Hint hint.Barrier));
+  gives = λ f. long (System (system.Hint hint.Barrier));
 }
 
 -- BL, encoding T1

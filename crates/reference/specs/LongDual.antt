@@ -9,13 +9,13 @@ use Rattle.reference.specs.declared.instruction.Decoded.{Decoded}
 use Rattle.reference.specs.declared.instruction.Exclusive.TheVariants as exclusive
 use Rattle.reference.specs.declared.instruction.Instruction.TheVariants.{Branch, Exclusive, LoadStoreMultiple}
 use Rattle.reference.specs.declared.instruction.InstructionLength.TheVariants.{Long}
-use Rattle.reference.specs.declared.instruction.LoadStoreMultiple.TheVariants.{LoadDual, LoadDualLiteral, StoreDual}
+use Rattle.reference.specs.declared.instruction.LoadStoreMultiple.TheVariants as multiple
 use Rattle.reference.specs.declared.operands.ImmediateAddress.{ImmediateAddress}
 use Rattle.reference.specs.declared.operands.Indexing.{Indexing}
-use Rattle.reference.specs.declared.operands.LoadDual.{LoadDual as DualLoad}
-use Rattle.reference.specs.declared.operands.LoadDualLiteral.{LoadDualLiteral as DualLiteral}
+use Rattle.reference.specs.declared.operands.LoadDual.{LoadDual}
+use Rattle.reference.specs.declared.operands.LoadDualLiteral.{LoadDualLiteral}
 use Rattle.reference.specs.declared.operands.LoadExclusive.{LoadExclusive}
-use Rattle.reference.specs.declared.operands.StoreDual.{StoreDual as DualStore}
+use Rattle.reference.specs.declared.operands.StoreDual.{StoreDual}
 use Rattle.reference.specs.declared.operands.StoreExclusive.{StoreExclusive}
 use Rattle.reference.specs.declared.stop.UnpredictableCase.TheVariants as cause
 use Rattle.reference.specs.LoadStore.{writes_back}
@@ -51,24 +51,24 @@ abbrev pub is_refused_pair : ℕ → ℕ → ℕ → Indexing → Bool
 is_refused_pair t u n indexing = is_bad t || (is_bad u || writes_back indexing && (n == t || n == u))
 
 -- LDRD: the two registers differ
-unfoldable pub load_dual_row : DualLoad → Decoded
+unfoldable pub load_dual_row : LoadDual → Decoded
 load_dual_row o =
     unless (is_refused_pair o.first o.second o.address.base o.address.indexing || o.first == o.second) place.Anywhere
     cause.Registers
-    (long (LoadStoreMultiple (LoadDual o)))
+    (long (LoadStoreMultiple (multiple.LoadDual o)))
 
--- LDRD at the PC, which isn't written
-unfoldable pub load_dual_literal_row : Bool → DualLiteral → Decoded
+-- LDRD (literal): W = 1 is UNPREDICTABLE
+unfoldable pub load_dual_literal_row : Bool → LoadDualLiteral → Decoded
 load_dual_literal_row write_back o =
     unless (is_bad o.first || (is_bad o.second || (o.first == o.second || write_back))) place.Anywhere cause.Registers
-    (long (LoadStoreMultiple (LoadDualLiteral o)))
+    (long (LoadStoreMultiple (multiple.LoadDualLiteral o)))
 
 -- STRD: PC isn't a base
-unfoldable pub store_dual_row : DualStore → Decoded
+unfoldable pub store_dual_row : StoreDual → Decoded
 store_dual_row o =
     unless (is_refused_pair o.first o.second o.address.base o.address.indexing || o.address.base == 15) place.Anywhere
     cause.Registers
-    (long (LoadStoreMultiple (StoreDual o)))
+    (long (LoadStoreMultiple (multiple.StoreDual o)))
 
 -- ---- the rows
 

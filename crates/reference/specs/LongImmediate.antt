@@ -55,7 +55,8 @@ is_refused_destination sp n d = d == 15 || d == 13 && not (sp && n == 13)
 
 -- ---- modified immediates
 
--- a modified immediate as an operand: the carry stays in the byte patterns, and otherwise is what came out last
+-- a modified immediate as an operand: in the byte patterns the carry flag stays; otherwise it is bit 31 of the rotated
+-- value
 abbrev pub operand_of : ℕ → Option (ℕ × Bool) → Option Immediate
 operand_of imm12 None = None
 operand_of imm12 (Some expanded) =

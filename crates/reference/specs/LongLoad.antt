@@ -9,11 +9,11 @@ use Rattle.reference.specs.declared.instruction.Decoded.{Decoded}
 use Rattle.reference.specs.declared.instruction.Hint.TheVariants as hint
 use Rattle.reference.specs.declared.instruction.Instruction.TheVariants.{LoadStore, System}
 use Rattle.reference.specs.declared.instruction.InstructionLength.TheVariants.{Long}
-use Rattle.reference.specs.declared.instruction.LoadStore.TheVariants.{LoadImmediate, LoadRegister, LoadLiteral}
+use Rattle.reference.specs.declared.instruction.LoadStore.TheVariants as load_store
 use Rattle.reference.specs.declared.instruction.System.TheVariants.{Hint}
 use Rattle.reference.specs.declared.operands.ImmediateAddress.{ImmediateAddress}
 use Rattle.reference.specs.declared.operands.LoadForm.{LoadForm}
-use Rattle.reference.specs.declared.operands.LoadRegister.{LoadRegister as IndexedLoad}
+use Rattle.reference.specs.declared.operands.LoadRegister.{LoadRegister}
 use Rattle.reference.specs.declared.stop.UnpredictableCase.TheVariants as cause
 use Rattle.reference.specs.Kinds.{is_word}
 use Rattle.reference.specs.LoadStore.{writes_back}
@@ -42,7 +42,7 @@ unfoldable pub load_literal_row : LoadForm → ℕ → ℕ → Decoded
 load_literal_row form t offset =
     unless (is_refused_load form.size t) (place_of_load form.size t) cause.Registers
     (placed Long (place_of_load form.size t)
-    (LoadStore (LoadLiteral (record { form = form; target = t; offset = offset }))))
+    (LoadStore (load_store.LoadLiteral (record { form = form; target = t; offset = offset }))))
 
 -- a load at a register and an offset: a base that is written isn't the target
 unfoldable pub load_at_row : LoadForm → ℕ → ImmediateAddress → Decoded
@@ -50,26 +50,28 @@ load_at_row form t address =
     unless (is_refused_load form.size t || writes_back address.indexing && address.base == t)
     (place_of_load form.size t) cause.Registers
     (placed Long (place_of_load form.size t)
-    (LoadStore (LoadImmediate (record { form = form; target = t; address = address; unprivileged = false }))))
+    (LoadStore (load_store.LoadImmediate
+    (record { form = form; target = t; address = address; unprivileged = false }))))
 
 -- LDRT and its forms, which refuse SP and PC
 unfoldable pub load_unprivileged_row : LoadForm → ℕ → ImmediateAddress → Decoded
 load_unprivileged_row form t address =
     unless (is_bad t) place.Anywhere cause.Registers
-    (long (LoadStore (LoadImmediate (record { form = form; target = t; address = address; unprivileged = true }))))
+    (long (LoadStore (load_store.LoadImmediate
+    (record { form = form; target = t; address = address; unprivileged = true }))))
 
--- a load at two registers
-unfoldable pub load_indexed_row : IndexedLoad → Decoded
+-- a load at the sum of two registers
+unfoldable pub load_indexed_row : LoadRegister → Decoded
 load_indexed_row o =
     unless (is_bad o.address.index || is_refused_load o.form.size o.target) (place_of_load o.form.size o.target)
     cause.Registers
-    (placed Long (place_of_load o.form.size o.target) (LoadStore (LoadRegister o)))
+    (placed Long (place_of_load o.form.size o.target) (LoadStore (load_store.LoadRegister o)))
 
 -- PLD and PLI, where a byte would be loaded to PC; where a halfword would be, the hint is unallocated
 unfoldable pub memory_hint_row : ℕ → Decoded
 memory_hint_row half = long (System (Hint (if half == 1 then hint.Unallocated else hint.Preload)))
 
--- the same at two registers
+-- the same at the sum of two registers
 unfoldable pub memory_hint_indexed_row : ℕ → ℕ → Decoded
 memory_hint_indexed_row half m = unless (is_bad m) place.Anywhere cause.Registers (memory_hint_row half)
 

@@ -5,10 +5,10 @@ use Rattle.reference.specs.declared.instruction.BlockPlace.TheVariants as place
 use Rattle.reference.specs.declared.instruction.Decoded.{Decoded}
 use Rattle.reference.specs.declared.instruction.Instruction.TheVariants.{LoadStoreMultiple}
 use Rattle.reference.specs.declared.instruction.InstructionLength.TheVariants.{Long}
-use Rattle.reference.specs.declared.instruction.LoadStoreMultiple.TheVariants.{LoadMultiple, StoreMultiple}
+use Rattle.reference.specs.declared.instruction.LoadStoreMultiple.TheVariants as multiple
 use Rattle.reference.specs.declared.operands.ListOrder.TheVariants.{IncrementAfter, DecrementBefore}
-use Rattle.reference.specs.declared.operands.LoadMultiple.{LoadMultiple as ListLoad}
-use Rattle.reference.specs.declared.operands.StoreMultiple.{StoreMultiple as ListStore}
+use Rattle.reference.specs.declared.operands.LoadMultiple.{LoadMultiple}
+use Rattle.reference.specs.declared.operands.StoreMultiple.{StoreMultiple}
 use Rattle.reference.specs.declared.stop.UnpredictableCase.TheVariants as cause
 use Rattle.reference.specs.Patterns.{unspaced}
 use Rattle.reference.specs.Rows.{Row, long, placed, last_only_if, unless}
@@ -19,19 +19,19 @@ abbrev pub has_few : ℕ → Bool
 has_few list = nat_lt (count_ones list) 2
 
 -- STM and STMDB: PC isn't a base, and a base that is stored isn't written back
-unfoldable pub store_list_wide_row : ListStore → Decoded
+unfoldable pub store_list_wide_row : StoreMultiple → Decoded
 store_list_wide_row o =
-    unless (has_few o.list) place.Anywhere cause.EmptyList
+    unless (has_few o.list) place.Anywhere cause.ShortList
     (unless (o.base == 15 || o.write_back && is_bit o.list o.base) place.Anywhere cause.Registers
-    (long (LoadStoreMultiple (StoreMultiple o))))
+    (long (LoadStoreMultiple (multiple.StoreMultiple o))))
 
 -- LDM and LDMDB: PC isn't a base, LR and PC aren't both loaded, and a base that is loaded isn't written back
-unfoldable pub load_list_wide_row : ListLoad → Decoded
+unfoldable pub load_list_wide_row : LoadMultiple → Decoded
 load_list_wide_row o =
-    unless (has_few o.list) (last_only_if (is_bit o.list 15)) cause.EmptyList
+    unless (has_few o.list) (last_only_if (is_bit o.list 15)) cause.ShortList
     (unless (o.base == 15 || (is_bit o.list 15 && is_bit o.list 14 || o.write_back && is_bit o.list o.base))
     (last_only_if (is_bit o.list 15)) cause.Registers
-    (placed Long (last_only_if (is_bit o.list 15)) (LoadStoreMultiple (LoadMultiple o))))
+    (placed Long (last_only_if (is_bit o.list 15)) (LoadStoreMultiple (multiple.LoadMultiple o))))
 
 -- ---- the rows
 

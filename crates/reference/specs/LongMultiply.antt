@@ -2,17 +2,16 @@
 -- accumulate, and divide", and the coprocessors' (ARM DDI 0403, "32-bit Thumb instruction encoding").
 use Rattle.std.specs.Prelude.{ℕ, ◌||◌, ◌==◌, List, [], ◌∷◌, codes}
 use Rattle.reference.specs.declared.instruction.BlockPlace.TheVariants as place
-use Rattle.reference.specs.declared.instruction.DataProcessing.TheVariants.{Multiply, MultiplyAccumulate, MultiplyLong}
-use Rattle.reference.specs.declared.instruction.DataProcessing.TheVariants.{Divide}
+use Rattle.reference.specs.declared.instruction.DataProcessing.TheVariants as processing
 use Rattle.reference.specs.declared.instruction.Decoded.{Decoded}
 use Rattle.reference.specs.declared.instruction.Decoded.TheVariants.{NoCoprocessor}
 use Rattle.reference.specs.declared.instruction.Instruction.TheVariants.{DataProcessing}
 use Rattle.reference.specs.declared.operands.Accumulation.{Accumulation}
 use Rattle.reference.specs.declared.operands.Accumulation.TheVariants as sum
-use Rattle.reference.specs.declared.operands.Divide.{Divide as Division}
+use Rattle.reference.specs.declared.operands.Divide.{Divide}
 use Rattle.reference.specs.declared.operands.FlagSetting.TheVariants as flags
-use Rattle.reference.specs.declared.operands.MultiplyAccumulate.{MultiplyAccumulate as ProductSum}
-use Rattle.reference.specs.declared.operands.MultiplyLong.{MultiplyLong as LongProduct}
+use Rattle.reference.specs.declared.operands.MultiplyAccumulate.{MultiplyAccumulate}
+use Rattle.reference.specs.declared.operands.MultiplyLong.{MultiplyLong}
 use Rattle.reference.specs.declared.stop.UnpredictableCase.TheVariants as cause
 use Rattle.reference.specs.Patterns.{unspaced}
 use Rattle.reference.specs.Rows.{Letters, Row, long, unless, is_bad}
@@ -21,30 +20,31 @@ use Rattle.reference.specs.Rows.{Letters, Row, long, unless, is_bad}
 unfoldable pub multiply_wide_row : ℕ → ℕ → ℕ → Decoded
 multiply_wide_row n d m =
     unless (is_bad n || (is_bad d || is_bad m)) place.Anywhere cause.Registers
-    (long (DataProcessing (Multiply (record { flags = flags.Never; destination = d; first = n; second = m }))))
+    (long (DataProcessing (processing.Multiply
+    (record { flags = flags.Never; destination = d; first = n; second = m }))))
 
 -- the operands of MLA and MLS
-abbrev pub product_sum : Accumulation → Letters → ProductSum
+abbrev pub product_sum : Accumulation → Letters → MultiplyAccumulate
 product_sum operation f = record { operation = operation; destination = f.d; first = f.n; second = f.m; addend = f.a }
 
 -- MLA and MLS
-unfoldable pub multiply_accumulate_row : ProductSum → Decoded
+unfoldable pub multiply_accumulate_row : MultiplyAccumulate → Decoded
 multiply_accumulate_row o =
     unless (is_bad o.first || (is_bad o.addend || (is_bad o.destination || is_bad o.second))) place.Anywhere
     cause.Registers
-    (long (DataProcessing (MultiplyAccumulate o)))
+    (long (DataProcessing (processing.MultiplyAccumulate o)))
 
 -- SMULL, UMULL, SMLAL and UMLAL: the two destinations differ
-unfoldable pub multiply_long_row : LongProduct → Decoded
+unfoldable pub multiply_long_row : MultiplyLong → Decoded
 multiply_long_row o =
     unless (is_bad o.first || (is_bad o.low || (is_bad o.high || (is_bad o.second || o.low == o.high)))) place.Anywhere
-    cause.Registers (long (DataProcessing (MultiplyLong o)))
+    cause.Registers (long (DataProcessing (processing.MultiplyLong o)))
 
 -- SDIV and UDIV
-unfoldable pub divide_row : Division → Decoded
+unfoldable pub divide_row : Divide → Decoded
 divide_row o =
     unless (is_bad o.dividend || (is_bad o.destination || is_bad o.divisor)) place.Anywhere cause.Registers
-    (long (DataProcessing (Divide o)))
+    (long (DataProcessing (processing.Divide o)))
 
 -- ---- the rows
 
@@ -95,7 +95,8 @@ sdiv_t1 = record {
   gives = λ f. divide_row (record { signed = f.u == 0; destination = f.d; dividend = f.n; divisor = f.m });
 }
 
--- The instructions of coprocessors: all of 111x11.. is NOCP. For 111x1111 the manual is unclear (docs/QEMU.md)
+-- The instructions of coprocessors: every first halfword 111x11.. is NOCP (profile). For 111x1111 the manual is unclear
+-- (docs/QEMU.md)
 abbrev pub coprocessor : Row
 coprocessor = record {
   places = unspaced (codes "111 x 11 xx xxxxxxxx xxxxxxxxxxxxxxxx");

@@ -2,17 +2,15 @@
 -- encoding").
 use Rattle.std.specs.Prelude.{ℕ, ◌+◌, ◌-◌, ◌*◌, ◌^◌, nat_lt, true, false, ◌||◌, List, [], ◌∷◌, codes}
 use Rattle.reference.specs.declared.instruction.BlockPlace.TheVariants as place
-use Rattle.reference.specs.declared.instruction.DataProcessing.TheVariants.{DataImmediate, MoveImmediate, MoveTop}
-use Rattle.reference.specs.declared.instruction.DataProcessing.TheVariants.{Address, Saturate, ExtractField}
-use Rattle.reference.specs.declared.instruction.DataProcessing.TheVariants.{InsertField, ClearField}
+use Rattle.reference.specs.declared.instruction.DataProcessing.TheVariants as processing
 use Rattle.reference.specs.declared.instruction.Decoded.{Decoded}
 use Rattle.reference.specs.declared.instruction.Instruction.TheVariants.{DataProcessing}
 use Rattle.reference.specs.declared.operands.DataOperation.{DataOperation}
 use Rattle.reference.specs.declared.operands.DataOperation.TheVariants.{Add, Subtract}
-use Rattle.reference.specs.declared.operands.ExtractField.{ExtractField as FieldRead}
+use Rattle.reference.specs.declared.operands.ExtractField.{ExtractField}
 use Rattle.reference.specs.declared.operands.FlagSetting.TheVariants as flags
 use Rattle.reference.specs.declared.operands.MoveOperation.TheVariants.{Move}
-use Rattle.reference.specs.declared.operands.Saturate.{Saturate as Saturation}
+use Rattle.reference.specs.declared.operands.Saturate.{Saturate}
 use Rattle.reference.specs.declared.stop.UnpredictableCase.TheVariants as cause
 use Rattle.reference.specs.LongImmediate.{is_refused_destination}
 use Rattle.reference.specs.Patterns.{unspaced}
@@ -24,7 +22,7 @@ use Rattle.reference.specs.Words.{negated}
 unfoldable pub add_wide_row : DataOperation → ℕ → ℕ → ℕ → Decoded
 add_wide_row operation n d imm12 =
     unless (is_refused_destination true n d) place.Anywhere cause.Registers
-    (long (DataProcessing (DataImmediate (record {
+    (long (DataProcessing (processing.DataImmediate (record {
       operation = operation;
       flags = flags.Never;
       destination = d;
@@ -36,9 +34,9 @@ add_wide_row operation n d imm12 =
 unfoldable pub address_wide_row : ℕ → ℕ → Decoded
 address_wide_row d offset =
     unless (is_bad d) place.Anywhere cause.Registers
-    (long (DataProcessing (Address (record { destination = d; offset = offset }))))
+    (long (DataProcessing (processing.Address (record { destination = d; offset = offset }))))
 
--- imm4:i:imm3:imm8, a halfword of which the top four bits are apart
+-- imm16 = imm4:i:imm3:imm8
 unfoldable pub halfword : ℕ → ℕ → ℕ
 halfword top imm12 = top * 2 ^ 12 + imm12
 
@@ -46,40 +44,42 @@ halfword top imm12 = top * 2 ^ 12 + imm12
 unfoldable pub move_wide_row : ℕ → ℕ → Decoded
 move_wide_row d imm16 =
     unless (is_bad d) place.Anywhere cause.Registers
-    (long (DataProcessing (MoveImmediate
+    (long (DataProcessing (processing.MoveImmediate
     (record { operation = Move; flags = flags.Never; destination = d; source = number imm16 }))))
 
 -- MOVT
 unfoldable pub move_top_row : ℕ → ℕ → Decoded
 move_top_row d imm16 =
     unless (is_bad d) place.Anywhere cause.Registers
-    (long (DataProcessing (MoveTop (record { destination = d; value = imm16 }))))
+    (long (DataProcessing (processing.MoveTop (record { destination = d; value = imm16 }))))
 
 -- SSAT and USAT
-unfoldable pub saturate_row : Saturation → Decoded
+unfoldable pub saturate_row : Saturate → Decoded
 saturate_row o =
     unless (is_bad o.destination || is_bad o.source.register) place.Anywhere cause.Registers
-    (long (DataProcessing (Saturate o)))
+    (long (DataProcessing (processing.Saturate o)))
 
 -- SBFX and UBFX: the field ends at most at bit 31
-unfoldable pub extract_field_row : FieldRead → Decoded
+unfoldable pub extract_field_row : ExtractField → Decoded
 extract_field_row o =
     unless (is_bad o.destination || is_bad o.source) place.Anywhere cause.Registers
-    (unless (nat_lt 32 (o.low + o.width)) place.Anywhere cause.BitField (long (DataProcessing (ExtractField o))))
+    (unless (nat_lt 32 (o.low + o.width)) place.Anywhere cause.BitField
+    (long (DataProcessing (processing.ExtractField o))))
 
 -- BFI: the field's last bit isn't below its first
 unfoldable pub insert_field_row : ℕ → ℕ → ℕ → ℕ → Decoded
 insert_field_row n d low high =
     unless (is_bad d || is_bad n) place.Anywhere cause.Registers
     (unless (nat_lt high low) place.Anywhere cause.BitField
-    (long (DataProcessing (InsertField (record { destination = d; source = n; low = low; width = high + 1 - low })))))
+    (long (DataProcessing (processing.InsertField
+    (record { destination = d; source = n; low = low; width = high + 1 - low })))))
 
 -- BFC
 unfoldable pub clear_field_row : ℕ → ℕ → ℕ → Decoded
 clear_field_row d low high =
     unless (is_bad d) place.Anywhere cause.Registers
     (unless (nat_lt high low) place.Anywhere cause.BitField
-    (long (DataProcessing (ClearField (record { destination = d; low = low; width = high + 1 - low })))))
+    (long (DataProcessing (processing.ClearField (record { destination = d; low = low; width = high + 1 - low })))))
 
 -- ---- the rows
 

@@ -4,15 +4,15 @@ use Rattle.std.specs.Prelude.{ℕ, ◌*◌, not, ◌||◌, ◌==◌, if◌then�
 use Rattle.reference.specs.declared.access.Size.{Size}
 use Rattle.reference.specs.declared.access.Size.TheVariants.{Byte, Halfword}
 use Rattle.reference.specs.declared.instruction.BlockPlace.TheVariants as place
-use Rattle.reference.specs.declared.instruction.DataProcessing.TheVariants.{ShiftByRegister, Extend, Rearrange}
+use Rattle.reference.specs.declared.instruction.DataProcessing.TheVariants as processing
 use Rattle.reference.specs.declared.instruction.Decoded.{Decoded}
 use Rattle.reference.specs.declared.instruction.Instruction.TheVariants.{DataProcessing}
-use Rattle.reference.specs.declared.operands.Extend.{Extend as Extension}
+use Rattle.reference.specs.declared.operands.Extend.{Extend}
 use Rattle.reference.specs.declared.operands.Rearrangement.{Rearrangement}
 use Rattle.reference.specs.declared.operands.Rearrangement.TheVariants.{ReverseWord, ReverseHalfwords}
 use Rattle.reference.specs.declared.operands.Rearrangement.TheVariants.{ReverseSignedHalfword, ReverseBits}
 use Rattle.reference.specs.declared.operands.Rearrangement.TheVariants.{CountLeadingZeros}
-use Rattle.reference.specs.declared.operands.ShiftByRegister.{ShiftByRegister as RegisterShift}
+use Rattle.reference.specs.declared.operands.ShiftByRegister.{ShiftByRegister}
 use Rattle.reference.specs.declared.shift.ShiftType.{ShiftType}
 use Rattle.reference.specs.declared.shift.ShiftType.TheVariants.{Lsl, Lsr, Asr, Ror}
 use Rattle.reference.specs.declared.stop.UnpredictableCase.TheVariants as cause
@@ -25,25 +25,26 @@ abbrev pub shift_type_of : ℕ → ShiftType
 shift_type_of bits = if bits == 0 then Lsl else if bits == 1 then Lsr else if bits == 2 then Asr else Ror
 
 -- a shift by a register
-unfoldable pub shift_by_register_row : RegisterShift → Decoded
+unfoldable pub shift_by_register_row : ShiftByRegister → Decoded
 shift_by_register_row o =
     unless (is_bad o.source || (is_bad o.destination || is_bad o.amount)) place.Anywhere cause.Registers
-    (long (DataProcessing (ShiftByRegister o)))
+    (long (DataProcessing (processing.ShiftByRegister o)))
 
 -- halfword, or byte where the bit is 1
 abbrev pub extended_size : ℕ → Size
 extended_size bit = if bit == 1 then Byte else Halfword
 
 -- SXTB, SXTH, UXTB and UXTH, after a rotation
-unfoldable pub extend_wide_row : Extension → Decoded
+unfoldable pub extend_wide_row : Extend → Decoded
 extend_wide_row o =
-    unless (is_bad o.destination || is_bad o.source) place.Anywhere cause.Registers (long (DataProcessing (Extend o)))
+    unless (is_bad o.destination || is_bad o.source) place.Anywhere cause.Registers
+    (long (DataProcessing (processing.Extend o)))
 
 -- REV, REV16, RBIT, REVSH and CLZ, in which the source is encoded twice
 unfoldable pub rearrange_wide_row : Rearrangement → ℕ → ℕ → ℕ → Decoded
 rearrange_wide_row operation again d m =
     unless (is_bad d || (is_bad m || not (again == m))) place.Anywhere cause.Registers
-    (long (DataProcessing (Rearrange (record { operation = operation; destination = d; source = m }))))
+    (long (DataProcessing (processing.Rearrange (record { operation = operation; destination = d; source = m }))))
 
 -- ---- the rows
 

@@ -55,7 +55,7 @@ compare_shifted_row operation n second =
     unless (is_bad second.register || is_refused_first (compares_sp operation) n) place.Anywhere cause.Registers
     (long (DataProcessing (CompareRegister (record { operation = operation; first = n; second = second }))))
 
--- whether a MOV refuses its registers: without flags and shift it takes and writes SP, but not SP to SP
+-- whether a MOV refuses its registers: without S and without a shift MOV may read SP or write SP, but not both
 abbrev pub is_refused_move : Bool → ℕ → ShiftedRegister → Bool
 is_refused_move s d source =
     if not s && is_lsl_below source.shift 1

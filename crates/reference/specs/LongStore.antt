@@ -6,9 +6,9 @@ use Rattle.reference.specs.declared.access.Size.TheVariants.{Byte, Halfword, Wor
 use Rattle.reference.specs.declared.instruction.BlockPlace.TheVariants as place
 use Rattle.reference.specs.declared.instruction.Decoded.{Decoded}
 use Rattle.reference.specs.declared.instruction.Instruction.TheVariants.{LoadStore}
-use Rattle.reference.specs.declared.instruction.LoadStore.TheVariants.{StoreImmediate, StoreRegister}
+use Rattle.reference.specs.declared.instruction.LoadStore.TheVariants as load_store
 use Rattle.reference.specs.declared.operands.ImmediateAddress.{ImmediateAddress}
-use Rattle.reference.specs.declared.operands.StoreRegister.{StoreRegister as IndexedStore}
+use Rattle.reference.specs.declared.operands.StoreRegister.{StoreRegister}
 use Rattle.reference.specs.declared.stop.UnpredictableCase.TheVariants as cause
 use Rattle.reference.specs.Kinds.{is_word}
 use Rattle.reference.specs.LoadStore.{writes_back}
@@ -20,7 +20,7 @@ use Rattle.reference.specs.Rows.{Row, long, unless, is_bad}
 abbrev pub size_of : ℕ → Size
 size_of ss = if ss == 0 then Byte else if ss == 1 then Halfword else Word
 
--- whether a store refuses its target: PC always, and SP but as a word
+-- whether a store refuses its target: PC always, and SP unless a word is stored
 abbrev pub is_refused_store : Size → ℕ → Bool
 is_refused_store size t = t == 15 || t == 13 && not (is_word size)
 
@@ -28,19 +28,21 @@ is_refused_store size t = t == 15 || t == 13 && not (is_word size)
 unfoldable pub store_at_row : Size → ℕ → ImmediateAddress → Decoded
 store_at_row size t address =
     unless (is_refused_store size t || writes_back address.indexing && address.base == t) place.Anywhere cause.Registers
-    (long (LoadStore (StoreImmediate (record { size = size; target = t; address = address; unprivileged = false }))))
+    (long (LoadStore (load_store.StoreImmediate
+    (record { size = size; target = t; address = address; unprivileged = false }))))
 
 -- STRT and its forms, which refuse SP and PC
 unfoldable pub store_unprivileged_row : Size → ℕ → ImmediateAddress → Decoded
 store_unprivileged_row size t address =
     unless (is_bad t) place.Anywhere cause.Registers
-    (long (LoadStore (StoreImmediate (record { size = size; target = t; address = address; unprivileged = true }))))
+    (long (LoadStore (load_store.StoreImmediate
+    (record { size = size; target = t; address = address; unprivileged = true }))))
 
--- a store at two registers
-unfoldable pub store_indexed_row : IndexedStore → Decoded
+-- a store at the sum of two registers
+unfoldable pub store_indexed_row : StoreRegister → Decoded
 store_indexed_row o =
     unless (is_bad o.address.index || is_refused_store o.size o.target) place.Anywhere cause.Registers
-    (long (LoadStore (StoreRegister o)))
+    (long (LoadStore (load_store.StoreRegister o)))
 
 -- ---- the rows
 

@@ -6,10 +6,7 @@ use Rattle.std.specs.Prelude.{ℕ, ◌/◌, ◌^◌, Bool, ◌||◌, ◌==◌}
 abbrev pub ram_base : ℕ
 ram_base = 0x2000_0000
 
--- the device window: 4,096 bytes
-abbrev pub window_base : ℕ
-window_base = 0x4000_0000
-
+-- the device window: 0x40000000 to 0x40000FFF
 abbrev pub is_in_window : ℕ → Bool
 is_in_window a = a / 2 ^ 12 == 0x4_0000
 
@@ -21,7 +18,7 @@ out_register = 0x4000_0000
 abbrev pub tick_register : ℕ
 tick_register = 0x4000_0004
 
--- the system address space, where no code can be, begins here
+-- the System region, from which nothing is fetched, begins here
 abbrev pub system_base : ℕ
 system_base = 0xE000_0000
 
@@ -30,5 +27,5 @@ abbrev pub is_in_ppb : ℕ → Bool
 is_in_ppb a = a / 2 ^ 20 == 0xE00
 
 -- where an access can have a side effect: the device window and the Private Peripheral Bus
-abbrev pub is_device : ℕ → Bool
-is_device a = is_in_window a || is_in_ppb a
+abbrev pub has_side_effects : ℕ → Bool
+has_side_effects a = is_in_window a || is_in_ppb a

@@ -1,6 +1,6 @@
 -- What an instruction asks for, and what it makes of the answers (ARM DDI 0403, "Alphabetical list of ARMv7-M Thumb
--- instructions"). The chapter of its family has both; this one says in which order its place in an IT block, its
--- condition and its family are asked.
+-- instructions"). The chapter of its family has both; this one fixes the order: the place in an IT block, then
+-- the condition, then the family.
 use Rattle.std.specs.Prelude.{ℕ, Bool, false, not, ◌&&◌, ◌||◌, if◌then◌else◌, List, [], Result, Ok, Err}
 use Rattle.reference.specs.declared.access.Request.{Request}
 use Rattle.reference.specs.declared.failure.Failure.{Failure}
@@ -29,9 +29,9 @@ use Rattle.reference.specs.SystemInstructions.{has_no_condition, system_effect}
 
 -- whether an instruction isn't allowed at its place in an IT block
 abbrev pub is_misplaced : BlockPlace → ℕ → Bool
-is_misplaced Anywhere it = false
-is_misplaced LastOnly it = in_it_block it && not (last_in_it_block it)
-is_misplaced Never it = in_it_block it
+is_misplaced Anywhere it_state = false
+is_misplaced LastOnly it_state = in_it_block it_state && not (last_in_it_block it_state)
+is_misplaced Never it_state = in_it_block it_state
 
 -- whether it is carried out whatever the condition is
 abbrev pub is_unconditional : Instruction → Bool
@@ -44,7 +44,7 @@ is_unconditional (System i) = has_no_condition i
 
 -- whether it is carried out: ConditionPassed(), or it has no condition
 abbrev pub is_carried_out : Instruction → Registers → Bool
-is_carried_out i r = is_unconditional i || condition_passed r.it r.flags
+is_carried_out i r = is_unconditional i || condition_passed r.it_state r.flags
 
 -- ---- what an instruction asks for
 
@@ -57,18 +57,18 @@ requests_of traps (Exclusive i) r = exclusive_requests i r
 requests_of traps (Branch i) r = branch_requests traps i r
 requests_of traps (System i) r = Ok []
 
--- the stop of its place in an IT block comes before the condition; where the condition fails, no access is
--- requested
+-- what an instruction asks for: a stop where its place in the IT block isn't allowed, else nothing where its condition
+-- fails, else its accesses
 unfoldable pub wants : Traps → CodedInstruction → Registers → Result (List Request) Failure
 wants traps i r =
-    if is_misplaced i.place r.it then Err (Stop (Unpredictable ItBlock))
+    if is_misplaced i.place r.it_state then Err (Stop (Unpredictable ItBlock))
     else if is_carried_out i.instruction r then requests_of traps i.instruction r
     else Ok []
 
 -- ---- what an instruction does
 
--- what one of that many bytes that is carried out makes of the registers and of the values that it read, in the order
--- of its accesses
+-- what an instruction of this length, when carried out, makes of the registers and of the values read, in the order of
+-- its accesses
 unfoldable pub effect : InstructionLength → Instruction → Registers → List ℕ → Finished
 effect length (DataProcessing i) r values = data_processing_effect length i r
 effect length (LoadStore i) r values = load_store_effect length i r values

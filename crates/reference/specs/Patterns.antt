@@ -40,16 +40,16 @@ unspaced (character ∷ text) = with_character (character == no_place) character
 abbrev pub allows : ℕ → ℕ → ℕ → ℕ → Bool
 allows clear set place bit = if place == clear then bit == 0 else if place == set then bit == 1 else true
 
--- whether the number has a 0 at each place `clear` and a 1 at each place `set`
+-- whether x has a 0 at each place with the character `clear`, and a 1 at each with the character `set`
 unfoldable pub has_bits : ℕ → ℕ → List ℕ → ℕ → Bool
 has_bits clear set [] x = true
 has_bits clear set (place ∷ places) x = allows clear set place (bit_at x (length places)) && has_bits clear set places x
 
--- whether the number has each bit that has to be so
+-- whether x has the value of each bit printed 0 or 1
 abbrev pub fits : List ℕ → ℕ → Bool
 fits places x = has_bits place_0 place_1 places x
 
--- whether it has each bit that should be so
+-- whether x has the value of each bit printed (0) or (1)
 abbrev pub is_as_printed : List ℕ → ℕ → Bool
 is_as_printed places x = has_bits place_z place_o places x
 

@@ -12,7 +12,7 @@ use Rattle.reference.specs.declared.fault.PlaceFault.TheVariants.{NotAligned, No
 use Rattle.reference.specs.declared.operands.SpecialRegister.{SpecialRegister}
 use Rattle.reference.specs.declared.place.Place.{Place}
 use Rattle.reference.specs.declared.place.Place.TheVariants.{Reg, Special, Word}
-use Rattle.reference.specs.Accesses.{Answered, carried_out}
+use Rattle.reference.specs.Accesses.{BusAnswer, answered_by_bus}
 use Rattle.reference.specs.Map.{is_in_ppb}
 use Rattle.reference.specs.Memory.{Memory, is_in_flash, is_in_ram, overwritten, bytes_of}
 use Rattle.reference.specs.Registers.{is_handler, with_register}
@@ -47,7 +47,7 @@ register_taken s after answer.Error = Err NoSuchPlace
 register_taken s after (answer.Stop why) = Err (Refused why)
 
 -- what the Private Peripheral Bus made of a store
-abbrev pub stored_in_ppb : State → Answered → Result State PlaceFault
+abbrev pub stored_in_ppb : State → BusAnswer → Result State PlaceFault
 stored_in_ppb s a = register_taken s a.bus a.answer
 
 -- a store by privileged code, about which no rule is asked
@@ -60,7 +60,7 @@ taken s (Reg number value) = Ok (with_registers s (with_register s.registers num
 taken s (Special number value) = special_taken s (special_of number) value
 taken s (Word address value) =
     if is_in_ppb address
-    then stored_in_ppb s (carried_out s.registers.exception s.bus (store_of address value))
+    then stored_in_ppb s (answered_by_bus s.registers.exception s.bus (store_of address value))
     else Ok (with_bus s (record s.bus { memory = overwritten s.bus.memory address (bytes_of 4 value) }))
 
 -- the state with the value in its place, or the first refusal: `Stopped` is for a machine that has stopped, is in the

@@ -16,7 +16,7 @@ use Rattle.reference.specs.declared.exception.TheConstants.{NMI, HARD_FAULT, MEM
 use Rattle.reference.specs.declared.exception.TheConstants.{SYS_TICK, FIRST_LINE, MOST_LINES, EXCEPTIONS}
 use Rattle.reference.specs.Words.{is_bit}
 
--- each set and the priorities have a place for each number below EXCEPTIONS, also for one that no exception has
+-- Each list has an element for every number below EXCEPTIONS, also for numbers that no exception has.
 pub record Nvic : Type 0 where
   pub pending : List Bool
   -- which are enabled, of those that can be disabled
@@ -44,22 +44,23 @@ abbrev pub is_interrupt : ℕ → ℕ → Bool
 is_interrupt lines x = nat_le FIRST_LINE x && nat_lt x (FIRST_LINE + lines)
 
 -- these can be enabled and disabled: MemManage, BusFault and UsageFault by SHCSR, the interrupts by ISER and ICER
-abbrev pub is_switched : ℕ → ℕ → Bool
-is_switched lines x = (nat_le MEM_MANAGE x && nat_le x USAGE_FAULT) || is_interrupt lines x
+abbrev pub can_be_disabled : ℕ → ℕ → Bool
+can_be_disabled lines x = (nat_le MEM_MANAGE x && nat_le x USAGE_FAULT) || is_interrupt lines x
 
--- whether an exception of the board has that number
+-- whether an exception of the board has that number; DebugMonitor belongs to the Debug extension and is left out
+-- (profile)
 abbrev pub is_exception : ℕ → ℕ → Bool
-is_exception lines x = is_always_enabled x || is_switched lines x
+is_exception lines x = is_always_enabled x || can_be_disabled lines x
 
 -- whether it has a priority byte
-abbrev pub has_byte : ℕ → ℕ → Bool
-has_byte lines x = is_exception lines x && not (is_fixed x)
+abbrev pub has_priority_byte : ℕ → ℕ → Bool
+has_priority_byte lines x = is_exception lines x && not (is_fixed x)
 
 -- whether x is in a set
 abbrev pub is_in : List Bool → ℕ → Bool
 is_in set x = slice_index_or set x false
 
--- whether x is enabled, those that always are included
+-- whether x is enabled; some exceptions always are
 abbrev pub is_enabled : Nvic → ℕ → Bool
 is_enabled n x = is_always_enabled x || is_in n.enabled x
 
@@ -100,13 +101,13 @@ abbrev pub group_priority : Nvic → ℕ → ℕ
 group_priority n x = fixed_or x (of_byte (grouped n.group (slice_index n.priorities x)))
 
 -- the higher priority of p and the group priority of exception x, if x is active; otherwise p
-abbrev pub lessened : Nvic → ℕ → ℕ → ℕ
-lessened n x p = if is_in n.active x then min (group_priority n x) p else p
+abbrev pub raised_by : Nvic → ℕ → ℕ → ℕ
+raised_by n x p = if is_in n.active x then min (group_priority n x) p else p
 
 -- the highest group priority of the active exceptions with numbers below x; `lowest` if none of them is active
-unfoldable pub least_active : Nvic → ℕ → ℕ
-least_active n zero = lowest
-least_active n (suc x) = lessened n x (least_active n x)
+unfoldable pub highest_active : Nvic → ℕ → ℕ
+highest_active n zero = lowest
+highest_active n (suc x) = raised_by n x (highest_active n x)
 
 -- the priority to which the masks raise: -1 under FAULTMASK, 0 under PRIMASK, BASEPRI's group where it isn't 0
 abbrev pub boosted : ℕ → Masks → ℕ
@@ -118,7 +119,7 @@ boosted group m =
 
 -- ExecutionPriority()
 unfoldable pub execution_priority : Nvic → ℕ
-execution_priority n = min (least_active n EXCEPTIONS) (boosted n.group n.masks)
+execution_priority n = min (highest_active n EXCEPTIONS) (boosted n.group n.masks)
 
 -- whether exception x is pending and enabled
 abbrev pub is_ready : Nvic → ℕ → Bool
@@ -168,11 +169,11 @@ unfoldable pub some_below : (ℕ → Bool) → ℕ → Bool
 some_below test zero = false
 some_below test (suc x) = some_below test x || test x
 
--- an interrupt is pending, enabled or not: ICSR.ISRPENDING
+-- ICSR.ISRPENDING: whether an interrupt is pending; disabled interrupts count too (profile)
 unfoldable pub is_interrupt_pending : Nvic → Bool
 is_interrupt_pending n = some_below (λ x. is_interrupt n.lines x && is_in n.pending x) EXCEPTIONS
 
--- an exception is active that isn't x: what ICSR.RETTOBASE and ExceptionReturn() ask
+-- whether an exception other than x is active, for ICSR.RETTOBASE and ExceptionReturn()
 unfoldable pub is_other_active : Nvic → ℕ → Bool
 is_other_active n x = some_below (λ y. not (y == x) && is_in n.active y) EXCEPTIONS
 
@@ -188,34 +189,55 @@ with_pending n x on = record n { pending = with_member n.lines n.pending x on }
 abbrev pub with_active : Nvic → ℕ → Bool → Nvic
 with_active n x on = record n { active = with_member n.lines n.active x on }
 
--- x is enabled or disabled; nothing changes where x isn't one that can be (`is_switched`)
+-- x is enabled or disabled; nothing changes where x isn't one that can be (`can_be_disabled`)
 abbrev pub with_enabled : Nvic → ℕ → Bool → Nvic
-with_enabled n x on = if is_switched n.lines x then record n { enabled = slice_set n.enabled x on } else n
+with_enabled n x on = if can_be_disabled n.lines x then record n { enabled = slice_set n.enabled x on } else n
 
 -- the top bits of a priority byte that the board keeps
 abbrev pub kept : ℕ → ℕ → ℕ
 kept bits b = b / 2 ^ (8 - bits) * 2 ^ (8 - bits)
 
--- x is given a priority byte, of which the board keeps the top bits; nothing changes where x has none
+-- the priority byte of x becomes b, of which the board keeps the top bits; nothing changes where x has none
 abbrev pub with_priority : Nvic → ℕ → ℕ → Nvic
 with_priority n x b =
-    if has_byte n.lines x then record n { priorities = slice_set n.priorities x (kept n.priority_bits b) } else n
+    if has_priority_byte n.lines x
+    then record n { priorities = slice_set n.priorities x (kept n.priority_bits b) }
+    else n
 
--- PRIGROUP is given a value, of which it has three bits
+-- PRIGROUP becomes the low three bits of g
 abbrev pub with_group : Nvic → ℕ → Nvic
 with_group n g = record n { group = g % 8 }
 
--- PRIMASK is given a value
+-- PRIMASK becomes `on`
 abbrev pub with_primask : Nvic → Bool → Nvic
 with_primask n on = record n { masks = record n.masks { primask = on } }
 
--- FAULTMASK is given a value, whatever the execution priority is
+-- FAULTMASK becomes `on`, whatever the execution priority is
 abbrev pub with_faultmask : Nvic → Bool → Nvic
 with_faultmask n on = record n { masks = record n.masks { faultmask = on } }
 
--- BASEPRI is given a value, of which it keeps the bits that a priority byte keeps
+-- BASEPRI becomes b, of which the board keeps the bits that it keeps of a priority byte
 abbrev pub with_basepri : Nvic → ℕ → Nvic
 with_basepri n b = record n { masks = record n.masks { basepri = kept n.priority_bits b } }
+
+-- what would be the candidate if PRIMASK were 0
+unfoldable pub candidate_unmasked : Nvic → Option ℕ
+candidate_unmasked n = candidate (with_primask n false)
+
+-- after a reset: nothing is pending, enabled or active, every priority byte is 0, and nothing is masked
+abbrev pub reset_nvic : ℕ → ℕ → Nvic
+reset_nvic lines bits = record {
+  pending = replicate EXCEPTIONS false;
+  enabled = replicate EXCEPTIONS false;
+  active = replicate EXCEPTIONS false;
+  priorities = replicate EXCEPTIONS 0;
+  group = 0;
+  masks = record { primask = false; faultmask = false; basepri = 0 };
+  lines = min lines MOST_LINES;
+  priority_bits = bits;
+}
+
+-- Not used by a step: for the contracts of nvic and clock; `due` is a set of exceptions in eight words
 
 -- whether bit x mod 32 of word x / 32 is 1: whether the set of exceptions that eight words hold has x
 abbrev pub is_in_words : List ℕ → ℕ → Bool
@@ -237,20 +259,3 @@ with_due n due = with_due_below n due EXCEPTIONS
 -- the candidate with these pending too, and PRIMASK as given
 unfoldable pub candidate_after : Nvic → List ℕ → Bool → Option ℕ
 candidate_after n due primask = candidate (with_primask (with_due n due) primask)
-
--- what would be the candidate if PRIMASK were 0
-unfoldable pub candidate_unmasked : Nvic → Option ℕ
-candidate_unmasked n = candidate (with_primask n false)
-
--- after a reset: nothing is pending, enabled or active, every priority byte is 0, and nothing is masked
-abbrev pub reset_nvic : ℕ → ℕ → Nvic
-reset_nvic lines bits = record {
-  pending = replicate EXCEPTIONS false;
-  enabled = replicate EXCEPTIONS false;
-  active = replicate EXCEPTIONS false;
-  priorities = replicate EXCEPTIONS 0;
-  group = 0;
-  masks = record { primask = false; faultmask = false; basepri = 0 };
-  lines = min lines MOST_LINES;
-  priority_bits = bits;
-}

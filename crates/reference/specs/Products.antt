@@ -15,7 +15,7 @@ use Rattle.reference.specs.Words.{word_sum, negated}
 
 -- ---- whole numbers and their bits
 
--- z<width - 1:0>, the low bits in two's complement: those of -n - 1 are those of n, each turned over
+-- z<width - 1:0>, the low bits in two's complement: those of -n - 1 are those of n, each inverted
 abbrev pub low_bits : ℕ → ℤ → ℕ
 low_bits width (pos n) = n % 2 ^ width
 low_bits width (negsuc n) = 2 ^ width - 1 - n % 2 ^ width
@@ -39,7 +39,7 @@ abbrev pub word_product : ℕ → ℕ → ℕ
 word_product x y = x * y % 2 ^ 32
 
 -- MUL: the flags are N and Z alone
-unfoldable pub multiply : Multiply → Registers → Registers
+abbrev pub multiply : Multiply → Registers → Registers
 multiply o r =
     let product = word_product (register r o.first) (register r o.second) in
     written o.flags o.destination (product, with_result r.flags product) r
@@ -50,7 +50,7 @@ accumulated Add addend product = word_sum addend product
 accumulated Subtract addend product = word_sum addend (negated product)
 
 -- MLA and MLS
-unfoldable pub multiply_accumulate : MultiplyAccumulate → Registers → Registers
+abbrev pub multiply_accumulate : MultiplyAccumulate → Registers → Registers
 multiply_accumulate o r =
     let product = word_product (register r o.first) (register r o.second) in
     with_register r o.destination (accumulated o.operation (register r o.addend) product)
@@ -78,7 +78,7 @@ unfoldable pub wide_accumulated : Bool → ℕ → ℕ → ℕ → ℕ
 wide_accumulated is_signed x y addend = low_bits 64 (product_of is_signed x y +ℤ wide_number_of is_signed addend)
 
 -- SMULL, UMULL, SMLAL and UMLAL
-unfoldable pub multiply_long : MultiplyLong → Registers → Registers
+abbrev pub multiply_long : MultiplyLong → Registers → Registers
 multiply_long o r =
     with_pair r o.high o.low
     (if o.accumulates
@@ -93,5 +93,5 @@ quotient is_signed x y =
     if y == 0 then 0 else low_bits 32 (int_div (number_of is_signed x) (number_of is_signed y))
 
 -- SDIV and UDIV, where a division by zero isn't trapped
-unfoldable pub divide : Divide → Registers → Registers
+abbrev pub divide : Divide → Registers → Registers
 divide o r = with_register r o.destination (quotient o.signed (register r o.dividend) (register r o.divisor))

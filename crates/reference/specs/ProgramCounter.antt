@@ -17,7 +17,7 @@ pub record Finished : Type 0 where
 
 -- ITAdvance()
 abbrev pub advanced : Registers → Registers
-advanced r = record r { it = it_advance r.it }
+advanced r = record r { it_state = it_advance r.it_state }
 
 -- the bytes of an instruction
 abbrev pub instruction_bytes : InstructionLength → ℕ
@@ -32,10 +32,6 @@ moves_on length r =
 -- the PC was written
 abbrev pub branches : Registers → Finished
 branches r = record { registers = advanced r; ending = Next }
-
--- R[d] was written, which for the PC is a branch
-abbrev pub proceeds : InstructionLength → ℕ → Registers → Finished
-proceeds length d r = if d == 15 then branches r else moves_on length r
 
 -- ---- writes of the PC
 

@@ -1,6 +1,6 @@
 -- The registers of the Memory Protection Unit, and which region an address belongs to (ARM DDI 0403, "Protected Memory
 -- System Architecture, PMSAv7": "Register support for PMSAv7 in the SCS", and the pseudocode of ValidateAddress()).
--- What the manual calls UNPREDICTABLE at a write stops by name and changes nothing (profile).
+-- A write that the manual calls UNPREDICTABLE stops the machine with a named stop and changes nothing (profile).
 use Rattle.std.specs.Prelude.{◌≡◌, ℕ, zero, suc, ◌+◌, ◌-◌, ◌*◌, ◌/◌, ◌%◌, ◌^◌, ◌<◌, ◌≤◌, ◌⊎◌, Bool, true, not, ◌&&◌}
 use Rattle.std.specs.Prelude.{◌||◌, ◌==◌, nat_lt, nat_le, if◌then◌else◌, List, length, slice_index_or, slice_set}
 use Rattle.std.specs.Prelude.{replicate, Option, Some, None, Result, Ok, Err, bit_and}
@@ -24,7 +24,7 @@ region_number Sixteen = 16
 pub record Mpu : Type 0 where
   -- MPU_CTRL
   pub control : ℕ
-  -- MPU_RNR: the number of the region that RBAR and RASR are of
+  -- MPU_RNR: the region that RBAR and RASR access
   pub number : ℕ
   -- the board's: how many regions there are, 8 or 16
   pub count : ℕ
@@ -42,8 +42,8 @@ abbrev pub has_background : ℕ → Bool
 has_background control = is_bit control 2
 
 -- the fields of a RASR: ENABLE, SIZE, SRD, AP and XN
-abbrev pub is_enabled : ℕ → Bool
-is_enabled attributes = is_bit attributes 0
+abbrev pub is_region_enabled : ℕ → Bool
+is_region_enabled attributes = is_bit attributes 0
 
 abbrev pub size : ℕ → ℕ
 size attributes = attributes / 2 % 32
@@ -79,8 +79,8 @@ abbrev pub is_aliased : ℕ → ℕ → Bool
 is_aliased first a = (a == first) || (a == first + 8) || (a == first + 16) || (a == first + 24)
 
 -- the register of the MPU at an address of a word, if there is one
-abbrev pub register_at : ℕ → Option MpuRegister
-register_at a =
+abbrev pub mpu_register_at : ℕ → Option MpuRegister
+mpu_register_at a =
     if a == 0xE000_ED90 then Some register.Type
     else if a == 0xE000_ED94 then Some register.Control
     else if a == 0xE000_ED98 then Some register.Number
@@ -104,15 +104,15 @@ shown m k = if nat_lt k m.count then Some ((region m k).base + k, (region m k).a
 
 -- Writing a register
 
-abbrev pub with_base : Mpu → ℕ → ℕ → Mpu
-with_base m k base = with_region m k (record (region m k) { base = base })
+abbrev pub with_region_base : Mpu → ℕ → ℕ → Mpu
+with_region_base m k base = with_region m k (record (region m k) { base = base })
 
 abbrev pub with_attributes : Mpu → ℕ → ℕ → Mpu
 with_attributes m k attributes = with_region m k (record (region m k) { attributes = attributes })
 
 -- HFNMIENA without ENABLE is UNPREDICTABLE
-abbrev pub write_control : Mpu → ℕ → Result Mpu MpuStop
-write_control m value =
+abbrev pub write_mpu_ctrl : Mpu → ℕ → Result Mpu MpuStop
+write_mpu_ctrl m value =
     if is_on_below_zero value && not (is_on value) then Err stop.Control else Ok (record m { control = value % 8 })
 
 -- RNR takes the number of a region that exists
@@ -125,7 +125,7 @@ write_number m value = selected m (value % 256)
 
 -- the selected region's base becomes ADDR, bits 31:5 of the value, unless selecting it stopped
 abbrev pub based : Result Mpu MpuStop → ℕ → Result Mpu MpuStop
-based (Ok m) value = Ok (with_base m m.number (value / 32 * 32))
+based (Ok m) value = Ok (with_region_base m m.number (value / 32 * 32))
 based (Err why) value = Err why
 
 -- RBAR with VALID 1 selects REGION first, as RNR does
@@ -133,25 +133,27 @@ abbrev pub write_base : Mpu → ℕ → Result Mpu MpuStop
 write_base m value = based (if is_bit value 4 then selected m (value % 16) else Ok m) value
 
 -- what RASR keeps of a value: XN, AP, TEX, S, C, B, SRD, SIZE and ENABLE
-abbrev pub kept : ℕ → ℕ
-kept value = bit_and value 0x173F_FF3F
+abbrev pub kept_attributes : ℕ → ℕ
+kept_attributes value = bit_and value 0x173F_FF3F
 
 -- an enabled region has at least 32 bytes and an AP other than 100, and below 256 bytes it has no subregions
-abbrev pub is_taken : ℕ → Bool
-is_taken attributes =
-    not (is_enabled attributes)
+abbrev pub is_accepted : ℕ → Bool
+is_accepted attributes =
+    not (is_region_enabled attributes)
     || (nat_le 4 (size attributes)
     && not (permission attributes == 4)
     && (nat_le 7 (size attributes) || (switched_off attributes == 0)))
 
 abbrev pub write_attributes : Mpu → ℕ → Result Mpu MpuStop
-write_attributes m value = if is_taken (kept value) then Ok (with_attributes m m.number (kept value))
+write_attributes m value =
+    if is_accepted (kept_attributes value)
+    then Ok (with_attributes m m.number (kept_attributes value))
     else Err stop.Region
 
 -- the registers after a write of a value, or why it stops; MPU_TYPE ignores writes
 unfoldable pub write : Mpu → MpuRegister → ℕ → Result Mpu MpuStop
 write m register.Type value = Ok m
-write m register.Control value = write_control m value
+write m register.Control value = write_mpu_ctrl m value
 write m register.Number value = write_number m value
 write m register.Base value = write_base m value
 write m register.Attributes value = write_attributes m value
@@ -178,7 +180,7 @@ pub record IsSound (m : Mpu) : Type 0 where
   pub control_small : m.control < 8
   pub sixteen : length m.regions ≡ 16
   pub based : (k : ℕ) → (region m k).base % 32 ≡ 0
-  pub taken : (k : ℕ) → is_taken (region m k).attributes ≡ true
+  pub taken : (k : ℕ) → is_accepted (region m k).attributes ≡ true
 
 -- The region that an address belongs to
 
@@ -196,7 +198,7 @@ is_switched_off r a = nat_le 7 (size r.attributes) && is_bit r.attributes (8 + s
 
 -- whether an address lies in a region that is enabled, and in none of its subregions that are switched off
 unfoldable pub matches : Region → ℕ → Bool
-matches r a = is_enabled r.attributes && agrees r a && not (is_switched_off r a)
+matches r a = is_region_enabled r.attributes && agrees r a && not (is_switched_off r a)
 
 -- the greatest of the regions below k that an address lies in
 unfoldable pub owner_below : Mpu → ℕ → ℕ → Option ℕ

@@ -3,7 +3,7 @@ use Rattle.std.specs.Prelude.{ℕ, ◌+◌, ◌*◌, ◌/◌, ◌%◌, ◌^◌, 
 use Rattle.std.specs.Prelude.{Option, None, slice_index, slice_set, replicate}
 use Rattle.reference.specs.declared.registers.Flags.{Flags}
 use Rattle.reference.specs.declared.registers.Marked.{Marked}
-use Rattle.reference.specs.Words.{word_sum, is_bit}
+use Rattle.reference.specs.Words.{low_word, word_sum, is_bit}
 
 pub record Registers : Type 0 where
   -- R0 to R12
@@ -17,7 +17,7 @@ pub record Registers : Type 0 where
   -- the flags of APSR
   pub flags : Flags
   -- the eight bits of EPSR.IT, and EPSR.T
-  pub it : ℕ
+  pub it_state : ℕ
   pub thumb : Bool
   -- IPSR: the number of the exception whose handler runs, 0 in Thread mode
   pub exception : ℕ
@@ -51,25 +51,33 @@ register r n =
     else if n == 15 then word_sum r.pc 4
     else slice_index r.general n
 
--- SP is given a value, whose bits 1:0 are cleared
+-- a value as a stack pointer takes it: a word whose bits 1:0 are cleared
+abbrev pub stack_pointer : ℕ → ℕ
+stack_pointer v = low_word v / 4 * 4
+
+-- SP = v
 abbrev pub with_sp : Registers → ℕ → Registers
-with_sp r v = if uses_psp r then record r { psp = v / 4 * 4 } else record r { msp = v / 4 * 4 }
+with_sp r v = if uses_psp r then record r { psp = stack_pointer v } else record r { msp = stack_pointer v }
+
+-- an address as the PC takes it: a word whose bit 0 is cleared
+abbrev pub code_address : ℕ → ℕ
+code_address v = low_word v / 2 * 2
 
 -- BranchWritePC(v)
 abbrev pub with_pc : Registers → ℕ → Registers
-with_pc r v = record r { pc = v / 2 * 2 }
+with_pc r v = record r { pc = code_address v }
 
--- BLXWritePC(v): the PC of an address, and T of its bit 0
+-- BLXWritePC(v): PC = v with bit 0 cleared, T = bit 0 of v
 abbrev pub with_exchange : Registers → ℕ → Registers
 with_exchange r v = record (with_pc r v) { thumb = is_bit v 0 }
 
--- R[n] = v, where a write to PC branches
+-- R[n] = v, of which 32 bits are kept. The manual's R[] can't write the PC: n = 15 is BranchWritePC(v) here
 abbrev pub with_register : Registers → ℕ → ℕ → Registers
 with_register r n v =
     if n == 13 then with_sp r v
-    else if n == 14 then record r { lr = v }
+    else if n == 14 then record r { lr = low_word v }
     else if n == 15 then with_pc r v
-    else record r { general = slice_set r.general n v }
+    else record r { general = slice_set r.general n (low_word v) }
 
 -- N and Z of a result
 abbrev pub with_result : Flags → ℕ → Flags
@@ -97,7 +105,7 @@ flags_of v = record {
 
 -- xPSR: APSR, IT[1:0], T, IT[7:2] and the exception's number
 abbrev pub xpsr : Registers → ℕ
-xpsr r = apsr r.flags + r.it % 4 * 2 ^ 25 + weighed r.thumb (2 ^ 24) + r.it / 4 * 2 ^ 10 + r.exception
+xpsr r = apsr r.flags + r.it_state % 4 * 2 ^ 25 + weighed r.thumb (2 ^ 24) + r.it_state / 4 * 2 ^ 10 + r.exception
 
 -- CONTROL: nPRIV and SPSEL
 abbrev pub control : Registers → ℕ
@@ -108,12 +116,12 @@ control r = weighed r.unprivileged 1 + weighed r.process_stack 2
 abbrev pub reset_registers : ℕ → ℕ → Registers
 reset_registers stack entry = record {
   general = replicate 13 0;
-  msp = stack / 4 * 4;
+  msp = stack_pointer stack;
   psp = 0;
   lr = 0xFFFF_FFFF;
-  pc = entry / 2 * 2;
+  pc = code_address entry;
   flags = record { negative = false; zero = false; carry = false; overflow = false; saturated = false };
-  it = 0;
+  it_state = 0;
   thumb = is_bit entry 0;
   exception = 0;
   unprivileged = false;

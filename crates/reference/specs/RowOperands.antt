@@ -25,7 +25,7 @@ unshifted m = record { register = m; shift = record { shift_type = Lsl; amount =
 unfoldable pub shifted_by_number : ℕ → ℕ → ℕ → ShiftedRegister
 shifted_by_number m type imm5 = record { register = m; shift = decode_imm_shift type imm5 }
 
--- a number that keeps the carry
+-- an immediate that leaves the carry flag as it is
 abbrev pub number : ℕ → Immediate
 number value = record { value = value; carry = None }
 
@@ -43,7 +43,8 @@ at_offset n offset = record { base = n; offset = offset; indexing = Offset }
 unfoldable pub signed_offset : ℕ → ℕ → ℕ
 signed_offset u offset = if u == 1 then offset else negated offset
 
--- the form of an index: P is before the access, W writes it back; without P it is written back always
+-- P = 1: the offset is added before the access, and the base is written back where W = 1. P = 0: it is added after, and
+-- the base is always written back
 abbrev pub indexing_of : ℕ → ℕ → Indexing
 indexing_of p w = if p == 1 then (if w == 1 then PreIndexed else Offset) else PostIndexed
 

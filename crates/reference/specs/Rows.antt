@@ -90,11 +90,11 @@ letters value = record {
   X = value 88;
 }
 
--- whether a number is the row's: its text fits, and none of the exceptions does
+-- whether a row applies to a number: its text fits, and none of the exceptions does
 abbrev pub applies : Row → ℕ → Bool
 applies row number = fits row.places number && not (list_any (λ text. fits text number) row.except)
 
--- what a row makes of a number, unless a bit isn't what it should be
+-- the row's meaning, or UNPREDICTABLE encoding where a bit printed (0) or (1) has the other value
 abbrev pub as_printed : Bool → Decoded → Decoded
 as_printed true decoded = decoded
 as_printed false decoded = Unpredictable Anywhere Encoding
@@ -108,7 +108,7 @@ abbrev pub by_found : Decoded → ℕ → Option Row → Decoded
 by_found otherwise number None = otherwise
 by_found otherwise number (Some row) = by_row row number
 
--- what a number means by the row of a list that applies; no number has two of them
+-- what a number means by the row of a list that applies; row_laws proves that at most one row applies
 unfoldable pub meaning : List Row → Decoded → ℕ → Decoded
 meaning rows otherwise number = by_found otherwise number (find (λ row. applies row number) rows)
 

@@ -1,6 +1,6 @@
 -- Which rule decides an access, and what it grants (ARM DDI 0403, "Protected Memory System Architecture, PMSAv7": "MPU
--- fault handling", and the pseudocode of ValidateAddress(), DefaultAttrs() and CheckPermission()). The first case that
--- fits decides.
+-- fault handling", and the pseudocode of ValidateAddress(), DefaultMemoryAttributes(), DefaultPermissions() and
+-- CheckPermission()). The first case that fits decides.
 use Rattle.std.specs.Prelude.{◌≡◌, ℕ, ◌/◌, ◌^◌, ◌<◌, Bool, true, false, not, ◌&&◌, ◌||◌, ◌==◌, nat_lt, nat_le}
 use Rattle.std.specs.Prelude.{if◌then◌else◌, Option, Some, None, ⊤}
 use Rattle.reference.specs.declared.access.Decision.{Decision}
@@ -56,7 +56,8 @@ before_regions control a kind below_zero =
 
 -- What a region grants: CheckPermission()
 
--- AP lets code of that privilege read: privileged code but for 000 and 100, unprivileged code at 010, 011, 110 and 111
+-- AP lets code of that privilege read: privileged code except at 000 and 100, unprivileged code at 010, 011, 110 and
+-- 111
 abbrev pub may_read : ℕ → Bool → Bool
 may_read ap true = not (ap == 0) && not (ap == 4)
 may_read ap false = (ap == 2) || (ap == 3) || (ap == 6) || (ap == 7)
@@ -67,18 +68,18 @@ may_write ap true = (ap == 1) || (ap == 2) || (ap == 3)
 may_write ap false = ap == 3
 
 -- what AP and XN grant: a fetch needs read permission, and XN 0
-abbrev pub granted_by : ℕ → Bool → Kind → Bool → Bool
-granted_by ap xn Fetch privileged = may_read ap privileged && not xn
-granted_by ap xn Load privileged = may_read ap privileged
-granted_by ap xn Store privileged = may_write ap privileged
-granted_by ap xn Push privileged = may_write ap privileged
-granted_by ap xn Pop privileged = may_read ap privileged
-granted_by ap xn Vector privileged = may_read ap privileged
-granted_by ap xn Probe privileged = may_write ap privileged
+abbrev pub permission_grants : ℕ → Bool → Kind → Bool → Bool
+permission_grants ap xn Fetch privileged = may_read ap privileged && not xn
+permission_grants ap xn Load privileged = may_read ap privileged
+permission_grants ap xn Store privileged = may_write ap privileged
+permission_grants ap xn Push privileged = may_write ap privileged
+permission_grants ap xn Pop privileged = may_read ap privileged
+permission_grants ap xn Vector privileged = may_read ap privileged
+permission_grants ap xn Probe privileged = may_write ap privileged
 
 -- what the attributes of a region grant
 abbrev pub grants : ℕ → Kind → Bool → Bool
-grants attributes kind privileged = granted_by (permission attributes) (never_executes attributes) kind privileged
+grants attributes kind privileged = permission_grants (permission attributes) (never_executes attributes) kind privileged
 
 -- The regions, and the rules after them
 
@@ -87,8 +88,8 @@ abbrev pub is_background : ℕ → Bool → Bool
 is_background control privileged = privileged && has_background control
 
 -- what decides where no region matches
-abbrev pub behind_regions : ℕ → ℕ → Kind → Bool → Decision
-behind_regions control a kind privileged =
+abbrev pub after_regions : ℕ → ℕ → Kind → Bool → Decision
+after_regions control a kind privileged =
     if is_background control privileged
     then record { rule = Background; granted = default_map a kind }
     else record { rule = NoRegion; granted = false }
@@ -97,9 +98,9 @@ behind_regions control a kind privileged =
 abbrev pub by_owner : Mpu → Kind → ℕ → Bool → Option ℕ → Decision
 by_owner m kind a privileged (Some k) =
     record { rule = Region k; granted = grants (region m k).attributes kind privileged }
-by_owner m kind a privileged None = behind_regions m.control a kind privileged
+by_owner m kind a privileged None = after_regions m.control a kind privileged
 
--- a decision that was made, or the other one
+-- the first decision, or the second where there is no first
 abbrev pub first_of_two : Option Decision → Decision → Decision
 first_of_two (Some decision) other = decision
 first_of_two None other = other
@@ -142,18 +143,18 @@ Fits m q Background = is_background m.control q.privileged ≡ true
 Fits m q NoRegion = ⊤
 
 -- what a rule grants, where it decides
-abbrev pub granted_to : Mpu → Asked → Rule → Bool
-granted_to m q NeverExecute = false
-granted_to m q VectorRead = true
-granted_to m q PrivatePeripheralBus = true
-granted_to m q MpuOff = default_map q.address q.kind
-granted_to m q NegativePriority = default_map q.address q.kind
-granted_to m q (Region k) = grants (region m k).attributes q.kind q.privileged
-granted_to m q Background = default_map q.address q.kind
-granted_to m q NoRegion = false
+abbrev pub rule_grants : Mpu → Asked → Rule → Bool
+rule_grants m q NeverExecute = false
+rule_grants m q VectorRead = true
+rule_grants m q PrivatePeripheralBus = true
+rule_grants m q MpuOff = default_map q.address q.kind
+rule_grants m q NegativePriority = default_map q.address q.kind
+rule_grants m q (Region k) = grants (region m k).attributes q.kind q.privileged
+rule_grants m q Background = default_map q.address q.kind
+rule_grants m q NoRegion = false
 
 -- a decision names the first case that fits, and grants what that case grants
 pub record IsFirstFit (m : Mpu) (q : Asked) (d : Decision) : Type 0 where
   pub fits : Fits m q d.rule
   pub first : (r : Rule) → rank r < rank d.rule → Fits m q r → ⊥
-  pub granted : d.granted ≡ granted_to m q d.rule
+  pub granted : d.granted ≡ rule_grants m q d.rule

@@ -12,7 +12,7 @@ unfoldable pub after : ℕ → State → State
 after zero s = s
 after (suc n) s = (step (after n s)).state
 
--- what n steps tell: a stopped machine tells nothing
+-- the events of n steps; a stopped machine has none
 unfoldable pub events_of : ℕ → State → List Event
 events_of zero s = []
 events_of (suc n) s = events_of n s ++ (step (after n s)).events

@@ -10,7 +10,7 @@ use Rattle.reference.specs.declared.instruction.LoadStore.TheVariants.{LoadImmed
 use Rattle.reference.specs.declared.instruction.LoadStore.TheVariants.{StoreImmediate, StoreRegister}
 use Rattle.reference.specs.declared.instruction.LoadStoreMultiple.TheVariants.{LoadMultiple, StoreMultiple}
 use Rattle.reference.specs.declared.operands.ListOrder.TheVariants.{IncrementAfter}
-use Rattle.reference.specs.declared.stop.UnpredictableCase.TheVariants.{EmptyList, StoredBase}
+use Rattle.reference.specs.declared.stop.UnpredictableCase.TheVariants.{ShortList, StoredBase}
 use Rattle.reference.specs.Patterns.{unspaced}
 use Rattle.reference.specs.RowOperands.{at_offset}
 use Rattle.reference.specs.Rows.{Row, short, unless}
@@ -25,13 +25,13 @@ load_literal_word_row t words =
       offset = words * 4;
     })))
 
--- a store at two registers
+-- a store at the sum of two registers
 unfoldable pub store_register_row : Size → ℕ → ℕ → ℕ → Decoded
 store_register_row size t n m =
     short (LoadStore (StoreRegister
     (record { size = size; target = t; address = record { base = n; index = m; shift = 0 } })))
 
--- a load at two registers
+-- a load at the sum of two registers
 unfoldable pub load_register_row : Size → Bool → ℕ → ℕ → ℕ → Decoded
 load_register_row size signed t n m =
     short (LoadStore (LoadRegister (record {
@@ -63,7 +63,7 @@ is_above_lowest n list = is_bit list n && not (list % 2 ^ n == 0)
 -- STM, which writes back always
 unfoldable pub store_list_row : ℕ → ℕ → Decoded
 store_list_row n list =
-    unless (list == 0) place.Anywhere EmptyList
+    unless (list == 0) place.Anywhere ShortList
     (unless (is_above_lowest n list) place.Anywhere StoredBase
     (short (LoadStoreMultiple (StoreMultiple
     (record { base = n; list = list; order = IncrementAfter; write_back = true })))))
@@ -71,11 +71,11 @@ store_list_row n list =
 -- LDM, which writes back where the base isn't in the list
 unfoldable pub load_list_row : ℕ → ℕ → Decoded
 load_list_row n list =
-    unless (list == 0) place.Anywhere EmptyList
+    unless (list == 0) place.Anywhere ShortList
     (short (LoadStoreMultiple (LoadMultiple
     (record { base = n; list = list; order = IncrementAfter; write_back = not (is_bit list n) }))))
 
--- ---- the rows: at the PC or at two registers, at a register and an offset, of several registers
+-- ---- the rows: at the PC or at the sum of two registers, at a register and an offset, of several registers
 
 -- LDR (literal), encoding T1
 abbrev pub ldr_literal_t1 : Row
@@ -149,8 +149,8 @@ ldrsh_register_t1 = record {
   gives = λ f. load_register_row Halfword true f.t f.n f.m;
 }
 
-abbrev pub register_access_rows : List Row
-register_access_rows =
+abbrev pub literal_and_register_rows : List Row
+literal_and_register_rows =
     ldr_literal_t1 ∷ str_register_t1 ∷ strh_register_t1 ∷ strb_register_t1 ∷ ldrsb_register_t1 ∷ ldr_register_t1 ∷
     ldrh_register_t1 ∷ ldrb_register_t1 ∷ ldrsh_register_t1 ∷ []
 
@@ -234,7 +234,7 @@ ldm_t1 = record {
   gives = λ f. load_list_row f.n f.l;
 }
 
-abbrev pub number_access_rows : List Row
-number_access_rows =
+abbrev pub immediate_and_list_rows : List Row
+immediate_and_list_rows =
     str_immediate_t1 ∷ ldr_immediate_t1 ∷ strb_immediate_t1 ∷ ldrb_immediate_t1 ∷ strh_immediate_t1 ∷
     ldrh_immediate_t1 ∷ str_immediate_t2 ∷ ldr_immediate_t2 ∷ stm_t1 ∷ ldm_t1 ∷ []

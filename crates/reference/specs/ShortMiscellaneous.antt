@@ -19,7 +19,7 @@ use Rattle.reference.specs.declared.operands.ListOrder.TheVariants.{IncrementAft
 use Rattle.reference.specs.declared.operands.Rearrangement.{Rearrangement}
 use Rattle.reference.specs.declared.operands.Rearrangement.TheVariants.{ReverseWord, ReverseHalfwords}
 use Rattle.reference.specs.declared.operands.Rearrangement.TheVariants.{ReverseSignedHalfword}
-use Rattle.reference.specs.declared.stop.UnpredictableCase.TheVariants.{EmptyList, ItBlock, Registers}
+use Rattle.reference.specs.declared.stop.UnpredictableCase.TheVariants.{ShortList, ItBlock, Registers}
 use Rattle.reference.specs.Patterns.{unspaced}
 use Rattle.reference.specs.RowOperands.{number, hint_of}
 use Rattle.reference.specs.Rows.{Row, short, placed, last_only_if, unless}
@@ -52,14 +52,14 @@ rearrange_row operation d m = short
 -- PUSH of registers from R0 to R7, and of LR
 unfoldable pub push_row : ℕ → ℕ → Decoded
 push_row lr list =
-    unless (lr * 2 ^ 14 + list == 0) place.Anywhere EmptyList
+    unless (lr * 2 ^ 14 + list == 0) place.Anywhere ShortList
     (short (LoadStoreMultiple (StoreMultiple
     (record { base = 13; list = lr * 2 ^ 14 + list; order = DecrementBefore; write_back = true }))))
 
 -- POP of registers from R0 to R7, and of PC
 unfoldable pub pop_row : ℕ → ℕ → Decoded
 pop_row pc list =
-    unless (pc * 2 ^ 15 + list == 0) (last_only_if (pc == 1)) EmptyList
+    unless (pc * 2 ^ 15 + list == 0) (last_only_if (pc == 1)) ShortList
     (placed Short (last_only_if (pc == 1))
     (LoadStoreMultiple (LoadMultiple
     (record { base = 13; list = pc * 2 ^ 15 + list; order = IncrementAfter; write_back = true }))))

@@ -1,6 +1,6 @@
 -- The special registers: what MRS reads, and what MSR and CPS write (ARM DDI 0403, the operation of MRS, MSR and CPS).
 -- The stack pointers, CONTROL and the parts of xPSR are in fields of `Registers`. The masks are in `Nvic`.
-use Rattle.std.specs.Prelude.{ℕ, ◌+◌, ◌*◌, ◌/◌, ◌%◌, ◌^◌, Bool, true, false, not, ◌&&◌, ◌||◌, ◌==◌, nat_lt}
+use Rattle.std.specs.Prelude.{ℕ, ◌+◌, ◌%◌, ◌^◌, Bool, true, false, not, ◌&&◌, ◌||◌, ◌==◌, nat_lt}
 use Rattle.std.specs.Prelude.{if◌then◌else◌, Option, Some, None}
 use Rattle.reference.specs.declared.exception.Masks.{Masks}
 use Rattle.reference.specs.declared.operands.ChangeProcessorState.{ChangeProcessorState}
@@ -10,7 +10,8 @@ use Rattle.reference.specs.declared.operands.SpecialRegister.TheVariants.{Msp, P
 use Rattle.reference.specs.declared.operands.SpecialRegister.TheVariants.{Faultmask, Control}
 use Rattle.reference.specs.Priorities.{Nvic, execution_priority, hard_fault_priority, kept, with_primask}
 use Rattle.reference.specs.Priorities.{with_faultmask, with_basepri}
-use Rattle.reference.specs.Registers.{Registers, is_handler, is_privileged, apsr, flags_of, control, weighed}
+use Rattle.reference.specs.Registers.{Registers, is_handler, is_privileged, apsr, flags_of, control, stack_pointer}
+use Rattle.reference.specs.Registers.{weighed}
 use Rattle.reference.specs.Words.{is_bit}
 
 -- the special register of a number: SYSm
@@ -90,8 +91,8 @@ with_special r Xpsr value = record r { flags = flags_of value }
 with_special r Ipsr value = r
 with_special r Epsr value = r
 with_special r Iepsr value = r
-with_special r Msp value = record r { msp = value / 4 * 4 }
-with_special r Psp value = record r { psp = value / 4 * 4 }
+with_special r Msp value = record r { msp = stack_pointer value }
+with_special r Psp value = record r { psp = stack_pointer value }
 with_special r Primask value = r
 with_special r Basepri value = r
 with_special r BasepriMax value = r
@@ -121,7 +122,7 @@ write_special r special value = if is_privileged r || is_open special then with_
 
 -- ---- MSR, masks
 
--- FAULTMASK becomes 1 only where the execution priority is above -1, and 0 always (profile)
+-- FAULTMASK can be set only at an execution priority above -1, and can always be cleared (by MSR: profile)
 unfoldable pub faultmask_written : Nvic → Bool → Nvic
 faultmask_written n on =
     if not on || nat_lt hard_fault_priority (execution_priority n) then with_faultmask n on else n
@@ -130,7 +131,7 @@ faultmask_written n on =
 abbrev pub is_tighter : ℕ → ℕ → Bool
 is_tighter basepri value = not (value == 0) && (nat_lt value basepri || (basepri == 0))
 
--- a write to BASEPRI_MAX: only the implemented bits of the value are compared
+-- a write to BASEPRI_MAX compares the bits that are kept (profile)
 unfoldable pub basepri_max_written : Nvic → ℕ → Nvic
 basepri_max_written n byte =
     if is_tighter n.masks.basepri (kept n.priority_bits byte) then with_basepri n byte else n
@@ -158,7 +159,7 @@ write_mask privileged n special value = if privileged then with_mask n special v
 
 -- ---- CPS
 
--- PRIMASK and FAULTMASK, each where it is named, are set or cleared
+-- PRIMASK, or FAULTMASK, becomes `on` where the instruction names it
 abbrev pub with_primask_if : Bool → Nvic → Bool → Nvic
 with_primask_if named n on = if named then with_primask n on else n
 

@@ -1,6 +1,6 @@
 -- The registers of configuration, and those that say what a fault was (ARM DDI 0403, "System Control Block": "Vector
 -- Table Offset Register", "System Control Register", "Configuration and Control Register", "Configurable Fault Status
--- Register", "HardFault Status Register", "MemManage Address Register" and "BusFault Address Register").
+-- Register", "HardFault Status Register", "MemManage Fault Address Register" and "BusFault Address Register").
 use Rattle.std.specs.Prelude.{ℕ, ◌-◌, ◌*◌, ◌/◌, ◌^◌, Bool, true, false, ◌==◌, if◌then◌else◌, Option, Some, None, Result}
 use Rattle.std.specs.Prelude.{Ok, Err, bit_and, bit_or}
 use Rattle.reference.specs.declared.stop.LeftOut.TheVariants.{IgnoredBusFaults, SleepOnExit}
@@ -114,7 +114,7 @@ write_status st Bfar value = Ok (record st { bfar = value })
 abbrev pub with_fault_bits : Status → ℕ → ℕ → Status
 with_fault_bits st cfsr hfsr = record st { cfsr = bit_or st.cfsr cfsr; hfsr = bit_or st.hfsr hfsr }
 
--- the address of an access that a rule or the bus refused
+-- MMFAR: the address of an access that a rule refused. BFAR: of one that the bus refused
 abbrev pub with_mmfar : Status → ℕ → Status
 with_mmfar st address = record st { mmfar = address }
 

@@ -22,7 +22,7 @@ use Rattle.reference.specs.Interrupts.{interrupt_priority_at, read_priorities, w
 use Rattle.reference.specs.Interrupts.{triggered}
 use Rattle.reference.specs.Kinds.{bytes_in, is_word, is_load, is_store}
 use Rattle.reference.specs.Priorities.{Nvic, is_interrupt, with_pending, with_active, reset_nvic}
-use Rattle.reference.specs.Regions.{Mpu, register_at as mpu_at, read as read_mpu, write as write_mpu, stop_of, fresh}
+use Rattle.reference.specs.Regions.{Mpu, mpu_register_at, read as read_mpu, write as write_mpu, stop_of, fresh}
 use Rattle.reference.specs.Status.{Status, status_at, has_parts, usersetmpend, read_status, write_status, reset_status}
 use Rattle.reference.specs.SysTickRegisters.{systick_at, read_systick, after_systick_read, write_systick}
 use Rattle.reference.specs.Time.{Time, SysTick, start_time, is_high, tick_pends, after_tick as time_after_tick}
@@ -47,7 +47,7 @@ reset_system flash_base lines bits regions script = record {
 
 -- the register that a block has at an address, or `otherwise`, if the block has none there
 abbrev pub in_block : {A : Type 0} → (A → SystemRegister) → Option A → SystemRegister → SystemRegister
-in_block named (Some it) otherwise = named it
+in_block named (Some which) otherwise = named which
 in_block named None otherwise = otherwise
 
 -- the registers that are alone in their block
@@ -59,29 +59,30 @@ single_at word =
     else register.Unlisted
 
 -- the register at a word of the Private Peripheral Bus; `register.Priorities` is the four bytes of a word of IPR or of
--- SHPR, with the number of the exception that the first byte is for
+-- SHPR, with the number of the exception that the first byte is for. A word without a register (the ID registers too)
+-- is `register.Unlisted` (profile)
 unfoldable pub register_at : ℕ → SystemRegister
 register_at word =
     in_block register.SysTick (systick_at word)
-    (in_block (λ it. register.Interrupts it (word_number word)) (interrupts_at word)
+    (in_block (λ which. register.Interrupts which (word_number word)) (interrupts_at word)
     (in_block register.Priorities (interrupt_priority_at word)
     (in_block register.Control (control_at word)
     (in_block register.Status (status_at word)
     (in_block register.Priorities (handler_priority_at word)
-    (in_block register.Mpu (mpu_at word)
+    (in_block register.Mpu (mpu_register_at word)
     (single_at word)))))))
 
 -- whether a register takes accesses of a size: each takes words, and IPR, SHPR, CFSR and a word without a register take
 -- bytes and halfwords too
 unfoldable pub has_width : SystemRegister → Size → Bool
 has_width register.Ictr size = is_word size
-has_width (register.SysTick it) size = is_word size
-has_width (register.Interrupts it k) size = is_word size
+has_width (register.SysTick which) size = is_word size
+has_width (register.Interrupts which k) size = is_word size
 has_width (register.Priorities x) size = true
-has_width (register.Control it) size = is_word size
+has_width (register.Control which) size = is_word size
 has_width register.Shcsr size = is_word size
-has_width (register.Status it) size = is_word size || has_parts it
-has_width (register.Mpu it) size = is_word size
+has_width (register.Status which) size = is_word size || has_parts which
+has_width (register.Mpu which) size = is_word size
 has_width register.Stir size = is_word size
 has_width register.Unlisted size = true
 
@@ -104,22 +105,22 @@ in_place q = q.value % 256 ^ bytes_in q.access.size * 2 ^ (8 * first_byte q.acce
 -- ---- an access
 
 -- the state after an access, and what is answered
-pub record Replied : Type 0 where
+pub record SystemAnswer : Type 0 where
   pub system : System
   pub answer : Answer
 
 -- a read is answered by a value, and a write by 0
-abbrev pub replies : System → ℕ → Replied
+abbrev pub replies : System → ℕ → SystemAnswer
 replies s value = record { system = s; answer = answer.Value value }
 
 -- a bus error and a named stop change nothing
-abbrev pub errs : System → Replied
+abbrev pub errs : System → SystemAnswer
 errs s = record { system = s; answer = answer.Error }
 
-abbrev pub stops : System → Stop → Replied
+abbrev pub stops : System → Stop → SystemAnswer
 stops s why = record { system = s; answer = answer.Stop why }
 
-abbrev pub replied : System → Result System Stop → Replied
+abbrev pub replied : System → Result System Stop → SystemAnswer
 replied s (Ok after) = replies after 0
 replied s (Err why) = stops s why
 
@@ -129,7 +130,7 @@ with_systick s t = record s { time = record s.time { systick = t } }
 abbrev pub with_nvic : System → Nvic → System
 with_nvic s n = record s { nvic = n }
 
--- a block after a write, or the stop by name
+-- a block after a write, or the named stop with which the write stops the machine
 
 abbrev pub nvic_written : System → Result Nvic Stop → Result System Stop
 nvic_written s (Ok n) = Ok (with_nvic s n)
@@ -143,63 +144,64 @@ abbrev pub mpu_written : System → Result Mpu MpuStop → Result System Stop
 mpu_written s (Ok m) = Ok (record s { mpu = m })
 mpu_written s (Err why) = Err (stop_of why)
 
--- what a register reads as while IPSR is x
+-- what a register reads as while IPSR is x; a word without a register (the ID registers too) reads 0 (profile)
 unfoldable pub word_at : ℕ → System → SystemRegister → ℕ
 word_at x s register.Ictr = ictr s.nvic
-word_at x s (register.SysTick it) = read_systick s.time.systick it
-word_at x s (register.Interrupts it k) = read_interrupts s.nvic it k
+word_at x s (register.SysTick which) = read_systick s.time.systick which
+word_at x s (register.Interrupts which k) = read_interrupts s.nvic which k
 word_at x s (register.Priorities first) = read_priorities s.nvic first
-word_at x s (register.Control it) = read_control x s.nvic it
+word_at x s (register.Control which) = read_control x s.nvic which
 word_at x s register.Shcsr = read_shcsr s.nvic
-word_at x s (register.Status it) = read_status s.status it
-word_at x s (register.Mpu it) = read_mpu s.mpu it
+word_at x s (register.Status which) = read_status s.status which
+word_at x s (register.Mpu which) = read_mpu s.mpu which
 word_at x s register.Stir = 0
 word_at x s register.Unlisted = 0
 
 -- the state after a register was read
 unfoldable pub after_read : System → SystemRegister → System
 after_read s register.Ictr = s
-after_read s (register.SysTick it) = with_systick s (after_systick_read s.time.systick it)
-after_read s (register.Interrupts it k) = s
+after_read s (register.SysTick which) = with_systick s (after_systick_read s.time.systick which)
+after_read s (register.Interrupts which k) = s
 after_read s (register.Priorities first) = s
-after_read s (register.Control it) = s
+after_read s (register.Control which) = s
 after_read s register.Shcsr = s
-after_read s (register.Status it) = s
-after_read s (register.Mpu it) = s
+after_read s (register.Status which) = s
+after_read s (register.Mpu which) = s
 after_read s register.Stir = s
 after_read s register.Unlisted = s
 
--- the state after a write to a register, or the stop by name
+-- the state after a write to a register, or the named stop with which the write stops the machine
 unfoldable pub written : System → Request → SystemRegister → Result System Stop
 written s q register.Ictr = Ok s
-written s q (register.SysTick it) = Ok (with_systick s (write_systick s.time.systick it q.value))
-written s q (register.Interrupts it k) = Ok (with_nvic s (write_interrupts s.nvic it k q.value))
+written s q (register.SysTick which) = Ok (with_systick s (write_systick s.time.systick which q.value))
+written s q (register.Interrupts which k) = Ok (with_nvic s (write_interrupts s.nvic which k q.value))
 written s q (register.Priorities first) =
     Ok (with_nvic s (write_priorities s.nvic (first + first_byte q.access.size q.access.address) q.value
     (bytes_in q.access.size)))
-written s q (register.Control it) = nvic_written s (write_control s.nvic it q.value)
+written s q (register.Control which) = nvic_written s (write_control s.nvic which q.value)
 written s q register.Shcsr = nvic_written s (write_shcsr s.nvic q.value)
-written s q (register.Status it) = status_written s (write_status s.status it (in_place q))
-written s q (register.Mpu it) = mpu_written s (write_mpu s.mpu it q.value)
+written s q (register.Status which) = status_written s (write_status s.status which (in_place q))
+written s q (register.Mpu which) = mpu_written s (write_mpu s.mpu which q.value)
 written s q register.Stir = Ok (with_nvic s (triggered s.nvic q.value))
 written s q register.Unlisted = Ok s
 
 -- unprivileged code may store a word to STIR where CCR.USERSETMPEND is 1, and nothing else
-abbrev pub is_allowed : System → Request → Bool
-is_allowed s q =
+abbrev pub has_access : System → Request → Bool
+has_access s q =
     q.access.privileged || (is_store q.access.kind && is_word q.access.size && (q.access.address == stir_address)
     && usersetmpend s.status)
 
 -- an access to a register: its privilege is asked first, then its width
-unfoldable pub register_access : ℕ → System → Request → SystemRegister → Replied
-register_access x s q it =
-    if not (is_allowed s q) then errs s
-    else if not (has_width it q.access.size) then stops s (OutOfProfile RegisterWidth)
-    else if is_store q.access.kind then replied s (written s q it)
-    else replies (after_read s it) (part_of q (word_at x s it))
+unfoldable pub register_access : ℕ → System → Request → SystemRegister → SystemAnswer
+register_access x s q which =
+    if not (has_access s q) then errs s
+    else if not (has_width which q.access.size) then stops s (OutOfProfile RegisterWidth)
+    else if is_store q.access.kind then replied s (written s q which)
+    else replies (after_read s which) (part_of q (word_at x s which))
 
--- an access to the Private Peripheral Bus while IPSR is x: it takes loads and stores, and no push, pop or vector read
-unfoldable pub system_access : ℕ → System → Request → Replied
+-- an access to the Private Peripheral Bus while IPSR is x: the bus takes loads and stores alone; a push, a pop or a
+-- vector read is a bus error (profile)
+unfoldable pub system_access : ℕ → System → Request → SystemAnswer
 system_access x s q =
     if is_load q.access.kind || is_store q.access.kind
     then register_access x s q (register_at (q.access.address / 4 * 4))

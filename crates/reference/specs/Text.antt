@@ -25,7 +25,7 @@ use Rattle.reference.specs.declared.stop.Stop.{Stop}
 use Rattle.reference.specs.declared.stop.Stop.TheVariants.{StepLimit, Breakpoint, Lockup, Unpredictable, OutOfProfile}
 use Rattle.reference.specs.declared.stop.Stop.TheVariants.{ResetRequested}
 use Rattle.reference.specs.declared.stop.UnpredictableCase.{UnpredictableCase}
-use Rattle.reference.specs.declared.stop.UnpredictableCase.TheVariants.{Encoding, ItBlock, EmptyList, Registers}
+use Rattle.reference.specs.declared.stop.UnpredictableCase.TheVariants.{Encoding, ItBlock, ShortList, Registers}
 use Rattle.reference.specs.declared.stop.UnpredictableCase.TheVariants.{StoredBase, Immediate, BitField}
 use Rattle.reference.specs.declared.stop.UnpredictableCase.TheVariants.{SpecialRegister, LoadPc, LiteralPc, MpuRegion}
 use Rattle.reference.specs.declared.stop.UnpredictableCase.TheVariants.{MpuControl, Icsr, ExceptionReturn, PoppedPc}
@@ -110,7 +110,7 @@ lines (e ∷ es) = line e ++ lines es
 abbrev pub unpredictable_text : UnpredictableCase → List ℕ
 unpredictable_text Encoding = codes "encoding"
 unpredictable_text ItBlock = codes "it-block"
-unpredictable_text EmptyList = codes "empty-list"
+unpredictable_text ShortList = codes "empty-list"
 unpredictable_text Registers = codes "registers"
 unpredictable_text StoredBase = codes "stored-base"
 unpredictable_text Immediate = codes "immediate"

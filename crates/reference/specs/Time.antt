@@ -125,11 +125,11 @@ after_tick t = record {
   script = events_after (t.ticks + 1) t.script;
 }
 
--- what SysTick's next count makes pending: whether n is its exception
+-- whether SysTick's next count makes exception n pending
 abbrev pub timer_pends : SysTick → ℕ → Bool
 timer_pends t n = reaches_zero t && t.tickint && (n == SYS_TICK)
 
--- the set of exceptions that the next tick makes pending: whether n is one of them
+-- whether the next tick makes exception n pending
 unfoldable pub tick_pends : Time → ℕ → Bool
 tick_pends t n =
     timer_pends t.systick n
@@ -138,6 +138,8 @@ tick_pends t n =
 -- time at the start
 abbrev pub start_time : List ScriptedEvent → Time
 start_time script = record { ticks = 0; systick = reset_systick; high = replicate MOST_LINES false; script = script }
+
+-- Not used by a step: for the contracts of nvic and clock
 
 -- these eight words hold exactly the exceptions for which the test holds
 abbrev pub IsSetOf : List ℕ → (ℕ → Bool) → Type 0
@@ -156,7 +158,7 @@ timer_due ticks t =
     then (if t.current == 0 then (if t.reload == 0 then never else ticks + t.reload + 1) else ticks + t.current)
     else never
 
--- the tick at which the script goes on
+-- the tick of the script's first event, or `never`
 abbrev pub script_due : List ScriptedEvent → ℕ
 script_due [] = never
 script_due (e ∷ events) = e.at

@@ -35,7 +35,7 @@ use Rattle.reference.specs.Words.{word_sum}
 -- whether an instruction sets flags: setflags
 abbrev pub sets_flags : FlagSetting → Registers → Bool
 sets_flags Never r = false
-sets_flags OutsideBlock r = not (in_it_block r.it)
+sets_flags OutsideBlock r = not (in_it_block r.it_state)
 sets_flags Always r = true
 
 -- the flags after a logical result: N and Z of it, and C of the shifter; V stays
@@ -63,7 +63,7 @@ written setting d given r =
 
 -- ---- operands
 
--- NOT(x): the word with each bit turned over
+-- NOT(x): the word with each bit inverted
 abbrev pub inverted : ℕ → ℕ
 inverted x = 2 ^ 32 - 1 - x
 
@@ -77,7 +77,8 @@ shifted s r = shift_c (register r s.register) s.shift.shift_type s.shift.amount 
 
 -- ---- two operands
 
--- what an operation makes of two operands, and the flags: the carry is the second one's, which logical operations take
+-- the result of an operation on x and y, and the flags after it; carry is the shifter's, used by logical operations
+-- alone
 unfoldable pub computed : DataOperation → ℕ → ℕ → Bool → Flags → ℕ × Flags
 computed And x y carry f = logical f (bit_and x y) carry
 computed BitClear x y carry f = logical f (bit_and x (inverted y)) carry
@@ -101,11 +102,11 @@ with_shifted operation n second r =
     computed operation (register r n) (shifted second r).0 (shifted second r).1 r.flags
 
 -- AND, BIC, ORR, ORN, EOR, ADD, ADC, SBC, SUB and RSB (immediate)
-unfoldable pub data_immediate : DataImmediate → Registers → Registers
+abbrev pub data_immediate : DataImmediate → Registers → Registers
 data_immediate o r = written o.flags o.destination (with_immediate o.operation o.first o.second r) r
 
 -- the same (register)
-unfoldable pub data_register : DataRegister → Registers → Registers
+abbrev pub data_register : DataRegister → Registers → Registers
 data_register o r = written o.flags o.destination (with_shifted o.operation o.first o.second r) r
 
 -- ---- comparisons
@@ -118,11 +119,11 @@ compared_by Compare = Subtract
 compared_by CompareNegative = Add
 
 -- TST, TEQ, CMP and CMN (immediate): the flags alone
-unfoldable pub compare_immediate : CompareImmediate → Registers → Registers
+abbrev pub compare_immediate : CompareImmediate → Registers → Registers
 compare_immediate o r = record r { flags = (with_immediate (compared_by o.operation) o.first o.second r).1 }
 
 -- the same (register)
-unfoldable pub compare_register : CompareRegister → Registers → Registers
+abbrev pub compare_register : CompareRegister → Registers → Registers
 compare_register o r = record r { flags = (with_shifted (compared_by o.operation) o.first o.second r).1 }
 
 -- ---- moves
@@ -133,19 +134,19 @@ moved_value Move x = x
 moved_value MoveNot x = inverted x
 
 -- MOV and MVN (immediate)
-unfoldable pub move_immediate : MoveImmediate → Registers → Registers
+abbrev pub move_immediate : MoveImmediate → Registers → Registers
 move_immediate o r =
     written o.flags o.destination
     (logical r.flags (moved_value o.operation o.source.value) (immediate_carry o.source r.flags)) r
 
 -- MOV and MVN (register); LSL, LSR, ASR and ROR (immediate), and RRX
-unfoldable pub move_register : MoveRegister → Registers → Registers
+abbrev pub move_register : MoveRegister → Registers → Registers
 move_register o r =
     written o.flags o.destination
     (logical r.flags (moved_value o.operation (shifted o.source r).0) (shifted o.source r).1) r
 
 -- MOVT: R[d]<31:16> = imm16, and R[d]<15:0> stays
-unfoldable pub move_top : MoveTop → Registers → Registers
+abbrev pub move_top : MoveTop → Registers → Registers
 move_top o r = with_register r o.destination (o.value * 2 ^ 16 + register r o.destination % 2 ^ 16)
 
 -- ---- shifts by a register
@@ -155,7 +156,7 @@ abbrev pub shifted_by_register : ShiftByRegister → Registers → ℕ × Bool
 shifted_by_register o r = shift_c (register r o.source) o.shift_type (register r o.amount % 2 ^ 8) r.flags.carry
 
 -- LSL, LSR, ASR and ROR (register)
-unfoldable pub shift_by_register : ShiftByRegister → Registers → Registers
+abbrev pub shift_by_register : ShiftByRegister → Registers → Registers
 shift_by_register o r =
     written o.flags o.destination (logical r.flags (shifted_by_register o r).0 (shifted_by_register o r).1) r
 
@@ -166,5 +167,5 @@ abbrev pub aligned_pc : Registers → ℕ
 aligned_pc r = register r 15 / 4 * 4
 
 -- ADR: Align(PC, 4) and the offset
-unfoldable pub address : Address → Registers → Registers
+abbrev pub address : Address → Registers → Registers
 address o r = with_register r o.destination (word_sum (aligned_pc r) o.offset)

@@ -1,4 +1,4 @@
-//! The words for one access to memory: what it is for, how wide it is, and what became of it.
+//! The types for one access to memory: what it is for, how wide it is, and what became of it.
 
 ghost use Rattle.std.specs.Prelude.{◌≡◌};
 ghost use Rattle.reference.specs.Kinds.{bytes_in, is_fetch, is_load, is_probe, is_store, is_vector, is_word, is_write};
@@ -26,6 +26,7 @@ pub enum Kind {
 }
 
 impl Kind {
+    /// Returns whether the access is a fetch.
     #[inline]
     pub fn is_fetch(self) -> bool
         ensures { result ≡ is_fetch self }
@@ -33,6 +34,7 @@ impl Kind {
         matches!(self, Kind::Fetch)
     }
 
+    /// Returns whether the access is a load.
     #[inline]
     pub fn is_load(self) -> bool
         ensures { result ≡ is_load self }
@@ -40,6 +42,7 @@ impl Kind {
         matches!(self, Kind::Load)
     }
 
+    /// Returns whether the access is a store.
     #[inline]
     pub fn is_store(self) -> bool
         ensures { result ≡ is_store self }
@@ -47,7 +50,7 @@ impl Kind {
         matches!(self, Kind::Store)
     }
 
-    /// Whether it is a store, or a push of exception entry.
+    /// Returns whether the access is a store, or a push of exception entry.
     #[inline]
     pub fn is_write(self) -> bool
         ensures { result ≡ is_write self }
@@ -55,6 +58,7 @@ impl Kind {
         matches!(self, Kind::Store | Kind::Push)
     }
 
+    /// Returns whether the access is a read of a vector.
     #[inline]
     pub fn is_vector(self) -> bool
         ensures { result ≡ is_vector self }
@@ -62,6 +66,7 @@ impl Kind {
         matches!(self, Kind::Vector)
     }
 
+    /// Returns whether the access is a probe.
     #[inline]
     pub fn is_probe(self) -> bool
         ensures { result ≡ is_probe self }
@@ -79,7 +84,7 @@ pub enum Size {
 }
 
 impl Size {
-    /// The number of bytes: 1, 2 or 4.
+    /// Returns the number of bytes: 1, 2 or 4.
     #[inline]
     pub fn bytes(self) -> u32
         ensures { result ≡ bytes_in self }
@@ -91,6 +96,7 @@ impl Size {
         }
     }
 
+    /// Returns whether the size is a word.
     #[inline]
     pub fn is_word(self) -> bool
         ensures { result ≡ is_word self }

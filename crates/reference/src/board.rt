@@ -1,4 +1,4 @@
-//! What a board brings to the machine, its script aside.
+//! The numbers of a board, without its script.
 
 ghost use Rattle.std.specs.Prelude.{◌≡◌, ◌+◌, ◌%◌, ◌≤◌};
 ghost use Rattle.reference.specs.declared.exception.TheConstants.{MOST_LINES};
@@ -9,7 +9,7 @@ use crate::mpu::RegionCount;
 /// The sizes and numbers that differ from one board to the next (profile).
 #[derive(Clone, Copy)]
 pub struct Layout {
-    /// The address of the first byte of flash, a multiple of 1,024. The vector table stands there.
+    /// The address of the first byte of flash, a multiple of 1,024. The vector table is there.
     pub flash_base: u32,
     /// The bytes of flash, a multiple of 1,024 from 1,024 to 1,048,576.
     pub flash_size: u32,
@@ -31,7 +31,7 @@ pub struct Layout {
     pub ghost flash_is_small: { flash_size ≤ 0x10_0000 },
     pub ghost ram_is_whole: { ram_size % 1024 ≡ 0 },
     pub ghost ram_is_there: { 1024 ≤ ram_size },
-    pub ghost small: { ram_size ≤ 0x10_0000 },
+    pub ghost ram_is_small: { ram_size ≤ 0x10_0000 },
     pub ghost bits_are_enough: { 3 ≤ priority_bits },
     pub ghost bits_are_few: { priority_bits ≤ 8 },
     pub ghost lines_are_few: { lines ≤ MOST_LINES },

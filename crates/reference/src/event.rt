@@ -1,4 +1,4 @@
-//! What a step tells: the lines of the trace as data.
+//! The events of a step: the lines of the trace as data.
 
 use crate::access::DecidedAccess;
 
@@ -13,7 +13,7 @@ pub struct Event {
     pub what: Happening,
 }
 
-/// What a line tells.
+/// What an event is.
 #[derive(Clone, Copy)]
 pub enum Happening {
     /// An access was decided.

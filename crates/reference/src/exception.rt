@@ -1,4 +1,4 @@
-//! The words for exceptions: their numbers, their priorities, the masks, and what becomes of a
+//! The types for exceptions: their numbers, their priorities, the masks, and what becomes of a
 //! fault.
 
 ghost use Rattle.std.specs.Prelude.{◌≡◌, ◌+◌, ◌≤◌, pos, ◌+ℤ◌, nat_lt};
@@ -38,9 +38,8 @@ pub const MOST_LINES: u8 = 240;
 /// One more than the greatest number of an exception here.
 pub const EXCEPTIONS: u16 = 256;
 
-/// The number of a priority is the less, the more urgent it is: -2 of NMI, -1 of HardFault, 0 to
-/// 255 of any other exception, and 256 where nothing is active and nothing is masked. A contract
-/// sees it as that number plus 2, which is a whole number.
+/// A priority: -2 for NMI, -1 for HardFault, 0 to 255 for a byte, 256 where nothing is active or
+/// masked. A lower number is more urgent. Contracts see the number plus 2.
 #[derive(Clone, Copy)]
 pub struct Priority {
     raised: u16,
@@ -68,7 +67,7 @@ impl Priority {
     /// 256, where nothing is active and nothing is masked.
     pub const LOWEST: Priority = Priority { raised: 258 };
 
-    /// The priority of this byte.
+    /// Returns the priority of this byte.
     #[inline]
     pub fn of_byte(byte: u8) -> Self
         ensures { result ≡ byte + 2 }
@@ -78,14 +77,14 @@ impl Priority {
         }
     }
 
-    /// Its number, from -2 to 256.
+    /// Returns the number of the priority, from -2 to 256.
     pub fn number(self) -> i16
         ensures { result +ℤ pos 2 ≡ pos self }
     {
         self.raised as i16 - 2
     }
 
-    /// Whether it's below 0, as those of NMI and HardFault are.
+    /// Returns whether the priority is below 0, as those of NMI and HardFault are.
     #[inline]
     pub fn is_negative(self) -> bool
         ensures { result ≡ nat_lt self 2 }
@@ -93,7 +92,7 @@ impl Priority {
         self.raised < 2
     }
 
-    /// Whether its number is less, so that it's the more urgent one.
+    /// Returns whether the priority has a lower number than the other, which is more urgent.
     #[inline]
     pub fn is_below(self, other: Priority) -> bool
         ensures { result ≡ nat_lt self other }

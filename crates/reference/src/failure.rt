@@ -10,7 +10,7 @@ pub enum Failure {
     Refused(Access, Cause),
     /// A usage fault.
     Usage(UsageFault),
-    /// The machine stops by name.
+    /// The machine stops with a named stop.
     Stop(Stop),
 }
 
@@ -25,7 +25,8 @@ pub enum UsageFault {
     InvalidReturn,
     /// NOCP: a coprocessor instruction.
     NoCoprocessor,
-    /// UNALIGNED: an unaligned access that is never made or that CCR.UNALIGN_TRP traps.
+    /// UNALIGNED: an unaligned LDM, STM, LDRD, STRD or exclusive, or an access that CCR.UNALIGN_TRP
+    /// traps.
     Unaligned,
     /// DIVBYZERO: a division by zero that CCR.DIV_0_TRP traps.
     DivideByZero,

@@ -1,9 +1,9 @@
-//! The refusals of files and of placed values. A refusal's number is its place in its list.
+//! The refusals of files and of placed values. Each refusal of a file has a fixed number.
 
 use crate::stop::Stop;
 use thiserror::Error;
 
-/// Why a file isn't an image that this machine takes, in the order in which a file is looked at.
+/// Why a file isn't an image that this machine takes. docs/FILES.md has the order of the tests.
 #[derive(Clone, Copy, Debug, Error)]
 pub enum LoadFault {
     #[error("the file ends within the ELF header or the program headers")]
@@ -26,8 +26,7 @@ pub enum LoadFault {
     TooManySegments,
 }
 
-/// Why a text isn't a board that this machine takes. A text is looked at key by key, so a refusal's
-/// number isn't its place in the order of the checks: docs/FILES.md has that order.
+/// Why a text isn't a board that this machine takes. docs/FILES.md has the order of the tests.
 #[derive(Clone, Copy, Debug, Error)]
 pub enum BoardFault {
     #[error("the text isn't TOML")]
@@ -64,6 +63,6 @@ pub enum PlaceFault {
     NoSuchPlace,
     /// The machine has stopped, is in the entry phase, or is in Handler mode.
     Stopped,
-    /// The machine would stop so if it were placed.
+    /// The store of the value would stop the machine with this stop.
     Refused(Stop),
 }

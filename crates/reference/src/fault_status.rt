@@ -1,5 +1,5 @@
 //! What a fault pends, and what it sets (ARM DDI 0403, "Configurable Fault Status Register",
-//! "HardFault Status Register", "MemManage Address Register" and "BusFault Address Register").
+//! "HardFault Status Register", "MemManage Fault Address Register" and "BusFault Address Register").
 
 // ---- MMFSR, bits 7:0 of CFSR
 

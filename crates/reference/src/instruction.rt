@@ -23,9 +23,8 @@ pub enum Decoded {
     Undefined,
     /// A coprocessor's instruction: UsageFault NOCP.
     NoCoprocessor,
-    /// A row that stops the machine by name, wherever it is met: how the row stands in an IT block,
-    /// which is asked before any cause but `Encoding`, and the first cause of those that the row
-    /// alone decides. Beside `Encoding` the first has no effect.
+    /// A row that is UNPREDICTABLE: where it may be in an IT block, and its first cause. The stop is
+    /// `Encoding` if that is the cause, else `ItBlock` if the place isn't allowed, else the cause.
     Unpredictable(BlockPlace, UnpredictableCase),
 }
 
@@ -47,7 +46,7 @@ pub enum InstructionLength {
 }
 
 impl InstructionLength {
-    /// The number of bytes: 2 or 4.
+    /// Returns the number of bytes: 2 or 4.
     #[inline]
     pub fn bytes(self) -> u32
         ensures { result ≡ instruction_bytes self }
@@ -59,7 +58,7 @@ impl InstructionLength {
     }
 }
 
-/// Where an instruction may stand in an IT block.
+/// Where an instruction may be in an IT block.
 #[derive(Clone, Copy)]
 pub enum BlockPlace {
     Anywhere,

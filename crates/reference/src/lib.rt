@@ -1,5 +1,5 @@
-//! The words that the definitions and the code share. The definitions of the reference machine
-//! stand in `specs/`, one file a chapter; docs/REFERENCE.md says in which order to read them.
+//! The types that the definitions and the code share. The definitions of the reference machine
+//! are in `specs/`, one file a chapter; docs/REFERENCE.md says in which order to read them.
 #![tactic(auto)]
 
 pub mod access;

@@ -1,4 +1,4 @@
-//! The words for the registers of the Memory Protection Unit.
+//! The types for the registers of the Memory Protection Unit.
 
 ghost use Rattle.std.specs.Prelude.{◌≡◌, ◌⊎◌};
 ghost use Rattle.reference.specs.Regions.{region_number};
@@ -10,7 +10,7 @@ pub enum MpuRegister {
     Type,
     /// MPU_CTRL: ENABLE, HFNMIENA and PRIVDEFENA.
     Control,
-    /// MPU_RNR: the number of the region that RBAR and RASR are of.
+    /// MPU_RNR: the region that RBAR and RASR access.
     Number,
     /// MPU_RBAR: where the region begins.
     Base,
@@ -18,10 +18,10 @@ pub enum MpuRegister {
     Attributes,
 }
 
-/// A write that the manual calls UNPREDICTABLE, and at which this project stops by name.
+/// A write that the manual calls UNPREDICTABLE, and that stops the machine with a named stop.
 #[derive(Clone, Copy)]
 pub enum MpuStop {
-    /// A region number, a size, an access permission or subregions that aren't there.
+    /// A region number, SIZE, AP or SRD that the manual doesn't allow.
     Region,
     /// MPU_CTRL.HFNMIENA without ENABLE.
     Control,
@@ -36,6 +36,9 @@ pub struct Region {
     pub attributes: u32,
 }
 
+/// The most regions that an MPU can have here, of the 256 that MPU_TYPE.DREGION can say (profile).
+pub const MOST_REGIONS: u8 = 16;
+
 /// How many regions an MPU has: MPU_TYPE.DREGION.
 #[derive(Clone, Copy)]
 pub enum RegionCount {
@@ -44,14 +47,14 @@ pub enum RegionCount {
 }
 
 impl RegionCount {
-    /// The number, 8 or 16.
+    /// Returns the number, 8 or 16.
     pub fn number(self) -> u8
         ensures value { result ≡ region_number self }
         ensures either { (result ≡ 8) ⊎ (result ≡ 16) }
     {
         match self {
             RegionCount::Eight => 8,
-            RegionCount::Sixteen => 16,
+            RegionCount::Sixteen => MOST_REGIONS,
         }
     }
 }

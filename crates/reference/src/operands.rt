@@ -14,7 +14,7 @@ use crate::shift::{Shift, ShiftType};
 #[derive(Clone, Copy)]
 pub enum FlagSetting {
     Never,
-    /// Unless it stands in an IT block.
+    /// Unless it is in an IT block.
     OutsideBlock,
     Always,
 }
@@ -24,11 +24,11 @@ pub enum FlagSetting {
 pub enum DataOperation {
     /// AND.
     And,
-    /// BIC: AND with the second operand turned over.
+    /// BIC: AND with the second operand inverted.
     BitClear,
     /// ORR.
     Or,
-    /// ORN: ORR with the second operand turned over.
+    /// ORN: ORR with the second operand inverted.
     OrNot,
     /// EOR.
     ExclusiveOr,
@@ -44,7 +44,7 @@ pub enum DataOperation {
     ReverseSubtract,
 }
 
-/// What a comparison sets the flags by.
+/// The operation whose flags a comparison sets.
 #[derive(Clone, Copy)]
 pub enum Comparison {
     /// TST: as AND.
@@ -62,7 +62,7 @@ pub enum Comparison {
 pub enum MoveOperation {
     /// MOV.
     Move,
-    /// MVN: every bit turned over.
+    /// MVN: every bit inverted.
     MoveNot,
 }
 
@@ -101,7 +101,7 @@ pub struct DataRegister {
     pub second: ShiftedRegister,
 }
 
-/// A register is given a number.
+/// The operands of MOV and MVN (immediate).
 #[derive(Clone, Copy)]
 pub struct MoveImmediate {
     pub operation: MoveOperation,
@@ -110,7 +110,7 @@ pub struct MoveImmediate {
     pub source: Immediate,
 }
 
-/// A register is given another, shifted.
+/// The operands of MOV and MVN (register), and of shifts by a number.
 #[derive(Clone, Copy)]
 pub struct MoveRegister {
     pub operation: MoveOperation,
@@ -119,7 +119,7 @@ pub struct MoveRegister {
     pub source: ShiftedRegister,
 }
 
-/// The upper half of a register is given a number.
+/// The operands of MOVT.
 #[derive(Clone, Copy)]
 pub struct MoveTop {
     pub destination: Register,
@@ -152,7 +152,7 @@ pub struct ShiftByRegister {
     pub amount: Register,
 }
 
-/// A register is given the PC, rounded down to a word, and an offset.
+/// The operands of ADR.
 #[derive(Clone, Copy)]
 pub struct Address {
     pub destination: Register,
@@ -251,14 +251,14 @@ pub struct ClearField {
     pub width: u8,
 }
 
-/// The low byte or halfword of a turned register, extended to a word.
+/// The low byte or halfword of a rotated register, extended to a word.
 #[derive(Clone, Copy)]
 pub struct Extend {
     pub signed: bool,
     pub size: Size,
     pub destination: Register,
     pub source: Register,
-    /// How far the register is turned right: 0, 8, 16 or 24.
+    /// How far the register is rotated right: 0, 8, 16 or 24.
     pub rotation: u8,
 }
 
@@ -267,13 +267,13 @@ pub struct Extend {
 pub enum Rearrangement {
     /// REV: the bytes of the word in the other order.
     ReverseWord,
-    /// REV16: those of each halfword.
+    /// REV16: the bytes of each halfword in the other order.
     ReverseHalfwords,
-    /// REVSH: those of the low halfword, extended with its sign.
+    /// REVSH: the bytes of the low halfword in the other order, sign-extended.
     ReverseSignedHalfword,
     /// RBIT: the bits in the other order.
     ReverseBits,
-    /// CLZ: how many zeros stand above the highest one.
+    /// CLZ: how many zeros are above the highest one.
     CountLeadingZeros,
 }
 
@@ -302,7 +302,7 @@ pub enum Indexing {
     Offset,
     /// Base and offset; the base becomes that address.
     PreIndexed,
-    /// The base; it becomes base and offset.
+    /// The address is the base; afterwards the base becomes base + offset.
     PostIndexed,
 }
 
@@ -324,6 +324,7 @@ pub struct RegisterAddress {
     pub shift: u8,
 }
 
+/// The operands of LDR and its forms (immediate), and of the unprivileged loads.
 #[derive(Clone, Copy)]
 pub struct LoadImmediate {
     pub form: LoadForm,
@@ -333,6 +334,7 @@ pub struct LoadImmediate {
     pub unprivileged: bool,
 }
 
+/// The operands of LDR and its forms (register).
 #[derive(Clone, Copy)]
 pub struct LoadRegister {
     pub form: LoadForm,
@@ -349,6 +351,7 @@ pub struct LoadLiteral {
     pub offset: u32,
 }
 
+/// The operands of STR and its forms (immediate), and of the unprivileged stores.
 #[derive(Clone, Copy)]
 pub struct StoreImmediate {
     pub size: Size,
@@ -358,6 +361,7 @@ pub struct StoreImmediate {
     pub unprivileged: bool,
 }
 
+/// The operands of STR and its forms (register).
 #[derive(Clone, Copy)]
 pub struct StoreRegister {
     pub size: Size,
@@ -373,7 +377,7 @@ pub struct LoadDual {
     pub address: ImmediateAddress,
 }
 
-/// The same at the PC and an offset.
+/// The operands of LDRD (literal).
 #[derive(Clone, Copy)]
 pub struct LoadDualLiteral {
     pub first: Register,
@@ -390,7 +394,7 @@ pub struct StoreDual {
     pub address: ImmediateAddress,
 }
 
-/// Where the words of a list stand.
+/// Where the words of a list are.
 #[derive(Clone, Copy)]
 pub enum ListOrder {
     /// Upward from the base.
@@ -419,6 +423,7 @@ pub struct StoreMultiple {
     pub write_back: bool,
 }
 
+/// The operands of LDREX, LDREXB and LDREXH.
 #[derive(Clone, Copy)]
 pub struct LoadExclusive {
     pub size: Size,
@@ -428,10 +433,11 @@ pub struct LoadExclusive {
     pub offset: u32,
 }
 
+/// The operands of STREX, STREXB and STREXH.
 #[derive(Clone, Copy)]
 pub struct StoreExclusive {
     pub size: Size,
-    /// The register that tells whether the store was made.
+    /// The register that becomes 0 if the store was made, and 1 if not.
     pub status: Register,
     pub target: Register,
     pub base: Register,
@@ -441,17 +447,19 @@ pub struct StoreExclusive {
 
 // ---- branches and control
 
-/// Where a branch goes.
+/// The operand of B and BL.
 #[derive(Clone, Copy)]
 pub struct Offset {
-    /// Added to the PC as an operand, modulo 2^32: a negative offset is its two's complement.
+    /// In bytes, from the PC as an operand; modulo 2^32.
     pub offset: u32,
 }
 
+/// The operands of B with a condition.
 #[derive(Clone, Copy)]
 pub struct ConditionalBranch {
     /// The four bits of the condition, from 0 to 13.
     pub condition: u8,
+    /// In bytes, from the PC as an operand; modulo 2^32.
     pub offset: u32,
 }
 
@@ -469,6 +477,7 @@ pub struct CompareAndBranch {
     /// Whether it is taken where the register isn't 0.
     pub nonzero: bool,
     pub register: Register,
+    /// In bytes, 0 to 126.
     pub offset: u32,
 }
 
@@ -490,7 +499,7 @@ pub struct IfThen {
     pub mask: u8,
 }
 
-/// Interrupts are masked, or let through.
+/// The operands of CPS.
 #[derive(Clone, Copy)]
 pub struct ChangeProcessorState {
     /// Whether the masks are set.
@@ -543,12 +552,14 @@ impl SpecialRegister {
     }
 }
 
+/// The operands of MSR.
 #[derive(Clone, Copy)]
 pub struct MoveToSpecial {
     pub special: SpecialRegister,
     pub source: Register,
 }
 
+/// The operands of MRS.
 #[derive(Clone, Copy)]
 pub struct MoveFromSpecial {
     pub special: SpecialRegister,

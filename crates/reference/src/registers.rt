@@ -1,4 +1,4 @@
-//! The words for the core registers.
+//! The types for the core registers.
 
 ghost use Rattle.std.specs.Prelude.{◌≡◌, ◌<◌};
 
@@ -30,7 +30,7 @@ impl Register {
     /// The program counter.
     pub const PC: Register = Register { number: 15 };
 
-    /// The register of this number.
+    /// Returns the register of this number.
     pub const fn new(number: u8) -> Self
         requires { number < 16 }
         ensures { result ≡ number }
@@ -38,7 +38,7 @@ impl Register {
         Register { number }
     }
 
-    /// Its number, from 0 to 15.
+    /// Returns the number of the register, from 0 to 15.
     pub fn number(self) -> u8
         ensures value { result ≡ self }
         ensures small { result < 16 }
@@ -64,14 +64,14 @@ impl Model for RegisterList {
 }
 
 impl RegisterList {
-    /// The registers whose bits are set.
+    /// Returns the list of the registers whose bits are set.
     pub const fn new(bits: u16) -> Self
         ensures { result ≡ bits }
     {
         RegisterList { bits }
     }
 
-    /// The bit of each register.
+    /// Returns the bits of the list, bit n for register n.
     pub const fn bits(self) -> u16
         ensures { result ≡ self }
     {
@@ -86,9 +86,9 @@ pub struct Flags {
     pub negative: bool,
     /// Z: the result is 0.
     pub zero: bool,
-    /// C: the sum isn't the unsigned result, or the bit that was shifted out last.
+    /// C: the carry out of a sum, or the last bit shifted out.
     pub carry: bool,
-    /// V: the sum isn't the signed result.
+    /// V: the signed sum doesn't fit in 32 bits.
     pub overflow: bool,
     /// Q: a saturating instruction changed its value.
     pub saturated: bool,

@@ -1,4 +1,4 @@
-//! The words for a board's script: what happens on its lines, and when.
+//! The types for a board's script: what happens on its lines, and when.
 
 ghost use Rattle.std.specs.Prelude.{◌≡◌, ◌<◌};
 
@@ -26,7 +26,7 @@ impl Model for InterruptLine {
 }
 
 impl InterruptLine {
-    /// The line of this number.
+    /// Returns the line of this number.
     pub const fn new(number: u8) -> Self
         requires { number < MOST_LINES }
         ensures { result ≡ number }
@@ -34,7 +34,7 @@ impl InterruptLine {
         InterruptLine { number }
     }
 
-    /// Its number, from 0 to 239.
+    /// Returns the number of the line, from 0 to 239.
     pub fn number(self) -> u8
         ensures value { result ≡ self }
         ensures small { result < MOST_LINES }

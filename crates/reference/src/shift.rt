@@ -1,4 +1,4 @@
-//! The words for shifts.
+//! The types for shifts.
 
 /// How a shift moves the bits of a word: `SRType`.
 #[derive(Clone, Copy)]
@@ -15,7 +15,7 @@ pub enum ShiftType {
     Rrx,
 }
 
-/// A shift whose amount stands in the instruction.
+/// A shift whose amount is in the instruction.
 #[derive(Clone, Copy)]
 pub struct Shift {
     pub shift_type: ShiftType,

@@ -9,7 +9,8 @@ pub enum Stop {
     Breakpoint(u8),
     /// A fault arose where no fault can be taken.
     Lockup,
-    /// The manual calls the case UNPREDICTABLE, or the value stored UNKNOWN, and this project stops there by name.
+    /// The manual calls the case UNPREDICTABLE, or the value stored UNKNOWN, and the machine stops
+    /// with a named stop.
     Unpredictable(UnpredictableCase),
     /// The case is left out of this project's profile.
     OutOfProfile(LeftOut),
@@ -22,10 +23,10 @@ pub enum Stop {
 pub enum UnpredictableCase {
     /// A bit that should be 0 or should be 1 isn't.
     Encoding,
-    /// An instruction stands in an IT block where it may not.
+    /// An instruction is in an IT block where it may not.
     ItBlock,
-    /// A register list has too few registers.
-    EmptyList,
+    /// No register in a list of 16 bits, or fewer than two in one of 32 bits.
+    ShortList,
     /// A register that the row doesn't allow there.
     Registers,
     /// A base register is stored that isn't the lowest of the list: the value stored is UNKNOWN.
@@ -40,7 +41,7 @@ pub enum UnpredictableCase {
     LoadPc,
     /// LDRD (literal) where the PC isn't a multiple of 4.
     LiteralPc,
-    /// A region number or a region size that isn't there.
+    /// A write to RNR, RBAR or RASR: a missing region, SIZE below 4, AP 100, or SRD with SIZE below 7.
     MpuRegion,
     /// MPU_CTRL.HFNMIENA without ENABLE.
     MpuControl,
@@ -59,7 +60,7 @@ pub enum LeftOut {
     ExclusiveDevice,
     /// An unaligned access to the device window or the Private Peripheral Bus.
     UnalignedDevice,
-    /// A system register at a width that it hasn't.
+    /// An access to a system register at a width that the register doesn't have.
     RegisterWidth,
     /// SHCSR with a changed active bit.
     ActiveBit,

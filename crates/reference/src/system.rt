@@ -1,4 +1,4 @@
-//! The words for the registers of the System Control Space.
+//! The types for the registers of the System Control Space.
 
 use crate::mpu::MpuRegister;
 

@@ -2,7 +2,7 @@
 //! `DecodeImmShift()` and `ThumbExpandImm_C()`).
 
 ghost use Rattle.std.specs.Prelude.{◌≡◌, ◌<◌, not};
-ghost use Rattle.reference.specs.Arithmetic.{add_with_carry as sum_of, unsigned_sum as unsigned_sum_of, sum_result, signed_sum, signed, shift_c as shift_of, lsl_c as lsl_of, lsr_c as lsr_of, asr_c as asr_of, ror_c as ror_of, rrx_c as rrx_of, turned as turned_of, decode_imm_shift as decoded_shift, replicated as replicated_of, expand_imm as expanded};
+ghost use Rattle.reference.specs.Arithmetic.{add_with_carry as sum_of, unsigned_sum as unsigned_sum_of, sum_result, signed_sum, signed, shift_c as shift_of, lsl_c as lsl_of, lsr_c as lsr_of, asr_c as asr_of, ror_c as ror_of, rrx_c as rrx_of, rotated as rotated_of, decode_imm_shift as decoded_shift, replicated as replicated_of, expand_imm as expanded};
 ghost use Rattle.reference.specs.Words.{is_bit};
 ghost use Rattle.std.specs.Ordering.{int_eq};
 
@@ -115,16 +115,16 @@ fn asr_c(value: u32, amount: u8) -> (u32, bool)
 fn ror_c(value: u32, amount: u8) -> (u32, bool)
     ensures { result ≡ ror_of value amount }
 {
-    let result = turned(value, amount % 32);
+    let result = rotated(value, amount % 32);
     (result, is_negative(result))
 }
 
 /// `LSR(value, amount) OR LSL(value, 32 - amount)`.
 #[inline]
 #[tactic(auto, using(crate::proofs::Shifts::turned_apart))]
-fn turned(value: u32, amount: u8) -> u32
+fn rotated(value: u32, amount: u8) -> u32
     requires { amount < 32 }
-    ensures { result ≡ turned_of value amount }
+    ensures { result ≡ rotated_of value amount }
 {
     if amount == 0 {
         return value;

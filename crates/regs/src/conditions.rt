@@ -19,7 +19,7 @@ impl Regs {
     /// block, and outside one it always holds.
     #[inline]
     pub fn condition_passed(&self) -> bool
-        ensures { result ≡ passed_of self.now.it self.now.flags }
+        ensures { result ≡ passed_of self.now.it_state self.now.flags }
     {
         // Most instructions stand outside an IT block, so that is asked first.
         !self.in_it_block() || self.condition(self.current_condition())
@@ -29,10 +29,10 @@ impl Regs {
     /// 14 (AL) outside one.
     #[inline]
     pub fn current_condition(&self) -> u8
-        ensures { result ≡ current_of self.now.it }
+        ensures { result ≡ current_of self.now.it_state }
     {
         if self.in_it_block() {
-            self.it() >> 4
+            self.it_state() >> 4
         } else {
             14
         }
@@ -41,25 +41,25 @@ impl Regs {
     /// `InITBlock()`.
     #[inline]
     pub fn in_it_block(&self) -> bool
-        ensures { result ≡ in_block_of self.now.it }
+        ensures { result ≡ in_block_of self.now.it_state }
     {
-        self.it() & 0b1111 != 0
+        self.it_state() & 0b1111 != 0
     }
 
     /// `LastInITBlock()`.
     #[inline]
     pub fn last_in_it_block(&self) -> bool
-        ensures { result ≡ last_in_block_of self.now.it }
+        ensures { result ≡ last_in_block_of self.now.it_state }
     {
-        self.it() & 0b1111 == 0b1000
+        self.it_state() & 0b1111 == 0b1000
     }
 
     /// `ITAdvance()`, which outside an IT block leaves all as it is.
     #[inline]
     pub fn it_advance(&mut self)
-        ensures { self.new ≡ record self.old { it = advanced self.old.it } }
+        ensures { self.new ≡ record self.old { it_state = advanced self.old.it_state } }
     {
-        self.set_it(it_advanced(self.it()));
+        self.set_it_state(it_advanced(self.it_state()));
     }
 }
 

@@ -2,7 +2,7 @@
 //! `ExceptionTaken()` and `PopStack()`).
 
 ghost use Rattle.std.specs.Prelude.{◌≡◌, ◌<◌, length};
-ghost use Rattle.reference.specs.Frames.{exc_return as exc_return_of, returns_to_handler as returns_to_handler_of, returns_on_psp as returns_on_psp_of, frame_base, frame as words_of, with_frame, in_handler, frame_pointer, above_frame as above_frame_of, general_popped, it_of as it_of_word, popped};
+ghost use Rattle.reference.specs.Frames.{exc_return as exc_return_of, returns_to_handler as returns_to_handler_of, returns_on_psp as returns_on_psp_of, frame_base, frame as words_of, with_frame, in_handler, frame_pointer, above_frame as above_frame_of, frame_word as frame_word_of, general_popped, it_of as it_of_word, popped};
 ghost use Rattle.reference.specs.Registers.{sp};
 
 use crate::{Regs, flags_of, weighed};
@@ -89,7 +89,7 @@ impl Regs {
     {
         self.branch_exchange(vector);
         self.lr = exc_return;
-        self.it = 0;
+        self.it_state = 0;
         self.exception = exception;
         self.process_stack = false;
         self.clear_mark();
@@ -112,7 +112,7 @@ impl Regs {
         requires { length frame.now ≡ 8 }
         ensures { self.new ≡ popped self.old exc_return frame.now }
     {
-        let xpsr = frame[7];
+        let xpsr = frame_word(frame, 7);
         let above = above_frame(self.returned_stack(exc_return), xpsr);
         self.process_stack = returns_on_psp(exc_return);
         if self.process_stack {
@@ -121,10 +121,10 @@ impl Regs {
             self.msp = above;
         }
         self.pop_general(frame);
-        self.lr = frame[5];
-        self.pc = frame[6];
+        self.lr = frame_word(frame, 5);
+        self.pc = frame_word(frame, 6);
         self.flags = flags_of(xpsr);
-        self.it = it_of(xpsr);
+        self.it_state = it_of(xpsr);
         self.thumb = xpsr >> 24 & 1 == 1;
         self.exception = (xpsr & 0x1FF) as u16;
         self.monitor = None;
@@ -135,12 +135,21 @@ impl Regs {
         requires { length frame.now ≡ 8 }
         ensures { self.new ≡ record self.old { general = general_popped self.old.general frame.now } }
     {
-        self.general[0] = frame[0];
-        self.general[1] = frame[1];
-        self.general[2] = frame[2];
-        self.general[3] = frame[3];
-        self.general[12] = frame[4];
+        self.general[0] = frame_word(frame, 0);
+        self.general[1] = frame_word(frame, 1);
+        self.general[2] = frame_word(frame, 2);
+        self.general[3] = frame_word(frame, 3);
+        self.general[12] = frame_word(frame, 4);
     }
+}
+
+/// Returns word `place` of a frame, counted from its address upward.
+fn frame_word(frame: &[u32], place: usize) -> u32
+    requires whole { length frame.now ≡ 8 }
+    requires within { place < 8 }
+    ensures { result ≡ frame_word_of frame.now place }
+{
+    frame[place]
 }
 
 /// Returns the stack pointer above a frame, with bit 2 as it was before the frame was pushed.

@@ -3,7 +3,7 @@
 #![tactic(auto)]
 
 ghost use Rattle.std.specs.Prelude.{◌≡◌, ◌<◌, ◌≤◌, ◌-◌, ◌*◌, ◌/◌, ◌^◌};
-ghost use Rattle.reference.specs.Registers.{register as register_of, with_register, with_pc, with_exchange, sp as sp_of, is_handler as is_handler_of, is_privileged as is_privileged_of, apsr as apsr_of, flags_of, xpsr as xpsr_of, control as control_of, weighed as weighed_of, uses_psp as uses_psp_of, with_sp, reset_registers};
+ghost use Rattle.reference.specs.Registers.{register as register_of, with_register, with_pc, with_exchange, sp as sp_of, is_handler as is_handler_of, is_privileged as is_privileged_of, apsr as apsr_of, flags_of, xpsr as xpsr_of, control as control_of, weighed as weighed_of, uses_psp as uses_psp_of, with_sp, stack_pointer, reset_registers};
 ghost use Rattle.reference.specs.SpecialRegisters.{control_written};
 ghost use Rattle.reference.specs.Words.{word_sum};
 
@@ -34,7 +34,7 @@ pub struct Regs {
     lr: u32,
     pc: u32,
     flags: Flags,
-    it: u8,
+    it_state: u8,
     thumb: bool,
     exception: u16,
     unprivileged: bool,
@@ -55,7 +55,7 @@ impl Model for Regs {
       lr = r.lr;
       pc = r.pc;
       flags = r.flags;
-      it = r.it;
+      it_state = r.it_state;
       thumb = r.thumb;
       exception = r.exception;
       unprivileged = r.unprivileged;
@@ -84,7 +84,7 @@ impl Regs {
                 overflow: false,
                 saturated: false,
             },
-            it: 0,
+            it_state: 0,
             thumb: entry & 1 == 1,
             exception: 0,
             unprivileged: false,
@@ -213,10 +213,10 @@ impl Regs {
 
     /// The eight bits of EPSR.IT are given.
     #[inline]
-    pub fn set_it(&mut self, it: u8)
-        ensures { self.new ≡ record self.old { it = it } }
+    pub fn set_it_state(&mut self, it_state: u8)
+        ensures { self.new ≡ record self.old { it_state = it_state } }
     {
-        self.it = it;
+        self.it_state = it_state;
     }
 
     /// Whether a handler runs: Handler mode.
@@ -261,10 +261,10 @@ impl Regs {
 
     /// EPSR.IT.
     #[inline]
-    pub fn it(&self) -> u8
-        ensures { result ≡ self.now.it }
+    pub fn it_state(&self) -> u8
+        ensures { result ≡ self.now.it_state }
     {
-        self.it
+        self.it_state
     }
 
     /// MSP, the main stack pointer.
@@ -296,11 +296,11 @@ impl Regs {
         ensures value { result ≡ xpsr_of self.now }
         ensures room { result < 2 ^ 32 - 2 ^ 9 }
     {
-        let it = self.it as u32;
+        let it_state = self.it_state as u32;
         self.apsr()
-            + (it % 4 << 25)
+            + (it_state % 4 << 25)
             + weighed(self.thumb, 1 << 24)
-            + (it / 4 << 10)
+            + (it_state / 4 << 10)
             + self.exception as u32
     }
 
@@ -325,14 +325,14 @@ impl Regs {
 
     /// Sets MSP to a value, whose bits 1:0 are cleared.
     pub fn set_main_stack(&mut self, value: u32)
-        ensures { self.new ≡ record self.old { msp = value / 4 * 4 } }
+        ensures { self.new ≡ record self.old { msp = stack_pointer value } }
     {
         self.msp = value & !3;
     }
 
     /// Sets PSP to a value, whose bits 1:0 are cleared.
     pub fn set_process_stack(&mut self, value: u32)
-        ensures { self.new ≡ record self.old { psp = value / 4 * 4 } }
+        ensures { self.new ≡ record self.old { psp = stack_pointer value } }
     {
         self.psp = value & !3;
     }

@@ -5,13 +5,13 @@ use Rattle.reference.specs.declared.stop.Stop.{Stop as Why}
 use Rattle.reference.specs.declared.system.SystemRegister.{SystemRegister}
 use Rattle.reference.specs.Answers.{LeavesUnlessDone}
 use Rattle.reference.specs.Kinds.{is_load, is_store}
-use Rattle.reference.specs.System.{System, Replied, replied, is_allowed, has_width, written, register_at}
+use Rattle.reference.specs.System.{System, SystemAnswer, replied, has_access, has_width, written, register_at}
 use Rattle.reference.specs.System.{register_access, system_access}
 
-abbrev Keeps : System → Replied → Type 0
+abbrev Keeps : System → SystemAnswer → Type 0
 Keeps s r = LeavesUnlessDone r.answer s r.system
 
-either : (s : System) (test : Bool) (x y : Replied) → Keeps s x → Keeps s y → Keeps s (if test then x else y)
+either : (s : System) (test : Bool) (x y : SystemAnswer) → Keeps s x → Keeps s y → Keeps s (if test then x else y)
 either s true x y first second = first
 either s false x y first second = second
 
@@ -22,7 +22,7 @@ replied_keeps s (Err why) = refl
 register_keeps : (x : ℕ) (s : System) (q : Request) (it : SystemRegister) → Keeps s (register_access x s q it)
 unfolding register_access
 register_keeps x s q it =
-    either s (not (is_allowed s q)) _ _ refl
+    either s (not (has_access s q)) _ _ refl
     (either s (not (has_width it q.access.size)) _ _ refl
     (either s (is_store q.access.kind) _ _ (replied_keeps s (written s q it)) tt))
 

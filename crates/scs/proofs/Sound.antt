@@ -20,8 +20,8 @@ use Rattle.reference.specs.Kinds.{bytes_in, is_load, is_store}
 use Rattle.reference.specs.Priorities.{Nvic, with_active}
 use Rattle.reference.specs.Regions.{Mpu, IsSound as IsSoundMpu, left as left_mpu, write as write_mpu}
 use Rattle.reference.specs.Status.{Status, write_status}
-use Rattle.reference.specs.System.{System, Replied, replied, with_nvic, with_systick, nvic_written, status_written}
-use Rattle.reference.specs.System.{mpu_written, in_place, first_byte, is_allowed, has_width, after_read, written}
+use Rattle.reference.specs.System.{System, SystemAnswer, replied, with_nvic, with_systick, nvic_written, status_written}
+use Rattle.reference.specs.System.{mpu_written, in_place, first_byte, has_access, has_width, after_read, written}
 use Rattle.reference.specs.System.{register_at, register_access, system_access, after_tick, reset_system, is_held}
 use Rattle.reference.specs.System.{deactivated}
 use Rattle.reference.specs.SysTickRegisters.{after_systick_read, write_systick}
@@ -131,7 +131,7 @@ replied_sound : (s : System) (made : Result System Stop) → IsSound (left s mad
 replied_sound s (Ok after) h = h
 replied_sound s (Err why) h = h
 
-either_replied : (test : Bool) (x y : Replied) → IsSound x.system → IsSound y.system
+either_replied : (test : Bool) (x y : SystemAnswer) → IsSound x.system → IsSound y.system
     → IsSound (if test then x else y).system
 either_replied true x y first second = first
 either_replied false x y first second = second
@@ -140,7 +140,7 @@ register_sound : (x : ℕ) (s : System) (q : Request) (it : SystemRegister) → 
     → IsSound (register_access x s q it).system
 unfolding register_access
 register_sound x s q it h =
-    either_replied (not (is_allowed s q)) _ _ h
+    either_replied (not (has_access s q)) _ _ h
     (either_replied (not (has_width it q.access.size)) _ _ h
     (either_replied (is_store q.access.kind) _ _
     (replied_sound s (written s q it) (written_sound s q it h))

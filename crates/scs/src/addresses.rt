@@ -9,7 +9,7 @@ use crate::handlers::handler_priority_at;
 use crate::interrupts::{interrupt_priority_at, interrupts_at, word_number};
 use crate::status::{has_parts, status_at};
 use crate::systick::systick_at;
-use mpu::register_at as mpu_at;
+use mpu::mpu_register_at;
 use reference::access::{Request, Size};
 use reference::system::SystemRegister;
 
@@ -36,7 +36,7 @@ pub fn register_at(word: u32) -> SystemRegister
     if let Some(first) = handler_priority_at(word) {
         return SystemRegister::Priorities(first);
     }
-    if let Some(register) = mpu_at(word) {
+    if let Some(register) = mpu_register_at(word) {
         return SystemRegister::Mpu(register);
     }
     single_at(word)

@@ -3,7 +3,7 @@
 ghost use Rattle.std.specs.Prelude.{◌≡◌, ◌+◌, ◌^◌, ◌<◌, ◌≤◌, ◌⊎◌, ℕ, true, false};
 ghost use Rattle.clock.specs.Kept.{IsRight};
 ghost use Rattle.reference.specs.Answers.{IsNarrow, LeavesUnlessDone};
-ghost use Rattle.reference.specs.System.{reset_system, after_tick, deactivated, is_held as is_held_of, is_allowed as is_allowed_of, word_at as word_at_of, after_read, written, register_access, system_access, with_nvic, mpu_written, first_byte as first_byte_of};
+ghost use Rattle.reference.specs.System.{reset_system, after_tick, deactivated, is_held as is_held_of, has_access as is_allowed_of, word_at as word_at_of, after_read, written, register_access, system_access, with_nvic, mpu_written, first_byte as first_byte_of};
 ghost use Rattle.reference.specs.Interrupts.{write_priorities as write_priorities_of};
 ghost use Rattle.reference.specs.Kinds.{bytes_in};
 ghost use Rattle.reference.specs.Regions.{shown, write as write_mpu_of};
@@ -305,7 +305,7 @@ impl<D: Decider, L: Levels, U: DueTicks> System<D, L, U> {
         ensures narrow { IsNarrow request.now.access.size result }
         ensures refused { LeavesUnlessDone result self.old self.new }
     {
-        if !self.is_allowed(request) {
+        if !self.has_access(request) {
             return Answer::Error;
         }
         if !has_width(register, request.access.size) {
@@ -323,7 +323,7 @@ impl<D: Decider, L: Levels, U: DueTicks> System<D, L, U> {
 
     /// Returns whether the bus takes an access: one of privileged code, or a word that is stored to
     /// STIR where CCR.USERSETMPEND is 1.
-    fn is_allowed(&self, request: &Request) -> bool
+    fn has_access(&self, request: &Request) -> bool
         ensures { result ≡ is_allowed_of self.now request.now }
     {
         request.access.privileged

@@ -4,9 +4,10 @@ use Rattle.reference.specs.declared.access.Decision.{Decision}
 use Rattle.reference.specs.declared.access.Request.{Request}
 use Rattle.reference.specs.declared.event.Event.{Event}
 use Rattle.reference.specs.declared.failure.Failure.{Failure}
-use Rattle.reference.specs.Accesses.{Answered, Served, carried_out, decided, decision, perform, value_of, followed}
+use Rattle.reference.specs.Accesses.{BusAnswer, ListResult, answered_by_bus, decided, decision, perform, value_of}
+use Rattle.reference.specs.Accesses.{followed}
 use Rattle.reference.specs.Accesses.{perform_all}
-use Rattle.reference.specs.Invariant.{AreApart}
+use Rattle.reference.specs.Invariant.{FlashEndsBelowRam}
 use Rattle.reference.specs.Kinds.{is_probe}
 use Rattle.reference.specs.Map.{is_in_ppb}
 use Rattle.reference.specs.State.{Bus}
@@ -16,14 +17,14 @@ use Rattle.state_laws.proofs.Systems.{IsWhole, access_whole}
 
 -- what holds of the System Control Space, and of memory
 abbrev pub IsWholeBus : ℕ → ℕ → Bus → Type 0
-IsWholeBus lines bits b = IsWhole lines bits b.system × AreApart b.memory
+IsWholeBus lines bits b = IsWhole lines bits b.system × FlashEndsBelowRam b.memory
 
 pub carried_whole : (lines bits x : ℕ) (b : Bus) (q : Request) → IsWholeBus lines bits b →
-    IsWholeBus lines bits (carried_out x b q).bus
-unfolding carried_out
+    IsWholeBus lines bits (answered_by_bus x b q).bus
+unfolding answered_by_bus
 carried_whole lines bits x b q h =
-    either (λ (a : Answered). IsWholeBus lines bits a.bus) (is_probe q.access.kind) _ _ (λ e. h)
-    (λ e. either (λ (a : Answered). IsWholeBus lines bits a.bus) (is_in_ppb q.access.address) _ _
+    either (λ (a : BusAnswer). IsWholeBus lines bits a.bus) (is_probe q.access.kind) _ _ (λ e. h)
+    (λ e. either (λ (a : BusAnswer). IsWholeBus lines bits a.bus) (is_in_ppb q.access.address) _ _
     (λ f. (access_whole lines bits x b.system q h.0, h.1))
     (λ f. (h.0, space_apart b.memory b.system.time.ticks q h.1)))
 
@@ -37,7 +38,7 @@ pub perform_whole : (lines bits x : ℕ) (b : Bus) (q : Request) → IsWholeBus 
 unfolding perform
 perform_whole lines bits x b q h = decided_whole lines bits x b q (decision b q) _ refl h
 
-followed_whole : (lines bits : ℕ) (events : List Event) (after : Bus) (value : Result ℕ Failure) (rest : Served) →
+followed_whole : (lines bits : ℕ) (events : List Event) (after : Bus) (value : Result ℕ Failure) (rest : ListResult) →
     IsWholeBus lines bits after → IsWholeBus lines bits rest.bus →
     IsWholeBus lines bits (followed events after value rest).bus
 followed_whole lines bits events after (Ok value) rest first others = others

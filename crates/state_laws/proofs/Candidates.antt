@@ -9,8 +9,8 @@ use Rattle.nvic.specs.Laws.{IsReady, IsCandidate}
 use Rattle.reference.specs.declared.exception.Escalation.{Escalation}
 use Rattle.reference.specs.declared.exception.Escalation.TheVariants.{Itself, HardFault, Lockup}
 use Rattle.reference.specs.declared.exception.TheConstants.{EXCEPTIONS, HARD_FAULT}
-use Rattle.reference.specs.Priorities.{Nvic, is_in, is_enabled, is_exception, is_negative, group_priority, lessened}
-use Rattle.reference.specs.Priorities.{least_active, boosted, execution_priority, candidate, with_pending, escalation}
+use Rattle.reference.specs.Priorities.{Nvic, is_in, is_enabled, is_exception, is_negative, group_priority, raised_by}
+use Rattle.reference.specs.Priorities.{highest_active, boosted, execution_priority, candidate, with_pending, escalation}
 use Rattle.reference.specs.System.{with_pended_at, with_pended_below, with_pended}
 use Rattle.state_laws.proofs.Nvic.{either}
 
@@ -42,10 +42,10 @@ preempts n h = lead (candidate n) (candidate_is n) h
 
 -- ---- more become pending
 
-least_kept : (n : Nvic) (p : List Bool) (k : ℕ) → least_active (record n { pending = p }) k ≡ least_active n k
-unfolding least_active
+least_kept : (n : Nvic) (p : List Bool) (k : ℕ) → highest_active (record n { pending = p }) k ≡ highest_active n k
+unfolding highest_active
 least_kept n p zero = refl
-least_kept n p (suc k) = ap (λ least. lessened n k least) (least_kept n p k)
+least_kept n p (suc k) = ap (λ least. raised_by n k least) (least_kept n p k)
 
 execution_kept : (n : Nvic) (p : List Bool) → execution_priority (record n { pending = p }) ≡ execution_priority n
 unfolding execution_priority

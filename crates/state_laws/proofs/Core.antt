@@ -1,5 +1,5 @@
 -- The phases of a step keep what holds of the core registers, from the last one up.
-use Rattle.std.proofs.Common.{ℕ, ◌*◌, ◌/◌, nat_le, false, ◌||◌, List, [], ◌++◌, length, Option, Some}
+use Rattle.std.proofs.Common.{ℕ, nat_le, false, ◌||◌, List, [], ◌++◌, length, Option, Some}
 use Rattle.std.proofs.Common.{None, Result, Ok, Err, refl, arith}
 use Rattle.std.proofs.lemmas.List.{length-replicate}
 use Rattle.reference.specs.declared.access.Request.{Request}
@@ -20,13 +20,13 @@ use Rattle.reference.specs.declared.operands.SpecialRegister.TheVariants.{Apsr, 
 use Rattle.reference.specs.declared.operands.SpecialRegister.TheVariants.{Msp, Psp, Primask, Basepri, BasepriMax}
 use Rattle.reference.specs.declared.operands.SpecialRegister.TheVariants.{Faultmask, Control}
 use Rattle.reference.specs.declared.stop.Stop.{Stop}
-use Rattle.reference.specs.Accesses.{Served, perform_all}
+use Rattle.reference.specs.Accesses.{ListResult, perform_all}
 use Rattle.reference.specs.Arithmetic.{condition_passed}
 use Rattle.reference.specs.Decoding.{is_long}
 use Rattle.reference.specs.Invariant.{HasRegisters}
 use Rattle.reference.specs.Operations.{result_of}
 use Rattle.reference.specs.ProgramCounter.{Finished, moves_on}
-use Rattle.reference.specs.Registers.{Registers, is_privileged, flags_of, reset_registers}
+use Rattle.reference.specs.Registers.{Registers, is_privileged, stack_pointer, flags_of, reset_registers}
 use Rattle.reference.specs.SpecialRegisters.{read_special, is_open, with_special, write_special}
 use Rattle.reference.specs.State.{State, ticked, with_bus, with_registers}
 use Rattle.reference.specs.Step.{ended, finished, served, performed_all, planned, without_meaning, executed}
@@ -37,7 +37,8 @@ use Rattle.state_laws.proofs.Effects.{result_kept}
 use Rattle.state_laws.proofs.Frames.{Has, LeavesGood, failed_kept, supervisor_kept, entry_kept, vector_step_kept}
 use Rattle.state_laws.proofs.Frames.{return_kept}
 use Rattle.state_laws.proofs.Nvic.{either}
-use Rattle.state_laws.proofs.Registers.{Leaves, alike, with_flags, msp_kept, psp_kept, register_kept, moves_on_kept}
+use Rattle.state_laws.proofs.Registers.{stack_pointer_is, code_address_is, zeros_are_words, Leaves, alike, with_flags}
+use Rattle.state_laws.proofs.Registers.{msp_kept, psp_kept, register_kept, moves_on_kept}
 
 -- ---- the end of an instruction
 
@@ -51,13 +52,13 @@ special_kept r Xpsr value h = with_flags r (flags_of value) h
 special_kept r Ipsr value h = h
 special_kept r Epsr value h = h
 special_kept r Iepsr value h = h
-special_kept r Msp value h = msp_kept r (value / 4 * 4) (omega arith) h
-special_kept r Psp value h = psp_kept r (value / 4 * 4) (omega arith) h
+special_kept r Msp value h = msp_kept r (stack_pointer value) (stack_pointer_is value) h
+special_kept r Psp value h = psp_kept r (stack_pointer value) (stack_pointer_is value) h
 special_kept r Primask value h = h
 special_kept r Basepri value h = h
 special_kept r BasepriMax value h = h
 special_kept r Faultmask value h = h
-special_kept r Control value h = alike r _ refl refl refl refl refl refl h
+special_kept r Control value h = alike r _ refl refl refl refl refl refl refl h
 
 write_special_kept : (r : Registers) (special : SpecialRegister) (value : ℕ) → HasRegisters r →
     HasRegisters (write_special r special value)
@@ -81,7 +82,7 @@ finished_kept s events f h = ended_kept (with_registers s f.registers) events f.
 
 -- ---- its accesses
 
-end_kept : (s : State) (events : List Event) (i : CodedInstruction) (all : Served)
+end_kept : (s : State) (events : List Event) (i : CodedInstruction) (all : ListResult)
     (end : Option Failure) → Has s → LeavesGood (served s events i all end)
 end_kept s events i all None h =
     finished_kept (with_bus s all.bus) (events ++ all.events) (result_of i s.registers all.values)
@@ -105,7 +106,7 @@ planned_kept s events i (Err why) h = failed_kept s events why h
 meaningless_kept : (s : State) (events : List Event) (length : InstructionLength) (fault : UsageFault) → Has s →
     LeavesGood (without_meaning s events length fault)
 meaningless_kept s events length fault h =
-    either LeavesGood (condition_passed s.registers.it s.registers.flags) _ _
+    either LeavesGood (condition_passed s.registers.it_state s.registers.flags) _ _
     (λ passed. failed_kept s events (failure.Usage fault) h)
     (λ skipped. finished_kept s events (moves_on length s.registers) (moves_on_kept length s.registers h))
 
@@ -169,9 +170,11 @@ step_kept s h = stopped_kept s s.stop h
 pub reset_has : (stack entry : ℕ) → HasRegisters (reset_registers stack entry)
 reset_has stack entry = record {
   all = length-replicate {A = ℕ} 13 0;
-  msp = omega arith;
-  psp = omega arith;
-  pc = omega arith;
-  it = omega arith;
+  general = zeros_are_words 13;
+  msp = stack_pointer_is stack;
+  psp = stack_pointer_is 0;
+  lr = omega arith;
+  pc = code_address_is entry;
+  it_state = omega arith;
   exception = omega arith;
 }

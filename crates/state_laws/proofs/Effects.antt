@@ -25,22 +25,18 @@ use Rattle.reference.specs.Arithmetic.{condition_holds}
 use Rattle.reference.specs.Branches.{with_link, takes_branch, begun, branch_effect}
 use Rattle.reference.specs.DataProcessing.{processed, writes_pc, data_processing_effect}
 use Rattle.reference.specs.Exclusives.{exclusive_effect}
-use Rattle.reference.specs.Fields.{saturate, extract_field, insert_field, clear_field, extend, rearrange}
 use Rattle.reference.specs.Invariant.{HasRegisters}
 use Rattle.reference.specs.LoadStore.{with_base, writes_back, load_store_effect, offset_address}
 use Rattle.reference.specs.LoadStoreMultiple.{registers_below, with_moved_base, moved_base, loaded, loaded_below_pc}
 use Rattle.reference.specs.LoadStoreMultiple.{load_multiple, load_store_multiple_effect}
 use Rattle.reference.specs.Operations.{is_carried_out, effect, result_of}
-use Rattle.reference.specs.Products.{multiply, multiply_accumulate, multiply_long, divide}
 use Rattle.reference.specs.Registers.{Registers, register, with_register, with_exchange}
 use Rattle.reference.specs.SystemInstructions.{system_effect}
-use Rattle.reference.specs.TwoOperands.{sets_flags, written, data_immediate, data_register, compare_immediate}
-use Rattle.reference.specs.TwoOperands.{compare_register, move_immediate, move_register, move_top, shift_by_register}
-use Rattle.reference.specs.TwoOperands.{address}
+use Rattle.reference.specs.TwoOperands.{sets_flags, written}
 use Rattle.reference.specs.Words.{is_bit}
 use Rattle.state_laws.proofs.Nvic.{either}
 use Rattle.state_laws.proofs.Registers.{Leaves, with_flags, with_monitor, pc_kept, exchange_kept, register_kept}
-use Rattle.state_laws.proofs.Registers.{with_it, next_even, moves_on_kept, branches_kept, branches_by_kept}
+use Rattle.state_laws.proofs.Registers.{with_it, next_address, moves_on_kept, branches_kept, branches_by_kept}
 use Rattle.state_laws.proofs.Registers.{exchanges_kept, loads_into_kept}
 
 -- ---- the instructions that compute
@@ -56,9 +52,7 @@ ruleset writes = (written_kept, register_kept, with_flags)
 
 -- the first line splits the cases; the second is one proof for each other variant
 processed_kept : (i : DataProcessing) (r : Registers) → HasRegisters r → HasRegisters (processed i r)
-unfolding processed data_immediate data_register compare_immediate compare_register move_immediate move_register
-    move_top shift_by_register address multiply multiply_accumulate multiply_long divide saturate extract_field
-    insert_field clear_field extend rearrange
+unfolding processed
 processed_kept (data_processing.CompareImmediate o) r h = with_flags r _ h
 processed_kept i r h = search writes
 
@@ -153,7 +147,7 @@ branch_kept length (branch.CompareAndBranch o) r values h =
     either Leaves (takes_branch o r) _ _ (λ e. branches_by_kept o.offset r h) (λ e. moves_on_kept length r h)
 branch_kept length (branch.Table o) r values h = branches_by_kept _ r h
 branch_kept length (branch.IfThen o) r values h =
-    pc_kept (record r { it = begun o }) _ (next_even r.pc length h.pc) (with_it r (begun o) (omega arith) h)
+    pc_kept (record r { it_state = begun o }) _ (next_address r.pc length h.pc) (with_it r (begun o) (omega arith) h)
 
 system_kept : (length : InstructionLength) (i : System) (r : Registers) → HasRegisters r →
     Leaves (system_effect length i r)

@@ -5,35 +5,38 @@ use Rattle.std.proofs.lemmas.Bool.Decides.{nat_tests}
 use Rattle.mpu.proofs.Writes.{sound_at_reset}
 use Rattle.reference.specs.declared.access.Answer.{Answer}
 use Rattle.reference.specs.declared.access.Answer.TheVariants as answer
+use Rattle.reference.specs.declared.access.Request.{Request}
 use Rattle.reference.specs.declared.exception.TheConstants.{MOST_LINES}
 use Rattle.reference.specs.declared.fault.PlaceFault.{PlaceFault}
+use Rattle.reference.specs.declared.instruction.CodedInstruction.{CodedInstruction}
 use Rattle.reference.specs.declared.operands.SpecialRegister.{SpecialRegister}
 use Rattle.reference.specs.declared.place.Place.{Place}
 use Rattle.reference.specs.declared.place.Place.TheVariants.{Reg, Special, Word}
-use Rattle.reference.specs.Accesses.{carried_out}
+use Rattle.reference.specs.Accesses.{answered_by_bus, perform_all}
 use Rattle.reference.specs.Boards.{Described, is_line_count, is_region_count, IsScriptFrom}
 use Rattle.reference.specs.Images.{Segment}
 use Rattle.reference.specs.Invariant.{IsBoard, HasRegisters, SystemInvariant, Invariant}
 use Rattle.reference.specs.Map.{is_in_ppb}
 use Rattle.reference.specs.Memory.{bytes_of}
 use Rattle.reference.specs.Places.{is_word_aligned, is_there, special_taken, register_taken, store_of, taken, place}
-use Rattle.reference.specs.Registers.{is_handler}
+use Rattle.reference.specs.Registers.{Registers, is_handler}
 use Rattle.reference.specs.SpecialRegisters.{special_of}
 use Rattle.reference.specs.Start.{blank, are_placed, start}
-use Rattle.reference.specs.State.{Bus, State}
+use Rattle.reference.specs.State.{Bus, State, ticked}
 use Rattle.reference.specs.Step.{step}
 use Rattle.reference.specs.System.{System, reset_system}
-use Rattle.state_laws.specs.StateLaw.{IfGiven}
-use Rattle.state_laws.proofs.Accesses.{IsWholeBus, carried_whole}
+use Rattle.state_laws.specs.StateLaw.{IfGiven, TickKeeps, AccessKeeps, InstructionKeeps}
+use Rattle.state_laws.proofs.Accesses.{IsWholeBus, carried_whole, perform_whole, served_whole}
 use Rattle.state_laws.proofs.Core.{special_kept, step_kept, reset_has}
 use Rattle.state_laws.proofs.Registers.{register_kept}
+use Rattle.state_laws.proofs.Effects.{result_kept}
 use Rattle.state_laws.proofs.Entries.{none, step_called}
 use Rattle.state_laws.proofs.Faults.{HasWhole}
 use Rattle.state_laws.proofs.Memories.{overwritten_apart, start_apart}
 use Rattle.state_laws.proofs.Nvic.{either}
 use Rattle.state_laws.proofs.Sets.{sets_of_board, top_bits_of_board, board_of, board_at_reset}
 use Rattle.state_laws.proofs.Steps.{step_whole}
-use Rattle.state_laws.proofs.Systems.{IsWhole, placed_mask_whole}
+use Rattle.state_laws.proofs.Systems.{IsWhole, placed_mask_whole, tick_whole}
 use Rattle.state_laws.proofs.Ticks.{timely_at_start}
 
 -- ---- what is whole has the invariant, and the other way round
@@ -100,7 +103,7 @@ taken_placed lines bits s (Reg number value) h =
     record { registers = register_kept s.registers number value h.registers; entry = h.entry; system = h.system }
 taken_placed lines bits s (Special number value) h = special_placed lines bits s (special_of number) value h
 taken_placed lines bits s (Word address value) h =
-    let a = carried_out s.registers.exception s.bus (store_of address value) in
+    let a = answered_by_bus s.registers.exception s.bus (store_of address value) in
     either (IsPlaced lines bits) (is_in_ppb address) _ _
     (λ e. register_placed lines bits s a.bus a.answer h.registers h.entry
     (carried_whole lines bits s.registers.exception s.bus (store_of address value) h.system))
@@ -177,3 +180,30 @@ start_gives board image h =
           });
     })
     (λ e. tt)
+
+-- ---- inside a step, outside the entry phase
+
+inside : (s : State) (b : Bus) (r : Registers) → s.entry ≡ None → HasRegisters r →
+    IsWholeBus s.bus.system.nvic.lines s.bus.system.nvic.priority_bits b →
+    Invariant (record s { registers = r; bus = b })
+inside s b r out registers h = record {
+  registers = registers;
+  entry = λ stop entry. none _ _ out entry;
+  memory = h.1;
+  system = sound s.bus.system.nvic.lines s.bus.system.nvic.priority_bits b.system h.0;
+}
+
+pub tick_keeps : (s : State) → TickKeeps s
+tick_keeps s early out h =
+    inside s (ticked s).bus s.registers out h.registers
+    (tick_whole _ _ s.bus.system early (whole s.bus.system h.system), h.memory)
+
+pub access_keeps : (s : State) (q : Request) → AccessKeeps s q
+access_keeps s q out h =
+    inside s _ s.registers out h.registers (perform_whole _ _ s.registers.exception s.bus q (whole_state s h))
+
+pub instruction_keeps : (s : State) (i : CodedInstruction) (requests : List Request) → InstructionKeeps s i requests
+instruction_keeps s i requests out h =
+    let all = perform_all s.registers.exception s.bus.system.time.ticks s.bus requests in
+    inside s _ _ out (result_kept i s.registers all.values h.registers)
+    (served_whole _ _ s.registers.exception s.bus.system.time.ticks s.bus requests (whole_state s h))

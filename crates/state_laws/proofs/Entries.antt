@@ -26,7 +26,8 @@ use Rattle.reference.specs.declared.instruction.Ending.TheVariants as ending
 use Rattle.reference.specs.declared.instruction.InstructionLength.TheVariants.{Short, Long}
 use Rattle.reference.specs.declared.instruction.InstructionLength.{InstructionLength}
 use Rattle.reference.specs.declared.stop.Stop.{Stop}
-use Rattle.reference.specs.Accesses.{Answered, Served, carried_out, decided, decision, perform, perform_all, value_of}
+use Rattle.reference.specs.Accesses.{BusAnswer, ListResult, answered_by_bus, decided, decision, perform, perform_all}
+use Rattle.reference.specs.Accesses.{value_of}
 use Rattle.reference.specs.Accesses.{followed}
 use Rattle.reference.specs.Arithmetic.{condition_passed}
 use Rattle.reference.specs.Decoding.{is_long}
@@ -139,11 +140,11 @@ supervisor_called_keeps s events none_yet = called_called s events _ none_yet
 abbrev IsApart : Request → Type 0
 IsApart q = ((x : ℕ) (s : System) → (system_access x s q).system ≡ s)
 
-abbrev Keeps : System → Answered → Type 0
+abbrev Keeps : System → BusAnswer → Type 0
 Keeps s a = a.bus.system ≡ s
 
-carried_leaves : (x : ℕ) (b : Bus) (q : Request) → IsApart q → Keeps b.system (carried_out x b q)
-unfolding carried_out
+carried_leaves : (x : ℕ) (b : Bus) (q : Request) → IsApart q → Keeps b.system (answered_by_bus x b q)
+unfolding answered_by_bus
 carried_leaves x b q apart =
     either (Keeps b.system) (is_probe q.access.kind) _ _ (λ e. refl)
     (λ e. either (Keeps b.system) (is_in_ppb q.access.address) _ _ (λ f. apart x b.system) (λ f. refl))
@@ -165,7 +166,7 @@ vector_apart : (s : State) (y : ℕ) → IsApart (vector_read s y)
 unfolding system_access
 vector_apart s y x t = refl
 
-followed_leaves : (t : System) (events : List Event) (after : Bus) (value : Result ℕ Failure) (rest : Served) →
+followed_leaves : (t : System) (events : List Event) (after : Bus) (value : Result ℕ Failure) (rest : ListResult) →
     after.system ≡ t → rest.bus.system ≡ t → (followed events after value rest).bus.system ≡ t
 followed_leaves t events after (Ok value) rest e f = f
 followed_leaves t events after (Err why) rest e f = e
@@ -189,7 +190,7 @@ pushes_leave s =
 
 -- ---- entry
 
-stacked_called : (lines bits : ℕ) (s : State) (all : Served) (end : Option Failure) →
+stacked_called : (lines bits : ℕ) (s : State) (all : ListResult) (end : Option Failure) →
     IsWholeBus lines bits all.bus → Calls all.bus.system.nvic → LeavesCalled (stacked s all end)
 stacked_called lines bits s all None h c = λ stop entry. c
 stacked_called lines bits s all (Some why) h c = failed_called lines bits (with_bus s all.bus) all.events why h
@@ -245,7 +246,7 @@ unstacked_called lines bits s events e frame h out =
     (λ is. either LeavesCalled (is_bit (popped_pc frame) 0) _ _ (λ odd stop entry. some_none _ _ stop)
     (λ even stop entry. none _ _ out entry))
 
-read_called : (lines bits : ℕ) (s : State) (events : List Event) (e : ℕ) (all : Served) (end : Option Failure) →
+read_called : (lines bits : ℕ) (s : State) (events : List Event) (e : ℕ) (all : ListResult) (end : Option Failure) →
     IsWholeBus lines bits all.bus → s.entry ≡ None → LeavesCalled (frame_read s events e all end)
 read_called lines bits s events e all None h out =
     unstacked_called lines bits (with_bus s all.bus) (events ++ all.events) e all.values h out
@@ -295,7 +296,7 @@ ended_called lines bits s events (ending.SupervisorCall number) h out = supervis
 ended_called lines bits s events (ending.Breakpoint number) h out = λ stop entry. none _ _ out entry
 ended_called lines bits s events (ending.ExceptionReturn value) h out = return_called lines bits s events value h out
 
-end_called : (lines bits : ℕ) (s : State) (events : List Event) (i : CodedInstruction) (all : Served)
+end_called : (lines bits : ℕ) (s : State) (events : List Event) (i : CodedInstruction) (all : ListResult)
     (end : Option Failure) → IsWholeBus lines bits all.bus → s.entry ≡ None →
     LeavesCalled (served s events i all end)
 end_called lines bits s events i all None h out =
@@ -322,7 +323,7 @@ meaningless_called : (lines bits : ℕ) (s : State) (events : List Event) (lengt
     (fault : UsageFault) →
     HasWhole lines bits s → s.entry ≡ None → LeavesCalled (without_meaning s events length fault)
 meaningless_called lines bits s events length fault h out =
-    either LeavesCalled (condition_passed s.registers.it s.registers.flags) _ _
+    either LeavesCalled (condition_passed s.registers.it_state s.registers.flags) _ _
     (λ passed. failed_called lines bits s events (failure.Usage fault) h) (λ skipped stop entry. none _ _ out entry)
 
 executed_called : (lines bits : ℕ) (s : State) (events : List Event) (length : InstructionLength) (d : Decoded) →

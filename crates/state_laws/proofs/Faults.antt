@@ -9,7 +9,7 @@ use Rattle.reference.specs.declared.failure.Failure.{Failure}
 use Rattle.reference.specs.declared.failure.Failure.TheVariants as failure
 use Rattle.reference.specs.declared.failure.UsageFault.TheVariants.{InvalidReturn}
 use Rattle.reference.specs.declared.fault_status.FaultEffect.{FaultEffect}
-use Rattle.reference.specs.Accesses.{Served, perform_all}
+use Rattle.reference.specs.Accesses.{ListResult, perform_all}
 use Rattle.reference.specs.ExceptionEntry.{pushes, entering, stacked, begin_entry, vector_read, vector_refused}
 use Rattle.reference.specs.ExceptionEntry.{vector_taken, exception_taken, taken_if_any, take_vector}
 use Rattle.reference.specs.ExceptionReturn.{with_entry, fits_mode, unstacked, frame_read, pops, pop_stack, chained}
@@ -70,7 +70,7 @@ supervisor_whole lines bits s events h = called_whole lines bits s events _ h
 
 -- ---- entry
 
-stacked_whole : (lines bits : ℕ) (s : State) (all : Served) (end : Option Failure) →
+stacked_whole : (lines bits : ℕ) (s : State) (all : ListResult) (end : Option Failure) →
     IsWholeBus lines bits all.bus → LeavesWhole lines bits (stacked s all end)
 stacked_whole lines bits s all None h = h
 stacked_whole lines bits s all (Some why) h = failed_whole lines bits (with_bus s all.bus) all.events why h
@@ -122,7 +122,7 @@ unstacked_whole lines bits s events e frame h =
     (λ is. failed_whole lines bits (with_entry s e) events (failure.Usage InvalidReturn) h)
     (λ is. either (LeavesWhole lines bits) (is_bit (popped_pc frame) 0) _ _ (λ odd. h) (λ even. h))
 
-read_whole : (lines bits : ℕ) (s : State) (events : List Event) (e : ℕ) (all : Served) (end : Option Failure) →
+read_whole : (lines bits : ℕ) (s : State) (events : List Event) (e : ℕ) (all : ListResult) (end : Option Failure) →
     IsWholeBus lines bits all.bus → LeavesWhole lines bits (frame_read s events e all end)
 read_whole lines bits s events e all None h =
     unstacked_whole lines bits (with_bus s all.bus) (events ++ all.events) e all.values h

@@ -3,7 +3,7 @@ use Rattle.std.proofs.Common.{◌≡◌, ℕ, ◌%◌, ◌^◌, ◌<◌, Bool, t
 use Rattle.std.proofs.Common.{Result, Ok, Err, bit_or, length, ◌∙◌, ap, arith}
 use Rattle.std.proofs.lemmas.Bool.Decides.{nat_tests}
 use Rattle.std.proofs.lemmas.List.{length-set}
-use Rattle.std.proofs.lemmas.Nat.{or_mod}
+use Rattle.std.proofs.lemmas.Nat.{or_lt, or_mod}
 use Rattle.nvic.proofs.Best.{candidate_is}
 use Rattle.nvic.specs.Laws.{IsCandidate}
 use Rattle.reference.specs.declared.event.Event.{Event}
@@ -15,7 +15,7 @@ use Rattle.reference.specs.declared.failure.Failure.TheVariants as failure
 use Rattle.reference.specs.declared.failure.UsageFault.TheVariants.{InvalidReturn}
 use Rattle.reference.specs.declared.fault_status.FaultEffect.{FaultEffect}
 use Rattle.reference.specs.declared.instruction.InstructionLength.TheVariants.{Short}
-use Rattle.reference.specs.Accesses.{Served, perform_all}
+use Rattle.reference.specs.Accesses.{ListResult, perform_all}
 use Rattle.reference.specs.ExceptionEntry.{pushes, entering, stacked, begin_entry, vector_taken, exception_taken}
 use Rattle.reference.specs.ExceptionEntry.{taken_if_any, take_vector}
 use Rattle.reference.specs.ExceptionReturn.{with_entry, fits_mode, unstacked, frame_read, pops, pop_stack, chained}
@@ -23,14 +23,14 @@ use Rattle.reference.specs.ExceptionReturn.{returned, exception_ended, is_allowe
 use Rattle.reference.specs.Faults.{fault_of, usage_fault_of, recorded, escalated, faulted, failed, supervisor_called_by}
 use Rattle.reference.specs.Faults.{supervisor_called}
 use Rattle.reference.specs.Frames.{frame_base, in_handler, frame_pointer, returns_on_psp, above_frame, general_popped}
-use Rattle.reference.specs.Frames.{popped_pc, popped_xpsr, with_frame_of, popped, has_reserved_ones}
-use Rattle.reference.specs.Invariant.{HasRegisters}
+use Rattle.reference.specs.Frames.{frame_word, popped_pc, popped_xpsr, with_frame_pointer, popped, has_reserved_ones}
+use Rattle.reference.specs.Invariant.{IsStackPointer, HasRegisters}
 use Rattle.reference.specs.Priorities.{Nvic, candidate, is_fixed}
 use Rattle.reference.specs.Registers.{Registers, sp}
 use Rattle.reference.specs.State.{State, Stepped, with_bus, with_system}
 use Rattle.reference.specs.Words.{word_sum, is_bit}
 use Rattle.state_laws.proofs.Nvic.{either}
-use Rattle.state_laws.proofs.Registers.{sp_kept, psp_kept, msp_kept, exchange_kept, moves_on_kept}
+use Rattle.state_laws.proofs.Registers.{AreWords, words_set, sp_kept, psp_kept, msp_kept, exchange_kept, moves_on_kept}
 
 -- the registers of a state, and those of what a step makes of one
 abbrev pub Has : State → Type 0
@@ -81,7 +81,7 @@ candidate_small n = lead (candidate n) (candidate_is n)
 
 -- ---- entry
 
-stacked_kept : (s : State) (all : Served) (end : Option Failure) → Has s → LeavesGood (stacked s all end)
+stacked_kept : (s : State) (all : ListResult) (end : Option Failure) → Has s → LeavesGood (stacked s all end)
 stacked_kept s all None h = h
 stacked_kept s all (Some why) h = failed_kept (with_bus s all.bus) all.events why h
 
@@ -96,10 +96,12 @@ handler_kept : (r : Registers) (x e vector : ℕ) → x < EXCEPTIONS → HasRegi
 unfolding in_handler
 handler_kept r x e vector small h = record {
   all = h.all;
+  general = h.general;
   msp = h.msp;
   psp = h.psp;
+  lr = omega arith;
   pc = (exchange_kept r vector h).pc;
-  it = omega arith;
+  it_state = omega arith;
   exception = omega arith;
 }
 
@@ -125,20 +127,24 @@ vector_step_kept s e h = any_kept s e _ (candidate_small s.bus.system.nvic) h
 
 -- ---- return
 
-raised : (x : ℕ) → x % 4 ≡ 0 → bit_or x 4 % 4 ≡ 0
-raised x e = or_mod x 4 2 ∙ ap (λ k. bit_or k (4 % 2 ^ 2)) e
+-- a stack pointer whose bit 2 is set is one too
+raised : (x : ℕ) → IsStackPointer x → IsStackPointer (bit_or x 4)
+raised x is = record {
+  word = or_lt 32 x 4 is.word (omega arith);
+  aligned = or_mod x 4 2 ∙ ap (λ k. bit_or k (4 % 2 ^ 2)) is.aligned;
+}
 
-above_aligned : (base xpsr : ℕ) → base % 4 ≡ 0 → above_frame base xpsr % 4 ≡ 0
-above_aligned base xpsr e =
-    let up : word_sum base 0x20 % 4 ≡ 0 = omega arith in
-    either (λ x. x % 4 ≡ 0) (is_bit xpsr 9) _ _ (λ f. raised (word_sum base 0x20) up) (λ f. up)
+above_is : (base xpsr : ℕ) → base % 4 ≡ 0 → IsStackPointer (above_frame base xpsr)
+above_is base xpsr aligned =
+    let up : IsStackPointer (word_sum base 0x20) = record { word = omega arith; aligned = omega arith } in
+    either IsStackPointer (is_bit xpsr 9) _ _ (λ f. raised (word_sum base 0x20) up) (λ f. up)
 
 frame_aligned : (r : Registers) (e : ℕ) → HasRegisters r → frame_pointer r e % 4 ≡ 0
-frame_aligned r e h = either (λ x. x % 4 ≡ 0) (returns_on_psp e) _ _ (λ f. h.psp) (λ f. h.msp)
+frame_aligned r e h = either (λ x. x % 4 ≡ 0) (returns_on_psp e) _ _ (λ f. h.psp.aligned) (λ f. h.msp.aligned)
 
-frame_of_kept : (r : Registers) (e v : ℕ) → v % 4 ≡ 0 → HasRegisters r → HasRegisters (with_frame_of r e v)
-frame_of_kept r e v aligned h =
-    either HasRegisters (returns_on_psp e) _ _ (λ f. psp_kept r v aligned h) (λ f. msp_kept r v aligned h)
+frame_of_kept : (r : Registers) (e v : ℕ) → IsStackPointer v → HasRegisters r → HasRegisters (with_frame_pointer r e v)
+frame_of_kept r e v is h =
+    either HasRegisters (returns_on_psp e) _ _ (λ f. psp_kept r v is h) (λ f. msp_kept r v is h)
 
 -- a return address without its bit 0 is even
 is_even : (v : ℕ) → is_bit v 0 ≡ false → v % 2 ≡ 0
@@ -148,18 +154,29 @@ popped_length : (general frame : List ℕ) → length (general_popped general fr
 popped_length general frame =
     length-set _ 12 _ ∙ length-set _ 3 _ ∙ length-set _ 2 _ ∙ length-set _ 1 _ ∙ length-set general 0 _
 
+frame_word_is : (frame : List ℕ) (k : ℕ) → frame_word frame k < 2 ^ 32
+frame_word_is frame k = omega arith
+
+popped_words : (general frame : List ℕ) → AreWords general → AreWords (general_popped general frame)
+popped_words general frame are =
+    words_set _ 12 _ (frame_word_is frame 4) (words_set _ 3 _ (frame_word_is frame 3)
+    (words_set _ 2 _ (frame_word_is frame 2) (words_set _ 1 _ (frame_word_is frame 1)
+    (words_set general 0 _ (frame_word_is frame 0) are))))
+
 popped_kept : (r : Registers) (e : ℕ) (frame : List ℕ) → is_bit (popped_pc frame) 0 ≡ false → HasRegisters r →
     HasRegisters (popped r e frame)
 unfolding popped
 popped_kept r e frame even h =
     let moved = frame_of_kept r e (above_frame (frame_pointer r e) (popped_xpsr frame))
-    (above_aligned (frame_pointer r e) (popped_xpsr frame) (frame_aligned r e h)) h in
+    (above_is (frame_pointer r e) (popped_xpsr frame) (frame_aligned r e h)) h in
     record {
       all = popped_length r.general frame ∙ h.all;
+      general = popped_words r.general frame h.general;
       msp = moved.msp;
       psp = moved.psp;
-      pc = is_even (popped_pc frame) even;
-      it = omega arith;
+      lr = frame_word_is frame 5;
+      pc = record { word = frame_word_is frame 6; even = is_even (popped_pc frame) even };
+      it_state = omega arith;
       exception = omega arith;
     }
 
@@ -172,7 +189,7 @@ unstacked_kept s events e frame h =
     (λ is. either LeavesGood (is_bit (popped_pc frame) 0) _ _ (λ odd. h)
     (λ even. popped_kept s.registers e frame even h))
 
-read_kept : (s : State) (events : List Event) (e : ℕ) (all : Served) (end : Option Failure) → Has s →
+read_kept : (s : State) (events : List Event) (e : ℕ) (all : ListResult) (end : Option Failure) → Has s →
     LeavesGood (frame_read s events e all end)
 read_kept s events e all None h = unstacked_kept (with_bus s all.bus) (events ++ all.events) e all.values h
 read_kept s events e all (Some why) h = failed_kept (with_entry (with_bus s all.bus) e) (events ++ all.events) why h

@@ -5,45 +5,49 @@ use Rattle.std.proofs.lemmas.List.{length-replicate}
 use Rattle.reference.specs.declared.access.Request.{Request}
 use Rattle.reference.specs.Boards.{Numbers, is_flash}
 use Rattle.reference.specs.Images.{Segment}
-use Rattle.reference.specs.Invariant.{AreApart}
+use Rattle.reference.specs.Invariant.{FlashEndsBelowRam}
 use Rattle.reference.specs.Kinds.{bytes_in, is_write}
 use Rattle.reference.specs.Map.{is_in_window}
 use Rattle.reference.specs.Memory.{Memory, is_in_flash, is_in_ram, bytes_of, overwritten}
-use Rattle.reference.specs.Space.{Reached, written_to, space_access}
+use Rattle.reference.specs.Space.{SpaceAnswer, written_to, space_access}
 use Rattle.reference.specs.Start.{blank, loaded}
 use Rattle.state_laws.proofs.Nvic.{either}
 use Rattle.step_laws.proofs.Blocks.{length-with_bytes}
 
-pub overwritten_apart : (m : Memory) (a : ℕ) (bytes : List ℕ) → AreApart m → AreApart (overwritten m a bytes)
+pub overwritten_apart : (m : Memory) (a : ℕ) (bytes : List ℕ) → FlashEndsBelowRam m →
+    FlashEndsBelowRam (overwritten m a bytes)
 overwritten_apart m a bytes h =
-    either AreApart (is_in_flash m a (length bytes)) _ _
+    either FlashEndsBelowRam (is_in_flash m a (length bytes)) _ _
     (λ there. rw (length-with_bytes m.flash bytes (a - m.flash_base) (grind (arith, nat_tests, there))) h) (λ other. h)
 
-written_apart : (m : Memory) (q : Request) → AreApart m → AreApart (written_to m q).memory
+written_apart : (m : Memory) (q : Request) → FlashEndsBelowRam m → FlashEndsBelowRam (written_to m q).memory
 written_apart m q h =
-    either (λ (r : Reached). AreApart r.memory) (is_in_window q.access.address) _ _ (λ e. h)
-    (λ e. either (λ (r : Reached). AreApart r.memory) (is_in_ram m q.access.address (bytes_in q.access.size)) _ _
+    either (λ (r : SpaceAnswer). FlashEndsBelowRam r.memory) (is_in_window q.access.address) _ _ (λ e. h)
+    (λ e. either (λ (r : SpaceAnswer). FlashEndsBelowRam r.memory)
+    (is_in_ram m q.access.address (bytes_in q.access.size)) _ _
     (λ f. overwritten_apart m q.access.address (bytes_of (bytes_in q.access.size) q.value) h) (λ f. h))
 
-pub space_apart : (m : Memory) (ticks : ℕ) (q : Request) → AreApart m → AreApart (space_access m ticks q).memory
+pub space_apart : (m : Memory) (ticks : ℕ) (q : Request) → FlashEndsBelowRam m →
+    FlashEndsBelowRam (space_access m ticks q).memory
 unfolding space_access
 space_apart m ticks q h =
-    either (λ (r : Reached). AreApart r.memory) (is_write q.access.kind) _ _ (λ e. written_apart m q h) (λ e. h)
+    either (λ (r : SpaceAnswer). FlashEndsBelowRam r.memory) (is_write q.access.kind) _ _ (λ e. written_apart m q h)
+    (λ e. h)
 
 -- ---- the start
 
 apart_of : (base size : ℕ) → is_flash base size ≡ true → base + size ≤ 0x2000_0000
 apart_of base size fits = grind (arith, nat_tests, fits)
 
-blank_apart : (board : Numbers) → is_flash board.flash_base board.flash_size ≡ true → AreApart (blank board)
+blank_apart : (board : Numbers) → is_flash board.flash_base board.flash_size ≡ true → FlashEndsBelowRam (blank board)
 blank_apart board fits =
     rw (length-replicate {A = ℕ} board.flash_size 0xFF) (apart_of board.flash_base board.flash_size fits)
 
-loaded_apart : (m : Memory) (image : List Segment) → AreApart m → AreApart (loaded m image)
+loaded_apart : (m : Memory) (image : List Segment) → FlashEndsBelowRam m → FlashEndsBelowRam (loaded m image)
 loaded_apart m [] h = h
 loaded_apart m (s ∷ segments) h =
     loaded_apart (overwritten m s.address s.bytes) segments (overwritten_apart m s.address s.bytes h)
 
 pub start_apart : (board : Numbers) (image : List Segment) → is_flash board.flash_base board.flash_size ≡ true →
-    AreApart (loaded (blank board) image)
+    FlashEndsBelowRam (loaded (blank board) image)
 start_apart board image fits = loaded_apart (blank board) image (blank_apart board fits)

@@ -7,7 +7,8 @@ use Rattle.nvic.proofs.Boards.{basepri_of_board, reset_of_board}
 use Rattle.nvic.specs.Laws.{IsSetOf, IsOfBoard}
 use Rattle.reference.specs.declared.exception.TheConstants.{EXCEPTIONS}
 use Rattle.reference.specs.Invariant.{KeepsTopBits, HasOnly, HasExceptionsOfBoard}
-use Rattle.reference.specs.Priorities.{Nvic, is_switched, has_byte, kept, with_enabled, with_priority, with_basepri}
+use Rattle.reference.specs.Priorities.{Nvic, can_be_disabled, has_priority_byte, kept, with_enabled, with_priority}
+use Rattle.reference.specs.Priorities.{with_basepri}
 use Rattle.reference.specs.Priorities.{reset_nvic}
 use Rattle.state_laws.proofs.Nvic.{either, IsKept}
 
@@ -81,14 +82,14 @@ kept_small bits b small = let less : kept bits b ≤ b = div-mul-le_self b (2 ^ 
 enabled_kept : (lines bits : ℕ) (n : Nvic) (x : ℕ) (on : Bool) → HasBoard lines bits n →
     HasBoard lines bits (with_enabled n x on)
 enabled_kept lines bits n x on h =
-    either (λ m. IsOfBoard m → HasBoard lines bits m) (is_switched n.lines x) _ _
+    either (λ m. IsOfBoard m → HasBoard lines bits m) (can_be_disabled n.lines x) _ _
     (λ e. same_bytes lines bits n _ refl refl refl refl h) (λ e. same_bytes lines bits n _ refl refl refl refl h)
     (enabled_of_board n x on h.board)
 
 priority_kept : (lines bits : ℕ) (n : Nvic) (x b : ℕ) → b < 2 ^ 8 → HasBoard lines bits n →
     HasBoard lines bits (with_priority n x b)
 priority_kept lines bits n x b small h =
-    either (λ m. IsOfBoard m → HasBoard lines bits m) (has_byte n.lines x) _ _
+    either (λ m. IsOfBoard m → HasBoard lines bits m) (has_priority_byte n.lines x) _ _
     (λ e is. record {
       same_lines = h.same_lines;
       same_bits = h.same_bits;

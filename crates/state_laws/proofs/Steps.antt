@@ -16,7 +16,7 @@ use Rattle.reference.specs.declared.instruction.Ending.TheVariants as ending
 use Rattle.reference.specs.declared.instruction.InstructionLength.TheVariants.{Short, Long}
 use Rattle.reference.specs.declared.instruction.InstructionLength.{InstructionLength}
 use Rattle.reference.specs.declared.stop.Stop.{Stop}
-use Rattle.reference.specs.Accesses.{Served, perform_all}
+use Rattle.reference.specs.Accesses.{ListResult, perform_all}
 use Rattle.reference.specs.Arithmetic.{condition_passed}
 use Rattle.reference.specs.Decoding.{is_long}
 use Rattle.reference.specs.Operations.{result_of}
@@ -55,7 +55,7 @@ finished_whole lines bits s events f h = ended_whole lines bits (with_registers 
 
 -- ---- its accesses
 
-end_whole : (lines bits : ℕ) (s : State) (events : List Event) (i : CodedInstruction) (all : Served)
+end_whole : (lines bits : ℕ) (s : State) (events : List Event) (i : CodedInstruction) (all : ListResult)
     (end : Option Failure) → IsWholeBus lines bits all.bus → LeavesWhole lines bits (served s events i all end)
 end_whole lines bits s events i all None h =
     finished_whole lines bits (with_bus s all.bus) (events ++ all.events) (result_of i s.registers all.values) h
@@ -82,7 +82,7 @@ meaningless_whole : (lines bits : ℕ) (s : State) (events : List Event) (length
     (fault : UsageFault) →
     HasWhole lines bits s → LeavesWhole lines bits (without_meaning s events length fault)
 meaningless_whole lines bits s events length fault h =
-    either (LeavesWhole lines bits) (condition_passed s.registers.it s.registers.flags) _ _
+    either (LeavesWhole lines bits) (condition_passed s.registers.it_state s.registers.flags) _ _
     (λ passed. failed_whole lines bits s events (failure.Usage fault) h)
     (λ skipped. finished_whole lines bits s events (moves_on length s.registers) h)
 

@@ -16,8 +16,8 @@ use Rattle.reference.specs.Priorities.{Nvic, with_pending, with_active}
 use Rattle.reference.specs.Regions.{Mpu, IsSound, left, write as write_mpu}
 use Rattle.reference.specs.SpecialRegisters.{with_mask, write_mask, change_state}
 use Rattle.reference.specs.Status.{Status, write_status}
-use Rattle.reference.specs.System.{System, Replied, replied, with_nvic, nvic_written, status_written, mpu_written}
-use Rattle.reference.specs.System.{first_byte, in_place, after_read, written, is_allowed, has_width, register_access}
+use Rattle.reference.specs.System.{System, SystemAnswer, replied, with_nvic, nvic_written, status_written, mpu_written}
+use Rattle.reference.specs.System.{first_byte, in_place, after_read, written, has_access, has_width, register_access}
 use Rattle.reference.specs.System.{system_access, register_at, after_tick, is_held, deactivated}
 use Rattle.reference.specs.SysTickRegisters.{after_systick_read, write_systick}
 use Rattle.reference.specs.Time.{last_tick, tick_pends}
@@ -113,14 +113,14 @@ replied_whole : (lines bits : ℕ) (s : System) (r : Result System Stop) → IsW
 replied_whole lines bits s (Ok after) h new = new
 replied_whole lines bits s (Err why) h new = h
 
-abbrev IsWholeReply : ℕ → ℕ → Replied → Type 0
+abbrev IsWholeReply : ℕ → ℕ → SystemAnswer → Type 0
 IsWholeReply lines bits r = IsWhole lines bits r.system
 
 register_whole : (lines bits x : ℕ) (s : System) (q : Request) (it : SystemRegister) → IsWhole lines bits s →
     IsWholeReply lines bits (register_access x s q it)
 unfolding register_access
 register_whole lines bits x s q it h =
-    either (IsWholeReply lines bits) (not (is_allowed s q)) _ _ (λ e. h)
+    either (IsWholeReply lines bits) (not (has_access s q)) _ _ (λ e. h)
     (λ e. either (IsWholeReply lines bits) (not (has_width it q.access.size)) _ _ (λ f. h)
     (λ f. either (IsWholeReply lines bits) (is_store q.access.kind) _ _
     (λ g. replied_whole lines bits s (written s q it) h (written_whole lines bits s q it h))

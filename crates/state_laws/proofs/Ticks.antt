@@ -84,7 +84,7 @@ pub with_timer : (lines : ℕ) (t : Time) (timer : SysTick) → HasTimerBits tim
 with_timer lines t timer bits h = record {
   clock = h.clock;
   timer = bits;
-  ahead = record { script = h.ahead.script; levels = h.ahead.levels };
+  ahead = record { script = h.ahead.script; high = h.ahead.high };
 }
 
 -- ---- a tick, and the start
@@ -96,7 +96,7 @@ tick_timely lines t early h = record {
   timer = counted_bits t.systick h.timer;
   ahead = record {
     script = left lines (t.ticks + 1) t.script h.ahead.script;
-    levels = events_length t.high (events_at (t.ticks + 1) t.script) ∙ h.ahead.levels;
+    high = events_length t.high (events_at (t.ticks + 1) t.script) ∙ h.ahead.high;
   };
 }
 
@@ -105,5 +105,5 @@ pub timely_at_start : (lines : ℕ) (script : List ScriptedEvent) → IsScriptFr
 timely_at_start lines script s = record {
   clock = omega arith;
   timer = record { reload = omega arith; current = omega arith };
-  ahead = record { script = s; levels = length-replicate MOST_LINES false };
+  ahead = record { script = s; high = length-replicate MOST_LINES false };
 }

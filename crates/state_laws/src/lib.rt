@@ -3,6 +3,8 @@
 #![tactic(auto)]
 
 ghost use Rattle.std.specs.Prelude.{List};
+ghost use Rattle.reference.specs.declared.access.Request.{Request};
+ghost use Rattle.reference.specs.declared.instruction.CodedInstruction.{CodedInstruction};
 ghost use Rattle.reference.specs.declared.place.Place.{Place};
 ghost use Rattle.reference.specs.Boards.{Described};
 ghost use Rattle.reference.specs.Images.{Segment};
@@ -11,7 +13,7 @@ ghost use Rattle.reference.specs.Places.{place};
 ghost use Rattle.reference.specs.Start.{start};
 ghost use Rattle.reference.specs.State.{State};
 ghost use Rattle.reference.specs.Step.{step};
-ghost use Rattle.state_laws.specs.StateLaw.{IfGiven};
+ghost use Rattle.state_laws.specs.StateLaw.{AccessKeeps, IfGiven, InstructionKeeps, TickKeeps};
 
 /// A state in which a machine starts has the invariant.
 pub fn start_gives_the_invariant()
@@ -21,6 +23,15 @@ pub fn start_gives_the_invariant()
 /// A step keeps the invariant.
 pub fn step_keeps_the_invariant()
     ensures { (s : State) → Invariant s → Invariant (step s).state }
+{}
+
+/// Outside the entry phase a tick before the end of the clock, an access, and the accesses of an
+/// instruction with the registers after it keep the invariant. So the states inside a step from which
+/// an entry or a return begins have it.
+pub fn phases_keep_the_invariant()
+    ensures tick { (s : State) → TickKeeps s }
+    ensures access { (s : State) (q : Request) → AccessKeeps s q }
+    ensures instruction { (s : State) (i : CodedInstruction) (requests : List Request) → InstructionKeeps s i requests }
 {}
 
 /// A value that is placed into a state keeps the invariant.

@@ -10,12 +10,13 @@ use Rattle.reference.specs.declared.access.Request.{Request}
 use Rattle.reference.specs.declared.access.Rule.{Rule}
 use Rattle.reference.specs.declared.event.Event.{Event}
 use Rattle.reference.specs.declared.failure.Failure.{Failure}
-use Rattle.reference.specs.Accesses.{Answered, Served, carried_out, performed_by, decided, decision, perform, accessed}
-use Rattle.reference.specs.Accesses.{console_line, told, value_of, followed, perform_all}
+use Rattle.reference.specs.Accesses.{BusAnswer, ListResult, answered_by_bus, performed_by, decided, decision, perform}
+use Rattle.reference.specs.Accesses.{accessed}
+use Rattle.reference.specs.Accesses.{console_line, access_lines, value_of, followed, perform_all}
 use Rattle.reference.specs.Kinds.{bytes_in, is_probe, is_write}
 use Rattle.reference.specs.Map.{is_in_ppb, is_in_window}
 use Rattle.reference.specs.Memory.{Memory, is_in_ram, bytes_of, overwritten}
-use Rattle.reference.specs.Space.{Reached, is_out, written_to, space_access}
+use Rattle.reference.specs.Space.{SpaceAnswer, is_out, written_to, space_access}
 use Rattle.reference.specs.State.{Bus}
 use Rattle.step_laws.specs.AccessLaw.{AllGranted, OnlyCovered}
 use Rattle.step_laws.proofs.Blocks.{IsOutside, overwritten_keeps}
@@ -42,8 +43,8 @@ outside a n x b e = split (nat_le a x) (nat_lt x (a + n)) refl refl
     split false high l h = inl (grind (arith, nat_tests, l))
 
 -- memory after an access changes only where its lines cover it
-abbrev Writes : ℕ → Request → Memory → Reached → Type 0
-Writes tick q m r = (rule : Rule) → OnlyCovered m r.memory (told tick q (performed_by rule r.answer))
+abbrev Writes : ℕ → Request → Memory → SpaceAnswer → Type 0
+Writes tick q m r = (rule : Rule) → OnlyCovered m r.memory (access_lines tick q (performed_by rule r.answer))
 
 stored : (tick : ℕ) (q : Request) (m : Memory) → is_write q.access.kind ≡ true →
     is_in_ram m q.access.address (bytes_in q.access.size) ≡ true →
@@ -71,11 +72,12 @@ unfolding space_access
 space_writes tick ticks q m =
     either (Writes tick q m) (is_write q.access.kind) _ _ (writing_writes tick q m) (λ e rule address f. refl)
 
-abbrev BusWrites : ℕ → Request → Bus → Answered → Type 0
-BusWrites tick q b a = (rule : Rule) → OnlyCovered b.memory a.bus.memory (told tick q (performed_by rule a.answer))
+abbrev BusWrites : ℕ → Request → Bus → BusAnswer → Type 0
+BusWrites tick q b a =
+    (rule : Rule) → OnlyCovered b.memory a.bus.memory (access_lines tick q (performed_by rule a.answer))
 
-carried_writes : (exception tick : ℕ) (b : Bus) (q : Request) → BusWrites tick q b (carried_out exception b q)
-unfolding carried_out
+carried_writes : (exception tick : ℕ) (b : Bus) (q : Request) → BusWrites tick q b (answered_by_bus exception b q)
+unfolding answered_by_bus
 carried_writes exception tick b q =
     either (BusWrites tick q b) (is_probe q.access.kind) _ _ (λ e rule address f. refl)
     (λ asked. either (BusWrites tick q b) (is_in_ppb q.access.address) _ _ (λ e rule address f. refl)
@@ -83,13 +85,13 @@ carried_writes exception tick b q =
 
 decided_writes : (exception tick : ℕ) (b : Bus) (q : Request) (d : Decision) (granted : Bool) →
     d.granted ≡ granted →
-    OnlyCovered b.memory (decided exception b q d).bus.memory (told tick q (decided exception b q d).performed)
+    OnlyCovered b.memory (decided exception b q d).bus.memory (access_lines tick q (decided exception b q d).performed)
 decided_writes exception tick b q d true e = rw e (carried_writes exception tick b q d.rule)
 decided_writes exception tick b q d false e = rw e (λ address f. refl)
 
 -- one access
 pub perform_writes : (exception tick : ℕ) (b : Bus) (q : Request) →
-    OnlyCovered b.memory (perform exception b q).bus.memory (told tick q (perform exception b q).performed)
+    OnlyCovered b.memory (perform exception b q).bus.memory (access_lines tick q (perform exception b q).performed)
 unfolding perform
 perform_writes exception tick b q = decided_writes exception tick b q (decision b q) _ refl
 
@@ -100,7 +102,7 @@ console_granted tick q true e = rw e (granted-cons _ [] refl granted-nil)
 console_granted tick q false e = rw e granted-nil
 
 -- the lines of an access end as it does
-pub told_ends : (tick : ℕ) (q : Request) (p : Performed) → EndIn (failure_in (value_of q p)) (told tick q p)
+pub told_ends : (tick : ℕ) (q : Request) (p : Performed) → EndIn (failure_in (value_of q p)) (access_lines tick q p)
 told_ends tick q (performed.Done rule value) = granted-cons _ _ refl (console_granted tick q _ refl)
 told_ends tick q (performed.Denied rule cause) = record {
   granted = [];
@@ -115,11 +117,11 @@ told_ends tick q (performed.Stop why) = granted-nil
 -- ---- a list of accesses
 
 -- what a list of accesses leaves, from a memory on
-pub record ServedWell (old : Memory) (all : Served) : Type 0 where
+pub record ServedWell (old : Memory) (all : ListResult) : Type 0 where
   pub ends : EndIn all.failure all.events
   pub only : OnlyCovered old all.bus.memory all.events
 
-followed_well : (old : Memory) (events : List Event) (after : Bus) (value : Result ℕ Failure) (rest : Served) →
+followed_well : (old : Memory) (events : List Event) (after : Bus) (value : Result ℕ Failure) (rest : ListResult) →
     EndIn (failure_in value) events → OnlyCovered old after.memory events → ServedWell after.memory rest →
     ServedWell old (followed events after value rest)
 followed_well old events after (Ok value) rest ends only well = record {

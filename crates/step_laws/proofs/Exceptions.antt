@@ -8,7 +8,7 @@ use Rattle.reference.specs.declared.event.Event.{Event}
 use Rattle.reference.specs.declared.failure.Failure.{Failure}
 use Rattle.reference.specs.declared.failure.Failure.TheVariants as failure
 use Rattle.reference.specs.declared.failure.UsageFault.TheVariants.{InvalidReturn}
-use Rattle.reference.specs.Accesses.{Served, perform, told, value_of}
+use Rattle.reference.specs.Accesses.{ListResult, perform, access_lines, value_of}
 use Rattle.reference.specs.ExceptionEntry.{pushes, entering, stacked, begin_entry, vector_read, vector_taken}
 use Rattle.reference.specs.ExceptionEntry.{exception_taken, taken_if_any, take_vector}
 use Rattle.reference.specs.ExceptionReturn.{with_entry, fits_mode, unstacked, frame_read, pops, pop_stack, chained}
@@ -26,7 +26,7 @@ use Rattle.step_laws.proofs.Faults.{vector_refused_lawful}
 
 -- ---- entry
 
-stacked_lawful : (old : Memory) (s : State) (all : Served) (end : Option Failure) → all.failure ≡ end →
+stacked_lawful : (old : Memory) (s : State) (all : ListResult) (end : Option Failure) → all.failure ≡ end →
     ServedWell old all → IsLawful old (stacked s all end)
 stacked_lawful old s all None e well = record { one_refusal = inl (rw e at well.ends); only_covered = well.only }
 stacked_lawful old s all (Some why) e well =
@@ -57,7 +57,7 @@ unfolding exception_taken
 taken_lawful s e x =
     let q = vector_read s x in
     let answer = perform s.registers.exception s.bus q in
-    vector_lawful s.bus.memory (with_bus s answer.bus) x e (told s.bus.system.time.ticks q answer.performed) q
+    vector_lawful s.bus.memory (with_bus s answer.bus) x e (access_lines s.bus.system.time.ticks q answer.performed) q
     answer.performed refl
     (told_ends s.bus.system.time.ticks q answer.performed)
     (perform_writes s.registers.exception s.bus.system.time.ticks s.bus q)
@@ -84,7 +84,7 @@ unstacked_lawful old s events e frame ready =
     (λ odd. record { one_refusal = inl ready.granted; only_covered = ready.only })
     (λ even. record { one_refusal = inl ready.granted; only_covered = ready.only }))
 
-read_lawful : (old : Memory) (s : State) (events : List Event) (e : ℕ) (all : Served) (end : Option Failure) →
+read_lawful : (old : Memory) (s : State) (events : List Event) (e : ℕ) (all : ListResult) (end : Option Failure) →
     all.failure ≡ end → MayGoOn old s events → ServedWell s.bus.memory all →
     IsLawful old (frame_read s events e all end)
 read_lawful old s events e all None is ready well =

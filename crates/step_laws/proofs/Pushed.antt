@@ -6,11 +6,11 @@ use Rattle.reference.specs.declared.access.Kind.TheVariants.{Push, Pop}
 use Rattle.reference.specs.declared.access.Request.{Request}
 use Rattle.reference.specs.declared.access.Rule.{Rule}
 use Rattle.reference.specs.declared.access.Size.TheVariants.{Word}
-use Rattle.reference.specs.Accesses.{Answered, carried_out, performed_by, decided, perform, value_of}
+use Rattle.reference.specs.Accesses.{BusAnswer, answered_by_bus, performed_by, decided, perform, value_of}
 use Rattle.reference.specs.LoadStore.{request}
 use Rattle.reference.specs.Map.{is_in_ppb, is_in_window}
 use Rattle.reference.specs.Memory.{Memory, is_in_ram, number_at, bytes_of, overwritten}
-use Rattle.reference.specs.Space.{Reached, number_read, space_access}
+use Rattle.reference.specs.Space.{SpaceAnswer, number_read, space_access}
 use Rattle.reference.specs.State.{Bus}
 use Rattle.reference.specs.System.{system_access}
 use Rattle.step_laws.proofs.Bytes.{either}
@@ -26,19 +26,19 @@ pub record IsPushed (old : Memory) (a v : ℕ) (new : Memory) : Type 0 where
   pub is : new ≡ overwritten old a (bytes_of 4 v)
 
 -- what is so where a push was carried out, by the bus and by memory
-abbrev IfPushed : Bool → ℕ → ℕ → Bus → Answered → Type 0
+abbrev IfPushed : Bool → ℕ → ℕ → Bus → BusAnswer → Type 0
 IfPushed privileged a v b answered =
     (rule : Rule) (x : ℕ) → value_of (push_of privileged a v) (performed_by rule answered.answer) ≡ Ok x →
     IsPushed b.memory a v answered.bus.memory
 
-abbrev IfWritten : Bool → ℕ → ℕ → Memory → Reached → Type 0
+abbrev IfWritten : Bool → ℕ → ℕ → Memory → SpaceAnswer → Type 0
 IfWritten privileged a v m reached =
     (rule : Rule) (x : ℕ) → value_of (push_of privileged a v) (performed_by rule reached.answer) ≡ Ok x →
     IsPushed m a v reached.memory
 
 carried_push : (exception : ℕ) (b : Bus) (privileged : Bool) (a v : ℕ) →
-    IfPushed privileged a v b (carried_out exception b (push_of privileged a v))
-unfolding carried_out system_access space_access
+    IfPushed privileged a v b (answered_by_bus exception b (push_of privileged a v))
+unfolding answered_by_bus system_access space_access
 carried_push exception b privileged a v =
     either (IfPushed privileged a v b) (is_in_ppb a) _ _ (λ e rule x done. absurd cc)
     (λ beside. either (IfWritten privileged a v b.memory) (is_in_window a) _ _
@@ -71,7 +71,7 @@ pub record IsPopped (old : Memory) (a x : ℕ) (new : Memory) : Type 0 where
   pub number : number_at old a 4 ≡ Some x
   pub same : new ≡ old
 
-abbrev IfPopped : Bool → ℕ → Bus → Answered → Type 0
+abbrev IfPopped : Bool → ℕ → Bus → BusAnswer → Type 0
 IfPopped privileged a b answered =
     (rule : Rule) (x : ℕ) → value_of (pop_of privileged a) (performed_by rule answered.answer) ≡ Ok x →
     IsPopped b.memory a x answered.bus.memory
@@ -82,8 +82,8 @@ number_popped privileged a x rule None done = absurd cc
 number_popped privileged a x rule (Some value) done = cc
 
 carried_pop : (exception : ℕ) (b : Bus) (privileged : Bool) (a : ℕ) →
-    IfPopped privileged a b (carried_out exception b (pop_of privileged a))
-unfolding carried_out system_access space_access
+    IfPopped privileged a b (answered_by_bus exception b (pop_of privileged a))
+unfolding answered_by_bus system_access space_access
 carried_pop exception b privileged a =
     either (IfPopped privileged a b) (is_in_ppb a) _ _ (λ e rule x done. absurd cc)
     (λ beside rule x done. record { number = from_memory (is_in_window a) rule x done; same = refl })

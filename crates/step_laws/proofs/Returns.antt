@@ -8,7 +8,7 @@ use Rattle.reference.specs.declared.failure.Failure.{Failure}
 use Rattle.reference.specs.declared.failure.Failure.TheVariants as failure
 use Rattle.reference.specs.declared.failure.UsageFault.TheVariants.{InvalidReturn}
 use Rattle.reference.specs.declared.fault_status.FaultEffect.{FaultEffect}
-use Rattle.reference.specs.Accesses.{Served, perform_all}
+use Rattle.reference.specs.Accesses.{ListResult, perform_all}
 use Rattle.reference.specs.ExceptionEntry.{pushes, entering, begin_entry}
 use Rattle.reference.specs.ExceptionReturn.{with_entry, fits_mode, unstacked, frame_read, returns_privileged, pops}
 use Rattle.reference.specs.ExceptionReturn.{pop_stack, chained, returned, exception_ended, is_allowed, return_line}
@@ -20,8 +20,8 @@ use Rattle.reference.specs.Memory.{Memory}
 use Rattle.reference.specs.Registers.{Registers, is_privileged, sp}
 use Rattle.reference.specs.State.{State, Stepped, with_bus, with_system}
 use Rattle.reference.specs.Words.{is_bit}
-use Rattle.reference.specs.Invariant.{AreApart}
-use Rattle.step_laws.specs.FrameLaw.{AreRegisters, AreBack, KeepsFrame, IsFree, IsStacked, HasFrameOf, ReturnGivesBack}
+use Rattle.reference.specs.Invariant.{HasRegisters, FlashEndsBelowRam, Invariant}
+use Rattle.step_laws.specs.FrameLaw.{AreBack, KeepsFrame, IsFree, IsStacked, HasFrameOf, ReturnGivesBack}
 use Rattle.step_laws.proofs.Bytes.{either}
 use Rattle.step_laws.proofs.Frames.{gives_back, pushed_sp}
 use Rattle.step_laws.proofs.Stacks.{HoldsWords, AreWords, words_pushed, words_popped, frame_stays}
@@ -51,14 +51,14 @@ not_free : {A : Type 0} (s : State) (events : List Event) (e : ℕ) (why : Failu
 not_free s events e why free = absurd cc (sym (failed_entry (with_entry s e) events why) ∙ free.0)
 
 -- the pops of a state were carried out, and its registers come from them
-record IsBackFrom (u : Registers) (e : ℕ) (all : Served) (after : Registers) : Type 0 where
+record IsBackFrom (u : Registers) (e : ℕ) (all : ListResult) (after : Registers) : Type 0 where
   done : all.failure ≡ None
   popped : after ≡ popped u e all.values
 
-abbrev EndsWith : Registers → ℕ → Served → Stepped → Type 0
+abbrev EndsWith : Registers → ℕ → ListResult → Stepped → Type 0
 EndsWith u e all step = IsFree step.state → IsBackFrom u e all step.state.registers
 
-unstacked_ends : (s : State) (events : List Event) (e : ℕ) (all : Served) → all.failure ≡ None →
+unstacked_ends : (s : State) (events : List Event) (e : ℕ) (all : ListResult) → all.failure ≡ None →
     EndsWith s.registers e all (unstacked s events e all.values)
 unfolding unstacked
 unstacked_ends s events e all done =
@@ -68,12 +68,12 @@ unstacked_ends s events e all done =
     (λ odd free. absurd cc (free.1))
     (λ even free. record { done = done; popped = refl }))
 
-read_ends : (s : State) (events : List Event) (e : ℕ) (all : Served) (end : Option Failure) → all.failure ≡ end →
+read_ends : (s : State) (events : List Event) (e : ℕ) (all : ListResult) (end : Option Failure) → all.failure ≡ end →
     EndsWith s.registers e all (frame_read s events e all end)
 read_ends s events e all None is free = unstacked_ends (with_bus s all.bus) (events ++ all.events) e all is free
 read_ends s events e all (Some why) is free = not_free (with_bus s all.bus) (events ++ all.events) e why free
 
-abbrev pops_of : State → ℕ → Served
+abbrev pops_of : State → ℕ → ListResult
 pops_of s e = perform_all s.registers.exception s.bus.system.time.ticks s.bus (pops s.registers e)
 
 popped_ends : (s : State) (events : List Event) (e : ℕ) → EndsWith s.registers e (pops_of s e) (pop_stack s events e)
@@ -104,13 +104,15 @@ return_ends s before e =
 
 -- ---- the frame
 
-frame_words : (r : Registers) → AreRegisters r → AreWords (frame r)
+frame_words : (r : Registers) → HasRegisters r → AreWords (frame r)
 unfolding frame
 frame_words r is =
-    let last = xpsr_is_word r is.it is.exception in
-    (is.words 0, (is.words 1, (is.words 2, (is.words 3, (is.words 12, (is.lr, (is.pc, (last, tt))))))))
+    let last = xpsr_is_word r is.it_state is.exception in (
+      is.general 0,
+      (is.general 1, (is.general 2, (is.general 3, (is.general 12, (is.lr, (is.pc.word, (last, tt))))))),
+    )
 
-pops_back : (t : State) (e : ℕ) (r : Registers) → AreRegisters r → AreApart t.bus.memory →
+pops_back : (t : State) (e : ℕ) (r : Registers) → HasRegisters r → FlashEndsBelowRam t.bus.memory →
     HoldsWords t.bus.memory (frame_pointer t.registers e) (frame r) → (pops_of t e).failure ≡ None →
     (pops_of t e).values ≡ frame r
 unfolding pops frame
@@ -122,45 +124,45 @@ eight : (r : Registers) → length (frame r) ≤ 8
 unfolding frame
 eight r = omega arith
 
-abbrev pushes_of : State → Served
+abbrev pushes_of : State → ListResult
 pushes_of s = perform_all s.registers.exception s.bus.system.time.ticks s.bus (pushes s.registers)
 
 entered : (s : State) → IsStacked s → (begin_entry s).state ≡ with_bus (entering s) (pushes_of s).bus
 unfolding begin_entry
-entered s is = rw is.pushed refl
+entered s pushed = rw pushed refl
 
-holds_frame : (s : State) → IsStacked s →
+holds_frame : (s : State) → FlashEndsBelowRam s.bus.memory → IsStacked s →
     HoldsWords (pushes_of s).bus.memory (frame_base (sp s.registers)) (frame s.registers)
 unfolding pushes
-holds_frame s is =
+holds_frame s apart pushed =
     (words_pushed s.registers.exception s.bus.system.time.ticks (is_privileged s.registers) s.bus
-    (frame_base (sp s.registers)) (frame s.registers) is.apart (omega arith) (omega arith) is.pushed).words
+    (frame_base (sp s.registers)) (frame s.registers) apart (omega arith) (omega arith) pushed).words
 
 -- SP after the pushes
 entered_sp : (s : State) → IsStacked s → sp (begin_entry s).state.registers ≡ sp (with_frame s.registers)
-entered_sp s is = ap (λ (t : State). sp t.registers) (entered s is)
+entered_sp s pushed = ap (λ (t : State). sp t.registers) (entered s pushed)
 
 -- the words popped are those pushed
-values_back : (s u : State) → IsStacked s → HasFrameOf s u →
+values_back : (s u : State) → Invariant s → Invariant u → IsStacked s → HasFrameOf s u →
     (pops_of (deactivating u) (exc_return s.registers)).failure ≡ None →
     (pops_of (deactivating u) (exc_return s.registers)).values ≡ frame s.registers
-values_back s u is has done =
+values_back s u is later pushed has done =
     let e = exc_return s.registers in
     let base = frame_base (sp s.registers) in
-    let at : sp (begin_entry s).state.registers ≡ base = entered_sp s is ∙ pushed_sp s.registers in
+    let at : sp (begin_entry s).state.registers ≡ base = entered_sp s pushed ∙ pushed_sp s.registers in
     let keeps : KeepsFrame (pushes_of s).bus.memory u.bus.memory base =
-    subst (λ (m : Memory). KeepsFrame m u.bus.memory base) (ap (λ (t : State). t.bus.memory) (entered s is))
+    subst (λ (m : Memory). KeepsFrame m u.bus.memory base) (ap (λ (t : State). t.bus.memory) (entered s pushed))
     (subst (λ address. KeepsFrame (begin_entry s).state.bus.memory u.bus.memory address) at has.bytes) in
     let holds : HoldsWords u.bus.memory base (frame s.registers) =
     frame_stays (pushes_of s).bus.memory u.bus.memory base (frame s.registers) (omega arith) (omega arith)
-    (eight s.registers) keeps (holds_frame s is) in
-    pops_back (deactivating u) e s.registers is.registers has.apart
+    (eight s.registers) keeps (holds_frame s is.memory pushed) in
+    pops_back (deactivating u) e s.registers is.registers later.memory
     (subst (λ address. HoldsWords u.bus.memory address (frame s.registers)) (sym (has.stack ∙ at)) holds) done
 
 pub return_gives_back : (s u : State) (before : List Event) → ReturnGivesBack s u before
-return_gives_back s u before is has free =
+return_gives_back s u before is later pushed has free =
     let e = exc_return s.registers in
     let back = return_ends u before e free in
-    let registers = back.popped ∙ ap (popped u.registers e) (values_back s u is has back.done) in
+    let registers = back.popped ∙ ap (popped u.registers e) (values_back s u is later pushed has back.done) in
     subst (λ (r : Registers). AreBack s.registers r) (sym registers)
-    (gives_back s.registers u.registers is.registers has.all (has.stack ∙ entered_sp s is))
+    (gives_back s.registers u.registers is.registers later.registers (has.stack ∙ entered_sp s pushed))

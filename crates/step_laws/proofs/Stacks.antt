@@ -6,27 +6,27 @@ use Rattle.std.proofs.lemmas.Bool.Decides.{nat_tests}
 use Rattle.reference.specs.declared.access.Kind.TheVariants.{Push, Pop}
 use Rattle.reference.specs.declared.event.Event.{Event}
 use Rattle.reference.specs.declared.failure.Failure.{Failure}
-use Rattle.reference.specs.Accesses.{Served, perform, followed, perform_all}
+use Rattle.reference.specs.Accesses.{ListResult, perform, followed, perform_all}
 use Rattle.reference.specs.ExceptionEntry.{words_from}
 use Rattle.reference.specs.Map.{ram_base}
 use Rattle.reference.specs.Memory.{Memory, byte_at, bytes_of}
 use Rattle.reference.specs.State.{Bus}
 use Rattle.reference.specs.Words.{word_sum}
-use Rattle.reference.specs.Invariant.{AreApart}
+use Rattle.reference.specs.Invariant.{FlashEndsBelowRam}
 use Rattle.step_laws.specs.FrameLaw.{KeepsFrame}
 use Rattle.step_laws.proofs.Blocks.{overwritten_keeps}
 use Rattle.step_laws.proofs.Stored.{IsWord, stays_apart, word_written, word_read}
 use Rattle.step_laws.proofs.Pushed.{IsPushed, push_of, push_done, pop_of, pop_done}
 
 -- an access that was carried out, and the others after it
-record WentOn (value : Result ℕ Failure) (rest all : Served) : Type 0 where
+record WentOn (value : Result ℕ Failure) (rest all : ListResult) : Type 0 where
   first : ℕ
   is : value ≡ Ok first
   none : rest.failure ≡ None
   bus : all.bus ≡ rest.bus
   values : all.values ≡ first ∷ rest.values
 
-went_on : (events : List Event) (after : Bus) (value : Result ℕ Failure) (rest : Served) →
+went_on : (events : List Event) (after : Bus) (value : Result ℕ Failure) (rest : ListResult) →
     (followed events after value rest).failure ≡ None → WentOn value rest (followed events after value rest)
 went_on events after (Ok first) rest none = record { first = first; is = refl; none = none; bus = refl; values = refl }
 went_on events after (Err why) rest none = absurd cc
@@ -49,7 +49,7 @@ starts_in_ram exception tick privileged b a v vs none =
 
 -- what pushes leave
 pub record AreThere (old : Memory) (a : ℕ) (vs : List ℕ) (new : Memory) : Type 0 where
-  pub apart : AreApart new
+  pub apart : FlashEndsBelowRam new
   pub words : HoldsWords new a vs
   pub below : (x : ℕ) → x < a → byte_at new x ≡ byte_at old x
 
@@ -67,7 +67,7 @@ others_keep exception tick privileged b a (w ∷ ws) aligned low none rest x bel
     let high = starts_in_ram exception tick privileged b (word_sum a 4) w ws none in
     rest.below x (omega (arith, high))
 
-one_pushed : (old next new : Memory) (a v : ℕ) (vs : List ℕ) → AreApart old → IsPushed old a v next →
+one_pushed : (old next new : Memory) (a v : ℕ) (vs : List ℕ) → FlashEndsBelowRam old → IsPushed old a v next →
     ((x : ℕ) → x < a + 4 → byte_at new x ≡ byte_at next x) → AreThere next (word_sum a 4) vs new →
     AreThere old a (v ∷ vs) new
 one_pushed old next new a v vs apart pushed kept rest = record {
@@ -82,7 +82,8 @@ one_pushed old next new a v vs apart pushed kept rest = record {
       ∙ overwritten_keeps old a x (bytes_of 4 v) pushed.there (inl under);
 }
 
-pub words_pushed : (exception tick : ℕ) (privileged : Bool) (b : Bus) (a : ℕ) (vs : List ℕ) → AreApart b.memory →
+pub words_pushed : (exception tick : ℕ) (privileged : Bool) (b : Bus) (a : ℕ) (vs : List ℕ) →
+    FlashEndsBelowRam b.memory →
     a % 4 ≡ 0 → a < 2 ^ 32 →
     (perform_all exception tick b (words_from Push privileged a vs)).failure ≡ None →
     AreThere b.memory a vs (perform_all exception tick b (words_from Push privileged a vs)).bus.memory
@@ -93,7 +94,7 @@ words_pushed exception tick privileged b a (v ∷ vs) apart aligned low none =
     let on = went_on _ _ _ _ none in
     let one = push_done exception b privileged a v on.first on.is in
     let next = (perform exception b (push_of privileged a v)).bus in
-    let apart_next : AreApart next.memory = rw one.is (stays_apart b.memory a v apart one.there) in
+    let apart_next : FlashEndsBelowRam next.memory = rw one.is (stays_apart b.memory a v apart one.there) in
     let rest =
     words_pushed exception tick privileged next (word_sum a 4) vs apart_next (omega arith) (omega arith) on.none in
     let kept = others_keep exception tick privileged next a vs aligned low on.none rest in
@@ -114,7 +115,8 @@ zeros (v ∷ vs) = 0 ∷ zeros vs
 both : {x v : ℕ} {xs vs : List ℕ} → x ≡ v → xs ≡ vs → x ∷ xs ≡ v ∷ vs
 both first rest = cc
 
-pub words_popped : (exception tick : ℕ) (privileged : Bool) (b : Bus) (a : ℕ) (vs : List ℕ) → AreApart b.memory →
+pub words_popped : (exception tick : ℕ) (privileged : Bool) (b : Bus) (a : ℕ) (vs : List ℕ) →
+    FlashEndsBelowRam b.memory →
     HoldsWords b.memory a vs → AreWords vs →
     (perform_all exception tick b (words_from Pop privileged a (zeros vs))).failure ≡ None →
     (perform_all exception tick b (words_from Pop privileged a (zeros vs))).values ≡ vs
@@ -124,7 +126,7 @@ words_popped exception tick privileged b a (v ∷ vs) apart holds small none =
     let on = went_on _ _ _ _ none in
     let one = pop_done exception b privileged a on.first on.is in
     let next = (perform exception b (pop_of privileged a)).bus in
-    let apart_next : AreApart next.memory = rw one.same apart in
+    let apart_next : FlashEndsBelowRam next.memory = rw one.same apart in
     let holds_next : HoldsWords next.memory (word_sum a 4) vs =
     subst (λ (m : Memory). HoldsWords m (word_sum a 4) vs) (sym one.same) holds.1 in
     let first = word_read b.memory a on.first v apart one.number holds.0 small.0 in

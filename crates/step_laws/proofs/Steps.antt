@@ -1,5 +1,5 @@
 -- The phases of a step, from the last one up.
-use Rattle.std.proofs.Common.{◌≡◌, inl, ℕ, nat_le, false, ◌==◌, List, [], ◌++◌, Option, Some, None, Result, Ok, Err}
+use Rattle.std.proofs.Common.{◌≡◌, inl, ℕ, nat_le, false, List, [], ◌++◌, Option, Some, None, Result, Ok, Err}
 use Rattle.std.proofs.Common.{refl}
 use Rattle.reference.specs.declared.access.Request.{Request}
 use Rattle.reference.specs.declared.event.Event.{Event}
@@ -15,7 +15,7 @@ use Rattle.reference.specs.declared.instruction.Ending.TheVariants as ending
 use Rattle.reference.specs.declared.instruction.InstructionLength.TheVariants.{Short, Long}
 use Rattle.reference.specs.declared.instruction.InstructionLength.{InstructionLength}
 use Rattle.reference.specs.declared.stop.Stop.{Stop}
-use Rattle.reference.specs.Accesses.{Served, perform, told, value_of}
+use Rattle.reference.specs.Accesses.{ListResult, perform, access_lines, value_of}
 use Rattle.reference.specs.Arithmetic.{condition_passed}
 use Rattle.reference.specs.Decoding.{is_long}
 use Rattle.reference.specs.Memory.{Memory}
@@ -23,7 +23,8 @@ use Rattle.reference.specs.Operations.{result_of}
 use Rattle.reference.specs.ProgramCounter.{Finished, moves_on}
 use Rattle.reference.specs.State.{State, ticked, with_bus, with_registers}
 use Rattle.reference.specs.Step.{ended, finished, served, performed_all, planned, without_meaning, executed, fetching}
-use Rattle.reference.specs.Step.{and_told, fetched_second, with_second, fetched_first, instruction, sleeps_on, phase}
+use Rattle.reference.specs.Step.{with_access_lines, fetched_second, with_second, fetched_first, instruction, sleeps_on}
+use Rattle.reference.specs.Step.{phase}
 use Rattle.reference.specs.Step.{running, unless_stopped, step}
 use Rattle.reference.specs.Time.{last_tick}
 use Rattle.reference.specs.Words.{word_sum}
@@ -59,7 +60,7 @@ finished_lawful old s events f ready =
 
 -- ---- its accesses
 
-served_lawful : (old : Memory) (s : State) (events : List Event) (i : CodedInstruction) (all : Served) (end :
+served_lawful : (old : Memory) (s : State) (events : List Event) (i : CodedInstruction) (all : ListResult) (end :
     Option Failure) →
     all.failure ≡ end → MayGoOn old s events → ServedWell s.bus.memory all → IsLawful old (served s events i all end)
 served_lawful old s events i all None is ready well =
@@ -90,7 +91,7 @@ meaningless_lawful : (old : Memory) (s : State) (events : List Event) (length : 
     (fault : UsageFault) →
     MayGoOn old s events → IsLawful old (without_meaning s events length fault)
 meaningless_lawful old s events length fault ready =
-    either (IsLawful old) (condition_passed s.registers.it s.registers.flags) _ _
+    either (IsLawful old) (condition_passed s.registers.it_state s.registers.flags) _ _
     (λ passed. failed_granted old s events (failure.Usage fault) ready)
     (λ skipped. finished_lawful old s events (moves_on length s.registers) ready)
 
@@ -112,16 +113,17 @@ record Fetched (old : Memory) (s : State) (events : List Event) (answer : Result
   only : OnlyCovered old s.bus.memory events
 
 fetch_leaves : (old : Memory) (s : State) (events : List Event) (q : Request) → MayGoOn old s events →
-    Fetched old (with_bus s (perform s.registers.exception s.bus q).bus) (and_told s events q) (value_of q
+    Fetched old (with_bus s (perform s.registers.exception s.bus q).bus) (with_access_lines s events q) (value_of q
     (perform s.registers.exception s.bus q).performed)
 fetch_leaves old s events q ready =
     let answer = perform s.registers.exception s.bus q in record {
       ends =
           ends-append (failure_in (value_of q answer.performed)) events
-          (told s.bus.system.time.ticks q answer.performed) ready.granted
+          (access_lines s.bus.system.time.ticks q answer.performed) ready.granted
           (told_ends s.bus.system.time.ticks q answer.performed);
       only =
-          covered-append old s.bus.memory answer.bus.memory events (told s.bus.system.time.ticks q answer.performed)
+          covered-append old s.bus.memory answer.bus.memory events
+          (access_lines s.bus.system.time.ticks q answer.performed)
           ready.only (perform_writes s.registers.exception s.bus.system.time.ticks s.bus q);
     }
 

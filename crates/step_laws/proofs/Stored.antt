@@ -6,7 +6,7 @@ use Rattle.std.proofs.lemmas.List.{length-take, get_or_append_left, get_or-appen
 use Rattle.reference.specs.Map.{ram_base}
 use Rattle.reference.specs.Memory.{Memory, is_in_flash, is_in_ram, number_in, number_at, byte_at, bytes_of, with_bytes}
 use Rattle.reference.specs.Memory.{overwritten}
-use Rattle.reference.specs.Invariant.{AreApart}
+use Rattle.reference.specs.Invariant.{FlashEndsBelowRam}
 use Rattle.step_laws.proofs.Blocks.{length-with_bytes, length-front}
 
 -- the bytes at an address are those of a word
@@ -25,14 +25,15 @@ written_in block bytes a k fits below =
     ∙ get_or-append_right (take a block) bytes a (a + k) 0 short (omega arith)
     ∙ ap (λ i. get_or bytes i 0) back
 
-not_in_flash : (m : Memory) (a n : ℕ) → AreApart m → is_in_ram m a (suc n) ≡ true → is_in_flash m a (suc n) ≡ false
+not_in_flash : (m : Memory) (a n : ℕ) → FlashEndsBelowRam m → is_in_ram m a (suc n) ≡ true →
+    is_in_flash m a (suc n) ≡ false
 not_in_flash m a n apart there = grind (arith, nat_tests, there, apart)
 
-pub stays_apart : (m : Memory) (a v : ℕ) → AreApart m → is_in_ram m a 4 ≡ true →
-    AreApart (overwritten m a (bytes_of 4 v))
+pub stays_apart : (m : Memory) (a v : ℕ) → FlashEndsBelowRam m → is_in_ram m a 4 ≡ true →
+    FlashEndsBelowRam (overwritten m a (bytes_of 4 v))
 stays_apart m a v apart there = rw (not_in_flash m a 3 apart there) apart
 
-pub word_written : (m : Memory) (a v : ℕ) → AreApart m → is_in_ram m a 4 ≡ true →
+pub word_written : (m : Memory) (a v : ℕ) → FlashEndsBelowRam m → is_in_ram m a 4 ≡ true →
     IsWord (overwritten m a (bytes_of 4 v)) a v
 word_written m a v apart there k below =
     let fits : (a - ram_base) + 4 ≤ length m.ram = grind (arith, nat_tests, there) in
@@ -62,7 +63,7 @@ same_some : (x y : ℕ) → Some x ≡ Some y → x ≡ y
 same_some x y e = cc
 
 read_by : (m : Memory) (a x v : ℕ) (flash ram : Bool) → is_in_flash m a 4 ≡ flash → is_in_ram m a 4 ≡ ram →
-    AreApart m → number_at m a 4 ≡ Some x → IsWord m a v → v < 2 ^ 32 → x ≡ v
+    FlashEndsBelowRam m → number_at m a 4 ≡ Some x → IsWord m a v → v < 2 ^ 32 → x ≡ v
 read_by m a x v true ram f r apart is word small =
     let number = rw f at is in
     let inside : (k : ℕ) → k < 4 → is_in_flash m (a + k) 1 ≡ true = λ k below. grind (arith, nat_tests, f) in
@@ -79,5 +80,6 @@ read_by m a x v false true f r apart is word small =
 read_by m a x v false false f r apart is word small = absurd cc (rw (f, r) at is)
 
 -- the number that is read there is the word
-pub word_read : (m : Memory) (a x v : ℕ) → AreApart m → number_at m a 4 ≡ Some x → IsWord m a v → v < 2 ^ 32 → x ≡ v
+pub word_read : (m : Memory) (a x v : ℕ) → FlashEndsBelowRam m → number_at m a 4 ≡ Some x → IsWord m a v → v < 2 ^ 32 →
+    x ≡ v
 word_read m a x v apart is word small = read_by m a x v _ _ refl refl apart is word small

@@ -57,10 +57,10 @@ fields x n z c v q i t j b e n1 z1 c1 v1 q1 i3 t1 j63 b1 e511 is = record {
 -- the fields of xPSR as it is pushed
 record AreParts (r : Registers) : Type 0 where
   fields : AreFields (pushed_xpsr r) (number r.flags.negative) (number r.flags.zero) (number r.flags.carry)
-      (number r.flags.overflow) (number r.flags.saturated) (r.it % 4) (number r.thumb) (r.it / 4)
+      (number r.flags.overflow) (number r.flags.saturated) (r.it_state % 4) (number r.thumb) (r.it_state / 4)
       (number (is_bit (sp r) 2)) r.exception
 
-parts : (r : Registers) → r.it < 2 ^ 8 → r.exception < 2 ^ 9 → AreParts r
+parts : (r : Registers) → r.it_state < 2 ^ 8 → r.exception < 2 ^ 9 → AreParts r
 parts r it exception =
     let n = weighed_is r.flags.negative (2 ^ 31) in
     let z = weighed_is r.flags.zero (2 ^ 30) in
@@ -76,7 +76,7 @@ parts r it exception =
           (rw (n, z, c, v, q, t, b) (omega arith));
     }
 
-pub flags_back : (r : Registers) → r.it < 2 ^ 8 → r.exception < 2 ^ 9 → flags_of (pushed_xpsr r) ≡ r.flags
+pub flags_back : (r : Registers) → r.it_state < 2 ^ 8 → r.exception < 2 ^ 9 → flags_of (pushed_xpsr r) ≡ r.flags
 flags_back r it exception =
     let p = (parts r it exception).fields in
     let n = is_one r.flags.negative _ p.negative in
@@ -86,24 +86,24 @@ flags_back r it exception =
     let q = is_one r.flags.saturated _ p.saturated in
     rw (n, z, c, v, q) refl
 
-pub it_back : (r : Registers) → r.it < 2 ^ 8 → r.exception < 2 ^ 9 → it_of (pushed_xpsr r) ≡ r.it
+pub it_back : (r : Registers) → r.it_state < 2 ^ 8 → r.exception < 2 ^ 9 → it_of (pushed_xpsr r) ≡ r.it_state
 it_back r it exception =
     let p = (parts r it exception).fields in
     let low = p.low in
     let high = p.high in
     omega (arith, low, high)
 
-pub thumb_back : (r : Registers) → r.it < 2 ^ 8 → r.exception < 2 ^ 9 → is_bit (pushed_xpsr r) 24 ≡ r.thumb
+pub thumb_back : (r : Registers) → r.it_state < 2 ^ 8 → r.exception < 2 ^ 9 → is_bit (pushed_xpsr r) 24 ≡ r.thumb
 thumb_back r it exception = is_one _ _ (parts r it exception).fields.thumb
 
-pub exception_back : (r : Registers) → r.it < 2 ^ 8 → r.exception < 2 ^ 9 → pushed_xpsr r % 2 ^ 9 ≡ r.exception
+pub exception_back : (r : Registers) → r.it_state < 2 ^ 8 → r.exception < 2 ^ 9 → pushed_xpsr r % 2 ^ 9 ≡ r.exception
 exception_back r it exception = (parts r it exception).fields.exception
 
-bit_9_back : (r : Registers) → r.it < 2 ^ 8 → r.exception < 2 ^ 9 → is_bit (pushed_xpsr r) 9 ≡ is_bit (sp r) 2
+bit_9_back : (r : Registers) → r.it_state < 2 ^ 8 → r.exception < 2 ^ 9 → is_bit (pushed_xpsr r) 9 ≡ is_bit (sp r) 2
 bit_9_back r it exception = is_one _ _ (parts r it exception).fields.bit_9
 
 -- xPSR is a word
-pub xpsr_is_word : (r : Registers) → r.it < 2 ^ 8 → r.exception < 2 ^ 9 → pushed_xpsr r < 2 ^ 32
+pub xpsr_is_word : (r : Registers) → r.it_state < 2 ^ 8 → r.exception < 2 ^ 9 → pushed_xpsr r < 2 ^ 32
 xpsr_is_word r it exception =
     let n = weighed_is r.flags.negative (2 ^ 31) in
     let z = weighed_is r.flags.zero (2 ^ 30) in
@@ -135,6 +135,6 @@ raised x word false e f below aligned =
     let clear : x / 4 % 2 ≢ 1 = grind (arith, nat_tests, f) in
     rw e (omega arith)
 
-pub sp_back : (r : Registers) → r.it < 2 ^ 8 → r.exception < 2 ^ 9 → sp r < 2 ^ 32 → sp r % 4 ≡ 0 →
+pub sp_back : (r : Registers) → r.it_state < 2 ^ 8 → r.exception < 2 ^ 9 → sp r < 2 ^ 32 → sp r % 4 ≡ 0 →
     above_frame (frame_base (sp r)) (pushed_xpsr r) ≡ sp r
 sp_back r it exception below aligned = raised (sp r) (pushed_xpsr r) _ (bit_9_back r it exception) refl below aligned

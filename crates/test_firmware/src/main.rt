@@ -1,10 +1,11 @@
-//! Runs images on a board and prints what each of them writes to its console, and why its run ended.
-//! CI runs it over the firmware of `examples/firmware` and compares what it prints.
+//! Runs images on a board, on `Slow` and on `Fast` step by step, and prints what each of them writes to its
+//! console, and why its run ended. CI runs it over the firmware and the kernels of `examples` and compares
+//! what it prints.
 #![tactic(auto)]
 
 use board::{Board, read_board};
-use elf::load;
-use machine::{Event, Events, Slow, Stop, stop_line};
+use elf::{Image, load};
+use machine::{Event, Events, Fast, Slow, Stop, event_line, stop_line};
 use reference::event::Happening;
 use std::alloc::Global;
 use std::io::Write;
@@ -15,8 +16,13 @@ const MOST_STEPS: u32 = 20_000_000;
 
 fn main(rt: HostRuntime) -> io::Result<()> {
     let mut words = env::args(&rt)?;
-    let (Some(_), Some(path)) = (words.next(), words.next()) else {
-        return rt.println("usage: firmware BOARD IMAGE..");
+    let (Some(_), Some(first)) = (words.next(), words.next()) else {
+        return rt.println("usage: test_firmware [--fast] BOARD IMAGE..");
+    };
+    let is_alone = first.as_str() == "--fast";
+    let path = if is_alone { words.next() } else { Some(first) };
+    let Some(path) = path else {
+        return rt.println("usage: test_firmware [--fast] BOARD IMAGE..");
     };
     let text = fs::read_to_string(&rt, path.as_str())?;
     let Ok(board) = read_board(rt.alloc(), text.as_str()) else {
@@ -25,34 +31,98 @@ fn main(rt: HostRuntime) -> io::Result<()> {
     for path in words {
         println!(rt; "{path}:")?;
         let image = fs::read(&rt, path.as_str())?;
-        run(rt.alloc(), &board, image.as_slice(), &mut io::writer(&rt))?;
+        let out = &mut io::writer(&rt);
+        match load(image.as_slice()) {
+            Ok(image) if is_alone => run_fast(rt.alloc(), &board, &image, out)?,
+            Ok(image) => run_both(rt.alloc(), &board, &image, out)?,
+            Err(_) => out.write_all(b"the image is refused\n")?,
+        }
     }
     Ok(())
 }
 
-/// Runs an image, and writes its console bytes and the line of its stop.
-fn run<W: Write>(alloc: Global, board: &Board, image: &[u8], out: &mut W) -> io::Result<()> {
-    let Ok(image) = load(image) else {
-        return out.write_all(b"the image is refused\n");
-    };
-    let Ok(mut machine) = Slow::new(alloc, &image, board) else {
+/// Runs an image on `Fast` alone, and writes its console bytes and the line of its stop.
+fn run_fast<W: Write>(
+    alloc: Global,
+    board: &Board,
+    image: &Image<'_>,
+    out: &mut W,
+) -> io::Result<()> {
+    let Ok(mut machine) = Fast::new(alloc, image, board) else {
         return out.write_all(b"the machine doesn't start\n");
     };
-    let stop = run_machine(&mut machine, out)?;
-    out.write_all(stop_line(&stop).as_slice())
-}
-
-/// Steps up to the first stop.
-fn run_machine<W: Write>(machine: &mut Slow, out: &mut W) -> io::Result<Stop> {
     let mut events = Events::new();
     for _ in 0..MOST_STEPS {
         let stop = machine.step(&mut events);
         write_console(events.as_slice(), out)?;
         if let Some(stop) = stop {
+            return out.write_all(stop_line(&stop).as_slice());
+        }
+    }
+    out.write_all(stop_line(&Stop::StepLimit).as_slice())
+}
+
+/// Runs an image on both machines, and writes its console bytes and the line of its stop.
+fn run_both<W: Write>(
+    alloc: Global,
+    board: &Board,
+    image: &Image<'_>,
+    out: &mut W,
+) -> io::Result<()> {
+    let (Ok(mut slow), Ok(mut fast)) = (
+        Slow::new(alloc, image, board),
+        Fast::new(alloc, image, board),
+    ) else {
+        return out.write_all(b"the machine doesn't start\n");
+    };
+    match run_machines(&mut slow, &mut fast, out)? {
+        Some(stop) => out.write_all(stop_line(&stop).as_slice()),
+        None => out.write_all(b"the two machines differ\n"),
+    }
+}
+
+/// Steps both machines up to the first stop. Returns None where a step of one isn't that of the other.
+fn run_machines<W: Write>(
+    slow: &mut Slow,
+    fast: &mut Fast,
+    out: &mut W,
+) -> io::Result<Option<Stop>> {
+    let mut events = Events::new();
+    let mut others = Events::new();
+    for _ in 0..MOST_STEPS {
+        let stop = slow.step(&mut events);
+        let other = fast.step(&mut others);
+        write_console(events.as_slice(), out)?;
+        if !are_alike(events.as_slice(), others.as_slice()) || !stop_alike(stop, other) {
+            return Ok(None);
+        }
+        if stop.is_some() {
             return Ok(stop);
         }
     }
-    Ok(Stop::StepLimit)
+    Ok(Some(Stop::StepLimit))
+}
+
+/// Returns whether the lines of two lists of events are the same.
+fn are_alike(events: &[Event], others: &[Event]) -> bool {
+    if events.len() != others.len() {
+        return false;
+    }
+    for (event, other) in events.iter().zip(others) {
+        if event_line(event).as_slice() != event_line(other).as_slice() {
+            return false;
+        }
+    }
+    true
+}
+
+/// Returns whether both machines stopped, with the same line, or neither did.
+fn stop_alike(stop: Option<Stop>, other: Option<Stop>) -> bool {
+    match (stop, other) {
+        (None, None) => true,
+        (Some(stop), Some(other)) => stop_line(&stop).as_slice() == stop_line(&other).as_slice(),
+        (None, Some(_)) | (Some(_), None) => false,
+    }
 }
 
 /// Writes the console bytes among the events of a step.

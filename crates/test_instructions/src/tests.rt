@@ -116,7 +116,7 @@ fn has_registers(case: &Case) -> bool {
 /// Whether the flags, IT and T are the ones wanted.
 fn has_status(case: &Case) -> bool {
     case.regs.apsr() == case.wanted.flags
-        && case.regs.it() == case.wanted.it
+        && case.regs.it_state() == case.wanted.it
         && case.regs.is_thumb() == case.wanted.thumb
 }
 

@@ -136,7 +136,7 @@ impl Case {
             }
             "flags_after" => self.wanted.flags = value,
             "it" => {
-                self.regs.set_it(byte);
+                self.regs.set_it_state(byte);
                 self.wanted.it = byte;
             }
             "it_after" => self.wanted.it = byte,

@@ -33,7 +33,7 @@ fn has_addresses(registers: &Regs, wanted: &str) -> bool {
 /// Whether T, IT and the mode are those.
 fn has_mode(registers: &Regs, wanted: &str) -> bool {
     is_first(word(wanted, 0), "T", "-") == Some(registers.is_thumb())
-        && byte_at(wanted, 1) == Some(registers.it())
+        && byte_at(wanted, 1) == Some(registers.it_state())
         && is_first(word(wanted, 2), "privileged", "-") == Some(registers.is_privileged())
         && is_first(word(wanted, 3), "handler", "-") == Some(registers.is_handler())
 }
@@ -386,10 +386,10 @@ impl Rows for Blocks {
     fn holds(&mut self, row: &str) -> Option<bool> {
         let mut registers = after_reset();
         registers.set_flags(flags_of(0x4000_0000));
-        registers.set_it(byte_at(part(row, 0), 0)?);
+        registers.set_it_state(byte_at(part(row, 0), 0)?);
         let is_so = is_in_block(&registers, part(row, 1));
         registers.it_advance();
-        Some(is_so && byte_at(part(row, 2), 0) == Some(registers.it()))
+        Some(is_so && byte_at(part(row, 2), 0) == Some(registers.it_state()))
     }
 }
 

@@ -3,14 +3,14 @@
 use super::regions::{decision, is_told};
 use super::settings::{setting, write_pairs};
 use super::words::is_number;
-use mpu::{Decider, MpuRegs, MpuStop, Search, register_at, stop_of};
+use mpu::{Decider, MpuRegs, MpuStop, Search, mpu_register_at, stop_of};
 use reference::stop::{Stop, UnpredictableCase};
 use std::test::*;
 use test_tables::{Rows, byte_at, check, number_at, numbers, part, word};
 
 /// What the register at an address reads as.
 fn read(registers: &MpuRegs, address: u32) -> Option<u32> {
-    Some(registers.read_reg(register_at(address)?))
+    Some(registers.read_reg(mpu_register_at(address)?))
 }
 
 /// Registers, and what they read as.
@@ -153,7 +153,7 @@ impl Rows for Writes {
     fn holds(&mut self, row: &str) -> Option<bool> {
         let before = setting("task")?;
         let mut registers = before;
-        let register = register_at(number_at(part(row, 0), 0)?)?;
+        let register = mpu_register_at(number_at(part(row, 0), 0)?)?;
         let became = word_of(registers.write_reg(register, number_at(part(row, 0), 1)?));
         Some(became == part(row, 1) && (became == "taken" || are_same(&registers, &before)))
     }

@@ -1,6 +1,6 @@
 //! Registers of the MPU that rows call by a name.
 
-use mpu::{MpuRegs, register_at};
+use mpu::{MpuRegs, mpu_register_at};
 use test_tables::{byte_at, number_at, pair, part, row_of};
 
 /// The name; how many regions there are, MPU_CTRL, and RBAR and RASR of each region that is set; what
@@ -21,7 +21,7 @@ sixteen | 10 1 20000012:03000013 20000019:01000013 | region 9, for privileged co
 
 /// A write to the register at an address, which has to be taken.
 fn write(registers: &mut MpuRegs, address: u32, value: u32) -> Option<()> {
-    registers.write_reg(register_at(address)?, value).ok()
+    registers.write_reg(mpu_register_at(address)?, value).ok()
 }
 
 /// The words of a part are written: an address and the value each.

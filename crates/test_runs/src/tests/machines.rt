@@ -6,6 +6,7 @@ use machine::{
     RegionCount, SMALL_BOARD, ScriptedEvent, Signal,
 };
 use reference::exception::MOST_LINES;
+use reference::mpu::MOST_REGIONS;
 use std::alloc::{AllocError, Global};
 use test_tables::{byte_at, number_at, word};
 
@@ -72,10 +73,10 @@ fn script(alloc: Global, text: &str) -> Result<Vec<ScriptedEvent>, AllocError> {
 /// The small board with the numbers of a line `board LINES REGIONS`, if there can be such a board.
 fn board_of(line: &str) -> Option<Layout> {
     let lines = byte_at(line, 1)?;
-    if lines > 240 {
+    if lines > MOST_LINES {
         return None;
     }
-    let regions = if byte_at(line, 2)? == 16 {
+    let regions = if byte_at(line, 2)? == MOST_REGIONS {
         RegionCount::Sixteen
     } else {
         RegionCount::Eight

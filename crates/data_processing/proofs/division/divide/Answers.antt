@@ -2,5 +2,4 @@ use Rattle.reference.specs.Products.{divide}
 use Rattle.data_processing.proofs.division.divide.Goals as goal
 
 pub returns : goal.returns
-unfolding divide
 returns c = cc
