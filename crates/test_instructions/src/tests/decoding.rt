@@ -136,9 +136,10 @@ fn lengths() -> Result<(), Fail> {
 }
 
 #[test]
-fn lines_are_read_again(rt: HostRuntime) {
-    let mut lines = Reread;
+fn lines_are_read_again(rt: HostRuntime) -> Result<(), Fail> {
+    let mut lines = Reread::fresh(rt.alloc()).ok().ok_or("no memory")?;
     lines.wrote(0x100, 4);
     let decoded = lines.fetch(0x100, 0xDE00, 0);
     assert!(rt; matches!(decoded, Decoded::Undefined), "UDF");
+    Ok(())
 }
