@@ -18,9 +18,9 @@ use Rattle.reference.specs.Map.{is_in_ppb, is_in_window}
 use Rattle.reference.specs.Memory.{Memory, is_in_ram, bytes_of, overwritten}
 use Rattle.reference.specs.Space.{SpaceAnswer, is_out, written_to, space_access}
 use Rattle.reference.specs.State.{Bus}
-use Rattle.step_laws.specs.AccessLaw.{AllGranted, OnlyCovered}
-use Rattle.step_laws.proofs.Blocks.{IsOutside, overwritten_keeps}
-use Rattle.step_laws.proofs.Lines.{granted-nil, granted-cons, EndIn, failure_in, ends-append, covered-append}
+use Rattle.step_laws.specs.AccessLaw.{AllGranted, are_covering, OnlyCovered}
+use Rattle.step_laws.proofs.Blocks.{IsOutside, blocks_kept}
+use Rattle.step_laws.proofs.Lines.{granted-nil, granted-cons, EndIn, failure_in, ends-append, covered-append, covered-same}
 
 -- ---- the bytes of one access
 
@@ -52,25 +52,31 @@ stored : (tick : ℕ) (q : Request) (m : Memory) → is_write q.access.kind ≡ 
       memory = overwritten m q.access.address (bytes_of (bytes_in q.access.size) q.value);
       answer = answer.Value 0;
     })
-stored tick q m writing there rule address e =
+stored tick q m writing there rule =
     let long = length-bytes_of (bytes_in q.access.size) q.value in
     let bytes = bytes_of (bytes_in q.access.size) q.value in
     let there_too : is_in_ram m q.access.address (length bytes) ≡ true = rw long there in
-    let apart : IsOutside q.access.address (length bytes) address =
-    rw long (outside q.access.address (bytes_in q.access.size) address _ (rw writing at e)) in
-    overwritten_keeps m q.access.address address bytes there_too apart
+    let kept = blocks_kept m q.access.address bytes there_too in
+    let apart : (x : ℕ) → are_covering (access_lines tick q (performed.Done rule 0)) x ≡ false →
+    IsOutside q.access.address (length bytes) x =
+    λ x e. rw long (outside q.access.address (bytes_in q.access.size) x _ (rw writing at e)) in
+    record {
+      flash_base = kept.flash_base;
+      flash = record { size = kept.flash.size; bytes = λ k e. kept.flash.bytes k (apart _ e) };
+      ram = record { size = kept.ram.size; bytes = λ k e. kept.ram.bytes k (apart _ e) };
+    }
 
 writing_writes : (tick : ℕ) (q : Request) (m : Memory) → is_write q.access.kind ≡ true →
     Writes tick q m (written_to m q)
 writing_writes tick q m writing =
-    either (Writes tick q m) (is_in_window q.access.address) _ _ (λ e rule address f. refl)
+    either (Writes tick q m) (is_in_window q.access.address) _ _ (λ e rule. covered-same _ _)
     (λ away. either (Writes tick q m) (is_in_ram m q.access.address (bytes_in q.access.size)) _ _
-    (stored tick q m writing) (λ e rule address f. refl))
+    (stored tick q m writing) (λ e rule. covered-same _ _))
 
 space_writes : (tick ticks : ℕ) (q : Request) (m : Memory) → Writes tick q m (space_access m ticks q)
 unfolding space_access
 space_writes tick ticks q m =
-    either (Writes tick q m) (is_write q.access.kind) _ _ (writing_writes tick q m) (λ e rule address f. refl)
+    either (Writes tick q m) (is_write q.access.kind) _ _ (writing_writes tick q m) (λ e rule. covered-same _ _)
 
 abbrev BusWrites : ℕ → Request → Bus → BusAnswer → Type 0
 BusWrites tick q b a =
@@ -79,15 +85,15 @@ BusWrites tick q b a =
 carried_writes : (exception tick : ℕ) (b : Bus) (q : Request) → BusWrites tick q b (answered_by_bus exception b q)
 unfolding answered_by_bus
 carried_writes exception tick b q =
-    either (BusWrites tick q b) (is_probe q.access.kind) _ _ (λ e rule address f. refl)
-    (λ asked. either (BusWrites tick q b) (is_in_ppb q.access.address) _ _ (λ e rule address f. refl)
+    either (BusWrites tick q b) (is_probe q.access.kind) _ _ (λ e rule. covered-same _ _)
+    (λ asked. either (BusWrites tick q b) (is_in_ppb q.access.address) _ _ (λ e rule. covered-same _ _)
     (λ e. space_writes tick b.system.time.ticks q b.memory))
 
 decided_writes : (exception tick : ℕ) (b : Bus) (q : Request) (d : Decision) (granted : Bool) →
     d.granted ≡ granted →
     OnlyCovered b.memory (decided exception b q d).bus.memory (access_lines tick q (decided exception b q d).performed)
 decided_writes exception tick b q d true e = rw e (carried_writes exception tick b q d.rule)
-decided_writes exception tick b q d false e = rw e (λ address f. refl)
+decided_writes exception tick b q d false e = rw e (covered-same b.memory _)
 
 -- one access
 pub perform_writes : (exception tick : ℕ) (b : Bus) (q : Request) →
@@ -133,7 +139,7 @@ followed_well old events after (Err why) rest ends only well = record { ends = e
 pub served_well : (exception tick : ℕ) (b : Bus) (qs : List Request) →
     ServedWell b.memory (perform_all exception tick b qs)
 unfolding perform_all
-served_well exception tick b [] = record { ends = granted-nil; only = λ address e. refl }
+served_well exception tick b [] = record { ends = granted-nil; only = covered-same b.memory [] }
 served_well exception tick b (q ∷ qs) =
     followed_well b.memory _ _ _ _ (told_ends tick q (perform exception b q).performed)
     (perform_writes exception tick b q)

@@ -1,6 +1,6 @@
 -- A failure: what it leaves of the lines, and the line of its fault.
 use Rattle.std.proofs.Common.{◌≡◌, ◌⊎◌, inl, inr, ℕ, Bool, true, false, if◌then◌else◌, List, [], ◌∷◌, ◌++◌, bit_and}
-use Rattle.std.proofs.Common.{bit_or, Some, refl, ◌∙◌, ap, append_assoc}
+use Rattle.std.proofs.Common.{bit_or, Some, refl, sym, ◌∙◌, ap, subst, append_assoc}
 use Rattle.std.proofs.lemmas.Nat.{and_or_self, and_or_apart}
 use Rattle.std.specs.Int.Bits.{or_zero_r}
 use Rattle.reference.specs.declared.access.Access.{Access}
@@ -28,7 +28,7 @@ use Rattle.reference.specs.Priorities.{is_fixed}
 use Rattle.reference.specs.State.{State, Stepped}
 use Rattle.reference.specs.Status.{Status, with_fault_bits}
 use Rattle.step_laws.specs.AccessLaw.{AllGranted, IsLineOf, EndsRefused, OneRefusal, OnlyCovered}
-use Rattle.step_laws.proofs.Lines.{granted-nil, granted-cons, granted-append, LastRefused, EndIn, covered-more}
+use Rattle.step_laws.proofs.Lines.{granted-nil, granted-cons, granted-append, LastRefused, EndIn, covered-more, covered-same}
 
 -- what holds of a step that began with this memory
 pub record IsLawful (old : Memory) (step : Stepped) : Type 0 where
@@ -42,7 +42,8 @@ pub record MayGoOn (old : Memory) (s : State) (events : List Event) : Type 0 whe
 
 -- the first phase may
 pub at_first : (old : Memory) (s : State) → s.bus.memory ≡ old → MayGoOn old s []
-at_first old s e = record { granted = granted-nil; only = λ address none. ap (λ (m : Memory). byte_at m address) e }
+at_first old s e =
+    record { granted = granted-nil; only = subst (λ m. OnlyCovered old m []) (sym e) (covered-same old []) }
 
 -- ---- the line of a fault
 

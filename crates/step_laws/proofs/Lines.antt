@@ -1,6 +1,6 @@
 -- The lines of accesses, one after another.
-use Rattle.std.proofs.Common.{◌≡◌, ℕ, Bool, true, false, ◌||◌, List, [], ◌∷◌, ◌++◌, Option, Some, None, Result, Ok, Err}
-use Rattle.std.proofs.Common.{refl, sym, ◌∙◌, ap, append_assoc}
+use Rattle.std.proofs.Common.{◌≡◌, ℕ, ◌+◌, Bool, true, false, ◌||◌, List, [], ◌∷◌, ◌++◌, Option, Some, None, Result, Ok, Err}
+use Rattle.std.proofs.Common.{refl, sym, ◌∙◌, ap, subst, append_assoc}
 use Rattle.std.proofs.lemmas.List.Elements.{All-nil, All-cons, All-append}
 use Rattle.std.proofs.lemmas.List.Folds.{list_any-append}
 use Rattle.reference.specs.declared.access.Access.{Access}
@@ -10,8 +10,9 @@ use Rattle.reference.specs.declared.event.Event.{Event}
 use Rattle.reference.specs.declared.event.Happening.TheVariants.{Accessed}
 use Rattle.reference.specs.declared.failure.Failure.{Failure}
 use Rattle.reference.specs.declared.failure.Failure.TheVariants.{Refused, Usage, Stop}
+use Rattle.reference.specs.Map.{ram_base}
 use Rattle.reference.specs.Memory.{Memory}
-use Rattle.step_laws.specs.AccessLaw.{is_refused, AllGranted, covers, are_covering, OnlyCovered}
+use Rattle.step_laws.specs.AccessLaw.{is_refused, AllGranted, covers, are_covering, OnlyCovered, OnlyCoveredFrom}
 
 -- ---- refusals
 
@@ -75,11 +76,32 @@ pub uncovered : (xs ys : List Event) (address : ℕ) → are_covering (xs ++ ys)
 uncovered xs ys address e = neither _ _ (sym (list_any-append (λ (event : Event). covers event.what address) xs ys) ∙ e)
 
 -- one after another
+append_from : (base : ℕ) (old between new : List ℕ) (xs ys : List Event) → OnlyCoveredFrom base old between xs →
+    OnlyCoveredFrom base between new ys → OnlyCoveredFrom base old new (xs ++ ys)
+append_from base old between new xs ys first rest = record {
+  size = rest.size ∙ first.size;
+  bytes = λ k e.
+      let apart = uncovered xs ys (base + k) e in rest.bytes k apart.1 ∙ first.bytes k apart.0;
+}
+
 pub covered-append : (old between new : Memory) (xs ys : List Event) → OnlyCovered old between xs →
     OnlyCovered between new ys → OnlyCovered old new (xs ++ ys)
-covered-append old between new xs ys first rest address e =
-    let apart = uncovered xs ys address e in rest address apart.1 ∙ first address apart.0
+covered-append old between new xs ys first rest = record {
+  flash_base = rest.flash_base ∙ first.flash_base;
+  flash =
+      append_from old.flash_base old.flash between.flash new.flash xs ys first.flash
+      (subst (λ base. OnlyCoveredFrom base between.flash new.flash ys) first.flash_base rest.flash);
+  ram = append_from ram_base old.ram between.ram new.ram xs ys first.ram rest.ram;
+}
+
+-- memory that stays
+pub covered-same : (m : Memory) (events : List Event) → OnlyCovered m m events
+covered-same m events = record {
+  flash_base = refl;
+  flash = record { size = refl; bytes = λ k e. refl };
+  ram = record { size = refl; bytes = λ k e. refl };
+}
 
 -- more lines, while memory stays
 pub covered-more : (old new : Memory) (xs ys : List Event) → OnlyCovered old new xs → OnlyCovered old new (xs ++ ys)
-covered-more old new xs ys first address e = first address (uncovered xs ys address e).0
+covered-more old new xs ys first = covered-append old new new xs ys first (covered-same new ys)

@@ -29,7 +29,7 @@ use Rattle.reference.specs.Step.{running, unless_stopped, step}
 use Rattle.reference.specs.Time.{last_tick}
 use Rattle.reference.specs.Words.{word_sum}
 use Rattle.step_laws.specs.AccessLaw.{OnlyCovered}
-use Rattle.step_laws.proofs.Lines.{granted-nil, granted-append, EndIn, failure_in, ends-append, covered-append}
+use Rattle.step_laws.proofs.Lines.{granted-nil, granted-append, EndIn, failure_in, ends-append, covered-append, covered-same}
 use Rattle.step_laws.proofs.Bytes.{either, perform_writes, told_ends, ServedWell, served_well}
 use Rattle.step_laws.proofs.Faults.{IsLawful, MayGoOn, at_first, goes_on_lawful, failed_granted, failed_lawful}
 use Rattle.step_laws.proofs.Faults.{supervisor_lawful}
@@ -172,12 +172,12 @@ phase_lawful s None None =
 running_lawful : (s : State) → IsLawful s.bus.memory (running s)
 running_lawful s =
     either (IsLawful s.bus.memory) (nat_le last_tick s.bus.system.time.ticks) _ _
-    (λ late. record { one_refusal = inl granted-nil; only_covered = λ address e. refl })
+    (λ late. record { one_refusal = inl granted-nil; only_covered = covered-same s.bus.memory [] })
     (λ early. phase_lawful (ticked s) s.entry _)
 
 stopped_lawful : (s : State) (why : Option Stop) → IsLawful s.bus.memory (unless_stopped s why)
 stopped_lawful s None = running_lawful s
-stopped_lawful s (Some why) = record { one_refusal = inl granted-nil; only_covered = λ address e. refl }
+stopped_lawful s (Some why) = record { one_refusal = inl granted-nil; only_covered = covered-same s.bus.memory [] }
 
 -- a step
 pub step_lawful : (s : State) → IsLawful s.bus.memory (step s)

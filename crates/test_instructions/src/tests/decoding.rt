@@ -3,6 +3,7 @@
 ghost use Rattle.std.specs.Prelude.{◌<◌};
 
 use assembled::{COPROCESSORS, LONG_CONTROL, LONG_DATA, LONG_OTHERS, SHORT, UNDEFINED};
+use code_lines::Lines;
 use decode::{CodeLines, Decoded, Reread, decode, is_long};
 use std::test::*;
 use stops::STOPS;
@@ -141,5 +142,35 @@ fn lines_are_read_again(rt: HostRuntime) -> Result<(), Fail> {
     lines.wrote(0x100, 4);
     let decoded = lines.fetch(0x100, 0xDE00, 0);
     assert!(rt; matches!(decoded, Decoded::Undefined), "UDF");
+    Ok(())
+}
+
+/// The constant of MOV (immediate).
+fn constant_of(decoded: &Decoded) -> Option<u32> {
+    match decoded {
+        Decoded::Instr(coded) => {
+            let [_, _, _, _, constant, _, _, _] = told_operands(&coded.instruction)?;
+            Some(constant)
+        }
+        Decoded::Undefined | Decoded::NoCoprocessor | Decoded::Unpredictable(_, _) => None,
+    }
+}
+
+#[test]
+fn a_line_is_kept_until_it_is_written(rt: HostRuntime) -> Result<(), Fail> {
+    let mut lines = Lines::fresh(rt.alloc()).ok().ok_or("no memory")?;
+    assert!(rt;
+        constant_of(&lines.fetch(0x100, 0x2005, 0)) == Some(5),
+        "MOVS R0, #5"
+    );
+    assert!(rt;
+        constant_of(&lines.fetch(0x100, 0x2006, 0)) == Some(5),
+        "the line is kept"
+    );
+    lines.wrote(0x100, 2);
+    assert!(rt;
+        constant_of(&lines.fetch(0x100, 0x2006, 0)) == Some(6),
+        "MOVS R0, #6"
+    );
     Ok(())
 }
