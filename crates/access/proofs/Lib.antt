@@ -1,1 +1,4 @@
+mod Accessed
+pub mod Fetches
 mod Refusals
+mod Stale

@@ -1,1 +1,3 @@
+pub use Rattle.decode.specs.Lines
+pub mod Kept
 pub mod Narrow

@@ -3,10 +3,13 @@
 #![tactic(auto)]
 
 mod bus;
+mod code_memory;
 pub mod laws;
 
-pub use bus::Bus;
+pub use bus::{Bus, fetch_at};
 pub use clock::{Ahead, Counting, DueTicks, ScriptedEvent};
+pub use code_memory::CodeMemory;
+pub use decode::{CodeLines, Line, Reread};
 pub use mpu::{Decider, Search};
 pub use nvic::{Levels, PlainLevels};
 pub use reference::access::{Answer, Cause, Decision, Kind, Performed, Request, Rule, Size};

@@ -5,11 +5,11 @@ ghost use Rattle.debugger.specs.Answers.{end_piece, ends_at, is_hit, is_instruct
 ghost use Rattle.debugger.specs.Sessions.{Tells};
 
 use debugger_commands::{Breakpoints, end_text};
-use machine::{Decider, DueTicks, IoFault, Levels, LineRoom, Machine, Out, StepKind};
+use machine::{CodeLines, Decider, DueTicks, IoFault, Levels, LineRoom, Machine, Out, StepKind};
 
 /// Makes a step and writes its lines.
-fn write_step<D: Decider, L: Levels, U: DueTicks, W: Out>(
-    machine: &mut Machine<D, L, U>,
+fn write_step<D: Decider, C: CodeLines, L: Levels, U: DueTicks, W: Out>(
+    machine: &mut Machine<D, C, L, U>,
     room: &mut LineRoom,
     out: &mut W,
 ) -> Result<(), IoFault>
@@ -29,8 +29,8 @@ fn is_instruction(kind: Option<StepKind>) -> bool
 }
 
 /// Returns whether the next step is an instruction at a breakpoint.
-fn is_hit<D: Decider, L: Levels, U: DueTicks>(
-    machine: &Machine<D, L, U>,
+fn is_hit<D: Decider, C: CodeLines, L: Levels, U: DueTicks>(
+    machine: &Machine<D, C, L, U>,
     breakpoints: &Breakpoints,
 ) -> bool
     ensures { result ≡ is_hit breakpoints.now machine.now.state }
@@ -39,8 +39,8 @@ fn is_hit<D: Decider, L: Levels, U: DueTicks>(
 }
 
 /// Returns whether a run ends after a step: the machine has stopped, or a breakpoint is hit.
-fn ends_at<D: Decider, L: Levels, U: DueTicks>(
-    machine: &Machine<D, L, U>,
+fn ends_at<D: Decider, C: CodeLines, L: Levels, U: DueTicks>(
+    machine: &Machine<D, C, L, U>,
     breakpoints: &Breakpoints,
 ) -> bool
     ensures { result ≡ ends_at breakpoints.now machine.now.state }
@@ -49,8 +49,8 @@ fn ends_at<D: Decider, L: Levels, U: DueTicks>(
 }
 
 /// Writes where the machine is: its stop, or the address of the next instruction.
-fn put_end<D: Decider, L: Levels, U: DueTicks, W: Out>(
-    machine: &Machine<D, L, U>,
+fn put_end<D: Decider, C: CodeLines, L: Levels, U: DueTicks, W: Out>(
+    machine: &Machine<D, C, L, U>,
     out: &mut W,
 ) -> Result<(), IoFault>
     ensures { Tells (end_piece machine.now.state ∷ []) machine.now machine.now (record { written = W.written out.old; faults = W.faults out.old }) (record { written = W.written out.new; faults = W.faults out.new }) result }
@@ -64,8 +64,8 @@ fn put_end<D: Decider, L: Levels, U: DueTicks, W: Out>(
 
 /// Makes at most `steps` steps after the first one of a run, and writes their lines and where the
 /// machine is then.
-fn run_on<D: Decider, L: Levels, U: DueTicks, W: Out>(
-    machine: &mut Machine<D, L, U>,
+fn run_on<D: Decider, C: CodeLines, L: Levels, U: DueTicks, W: Out>(
+    machine: &mut Machine<D, C, L, U>,
     breakpoints: &Breakpoints,
     steps: u32,
     room: &mut LineRoom,
@@ -92,8 +92,8 @@ fn run_on<D: Decider, L: Levels, U: DueTicks, W: Out>(
 
 /// Makes at most `steps` steps, and writes their lines and where the machine is then. A machine that
 /// has stopped makes none.
-pub fn run<D: Decider, L: Levels, U: DueTicks, W: Out>(
-    machine: &mut Machine<D, L, U>,
+pub fn run<D: Decider, C: CodeLines, L: Levels, U: DueTicks, W: Out>(
+    machine: &mut Machine<D, C, L, U>,
     breakpoints: &Breakpoints,
     steps: u32,
     out: &mut W,

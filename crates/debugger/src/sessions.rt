@@ -11,7 +11,7 @@ use debugger_commands::{
     Answer, Breakpoints, Command, LineFault, Listener, decision_text, fault_text, quits, read_line,
     steps_of,
 };
-use machine::{Decider, DueTicks, In, IoFault, Levels, Machine, Out};
+use machine::{CodeLines, Decider, DueTicks, In, IoFault, Levels, Machine, Out};
 use std::marker::Model;
 
 /// Why a session ends before its input does.
@@ -50,9 +50,9 @@ impl Debugger {
     }
 
     /// Returns the answer to a line that makes no step.
-    fn reply<D: Decider, L: Levels, U: DueTicks>(
+    fn reply<D: Decider, C: CodeLines, L: Levels, U: DueTicks>(
         &mut self,
-        machine: &Machine<D, L, U>,
+        machine: &Machine<D, C, L, U>,
         asked: Result<Command, LineFault>,
     ) -> Answer
         ensures text { result ≡ reply_text machine.now.state self.old.breakpoints asked }
@@ -72,9 +72,9 @@ impl Debugger {
     }
 
     /// Answers a line.
-    fn answer<D: Decider, L: Levels, U: DueTicks, W: Out>(
+    fn answer<D: Decider, C: CodeLines, L: Levels, U: DueTicks, W: Out>(
         &mut self,
-        machine: &mut Machine<D, L, U>,
+        machine: &mut Machine<D, C, L, U>,
         asked: Result<Command, LineFault>,
         out: &mut W,
     ) -> Result<(), IoFault>
@@ -93,9 +93,9 @@ impl Debugger {
     }
 
     /// Answers the line that was heard, and begins the next one. Returns whether the session goes on.
-    fn answer_line<D: Decider, L: Levels, U: DueTicks, W: Out>(
+    fn answer_line<D: Decider, C: CodeLines, L: Levels, U: DueTicks, W: Out>(
         &mut self,
-        machine: &mut Machine<D, L, U>,
+        machine: &mut Machine<D, C, L, U>,
         out: &mut W,
     ) -> Result<bool, IoFault>
         ensures told { Tells (line_said (talk machine.old.state self.old)) machine.old machine.new (record { written = W.written out.old; faults = W.faults out.old }) (record { written = W.written out.new; faults = W.faults out.new }) result }
@@ -110,9 +110,9 @@ impl Debugger {
     }
 
     /// Hears a byte. Returns whether the session goes on.
-    fn hear<D: Decider, L: Levels, U: DueTicks, W: Out>(
+    fn hear<D: Decider, C: CodeLines, L: Levels, U: DueTicks, W: Out>(
         &mut self,
-        machine: &mut Machine<D, L, U>,
+        machine: &mut Machine<D, C, L, U>,
         byte: u8,
         out: &mut W,
     ) -> Result<bool, IoFault>
@@ -131,9 +131,9 @@ impl Debugger {
     }
 
     /// Answers a last line without a line feed, if it has a byte.
-    fn finish<D: Decider, L: Levels, U: DueTicks, W: Out>(
+    fn finish<D: Decider, C: CodeLines, L: Levels, U: DueTicks, W: Out>(
         &mut self,
-        machine: &mut Machine<D, L, U>,
+        machine: &mut Machine<D, C, L, U>,
         out: &mut W,
     ) -> Result<(), IoFault>
         ensures { Tells (said_at_end (talk machine.old.state self.old)) machine.old machine.new (record { written = W.written out.old; faults = W.faults out.old }) (record { written = W.written out.new; faults = W.faults out.new }) result }
@@ -150,8 +150,8 @@ impl Debugger {
 
 /// Reads commands, one a line, and writes their answers, up to `quit` or the end of the input. Where
 /// the reader or the writer fails, the machine is in its state after the steps that were made.
-pub fn session<D: Decider, L: Levels, U: DueTicks, I: In, W: Out>(
-    machine: &mut Machine<D, L, U>,
+pub fn session<D: Decider, C: CodeLines, L: Levels, U: DueTicks, I: In, W: Out>(
+    machine: &mut Machine<D, C, L, U>,
     reader: &mut I,
     out: &mut W,
 ) -> Result<(), SessionFault>

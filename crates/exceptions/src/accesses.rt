@@ -1,6 +1,7 @@
 //! The accesses of a step, one by one, and their lines.
 
-ghost use Rattle.std.specs.Prelude.{◌≡◌, ◌+◌, ◌≤◌, ◌<◌, ◌^◌, ◌%◌, ◌++◌, length, IfOk};
+ghost use Rattle.std.specs.Prelude.{◌≡◌, ℕ, ◌+◌, ◌≤◌, ◌<◌, ◌^◌, ◌%◌, ◌++◌, length, IfOk};
+ghost use Rattle.access.specs.Kept.{HasHalfword, fetch_at};
 ghost use Rattle.exceptions.specs.Room.{lines_of, most_lines};
 ghost use Rattle.exceptions.specs.Serving.{Serves};
 ghost use Rattle.reference.specs.Accesses.{accessed, access_lines, value_of, perform, perform_all};
@@ -8,7 +9,7 @@ ghost use Rattle.reference.specs.declared.event.Happening.TheVariants.{ConsoleBy
 ghost use Rattle.reference.specs.Kinds.{bytes_in};
 ghost use Rattle.trace.specs.Emission.{with_emitted};
 
-use access::{Bus, Decider, DueTicks, Levels, is_out};
+use access::{Bus, CodeLines, Decider, DueTicks, Levels, fetch_at, is_out};
 use bounded::Bounded;
 use reference::access::{Cause, DecidedAccess, MOST_REQUESTS, Performed, Request, Rule};
 use reference::event::{Event, Happening, MOST_EVENTS};
@@ -24,9 +25,9 @@ pub type Values = Bounded<u32, MOST_REQUESTS>;
 /// Makes accesses one by one, each in the state that the one before left, to the first failure.
 /// `exception` is the number of the exception that runs. `values` becomes what they read.
 #[inline(always)]
-pub fn serve<D: Decider, L: Levels, U: DueTicks, S: Sink>(
+pub fn serve<D: Decider, C: CodeLines, L: Levels, U: DueTicks, S: Sink>(
     exception: u16,
-    bus: &mut Bus<D, L, U>,
+    bus: &mut Bus<D, C, L, U>,
     tick: u64,
     events: &mut S,
     requests: &[Request],
@@ -52,9 +53,9 @@ pub fn serve<D: Decider, L: Levels, U: DueTicks, S: Sink>(
 
 /// Makes one access, and appends its lines.
 #[inline(always)]
-pub fn access<D: Decider, L: Levels, U: DueTicks, S: Sink>(
+pub fn access<D: Decider, C: CodeLines, L: Levels, U: DueTicks, S: Sink>(
     exception: u16,
-    bus: &mut Bus<D, L, U>,
+    bus: &mut Bus<D, C, L, U>,
     tick: u64,
     events: &mut S,
     request: &Request,
@@ -76,6 +77,37 @@ pub fn access<D: Decider, L: Levels, U: DueTicks, S: Sink>(
         }
         Performed::Denied(rule, cause) => {
             events.emit(accessed(tick, request, rule, Some(cause)));
+            Err(Failure::Refused(request.access, cause))
+        }
+        Performed::Stop(why) => Err(Failure::Stop(why)),
+    }
+}
+
+/// Makes the fetch of a halfword that memory is known to have, and appends its line.
+#[inline(always)]
+pub fn fetch_known<D: Decider, C: CodeLines, L: Levels, U: DueTicks, S: Sink>(
+    bus: &mut Bus<D, C, L, U>,
+    tick: u64,
+    events: &mut S,
+    address: u32,
+    privileged: bool,
+    halfword: u16,
+) -> Result<u16, Failure>
+    requires known { HasHalfword bus.old.memory address halfword }
+    requires room { length (S.emitted events.old).events < MOST_EVENTS }
+    ensures same { bus.new ≡ bus.old }
+    ensures events { (exception : ℕ) → S.emitted events.new ≡ with_emitted (S.emitted events.old) ((S.emitted events.old).events ++ access_lines tick (fetch_at address privileged) (perform exception bus.old (fetch_at address privileged)).performed) }
+    ensures room { length (S.emitted events.new).events ≤ length (S.emitted events.old).events + 1 }
+    ensures answer { (exception : ℕ) → result ≡ value_of (fetch_at address privileged) (perform exception bus.old (fetch_at address privileged)).performed }
+{
+    let request = fetch_at(address, privileged);
+    match bus.fetch_known(address, privileged, halfword) {
+        Performed::Done(rule, value) => {
+            events.emit(accessed(tick, &request, rule, None));
+            Ok(value as u16)
+        }
+        Performed::Denied(rule, cause) => {
+            events.emit(accessed(tick, &request, rule, Some(cause)));
             Err(Failure::Refused(request.access, cause))
         }
         Performed::Stop(why) => Err(Failure::Stop(why)),

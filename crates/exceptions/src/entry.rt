@@ -9,7 +9,7 @@ ghost use Rattle.trace.specs.Emission.{with_emitted};
 use crate::accesses::{Requests, Values};
 use crate::faults::vector_fault;
 use crate::state::Core;
-use access::{Decider, DueTicks, Levels};
+use access::{CodeLines, Decider, DueTicks, Levels};
 use reference::access::{Access, Kind, Request, Size};
 use reference::event::{Event, Happening, MOST_EVENTS};
 use reference::exception::{HARD_FAULT, NMI};
@@ -60,7 +60,7 @@ fn pushes(regs: &Regs) -> Requests
     )
 }
 
-impl<D: Decider, L: Levels, U: DueTicks> Core<D, L, U> {
+impl<D: Decider, C: CodeLines, L: Levels, U: DueTicks> Core<D, C, L, U> {
     /// Pushes the frame: a Stack step.
     #[tactic(auto, using(crate::proofs::Room::pushed_lines, crate::proofs::Room::pushed_words), unfolding(reference::specs::ExceptionEntry::begin_entry))]
     pub fn begin_entry<S: Sink>(&mut self, events: &mut S)

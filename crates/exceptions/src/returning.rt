@@ -13,7 +13,7 @@ ghost use Rattle.trace.specs.Emission.{with_emitted};
 use crate::accesses::{Requests, Values};
 use crate::entry::words_from;
 use crate::state::Core;
-use access::{Decider, DueTicks, Levels};
+use access::{CodeLines, Decider, DueTicks, Levels};
 use reference::access::Kind;
 use reference::event::{Event, Happening, MOST_EVENTS};
 use reference::exception::NMI;
@@ -76,7 +76,7 @@ fn pops(regs: &Regs, exc_return: u32) -> Requests
     )
 }
 
-impl<D: Decider, L: Levels, U: DueTicks> Core<D, L, U> {
+impl<D: Decider, C: CodeLines, L: Levels, U: DueTicks> Core<D, C, L, U> {
     /// Returns from an exception.
     #[tactic(auto, unfolding(reference::specs::ExceptionReturn::exception_return))]
     pub fn return_from<S: Sink>(&mut self, events: &mut S, exc_return: u32)

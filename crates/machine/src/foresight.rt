@@ -8,7 +8,7 @@ ghost use Rattle.reference.specs.State.{ticked};
 ghost use Rattle.reference.specs.Step.{sleeps_on};
 
 use crate::stepping::{CLOCK_END, Processor};
-use access::{Decider, DueTicks, Levels};
+use access::{CodeLines, Decider, DueTicks, Levels};
 use reference::access::{Decision, Kind};
 
 /// What a step does after its tick.
@@ -23,7 +23,7 @@ pub enum StepKind {
     Instruction,
 }
 
-impl<D: Decider, L: Levels, U: DueTicks> Processor<D, L, U> {
+impl<D: Decider, C: CodeLines, L: Levels, U: DueTicks> Processor<D, C, L, U> {
     /// Returns what the next step will do, None where it would only stop.
     pub fn next_kind(&self) -> Option<StepKind>
         ensures { result ≡ next_kind_of self.now }

@@ -9,10 +9,13 @@ mod start;
 mod stepping;
 mod whole;
 
-pub use access::{Ahead, Counting, Decider, DueTicks, Levels, PlainLevels, Search};
-pub use access_table::Table;
+pub use access::{
+    Ahead, CodeLines, Counting, Decider, DueTicks, Levels, PlainLevels, Reread, Search,
+};
+pub use access_table::{KeptDecisions, Table};
 pub use bit_levels::{BitLevels, KeptAnswers};
 pub use board::{Board, InterruptLine, ScriptedEvent, Signal};
+pub use code_lines::Lines;
 pub use foresight::StepKind;
 pub use output::{In, IoFault, LineRoom, Out, Over, Paged};
 pub use readers::RegValues;

@@ -8,7 +8,7 @@ ghost use Rattle.reference.specs.Places.{place, is_there, is_word_aligned, speci
 ghost use Rattle.reference.specs.SpecialRegisters.{special_of};
 
 use crate::stepping::Processor;
-use access::{Decider, DueTicks, Levels};
+use access::{CodeLines, Decider, DueTicks, Levels};
 use reference::access::{Access, Answer, Kind, Request, Size};
 use reference::fault::PlaceFault;
 use reference::map::is_in_ppb;
@@ -16,7 +16,7 @@ use reference::operands::SpecialRegister;
 use reference::place::Place;
 use reference::registers::Register;
 
-impl<D: Decider, L: Levels, U: DueTicks> Processor<D, L, U> {
+impl<D: Decider, C: CodeLines, L: Levels, U: DueTicks> Processor<D, C, L, U> {
     /// Puts a value into a register or a word.
     #[tactic(auto, unfolding(reference::specs::Places::place))]
     pub fn place(&mut self, value: Place) -> Result<(), PlaceFault>
@@ -63,7 +63,7 @@ impl<D: Decider, L: Levels, U: DueTicks> Processor<D, L, U> {
                 if is_in_ppb(address) {
                     return self.take_register(address, value);
                 }
-                self.overwrite(address, &value.to_le_bytes());
+                self.put_word(address, value);
                 Ok(())
             }
         }

@@ -5,7 +5,7 @@ ghost use Rattle.reference.specs.Memory.{byte_at};
 ghost use Rattle.reference.specs.Regions.{shown};
 
 use crate::stepping::Processor;
-use access::{Decider, DueTicks, Levels};
+use access::{CodeLines, Decider, DueTicks, Levels};
 
 /// The values of the core registers, each as a word.
 #[derive(Clone, Copy)]
@@ -24,7 +24,7 @@ pub struct RegValues {
     pub basepri: u32,
 }
 
-impl<D: Decider, L: Levels, U: DueTicks> Processor<D, L, U> {
+impl<D: Decider, C: CodeLines, L: Levels, U: DueTicks> Processor<D, C, L, U> {
     ghost use Rattle.machine.specs.Values.{values_of};
 
     /// The values of the core registers.

@@ -8,7 +8,7 @@ ghost use Rattle.reference.specs.Start.{start, blank, are_placed, is_placed, loa
 ghost use Rattle.elf.specs.Segment.{segment_of};
 
 use crate::stepping::Processor;
-use access::{Bus, Decider, DueTicks, Levels, System};
+use access::{Bus, CodeLines, CodeMemory, Decider, DueTicks, Levels, System};
 use board::Board;
 use elf::{Image, Segment};
 use reference::board::Layout;
@@ -21,11 +21,11 @@ use std::alloc::Global;
 /// The core of a board, with an image in its memory, before the first step. The segments are looked
 /// at before any memory is taken.
 #[tactic(auto, unfolding(reference::specs::Start::start))]
-pub fn start_core<D: Decider, L: Levels, U: DueTicks>(
+pub fn start_core<D: Decider, C: CodeLines, L: Levels, U: DueTicks>(
     alloc: Global,
     image: &Image<'_>,
     board: &Board,
-) -> Result<Processor<D, L, U>, StartFault>
+) -> Result<Processor<D, C, L, U>, StartFault>
     ensures { StartsAt (start (described board.now) image.now) result }
 {
     if !are_placed(&board.layout, image.segments()) {
@@ -47,7 +47,10 @@ pub fn start_core<D: Decider, L: Levels, U: DueTicks>(
         board.layout.regions.number(),
         script,
     );
-    Ok(Processor::new(regs, Bus::new(space, system)))
+    let Ok(memory) = CodeMemory::new(alloc, space) else {
+        return Err(StartFault::NoMemory);
+    };
+    Ok(Processor::new(regs, Bus::new(memory, system)))
 }
 
 /// Whether each segment lies wholly in flash or wholly in RAM.

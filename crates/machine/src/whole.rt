@@ -22,11 +22,11 @@ use crate::readers::RegValues;
 use crate::run::{run_core, write_step};
 use crate::start::start_core;
 use crate::stepping::Processor;
-use access::{Ahead, Counting, Decider, DueTicks, Levels, PlainLevels, Search};
+use access::{Ahead, CodeLines, Counting, Decider, DueTicks, Levels, PlainLevels, Reread, Search};
 use access_table::{KeptDecisions, Table};
 use bit_levels::{BitLevels, KeptAnswers};
 use board::Board;
-use decode::Memo;
+use code_lines::Lines;
 use elf::Image;
 use output::{IoFault, LineRoom, Out};
 use reference::access::{Decision, Kind};
@@ -47,25 +47,25 @@ pub enum RunFault {
     Broken,
 }
 
-/// A machine, whose accesses are decided by a `D`, whose exceptions are kept by an `L`, and whose
-/// ticks are counted by a `U`.
+/// A machine, whose accesses are decided by a `D`, whose decoded instructions are kept by a `C`, whose
+/// exceptions are kept by an `L`, and whose ticks are counted by a `U`.
 #[derive(Drop)]
-pub struct Machine<D: Decider, L: Levels, U: DueTicks> {
-    core: Processor<D, L, U>,
-    memo: Memo,
+pub struct Machine<D: Decider, C: CodeLines, L: Levels, U: DueTicks> {
+    core: Processor<D, C, L, U>,
     broken: bool,
 }
 
-/// The machine that searches the regions at each access, looks at each exception, and counts each
-/// tick.
-pub type Slow = Machine<Search, PlainLevels, Counting>;
+/// The machine that searches the regions at each access, fetches each instruction from memory, tests
+/// each exception, and counts each tick.
+pub type Slow = Machine<Search, Reread, PlainLevels, Counting>;
 
-/// The machine that finds the deciding region in a table and keeps decisions, keeps the exceptions in sets
-/// of bits with the answers that each step asks for beside them, and knows the next tick at which
-/// something is due. Its steps are those of `Slow`, by the same contracts.
-pub type Fast = Machine<KeptDecisions<Table>, KeptAnswers<BitLevels>, Ahead>;
+/// The machine that finds the deciding region in a table and keeps decisions, keeps decoded instructions by
+/// their addresses, keeps the exceptions in sets of bits with the answers that each step asks for beside
+/// them, and knows the next tick at which something is due. Its steps are those of `Slow`, by the same
+/// contracts.
+pub type Fast = Machine<KeptDecisions<Table>, Lines, KeptAnswers<BitLevels>, Ahead>;
 
-impl<D: Decider, L: Levels, U: DueTicks> Model for Machine<D, L, U> {
+impl<D: Decider, C: CodeLines, L: Levels, U: DueTicks> Model for Machine<D, C, L, U> {
     ghost use Rattle.machine.specs.Whole.{Whole};
 
     ghost Value = { Whole };
@@ -73,7 +73,7 @@ impl<D: Decider, L: Levels, U: DueTicks> Model for Machine<D, L, U> {
     ghost view = { λ m. record { state = m.core; broken = m.broken } };
 }
 
-impl<D: Decider, L: Levels, U: DueTicks> Machine<D, L, U> {
+impl<D: Decider, C: CodeLines, L: Levels, U: DueTicks> Machine<D, C, L, U> {
     ghost use Rattle.machine.specs.Values.{values_of};
 
     /// The machine of a board, with an image in its memory, before the first step.
@@ -83,7 +83,6 @@ impl<D: Decider, L: Levels, U: DueTicks> Machine<D, L, U> {
         let core = start_core(alloc, image, board)?;
         Ok(Machine {
             core,
-            memo: Memo::new(),
             broken: false,
         })
     }
@@ -96,7 +95,7 @@ impl<D: Decider, L: Levels, U: DueTicks> Machine<D, L, U> {
         ensures few { length events.new.items ≤ MOST_EVENTS }
     {
         events.clear();
-        self.core.step(events, &mut self.memo);
+        self.core.step(events);
         prove!(events.len() <= MOST_EVENTS);
         self.core.stop()
     }
@@ -107,7 +106,7 @@ impl<D: Decider, L: Levels, U: DueTicks> Machine<D, L, U> {
         ensures state { self.new ≡ record self.old { state = (step self.old.state).state } }
         ensures put { Put (W.written out.old) (W.written out.new) (W.faults out.old) (W.faults out.new) (lines (step self.old.state).events) result }
     {
-        write_step(&mut self.core, &mut self.memo, out, room)
+        write_step(&mut self.core, out, room)
     }
 
     /// Makes at most `limit` steps, up to the first stop, and writes their trace.
@@ -125,7 +124,7 @@ impl<D: Decider, L: Levels, U: DueTicks> Machine<D, L, U> {
         if self.broken {
             return Err(RunFault::Broken);
         }
-        match run_core(&mut self.core, &mut self.memo, limit, out) {
+        match run_core(&mut self.core, limit, out) {
             Ok(stop) => Ok(stop),
             Err(steps) => {
                 self.broken = true;

@@ -1,2 +1,2 @@
 pub mod Apart
-mod Blocks
+pub mod Blocks

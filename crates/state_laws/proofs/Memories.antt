@@ -12,7 +12,7 @@ use Rattle.reference.specs.Memory.{Memory, is_in_flash, is_in_ram, bytes_of, ove
 use Rattle.reference.specs.Space.{SpaceAnswer, written_to, space_access}
 use Rattle.reference.specs.Start.{blank, loaded}
 use Rattle.state_laws.proofs.Nvic.{either}
-use Rattle.step_laws.proofs.Blocks.{length-with_bytes}
+use Rattle.space.proofs.Blocks.{length-with_bytes}
 
 pub overwritten_apart : (m : Memory) (a : ℕ) (bytes : List ℕ) → FlashEndsBelowRam m →
     FlashEndsBelowRam (overwritten m a bytes)

@@ -19,7 +19,7 @@ use Rattle.reference.specs.Memory.{Memory, is_in_ram, bytes_of, overwritten}
 use Rattle.reference.specs.Space.{SpaceAnswer, is_out, written_to, space_access}
 use Rattle.reference.specs.State.{Bus}
 use Rattle.step_laws.specs.AccessLaw.{AllGranted, are_covering, OnlyCovered}
-use Rattle.step_laws.proofs.Blocks.{IsOutside, blocks_kept}
+use Rattle.space.proofs.Blocks.{IsOutside, blocks_kept}
 use Rattle.step_laws.proofs.Lines.{granted-nil, granted-cons, EndIn, failure_in, ends-append, covered-append, covered-same}
 
 -- ---- the bytes of one access

@@ -1,4 +1,3 @@
-pub mod Blocks
 mod Lines
 mod Bytes
 mod Faults

@@ -14,7 +14,7 @@ use Rattle.reference.specs.State.{Bus}
 use Rattle.reference.specs.Words.{word_sum}
 use Rattle.reference.specs.Invariant.{FlashEndsBelowRam}
 use Rattle.step_laws.specs.FrameLaw.{KeepsFrame}
-use Rattle.step_laws.proofs.Blocks.{overwritten_keeps}
+use Rattle.space.proofs.Blocks.{overwritten_keeps}
 use Rattle.step_laws.proofs.Stored.{IsWord, stays_apart, word_written, word_read}
 use Rattle.step_laws.proofs.Pushed.{IsPushed, push_of, push_done, pop_of, pop_done}
 

@@ -7,7 +7,7 @@ use Rattle.reference.specs.Map.{ram_base}
 use Rattle.reference.specs.Memory.{Memory, is_in_flash, is_in_ram, number_in, number_at, byte_at, bytes_of, with_bytes}
 use Rattle.reference.specs.Memory.{overwritten}
 use Rattle.reference.specs.Invariant.{FlashEndsBelowRam}
-use Rattle.step_laws.proofs.Blocks.{length-with_bytes, length-front}
+use Rattle.space.proofs.Blocks.{length-with_bytes, length-front}
 
 -- the bytes at an address are those of a word
 abbrev pub IsWord : Memory → ℕ → ℕ → Type 0

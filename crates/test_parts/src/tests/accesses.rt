@@ -2,7 +2,7 @@
 
 use super::memory::blank;
 use super::words::{request, rule_word};
-use access::{Bus, Cause, Counting, Performed, PlainLevels, Search, System};
+use access::{Bus, Cause, CodeMemory, Counting, Performed, PlainLevels, Reread, Search, System};
 use std::test::*;
 use test_tables::{Rows, check, part, word};
 
@@ -19,7 +19,7 @@ fn told(performed: Performed) -> (&'static str, &'static str) {
 /// The bus that the accesses of rows go to.
 #[derive(Drop)]
 struct Accesses {
-    bus: Bus<Search, PlainLevels, Counting>,
+    bus: Bus<Search, Reread, PlainLevels, Counting>,
 }
 
 impl Rows for Accesses {
@@ -50,7 +50,8 @@ S word E000ED98 00000008 p | - stop | a region number that isn't there";
 #[test]
 fn each_access_is_decided_in_the_state_before_it(rt: HostRuntime) -> Result<(), Fail> {
     let space = blank(rt.alloc()).ok_or("memory")?;
-    let bus = Bus::new(space, System::reset(0, 8, 4, 8, Vec::new(rt.alloc())));
+    let memory = CodeMemory::new(rt.alloc(), space)?;
+    let bus = Bus::new(memory, System::reset(0, 8, 4, 8, Vec::new(rt.alloc())));
     let mut accesses = Accesses { bus };
     check(ACCESSES, &mut accesses)?;
     assert!(rt; accesses.bus.system.region(3) == Some((0x2000_0403, 0x0600_0013)));

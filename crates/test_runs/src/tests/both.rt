@@ -6,7 +6,7 @@ use super::machines::NO_SEGMENTS;
 use super::writers::run_gathered;
 use elf::load;
 use machine::{
-    Board, Decider, DueTicks, Fast, InterruptLine, Levels, Machine, Place, SMALL_BOARD,
+    Board, CodeLines, Decider, DueTicks, Fast, InterruptLine, Levels, Machine, Place, SMALL_BOARD,
     ScriptedEvent, Signal, Slow,
 };
 use std::alloc::{AllocError, Global};
@@ -123,7 +123,10 @@ const SETTINGS: [(u32, u32, u32); 14] = [
 ];
 
 /// Places code, vectors into it, values in registers, and settings. A place that is refused stays.
-fn fill<D: Decider, L: Levels, U: DueTicks>(machine: &mut Machine<D, L, U>, numbers: &mut Numbers) {
+fn fill<D: Decider, C: CodeLines, L: Levels, U: DueTicks>(
+    machine: &mut Machine<D, C, L, U>,
+    numbers: &mut Numbers,
+) {
     for word in 2..1024_u32 {
         let code = halfword(numbers) << 16 | halfword(numbers);
         let vector = numbers.next() & 0xFFE | 1;
@@ -145,8 +148,8 @@ fn fill<D: Decider, L: Levels, U: DueTicks>(machine: &mut Machine<D, L, U>, numb
 }
 
 /// The trace of a machine over the image and the board of a seed.
-fn trace<D: Decider, L: Levels, U: DueTicks>(
-    machine: &mut Machine<D, L, U>,
+fn trace<D: Decider, C: CodeLines, L: Levels, U: DueTicks>(
+    machine: &mut Machine<D, C, L, U>,
     alloc: Global,
     seed: u32,
 ) -> Vec<u8> {

@@ -3,7 +3,7 @@
 ghost use Rattle.std.specs.Prelude.{◌≡◌};
 
 use arrayvec::ArrayVec;
-use machine::{Decider, DueTicks, Levels, Machine, Over, RunFault, Stop};
+use machine::{CodeLines, Decider, DueTicks, Levels, Machine, Over, RunFault, Stop};
 use std::io;
 use std::io::{Read, Write};
 use std::marker::Brand;
@@ -84,16 +84,16 @@ impl Write for Cut {
 }
 
 /// A run of at most this number of steps.
-pub(super) fn run<D: Decider, L: Levels, U: DueTicks>(
-    machine: &mut Machine<D, L, U>,
+pub(super) fn run<D: Decider, C: CodeLines, L: Levels, U: DueTicks>(
+    machine: &mut Machine<D, C, L, U>,
     steps: u32,
     out: &mut Cut,
 ) -> Result<Stop, RunFault> {
-    run_over::<D, L, U, Brand>(machine, steps, out, Blank::new(1))
+    run_over::<D, C, L, U, Brand>(machine, steps, out, Blank::new(1))
 }
 
-fn run_over<D: Decider, L: Levels, U: DueTicks, K: Ledger>(
-    machine: &mut Machine<D, L, U>,
+fn run_over<D: Decider, C: CodeLines, L: Levels, U: DueTicks, K: Ledger>(
+    machine: &mut Machine<D, C, L, U>,
     steps: u32,
     out: &mut Cut,
     blank: Blank,

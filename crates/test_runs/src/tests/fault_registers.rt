@@ -4,8 +4,8 @@
 use super::cut::{Cut, run};
 use super::machines::{event, place, place_vectors, scripted};
 use machine::{
-    Ahead, BitLevels, Counting, Decider, DueTicks, KeptAnswers, Levels, Machine, PlainLevels,
-    Search, Stop, Table,
+    Ahead, BitLevels, CodeLines, Counting, Decider, DueTicks, KeptAnswers, KeptDecisions, Levels,
+    Lines, Machine, PlainLevels, Reread, Search, Stop, Table,
 };
 use std::alloc::Global;
 use std::test::*;
@@ -33,8 +33,8 @@ word E000EDA0 00000013
 word E000ED94 5";
 
 /// Whether a line of a row is followed: a place is taken, and `scripted` reads events and the board.
-fn follows<D: Decider, L: Levels, U: DueTicks>(
-    machine: &mut Machine<D, L, U>,
+fn follows<D: Decider, C: CodeLines, L: Levels, U: DueTicks>(
+    machine: &mut Machine<D, C, L, U>,
     line: &str,
 ) -> Option<bool> {
     match word(line, 0) {
@@ -45,8 +45,8 @@ fn follows<D: Decider, L: Levels, U: DueTicks>(
 }
 
 /// Whether all lines of a row are followed.
-fn follows_all<D: Decider, L: Levels, U: DueTicks>(
-    machine: &mut Machine<D, L, U>,
+fn follows_all<D: Decider, C: CodeLines, L: Levels, U: DueTicks>(
+    machine: &mut Machine<D, C, L, U>,
     lines: &str,
 ) -> Option<bool> {
     'lines: for line in lines.lines() {
@@ -58,8 +58,11 @@ fn follows_all<D: Decider, L: Levels, U: DueTicks>(
 }
 
 /// Exception number, CFSR, HFSR, MMFAR and BFAR in the handler after the lines of a row.
-fn reported<D: Decider, L: Levels, U: DueTicks>(alloc: Global, row: &str) -> Option<[u32; 5]> {
-    let mut machine: Machine<D, L, U> = scripted(alloc, row)?;
+fn reported<D: Decider, C: CodeLines, L: Levels, U: DueTicks>(
+    alloc: Global,
+    row: &str,
+) -> Option<[u32; 5]> {
+    let mut machine: Machine<D, C, L, U> = scripted(alloc, row)?;
     let (_, lines) = row.split_once('\n')?;
     place_vectors(&mut machine, HANDLER).ok()?;
     if !follows_all(&mut machine, BEFORE)? || !follows_all(&mut machine, lines)? {
@@ -87,8 +90,10 @@ impl Rows for Faults {
         let (row, wanted) = row.split_once("\nis ")?;
         let wanted = numbers::<5>(wanted)?;
         Some(
-            reported::<Search, PlainLevels, Counting>(self.alloc, row)? == wanted
-                && reported::<Table, KeptAnswers<BitLevels>, Ahead>(self.alloc, row)? == wanted,
+            reported::<Search, Reread, PlainLevels, Counting>(self.alloc, row)? == wanted
+                && reported::<KeptDecisions<Table>, Lines, KeptAnswers<BitLevels>, Ahead>(
+                    self.alloc, row,
+                )? == wanted,
         )
     }
 }

@@ -2,7 +2,7 @@
 
 use elf::load;
 use machine::{
-    Board, Decider, DueTicks, InterruptLine, Layout, Levels, Machine, Place, PlaceFault,
+    Board, CodeLines, Decider, DueTicks, InterruptLine, Layout, Levels, Machine, Place, PlaceFault,
     RegionCount, SMALL_BOARD, ScriptedEvent, Signal,
 };
 use reference::exception::MOST_LINES;
@@ -111,8 +111,8 @@ pub(super) fn small_board(alloc: Global, text: &str) -> Result<Board, AllocError
 }
 
 /// Places an address at each entry of the vector table from that of NMI to that of line 7.
-pub(super) fn place_vectors<D: Decider, L: Levels, U: DueTicks>(
-    machine: &mut Machine<D, L, U>,
+pub(super) fn place_vectors<D: Decider, C: CodeLines, L: Levels, U: DueTicks>(
+    machine: &mut Machine<D, C, L, U>,
     address: u32,
 ) -> Result<(), PlaceFault> {
     'entries: for entry in 2..24_u32 {
@@ -122,20 +122,20 @@ pub(super) fn place_vectors<D: Decider, L: Levels, U: DueTicks>(
 }
 
 /// A machine of the small board with the events of these lines.
-pub(super) fn scripted<D: Decider, L: Levels, U: DueTicks>(
+pub(super) fn scripted<D: Decider, C: CodeLines, L: Levels, U: DueTicks>(
     alloc: Global,
     text: &str,
-) -> Option<Machine<D, L, U>> {
+) -> Option<Machine<D, C, L, U>> {
     let image = load(&NO_SEGMENTS).ok()?;
     let board = small_board(alloc, text).ok()?;
     Machine::new(alloc, &image, &board).ok()
 }
 
 /// A machine of the small board with the values of these lines in their places.
-pub(super) fn machine_with<D: Decider, L: Levels, U: DueTicks>(
+pub(super) fn machine_with<D: Decider, C: CodeLines, L: Levels, U: DueTicks>(
     alloc: Global,
     text: &str,
-) -> Option<Machine<D, L, U>> {
+) -> Option<Machine<D, C, L, U>> {
     let mut machine = scripted(alloc, text)?;
     'lines: for line in text.lines() {
         machine.place(place(line)?).ok()?;

@@ -18,8 +18,8 @@
 use super::cut::{Cut, Text, push_line, run};
 use super::machines::{event, place, place_vectors, scripted};
 use machine::{
-    Ahead, BitLevels, Counting, Decider, DueTicks, KeptAnswers, Levels, Machine, PlaceFault,
-    PlainLevels, RegValues, Search, Stop, Table,
+    Ahead, BitLevels, CodeLines, Counting, Decider, DueTicks, KeptAnswers, KeptDecisions, Levels,
+    Lines, Machine, PlaceFault, PlainLevels, RegValues, Reread, Search, Stop, Table,
 };
 use reference::stop::{LeftOut, UnpredictableCase};
 use std::alloc::Global;
@@ -28,8 +28,8 @@ use test_tables::{Rows, byte_at, check_between, number, number_at, word};
 
 /// A run as far as its lines were followed.
 #[derive(Drop)]
-struct Run<D: Decider, L: Levels, U: DueTicks> {
-    machine: Machine<D, L, U>,
+struct Run<D: Decider, C: CodeLines, L: Levels, U: DueTicks> {
+    machine: Machine<D, C, L, U>,
     /// What its steps wrote.
     out: Cut,
     /// What they were to write.
@@ -45,15 +45,20 @@ struct Runs {
 impl Rows for Runs {
     fn holds(&mut self, text: &str) -> Option<bool> {
         Some(
-            goes::<Search, PlainLevels, Counting>(self.alloc, text)?
-                && goes::<Table, KeptAnswers<BitLevels>, Ahead>(self.alloc, text)?,
+            goes::<Search, Reread, PlainLevels, Counting>(self.alloc, text)?
+                && goes::<KeptDecisions<Table>, Lines, KeptAnswers<BitLevels>, Ahead>(
+                    self.alloc, text,
+                )?,
         )
     }
 }
 
 /// Whether a machine goes as a text says.
-fn goes<D: Decider, L: Levels, U: DueTicks>(alloc: Global, text: &str) -> Option<bool> {
-    let mut run: Run<D, L, U> = Run {
+fn goes<D: Decider, C: CodeLines, L: Levels, U: DueTicks>(
+    alloc: Global,
+    text: &str,
+) -> Option<bool> {
+    let mut run: Run<D, C, L, U> = Run {
         machine: scripted(alloc, text)?,
         out: Cut::whole(),
         wanted: Text::new(),
@@ -74,7 +79,7 @@ pub(super) fn check_runs(alloc: Global, table: &str) -> Result<(), Fail> {
     check_between(table, "\n\n", &mut Runs { alloc })
 }
 
-impl<D: Decider, L: Levels, U: DueTicks> Run<D, L, U> {
+impl<D: Decider, C: CodeLines, L: Levels, U: DueTicks> Run<D, C, L, U> {
     /// Whether a line holds, which is followed if it asks for something.
     fn follow(&mut self, line: &str) -> Option<bool> {
         let (name, rest) = line.split_once(' ')?;
@@ -114,8 +119,8 @@ fn name_of(fault: PlaceFault) -> &'static str {
 }
 
 /// Whether a machine holds what a line says behind its first word.
-fn holds<D: Decider, L: Levels, U: DueTicks>(
-    machine: &Machine<D, L, U>,
+fn holds<D: Decider, C: CodeLines, L: Levels, U: DueTicks>(
+    machine: &Machine<D, C, L, U>,
     seen: &str,
 ) -> Option<bool> {
     match word(seen, 0) {
@@ -143,8 +148,8 @@ fn register(values: &RegValues, name: &str) -> Option<u32> {
 }
 
 /// Whether a byte stands where `byte ADDRESS VALUE` says it.
-pub(super) fn holds_byte<D: Decider, L: Levels, U: DueTicks>(
-    machine: &Machine<D, L, U>,
+pub(super) fn holds_byte<D: Decider, C: CodeLines, L: Levels, U: DueTicks>(
+    machine: &Machine<D, C, L, U>,
     seen: &str,
 ) -> Option<bool> {
     let held = machine.byte(number_at(seen, 1)?);
@@ -152,8 +157,8 @@ pub(super) fn holds_byte<D: Decider, L: Levels, U: DueTicks>(
 }
 
 /// Whether a region holds what `region NUMBER RBAR RASR` says.
-fn holds_region<D: Decider, L: Levels, U: DueTicks>(
-    machine: &Machine<D, L, U>,
+fn holds_region<D: Decider, C: CodeLines, L: Levels, U: DueTicks>(
+    machine: &Machine<D, C, L, U>,
     seen: &str,
 ) -> Option<bool> {
     match machine.region(byte_at(seen, 1)?) {

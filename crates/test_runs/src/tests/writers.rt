@@ -4,7 +4,7 @@ ghost use Rattle.std.specs.Prelude.{◌≡◌};
 
 use super::cut::{Cut, run};
 use super::machines::machine_with;
-use machine::{Decider, DueTicks, Levels, Machine, Over, Paged, RunFault, Slow, Stop};
+use machine::{CodeLines, Decider, DueTicks, Levels, Machine, Over, Paged, RunFault, Slow, Stop};
 use std::alloc::{AllocError, Global};
 use std::io::Write;
 use std::marker::Brand;
@@ -74,16 +74,16 @@ fn a_writer_that_takes_one_byte_gets_all(rt: HostRuntime) -> Result<(), Fail> {
 }
 
 /// A run whose lines are gathered: whether it ends, and whether the lines go out then.
-pub(super) fn run_gathered<D: Decider, L: Levels, U: DueTicks, W: Write + Drop>(
-    machine: &mut Machine<D, L, U>,
+pub(super) fn run_gathered<D: Decider, C: CodeLines, L: Levels, U: DueTicks, W: Write + Drop>(
+    machine: &mut Machine<D, C, L, U>,
     steps: u64,
     out: W,
 ) -> (bool, bool, W) {
-    run_paged::<D, L, U, W, Brand>(machine, steps, out, Blank::new(1))
+    run_paged::<D, C, L, U, W, Brand>(machine, steps, out, Blank::new(1))
 }
 
-fn run_paged<D: Decider, L: Levels, U: DueTicks, W: Write + Drop, K: Ledger>(
-    machine: &mut Machine<D, L, U>,
+fn run_paged<D: Decider, C: CodeLines, L: Levels, U: DueTicks, W: Write + Drop, K: Ledger>(
+    machine: &mut Machine<D, C, L, U>,
     steps: u64,
     out: W,
     blank: Blank,
