@@ -1,5 +1,5 @@
--- A value that an access gave has no more bits than the access moves.
-use Rattle.std.specs.Prelude.{◌^◌, ◌<◌, ⊤}
+-- What the value of an access is: it has no more bits than the access moves.
+use Rattle.std.specs.Prelude.{◌≡◌, ℕ, ◌^◌, ◌<◌, ⊤}
 use Rattle.reference.specs.declared.access.Performed.{Performed}
 use Rattle.reference.specs.declared.access.Performed.TheVariants.{Done, Denied, Stop}
 use Rattle.reference.specs.declared.access.Size.{Size}
@@ -9,3 +9,9 @@ abbrev pub GivesNarrow : Size → Performed → Type 0
 GivesNarrow size (Done rule value) = value < 256 ^ bytes_in size
 GivesNarrow size (Denied rule cause) = ⊤
 GivesNarrow size (Stop why) = ⊤
+
+-- an access that was done gave this value
+abbrev pub GivesHalfword : ℕ → Performed → Type 0
+GivesHalfword halfword (Done rule value) = value ≡ halfword
+GivesHalfword halfword (Denied rule cause) = ⊤
+GivesHalfword halfword (Stop why) = ⊤

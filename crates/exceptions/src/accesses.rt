@@ -95,16 +95,18 @@ pub fn fetch_known<D: Decider, C: CodeLines, L: Levels, U: DueTicks, S: Sink>(
 ) -> Result<u16, Failure>
     requires known { HasHalfword bus.old.memory address halfword }
     requires room { length (S.emitted events.old).events < MOST_EVENTS }
+    ensures bus { (exception : ℕ) → bus.new ≡ (perform exception bus.old (fetch_at address privileged)).bus }
     ensures same { bus.new ≡ bus.old }
     ensures events { (exception : ℕ) → S.emitted events.new ≡ with_emitted (S.emitted events.old) ((S.emitted events.old).events ++ access_lines tick (fetch_at address privileged) (perform exception bus.old (fetch_at address privileged)).performed) }
     ensures room { length (S.emitted events.new).events ≤ length (S.emitted events.old).events + 1 }
     ensures answer { (exception : ℕ) → result ≡ value_of (fetch_at address privileged) (perform exception bus.old (fetch_at address privileged)).performed }
+    ensures value { IfOk result (λ fetched. fetched ≡ halfword) }
 {
     let request = fetch_at(address, privileged);
     match bus.fetch_known(address, privileged, halfword) {
-        Performed::Done(rule, value) => {
+        Performed::Done(rule, _) => {
             events.emit(accessed(tick, &request, rule, None));
-            Ok(value as u16)
+            Ok(halfword)
         }
         Performed::Denied(rule, cause) => {
             events.emit(accessed(tick, &request, rule, Some(cause)));
