@@ -1,9 +1,12 @@
 use Rattle.std.proofs.Common.{◌≡◌, ◌⊎◌, inl, inr, true, ◌∙◌, sym, arith}
 use Rattle.debugger.proofs.Running.{run_cut, run_ends, run_more}
-use Rattle.debugger.proofs.Telling.{all_told, rest_cut}
+use Rattle.debugger.proofs.Telling.{all_told, nothing_told, rest_cut}
 use Rattle.debugger.specs.Answers.{ends_at}
 use Rattle.debugger.proofs.answers.run_on.Goals as goal
 use Rattle.debugger.proofs.answers.run_on.Goals.{else-steps-test, then-steps-test+then-ends_at}
+
+pub steps-init : goal.steps-init
+steps-init g c = nothing_told _ _ _
 
 pub returns-in-Err : goal.returns-in-Err
 returns-in-Err g c =
