@@ -61,7 +61,7 @@ MANUAL = re.compile(r"""^(R\d+|R\[n\]|[A-Z][A-Z0-9_]+(\.[A-Z0-9_]+)?   # registe
     |0x[0-9A-Fa-f_]+|0b[01_]+|[0-9A-F]{4,8}|\d[\d,.]*)$""", re.X)
 
 # variables, letters of a row, and words that stand for others
-PLACEHOLDERS = set("""N NAME FILE IMAGE BOARD STEPS COUNT SEED ROUNDS PAGE WORD WORDS HEAD F T U D L K E W ROOM number
+PLACEHOLDERS = set("""N NAME FILE IMAGE BOARD STEPS COUNT SEED ROUNDS PAGE WORD WORDS HEAD F T U C D L K E W ROOM number
 name x i f b o z a c s n e mmm ddd .. steps""".split())
 
 # pages that speak of examples/, bench/ and crosscheck/ too

@@ -1,5 +1,5 @@
-//! One access (ARM DDI 0403, MemA[] and MemU[]): the rules of the Memory Protection Unit decide it,
-//! and then the bus answers.
+//! One access (ARM DDI 0403, MemA[]): the rules of the Memory Protection Unit decide it, and then
+//! the bus carries it out.
 #![tactic(auto)]
 
 mod bus;

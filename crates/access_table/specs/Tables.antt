@@ -1,4 +1,4 @@
--- What a table keeps, and which registers it stands for.
+-- What a table keeps, and which registers it represents.
 use Rattle.std.specs.Prelude.{◌≡◌, ℕ, ◌^◌, ◌<◌, ◌≤◌, List, length, slice_index_or}
 use Rattle.std.specs.List.{All}
 use Rattle.access_table.specs.Intervals.{Tiles, NamesOwner, HasRegionBelow16}
@@ -27,7 +27,7 @@ HasRights rights m count =
     ((slice_index_or rights k d).permission ≡ permission (region m k).attributes)
     × ((slice_index_or rights k d).never_executes ≡ never_executes (region m k).attributes)
 
--- a table stands for registers where it has their MPU_CTRL, names the owner of each address, and has the rights of each
+-- a table represents registers where it has their MPU_CTRL, names the owner of each address, and has the rights of each
 -- region
 pub record StandsFor (t : View) (m : Mpu) : Type 0 where
   pub control : t.control ≡ m.control

@@ -5,7 +5,7 @@ ghost use Rattle.access_table.specs.Intervals.{Tiles, HasAddress, interval};
 
 use crate::interval::Interval;
 
-/// Returns the place of the interval of an address, and how many looks were taken.
+/// Returns the index of the interval of an address, and how many intervals were tested.
 pub fn find_in(intervals: &[Interval], address: u32) -> (usize, u32)
     requires tiles { Tiles intervals.now 0 (2 ^ 32) }
     requires few { length intervals.now ≤ 192 }
@@ -39,7 +39,7 @@ fn middle_of(low: usize, high: usize) -> usize
     low + (high - low) / 2
 }
 
-/// Whether an interval ends before an address: one look.
+/// Returns whether an interval ends before an address: one test.
 fn ends_before(intervals: &[Interval], place: usize, address: u32, looks: &mut u32) -> bool
     requires within { place < length intervals.now }
     requires few { looks.old < 8 }

@@ -64,7 +64,8 @@ impl Table {
         spans.as_slice()
     }
 
-    /// Returns the place of the interval of an address, and how many looks were taken, at most 8.
+    /// Returns the index of the interval of an address, and how many intervals were tested, at most
+    /// 8.
     pub fn find(&self, address: u32) -> (usize, u32)
         ensures within { result.0 < length self.now.spans }
         ensures there { HasAddress (interval self.now.spans result.0) address }

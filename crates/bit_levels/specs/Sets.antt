@@ -21,7 +21,7 @@ is_waiting levels held priorities x = is_in_words held x || is_in_words (level l
 abbrev pub is_levelled : List ℕ → ℕ → Bool
 is_levelled enabled x = (is_always_enabled x || is_in_words enabled x) && not (is_fixed x)
 
--- what stands in a level is pending and enabled and has that priority byte, and what else is pending is held
+-- what is in a level is pending and enabled and has that priority byte, and what else is pending is held
 pub record IsKept (levels : List (List ℕ)) (held enabled priorities : List ℕ) : Type 0 where
   pub in_level : (p x : ℕ) → x < EXCEPTIONS → is_in_words (level levels p) x ≡ true
       → (slice_index priorities x ≡ p) × (is_levelled enabled x ≡ true)

@@ -1,4 +1,4 @@
-//! Exceptions with the answers that each step asks for beside them.
+//! Exceptions with three cached values that each step reads.
 
 ghost use Rattle.std.specs.Prelude.{◌≡◌};
 ghost use Rattle.reference.specs.declared.exception.TheConstants.{EXCEPTIONS};
@@ -7,9 +7,9 @@ ghost use Rattle.reference.specs.Priorities.{best as best_of, is_below_zero as i
 use nvic::Levels;
 use reference::exception::{Masks, Priority};
 
-/// The exceptions of an `L`, the best of them, the least group priority of those that are active, and
-/// whether the execution priority is below 0. These answers are those that the `L` would give now: each
-/// change works out anew what it may change.
+/// The exceptions of an `L`, and three cached values: the best of them, the highest group priority (the
+/// least number) of the active ones, and whether the execution priority is below 0. They always equal
+/// what the `L` would return: each change computes anew what it may change.
 #[derive(Drop)]
 pub struct KeptAnswers<L: Levels> {
     levels: L,
@@ -22,7 +22,7 @@ pub struct KeptAnswers<L: Levels> {
 }
 
 impl<L: Levels> KeptAnswers<L> {
-    /// The exceptions.
+    /// Returns the exceptions.
     pub fn levels(&self) -> &L
         ensures { result.now ≡ self.now.levels }
     {

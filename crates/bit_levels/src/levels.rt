@@ -129,8 +129,8 @@ impl BitLevels {
     }
 }
 
-/// Whether an exception is in the set of its priority byte where it's pending: it's enabled, and
-/// its priority isn't fixed.
+/// Returns whether an exception is in the set of its priority byte where it's pending: it's
+/// enabled, and its priority isn't fixed.
 fn is_levelled(enabled: &Set, number: u8) -> bool
     ensures { result ≡ is_levelled_of enabled.now number }
 {

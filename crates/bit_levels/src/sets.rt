@@ -15,7 +15,7 @@ pub type Set = [u32; 8];
 /// A set for each priority byte.
 pub type Sets = [Set; EXCEPTIONS as usize];
 
-/// Whether a set has an exception.
+/// Returns whether a set has an exception.
 #[inline]
 pub fn has(set: &Set, number: u8) -> bool
     ensures { result ≡ is_in_words set.now number }

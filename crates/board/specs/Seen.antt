@@ -1,4 +1,4 @@
--- How the reader's values are read as those of the reference, and how an answer stands to the definition.
+-- How the reader's values are read as those of the reference, and how a result relates to the definition.
 use Rattle.std.specs.Prelude.{◌≡◌, ◌⊎◌, Result, Ok, Err, IsOk}
 use Rattle.reference.specs.Boards.{Described, numbers_of}
 use Rattle.board.specs.declared.whole.Board.{Board}
@@ -14,7 +14,7 @@ abbrev pub Gives : {V W : Type 0} → (V → W) → Result V BoardFault → Resu
 Gives view (Ok value) read = read ≡ Ok (view value)
 Gives view (Err fault) read = read ≡ Err fault
 
--- the same, where memory may be wanting too, but only where the definition refuses nothing
+-- likewise, or out of memory, but only where the definition refuses nothing
 abbrev pub Answers : {V W : Type 0} → (V → W) → Result V BoardFault → Result W BoardFault → Type 0
 Answers view (Ok value) read = read ≡ Ok (view value)
 Answers view (Err fault) read = (read ≡ Err fault) ⊎ ((fault ≡ OutOfMemory) × IsOk read)

@@ -1,5 +1,5 @@
 -- What the text of a board means (profile), over the `toml` crate's meaning of a document (TOML 1.1). A step is taken
--- only where the ones ahead of it were, so the first refusal stands.
+-- only where the ones ahead of it were, so the first refusal is the result.
 use Rattle.std.specs.Prelude.{ℕ, suc, ℤ, pos, negsuc, Bool, true, false, ◌&&◌, not, nat_lt, if◌then◌else◌, List, []}
 use Rattle.std.specs.Prelude.{◌∷◌, codes, bytes_eq, Option, Some, None, Result, Ok, Err}
 use Rattle.std.specs.List.{list_any}
@@ -16,13 +16,13 @@ use Rattle.reference.specs.Boards.{Numbers, Described, is_whole_blocks, is_size,
 use Rattle.reference.specs.Boards.{is_line_count}
 use Rattle.reference.specs.Boards.{is_region_count, default_regions, is_tick, first_tick, most_events}
 
--- one step, and then another with what it gave
+-- one step, and then another with its result
 infixl 10 ◌>>=◌
 abbrev pub ◌>>=◌ : {A B : Type 0} → Result A BoardFault → (A → Result B BoardFault) → Result B BoardFault
 (Ok given) >>= next = next given
 (Err fault) >>= next = Err fault
 
--- a value of the kind that is asked for
+-- a value of the kind that its key takes
 abbrev pub of_kind : {A : Type 0} → Option A → Result A BoardFault
 of_kind None = Err WrongKind
 of_kind (Some value) = Ok value
@@ -33,17 +33,17 @@ whole None = Err WrongKind
 whole (Some (pos n)) = Ok n
 whole (Some (negsuc n)) = Err OutOfRange
 
--- what stands at a key is a whole number
+-- the value at a key is a whole number
 abbrev pub number : Option Data → Result ℕ BoardFault
 number None = Err MissingKey
 number (Some value) = whole (as_integer value)
 
--- the same of a key that may be missing
+-- likewise for a key that may be missing
 abbrev pub number_or : ℕ → Option Data → Result ℕ BoardFault
 number_or default None = Ok default
 number_or default (Some value) = whole (as_integer value)
 
--- what stands at a key is a word
+-- the value at a key is a word
 abbrev pub word : Option Data → Result (List ℕ) BoardFault
 word None = Err MissingKey
 word (Some value) = of_kind (as_str value)

@@ -55,8 +55,8 @@ fn are_tables(values: &[Value]) -> bool
     true
 }
 
-// The events of a list of tables, on a board of `lines` lines. A refusal is answered before
-// out of memory: where an event has no room, those after it are looked at all the same.
+// The events of a list of tables, on a board of `lines` lines. A refusal comes before out of
+// memory: where an event has no room, those after it are still checked.
 pub fn script_of(
     alloc: Global,
     lines: u8,
@@ -79,8 +79,8 @@ pub fn script_of(
     Ok(events)
 }
 
-// Puts an event behind those that were gathered, if none is missing there; whether none is missing
-// then.
+// Appends an event to those that were gathered, if none is missing there. Returns whether none is
+// missing then.
 fn gather(events: &mut Vec<ScriptedEvent>, is_complete: bool, event: ScriptedEvent) -> bool
     ensures { result ≡ true → (is_complete ≡ true) × (events.new.items ≡ events.old.items ++ event ∷ []) }
 {

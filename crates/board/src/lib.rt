@@ -28,9 +28,10 @@ use toml::Table;
 use values::find;
 pub use whole::Board;
 
-/// The board that a text describes, or why the machine doesn't take the text: the first refusal in
-/// the order in which a text is read. `OutOfMemory` may be returned in place of any other answer
-/// while the text is parsed, and after that only where nothing else is refused: see `board_of_table`.
+/// Returns the board that a text describes, or why the machine doesn't take the text: the first
+/// refusal in the order in which a text is read. `OutOfMemory` may be returned in place of any other
+/// answer while the text is parsed, and after that only where nothing else is refused: see
+/// `board_of_table`.
 #[tactic(auto, unfolding(crate::specs::Texts::board_of))]
 pub fn read_board(alloc: Global, text: &str) -> Result<Board, BoardFault>
     ensures answer { Answers described result (board_of text.now) ⊎ (result ≡ Err Wanting) }
@@ -45,8 +46,8 @@ pub fn read_board(alloc: Global, text: &str) -> Result<Board, BoardFault>
     board_of_table(alloc, &document)
 }
 
-/// The board that a parsed document describes, or the first refusal. `OutOfMemory` is returned only
-/// where nothing is refused.
+/// Returns the board that a parsed document describes, or the first refusal. `OutOfMemory` is
+/// returned only where nothing is refused.
 #[tactic(auto, using(crate::proofs::Ordered::script_is, crate::proofs::Taken::is_board), unfolding(crate::specs::Texts::board_in))]
 pub fn board_of_table(alloc: Global, document: &Table) -> Result<Board, BoardFault>
     ensures answer { Answers described result (board_in (table_view document.now)) }

@@ -9,7 +9,7 @@ ghost use Rattle.board.specs.Texts.{number, number_or, whole, word};
 use reference::fault::BoardFault;
 use toml::{Table, Value};
 
-// The value at a key, if it is there.
+// Returns the value at a key, if the table has the key.
 pub fn find<'a>(table: &'a Table, key: &str) -> Option<&'a Value>
     ensures { option_map (λ v. view v.now) result ≡ get_member key.now (table_view table.now) }
 {

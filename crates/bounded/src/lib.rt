@@ -1,5 +1,5 @@
-//! A list of at most `ROOM` elements, kept in place. To clear it writes no element, so a list that is
-//! filled anew at each step of a machine costs what is put into it.
+//! A list of at most `ROOM` elements, kept in place. Clearing it writes no element, so a list that is
+//! filled anew at each step of a machine costs only what is put into it.
 #![tactic(auto)]
 
 ghost use Rattle.std.specs.Prelude.{◌≡◌, ◌+◌, ◌<◌, ◌≤◌, [], ◌∷◌, ◌++◌, length};
@@ -28,7 +28,7 @@ impl<T, const ROOM: usize> Model for Bounded<T, ROOM> {
 }
 
 impl<T: Copy + Default, const ROOM: usize> Bounded<T, ROOM> {
-    /// A list of no elements.
+    /// Returns a list of no elements.
     pub fn new() -> Self
         ensures { result.items ≡ [] }
     {
@@ -58,7 +58,7 @@ impl<T: Copy + Default, const ROOM: usize> Bounded<T, ROOM> {
         self.len = len + 1;
     }
 
-    /// How many elements there are.
+    /// Returns how many elements there are.
     #[inline]
     pub fn len(&self) -> usize
         ensures value { result ≡ length self.now.items }
@@ -67,7 +67,7 @@ impl<T: Copy + Default, const ROOM: usize> Bounded<T, ROOM> {
         self.as_slice().len()
     }
 
-    /// The elements, in their order.
+    /// Returns the elements, in their order.
     #[inline]
     pub fn as_slice(&self) -> &[T]
         ensures value { result.now ≡ self.now.items }

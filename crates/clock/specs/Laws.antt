@@ -17,7 +17,7 @@ HappensWhenDue t =
     t.ticks + 1 ≡ due_of t → t.ticks < last_tick →
     (reaches_zero t.systick ≡ true) ⊎ (0 < due_count (t.ticks + 1) t.script)
 
--- no event is before this tick, nor before the one that stands ahead of it
+-- no event is before this tick, nor before the one that precedes it
 abbrev pub IsSortedFrom : ℕ → List ScriptedEvent → Type 0
 IsSortedFrom tick [] = Unit {0}
 IsSortedFrom tick (e ∷ events) = (tick ≤ e.at) × IsSortedFrom e.at events
@@ -33,7 +33,7 @@ abbrev pub counts : ℕ → SysTick → SysTick
 counts zero t = t
 counts (suc k) t = counted (counts k t)
 
--- from 0 the counter takes RVR and one more counts to come back to 0, and it stands in between where it should
+-- from 0 the counter takes RVR and one more counts to come back to 0, and in between it has the value of each count
 abbrev pub HasThePeriod : SysTick → Type 0
 HasThePeriod t =
     t.enable ≡ true → t.current ≡ 0 →

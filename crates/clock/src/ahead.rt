@@ -10,7 +10,7 @@ use crate::due_ticks::DueTicks;
 use crate::script::NEVER;
 use crate::timer::SysTick;
 
-/// Keeps SysTick as it was at one tick, and the next tick at which something is due.
+/// Keeps the state that SysTick had at one tick, and the next tick at which something is due.
 #[derive(Drop)]
 pub struct Ahead {
     /// SysTick at the tick `since`.
@@ -20,8 +20,8 @@ pub struct Ahead {
 }
 
 impl Ahead {
-    /// The next tick at which SYST_CVR goes from 1 to 0 or an event applies, if no register is
-    /// written before; 2^48 + 1 where no tick up to 2^48 is one.
+    /// Returns the next tick at which SYST_CVR goes from 1 to 0 or an event applies, if no register
+    /// is written before; 2^48 + 1 where no tick up to 2^48 is one.
     pub fn due(&self) -> &u64
         ensures { result.now ≡ self.now.due }
     {
@@ -71,15 +71,14 @@ impl DueTicks for Ahead {
 }
 
 impl Clock<Ahead> {
-    /// The next tick at which something is due, as it's kept.
+    /// Returns the next tick at which something is due, as it's kept.
     pub fn due(&self) -> &u64
         ensures { self.now.due ≡ Some result.now }
     {
         self.timer.due()
     }
 
-    /// Puts another tick in its place, to show what rests on it. Before that tick nothing becomes
-    /// pending.
+    /// Replaces that tick by another, for a test: before the other tick nothing becomes pending.
     pub fn with_due(self, due: u64) -> Self
         ensures { result ≡ record self { due = Some due } }
     {
@@ -89,7 +88,7 @@ impl Clock<Ahead> {
     }
 }
 
-/// The next tick at which something is due, where the script goes on at another.
+/// Returns the next tick at which something is due, where the script goes on at another.
 fn next_due(now: u64, systick: &SysTick, next_event: u64) -> u64
     requires { now ≤ 2 ^ 48 }
     ensures { result ≡ next_due now systick.now next_event }

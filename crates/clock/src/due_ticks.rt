@@ -7,7 +7,8 @@ ghost use Rattle.reference.specs.Time.{SysTick as Timer, counted, next_current, 
 use crate::timer::SysTick;
 use std::marker::Model;
 
-/// SysTick as a clock keeps it, and the next tick at which something is due, if that is kept.
+/// The state of SysTick in a clock. An implementation may also keep the next tick at which
+/// something is due.
 pub trait DueTicks: Drop {
     ghost use Rattle.std.specs.Prelude.{ℕ, Option};
     ghost use Rattle.reference.specs.Time.{SysTick as Timer};
@@ -27,7 +28,7 @@ pub trait DueTicks: Drop {
         ensures since { since result ≡ 0 }
         ensures due { IfSome (due result) (λ tick. tick ≡ next_due 0 reset_systick next_event) };
 
-    /// Whether nothing is due at the tick after this one, as far as is kept.
+    /// Returns whether nothing is due at the tick after this one, as far as is kept.
     fn is_quiet_after(&self, now: u64) -> bool
         requires known { since self.now ≤ now }
         requires bounded { now ≤ 2 ^ 48 }
@@ -48,7 +49,7 @@ pub trait DueTicks: Drop {
         ensures since { since self.new ≤ now + 1 }
         ensures due { IfSome (due self.new) (λ tick. tick ≡ next_due (now + 1) (counted (systick_at self.old now)) next_event) };
 
-    /// SysTick is what is given at a tick, and the script goes on at another.
+    /// Sets the state of SysTick at a tick. The script goes on at another.
     fn set(&mut self, now: u64, systick: SysTick, next_event: u64)
         requires { now ≤ 2 ^ 48 }
         ensures systick { systick_at self.new now ≡ systick }

@@ -55,7 +55,7 @@ impl<U: DueTicks> Model for Clock<U> {
 }
 
 impl<U: DueTicks> Clock<U> {
-    /// A clock before its first tick, with a script.
+    /// Returns a clock before its first tick, with a script.
     pub fn new(script: Vec<ScriptedEvent>) -> Self
         ensures time { result.time ≡ start_time script.items }
         ensures right { IsRight result }
@@ -69,7 +69,7 @@ impl<U: DueTicks> Clock<U> {
         }
     }
 
-    /// How many ticks have gone by, at most 2^48.
+    /// Returns how many ticks have gone by, at most 2^48.
     #[inline]
     pub fn now(&self) -> u64
         ensures value { result ≡ self.now.time.ticks }
@@ -78,14 +78,14 @@ impl<U: DueTicks> Clock<U> {
         self.ticks
     }
 
-    /// Whether a line is high.
+    /// Returns whether a line is high.
     pub fn high(&self, line: u8) -> bool
         ensures { result ≡ is_high self.now.time line }
     {
         lines::is_high(&self.high, line)
     }
 
-    /// Whether an event of the script applies in the next tick.
+    /// Returns whether an event of the script applies in the next tick.
     #[inline]
     fn event_applies_next(&self) -> bool
         requires { self.now.time.ticks < 2 ^ 48 }
@@ -94,7 +94,7 @@ impl<U: DueTicks> Clock<U> {
         self.next_event() <= self.ticks + 1
     }
 
-    /// What the next tick would pend. It is asked of a clock that isn't at its end, as is `tick`.
+    /// Returns what the next tick would pend. The clock mustn't be at its end, as for `tick`.
     #[inline]
     #[tactic(auto, using(crate::proofs::Quiet::right_pends))]
     pub fn peek(&self) -> Due
@@ -109,7 +109,7 @@ impl<U: DueTicks> Clock<U> {
         }
     }
 
-    /// What the next tick pends, where it isn't passed over.
+    /// Returns what the next tick pends, by the script and SysTick.
     #[tactic(auto, unfolding(reference::specs::Time::tick_pends))]
     fn due_next(&self) -> Due
         requires { self.now.time.ticks < 2 ^ 48 }
@@ -123,7 +123,7 @@ impl<U: DueTicks> Clock<U> {
         due
     }
 
-    /// The next tick. Gives the exceptions that it pends.
+    /// Makes the next tick. Returns the exceptions that it pends.
     #[inline]
     #[tactic(auto, using(crate::proofs::Quiet::right_tick, crate::proofs::Quiet::right_pends, crate::proofs::Quiet::right_stays))]
     pub fn tick(&mut self) -> Due
@@ -163,7 +163,8 @@ impl<U: DueTicks> Clock<U> {
         false
     }
 
-    /// The next tick, in which no event of the script applies. Gives the exceptions that it pends.
+    /// Makes the next tick, in which no event of the script applies. Returns the exceptions that it
+    /// pends.
     #[inline]
     #[tactic(auto, using(crate::proofs::Quiet::no_event_next, crate::proofs::Quiet::no_event_pends))]
     fn pass(&mut self) -> Due
@@ -178,7 +179,7 @@ impl<U: DueTicks> Clock<U> {
         due
     }
 
-    /// What SysTick's next count pends.
+    /// Returns what SysTick's next count pends.
     #[inline]
     fn due_of_timer(&self) -> Due
         ensures { IsSetOf result (timer_pends self.now.time.systick) }
@@ -188,7 +189,7 @@ impl<U: DueTicks> Clock<U> {
         due
     }
 
-    /// A tick that isn't passed over.
+    /// Makes a tick in which events of the script may apply.
     #[tactic(auto, unfolding(reference::specs::Time::after_tick))]
     fn count(&mut self)
         requires { self.old.time.ticks < 2 ^ 48 }
@@ -213,7 +214,7 @@ impl<U: DueTicks> Clock<U> {
         self.ticks += 1;
     }
 
-    /// A read of SYST_CSR, SysTick's Control and Status Register. It clears COUNTFLAG.
+    /// Reads SYST_CSR, SysTick's Control and Status Register, and clears COUNTFLAG.
     pub fn read_csr(&mut self) -> u32
         ensures value { result ≡ csr self.old.time.systick }
         ensures time { self.new.time ≡ record self.old.time { systick = after_csr_read self.old.time.systick } }
@@ -226,7 +227,7 @@ impl<U: DueTicks> Clock<U> {
         value
     }
 
-    /// A write to SYST_CSR.
+    /// Writes SYST_CSR.
     pub fn write_csr(&mut self, value: u32)
         ensures time { self.new.time ≡ record self.old.time { systick = with_csr self.old.time.systick value } }
         ensures right { IsRight self.new }
@@ -236,14 +237,14 @@ impl<U: DueTicks> Clock<U> {
         self.set_systick(systick);
     }
 
-    /// A read of SYST_RVR, SysTick's Reload Value Register.
+    /// Reads SYST_RVR, SysTick's Reload Value Register.
     pub fn read_rvr(&self) -> u32
         ensures { result ≡ self.now.time.systick.reload }
     {
         self.systick().rvr()
     }
 
-    /// A write to SYST_RVR, of which 24 bits are kept.
+    /// Writes SYST_RVR, of which 24 bits are kept.
     pub fn write_rvr(&mut self, value: u32)
         ensures time { self.new.time ≡ record self.old.time { systick = with_rvr self.old.time.systick value } }
         ensures right { IsRight self.new }
@@ -253,14 +254,14 @@ impl<U: DueTicks> Clock<U> {
         self.set_systick(systick);
     }
 
-    /// A read of SYST_CVR, SysTick's Current Value Register.
+    /// Reads SYST_CVR, SysTick's Current Value Register.
     pub fn read_cvr(&self) -> u32
         ensures { result ≡ self.now.time.systick.current }
     {
         self.systick().cvr()
     }
 
-    /// A write to SYST_CVR: any value clears it, and COUNTFLAG.
+    /// Writes SYST_CVR: any value clears it, and COUNTFLAG.
     pub fn write_cvr(&mut self)
         ensures time { self.new.time ≡ record self.old.time { systick = with_cvr_cleared self.old.time.systick } }
         ensures right { IsRight self.new }
@@ -270,7 +271,7 @@ impl<U: DueTicks> Clock<U> {
         self.set_systick(systick);
     }
 
-    /// SysTick as it stands.
+    /// Returns the state of SysTick.
     #[inline]
     fn systick(&self) -> SysTick
         ensures { result ≡ self.now.time.systick }
@@ -278,7 +279,7 @@ impl<U: DueTicks> Clock<U> {
         self.timer.systick(self.ticks)
     }
 
-    /// SysTick is given new values.
+    /// Sets the state of SysTick.
     #[inline]
     fn set_systick(&mut self, systick: SysTick)
         ensures time { self.new.time ≡ record self.old.time { systick = systick } }
@@ -288,7 +289,7 @@ impl<U: DueTicks> Clock<U> {
         self.timer.set(self.ticks, systick, next_event);
     }
 
-    /// The tick at which the script goes on.
+    /// Returns the tick at which the script goes on.
     #[inline]
     fn next_event(&self) -> u64
         ensures { result ≡ script_due self.now.time.script }

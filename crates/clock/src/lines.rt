@@ -12,7 +12,7 @@ pub const LINES: usize = MOST_LINES as usize;
 /// For each line, whether it is high.
 pub type HighLines = [bool; LINES];
 
-/// Whether a line is high. A line that can't be isn't.
+/// Returns whether a line is high. A line that can't be isn't.
 #[inline]
 pub fn is_high(high: &HighLines, line: u8) -> bool
     ensures { result ≡ slice_index_or high.now line false }
@@ -24,7 +24,7 @@ pub fn is_high(high: &HighLines, line: u8) -> bool
     }
 }
 
-/// The lines take a signal.
+/// Applies a signal to the lines.
 pub fn take_signal(high: &mut HighLines, signal: Signal)
     ensures { high.new ≡ with_signal high.old signal }
 {
@@ -35,7 +35,7 @@ pub fn take_signal(high: &mut HighLines, signal: Signal)
     }
 }
 
-/// The lines take the signals of events, one after another.
+/// Applies the signals of events to the lines, one after another.
 pub fn take_events(high: &mut HighLines, events: &[ScriptedEvent])
     ensures { high.new ≡ with_events high.old events.now }
 {

@@ -8,7 +8,7 @@ use reference::script::ScriptedEvent;
 /// A tick that a clock never reaches.
 pub const NEVER: u64 = (1 << 48) + 1;
 
-/// How many of the first events aren't later than a tick.
+/// Returns how many events at the head of a script are due by a tick.
 #[inline]
 pub fn due_count(tick: u64, script: &[ScriptedEvent]) -> usize
     ensures value { result ≡ due_count tick script.now }
@@ -22,7 +22,7 @@ pub fn due_count(tick: u64, script: &[ScriptedEvent]) -> usize
     script.len()
 }
 
-/// The tick at which a script goes on.
+/// Returns the tick at which a script goes on.
 #[inline]
 pub fn script_due(script: &[ScriptedEvent]) -> u64
     ensures { result ≡ script_due script.now }

@@ -48,7 +48,7 @@ impl SysTick {
         }
     }
 
-    /// Whether the next count goes from 1 to 0.
+    /// Returns whether the next count goes from 1 to 0.
     #[inline]
     pub(crate) fn reaches_zero(&self) -> bool
         ensures { result ≡ reaches_zero self.now }
@@ -56,7 +56,7 @@ impl SysTick {
         self.enable && self.current == 1
     }
 
-    /// Whether the next count pends SysTick's exception.
+    /// Returns whether the next count pends SysTick's exception.
     #[inline]
     pub(crate) fn will_pend(&self) -> bool
         ensures { result ≡ (reaches_zero self.now && self.now.tickint) }
@@ -92,7 +92,7 @@ impl SysTick {
         later
     }
 
-    /// The tick at which the counter will go from 1 to 0, if no register is written before.
+    /// Returns the tick at which the counter will go from 1 to 0, if no register is written before.
     pub(crate) fn due(&self, now: u64) -> u64
         requires { now ≤ 2 ^ 48 }
         ensures { result ≡ timer_due now self.now }
@@ -170,7 +170,7 @@ fn weighed(bit: bool, weight: u32) -> u32
     if bit { weight } else { 0 }
 }
 
-/// The counter some counts after it had a value.
+/// Returns the counter some counts after it had a value.
 fn current_after(reload: u32, current: u32, counts: u64) -> u32
     requires reload { reload < 2 ^ 24 }
     requires current { current < 2 ^ 24 }

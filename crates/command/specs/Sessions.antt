@@ -36,7 +36,7 @@ pub record Talked (s : State) (before after : Source) (out out' : Sink) (result 
 abbrev pub Refuses : Fault → Source → Source → Sink → Sink → Result (Unit {0}) Fault → Type 0
 Refuses fault before after out out' result = (result ≡ Err fault) × (after ≡ before) × (out' ≡ out)
 
--- a session from a start state, for which memory may be wanting, or the refusal of the start
+-- a session from a start state, or out of memory for it, or the refusal of the start
 abbrev pub TalksFrom : Result State StartFault → Source → Source → Sink → Sink → Result (Unit {0}) Fault → Type 0
 TalksFrom (Ok s) before after out out' result =
     Talked s before after out out' result ⊎ Refuses (Start NoMemory) before after out out' result

@@ -40,7 +40,7 @@ stop_status stop.ResetRequested = 4
 abbrev pub board_in_file : List ℕ → Result Described BoardFault
 board_in_file bytes = if is_utf8 bytes then board_of bytes else Err NotToml
 
--- a board that was read is the definition's, and so is a refusal, unless memory was wanting
+-- a board that was read is the definition's, and so is a refusal, unless it's out of memory
 abbrev pub Reads : Result Described BoardFault → Result TheBoard BoardFault → Type 0
 Reads read (Ok board) = read ≡ Ok (described board)
 Reads read (Err fault) = (read ≡ Err fault) ⊎ (fault ≡ OutOfMemory)
@@ -55,7 +55,7 @@ Runs steps s old new (Err fault) = (fault ≡ Io) × IsCut (trace steps s) old n
 abbrev pub Refuses : Fault → Gathered → Gathered → Result Stop Fault → Type 0
 Refuses fault old new result = (result ≡ Err fault) × (new ≡ old)
 
--- a run from a start state, for which memory may be wanting, or the refusal of the start
+-- a run from a start state, or out of memory for it, or the refusal of the start
 abbrev pub Starts : ℕ → Result State StartFault → Gathered → Gathered → Result Stop Fault → Type 0
 Starts steps (Ok s) old new result = Runs steps s old new result ⊎ Refuses (Start NoMemory) old new result
 Starts steps (Err refusal) old new result = Refuses (Start refusal) old new result

@@ -1,4 +1,4 @@
--- What the words ask for.
+-- What the arguments ask for.
 use Rattle.std.specs.Prelude.{ℕ, ◌^◌, ◌≤◌}
 use Rattle.command.specs.declared.request.Task.{Task}
 use Rattle.command.specs.declared.request.Task.TheVariants.{Run, Debug}

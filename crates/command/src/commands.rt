@@ -1,4 +1,4 @@
-//! The whole command: from the words to the exit status.
+//! The whole command: from the arguments to the exit status.
 
 ghost use Rattle.std.specs.Prelude.{◌≡◌, ◌⊎◌};
 
@@ -17,9 +17,9 @@ use std::marker::Brand;
 use std::rt::Files;
 use std::sync::ledger::{Blank, Ledger};
 
-/// Carries out what the words ask for, of which the first is the program's name. Reads the image, then
-/// the board, and writes the trace to `out`, or the answers to the commands of `input`, or why there
-/// is none to `err`. Returns the exit status. Help and the version go to `out`.
+/// Does what the arguments ask for; the first one is the program's name. Reads the image, then the
+/// board, and writes the trace to `out`, or the answers to the commands of `input`, or the refusal to
+/// `err`. Returns the exit status. Help and the version go to `out`.
 pub fn program<R: Files + AllocGlobal, I: Read + Drop, W: Write + Drop, E: Write>(
     rt: &R,
     words: &[String],
@@ -33,7 +33,8 @@ pub fn program<R: Files + AllocGlobal, I: Read + Drop, W: Write + Drop, E: Write
     }
 }
 
-/// Writes the answer to words that name no run and no session. Returns 2, 0 for the version, 5 where that fails.
+/// Writes the answer to arguments that name no run and no session. Returns 2, 0 for the version, 5 where that
+/// fails.
 pub fn answer<W: Write + Drop, E: Write>(fault: WordsFault, mut out: W, err: &mut E) -> u8
     ensures { (result ≡ 2) ⊎ ((result ≡ 0) ⊎ (result ≡ 5)) }
 {
@@ -101,7 +102,7 @@ fn run<W: Write + Drop, E: Write>(
     run_files::<W, E, Brand>(alloc, image, board, steps, out, err, Blank::new(1))
 }
 
-/// Debugs an image on a board by the commands of a reader.
+/// Debugs an image on a board by the commands of a reader: makes the blank of its ledger.
 fn debug_by<I: Read + Drop, W: Write + Drop, E: Write>(
     alloc: Global,
     image: InputFile<'_>,
@@ -113,7 +114,8 @@ fn debug_by<I: Read + Drop, W: Write + Drop, E: Write>(
     debug_from::<I, W, E, Brand>(alloc, image, board, input, out, err, Blank::new(1))
 }
 
-/// Debugs an image on a board. `blank` counts the calls of `input` that fail.
+/// Debugs an image on a board: makes an `In` of `input`, and writes its error. `blank` counts its
+/// failed calls.
 fn debug_from<I: Read + Drop, W: Write + Drop, E: Write, K: Ledger>(
     alloc: Global,
     image: InputFile<'_>,
@@ -143,7 +145,8 @@ fn debug_from<I: Read + Drop, W: Write + Drop, E: Write, K: Ledger>(
     status
 }
 
-/// Debugs an image on a board. `blank` counts the calls of `out` that fail.
+/// Debugs an image on a board: makes an `Out` of `out`, and writes its error. `blank` counts its
+/// failed calls.
 fn debug_to<I: In, W: Write + Drop, E: Write, K: Ledger>(
     alloc: Global,
     image: InputFile<'_>,
@@ -204,7 +207,7 @@ fn tell_file<E: Write>(path: &str, fault: &FileFault, err: &mut E) -> u8
     }
 }
 
-/// Writes why the words can't be read, and returns the status.
+/// Writes why the arguments can't be read, and returns the status.
 pub fn refuse_words<E: Write>(error: &io::Error, err: &mut E) -> u8
     ensures { result ≡ 5 }
 {

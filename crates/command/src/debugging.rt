@@ -15,9 +15,9 @@ use machine::{Fast, In, Out};
 use std::alloc::Global;
 use std::io::Write;
 
-/// Debugs an image on a board by the commands of `input`, and writes their answers to `out`, or why
-/// there is no session to `err`. Returns the exit status: 0 where the session ended, 3 for a refused
-/// image or board, 5 where `input` or `out` failed.
+/// Debugs an image on a board by the commands of `input`, and writes their answers to `out`, or the
+/// refusal to `err`. Returns the exit status: 0 where the session ended, 3 for a refused image or
+/// board, 5 where `input` or `out` failed.
 pub fn debug<I: In, O: Out, E: Write>(
     alloc: Global,
     image: InputFile<'_>,
@@ -39,7 +39,7 @@ pub fn debug<I: In, O: Out, E: Write>(
     }
 }
 
-/// Debugs an image on a board.
+/// Reads the image and the board, makes their machine, and holds a session of it.
 fn hold_session<I: In, O: Out>(
     alloc: Global,
     image: &[u8],

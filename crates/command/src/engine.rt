@@ -15,9 +15,9 @@ use std::alloc::Global;
 use std::io::Write;
 use std::str;
 
-/// Runs an image on a board for at most `steps` steps and writes its trace to `out`, or why there is
-/// none to `err`, the fault first and then its reason. Returns the exit status: 0 after all steps or at
-/// a breakpoint, 3 for a refused image or board, 4 at another stop, 5 where `out` failed.
+/// Runs an image on a board for at most `steps` steps and writes its trace to `out`, or the refusal to
+/// `err`, the fault first and then its reason. Returns the exit status: 0 after all steps or at a
+/// breakpoint, 3 for a refused image or board, 4 at another stop, 5 where `out` failed.
 pub fn go<O: Out + Drop, E: Write>(
     alloc: Global,
     image: InputFile<'_>,
@@ -55,7 +55,7 @@ fn execute<O: Out + Drop>(
     run_through(&mut machine, steps, out)
 }
 
-/// Runs a machine and hands its whole trace on.
+/// Runs a machine, and flushes its whole trace.
 fn run_through<O: Out + Drop>(
     machine: &mut Fast,
     steps: u64,

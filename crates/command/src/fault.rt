@@ -1,4 +1,4 @@
-//! What the program tells on standard error, and the exit status that goes with it.
+//! What the program writes to standard error, and the exit status that goes with it.
 
 ghost use Rattle.std.specs.Prelude.{◌≡◌};
 ghost use Rattle.command.specs.Statuses.{fault_status, stop_status};
@@ -11,7 +11,7 @@ use std::io::Write;
 /// Why the program doesn't end with a stop.
 #[derive(Clone, Copy)]
 pub enum Fault {
-    /// The words after the program's name are wrong.
+    /// The arguments are wrong.
     Usage,
     Load(LoadFault),
     Board(BoardFault),
@@ -22,7 +22,7 @@ pub enum Fault {
     Io,
 }
 
-/// The status that goes with a fault.
+/// Returns the status that goes with a fault.
 pub fn fault_status(fault: Fault) -> u8
     ensures { result ≡ fault_status fault }
 {
@@ -33,7 +33,7 @@ pub fn fault_status(fault: Fault) -> u8
     }
 }
 
-/// The status that goes with a stop: 0 where the steps were made or a breakpoint was met.
+/// Returns the status that goes with a stop: 0 where the steps were made or a breakpoint was met.
 pub fn stop_status(stop: Stop) -> u8
     ensures { result ≡ stop_status stop }
 {
@@ -43,7 +43,7 @@ pub fn stop_status(stop: Stop) -> u8
     }
 }
 
-/// Writes the fault's line, and answers its status. A refusal to write it changes nothing.
+/// Writes the fault's line, and returns its status, also where the write fails.
 pub fn tell<E: Write>(fault: Fault, err: &mut E) -> u8
     ensures { result ≡ fault_status fault }
 {

@@ -1,4 +1,4 @@
-//! The words after the program's name, and the files that they name.
+//! The arguments, and the files that they name.
 
 ghost use Rattle.std.specs.Prelude.{◌≤◌, IfOk, vec_len};
 
@@ -9,7 +9,7 @@ use std::{env, fs, io};
 /// The most bytes of a file: 16 MiB.
 const LIMIT: u64 = 0x100_0000;
 
-/// Returns all words, the program's name among them.
+/// Returns all arguments, the program's name among them.
 pub fn words<R: Env + AllocGlobal>(rt: &R) -> io::Result<Vec<String>> {
     let mut words = Vec::new(rt.alloc());
     for word in env::args(rt)? {

@@ -1,5 +1,5 @@
-//! The command `marm`: its words, the files that they name, a run from the bytes of an image and of a
-//! board to the bytes of a trace, and a debug session of them.
+//! The command `marm`: its arguments, the files that they name, a run from the bytes of an image and
+//! of a board to the bytes of a trace, and a debug session of them.
 #![tactic(auto)]
 
 mod commands;

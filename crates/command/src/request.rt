@@ -1,4 +1,4 @@
-//! What the words after the program's name ask for.
+//! What the arguments of the program ask for.
 
 ghost use Rattle.std.specs.Prelude.{IfOk};
 ghost use Rattle.command.specs.Tasks.{IsBounded};
@@ -6,7 +6,7 @@ ghost use Rattle.command.specs.Tasks.{IsBounded};
 use command_line::{MOST_STEPS, RunWords, Words, WordsFault, words_of};
 use std::alloc::Global;
 
-/// What the words ask for.
+/// A run or a session, as the arguments ask for it.
 #[derive(Clone, Copy)]
 pub struct Request<'a> {
     /// The path of the board file.
@@ -25,7 +25,7 @@ pub enum Task {
     Debug,
 }
 
-/// Reads the words, of which the first is the program's name.
+/// Reads the arguments; the first one is the program's name.
 pub fn read_words<'a>(alloc: Global, words: &'a [String]) -> Result<Request<'a>, WordsFault>
     ensures { IfOk result (λ request. IsBounded request.task) }
 {

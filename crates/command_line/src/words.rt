@@ -1,4 +1,4 @@
-//! The words after the program's name, as `clap` reads them.
+//! The arguments of the program, as `clap` reads them.
 
 use clap::builder::ValueParser;
 use clap::error::ErrorKind;
@@ -14,7 +14,7 @@ const DEBUG: &str = "debug";
 /// The program's version.
 const VERSION: &str = "0.1.0";
 
-/// The words after `run`.
+/// The arguments of `run`.
 #[derive(Clone, Copy)]
 pub struct RunWords<'a> {
     /// The path of the board file.
@@ -25,7 +25,7 @@ pub struct RunWords<'a> {
     pub image: &'a str,
 }
 
-/// The words after `debug`.
+/// The arguments of `debug`.
 #[derive(Clone, Copy)]
 pub struct DebugWords<'a> {
     /// The path of the board file.
@@ -34,14 +34,14 @@ pub struct DebugWords<'a> {
     pub image: &'a str,
 }
 
-/// What the words say.
+/// A run or a session, as the arguments name it.
 #[derive(Clone, Copy)]
 pub enum Words<'a> {
     Run(RunWords<'a>),
     Debug(DebugWords<'a>),
 }
 
-/// Why the words name neither a run nor a session.
+/// Why the arguments name neither a run nor a session.
 #[derive(Drop)]
 pub enum WordsFault {
     /// They are wrong: why, and the usage.
@@ -50,11 +50,11 @@ pub enum WordsFault {
     Help(String),
     /// They ask for the version: its text.
     Version(String),
-    /// There was no memory to read them.
+    /// Out of memory while they were read.
     OutOfMemory,
 }
 
-/// Returns what the words say, of which the first is the program's name.
+/// Returns what the arguments name; the first one is the program's name.
 pub fn words_of<'a>(alloc: Global, words: &'a [String]) -> Result<Words<'a>, WordsFault> {
     let Ok(command) = marm(alloc) else {
         return Err(WordsFault::OutOfMemory);
@@ -75,7 +75,7 @@ pub fn words_of<'a>(alloc: Global, words: &'a [String]) -> Result<Words<'a>, Wor
     }
 }
 
-/// Returns the values of the words after `debug`. `clap` has found both.
+/// Returns the values of the arguments of `debug`. `clap` has found both.
 fn debug_words<'a>(alloc: Global, debug: &ArgMatches<'a>) -> Result<Words<'a>, WordsFault> {
     match (debug.get_str("board"), debug.get_str("image")) {
         (Some(board), Some(image)) => Ok(Words::Debug(DebugWords { board, image })),
@@ -83,7 +83,7 @@ fn debug_words<'a>(alloc: Global, debug: &ArgMatches<'a>) -> Result<Words<'a>, W
     }
 }
 
-/// Returns the values of the words after `run`. `clap` has found all three.
+/// Returns the values of the arguments of `run`. `clap` has found all three.
 fn run_words<'a>(alloc: Global, run: &ArgMatches<'a>) -> Result<Words<'a>, WordsFault> {
     match (
         run.get_str("board"),

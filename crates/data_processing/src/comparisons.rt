@@ -1,4 +1,4 @@
-//! Comparisons, which give flags alone: TST, TEQ, CMP and CMN.
+//! Comparisons, which set flags alone: TST, TEQ, CMP and CMN.
 
 ghost use Rattle.std.specs.Prelude.{◌≡◌};
 ghost use Rattle.reference.specs.TwoOperands.{compared_by, compare_immediate, compare_register};
@@ -7,7 +7,7 @@ use crate::two_operands::{with_immediate, with_shifted};
 use reference::operands::{CompareImmediate, CompareRegister, Comparison, DataOperation};
 use regs::Regs;
 
-/// The operation whose flags a comparison sets.
+/// Returns the operation whose flags a comparison sets.
 #[inline]
 fn compared_by(comparison: Comparison) -> DataOperation
     ensures { result ≡ compared_by comparison }

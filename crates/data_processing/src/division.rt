@@ -1,4 +1,4 @@
-//! Division: SDIV and UDIV. Whether one by zero is trapped isn't asked here.
+//! Division: SDIV and UDIV. Whether a division by zero traps isn't decided here.
 
 ghost use Rattle.std.specs.Prelude.{◌≡◌};
 ghost use Rattle.reference.specs.Products.{quotient, divide};
@@ -6,7 +6,7 @@ ghost use Rattle.reference.specs.Products.{quotient, divide};
 use reference::operands::Divide;
 use regs::Regs;
 
-/// The quotient, rounded towards zero. By zero it is 0.
+/// Returns the quotient, rounded towards zero. By zero it is 0.
 #[inline]
 #[tactic(auto, unfolding(reference::specs::Products::quotient))]
 fn quotient(signed: bool, x: u32, y: u32) -> u32

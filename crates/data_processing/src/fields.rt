@@ -7,7 +7,7 @@ ghost use Rattle.reference.specs.Words.{bits, sign_extended};
 use reference::operands::{ClearField, ExtractField, InsertField};
 use regs::Regs;
 
-/// The lowest `width` bits.
+/// Returns the lowest `width` bits.
 #[inline]
 #[tactic(auto, using(crate::proofs::Parts::all_bits))]
 fn low_bits(x: u32, width: u8) -> u32
@@ -16,7 +16,7 @@ fn low_bits(x: u32, width: u8) -> u32
     if width < 32 { x % (1 << width) } else { x }
 }
 
-/// The bits from the lowest on, moved down to bit 0.
+/// Returns the bits from the lowest on, moved down to bit 0.
 #[inline]
 #[tactic(auto, using(crate::proofs::Parts::none_above))]
 fn down(x: u32, low: u8) -> u32
@@ -25,7 +25,7 @@ fn down(x: u32, low: u8) -> u32
     if low < 32 { x >> low } else { 0 }
 }
 
-/// The bits moved up from bit 0.
+/// Returns the bits moved up from bit 0.
 #[inline]
 #[tactic(auto, using(crate::proofs::Parts::none_below))]
 fn up(x: u32, low: u8) -> u32
@@ -34,7 +34,7 @@ fn up(x: u32, low: u8) -> u32
     if low < 32 { x << low } else { 0 }
 }
 
-/// A number of `width` bits, whose highest one becomes the bits above it.
+/// Returns a number of `width` bits, whose highest one becomes the bits above it.
 #[inline]
 #[tactic(auto, using(crate::proofs::Parts::sign_lemmas))]
 fn sign_extended(width: u8, x: u32) -> u32
@@ -48,7 +48,7 @@ fn sign_extended(width: u8, x: u32) -> u32
     }
 }
 
-/// The lowest `width` bits, extended with their sign or with zeros.
+/// Returns the lowest `width` bits, extended with their sign or with zeros.
 #[inline]
 pub fn extended(is_signed: bool, width: u8, x: u32) -> u32
     ensures { result ≡ extended is_signed width x }
@@ -71,7 +71,7 @@ pub(crate) fn extract_field(operands: &ExtractField, regs: &mut Regs)
     regs.set(operands.destination, value);
 }
 
-/// A word with 0 in place of a field.
+/// Returns a word with 0 in place of a field.
 #[inline]
 #[tactic(auto, using(crate::proofs::Parts::field_part), unfolding(reference::specs::Fields::cleared, reference::specs::Words::bits))]
 fn cleared(x: u32, low: u8, width: u8) -> u32
@@ -80,7 +80,7 @@ fn cleared(x: u32, low: u8, width: u8) -> u32
     x - up(low_bits(down(x, low), width), low)
 }
 
-/// A word with the low bits of another in place of a field.
+/// Returns a word with the low bits of another in place of a field.
 #[inline]
 #[tactic(auto, unfolding(reference::specs::Fields::inserted))]
 fn inserted(x: u32, y: u32, low: u8, width: u8) -> u32

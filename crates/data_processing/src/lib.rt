@@ -1,6 +1,6 @@
 //! The instructions that compute: each is a function from the registers to the registers, and makes
 //! no access (ARM DDI 0403, "Alphabetical list of ARMv7-M Thumb instructions", the operation of
-//! each). The PC still stands at the instruction.
+//! each). The PC is still at the instruction.
 #![tactic(auto)]
 
 mod addresses;

@@ -7,7 +7,7 @@ use reference::operands::{Immediate, ShiftedRegister};
 use reference::registers::Flags;
 use regs::{Regs, shift_c};
 
-/// The carry that a number gives: where its expansion gives none, C as it is.
+/// Returns the carry of an immediate: C, unchanged, where its expansion has none.
 #[inline]
 pub(crate) fn immediate_carry(immediate: Immediate, flags: Flags) -> bool
     ensures { result ≡ immediate_carry immediate flags }
@@ -18,7 +18,7 @@ pub(crate) fn immediate_carry(immediate: Immediate, flags: Flags) -> bool
     }
 }
 
-/// A shifted register, and its carry.
+/// Returns a shifted register, and its carry.
 #[inline]
 pub(crate) fn shifted(operand: ShiftedRegister, regs: &Regs) -> (u32, bool)
     ensures { result ≡ shifted operand regs.now }

@@ -10,7 +10,7 @@ use reference::operands::{Extend, Rearrange, Rearrangement};
 use reference::shift::ShiftType;
 use regs::{Regs, shift_c};
 
-/// How many bits it has.
+/// Returns how many bits it has.
 #[inline]
 pub fn width_of(size: Size) -> u8
     ensures { result ≡ width_of size }
@@ -41,7 +41,8 @@ pub(crate) fn extend(operands: &Extend, regs: &mut Regs)
     regs.set(operands.destination, value);
 }
 
-/// The bytes or the bits of a word in another order, or how many zeros stand above its highest one.
+/// Returns the bytes or the bits of a word in another order, or how many zeros are above its
+/// highest one.
 #[inline]
 #[tactic(auto, using(crate::proofs::Bits::reversed_bits, crate::proofs::Bits::leading_zeros_of), unfolding(reference::specs::Fields::rearranged))]
 fn rearranged(operation: Rearrangement, x: u32) -> u32

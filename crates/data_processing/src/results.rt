@@ -1,4 +1,4 @@
-//! What becomes of a result: the register that is given it, and the flags.
+//! Results: the flags of each kind, and the write of a result to its register.
 
 ghost use Rattle.std.specs.Prelude.{◌≡◌};
 ghost use Rattle.reference.specs.TwoOperands.{sets_flags, logical, summed, written};
@@ -8,7 +8,7 @@ use reference::operands::FlagSetting;
 use reference::registers::{Flags, Register};
 use regs::Regs;
 
-/// The flags, with N and Z of a result.
+/// Returns the flags, with N and Z of a result.
 #[inline]
 pub(crate) fn with_result(flags: Flags, value: u32) -> Flags
     ensures { result ≡ with_result flags value }
@@ -20,7 +20,7 @@ pub(crate) fn with_result(flags: Flags, value: u32) -> Flags
     }
 }
 
-/// A logical result and its flags: N and Z of it, and C of the shifter.
+/// Returns a logical result and its flags: N and Z of it, and C of the shifter.
 #[inline]
 pub(crate) fn logical(flags: Flags, value: u32, carry: bool) -> (u32, Flags)
     ensures { result ≡ logical flags value carry }
@@ -32,7 +32,7 @@ pub(crate) fn logical(flags: Flags, value: u32, carry: bool) -> (u32, Flags)
     (value, flags)
 }
 
-/// A sum and its flags: N, Z, C and V.
+/// Returns a sum and its flags: N, Z, C and V.
 #[inline]
 pub(crate) fn summed(flags: Flags, sum: (u32, bool, bool)) -> (u32, Flags)
     ensures { result ≡ summed flags sum }
@@ -46,7 +46,7 @@ pub(crate) fn summed(flags: Flags, sum: (u32, bool, bool)) -> (u32, Flags)
     (value, flags)
 }
 
-/// Whether an instruction sets flags: `setflags`.
+/// Returns whether an instruction sets flags: `setflags`.
 #[inline]
 fn sets_flags(setting: FlagSetting, regs: &Regs) -> bool
     ensures { result ≡ sets_flags setting regs.now }
@@ -58,8 +58,7 @@ fn sets_flags(setting: FlagSetting, regs: &Regs) -> bool
     }
 }
 
-/// The destination is given the result, and where the instruction sets flags, they are the ones
-/// given.
+/// Writes the result to the destination, and the flags where the instruction sets them.
 #[inline]
 pub(crate) fn write(
     setting: FlagSetting,

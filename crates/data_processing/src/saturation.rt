@@ -14,7 +14,7 @@ use regs::Regs;
 /// A range of this many bits, or of more, has each word in it.
 const WIDEST: u8 = 32;
 
-/// The least number of `bits` bits.
+/// Returns the least number of `bits` bits.
 #[inline]
 fn least(is_signed: bool, bits: u8) -> i64
     requires { bits ≤ WIDEST }
@@ -27,7 +27,7 @@ fn least(is_signed: bool, bits: u8) -> i64
     }
 }
 
-/// The greatest unsigned number of `bits` bits.
+/// Returns the greatest unsigned number of `bits` bits.
 #[inline]
 fn ones(bits: u8) -> i64
     requires { bits ≤ WIDEST }
@@ -36,7 +36,7 @@ fn ones(bits: u8) -> i64
     ((1u64 << bits) - 1) as i64
 }
 
-/// The greatest number of `bits` bits.
+/// Returns the greatest number of `bits` bits.
 #[inline]
 fn greatest(is_signed: bool, bits: u8) -> i64
     requires { bits ≤ WIDEST }
@@ -49,7 +49,7 @@ fn greatest(is_signed: bool, bits: u8) -> i64
     }
 }
 
-/// The number itself, or the end of the range that it is beyond.
+/// Returns the number itself, or the end of the range that it is beyond.
 #[inline]
 fn nearest(from: i64, to: i64, value: i64) -> i64
     ensures { result ≡ nearest from to value }
@@ -63,7 +63,7 @@ fn nearest(from: i64, to: i64, value: i64) -> i64
     }
 }
 
-/// The low word of a whole number.
+/// Returns the low word of a whole number.
 #[inline]
 fn low_word(value: i64) -> u32
     ensures { result ≡ low_bits 32 value }
@@ -71,7 +71,7 @@ fn low_word(value: i64) -> u32
     (value.cast_unsigned() & 0xFFFF_FFFF) as u32
 }
 
-/// Whether two numbers differ.
+/// Returns whether two numbers differ.
 #[inline]
 fn differs(x: i64, y: i64) -> bool
     ensures { result ≡ not (int_eq x y) }
@@ -79,7 +79,7 @@ fn differs(x: i64, y: i64) -> bool
     x != y
 }
 
-/// A word as a signed number.
+/// Returns a word as a signed number.
 #[inline]
 #[tactic(auto, using(crate::proofs::Wide::signed_cast))]
 fn signed(word: u32) -> i64
@@ -88,8 +88,8 @@ fn signed(word: u32) -> i64
     word.cast_signed() as i64
 }
 
-/// A word that is read as signed, taken to the nearest number of a range, and whether that is
-/// another one.
+/// Returns the number of a range that is nearest to a word, read as signed, and whether it differs
+/// from the word.
 #[inline]
 #[tactic(auto, unfolding(reference::specs::Fields::saturated))]
 fn saturated_within(is_signed: bool, bits: u8, word: u32) -> (u32, bool)
@@ -101,7 +101,7 @@ fn saturated_within(is_signed: bool, bits: u8, word: u32) -> (u32, bool)
     (low_word(given), differs(given, value))
 }
 
-/// The same for any number of bits.
+/// Returns what `saturated_within` does, for any number of bits.
 #[inline]
 #[tactic(auto, using(crate::proofs::Ranges::none_beyond))]
 fn saturated(is_signed: bool, bits: u8, word: u32) -> (u32, bool)

@@ -7,7 +7,7 @@ use crate::results::{logical, write};
 use reference::operands::ShiftByRegister;
 use regs::{Regs, shift_c};
 
-/// The shifted register, and its carry.
+/// Returns the shifted register, and its carry.
 #[inline]
 fn shifted_by_register(operands: &ShiftByRegister, regs: &Regs) -> (u32, bool)
     ensures { result ≡ shifted_by_register operands.now regs.now }

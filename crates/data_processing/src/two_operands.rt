@@ -9,7 +9,8 @@ use reference::operands::{DataImmediate, DataOperation, DataRegister, Immediate,
 use reference::registers::{Flags, Register};
 use regs::{Regs, add_with_carry};
 
-/// What an operation makes of two operands, and the flags. The carry is the second operand's.
+/// Returns the result of an operation on two operands, and the flags. The carry is the second
+/// operand's.
 #[inline]
 #[tactic(auto, unfolding(reference::specs::TwoOperands::computed))]
 fn computed(operation: DataOperation, x: u32, y: u32, carry: bool, flags: Flags) -> (u32, Flags)
@@ -29,7 +30,7 @@ fn computed(operation: DataOperation, x: u32, y: u32, carry: bool, flags: Flags)
     }
 }
 
-/// The operation on a register and a number.
+/// Returns the operation on a register and a number.
 #[inline]
 pub(crate) fn with_immediate(
     operation: DataOperation,
@@ -49,7 +50,7 @@ pub(crate) fn with_immediate(
     )
 }
 
-/// The operation on a register and a shifted one.
+/// Returns the operation on a register and a shifted one.
 #[inline]
 pub(crate) fn with_shifted(
     operation: DataOperation,

@@ -73,7 +73,7 @@ run_on breakpoints (suc n) s =
     if ends_at breakpoints s then end_piece s ∷ []
     else step_piece s ∷ run_on breakpoints n (step s).state
 
--- a run of at most n steps: no breakpoint is asked about before its first step, and a stopped machine makes none
+-- a run of at most n steps: no breakpoint is tested before its first step, and a stopped machine makes none
 abbrev pub run_pieces : List ℕ → ℕ → State → List Piece
 run_pieces breakpoints n s =
     if is_some s.stop then end_piece s ∷ []

@@ -1,4 +1,4 @@
--- A session: the bytes that it hears, one after another, and what it answers (profile).
+-- A session: the bytes that it reads, one after another, and its answers (profile).
 use Rattle.std.specs.Prelude.{◌≡◌, ◌⊎◌, ℕ, ◌+◌, ◌-◌, ◌^◌, Bool, true, false, not, ◌==◌, if◌then◌else◌, List, [], ◌∷◌}
 use Rattle.std.specs.Prelude.{◌++◌, length, Option, Some, None, Result, Ok, Err}
 use Rattle.std.specs.Io.KnownBytes.{Appends, Consumes, IsAtEnd, Keeps}
@@ -37,7 +37,7 @@ pub record Talk : Type 0 where
   pub breakpoints : List ℕ
   -- the line so far, None where it's too long
   pub line : Option (List ℕ)
-  -- whether no `quit` was heard
+  -- whether no `quit` was read
   pub is_open : Bool
 
 -- a session of a machine before the first byte
@@ -80,7 +80,7 @@ abbrev pub GoesOn : {E : Type 0} → Talk → Kept → Result Bool E → Type 0
 GoesOn t k (Ok goes_on) = (k ≡ record { breakpoints = t.breakpoints; line = t.line }) × (goes_on ≡ t.is_open)
 GoesOn t k (Err fault) = Unit {0}
 
--- ---- all bytes; none is heard after `quit`
+-- ---- all bytes; none is read after `quit`
 
 unfoldable pub after_bytes : Talk → List ℕ → Talk
 after_bytes t [] = t
@@ -107,7 +107,7 @@ pub record TellsAll (pieces : List Piece) (old new : Whole) (before after : Sink
   pub stands : new ≡ record old { state = last_state old.state pieces }
   pub quiet : after.faults ≡ before.faults
 
--- a call failed in one of the pieces: those before it went out, and a beginning of it, and the machine is in its state
+-- a call failed in one of the pieces: those before it went out, and a prefix of it, and the machine is in its state
 pub record TellsPart (pieces : List Piece) (old new : Whole) (before after : Sink) : Type 0 where
   pub done : List Piece
   pub piece : Piece
@@ -128,7 +128,7 @@ pub record Source : Type 0 where
   pub left : Option (List ℕ)
   pub misses : ℕ
 
--- the bytes that a session heard are those that the reader gave, and no call of it failed
+-- the bytes that a session read are those that the reader returned, and no call of it failed
 pub record Hears (given : List ℕ) (before after : Source) : Type 0 where
   pub gave : Consumes before.left after.left given
   pub quiet : after.misses ≡ before.misses
@@ -146,7 +146,7 @@ Ends s given after pieces =
     ⊎ (((after_bytes (opened s) given).is_open ≡ false) × (pieces ≡ answers (opened s) given)
     ⊎ (length given ≡ 2 ^ 64 - 1) × (pieces ≡ answers (opened s) given))
 
--- the whole session: the answers to what was heard went out
+-- the whole session: the answers to what was read went out
 pub record Holds (old new : Whole) (before after : Source) (out out' : Sink) : Type 0 where
   pub given : List ℕ
   pub heard : Hears given before after
@@ -154,14 +154,14 @@ pub record Holds (old new : Whole) (before after : Source) (out out' : Sink) : T
   pub ends : Ends old.state given after pieces
   pub told : TellsAll pieces old new out out'
 
--- the reader failed: what it gave before was heard, and the whole lines are answered
+-- the reader failed: what it returned before was read, and the whole lines are answered
 pub record FailsToRead (old new : Whole) (before after : Source) (out out' : Sink) : Type 0 where
   pub given : List ℕ
   pub gave : Consumes before.left after.left given
   pub missed : after.misses ≡ before.misses + 1
   pub told : TellsAll (answers (opened old.state) given) old new out out'
 
--- the writer failed in the answers to what was heard
+-- the writer failed in the answers to what was read
 pub record FailsToWrite (old new : Whole) (before after : Source) (out out' : Sink) : Type 0 where
   pub given : List ℕ
   pub heard : Hears given before after

@@ -1,4 +1,4 @@
-//! A session: lines are heard byte by byte, and each is answered.
+//! A session: lines are read byte by byte, and each is answered.
 
 ghost use Rattle.std.specs.Prelude.{◌≡◌, [], Some, Ok, IfOk};
 ghost use Rattle.debugger.specs.Answers.{answer, reply_text};
@@ -92,7 +92,7 @@ impl Debugger {
         }
     }
 
-    /// Answers the line that was heard, and begins the next one. Returns whether the session goes on.
+    /// Answers the line that was read, and begins the next one. Returns whether the session goes on.
     fn answer_line<D: Decider, C: CodeLines, L: Levels, U: DueTicks, W: Out>(
         &mut self,
         machine: &mut Machine<D, C, L, U>,
@@ -109,7 +109,7 @@ impl Debugger {
         }
     }
 
-    /// Hears a byte. Returns whether the session goes on.
+    /// Takes a byte of the input. Returns whether the session goes on.
     fn hear<D: Decider, C: CodeLines, L: Levels, U: DueTicks, W: Out>(
         &mut self,
         machine: &mut Machine<D, C, L, U>,

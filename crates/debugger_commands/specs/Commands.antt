@@ -1,4 +1,4 @@
--- The commands of a session, and the lines that give them (profile).
+-- The commands of a session, and their lines (profile).
 use Rattle.std.specs.Prelude.{ℕ, ◌-◌, Bool, true, false, if◌then◌else◌, List, codes, bytes_eq, Option, Some, None}
 use Rattle.std.specs.Prelude.{Result, Ok, Err}
 use Rattle.debugger_commands.specs.declared.commands.Command.{Command}

@@ -3,13 +3,13 @@ use Rattle.std.specs.Prelude.{ℕ, ◌+◌, ◌-◌, ◌*◌, ◌^◌, nat_lt, n
 use Rattle.std.specs.Prelude.{[], ◌∷◌, ◌++◌, length, take, drop, position, codes, bytes_eq, Option, Some, None}
 use Rattle.debugger_commands.specs.declared.listener.TheConstants.{MOST_BYTES}
 
--- ---- a line that is being heard, None where it's too long
+-- ---- a line that is being read, None where it's too long
 
 abbrev pub with_byte : Option (List ℕ) → ℕ → Option (List ℕ)
 with_byte None byte = None
 with_byte (Some line) byte = if nat_lt (length line) MOST_BYTES then Some (line ++ byte ∷ []) else None
 
--- whether no byte was heard
+-- whether no byte was read
 abbrev pub is_empty : Option (List ℕ) → Bool
 is_empty None = false
 is_empty (Some []) = true

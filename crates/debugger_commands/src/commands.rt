@@ -13,7 +13,7 @@ use reference::access::Kind;
 /// The most steps of one command.
 const MOST_STEPS: u32 = 1_000_000;
 
-/// What a line asks for.
+/// The command of a line.
 #[derive(Clone, Copy)]
 pub enum Command {
     /// Make at most this many steps: `run n`, and `step` for one.
@@ -32,7 +32,7 @@ pub enum Command {
     Quit,
 }
 
-/// Why a line gives no command.
+/// Why a line is no command.
 #[derive(Clone, Copy)]
 pub enum LineFault {
     /// There is no such command, it takes another number of words, or the line is too long.

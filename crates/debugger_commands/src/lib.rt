@@ -1,4 +1,4 @@
-//! The lines of a debug session: how they are heard, which commands they give, and the texts of
+//! The lines of a debug session: how they are read, which commands they are, and the texts of
 //! answers.
 #![tactic(auto)]
 

@@ -1,4 +1,4 @@
-//! The line that is being heard.
+//! The line that is being read.
 
 ghost use Rattle.std.specs.Prelude.{◌≡◌, [], Some, option_map};
 ghost use Rattle.debugger_commands.specs.Words.{is_empty, with_byte};
@@ -54,7 +54,7 @@ impl Listener {
         }
     }
 
-    /// Returns whether no byte was heard.
+    /// Returns whether the line has no byte.
     pub fn is_empty(&self) -> bool
         ensures { result ≡ is_empty self.now }
     {

@@ -1,3 +1,3 @@
--- What becomes of kept lines. What a halfword means stands in the crate `reference`.
+-- Which lines are kept. The decoding of halfwords is defined in the crate `reference`.
 pub use Rattle.reference.specs.Decoding
 pub mod Lines

@@ -31,7 +31,7 @@ macro_rules! offset {
     };
 }
 
-/// Returns what two halfwords mean by these rows.
+/// Decodes two halfwords by these rows.
 #[tactic(auto, unfolding(encodings::specs::Masks::by_masks))]
 pub(crate) fn long_control_rows(x: u32) -> Option<Decoded>
     ensures { result ≡ by_masks long_control_rows x }

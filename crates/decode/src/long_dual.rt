@@ -32,7 +32,7 @@ macro_rules! address {
     };
 }
 
-/// Returns what two halfwords mean by these rows.
+/// Decodes two halfwords by these rows.
 #[tactic(auto, unfolding(encodings::specs::Masks::by_masks))]
 pub(crate) fn dual_rows(x: u32) -> Option<Decoded>
     ensures { result ≡ by_masks dual_rows x }

@@ -37,7 +37,7 @@ macro_rules! address {
     };
 }
 
-/// Returns what two halfwords mean by these rows.
+/// Decodes two halfwords by these rows.
 #[tactic(auto, unfolding(encodings::specs::Masks::by_masks))]
 pub(crate) fn narrow_load_rows(x: u32) -> Option<Decoded>
     ensures { result ≡ by_masks narrow_load_rows x }
@@ -82,7 +82,7 @@ pub(crate) fn narrow_load_rows(x: u32) -> Option<Decoded>
     }
 }
 
-/// Returns what two halfwords mean by these rows.
+/// Decodes two halfwords by these rows.
 #[tactic(auto, unfolding(encodings::specs::Masks::by_masks))]
 pub(crate) fn word_load_rows(x: u32) -> Option<Decoded>
     ensures { result ≡ by_masks word_load_rows x }
@@ -181,7 +181,7 @@ fn load_at(form: LoadForm, t: Register, address: ImmediateAddress) -> Decoded
     placed_unless(refused, InstructionLength::Long, place, instruction)
 }
 
-/// Returns the same as by unprivileged code, which goes neither to SP nor to PC.
+/// Returns an unprivileged load, which goes neither to SP nor to PC.
 #[tactic(auto, unfolding(reference::specs::LongLoad::load_unprivileged_row))]
 fn load_unprivileged(form: LoadForm, t: Register, address: ImmediateAddress) -> Decoded
     ensures { result ≡ load_unprivileged_row form t address }
@@ -228,7 +228,7 @@ fn memory_hint(half: u32) -> Decoded
     long(Instruction::System(System::Hint(hint)))
 }
 
-/// Returns the same at two registers.
+/// Returns PLD and PLI at two registers, likewise.
 #[tactic(auto, unfolding(reference::specs::LongLoad::memory_hint_indexed_row))]
 fn memory_hint_indexed(half: u32, m: Register) -> Decoded
     ensures { result ≡ memory_hint_indexed_row half m }

@@ -16,7 +16,7 @@ use reference::operands::{ListOrder, LoadMultiple, StoreMultiple};
 use reference::registers::{Register, RegisterList};
 use reference::stop::UnpredictableCase;
 
-/// Returns what two halfwords mean by these rows.
+/// Decodes two halfwords by these rows.
 #[tactic(auto, unfolding(encodings::specs::Masks::by_masks))]
 pub(crate) fn multiple_rows(x: u32) -> Option<Decoded>
     ensures { result ≡ by_masks multiple_rows x }

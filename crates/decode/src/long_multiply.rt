@@ -14,7 +14,7 @@ use reference::operands::{
 };
 use reference::registers::Register;
 
-/// Returns what two halfwords mean by these rows.
+/// Decodes two halfwords by these rows.
 #[tactic(auto, unfolding(encodings::specs::Masks::by_masks))]
 pub(crate) fn product_rows(x: u32) -> Option<Decoded>
     ensures { result ≡ by_masks product_rows x }

@@ -28,7 +28,7 @@ macro_rules! source {
     };
 }
 
-/// Returns what two halfwords mean by these rows.
+/// Decodes two halfwords by these rows.
 #[tactic(auto, unfolding(encodings::specs::Masks::by_masks))]
 pub(crate) fn plain_rows(x: u32) -> Option<Decoded>
     ensures { result ≡ by_masks plain_rows x }

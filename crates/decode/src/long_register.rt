@@ -19,7 +19,7 @@ use reference::operands::{Extend, Rearrange, Rearrangement, ShiftByRegister};
 use reference::registers::Register;
 use reference::shift::ShiftType;
 
-/// Returns what two halfwords mean by these rows.
+/// Decodes two halfwords by these rows.
 #[tactic(auto, unfolding(encodings::specs::Masks::by_masks))]
 pub(crate) fn register_rows(x: u32) -> Option<Decoded>
     ensures { result ≡ by_masks register_rows x }

@@ -42,7 +42,7 @@ macro_rules! data {
     };
 }
 
-/// Returns what two halfwords mean by these rows.
+/// Decodes two halfwords by these rows.
 #[tactic(auto, unfolding(encodings::specs::Masks::by_masks))]
 pub(crate) fn logical_shifted_rows(x: u32) -> Option<Decoded>
     ensures { result ≡ by_masks logical_shifted_rows x }
@@ -72,7 +72,7 @@ pub(crate) fn logical_shifted_rows(x: u32) -> Option<Decoded>
     }
 }
 
-/// Returns what two halfwords mean by these rows.
+/// Decodes two halfwords by these rows.
 #[tactic(auto, unfolding(encodings::specs::Masks::by_masks))]
 pub(crate) fn sum_shifted_rows(x: u32) -> Option<Decoded>
     ensures { result ≡ by_masks sum_shifted_rows x }

@@ -13,7 +13,7 @@ use reference::instruction::{Decoded, Instruction, LoadStore};
 use reference::operands::{ImmediateAddress, RegisterAddress, StoreImmediate, StoreRegister};
 use reference::registers::Register;
 
-/// Returns what two halfwords mean by these rows.
+/// Decodes two halfwords by these rows.
 #[tactic(auto, unfolding(encodings::specs::Masks::by_masks))]
 pub(crate) fn store_rows(x: u32) -> Option<Decoded>
     ensures { result ≡ by_masks store_rows x }
@@ -89,7 +89,7 @@ fn store_at(size: Size, t: Register, address: ImmediateAddress) -> Decoded
     long_unless(refused, instruction)
 }
 
-/// Returns the same as by unprivileged code, which stores neither SP nor PC.
+/// Returns an unprivileged store, which stores neither SP nor PC.
 #[tactic(auto, unfolding(reference::specs::LongStore::store_unprivileged_row))]
 fn store_unprivileged(size: Size, t: Register, address: ImmediateAddress) -> Decoded
     ensures { result ≡ store_unprivileged_row size t address }

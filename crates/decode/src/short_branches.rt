@@ -11,7 +11,7 @@ use encodings::rows;
 use reference::instruction::{BlockPlace, Branch, Decoded, Instruction, InstructionLength, System};
 use reference::operands::{ConditionalBranch, Offset};
 
-/// Returns what a halfword means by these rows.
+/// Decodes a halfword by these rows.
 #[tactic(auto, unfolding(encodings::specs::Masks::by_masks))]
 pub(crate) fn branch_rows(x: u32) -> Option<Decoded>
     ensures { result ≡ by_masks branch_rows x }

@@ -21,7 +21,7 @@ use reference::registers::Register;
 use reference::shift::ShiftType;
 use reference::shift::ShiftType::{Asr, Lsl, Lsr, Ror};
 
-/// Returns what a halfword means by these rows.
+/// Decodes a halfword by these rows.
 #[tactic(auto, unfolding(encodings::specs::Masks::by_masks))]
 pub(crate) fn data_low_rows(x: u32) -> Option<Decoded>
     ensures { result ≡ by_masks data_low_rows x }
@@ -48,7 +48,7 @@ pub(crate) fn data_low_rows(x: u32) -> Option<Decoded>
     }
 }
 
-/// Returns what a halfword means by these rows.
+/// Decodes a halfword by these rows.
 #[tactic(auto, unfolding(encodings::specs::Masks::by_masks))]
 pub(crate) fn data_high_rows(x: u32) -> Option<Decoded>
     ensures { result ≡ by_masks data_high_rows x }

@@ -19,7 +19,7 @@ use reference::operands::{
 use reference::registers::{Register, RegisterList};
 use reference::stop::UnpredictableCase;
 
-/// Returns what a halfword means by these rows.
+/// Decodes a halfword by these rows.
 #[tactic(auto, unfolding(encodings::specs::Masks::by_masks))]
 pub(crate) fn literal_and_register_rows(x: u32) -> Option<Decoded>
     ensures { result ≡ by_masks literal_and_register_rows x }
@@ -49,7 +49,7 @@ pub(crate) fn literal_and_register_rows(x: u32) -> Option<Decoded>
     }
 }
 
-/// Returns what a halfword means by these rows.
+/// Decodes a halfword by these rows.
 #[tactic(auto, unfolding(encodings::specs::Masks::by_masks))]
 pub(crate) fn immediate_and_list_rows(x: u32) -> Option<Decoded>
     ensures { result ≡ by_masks immediate_and_list_rows x }

@@ -24,7 +24,7 @@ use reference::operands::{
 use reference::registers::{Register, RegisterList};
 use reference::stop::UnpredictableCase;
 
-/// Returns what a halfword means by these rows.
+/// Decodes a halfword by these rows.
 #[tactic(auto, unfolding(encodings::specs::Masks::by_masks))]
 pub(crate) fn adjusting_rows(x: u32) -> Option<Decoded>
     ensures { result ≡ by_masks adjusting_rows x }
@@ -46,7 +46,7 @@ pub(crate) fn adjusting_rows(x: u32) -> Option<Decoded>
     }
 }
 
-/// Returns what a halfword means by these rows.
+/// Decodes a halfword by these rows.
 #[tactic(auto, unfolding(encodings::specs::Masks::by_masks))]
 pub(crate) fn controlling_rows(x: u32) -> Option<Decoded>
     ensures { result ≡ by_masks controlling_rows x }

@@ -17,7 +17,7 @@ use reference::operands::{
 use reference::registers::Register;
 use regs::decode_imm_shift;
 
-/// Returns what a halfword means by these rows.
+/// Decodes a halfword by these rows.
 #[tactic(auto, unfolding(encodings::specs::Masks::by_masks))]
 pub(crate) fn shifts_and_moves(x: u32) -> Option<Decoded>
     ensures { result ≡ by_masks shifts_and_moves x }

@@ -17,7 +17,7 @@ use reference::operands::{
 };
 use reference::registers::Register;
 
-/// Returns what a halfword means by these rows.
+/// Decodes a halfword by these rows.
 #[tactic(auto, unfolding(encodings::specs::Masks::by_masks))]
 pub(crate) fn special_rows(x: u32) -> Option<Decoded>
     ensures { result ≡ by_masks special_rows x }

@@ -1,4 +1,4 @@
-//! What an ELF file brings.
+//! The image in an ELF file.
 
 ghost use Rattle.std.specs.Prelude.{◌≡◌, [], map};
 ghost use Rattle.elf.specs.Segment.{segment_of};
@@ -9,14 +9,14 @@ use std::marker::Model;
 /// How many segments an image has at most, and how many program headers a file.
 pub const MOST_SEGMENTS: usize = 64;
 
-/// Bytes of the file that stand at an address before the first step.
+/// Bytes of the file that are at an address before the first step.
 #[derive(Clone, Copy)]
 pub struct Segment<'a> {
     pub address: u32,
     pub bytes: &'a [u8],
 }
 
-// A segment of no bytes, for the places of an image that hold none.
+// A segment of no bytes, for the unused elements of an image.
 impl Default for Segment<'_> {
     ghost is_default = { λ segment. segment_of segment ≡ record { address = 0; bytes = [] } };
 
@@ -28,7 +28,7 @@ impl Default for Segment<'_> {
     }
 }
 
-/// What an ELF file brings: its segments, in the file's order. A contract sees the list of them.
+/// The image in an ELF file: its segments, in the file's order. A contract sees the list of them.
 #[derive(Drop)]
 pub struct Image<'a> {
     segments: ArrayVec<Segment<'a>, MOST_SEGMENTS>,
@@ -46,14 +46,14 @@ impl<'a> Model for Image<'a> {
 }
 
 impl<'a> Image<'a> {
-    /// The segments, in the file's order.
+    /// Returns the segments, in the file's order.
     pub fn segments(&self) -> &[Segment<'a>]
         ensures { map segment_of result.now ≡ self.now }
     {
         self.segments.as_slice()
     }
 
-    // The image of a file that brings nothing.
+    // Returns the image of a file without segments.
     pub(crate) fn empty() -> Self
         ensures { result ≡ [] }
     {

@@ -1,5 +1,5 @@
-//! The loader of ELF files (TIS ELF 1.2, "Object Files"): which bytes a file brings, and where they
-//! stand before the first step. README.md says what is proved.
+//! The loader of ELF files (TIS ELF 1.2, "Object Files"): which bytes a file loads, and where they
+//! are before the first step. README.md says what is proved.
 #![tactic(auto)]
 
 ghost use Rattle.std.specs.Prelude.{◌≡◌, ◌≤◌, length, IfOk};
@@ -42,8 +42,8 @@ const ET_EXEC: u16 = 2;
 
 const EM_ARM: u16 = 40;
 
-/// The image that an ELF file holds, or why the machine doesn't take the file: the first refusal in
-/// the order in which the file is looked at.
+/// Returns the image that an ELF file holds, or why the machine doesn't take the file: the first
+/// refusal in the order in which the file is checked.
 #[tactic(auto, unfolding(reference::specs::Images::image_of))]
 pub fn load(bytes: &[u8]) -> Result<Image<'_>, LoadFault>
     ensures image { result ≡ image_of bytes.now }
@@ -82,8 +82,8 @@ fn is_32_bit_little(file: &[u8]) -> bool
     file[EI_CLASS] == ELFCLASS32 && file[EI_DATA] == ELFDATA2LSB
 }
 
-// What the program header table brings. A file that has none isn't asked for the size of a program
-// header.
+// Returns the image of the program header table. Where a file has none, the size of a program
+// header isn't checked.
 #[tactic(auto, using(crate::proofs::Overlaps::none_apart))]
 fn image_of_table(file: &[u8]) -> Result<Image<'_>, LoadFault>
     requires { ELF_HEADER_SIZE ≤ length file.now }

@@ -7,8 +7,8 @@ ghost use Rattle.elf.specs.Segment.{segment_of};
 
 use crate::image::Segment;
 
-// Whether some segment shares an address with a later one. The second clause says the same of all
-// pairs and all addresses.
+// Whether some segment shares an address with a later one. The second clause says so for all pairs
+// and all addresses.
 pub fn have_overlap(segments: &[Segment<'_>]) -> bool
     ensures test { result ≡ have_overlap (map segment_of segments.now) }
     ensures apart { result ≡ false ↔ AreAllApart (map segment_of segments.now) }

@@ -41,17 +41,17 @@ excepted texts x = list_any (λ text. by_text place_0 place_1 text x) texts
 unfoldable pub chosen : Bool → Bool → Bool
 chosen fits except = fits && not except
 
--- what a row makes of the number
+-- the decoding of the number by a row
 abbrev pub outcome_of : Row → ℕ → Decoded
 outcome_of row x = as_printed (by_text place_z place_o row.places x) (row.gives (letters (value_at row.places x)))
 
--- what the first row that applies makes of the number
+-- the decoding of the number by the first row that applies
 unfoldable pub by_masks : List Row → ℕ → Option Decoded
 by_masks [] x = None
 by_masks (row ∷ rows) x =
     if chosen (by_text place_0 place_1 row.places x) (excepted row.except x) then Some (outcome_of row x) else by_masks rows x
 
--- what a table makes of a number, and otherwise the next
+-- the decoding of a number by a table, and otherwise by the next
 abbrev pub first_of : Option Decoded → Decoded → Decoded
 first_of None otherwise = otherwise
 first_of (Some decoded) otherwise = decoded

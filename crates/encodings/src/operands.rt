@@ -52,7 +52,7 @@ pub fn number(value: u32) -> Immediate
 }
 
 /// Returns a modified immediate as an operand, from its twelve bits and what they expand to: the
-/// carry stays in the byte patterns, and otherwise is what came out last.
+/// carry stays in the byte patterns, and otherwise is the last bit shifted out.
 #[inline]
 pub fn operand_of(imm12: u16, expanded: Option<(u32, bool)>) -> Option<Immediate>
     ensures { result ≡ operand_of imm12 expanded }

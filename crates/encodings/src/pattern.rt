@@ -153,8 +153,8 @@ impl Letters<'_> {
     }
 }
 
-/// Returns what the first row that applies makes of a number. A row is its text, the exceptions to
-/// it, and what it makes of its fields.
+/// Returns the decoding of a number by the first row that applies. A row is its text, the
+/// exceptions to it, and the decoding of its fields.
 #[macro_export]
 macro_rules! rows {
     ($x:ident; $([$($place:tt)*] $(except [$($other:tt)*])* => |$f:ident| $outcome:expr,)*) => {{

@@ -16,7 +16,7 @@ use reference::event::{Event, Happening, MOST_EVENTS};
 use reference::failure::Failure;
 use trace::sink::Sink;
 
-/// The accesses that an instruction, or a frame, asks for, in their order.
+/// The accesses of an instruction, or of a frame, in their order.
 pub type Requests = Bounded<Request, MOST_REQUESTS>;
 
 /// The values that an instruction read, in the order of its accesses.
@@ -116,7 +116,7 @@ pub fn fetch_known<D: Decider, C: CodeLines, L: Levels, U: DueTicks, S: Sink>(
     }
 }
 
-/// The line of an access that was decided.
+/// Returns the line of an access that was decided.
 #[inline]
 fn accessed(tick: u64, request: &Request, rule: Rule, refused: Option<Cause>) -> Event
     ensures { result ≡ accessed tick request.now rule refused }
@@ -131,7 +131,7 @@ fn accessed(tick: u64, request: &Request, rule: Rule, refused: Option<Cause>) ->
     }
 }
 
-/// The line of a word whose low byte goes to the console.
+/// Returns the line of a word whose low byte goes to the console.
 fn console_line(tick: u64, word: u32) -> Event
     ensures { result ≡ record { tick = tick; what = ConsoleByte (word % 256) } }
 {

@@ -79,7 +79,7 @@ impl<D: Decider, C: CodeLines, L: Levels, U: DueTicks> Core<D, C, L, U> {
         }
     }
 
-    /// Takes the candidate of this moment: a Vector step.
+    /// Takes the current candidate: a Vector step.
     #[tactic(auto, unfolding(reference::specs::ExceptionEntry::take_vector))]
     pub fn take_vector<S: Sink>(&mut self, events: &mut S, exc_return: u32)
         requires { (S.emitted events.old).events ≡ [] }
@@ -144,7 +144,8 @@ impl<D: Decider, C: CodeLines, L: Levels, U: DueTicks> Core<D, C, L, U> {
         self.entry = None;
     }
 
-    /// Makes HardFault pending where a vector is refused; it is lockup for NMI and HardFault.
+    /// Makes HardFault pending where the read of a vector is refused; for NMI and HardFault it is
+    /// lockup.
     fn refuse_vector<S: Sink>(&mut self, events: &mut S, exception: u16)
         requires { length (S.emitted events.old).events < MOST_EVENTS }
         ensures state { self.new ≡ (vector_refused self.old (S.emitted events.old).events exception).state }

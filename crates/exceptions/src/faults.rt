@@ -21,7 +21,7 @@ use trace::sink::Sink;
 /// The length of SVC in bytes.
 const SVC_LENGTH: u32 = 2;
 
-/// A fault of MemManage.
+/// Returns a fault of MemManage.
 fn mem_manage(bits: u32, address: FaultAddress) -> FaultEffect
     ensures { result ≡ mem_manage_of bits address }
 {
@@ -33,7 +33,7 @@ fn mem_manage(bits: u32, address: FaultAddress) -> FaultEffect
     }
 }
 
-/// A fault of BusFault.
+/// Returns a fault of BusFault.
 fn bus_fault(bits: u32, address: FaultAddress) -> FaultEffect
     ensures { result ≡ bus_fault_of bits address }
 {
@@ -45,7 +45,7 @@ fn bus_fault(bits: u32, address: FaultAddress) -> FaultEffect
     }
 }
 
-/// A fault of UsageFault.
+/// Returns a fault of UsageFault.
 fn usage_fault(bit: u32) -> FaultEffect
     ensures { result ≡ usage_fault_of_bit bit }
 {
@@ -57,7 +57,7 @@ fn usage_fault(bit: u32) -> FaultEffect
     }
 }
 
-/// The fault of a vector that can't be read.
+/// Returns the fault of a vector that can't be read.
 pub fn vector_fault() -> FaultEffect
     ensures { result ≡ vector_fault_of }
 {
@@ -163,7 +163,8 @@ impl<D: Decider, C: CodeLines, L: Levels, U: DueTicks> Core<D, C, L, U> {
         self.end(Stop::Lockup);
     }
 
-    /// Records a fault, and pends its exception by the priority of this moment.
+    /// Records a fault; pends its exception or HardFault, or locks up, by the current execution
+    /// priority.
     #[tactic(auto, unfolding(reference::specs::Faults::faulted))]
     pub fn raise<S: Sink>(&mut self, events: &mut S, fault: FaultEffect)
         requires { length (S.emitted events.old).events < MOST_EVENTS }

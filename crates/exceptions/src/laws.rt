@@ -1,6 +1,6 @@
-//! What the constants are that the definitions cite (ARM DDI 0403, "Exception number definition",
-//! "Configurable Fault Status Register" and "HardFault Status Register"): each law is the contract of
-//! a function that does nothing.
+//! The values of the constants that the definitions cite (ARM DDI 0403, "Exception number
+//! definition", "Configurable Fault Status Register" and "HardFault Status Register"): each law is
+//! the contract of a function that does nothing.
 
 ghost use Rattle.std.specs.Prelude.{◌≡◌, ◌^◌, ◌+◌};
 

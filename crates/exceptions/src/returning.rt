@@ -22,10 +22,10 @@ use reference::stop::{Stop, UnpredictableCase};
 use regs::{Regs, returns_on_psp, returns_to_handler};
 use trace::sink::Sink;
 
-/// Where the return address stands in a frame.
+/// The index of the return address in a frame.
 const PC: usize = 6;
 
-/// Where xPSR stands in a frame.
+/// The index of xPSR in a frame.
 const XPSR: usize = 7;
 
 /// Returns whether bits 27:4 of an EXC_RETURN are ones.
@@ -42,7 +42,7 @@ fn returns_to_thread(exc_return: u32) -> bool
     exc_return & 15 == 9 || returns_on_psp(exc_return)
 }
 
-/// Returns whether a frame has an exception's number exactly where an EXC_RETURN names Handler mode.
+/// Returns whether a frame's IPSR is nonzero exactly where EXC_RETURN names Handler mode.
 fn fits_mode(exc_return: u32, frame: &[u32]) -> bool
     requires { length frame.now ≡ 8 }
     ensures { result ≡ fits_mode_of exc_return frame.now }
@@ -115,7 +115,7 @@ impl<D: Decider, C: CodeLines, L: Levels, U: DueTicks> Core<D, C, L, U> {
                         || self.bus.system.status().nonbasethrdena()))
     }
 
-    /// Ends the handler's exception: `DeActivate()`. FAULTMASK becomes 0 but after NMI.
+    /// Deactivates the handler's exception: `DeActivate()`. FAULTMASK becomes 0, except after NMI.
     fn end_exception(&mut self)
         ensures { self.new ≡ with_system self.old (exception_ended self.old.bus.system self.old.registers.exception) }
     {

@@ -22,7 +22,7 @@ const LR: u8 = 14;
 
 // ---- the family
 
-/// Appends what a branch asks for: the entry of the table for TBB and TBH.
+/// Appends the accesses of a branch: the entry of the table for TBB and TBH.
 #[inline]
 #[tactic(auto, unfolding(reference::specs::Branches::branch_requests))]
 pub fn plan(
@@ -87,7 +87,7 @@ fn conditional_branch(
     move_on(regs, length)
 }
 
-/// LR is given the address of the next instruction, with bit 0 set.
+/// Writes the address of the next instruction to LR, with bit 0 set.
 #[inline]
 fn link(regs: &mut Regs, length: InstructionLength)
     ensures { regs.new ≡ with_link length regs.old }
@@ -119,7 +119,7 @@ fn branch_exchange(regs: &mut Regs, length: InstructionLength, operands: &Branch
     branched(regs)
 }
 
-/// Whether CBZ or CBNZ is taken.
+/// Returns whether CBZ or CBNZ is taken.
 #[inline]
 fn takes_branch(operands: &CompareAndBranch, regs: &Regs) -> bool
     ensures { result ≡ takes_branch operands.now regs.now }
@@ -143,7 +143,7 @@ fn compare_and_branch(
     move_on(regs, length)
 }
 
-/// The address of an entry of a table.
+/// Returns the address of an entry of a table.
 #[inline]
 fn entry_address(operands: &TableBranch, regs: &Regs) -> u32
     ensures { result ≡ entry_address operands.now regs.now }
@@ -162,7 +162,7 @@ fn table_branch(regs: &mut Regs, halfwords: u32) -> Ending
 
 // ---- IT
 
-/// The eight bits of a block that begins.
+/// Returns the eight bits of a block that begins.
 #[inline]
 fn begun(operands: &IfThen) -> u8
     ensures { result ≡ begun operands.now }

@@ -21,7 +21,7 @@ use regs::Regs;
 
 // ---- the family
 
-/// Appends what an exclusive asks for.
+/// Appends the access of an exclusive.
 #[tactic(auto, unfolding(reference::specs::Exclusives::exclusive_requests))]
 pub fn plan(instruction: &Exclusive, regs: &Regs, requests: &mut Requests) -> Result<(), Failure>
     requires { requests.old.items ≡ [] }
@@ -85,7 +85,7 @@ fn plan_store(
     ask(access, value, requests)
 }
 
-/// Marks the address of a load exclusive, and gives its register the value.
+/// Marks the address of a load exclusive, and writes the value to its register.
 fn finish_load(operands: &LoadExclusive, regs: &mut Regs, values: &[u32])
     ensures { regs.new ≡ with_register (with_mark regs.old (exclusive_address operands.now.base operands.now.offset regs.old) operands.now.size) operands.now.target (joined values.now) }
 {
@@ -94,7 +94,7 @@ fn finish_load(operands: &LoadExclusive, regs: &mut Regs, values: &[u32])
     regs.set(operands.target, joined(values));
 }
 
-/// Marks nothing, and gives the register of a store exclusive its status.
+/// Clears the mark, and writes the status of a store exclusive to its register.
 fn finish_store(operands: &StoreExclusive, regs: &mut Regs)
     ensures { regs.new ≡ with_register (without_mark regs.old) operands.now.status (store_status (passes operands.now regs.old)) }
 {

@@ -1,4 +1,4 @@
-//! What an instruction makes of the values that it read.
+//! What an instruction does with the values that it read.
 
 ghost use Rattle.std.specs.Prelude.{◌≡◌};
 ghost use Rattle.exec.specs.Plans.{finished_as};

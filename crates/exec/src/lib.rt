@@ -1,5 +1,5 @@
-//! What each instruction asks for, and what it makes of the answers (ARM DDI 0403, "Alphabetical
-//! list of ARMv7-M Thumb instructions": the operation of each).
+//! The accesses of each instruction, and what it does with the values that it reads (ARM DDI 0403,
+//! "Alphabetical list of ARMv7-M Thumb instructions": the operation of each).
 #![tactic(auto)]
 
 mod at_once;

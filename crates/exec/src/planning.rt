@@ -1,4 +1,5 @@
-//! What an instruction asks for: its place in an IT block, its condition and its family.
+//! The accesses of an instruction, after the checks of its position in an IT block and of its
+//! condition.
 
 ghost use Rattle.std.specs.Prelude.{◌≡◌, ◌≤◌, ◌&&◌, [], length, not};
 ghost use Rattle.exec.specs.Plans.{planned};
@@ -12,11 +13,11 @@ use reference::instruction::{BlockPlace, CodedInstruction, Instruction};
 use reference::stop::{Stop, UnpredictableCase};
 use regs::Regs;
 
-/// The accesses that an instruction asks for, in their order.
+/// The accesses of an instruction, in their order.
 pub type Requests = Bounded<Request, MOST_REQUESTS>;
 
-/// Fills `requests` with the accesses that an instruction asks for, unless it is a fault or stops.
-/// Where its condition fails it asks for none.
+/// Fills `requests` with the accesses of an instruction, unless it faults or stops. Where its
+/// condition fails it has none.
 #[inline]
 #[tactic(auto, unfolding(reference::specs::Operations::wants))]
 pub fn plan(
@@ -40,7 +41,7 @@ pub fn plan(
     asked
 }
 
-/// Appends what an instruction that is carried out asks for.
+/// Appends the accesses of an instruction that is carried out.
 #[inline]
 #[tactic(auto, unfolding(reference::specs::Operations::requests_of))]
 fn plan_family(
@@ -62,7 +63,8 @@ fn plan_family(
     }
 }
 
-/// Returns whether an instruction is allowed at its place in an IT block and its condition holds.
+/// Returns whether an instruction is allowed at its position in an IT block and its condition
+/// holds.
 #[inline(always)]
 pub fn goes_ahead(coded: &CodedInstruction, regs: &Regs) -> bool
     ensures { result ≡ (not (is_misplaced coded.now.place regs.now.it_state) && is_carried_out coded.now.instruction regs.now) }
@@ -70,7 +72,7 @@ pub fn goes_ahead(coded: &CodedInstruction, regs: &Regs) -> bool
     !is_misplaced(coded.place, regs) && is_carried_out(&coded.instruction, regs)
 }
 
-/// Whether an instruction isn't allowed at its place in an IT block.
+/// Returns whether an instruction isn't allowed at its position in an IT block.
 #[inline]
 pub fn is_misplaced(place: BlockPlace, regs: &Regs) -> bool
     ensures { result ≡ is_misplaced place regs.now.it_state }
@@ -82,7 +84,7 @@ pub fn is_misplaced(place: BlockPlace, regs: &Regs) -> bool
     }
 }
 
-/// Whether an instruction is carried out: its condition holds, or it has none.
+/// Returns whether an instruction is carried out: its condition holds, or it has none.
 #[inline]
 pub fn is_carried_out(instruction: &Instruction, regs: &Regs) -> bool
     ensures { result ≡ is_carried_out instruction.now regs.now }
@@ -90,7 +92,7 @@ pub fn is_carried_out(instruction: &Instruction, regs: &Regs) -> bool
     is_unconditional(instruction) || regs.condition_passed()
 }
 
-/// Whether an instruction is carried out whatever the condition is.
+/// Returns whether an instruction is carried out whatever the condition is.
 #[inline]
 fn is_unconditional(instruction: &Instruction) -> bool
     ensures { result ≡ is_unconditional instruction.now }

@@ -11,7 +11,7 @@ use regs::Regs;
 
 // ---- the end of an instruction
 
-/// The PC goes on by the length of the instruction.
+/// Advances IT, and the PC by the length of the instruction.
 #[inline]
 pub fn move_on(regs: &mut Regs, length: InstructionLength) -> Ending
     ensures { finished_as regs.new result ≡ moves_on length regs.old }
@@ -30,7 +30,7 @@ pub fn branched(regs: &mut Regs) -> Ending
     Ending::Next
 }
 
-/// Whether a register is the PC.
+/// Returns whether a register is the PC.
 #[inline]
 fn is_pc(register: Register) -> bool
     ensures { result ≡ (register == 15) }
@@ -40,7 +40,7 @@ fn is_pc(register: Register) -> bool
 
 // ---- writes of the PC
 
-/// A branch by an offset to the PC as an operand.
+/// Branches to the PC as an instruction reads it, plus an offset.
 #[inline]
 pub fn branch_by(regs: &mut Regs, offset: u32) -> Ending
     ensures { finished_as regs.new result ≡ branches_by offset regs.old }
@@ -50,7 +50,8 @@ pub fn branch_by(regs: &mut Regs, offset: u32) -> Ending
     branched(regs)
 }
 
-/// Whether a value returns from the exception: in Handler mode, where its bits 31:28 are all ones.
+/// Returns whether a value returns from the exception: in Handler mode, where its bits 31:28 are
+/// all ones.
 #[inline]
 fn is_exception_return(value: u32, regs: &Regs) -> bool
     ensures { result ≡ is_exception_return value regs.now }

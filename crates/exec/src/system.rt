@@ -1,5 +1,5 @@
 //! The instructions for special registers, the hints, SVC and BKPT (ARM DDI 0403, the operation of
-//! CPS, MSR, MRS, WFI, SVC, BKPT and the other hints). None asks for an access.
+//! CPS, MSR, MRS, WFI, SVC, BKPT and the other hints). None makes an access.
 
 ghost use Rattle.std.specs.Prelude.{◌≡◌};
 ghost use Rattle.exec.specs.Plans.{finished_as};
@@ -9,7 +9,7 @@ use crate::program_counter::move_on;
 use reference::instruction::{Ending, Hint, InstructionLength, System};
 use regs::Regs;
 
-/// Whether an instruction has no condition, not even that of an IT block.
+/// Returns whether an instruction has no condition, not even that of an IT block.
 #[inline]
 pub fn has_no_condition(instruction: &System) -> bool
     ensures { result ≡ has_no_condition instruction.now }
@@ -24,7 +24,8 @@ pub fn has_no_condition(instruction: &System) -> bool
     }
 }
 
-/// Carries out an instruction of that length. What it does beside the PC is its ending.
+/// Returns the ending of an instruction of that length: what it does besides advancing the PC. SVC
+/// and BKPT leave the PC where it is.
 #[inline]
 #[tactic(auto, unfolding(reference::specs::SystemInstructions::system_effect))]
 pub fn finish(length: InstructionLength, instruction: &System, regs: &mut Regs) -> Ending
@@ -47,7 +48,7 @@ pub fn finish(length: InstructionLength, instruction: &System, regs: &mut Regs) 
     }
 }
 
-/// The PC goes on, and something else is done.
+/// Advances IT, and the PC past the instruction, and returns this ending.
 #[inline]
 fn move_on_and(ending: Ending, regs: &mut Regs, length: InstructionLength) -> Ending
     ensures { finished_as regs.new result ≡ moves_on_and ending length regs.old }

@@ -10,18 +10,18 @@ use Rattle.reference.specs.State.{State}
 use Rattle.reference.specs.Step.{step}
 use Rattle.reference.specs.Text.{lines, stop_line}
 
--- the lines of all steps but the last one went out, and a beginning of that one's lines
+-- the lines of all steps but the last one went out, and a proper prefix of that one's lines
 abbrev pub CutInStep : State → ℕ → Option (List ℕ) → Option (List ℕ) → Type 0
 CutInStep s steps old new =
     (0 < steps) × IsCutAfter old new (lines (events_of (steps - 1) s)) (lines (step (after (steps - 1) s)).events)
 
--- the lines of all steps went out, and a beginning of the stop's line
+-- the lines of all steps went out, and a proper prefix of the stop's line
 abbrev pub CutInStop : ℕ → State → ℕ → Option (List ℕ) → Option (List ℕ) → Type 0
 CutInStop n s steps old new =
     ((steps ≡ n) ⊎ IsSome (after steps s).stop) × IsCutAfter old new (lines (events_of n s)) (stop_line (ending_of n s))
 
--- a run of at most n steps from a state was cut short after `steps` of them: each of them was made, the machine is
--- in the state after them, and what went out is a beginning of the trace
+-- a run of at most n steps from a state was cut short after `steps` of them: each of them was made, the machine is in
+-- the state after them, and what went out is a prefix of the trace
 pub record Leaves (n : ℕ) (s : State) (steps : ℕ) (old new : Option (List ℕ)) (last : State) : Type 0 where
   pub few : steps ≤ n
   pub made : (k : ℕ) → k < steps → (after k s).stop ≡ None

@@ -6,14 +6,14 @@ use Rattle.reference.specs.declared.fault.StartFault.{StartFault}
 use Rattle.reference.specs.declared.fault.StartFault.TheVariants.{SegmentOutsideMemory, NoMemory}
 use Rattle.reference.specs.State.{State}
 
--- a core stands in the start state; an image is refused where the definition refuses it; and memory was wanting only
--- where it refuses nothing
+-- a core is in the start state; an image is refused where the definition refuses it; and it's out of memory only where
+-- the definition refuses nothing
 abbrev pub StartsAt : Result State StartFault → Result State StartFault → Type 0
 StartsAt read (Ok s) = read ≡ Ok s
 StartsAt read (Err SegmentOutsideMemory) = read ≡ Err SegmentOutsideMemory
 StartsAt read (Err NoMemory) = IsOk read
 
--- the same of a machine, whose writer hasn't failed
+-- likewise for a machine, whose writer hasn't failed
 abbrev pub Starts : Result State StartFault → Result Whole StartFault → Type 0
 Starts read (Ok m) = (read ≡ Ok m.state) × (m.broken ≡ false)
 Starts read (Err SegmentOutsideMemory) = read ≡ Err SegmentOutsideMemory
@@ -24,7 +24,7 @@ abbrev pub PlacesAt : Result State PlaceFault → State → State → Result (Un
 PlacesAt read old new (Ok done) = read ≡ Ok new
 PlacesAt read old new (Err fault) = (read ≡ Err fault) × (new ≡ old)
 
--- the same of a machine
+-- likewise for a machine
 abbrev pub Places : Result State PlaceFault → Whole → Whole → Result (Unit {0}) PlaceFault → Type 0
 Places read old new (Ok done) = (read ≡ Ok new.state) × (new.broken ≡ old.broken)
 Places read old new (Err fault) = (read ≡ Err fault) × (new ≡ old)

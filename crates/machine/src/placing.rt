@@ -1,4 +1,4 @@
-//! Values that are placed into a core before it runs.
+//! Values that `place` puts into a core between its steps.
 
 ghost use Rattle.std.specs.Prelude.{◌≡◌, true};
 ghost use Rattle.machine.specs.Starts.{PlacesAt};
@@ -34,7 +34,7 @@ impl<D: Decider, C: CodeLines, L: Levels, U: DueTicks> Processor<D, C, L, U> {
         self.take(value)
     }
 
-    /// Whether there is such a register or such a word.
+    /// Returns whether there is such a register or such a word.
     fn is_there(&self, value: Place) -> bool
         ensures { result ≡ is_there self.now.bus.memory value }
     {
@@ -48,7 +48,7 @@ impl<D: Decider, C: CodeLines, L: Levels, U: DueTicks> Processor<D, C, L, U> {
         }
     }
 
-    /// Takes a value whose place is there.
+    /// Puts a value into a register or a word that exists.
     fn take(&mut self, value: Place) -> Result<(), PlaceFault>
         requires { is_there self.old.bus.memory value ≡ true }
         ensures { PlacesAt (taken self.old value) self.old self.new result }
@@ -80,7 +80,7 @@ impl<D: Decider, C: CodeLines, L: Levels, U: DueTicks> Processor<D, C, L, U> {
         Ok(())
     }
 
-    /// A store to the Private Peripheral Bus by privileged code, about which no rule is asked.
+    /// Returns a privileged store to the Private Peripheral Bus, which no rule decides.
     fn take_register(&mut self, address: u32, value: u32) -> Result<(), PlaceFault>
         requires { is_in_ppb address ≡ true }
         ensures { PlacesAt (taken self.old (Word address value)) self.old self.new result }
@@ -102,7 +102,7 @@ fn is_word_aligned(value: Place) -> bool
     }
 }
 
-/// A store of a word by privileged code.
+/// Returns a store of a word by privileged code.
 fn store_of(address: u32, value: u32) -> Request
     ensures { result ≡ store_of address value }
 {

@@ -18,8 +18,8 @@ use regs::Regs;
 use space::{Space, is_within};
 use std::alloc::Global;
 
-/// The core of a board, with an image in its memory, before the first step. The segments are looked
-/// at before any memory is taken.
+/// Makes the core of a board, with an image in its memory, before the first step. The segments are
+/// checked before any memory is allocated.
 #[tactic(auto, unfolding(reference::specs::Start::start))]
 pub fn start_core<D: Decider, C: CodeLines, L: Levels, U: DueTicks>(
     alloc: Global,
@@ -53,7 +53,7 @@ pub fn start_core<D: Decider, C: CodeLines, L: Levels, U: DueTicks>(
     Ok(Processor::new(regs, Bus::new(memory, system)))
 }
 
-/// Whether each segment lies wholly in flash or wholly in RAM.
+/// Returns whether each segment lies wholly in flash or wholly in RAM.
 fn are_placed(board: &Layout, segments: &[Segment<'_>]) -> bool
     ensures { result ≡ are_placed (blank (numbers_of board.now)) (map segment_of segments.now) }
 {
@@ -65,7 +65,7 @@ fn are_placed(board: &Layout, segments: &[Segment<'_>]) -> bool
     true
 }
 
-/// Whether a segment lies wholly in flash or wholly in RAM.
+/// Returns whether a segment lies wholly in flash or wholly in RAM.
 fn is_placed(board: &Layout, segment: &Segment<'_>) -> bool
     ensures { result ≡ is_placed (blank (numbers_of board.now)) (segment_of segment.now) }
 {

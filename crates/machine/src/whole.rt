@@ -60,9 +60,8 @@ pub struct Machine<D: Decider, C: CodeLines, L: Levels, U: DueTicks> {
 pub type Slow = Machine<Search, Reread, PlainLevels, Counting>;
 
 /// The machine that finds the deciding region in a table and keeps decisions, keeps decoded instructions by
-/// their addresses, keeps the exceptions in sets of bits with the answers that each step asks for beside
-/// them, and knows the next tick at which something is due. Its steps are those of `Slow`, by the same
-/// contracts.
+/// their addresses, keeps the exceptions in sets of bits with three values that each step reads, and knows
+/// the next tick at which something is due. Its steps are those of `Slow`, by the same contracts.
 pub type Fast = Machine<KeptDecisions<Table>, Lines, KeptAnswers<BitLevels>, Ahead>;
 
 impl<D: Decider, C: CodeLines, L: Levels, U: DueTicks> Model for Machine<D, C, L, U> {
@@ -76,7 +75,7 @@ impl<D: Decider, C: CodeLines, L: Levels, U: DueTicks> Model for Machine<D, C, L
 impl<D: Decider, C: CodeLines, L: Levels, U: DueTicks> Machine<D, C, L, U> {
     ghost use Rattle.machine.specs.Values.{values_of};
 
-    /// The machine of a board, with an image in its memory, before the first step.
+    /// Makes the machine of a board, with an image in its memory, before the first step.
     pub fn new(alloc: Global, image: &Image<'_>, board: &Board) -> Result<Self, StartFault>
         ensures { Starts (start (described board.now) image.now) result }
     {
@@ -87,7 +86,7 @@ impl<D: Decider, C: CodeLines, L: Levels, U: DueTicks> Machine<D, C, L, U> {
         })
     }
 
-    /// One step. `events` becomes what it tells. Answers why the machine has stopped, if it has.
+    /// Makes a step. `events` becomes its events. Returns why the machine has stopped, if it has.
     pub fn step(&mut self, events: &mut Events) -> Option<Stop>
         ensures state { self.new ≡ record self.old { state = (step self.old.state).state } }
         ensures events { events.new.items ≡ (step self.old.state).events }
@@ -133,7 +132,8 @@ impl<D: Decider, C: CodeLines, L: Levels, U: DueTicks> Machine<D, C, L, U> {
         }
     }
 
-    /// Whether a writer failed in an earlier run, so that what went out is no whole trace.
+    /// Returns whether a writer failed in an earlier run, so that the bytes that went out aren't a
+    /// whole trace.
     pub fn broken(&self) -> bool
         ensures { result ≡ self.now.broken }
     {
@@ -169,21 +169,22 @@ impl<D: Decider, C: CodeLines, L: Levels, U: DueTicks> Machine<D, C, L, U> {
         self.core.explain(address, privileged, kind)
     }
 
-    /// The values of the core registers.
+    /// Returns the values of the core registers.
     pub fn regs(&self) -> RegValues
         ensures { result ≡ values_of self.now.state.registers self.now.state.bus.system.nvic.masks }
     {
         self.core.regs()
     }
 
-    /// The byte of flash or RAM at an address, if there is one.
+    /// Returns the byte of flash or RAM at an address, if there is one.
     pub fn byte(&self, address: u32) -> Option<u8>
         ensures { result ≡ byte_at self.now.state.bus.memory address }
     {
         self.core.byte(address)
     }
 
-    /// RBAR (with VALID 0 and REGION as given) and RASR of a region, if there is one of that number.
+    /// Returns RBAR (with VALID 0 and REGION `number`) and RASR of a region, if there is one of that
+    /// number.
     pub fn region(&self, number: u8) -> Option<(u32, u32)>
         ensures { result ≡ shown self.now.state.bus.system.mpu number }
     {

@@ -1,4 +1,4 @@
-//! What decides an access by the registers of the MPU, however it keeps them.
+//! The trait of what decides accesses by the registers of the MPU, however it keeps them.
 
 ghost use Rattle.std.specs.Prelude.{◌≡◌, ◌≤◌};
 ghost use Rattle.mpu.specs.Spans.{BelongTo};
@@ -10,21 +10,22 @@ use crate::rules::{Rights, before_regions, by_region, without_region};
 use crate::spans::Span;
 use reference::access::{Decision, Kind};
 
-/// What decides each access, and stands for the registers that it was last told.
+/// Decides each access by the MPU's registers as they were last loaded.
 pub trait Decider: Drop {
     /// Whether it decides as registers with this content say.
     ghost stands_for: { Self → Mpu → Type 0 };
 
-    /// One that stands for these registers.
+    /// Makes a decider with these registers.
     fn fresh(registers: &MpuRegs) -> Self
         ensures { stands_for result registers.now };
 
-    /// It stands for these registers from now on.
+    /// Loads these registers: it decides by them from now on.
     fn reload(&mut self, registers: &MpuRegs)
         ensures { stands_for self.new registers.now };
 
-    /// The rule that decides an access of that kind to an address, by code of that privilege, and
-    /// whether it grants it. `below_zero` says whether the execution priority is below 0.
+    /// Returns the rule that decides an access of that kind to an address, by code of that
+    /// privilege, and whether it grants it. `below_zero` says whether the execution priority is
+    /// below 0.
     fn decide(&self, address: u32, kind: Kind, privileged: bool, below_zero: bool) -> Decision
         ensures { (m : Mpu) → stands_for self.now m → result ≡ decision_of m address kind privileged below_zero };
 
@@ -43,7 +44,8 @@ pub trait Decider: Drop {
         self.decide(address, kind, privileged, below_zero)
     }
 
-    /// Returns addresses about one that all belong to its region, or to none as it does.
+    /// Returns an interval around an address in which each address has the same region, or none has
+    /// one.
     fn span(&self, address: u32) -> Span
         ensures first { result.first ≤ address }
         ensures last { address ≤ result.last }
@@ -84,8 +86,8 @@ impl Decider for Search {
     }
 }
 
-/// The decision of the regions: of the highest one to which an address belongs, or of what is behind
-/// them.
+/// Returns the decision of the highest region to which an address belongs, or of the rules that
+/// follow the regions.
 #[inline(never)]
 fn by_regions(registers: &MpuRegs, address: u32, kind: Kind, privileged: bool) -> Decision
     ensures { result ≡ by_owner registers.now kind address privileged (owner registers.now address) }

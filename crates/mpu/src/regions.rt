@@ -6,7 +6,7 @@ ghost use Rattle.reference.specs.Words.{is_bit};
 
 use reference::mpu::Region;
 
-/// Whether a bit of a word is 1.
+/// Returns whether a bit of a word is 1.
 #[inline]
 pub(crate) fn is_bit(word: u32, bit: u32) -> bool
     requires { bit < 32 }
@@ -48,7 +48,7 @@ pub(crate) fn permission(attributes: u32) -> u8
     (attributes >> 24 & 7) as u8
 }
 
-/// Whether RASR takes these attributes.
+/// Returns whether RASR takes these attributes.
 pub(crate) fn is_accepted(attributes: u32) -> bool
     ensures { result ≡ is_accepted attributes }
 {
@@ -59,7 +59,8 @@ pub(crate) fn is_accepted(attributes: u32) -> bool
     size >= 4 && permission(attributes) != 4 && (size >= 7 || switched_off(attributes) == 0)
 }
 
-/// Whether an address lies in a region, and in none of its subregions that are switched off.
+/// Returns whether an address lies in a region, and in none of its subregions that are switched
+/// off.
 #[inline]
 #[tactic(auto, unfolding(reference::specs::Regions::matches))]
 pub fn matches(region: Region, address: u32) -> bool
@@ -70,7 +71,7 @@ pub fn matches(region: Region, address: u32) -> bool
         && !is_switched_off(region, address)
 }
 
-/// Whether an address and the region's base agree in the bits that its size leaves.
+/// Returns whether an address and the region's base agree in the bits that its size leaves.
 #[inline]
 pub(crate) fn agrees(region: Region, address: u32) -> bool
     ensures { result ≡ agrees region address }
@@ -79,7 +80,7 @@ pub(crate) fn agrees(region: Region, address: u32) -> bool
     u64::from(address) >> bits == u64::from(region.base) >> bits
 }
 
-/// Whether an address stands in a subregion that is switched off.
+/// Returns whether an address is in a subregion that is switched off.
 #[inline]
 fn is_switched_off(region: Region, address: u32) -> bool
     ensures { result ≡ is_switched_off region address }

@@ -65,7 +65,7 @@ impl Model for MpuRegs {
 }
 
 impl MpuRegs {
-    /// The registers after a reset, with 8 or 16 regions.
+    /// Returns the registers after a reset, with 8 or 16 regions.
     pub fn new(count: u8) -> Self
         requires { (count ≡ 8) ⊎ (count ≡ 16) }
         ensures { result ≡ fresh count }
@@ -89,7 +89,7 @@ impl MpuRegs {
         self.control
     }
 
-    /// How many regions there are, 8 or 16.
+    /// Returns how many regions there are, 8 or 16.
     #[inline]
     pub fn count(&self) -> u8
         ensures value { result ≡ self.now.count }
@@ -167,7 +167,7 @@ impl MpuRegs {
         Ok(())
     }
 
-    /// RNR takes the number of a region that there is.
+    /// Writes the number of an existing region to RNR, or refuses it.
     fn select(&mut self, number: u8) -> Result<(), MpuStop>
         ensures state { self.new ≡ left self.old (selected self.old number) }
         ensures answer { result ≡ answered (selected self.old number) }
@@ -220,7 +220,7 @@ impl MpuRegs {
         self.regions[self.number as usize].attributes = attributes;
     }
 
-    /// The number of the highest region that an address lies in.
+    /// Returns the number of the highest region that an address lies in.
     #[inline]
     #[tactic(auto, using(crate::proofs::Owner::found, crate::proofs::Owner::passed, crate::proofs::Owner::none_left), unfolding(reference::specs::Regions::owner))]
     pub fn owner(&self, address: u32) -> Option<u8>
@@ -235,7 +235,8 @@ impl MpuRegs {
         None
     }
 
-    /// Returns addresses about one that all belong to its region, or to none as it does.
+    /// Returns an interval around an address in which each address has the same region, or none has
+    /// one.
     pub fn span(&self, address: u32) -> Span
         ensures first { result.first ≤ address }
         ensures last { address ≤ result.last }
@@ -252,7 +253,7 @@ impl MpuRegs {
     }
 }
 
-/// The register at an address of a word, if one of the MPU stands there: 0xE000ED90 to 0xE000EDB8.
+/// Returns the MPU's register at the address of a word, if there is one: 0xE000ED90 to 0xE000EDB8.
 pub fn mpu_register_at(address: u32) -> Option<MpuRegister>
     ensures { result ≡ mpu_register_at address }
 {
@@ -266,7 +267,7 @@ pub fn mpu_register_at(address: u32) -> Option<MpuRegister>
     }
 }
 
-/// The stop of the machine that a refused write is.
+/// Returns the machine's stop for a refused write.
 pub fn stop_of(stop: MpuStop) -> Stop
     ensures { result ≡ stop_of stop }
 {

@@ -1,5 +1,4 @@
-//! The rules: what decides before the regions are asked, what a region grants, and what is behind
-//! the regions.
+//! The rules: what decides before the regions, what a region grants, and what follows the regions.
 
 ghost use Rattle.std.specs.Prelude.{◌≡◌};
 ghost use Rattle.reference.specs.declared.access.Rule.TheVariants.{Region};
@@ -11,17 +10,18 @@ use crate::registers::{ENABLE, HFNMIENA, PRIVDEFENA};
 use reference::access::{Decision, Kind, Rule};
 use reference::map::is_in_ppb;
 
-/// Where the system address space begins, in which no code stands.
+/// Where the system address space begins, from which nothing is fetched.
 const SYSTEM_BASE: u32 = 0xE000_0000;
 
-/// The eighths of the address space in which the default memory map lets code stand, a bit for each.
+/// The eighths of the address space from which the default memory map lets code be fetched, a bit
+/// for each.
 const EXECUTABLE: u32 = 0b0001_1011;
 
 /// The bit of RASR for XN.
 const XN: u32 = 28;
 
-/// The decision for which the regions aren't asked, by what MPU_CTRL holds. `below_zero` says
-/// whether the execution priority is below 0.
+/// Returns the decision of the rules before the regions, by MPU_CTRL, if one of them applies.
+/// `below_zero` says whether the execution priority is below 0.
 #[inline]
 #[tactic(auto, unfolding(reference::specs::Rules::before_regions))]
 pub fn before_regions(control: u32, address: u32, kind: Kind, below_zero: bool) -> Option<Decision>
@@ -43,7 +43,7 @@ pub fn before_regions(control: u32, address: u32, kind: Kind, below_zero: bool) 
     Some(Decision { rule, granted })
 }
 
-/// Whether the MPU is off for code whose execution priority is below 0.
+/// Returns whether the MPU is off for code whose execution priority is below 0.
 #[inline]
 fn is_off_below_zero(control: u32, below_zero: bool) -> bool
     ensures { result ≡ is_off_below_zero control below_zero }
@@ -62,7 +62,7 @@ fn default_map(address: u32, kind: Kind) -> bool
     }
 }
 
-/// Whether the default memory map lets code stand at an address, by bits 31:29.
+/// Returns whether the default memory map lets code be fetched from an address, by its bits 31:29.
 #[inline]
 #[tactic(auto, using(crate::proofs::Eighths::executable_bits))]
 fn is_executable(address: u32) -> bool
@@ -81,7 +81,7 @@ pub struct Rights {
 }
 
 impl Rights {
-    /// The fields of these attributes.
+    /// Returns the fields of these attributes.
     #[inline]
     pub fn of(attributes: u32) -> Self
         ensures permission { result.permission ≡ permission attributes }
@@ -93,7 +93,8 @@ impl Rights {
         }
     }
 
-    /// Whether they grant an access of that kind to code of that privilege: `CheckPermission()`.
+    /// Returns whether they grant an access of that kind to code of that privilege:
+    /// `CheckPermission()`.
     #[inline]
     pub fn grants(self, kind: Kind, privileged: bool) -> bool
         ensures { result ≡ permission_grants self.permission self.never_executes kind privileged }
@@ -128,7 +129,7 @@ impl Rights {
     }
 }
 
-/// The decision of the region of this number, which has these rights.
+/// Returns the decision of the region of this number, which has these rights.
 #[inline]
 pub fn by_region(number: u8, rights: Rights, kind: Kind, privileged: bool) -> Decision
     ensures rule { result.rule ≡ Region number }
@@ -140,7 +141,7 @@ pub fn by_region(number: u8, rights: Rights, kind: Kind, privileged: bool) -> De
     }
 }
 
-/// The decision where an address belongs to no region, by what MPU_CTRL holds.
+/// Returns the decision where an address belongs to no region, by MPU_CTRL.
 #[inline]
 pub fn without_region(control: u32, address: u32, kind: Kind, privileged: bool) -> Decision
     ensures { result ≡ after_regions control address kind privileged }

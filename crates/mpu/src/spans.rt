@@ -36,7 +36,7 @@ fn block_of(address: u32, bits: u32) -> Block
     }
 }
 
-/// Returns the part of a span, about an address, of which a region has all addresses or none.
+/// Narrows a span around an address until a region has all of it or none of it.
 #[inline]
 pub(crate) fn cut(region: Region, address: u32, span: Span) -> Span
     requires first { span.first ≤ address }
@@ -75,8 +75,7 @@ fn cut_inside(region: Region, address: u32, span: Span) -> Span
     }
 }
 
-/// Returns the number of low bits in which addresses differ that a region, or an eighth of it, has
-/// alike.
+/// Returns the base-2 logarithm of the size of a region, or of its eighth where SRD isn't 0.
 #[inline]
 fn grain(attributes: u32) -> u32
     ensures value { result ≡ grain attributes }
@@ -90,7 +89,7 @@ fn grain(attributes: u32) -> u32
     }
 }
 
-/// Cuts at the end of a region, before or after which the address is.
+/// Cuts a span at the near end of a region that doesn't have the address.
 #[inline]
 fn cut_outside(region: Region, address: u32, span: Span) -> Span
     requires outside { agrees region address ≡ false }

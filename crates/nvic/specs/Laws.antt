@@ -1,4 +1,4 @@
--- What the laws of priorities say, as facts about all exceptions at once. The definitions that they are about stand in
+-- What the laws of priorities say, as facts about all exceptions at once. The definitions that they are about are in
 -- the crate `reference`.
 use Rattle.std.specs.Prelude.{◌≡◌, ℕ, ◌<◌, ◌≤◌, ◌⊎◌, Bool, true, ◌&&◌, ◌||◌, List, length, slice_index, Option, Some}
 use Rattle.std.specs.Prelude.{None}
@@ -13,7 +13,7 @@ pub record IsReady (n : Nvic) (x : ℕ) : Type 0 where
   pub in_range : x < EXCEPTIONS
   pub ready : is_ready n x ≡ true
 
--- x has a lower priority number than y, or the same one and isn't behind y in the order of exception numbers
+-- x has a lower priority number than y, or the same one and doesn't follow y in the order of exception numbers
 abbrev pub ComesFirst : Nvic → ℕ → ℕ → Type 0
 ComesFirst n x y = (priority_of n x < priority_of n y) ⊎ ((priority_of n x ≡ priority_of n y) × (x ≤ y))
 
@@ -27,8 +27,8 @@ abbrev pub IsCandidate : Nvic → Option ℕ → Type 0
 IsCandidate n (Some x) = IsBest n (Some x) × (group_priority n x < execution_priority n)
 IsCandidate n None = (y : ℕ) → IsReady n y → execution_priority n ≤ group_priority n y
 
--- the priorities at which something holds the machine: the lowest, always; the group priority of each active exception;
--- BASEPRI's group where BASEPRI isn't 0; 0 under PRIMASK; -1 under FAULTMASK
+-- the priorities of which the execution priority is the highest: the lowest, always; the group priority of each active
+-- exception; BASEPRI's group where BASEPRI isn't 0; 0 under PRIMASK; -1 under FAULTMASK
 pub data Holds (n : Nvic) (p : ℕ) : Type 0 where
   nothing : p ≡ lowest → Holds n p
   handler : (x : ℕ) → x < EXCEPTIONS → is_in n.active x ≡ true → p ≡ group_priority n x → Holds n p

@@ -5,8 +5,9 @@ ghost use Rattle.std.specs.Prelude.{◌≡◌, ◌↔◌, ℕ, Bool, List, Optio
 ghost use Rattle.reference.specs.Priorities.{Nvic, execution_priority, best, candidate, with_pending, with_active, with_enabled, with_priority, with_group, with_primask, with_faultmask, with_basepri, with_due, reset_nvic};
 ghost use Rattle.nvic.specs.Laws.{IsBest, IsCandidate, IsLeast, IsOfBoard, AddsDue};
 
-/// The execution priority, and nothing else, is the least priority at which something holds the
-/// machine.
+/// The execution priority is the highest priority (the least number) of these: the lowest priority,
+/// 256; the group priority of each active exception; and those of BASEPRI, PRIMASK and FAULTMASK
+/// where they mask.
 pub fn execution_priority_is_the_least()
     ensures { (n : Nvic) (p : ℕ) → IsLeast n p ↔ (p ≡ execution_priority n) }
 {}

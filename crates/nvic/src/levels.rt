@@ -1,4 +1,4 @@
-//! What the machine asks of its exceptions, however they are kept.
+//! The state of the exceptions, however it is kept: a trait with one contract.
 
 ghost use Rattle.std.specs.Prelude.{◌≡◌, ◌<◌, true, false, min, nat_lt, slice_index, IfSome};
 ghost use Rattle.reference.specs.declared.exception.TheConstants.{EXCEPTIONS};
@@ -11,12 +11,12 @@ use reference::exception::{EXCEPTIONS, Escalation, HARD_FAULT, Masks, NMI, Prior
 /// The exceptions of a board: which are pending, enabled and active, their priorities, the masks.
 ///
 /// A `number` is that of an exception, as IPSR has it: 2 to 6, 11, 14, 15, and 16 + k for line k of
-/// the board. Any other number is taken too: it's in no set, and nothing puts it into one.
+/// the board. Any other number is accepted too: it's in no set, and nothing puts it into one.
 pub trait Levels: Drop {
     ghost content: { Self → Nvic };
 
-    /// After a reset, on a board with this number of lines, of which the first 240 are taken, whose
-    /// priority bytes keep this number of their top bits.
+    /// Returns the state after a reset, on a board with `lines` lines (240 at most; the others are
+    /// ignored) whose priority bytes keep their top `priority_bits` bits.
     fn fresh(lines: u8, priority_bits: u8) -> Self
         ensures { content result ≡ reset_nvic lines priority_bits };
 
@@ -28,16 +28,16 @@ pub trait Levels: Drop {
     fn clear(&mut self, number: u16)
         ensures { content self.new ≡ with_pending (content self.old) number false };
 
-    /// MemManage, BusFault, UsageFault or a line is enabled. The others always are.
+    /// Enables MemManage, BusFault, UsageFault or a line. The others always are enabled.
     fn enable(&mut self, number: u16)
         ensures { content self.new ≡ with_enabled (content self.old) number true };
 
-    /// MemManage, BusFault, UsageFault or a line is disabled. The others are left.
+    /// Disables MemManage, BusFault, UsageFault or a line. The others don't change.
     fn disable(&mut self, number: u16)
         ensures { content self.new ≡ with_enabled (content self.old) number false };
 
-    /// The exception has the top bits of this priority byte that the board keeps. The priorities of
-    /// NMI and HardFault are left.
+    /// Sets the exception's priority byte, of which the board keeps the top bits. The priorities of
+    /// NMI and HardFault don't change.
     fn set_priority(&mut self, number: u16, byte: u8)
         ensures { content self.new ≡ with_priority (content self.old) number byte };
 
@@ -49,7 +49,7 @@ pub trait Levels: Drop {
     fn deactivate(&mut self, number: u16)
         ensures { content self.new ≡ with_active (content self.old) number false };
 
-    /// AIRCR.PRIGROUP, from the low three bits.
+    /// Sets AIRCR.PRIGROUP from the low three bits.
     fn set_group(&mut self, group: u8)
         ensures { content self.new ≡ with_group (content self.old) group };
 
@@ -57,27 +57,27 @@ pub trait Levels: Drop {
     fn set_primask(&mut self, on: bool)
         ensures { content self.new ≡ with_primask (content self.old) on };
 
-    /// FAULTMASK, whatever the execution priority is.
+    /// Sets FAULTMASK, whatever the execution priority is.
     fn set_faultmask(&mut self, on: bool)
         ensures { content self.new ≡ with_faultmask (content self.old) on };
 
-    /// BASEPRI, of which the top bits stay that the board keeps.
+    /// Sets BASEPRI, of which the board keeps the top bits.
     fn set_basepri(&mut self, byte: u8)
         ensures { content self.new ≡ with_basepri (content self.old) byte };
 
-    /// Whether the exception is pending.
+    /// Returns whether the exception is pending.
     fn is_pending(&self, number: u16) -> bool
         ensures { result ≡ is_in (content self.now).pending number };
 
-    /// Whether the exception is enabled.
+    /// Returns whether the exception is enabled.
     fn is_enabled(&self, number: u16) -> bool
         ensures { result ≡ is_enabled_of (content self.now) number };
 
-    /// Whether the exception is active.
+    /// Returns whether the exception is active.
     fn is_active(&self, number: u16) -> bool
         ensures { result ≡ is_in (content self.now).active number };
 
-    /// The priority byte of the exception, 0 where it has none.
+    /// Returns the priority byte of the exception, 0 where it has none.
     fn priority(&self, number: u16) -> u8
         ensures { result ≡ slice_index (content self.now).priorities number };
 
@@ -90,28 +90,29 @@ pub trait Levels: Drop {
     fn masks(&self) -> Masks
         ensures { result ≡ (content self.now).masks };
 
-    /// How many lines the board has, at most 240.
+    /// Returns how many lines the board has, at most 240.
     fn lines(&self) -> u8
         ensures { result ≡ (content self.now).lines };
 
-    /// How many of the top bits of a priority byte the board keeps.
+    /// Returns how many of the top bits of a priority byte the board keeps.
     fn priority_bits(&self) -> u8
         ensures { result ≡ (content self.now).priority_bits };
 
-    /// The least group priority of the active exceptions, and the lowest priority where none is
-    /// active.
+    /// Returns the highest group priority (the least number) of the active exceptions, or the
+    /// lowest priority if none is active.
     fn active_priority(&self) -> Priority
         ensures { result ≡ highest_active (content self.now) EXCEPTIONS };
 
-    /// The best of the exceptions that are pending and enabled, whatever is active or masked.
+    /// Returns the best of the exceptions that are pending and enabled, whatever is active or
+    /// masked.
     fn best(&self) -> Option<u16>
         ensures { result ≡ best_of (content self.now) };
 
-    /// A copy.
+    /// Returns a copy.
     fn copied(&self) -> Self
         ensures { content result ≡ content self.now };
 
-    /// Each exception that is due becomes pending: bit n mod 32 of word n / 32 is that of n.
+    /// Makes each exception that is due pending: bit n mod 32 of word n / 32 for exception n.
     #[tactic(auto, using(crate::proofs::Waiting::nothing_added), unfolding(reference::specs::Priorities::with_due))]
     fn pend_due(&mut self, due: &[u32; 8])
         ensures { content self.new ≡ with_due (content self.old) due.now }
@@ -137,7 +138,7 @@ pub trait Levels: Drop {
         }
     }
 
-    /// Whether an interrupt is pending, enabled or not: ICSR.ISRPENDING.
+    /// Returns whether an interrupt is pending, enabled or not: ICSR.ISRPENDING.
     #[tactic(auto, unfolding(reference::specs::Priorities::is_interrupt_pending))]
     fn is_interrupt_pending(&self) -> bool
         ensures { result ≡ is_interrupt_pending_of (content self.now) }
@@ -150,7 +151,7 @@ pub trait Levels: Drop {
         found
     }
 
-    /// Whether an exception is active that hasn't this number.
+    /// Returns whether another exception than this one is active.
     #[tactic(auto, unfolding(reference::specs::Priorities::is_other_active))]
     fn is_other_active(&self, number: u16) -> bool
         ensures { result ≡ is_other_active_of (content self.now) number }
@@ -163,8 +164,8 @@ pub trait Levels: Drop {
         found
     }
 
-    /// What would be the candidate with these pending too, bit n mod 32 of word n / 32 being that
-    /// of n, and with this PRIMASK.
+    /// Returns what would be the candidate with these exceptions pending too (bit n mod 32 of word
+    /// n / 32 for exception n), and with this PRIMASK.
     #[tactic(auto, unfolding(reference::specs::Priorities::candidate_after))]
     fn candidate_after(&self, due: &[u32; 8], primask: bool) -> Option<u16>
         ensures { result ≡ candidate_after_of (content self.now) due.now primask }
@@ -183,7 +184,7 @@ pub trait Levels: Drop {
         self.priority_under(self.masks())
     }
 
-    /// The execution priority under these masks.
+    /// Returns the execution priority under these masks.
     fn priority_under(&self, masks: Masks) -> Priority
         ensures { result ≡ min (highest_active (content self.now) EXCEPTIONS) (boosted_of (content self.now).group masks) }
     {
@@ -192,7 +193,8 @@ pub trait Levels: Drop {
         if masked.is_below(held) { masked } else { held }
     }
 
-    /// Whether the execution priority is below 0, which FAULTMASK, NMI and HardFault alone make it.
+    /// Returns whether the execution priority is below 0, which FAULTMASK, NMI and HardFault alone
+    /// make it.
     #[tactic(auto, using(crate::proofs::BelowZero::below_zero))]
     fn is_below_zero(&self) -> bool
         ensures { result ≡ is_below_zero_of (content self.now) }
@@ -200,14 +202,14 @@ pub trait Levels: Drop {
         self.masks().faultmask || self.is_active(NMI) || self.is_active(HARD_FAULT)
     }
 
-    /// The group priority of an exception.
+    /// Returns the group priority of an exception.
     fn group_priority(&self, number: u16) -> Priority
         ensures { result ≡ group_priority_of (content self.now) number }
     {
         fixed_or(number, grouped(self.group(), self.priority(number)))
     }
 
-    /// Whether the group priority of an exception is below the execution priority.
+    /// Returns whether the group priority of an exception is below the execution priority.
     fn preempts(&self, number: u16) -> bool
         ensures { result ≡ nat_lt (group_priority_of (content self.now) number) (execution_priority_of (content self.now)) }
     {
@@ -215,7 +217,7 @@ pub trait Levels: Drop {
         self.group_priority(number).is_below(limit)
     }
 
-    /// The exception that is taken next: the best one, where it preempts.
+    /// Returns the exception that is taken next: the best one, where it preempts.
     #[tactic(auto, unfolding(reference::specs::Priorities::candidate))]
     fn candidate(&self) -> Option<u16>
         ensures value { result ≡ candidate_of (content self.now) }
@@ -229,8 +231,8 @@ pub trait Levels: Drop {
         }
     }
 
-    /// What would be the candidate were PRIMASK 0. Below 0 only NMI can be, so the other exceptions
-    /// aren't asked there.
+    /// Returns what would be the candidate were PRIMASK 0. Below priority 0 only NMI can be it, so
+    /// only NMI is tested there.
     #[tactic(auto, using(crate::proofs::Unmasked::unmasked, crate::proofs::Unmasked::below_zero_nmi))]
     fn candidate_unmasked(&self) -> Option<u16>
         ensures { result ≡ candidate_unmasked_of (content self.now) }
@@ -255,7 +257,7 @@ pub trait Levels: Drop {
         }
     }
 
-    /// What becomes of a fault or of SVC whose exception has this number.
+    /// Returns how a fault or SVC escalates whose exception has this number.
     #[tactic(auto, unfolding(reference::specs::Priorities::escalation))]
     fn escalate(&self, number: u16) -> Escalation
         ensures { result ≡ escalation (content self.now) number }

@@ -23,7 +23,7 @@ pub fn is_always_enabled(number: u16) -> bool
     is_fixed(number) || matches!(number, SV_CALL | PEND_SV | SYS_TICK)
 }
 
-/// The external interrupts, one for each line of the board.
+/// Returns the external interrupts, one for each line of the board.
 #[inline]
 pub fn is_interrupt(lines: u8, number: u16) -> bool
     ensures { result ≡ is_interrupt_of lines number }
@@ -39,7 +39,7 @@ pub fn can_be_disabled(lines: u8, number: u16) -> bool
     matches!(number, MEM_MANAGE..=USAGE_FAULT) || is_interrupt(lines, number)
 }
 
-/// Whether an exception of the board has that number.
+/// Returns whether an exception of the board has that number.
 #[inline]
 pub fn is_exception(lines: u8, number: u16) -> bool
     ensures { result ≡ is_exception_of lines number }
@@ -47,7 +47,7 @@ pub fn is_exception(lines: u8, number: u16) -> bool
     is_always_enabled(number) || can_be_disabled(lines, number)
 }
 
-/// Whether it has a priority byte.
+/// Returns whether it has a priority byte.
 #[inline]
 pub fn has_priority_byte(lines: u8, number: u16) -> bool
     ensures { result ≡ has_priority_byte_of lines number }
@@ -55,7 +55,7 @@ pub fn has_priority_byte(lines: u8, number: u16) -> bool
     is_exception(lines, number) && !is_fixed(number)
 }
 
-/// Whether a set of bits has a number: bit n mod 32 of word n / 32.
+/// Returns whether a set of bits has a number: bit n mod 32 of word n / 32.
 #[inline]
 pub fn is_in_words(due: &[u32; 8], number: u16) -> bool
     requires { number < 256 }

@@ -1,4 +1,4 @@
-//! The exceptions as plain sets: each question looks at all of them.
+//! The exceptions as plain sets: each query tests all of them.
 
 ghost use Rattle.std.specs.Prelude.{◌≡◌, ◌<◌, slice_set};
 ghost use Rattle.reference.specs.Priorities.{priority_of as priority_of_number, group_priority as group_priority_of, is_ready as is_ready_of, highest_active as least_active_of, execution_priority as execution_priority_of, better_of as better_of_both, with_ready as with_ready_of};
@@ -219,7 +219,7 @@ impl PlainLevels {
         self.pending[number as usize] = on;
     }
 
-    /// The priority of an exception.
+    /// Returns the priority of an exception.
     #[inline]
     fn priority_of(&self, number: u16) -> Priority
         ensures { result ≡ priority_of_number self.now number }
@@ -227,7 +227,7 @@ impl PlainLevels {
         fixed_or(number, self.priority(number))
     }
 
-    /// Whether the exception is pending and enabled.
+    /// Returns whether the exception is pending and enabled.
     #[inline]
     fn is_ready(&self, number: u16) -> bool
         ensures { result ≡ is_ready_of self.now number }
@@ -235,8 +235,8 @@ impl PlainLevels {
         self.is_pending(number) && self.is_enabled(number)
     }
 
-    /// The better of one exception, if there is one, and another with a higher number, where that
-    /// is pending and enabled.
+    /// Returns the better of one exception, if there is one, and another with a higher number,
+    /// where that is pending and enabled.
     #[tactic(auto, unfolding(reference::specs::Priorities::with_ready))]
     #[inline]
     fn with_ready(&self, before: Option<u16>, number: u16) -> Option<u16>
@@ -249,7 +249,7 @@ impl PlainLevels {
         }
     }
 
-    /// The better of one exception, if there is one, and another with a higher number.
+    /// Returns the better of one exception, if there is one, and another with a higher number.
     #[inline]
     fn better_of(&self, before: Option<u16>, number: u16) -> Option<u16>
         ensures { result ≡ better_of_both self.now before number }

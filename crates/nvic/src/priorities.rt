@@ -1,4 +1,4 @@
-//! Priority bytes, and the priorities that they stand for.
+//! Priority bytes, and the priorities that they represent.
 
 ghost use Rattle.std.specs.Prelude.{◌≡◌, ◌<◌};
 ghost use Rattle.reference.specs.Priorities.{kept as kept_of, grouped as grouped_of, fixed_or as fixed_or_of, of_byte, boosted as boosted_of};
@@ -8,7 +8,7 @@ use reference::exception::{HARD_FAULT, Masks, NMI, Priority};
 /// How many bits a priority byte has.
 const BYTE_BITS: u8 = 8;
 
-/// The top bits of a priority byte that a board keeps.
+/// Returns the top bits of a priority byte that a board keeps.
 #[inline]
 pub fn kept(priority_bits: u8, byte: u8) -> u8
     ensures { result ≡ kept_of priority_bits byte }
@@ -17,7 +17,7 @@ pub fn kept(priority_bits: u8, byte: u8) -> u8
     (byte as u16 >> dropped << dropped) as u8
 }
 
-/// A priority byte rounded down to a multiple of 2^(PRIGROUP + 1).
+/// Returns a priority byte rounded down to a multiple of 2^(PRIGROUP + 1).
 #[inline]
 pub fn grouped(group: u8, byte: u8) -> u8
     requires { group < 8 }
@@ -26,7 +26,7 @@ pub fn grouped(group: u8, byte: u8) -> u8
     (byte as u16 >> (group + 1) << (group + 1)) as u8
 }
 
-/// The fixed priority of NMI or HardFault, and otherwise that of this byte.
+/// Returns the fixed priority of NMI or HardFault, and otherwise that of this byte.
 #[inline]
 pub fn fixed_or(number: u16, byte: u8) -> Priority
     ensures { result ≡ fixed_or_of number (of_byte byte) }
@@ -38,8 +38,8 @@ pub fn fixed_or(number: u16, byte: u8) -> Priority
     }
 }
 
-/// The priority to which the masks raise: -1 under FAULTMASK, 0 under PRIMASK, BASEPRI's group
-/// where it isn't 0, and otherwise the lowest.
+/// Returns the priority of the masks: -1 if FAULTMASK is set, 0 if PRIMASK is, BASEPRI's group if
+/// BASEPRI isn't 0, and otherwise the lowest.
 #[inline]
 pub fn boosted(group: u8, masks: Masks) -> Priority
     requires { group < 8 }

@@ -1,9 +1,9 @@
--- What a reader tells of the bytes that it gave.
+-- What a reader reports of the bytes that it returned.
 use Rattle.std.specs.Prelude.{◌≡◌, ℕ, ◌+◌, ◌<◌, ◌≤◌, List, length, take, Option, Result, Ok, Err}
 use Rattle.std.specs.Io.KnownBytes.{Consumes, IsAtEnd, Keeps}
 
 -- One call. On Ok, the `given` bytes are now at the front of the room; `given` is 0 only at the end of the input or
--- where there is no room. On Err, nothing was given, and the count of faults grows by 1.
+-- where there is no room. On Err, no byte was returned, and the count of faults grows by 1.
 abbrev pub Received : {E : Type 0} → Option (List ℕ) → Option (List ℕ) → ℕ → ℕ → List ℕ → Result ℕ E → Type 0
 Received old new before now room (Ok given) =
     (given ≤ length room) × Consumes old new (take given room) × (now ≡ before)

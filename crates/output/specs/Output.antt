@@ -1,4 +1,4 @@
--- What a writer tells of the bytes that it was given.
+-- What a writer reports of the bytes that it received.
 use Rattle.std.specs.Prelude.{◌≡◌, ℕ, ◌+◌, ◌≤◌, Bool, not, ◌&&◌, ◌==◌, List, [], ◌∷◌, ◌++◌, length, take, Option}
 use Rattle.std.specs.Prelude.{Result, Ok, Err, if◌then◌else◌}
 use Rattle.std.specs.Io.KnownBytes.{Appends, Keeps}
@@ -26,7 +26,7 @@ Took old new before now bytes (Ok taken) =
     × (now ≡ (if took_none bytes taken then before + 1 else before))
 Took old new before now bytes (Err fault) = Keeps old new × (now ≡ before + 1)
 
--- a whole text: it went out and no call failed, or a beginning of it did and one call failed
+-- a whole text: it went out and no call failed, or a proper prefix of it did and one call failed
 abbrev pub Put : {E : Type 0} → Option (List ℕ) → Option (List ℕ) → ℕ → ℕ → List ℕ → Result (Unit {0}) E → Type 0
 Put old new before now text (Ok done) = Appends old new text × (now ≡ before)
 Put old new before now text (Err fault) = IsCutShort old new text × (now ≡ before + 1)

@@ -58,7 +58,7 @@ impl<'a, O: Out> Sink for EventLines<'a, O> {
     }
 }
 
-/// Puts the line of an event, unless an earlier line failed. Returns whether it or the earlier one did.
+/// Puts the line of an event, unless an earlier line failed. Returns whether either failed.
 #[inline(always)]
 fn put_unless<O: Out>(failed: bool, out: &mut O, room: &mut LineRoom, event: &Event) -> bool
     ensures { PutsUnless failed (O.written out.old) (O.written out.new) (O.faults out.old) (O.faults out.new) (line event.now) result }

@@ -1,5 +1,5 @@
-//! Where a trace goes: writers that tell what they took, and one that gathers the lines of many steps.
-//! Where commands come from: readers that tell what they gave.
+//! Where a trace goes: writers that report what they took, and one that gathers the lines of many
+//! steps. Where commands come from: readers that report what they returned.
 #![tactic(auto)]
 
 mod event_lines;

@@ -11,16 +11,16 @@ use trace::page::Page;
 /// How many bytes are gathered at most.
 const ROOM: usize = 0x4000;
 
-/// How many bytes of a page leave room for a line.
+/// The most bytes on a page that leave room for a line.
 const FULL: usize = ROOM - 64;
 
-/// A writer that gathers lines on a page. What was put on the page counts as taken: `flush` hands it
-/// on at the end. Where the writer below fails, the lines that were being put aren't taken.
+/// A writer that gathers lines on a page. Bytes on the page count as taken: `flush` sends them at
+/// the end. Where the writer below fails, the line being put isn't taken.
 #[derive(Drop)]
 pub struct Paged<O: Out + Drop> {
     inner: O,
     page: Page<ROOM>,
-    // How many bytes of the page were handed on already, by a call that failed after them.
+    // How many bytes of the page were sent already, by a call that failed after them.
     at: usize,
     ghost within: { at ≤ length page },
 }
@@ -50,7 +50,8 @@ impl<O: Out + Drop> Paged<O> {
         inner
     }
 
-    /// Hands the page on. After a fault a beginning of it went on, and the rest is still there.
+    /// Sends the page to the writer below. After a fault a prefix of it was sent, and the page
+    /// still has the rest.
     #[cold]
     #[inline(never)]
     pub fn flush(&mut self) -> Result<(), IoFault>

@@ -1,4 +1,4 @@
-//! Writers that tell what they took, and readers that tell what they gave.
+//! Writers that report what they took, and readers that report what they returned.
 
 ghost use Rattle.std.specs.Prelude.{◌≡◌, ℕ, ◌+◌, ◌<◌, ◌≤◌, List, length, Option};
 ghost use Rattle.output.specs.Input.{Received};
@@ -13,7 +13,7 @@ use thiserror::Error;
 use trace::page::Page;
 use trace::tick::Tick;
 
-/// Room for one line.
+/// Room for one line; the same type as `Text` of `trace`.
 pub type LinePage = Page<64>;
 
 /// Room for the text of one line, and the digits of its tick, kept for the next one.
@@ -38,18 +38,18 @@ impl LineRoom {
 #[error("the writer or the reader failed")]
 pub struct IoFault;
 
-/// A writer that tells how many of the bytes it took. A contract sees the bytes that it has taken,
-/// where they are known, and how many calls failed or took none of a piece that isn't empty.
+/// A writer that reports how many of the bytes it took. A contract sees the bytes that it has
+/// taken, where they are known, and how many calls failed or took none of a piece that isn't empty.
 pub trait Out {
     ghost written: { Self → Option (List ℕ) };
 
     ghost faults: { Self → ℕ };
 
-    /// Takes a beginning of the bytes, and answers how many that were.
+    /// Takes a prefix of the bytes, and returns its length.
     fn put(&mut self, bytes: &[u8]) -> Result<usize, IoFault>
         ensures { Took (written self.old) (written self.new) (faults self.old) (faults self.new) bytes.now result };
 
-    /// Puts all of the bytes, piece by piece. After a fault a beginning of them went out.
+    /// Puts all of the bytes, piece by piece. After a fault a prefix of them went out.
     fn put_all(&mut self, bytes: &[u8]) -> Result<(), IoFault>
         ensures { Put (written self.old) (written self.new) (faults self.old) (faults self.new) bytes.now result }
     {
@@ -78,15 +78,15 @@ pub trait Out {
     }
 }
 
-/// A reader that tells how many bytes it gave. A contract sees the bytes that it has left, where they
-/// are known, and how many calls failed.
+/// A reader that reports how many bytes it returned. A contract sees the bytes that it has left,
+/// where they are known, and how many calls failed.
 pub trait In {
     ghost left: { Self → Option (List ℕ) };
 
     ghost misses: { Self → ℕ };
 
-    /// Puts bytes at the front of the room, and answers how many those are: none at the end of the
-    /// input, or where there is no room.
+    /// Puts bytes at the front of the room, and returns how many: 0 at the end of the input, or
+    /// where there is no room.
     fn take(&mut self, room: &mut [u8]) -> Result<usize, IoFault>
         ensures { Received (left self.old) (left self.new) (misses self.old) (misses self.new) room.new result };
 }

@@ -1,5 +1,6 @@
--- One access, and a list of them (ARM DDI 0403, MemA[]; what the bus takes is the profile's). The rule is asked first,
--- then the bus. An unaligned access of MemU[] is a list of accesses of a byte, which `transfer` of LoadStore makes.
+-- One access, and a list of them (ARM DDI 0403, MemA[]; what the bus takes is the profile's). The rule decides first,
+-- then the bus answers. An unaligned access of MemU[] is a list of accesses of a byte, which `transfer` of LoadStore
+-- makes.
 use Rattle.std.specs.Prelude.{ℕ, ◌%◌, if◌then◌else◌, List, [], ◌∷◌, ◌++◌, Option, Some, None, Result, Ok, Err}
 use Rattle.reference.specs.declared.access.Answer.{Answer}
 use Rattle.reference.specs.declared.access.Answer.TheVariants as answer
@@ -24,7 +25,7 @@ use Rattle.reference.specs.System.{SystemAnswer, system_access}
 
 -- ---- the bus
 
--- what the bus answers to an access that a rule granted, and the bus after it
+-- the bus's answer to an access that a rule granted, and the bus after it
 pub record BusAnswer : Type 0 where
   pub bus : Bus
   pub answer : Answer
@@ -37,7 +38,7 @@ lifted b r = record { bus = record b { memory = r.memory }; answer = r.answer }
 abbrev pub lifted_system : Bus → SystemAnswer → BusAnswer
 lifted_system b r = record { bus = record b { system = r.system }; answer = r.answer }
 
--- what the bus makes of a request that a rule granted, while IPSR is `exception`; it isn't asked for a probe
+-- the bus's answer to a request that a rule granted, while IPSR is `exception`; a probe doesn't reach the bus
 unfoldable pub answered_by_bus : ℕ → Bus → Request → BusAnswer
 answered_by_bus exception b q =
     if is_probe q.access.kind then record { bus = b; answer = answer.Value 0 }
@@ -47,7 +48,7 @@ answered_by_bus exception b q =
 
 -- ---- one access
 
--- what a request is answered, and the bus after it
+-- how a request was performed, and the bus after it
 pub record AccessResult : Type 0 where
   pub bus : Bus
   pub performed : Performed
@@ -60,13 +61,13 @@ performed_by rule (answer.Stop why) = performed.Stop why
 abbrev pub answered_under : Rule → BusAnswer → AccessResult
 answered_under rule a = record { bus = a.bus; performed = performed_by rule a.answer }
 
--- a request that a rule refused changes nothing
+-- a request, given its decision: where the rule grants it, the bus answers; where it refuses, nothing changes
 abbrev pub decided : ℕ → Bus → Request → Decision → AccessResult
 decided exception b q d =
     if d.granted then answered_under d.rule (answered_by_bus exception b q)
     else record { bus = b; performed = performed.Denied d.rule cause.Mpu }
 
--- the rule that decides a request at the execution priority of this moment, and whether it grants it
+-- the rule that decides a request at the current execution priority, and whether it grants it
 abbrev pub decision : Bus → Request → Decision
 decision b q =
     decision_of b.system.mpu q.access.address q.access.kind q.access.privileged (is_below_zero b.system.nvic)
@@ -95,7 +96,7 @@ access_lines tick q (performed.Stop why) = []
 
 -- ---- a list of accesses
 
--- the value with which the step goes on, or why it doesn't
+-- the value that an access read, or the failure that ends the instruction
 abbrev pub value_of : Request → Performed → Result ℕ Failure
 value_of q (performed.Done rule value) = Ok value
 value_of q (performed.Denied rule cause) = Err (failure.Refused q.access cause)

@@ -1,5 +1,5 @@
--- The branches and IT (ARM DDI 0403, the operation of B, BL, BX, BLX, CBZ, CBNZ, TBB, TBH and IT): what each asks for,
--- and where it goes on.
+-- The branches and IT (ARM DDI 0403, the operation of B, BL, BX, BLX, CBZ, CBNZ, TBB, TBH and IT): the accesses of
+-- each, and where it goes on.
 use Rattle.std.specs.Prelude.{ℕ, ◌+◌, ◌*◌, ◌/◌, ◌%◌, ◌^◌, Bool, not, ◌==◌, if◌then◌else◌, List, [], Result, Ok}
 use Rattle.reference.specs.declared.access.Kind.TheVariants.{Load}
 use Rattle.reference.specs.declared.access.Request.{Request}
@@ -68,7 +68,7 @@ if_then length o r =
 
 -- ---- the family
 
--- what a branch asks for: TBB and TBH read the entry of the table
+-- the accesses of a branch: TBB and TBH read the entry of the table
 unfoldable pub branch_requests : Traps → Branch → Registers → Result (List Request) Failure
 branch_requests traps (branch.Immediate o) r = Ok []
 branch_requests traps (branch.Conditional o) r = Ok []

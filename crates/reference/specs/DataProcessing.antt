@@ -87,7 +87,7 @@ divides_by_zero (ClearField o) r = false
 divides_by_zero (Extend o) r = false
 divides_by_zero (Rearrange o) r = false
 
--- no access is asked for, and a division by zero is UsageFault DIVBYZERO where CCR.DIV_0_TRP is set
+-- there is no access, and a division by zero is UsageFault DIVBYZERO where CCR.DIV_0_TRP is set
 abbrev pub data_processing_requests : Traps → DataProcessing → Registers → Result (List Request) Failure
 data_processing_requests traps i r =
     if traps.divide_by_zero && divides_by_zero i r then Err (Usage DivideByZero) else Ok []

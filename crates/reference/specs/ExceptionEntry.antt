@@ -70,14 +70,14 @@ handler_entered s events x e vector = record {
   events = events ++ (record { tick = s.bus.system.time.ticks; what = HandlerEntered x } ∷ []);
 }
 
--- the vector was refused: HardFault becomes pending, x stays pending, and the entry goes on (profile); where x is NMI
--- or HardFault, it's lockup instead
+-- the read of the vector was refused: lockup where x is NMI or HardFault; otherwise HardFault becomes pending, x stays
+-- pending, and the entry goes on (profile)
 abbrev pub vector_refused : State → List Event → ℕ → Stepped
 vector_refused s events x =
     if is_fixed x then locked_up (recorded s vector_fault) events
     else pended_by_fault (recorded s vector_fault) events HARD_FAULT
 
--- the vector was read, or not
+-- the vector was read, or its read was refused or stopped the machine
 abbrev pub vector_taken : State → List Event → ℕ → ℕ → Result ℕ Failure → Stepped
 vector_taken s events x e (Ok vector) = handler_entered s events x e vector
 vector_taken s events x e (Err (failure.Refused access cause)) = vector_refused s events x
@@ -92,8 +92,8 @@ exception_taken s e x =
     vector_taken (with_bus s answer.bus) (access_lines s.bus.system.time.ticks q answer.performed) x e
     (value_of q answer.performed)
 
--- the candidate of this moment is taken; without a candidate (it has one in every state with `Invariant`) the step only
--- ticks, and the entry stays open
+-- the current candidate is taken; if there is no candidate, which `Invariant` excludes, the step only ticks, and the
+-- entry stays open
 abbrev pub taken_if_any : State → ℕ → Option ℕ → Stepped
 taken_if_any s e None = record { state = s; events = [] }
 taken_if_any s e (Some x) = exception_taken s e x

@@ -1,6 +1,6 @@
--- Exception return (ARM DDI 0403, ExceptionReturn(), DeActivate() and PopStack(); where it stops the machine with a
--- named stop, and that a fault raised during a return starts an exception entry in the same step, without a push, is
--- the profile's). Read this file from its last function upward.
+-- Exception return (ARM DDI 0403, ExceptionReturn(), DeActivate() and PopStack()). Its named stops are the profile's.
+-- So is that a fault during a return starts an exception entry in the same step, without a push. Read this file from
+-- its last function upward.
 use Rattle.std.specs.Prelude.{ℕ, Bool, true, false, not, ◌&&◌, ◌||◌, ◌==◌, if◌then◌else◌, List, [], ◌∷◌, ◌++◌, Option}
 use Rattle.std.specs.Prelude.{Some, None, replicate}
 use Rattle.reference.specs.declared.access.Kind.TheVariants.{Pop}
@@ -81,8 +81,8 @@ exception_ended t x =
     let after = deactivated t x in
     if x == NMI then after else with_nvic after (with_faultmask after.nvic false)
 
--- the handler's exception is active; a return to Thread mode leaves no other one active, unless CCR.NONBASETHRDENA is
--- 1, and EXC_RETURN<3:0> is 0001, 1001 or 1101
+-- the handler's exception is active; EXC_RETURN<3:0> is 0001, 1001 or 1101; and on a return to Thread mode no other
+-- exception is active, or CCR.NONBASETHRDENA is 1
 abbrev pub is_allowed : State → ℕ → Bool
 is_allowed s e =
     is_in s.bus.system.nvic.active s.registers.exception

@@ -70,14 +70,14 @@ store_requests o r =
 
 -- ---- the family
 
--- what an exclusive asks for
+-- the access of an exclusive
 unfoldable pub exclusive_requests : Exclusive → Registers → Result (List Request) Failure
 exclusive_requests (Load o) r =
     exclusive_access kind.Load (is_privileged r) o.size (exclusive_address o.base o.offset r) 0
 exclusive_requests (Store o) r = store_requests o r
 exclusive_requests Clear r = Ok []
 
--- what a store gives R[d]: 0 where it passed, and 1 where it failed
+-- the status that a store writes to R[d]: 0 where it passed, and 1 where it failed
 abbrev pub store_status : Bool → ℕ
 store_status passed = if passed then 0 else 1
 

@@ -44,8 +44,8 @@ abbrev pub vector_fault : FaultEffect
 vector_fault = record { exception = HARD_FAULT; cfsr = 0; hfsr = VECTTBL; address = NotKept }
 
 -- the fault of a refused access at an address, by what it was for and what refused it. `Vector Mpu` and `Probe Bus`
--- never occur: the rule `vec` grants every read of a vector, and the bus isn't asked for a probe. A refused fetch
--- leaves MMARVALID and MMFAR as they were, and a bus error is always precise, PRECISERR (profile)
+-- never occur: the rule `vec` grants every read of a vector, and a probe doesn't reach the bus. A refused fetch leaves
+-- MMARVALID and MMFAR as they were, and a bus error is always precise, PRECISERR (profile)
 abbrev pub access_fault : Kind → Cause → ℕ → FaultEffect
 access_fault Fetch Mpu address = mem_manage IACCVIOL NotKept
 access_fault Load Mpu address = mem_manage (DACCVIOL + MMARVALID) (Mmfar address)
@@ -111,7 +111,7 @@ forced s events = pended_by_fault (with_status s (with_fault_bits s.bus.system.s
 abbrev pub locked_up : State → List Event → Stepped
 locked_up s events = stopped s (events ++ fault_line s 0 ∷ []) stop.Lockup
 
--- what becomes of a fault whose exception is x
+-- a fault whose exception is x becomes pending itself, pends HardFault in its place, or is lockup
 abbrev pub escalated : State → List Event → ℕ → Escalation → Stepped
 escalated s events x Itself = pended_by_fault s events x
 escalated s events x HardFault = forced s events
@@ -121,7 +121,7 @@ escalated s events x Lockup = locked_up s events
 unfoldable pub faulted : State → List Event → FaultEffect → Stepped
 faulted s events f = escalated (recorded s f) events f.exception (escalation s.bus.system.nvic f.exception)
 
--- an access was refused, the instruction faults, or it stops the machine with a named stop
+-- an access was refused, the instruction faults, or it stops the machine
 abbrev pub failed : State → List Event → Failure → Stepped
 failed s events (failure.Refused access cause) = faulted s events (fault_of access cause)
 failed s events (failure.Usage fault) = faulted s events (usage_fault_of fault)

@@ -1,5 +1,5 @@
--- What an ELF file brings (TIS ELF 1.2, "ELF Header" and "Program Header"). The order in which a file is refused is the
--- profile's.
+-- The image in an ELF file (TIS ELF 1.2, "ELF Header" and "Program Header"). The order in which a file is refused is
+-- the profile's.
 use Rattle.std.specs.Prelude.{ℕ, zero, suc, ◌+◌, ◌*◌, ◌<◌, ◌≤◌, max, min, Bool, false, ◌&&◌, ◌||◌, not, nat_lt, ◌==◌}
 use Rattle.std.specs.Prelude.{if◌then◌else◌, List, [], ◌∷◌, length, slice_index, slice_range, Result, Ok, Err}
 use Rattle.std.specs.List.{AllPairs, list_any}

@@ -1,5 +1,5 @@
--- What holds of a state at the start, after each step and after each value that was placed. It's proved in the crate
--- `state_laws`. The definitions also have values for other states.
+-- What holds of a state at the start, after each step and after each value that `place` puts. It's proved in the crate
+-- `state_laws`. The definitions of a step are for all states, those without the invariant too.
 use Rattle.std.specs.Prelude.{◌≡◌, ℕ, ◌+◌, ◌%◌, ◌^◌, ◌<◌, ◌≤◌, Bool, true, is_some, List, length, slice_index, None}
 use Rattle.reference.specs.declared.exception.TheConstants.{EXCEPTIONS, MOST_LINES}
 use Rattle.reference.specs.Boards.{Described, IsScript, IsScriptFrom, is_flash, is_line_count, is_region_count}

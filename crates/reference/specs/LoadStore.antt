@@ -1,5 +1,5 @@
 -- Loads and stores of one register (ARM DDI 0403, MemU[], and the operation of LDR, STR and their forms of a byte and
--- of a halfword): the address, the accesses, and what is made of the values read.
+-- of a halfword): the address, the accesses, and the use of the values read.
 use Rattle.std.specs.Prelude.{ℕ, ◌+◌, ◌*◌, ◌%◌, ◌^◌, Bool, true, false, not, ◌&&◌, ◌==◌, if◌then◌else◌, List, [], ◌∷◌}
 use Rattle.std.specs.Prelude.{Result, Ok, Err}
 use Rattle.std.specs.List.{list_any}
@@ -47,7 +47,7 @@ indexed_address Offset a r = offset_address r a
 indexed_address PreIndexed a r = offset_address r a
 indexed_address PostIndexed a r = register r a.base
 
--- the address of an access at a base register and a number
+-- the address of an access by a base register and an immediate
 abbrev pub immediate_address : ImmediateAddress → Registers → ℕ
 immediate_address a r = indexed_address a.indexing a r
 
@@ -61,7 +61,7 @@ writes_back PostIndexed = true
 abbrev pub with_base : ImmediateAddress → Registers → Registers
 with_base a r = if writes_back a.indexing then with_register r a.base (offset_address r a) else r
 
--- the address of an access at a base register and another: R[n] + LSL(R[m], shift_n)
+-- the address of an access by a base register and an index register: R[n] + LSL(R[m], shift_n)
 abbrev pub register_address : RegisterAddress → Registers → ℕ
 register_address a r = word_sum (register r a.base) (shift_c (register r a.index) Lsl a.shift r.flags.carry).0
 
@@ -71,7 +71,7 @@ literal_address offset r = word_sum (aligned_pc r) offset
 
 -- ---- accesses
 
--- an access that is asked for; a load's value is 0
+-- an access before it is decided; a load's value is 0
 abbrev pub request : Kind → Bool → Size → ℕ → ℕ → Request
 request kind privileged size address value =
     record { access = record { address = address; kind = kind; size = size; privileged = privileged }; value = value }
@@ -90,7 +90,8 @@ byte_requests kind privileged address (byte ∷ bytes) =
 abbrev pub meets_device : List Request → Bool
 meets_device requests = list_any (λ q. has_side_effects q.access.address) requests
 
--- an unaligned access stops before any byte where one of them meets a device (profile)
+-- the accesses of a byte that an unaligned access makes, or its stop before the first, where one is to a device
+-- (profile)
 abbrev pub unaligned : List Request → Result (List Request) Failure
 unaligned requests = if meets_device requests then Err (Stop (OutOfProfile UnalignedDevice)) else Ok requests
 
@@ -98,7 +99,7 @@ unaligned requests = if meets_device requests then Err (Stop (OutOfProfile Unali
 abbrev pub unless_trapped : Traps → List Request → Result (List Request) Failure
 unless_trapped traps requests = if traps.unaligned then Err (Usage Unaligned) else unaligned requests
 
--- the accesses of a load or a store: MemU[]
+-- the list of accesses of a load or a store: MemU[]
 unfoldable pub transfer : Traps → Kind → Bool → Size → ℕ → ℕ → Result (List Request) Failure
 transfer traps kind privileged size address value =
     if is_aligned size address
@@ -109,7 +110,7 @@ transfer traps kind privileged size address value =
 abbrev pub is_made_privileged : Bool → Registers → Bool
 is_made_privileged unprivileged r = is_privileged r && not unprivileged
 
--- the accesses of a load to R[t]: the PC is loaded from a multiple of 4, or the case is UNPREDICTABLE
+-- the list of accesses of a load to R[t]: the PC is loaded from a multiple of 4, or the case is UNPREDICTABLE
 unfoldable pub load : Traps → LoadForm → ℕ → Bool → ℕ → Result (List Request) Failure
 load traps form t privileged address =
     if t == 15 && not (is_aligned Word address)
@@ -118,18 +119,18 @@ load traps form t privileged address =
 
 -- ---- values
 
--- the number that the values read make: one value, or bytes of which the lowest is first
+-- the number that was read: one value, or bytes, the lowest first
 unfoldable pub joined : List ℕ → ℕ
 joined [] = 0
 joined (value ∷ values) = (value + 256 * joined values) % 2 ^ 32
 
--- what a load gives its register: the number, extended with its sign or with zeros
+-- what a load writes to its register: the number, extended with its sign or with zeros
 unfoldable pub loaded_value : LoadForm → List ℕ → ℕ
 loaded_value form values = extended form.signed (width_of form.size) (joined values)
 
 -- ---- the family
 
--- what a load or store of one register asks for
+-- the accesses of a load or store of one register
 unfoldable pub load_store_requests : Traps → LoadStore → Registers → Result (List Request) Failure
 load_store_requests traps (LoadImmediate o) r =
     load traps o.form o.target (is_made_privileged o.unprivileged r) (immediate_address o.address r)

@@ -84,7 +84,7 @@ load_dual_literal o r =
 
 -- ---- values
 
--- each register is given the value of its access, in order
+-- the value of its access is written to each register, in order
 unfoldable pub loaded : List ℕ → List ℕ → Registers → Registers
 loaded [] values r = r
 loaded (n ∷ ns) values r = loaded ns (drop 1 values) (with_register r n (slice_index values 0))
@@ -104,8 +104,8 @@ load_multiple bytes o values r =
 
 -- ---- the family
 
--- what a load or store of several registers asks for. LoadDual is LDRD (immediate), LoadDualLiteral is LDRD (literal),
--- and StoreDual is STRD. LoadMultiple is LDM, LDMDB and POP; StoreMultiple is STM, STMDB and PUSH
+-- the accesses of a load or store of several registers. LoadDual is LDRD (immediate), LoadDualLiteral is LDRD
+-- (literal), and StoreDual is STRD. LoadMultiple is LDM, LDMDB and POP; StoreMultiple is STM, STMDB and PUSH
 unfoldable pub load_store_multiple_requests : LoadStoreMultiple → Registers → Result (List Request) Failure
 load_store_multiple_requests (family.LoadDual o) r =
     several Load (o.first ∷ o.second ∷ []) (immediate_address o.address r) r

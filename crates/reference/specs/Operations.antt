@@ -1,6 +1,6 @@
--- What an instruction asks for, and what it makes of the answers (ARM DDI 0403, "Alphabetical list of ARMv7-M Thumb
--- instructions"). The chapter of its family has both; this one fixes the order: the place in an IT block, then
--- the condition, then the family.
+-- The accesses of an instruction, and what it does with the values that it reads (ARM DDI 0403, "Alphabetical list of
+-- ARMv7-M Thumb instructions"). The chapter of its family has both; this one fixes the order: the position in an IT
+-- block, then the condition, then the family.
 use Rattle.std.specs.Prelude.{ℕ, Bool, false, not, ◌&&◌, ◌||◌, if◌then◌else◌, List, [], Result, Ok, Err}
 use Rattle.reference.specs.declared.access.Request.{Request}
 use Rattle.reference.specs.declared.failure.Failure.{Failure}
@@ -27,7 +27,7 @@ use Rattle.reference.specs.SystemInstructions.{has_no_condition, system_effect}
 
 -- ---- before an instruction
 
--- whether an instruction isn't allowed at its place in an IT block
+-- whether an instruction isn't allowed at its position in an IT block
 abbrev pub is_misplaced : BlockPlace → ℕ → Bool
 is_misplaced Anywhere it_state = false
 is_misplaced LastOnly it_state = in_it_block it_state && not (last_in_it_block it_state)
@@ -46,7 +46,7 @@ is_unconditional (System i) = has_no_condition i
 abbrev pub is_carried_out : Instruction → Registers → Bool
 is_carried_out i r = is_unconditional i || condition_passed r.it_state r.flags
 
--- ---- what an instruction asks for
+-- ---- the accesses of an instruction
 
 -- one that is carried out: the accesses in their order, or the fault or the stop for which there are none
 unfoldable pub requests_of : Traps → Instruction → Registers → Result (List Request) Failure
@@ -57,8 +57,8 @@ requests_of traps (Exclusive i) r = exclusive_requests i r
 requests_of traps (Branch i) r = branch_requests traps i r
 requests_of traps (System i) r = Ok []
 
--- what an instruction asks for: a stop where its place in the IT block isn't allowed, else nothing where its condition
--- fails, else its accesses
+-- the accesses of an instruction, after the checks in their order: a stop where its position in the IT block isn't
+-- allowed, else none where its condition fails, else those of its family
 unfoldable pub wants : Traps → CodedInstruction → Registers → Result (List Request) Failure
 wants traps i r =
     if is_misplaced i.place r.it_state then Err (Stop (Unpredictable ItBlock))
@@ -67,8 +67,8 @@ wants traps i r =
 
 -- ---- what an instruction does
 
--- what an instruction of this length, when carried out, makes of the registers and of the values read, in the order of
--- its accesses
+-- the registers and the ending after an instruction of this length that is carried out, for the values read, in the
+-- order of its accesses
 unfoldable pub effect : InstructionLength → Instruction → Registers → List ℕ → Finished
 effect length (DataProcessing i) r values = data_processing_effect length i r
 effect length (LoadStore i) r values = load_store_effect length i r values

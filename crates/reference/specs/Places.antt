@@ -46,11 +46,11 @@ register_taken s after (answer.Value value) = Ok (with_bus s after)
 register_taken s after answer.Error = Err NoSuchPlace
 register_taken s after (answer.Stop why) = Err (Refused why)
 
--- what the Private Peripheral Bus made of a store
+-- the result of a store to the Private Peripheral Bus
 abbrev pub stored_in_ppb : State → BusAnswer → Result State PlaceFault
 stored_in_ppb s a = register_taken s a.bus a.answer
 
--- a store by privileged code, about which no rule is asked
+-- a privileged store, which no rule decides
 abbrev pub store_of : ℕ → ℕ → Request
 store_of address value = request Store true size.Word address value
 

@@ -109,7 +109,7 @@ unfoldable pub highest_active : Nvic → ℕ → ℕ
 highest_active n zero = lowest
 highest_active n (suc x) = raised_by n x (highest_active n x)
 
--- the priority to which the masks raise: -1 under FAULTMASK, 0 under PRIMASK, BASEPRI's group where it isn't 0
+-- the priority of the masks: -1 if FAULTMASK is set, 0 if PRIMASK is, BASEPRI's group if BASEPRI isn't 0
 abbrev pub boosted : ℕ → Masks → ℕ
 boosted group m =
     if m.faultmask then hard_fault_priority
@@ -125,7 +125,7 @@ execution_priority n = min (highest_active n EXCEPTIONS) (boosted n.group n.mask
 abbrev pub is_ready : Nvic → ℕ → Bool
 is_ready n x = is_in n.pending x && is_enabled n x
 
--- x, if there is no `before` or x has a higher priority; otherwise `before`, which has the lower number
+-- x, if there is no `before` or x has a higher priority; otherwise `before`
 abbrev pub better_of : Nvic → Option ℕ → ℕ → Option ℕ
 better_of n None x = Some x
 better_of n (Some before) x = if nat_lt (priority_of n x) (priority_of n before) then Some x else Some before
@@ -156,8 +156,8 @@ candidate n = if_preempts n (best n)
 abbrev pub is_below_zero : Nvic → Bool
 is_below_zero n = is_negative (execution_priority n)
 
--- what becomes of a fault or of SVC whose exception is x: its own exception where that is enabled and preempts,
--- otherwise lockup where the execution priority is below 0, and otherwise HardFault
+-- how a fault or SVC escalates whose exception is x: its own exception where that is enabled and preempts, otherwise
+-- lockup where the execution priority is below 0, and otherwise HardFault
 unfoldable pub escalation : Nvic → ℕ → Escalation
 escalation n x =
     if is_enabled n x && nat_lt (group_priority n x) (execution_priority n) then Itself
@@ -256,6 +256,6 @@ with_due_below n due (suc x) = with_due_at (with_due_below n due x) due x
 unfoldable pub with_due : Nvic → List ℕ → Nvic
 with_due n due = with_due_below n due EXCEPTIONS
 
--- the candidate with these pending too, and PRIMASK as given
+-- the candidate with these pending too, and with this PRIMASK
 unfoldable pub candidate_after : Nvic → List ℕ → Bool → Option ℕ
 candidate_after n due primask = candidate (with_primask (with_due n due) primask)

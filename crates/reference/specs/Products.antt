@@ -28,13 +28,13 @@ signed_wide x = if nat_lt x (2 ^ 63) then pos x else pos x -ℤ pos (2 ^ 64)
 abbrev pub number_of : Bool → ℕ → ℤ
 number_of is_signed x = if is_signed then signed x else pos x
 
--- the same of 64 bits
+-- likewise for 64 bits
 abbrev pub wide_number_of : Bool → ℕ → ℤ
 wide_number_of is_signed x = if is_signed then signed_wide x else pos x
 
 -- ---- one word
 
--- the low word of a product, which is the same of signed and unsigned operands
+-- the low word of a product, which is the same for signed and unsigned operands
 abbrev pub word_product : ℕ → ℕ → ℕ
 word_product x y = x * y % 2 ^ 32
 
@@ -87,7 +87,7 @@ multiply_long o r =
 
 -- ---- division
 
--- the quotient rounded towards zero, of which the low 32 bits stay: 80000000 by -1 gives 80000000; by zero it is 0
+-- the quotient rounded towards zero, of which the low 32 bits stay: 80000000 by -1 is 80000000; by zero it is 0
 unfoldable pub quotient : Bool → ℕ → ℕ → ℕ
 quotient is_signed x y =
     if y == 0 then 0 else low_bits 32 (int_div (number_of is_signed x) (number_of is_signed y))

@@ -74,7 +74,7 @@ fresh count = record { control = 0; number = 0; count = count; regions = replica
 
 -- The registers' addresses
 
--- the aliases are 8, 16 and 24 bytes above their registers
+-- whether an address is a register's or one of its aliases', which are 8, 16 and 24 bytes above it
 abbrev pub is_aliased : ℕ → ℕ → Bool
 is_aliased first a = (a == first) || (a == first + 8) || (a == first + 16) || (a == first + 24)
 
@@ -98,7 +98,7 @@ read m register.Number = m.number
 read m register.Base = (region m m.number).base + m.number
 read m register.Attributes = (region m m.number).attributes
 
--- what a debugger is shown of region k: RBAR with VALID 0 and REGION k, and RASR
+-- the registers of region k as a debugger shows them: RBAR with VALID 0 and REGION k, and RASR
 abbrev pub shown : Mpu → ℕ → Option (ℕ × ℕ)
 shown m k = if nat_lt k m.count then Some ((region m k).base + k, (region m k).attributes) else None
 
@@ -163,7 +163,7 @@ abbrev pub left : Mpu → Result Mpu MpuStop → Mpu
 left m (Ok n) = n
 left m (Err why) = m
 
--- what a write answers
+-- the result of a write
 abbrev pub answered : Result Mpu MpuStop → Result (Unit {0}) MpuStop
 answered (Ok n) = Ok tt
 answered (Err why) = Err why

@@ -49,7 +49,7 @@ pub record Letters : Type 0 where
   pub W : ℕ
   pub X : ℕ
 
--- a row's text, the exceptions to it, as texts with the same places, and what it makes of its fields
+-- a row's text, the exceptions to it, as texts with the same places, and the decoding of its fields
 pub record Row : Type 0 where
   pub places : List ℕ
   pub except : List (List ℕ)
@@ -99,11 +99,11 @@ abbrev pub as_printed : Bool → Decoded → Decoded
 as_printed true decoded = decoded
 as_printed false decoded = Unpredictable Anywhere Encoding
 
--- what a row that applies makes of the number
+-- the decoding of the number by a row that applies
 abbrev pub by_row : Row → ℕ → Decoded
 by_row row number = as_printed (is_as_printed row.places number) (row.gives (letters (field row.places number)))
 
--- what the row that applies makes of it, if one does
+-- the decoding by the row that applies, if one does
 abbrev pub by_found : Decoded → ℕ → Option Row → Decoded
 by_found otherwise number None = otherwise
 by_found otherwise number (Some row) = by_row row number
@@ -112,7 +112,7 @@ by_found otherwise number (Some row) = by_row row number
 unfoldable pub meaning : List Row → Decoded → ℕ → Decoded
 meaning rows otherwise number = by_found otherwise number (find (λ row. applies row number) rows)
 
--- ---- what rows make of their fields
+-- ---- the decoding of fields
 
 -- an instruction of one halfword
 abbrev pub short : Instruction → Decoded

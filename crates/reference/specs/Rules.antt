@@ -131,7 +131,7 @@ rank (Region k) = 5
 rank Background = 6
 rank NoRegion = 7
 
--- the case of a rule, as its line of the table says it, whatever the lines above say
+-- whether the case of a rule fits, apart from the cases before it, which `rank` orders
 abbrev pub Fits : Mpu → Asked → Rule → Type 0
 Fits m q NeverExecute = is_never_executed q.address q.kind ≡ true
 Fits m q VectorRead = is_vector q.kind ≡ true

@@ -17,7 +17,7 @@ unfoldable pub events_of : ℕ → State → List Event
 events_of zero s = []
 events_of (suc n) s = events_of n s ++ (step (after n s)).events
 
--- why a run of at most n steps ends
+-- the stop of a run of at most n steps: why it ends
 abbrev pub ending_of : ℕ → State → Stop
 ending_of n s = unwrap_or (after n s).stop StepLimit
 

@@ -22,7 +22,7 @@ pub record State : Type 0 where
   -- why the machine has stopped, if it has
   pub stop : Option Stop
 
--- what a step makes of a state: the next one, and the lines of the step
+-- what a step returns: the next state, and the lines of the step
 pub record Stepped : Type 0 where
   pub state : State
   pub events : List Event

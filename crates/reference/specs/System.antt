@@ -104,12 +104,12 @@ in_place q = q.value % 256 ^ bytes_in q.access.size * 2 ^ (8 * first_byte q.acce
 
 -- ---- an access
 
--- the state after an access, and what is answered
+-- the state after an access, and the answer
 pub record SystemAnswer : Type 0 where
   pub system : System
   pub answer : Answer
 
--- a read is answered by a value, and a write by 0
+-- the answer to a read is its value, and that to a write 0
 abbrev pub replies : System → ℕ → SystemAnswer
 replies s value = record { system = s; answer = answer.Value value }
 
@@ -191,7 +191,7 @@ has_access s q =
     q.access.privileged || (is_store q.access.kind && is_word q.access.size && (q.access.address == stir_address)
     && usersetmpend s.status)
 
--- an access to a register: its privilege is asked first, then its width
+-- an access to a register: its privilege is checked first, then its width
 unfoldable pub register_access : ℕ → System → Request → SystemRegister → SystemAnswer
 register_access x s q which =
     if not (has_access s q) then errs s
@@ -228,7 +228,7 @@ after_tick s = record s { nvic = with_pended s.nvic (tick_pends s.time); time = 
 
 -- ---- handlers
 
--- whether exception x is that of a line of the board which is high
+-- whether exception x is of a line of the board that is high
 abbrev pub is_held : System → ℕ → Bool
 is_held s x = is_interrupt s.nvic.lines x && is_high s.time (x - FIRST_LINE)
 

@@ -80,7 +80,7 @@ reset_systick = record { enable = false; tickint = false; countflag = false; rel
 
 -- The script
 
--- how many of the first events aren't later than a tick
+-- how many events at the head of a script are due by a tick
 abbrev pub due_count : ℕ → List ScriptedEvent → ℕ
 due_count tick script = prefix_len (λ e. nat_le e.at tick) script
 

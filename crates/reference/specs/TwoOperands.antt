@@ -67,7 +67,7 @@ written setting d given r =
 abbrev pub inverted : ℕ → ℕ
 inverted x = 2 ^ 32 - 1 - x
 
--- the carry that an immediate gives: where its expansion gives none, C as it is
+-- the carry of an immediate: C, unchanged, where its expansion has none
 abbrev pub immediate_carry : Immediate → Flags → Bool
 immediate_carry immediate f = unwrap_or immediate.carry f.carry
 

@@ -5,7 +5,7 @@ ghost use Rattle.reference.specs.Kinds.{bytes_in, is_fetch, is_load, is_probe, i
 
 use crate::stop::Stop;
 
-/// The most accesses that one instruction asks for.
+/// The most accesses of one instruction.
 pub const MOST_REQUESTS: usize = 16;
 
 /// What an access is for.
@@ -105,14 +105,14 @@ impl Size {
     }
 }
 
-/// The rule that decided an access: the first that fits, in the order that docs/TRACE.md gives under "The rule".
+/// The rule that decided an access: the first that fits, in the order of docs/TRACE.md, "The rule".
 #[derive(Clone, Copy)]
 pub enum Rule {
     /// A fetch at or above 0xE0000000 is never granted.
     NeverExecute,
     /// A vector read is always granted.
     VectorRead,
-    /// A data access to the Private Peripheral Bus doesn't ask the regions.
+    /// A data access to the Private Peripheral Bus, which the regions don't decide.
     PrivatePeripheralBus,
     /// The MPU is off: the default memory map decides.
     MpuOff,
@@ -142,7 +142,7 @@ pub struct Access {
     pub privileged: bool,
 }
 
-/// An access that is asked for.
+/// An access before it is decided.
 #[derive(Clone, Copy)]
 pub struct Request {
     pub access: Access,
@@ -160,10 +160,10 @@ pub struct DecidedAccess {
     pub refused: Option<Cause>,
 }
 
-/// What the bus answers to an access that a rule granted.
+/// The bus's answer to an access that a rule granted.
 #[derive(Clone, Copy)]
 pub enum Answer {
-    /// It was carried out; a read gives its value, a write 0.
+    /// It was carried out: the value of a read, and 0 for a write.
     Value(u32),
     /// A bus error: it was refused, and nothing is changed.
     Error,
@@ -183,7 +183,7 @@ pub enum Cause {
 /// The answer to a request.
 #[derive(Clone, Copy)]
 pub enum Performed {
-    /// The rule granted it, and it was carried out; a read gives its value, a write 0.
+    /// The rule granted it, and it was carried out: the value of a read, and 0 for a write.
     Done(Rule, u32),
     /// It was refused, and nothing is changed.
     Denied(Rule, Cause),
@@ -191,7 +191,7 @@ pub enum Performed {
     Stop(Stop),
 }
 
-// A list of a fixed capacity is made of blank requests.
+// A blank request: the value of the unused elements of a fixed-size list.
 impl Default for Request {
     fn default() -> Self {
         Request {

@@ -39,7 +39,7 @@ pub struct RecordedFault {
     pub exception: u16,
 }
 
-// A list of a fixed capacity is made of blank events.
+// A blank event: the value of the unused elements of a fixed-size list.
 impl Default for Event {
     fn default() -> Self {
         Event {

@@ -110,7 +110,7 @@ pub struct Masks {
     pub basepri: u8,
 }
 
-/// What becomes of a fault or of SVC.
+/// How a fault or SVC escalates.
 #[derive(Clone, Copy)]
 pub enum Escalation {
     /// Its own exception becomes pending.

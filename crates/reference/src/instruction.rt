@@ -1,5 +1,5 @@
 //! The instructions, by family: one variant for each shape of operands, so that every encoding of
-//! one operation gives the same variant.
+//! one operation has the same variant.
 
 ghost use Rattle.std.specs.Prelude.{◌≡◌};
 ghost use Rattle.reference.specs.ProgramCounter.{instruction_bytes};
@@ -15,7 +15,7 @@ use crate::operands::{
 };
 use crate::stop::UnpredictableCase;
 
-/// What a halfword, or a pair of them, means.
+/// The decoding of a halfword, or of a pair of them.
 #[derive(Clone, Copy)]
 pub enum Decoded {
     Instr(CodedInstruction),
@@ -24,11 +24,12 @@ pub enum Decoded {
     /// A coprocessor's instruction: UsageFault NOCP.
     NoCoprocessor,
     /// A row that is UNPREDICTABLE: where it may be in an IT block, and its first cause. The stop is
-    /// `Encoding` if that is the cause, else `ItBlock` if the place isn't allowed, else the cause.
+    /// `Encoding` if that is the cause, else `ItBlock` if the position isn't allowed, else the
+    /// cause.
     Unpredictable(BlockPlace, UnpredictableCase),
 }
 
-/// An instruction as a row gives it.
+/// An instruction as a row decodes to it.
 #[derive(Clone, Copy)]
 pub struct CodedInstruction {
     pub instruction: Instruction,
@@ -213,7 +214,7 @@ pub enum Hint {
     Preload,
     /// DMB, DSB and ISB.
     Barrier,
-    /// A place among the hints that the manual leaves free.
+    /// A number of a hint that the manual leaves unallocated.
     Unallocated,
 }
 

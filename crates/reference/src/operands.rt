@@ -1,5 +1,5 @@
 //! The operands of the instructions, one struct for each shape. Immediates are scaled and expanded,
-//! as the manual's decode pseudocode gives them (`imm32`); registers are numbers from 0 to 15.
+//! as the manual's decode pseudocode computes them (`imm32`); registers are numbers from 0 to 15.
 
 ghost use Rattle.std.specs.Prelude.{◌≡◌};
 ghost use Rattle.reference.specs.SpecialRegisters.{special_of};
@@ -19,7 +19,7 @@ pub enum FlagSetting {
     Always,
 }
 
-/// What a data-processing instruction makes of its two operands.
+/// The operation of a data-processing instruction on its two operands.
 #[derive(Clone, Copy)]
 pub enum DataOperation {
     /// AND.
@@ -57,7 +57,7 @@ pub enum Comparison {
     CompareNegative,
 }
 
-/// What a move makes of its operand.
+/// The operation of a move on its operand.
 #[derive(Clone, Copy)]
 pub enum MoveOperation {
     /// MOV.
@@ -66,11 +66,11 @@ pub enum MoveOperation {
     MoveNot,
 }
 
-/// A number as an operand, and the carry that its expansion gives.
+/// A number as an operand, and the carry of its expansion.
 #[derive(Clone, Copy)]
 pub struct Immediate {
     pub value: u32,
-    /// None where the carry stays as it was.
+    /// None where the carry doesn't change.
     pub carry: Option<bool>,
 }
 
@@ -81,7 +81,7 @@ pub struct ShiftedRegister {
     pub shift: Shift,
 }
 
-/// A register and a number give a register.
+/// A destination, a register and a number.
 #[derive(Clone, Copy)]
 pub struct DataImmediate {
     pub operation: DataOperation,
@@ -91,7 +91,7 @@ pub struct DataImmediate {
     pub second: Immediate,
 }
 
-/// Two registers, the second shifted, give a register.
+/// A destination and two registers, the second shifted.
 #[derive(Clone, Copy)]
 pub struct DataRegister {
     pub operation: DataOperation,
@@ -234,7 +234,7 @@ pub struct ExtractField {
     pub width: u8,
 }
 
-/// A bit field of a register, given the low bits of another.
+/// A bit field of a register, set to the low bits of another.
 #[derive(Clone, Copy)]
 pub struct InsertField {
     pub destination: Register,
@@ -287,7 +287,7 @@ pub struct Rearrange {
 
 // ---- loads and stores
 
-/// What a load makes of what it reads.
+/// The size of a load, and how its value is extended.
 #[derive(Clone, Copy)]
 pub struct LoadForm {
     pub size: Size,
@@ -466,7 +466,7 @@ pub struct ConditionalBranch {
 /// A branch to the address that a register holds.
 #[derive(Clone, Copy)]
 pub struct BranchExchange {
-    /// Whether LR is given the address of the next instruction.
+    /// Whether the address of the next instruction is written to LR.
     pub links: bool,
     pub target: Register,
 }

@@ -3,11 +3,11 @@
 /// Why a run ended. After any of these but `StepLimit` the machine makes no further step.
 #[derive(Clone, Copy)]
 pub enum Stop {
-    /// The number of steps that was asked for was made.
+    /// As many steps were made as the limit allows.
     StepLimit,
     /// A BKPT instruction with this number.
     Breakpoint(u8),
-    /// A fault arose where no fault can be taken.
+    /// A fault that can't be taken.
     Lockup,
     /// The manual calls the case UNPREDICTABLE, or the value stored UNKNOWN, and the machine stops
     /// with a named stop.
@@ -23,7 +23,7 @@ pub enum Stop {
 pub enum UnpredictableCase {
     /// A bit that should be 0 or should be 1 isn't.
     Encoding,
-    /// An instruction is in an IT block where it may not.
+    /// An instruction is in an IT block where it may not be.
     ItBlock,
     /// No register in a list of 16 bits, or fewer than two in one of 32 bits.
     ShortList,

@@ -20,7 +20,7 @@ pub fn add_with_carry(x: u32, y: u32, carry: bool) -> (u32, bool, bool)
     (result, sum >> 32 != 0, is_overflow(x, y, carry, result))
 }
 
-/// The whole sum of two words and a carry.
+/// Returns the whole sum of two words and a carry.
 #[inline]
 fn unsigned_sum(x: u32, y: u32, carry: bool) -> u64
     ensures { result ≡ unsigned_sum_of x y carry }
@@ -28,7 +28,8 @@ fn unsigned_sum(x: u32, y: u32, carry: bool) -> u64
     x as u64 + y as u64 + if carry { 1 } else { 0 }
 }
 
-/// Whether the signed sum isn't the result: both words have one sign, and the result has the other.
+/// Returns whether the signed sum isn't the result: both words have one sign, and the result has
+/// the other.
 #[inline]
 #[tactic(auto, using(crate::proofs::Sums::signs_of_sum))]
 fn is_overflow(x: u32, y: u32, carry: bool, sum: u32) -> bool
@@ -175,7 +176,7 @@ pub fn expand_imm(imm12: u16, carry: bool) -> Option<(u32, bool)>
     Some((replicated(pattern, byte), carry))
 }
 
-/// A byte at its places in one of the four patterns.
+/// Returns a byte at its places in one of the four patterns.
 #[inline]
 fn replicated(pattern: u16, byte: u32) -> u32
     requires { byte < 256 }

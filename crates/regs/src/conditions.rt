@@ -6,8 +6,8 @@ ghost use Rattle.reference.specs.Arithmetic.{condition_holds as holds_of, base_c
 use crate::{Flags, Regs};
 
 impl Regs {
-    /// Whether the flags meet this condition, as its four bits: 0 to 14 are EQ, NE, CS, CC, MI,
-    /// PL, VS, VC, HI, LS, GE, LT, GT, LE and AL, and 15 always holds.
+    /// Returns whether the flags meet this condition, as its four bits: 0 to 14 are EQ, NE, CS, CC,
+    /// MI, PL, VS, VC, HI, LS, GE, LT, GT, LE and AL, and 15 always holds.
     #[inline]
     pub fn condition(&self, condition: u8) -> bool
         ensures { result ≡ holds_of condition self.now.flags }
@@ -21,7 +21,7 @@ impl Regs {
     pub fn condition_passed(&self) -> bool
         ensures { result ≡ passed_of self.now.it_state self.now.flags }
     {
-        // Most instructions stand outside an IT block, so that is asked first.
+        // Most instructions are outside an IT block, so that is tested first.
         !self.in_it_block() || self.condition(self.current_condition())
     }
 
@@ -54,7 +54,7 @@ impl Regs {
         self.it_state() & 0b1111 == 0b1000
     }
 
-    /// `ITAdvance()`, which outside an IT block leaves all as it is.
+    /// `ITAdvance()`, which changes nothing outside an IT block.
     #[inline]
     pub fn it_advance(&mut self)
         ensures { self.new ≡ record self.old { it_state = advanced self.old.it_state } }
@@ -63,7 +63,7 @@ impl Regs {
     }
 }
 
-/// The eight bits of IT after an instruction.
+/// Returns the eight bits of IT after an instruction.
 #[inline]
 fn it_advanced(it: u8) -> u8
     ensures { result ≡ advanced it }
@@ -90,7 +90,7 @@ fn condition_holds(condition: u8, flags: Flags) -> bool
     }
 }
 
-/// The condition that the upper three bits name.
+/// Returns the condition that the upper three bits name.
 #[inline]
 fn base_condition(base: u8, flags: Flags) -> bool
     ensures { result ≡ base_of base flags }

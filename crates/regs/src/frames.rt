@@ -34,7 +34,7 @@ pub fn returns_on_psp(exc_return: u32) -> bool
 }
 
 impl Regs {
-    /// Returns the EXC_RETURN that a handler gets which interrupts this code.
+    /// Returns the EXC_RETURN in LR of a handler that interrupts this code.
     pub fn exc_return(&self) -> u32
         ensures { result ≡ exc_return_of self.now }
     {

@@ -67,7 +67,7 @@ impl Model for Regs {
 }
 
 impl Regs {
-    /// The registers after `TakeReset()`, from the first two entries of the vector table.
+    /// Returns the registers after `TakeReset()`, from the first two entries of the vector table.
     pub fn reset(stack: u32, entry: u32) -> Self
         ensures { result ≡ reset_registers stack entry }
     {
@@ -127,7 +127,7 @@ impl Regs {
         }
     }
 
-    /// The stack pointer in use.
+    /// Returns the stack pointer in use.
     #[inline]
     pub fn sp(&self) -> u32
         ensures { result ≡ sp_of self.now }
@@ -135,7 +135,7 @@ impl Regs {
         if self.uses_psp() { self.psp } else { self.msp }
     }
 
-    /// The stack pointer in use is given a value, whose bits 1:0 are cleared.
+    /// Sets the stack pointer in use to a value, whose bits 1:0 are cleared.
     #[inline]
     fn set_sp(&mut self, value: u32)
         ensures { self.new ≡ with_sp self.old value }
@@ -147,7 +147,7 @@ impl Regs {
         }
     }
 
-    /// Whether SP is PSP: `LookUpSP()`.
+    /// Returns whether SP is PSP: `LookUpSP()`.
     #[inline]
     fn uses_psp(&self) -> bool
         ensures { result ≡ uses_psp_of self.now }
@@ -162,7 +162,7 @@ impl Regs {
         self.general
     }
 
-    /// The address of the next instruction.
+    /// Returns the address of the next instruction.
     #[inline]
     pub fn pc(&self) -> u32
         ensures { result ≡ self.now.pc }
@@ -187,7 +187,7 @@ impl Regs {
         self.thumb = address & 1 == 1;
     }
 
-    /// Goes on to the instruction behind one of this length.
+    /// Advances the PC past an instruction of this length.
     #[inline]
     pub fn go_on(&mut self, length: u32)
         ensures { self.new ≡ record self.old { pc = word_sum self.old.pc length } }
@@ -195,7 +195,7 @@ impl Regs {
         self.pc = self.pc.wrapping_add(length);
     }
 
-    /// The flags of APSR.
+    /// Returns the flags of APSR.
     #[inline]
     pub fn flags(&self) -> Flags
         ensures { result ≡ self.now.flags }
@@ -203,7 +203,7 @@ impl Regs {
         self.flags
     }
 
-    /// The flags are given, each of the five.
+    /// Sets the five flags.
     #[inline]
     pub fn set_flags(&mut self, flags: Flags)
         ensures { self.new ≡ record self.old { flags = flags } }
@@ -211,7 +211,7 @@ impl Regs {
         self.flags = flags;
     }
 
-    /// The eight bits of EPSR.IT are given.
+    /// Sets the eight bits of EPSR.IT.
     #[inline]
     pub fn set_it_state(&mut self, it_state: u8)
         ensures { self.new ≡ record self.old { it_state = it_state } }
@@ -219,7 +219,7 @@ impl Regs {
         self.it_state = it_state;
     }
 
-    /// Whether a handler runs: Handler mode.
+    /// Returns whether a handler runs: Handler mode.
     #[inline]
     pub fn is_handler(&self) -> bool
         ensures { result ≡ is_handler_of self.now }
@@ -348,7 +348,7 @@ impl Regs {
     }
 }
 
-/// The flags in bits 31:27 of a word: those that MSR gives APSR.
+/// Returns the flags in bits 31:27 of a word, as MSR writes them to APSR.
 #[inline]
 pub fn flags_of(word: u32) -> Flags
     ensures { result ≡ flags_of word }

@@ -10,7 +10,7 @@ use reference::registers::Marked;
 
 impl Regs {
     /// Returns whether an address is marked with this size: the part of `ExclusiveMonitorsPass()` that
-    /// asks the monitor.
+    /// tests the local monitor.
     pub fn is_marked(&self, address: u32, size: Size) -> bool
         ensures { result ≡ is_marked_in self.now address size }
     {

@@ -9,7 +9,7 @@ use Rattle.row_laws.specs.Overlaps.{Overlap}
 abbrev pub HavePlaces : ℕ → List Row → Type 0
 HavePlaces places rows = All (λ row. length row.places ≡ places) rows
 
--- no number is that of two rows, so the order of rows is ignored
+-- no number has two rows, so rows may be in any order
 abbrev pub AreApart : List Row → Type 0
 AreApart rows = AllPairs (λ one other. (x : ℕ) → applies one x ≡ true → applies other x ≡ true → ⊥) rows
 
@@ -32,6 +32,6 @@ WinsOver winner row =
     ((x : ℕ) × (fits winner.places x ≡ true) × (fits row.places x ≡ true))
     × ((x : ℕ) → fits winner.places x ≡ true → applies row x ≡ false)
 
--- what the list has is so
+-- each winner of the list wins over its row
 abbrev pub DoOverlap : List Overlap → Type 0
 DoOverlap overlaps = All (λ o. All (λ winner. WinsOver winner o.row) o.others) overlaps

@@ -1,4 +1,4 @@
--- What a write leaves and answers, by the registers after it or its stop by name.
+-- What a write leaves, and its answer, from its result: the new registers, or its stop.
 use Rattle.std.specs.Prelude.{Result, Ok, Err}
 use Rattle.reference.specs.declared.stop.Stop.{Stop}
 
@@ -7,7 +7,7 @@ abbrev pub left : {A : Type 0} → A → Result A Stop → A
 left old (Ok new) = new
 left old (Err why) = old
 
--- what a write answers
+-- the answer to a write
 abbrev pub answered : {A : Type 0} → Result A Stop → Result (Unit {0}) Stop
 answered (Ok new) = Ok tt
 answered (Err why) = Err why

@@ -10,7 +10,7 @@ use reference::exception::{NMI, PEND_SV, SYS_TICK};
 use reference::stop::{LeftOut, Stop, UnpredictableCase};
 use reference::system::ControlRegister;
 
-/// CPUID: no implementer, and an architecture that CPUID registers describe.
+/// CPUID: implementer 0, and ARCHITECTURE F (the CPUID registers describe it).
 const CPUID: u32 = 0x000F_0000;
 
 /// AIRCR.VECTKEYSTAT.
@@ -44,7 +44,7 @@ pub fn read_control<L: Levels>(levels: &L, exception: u16, register: ControlRegi
     }
 }
 
-/// Writes a register. A write that stops by name changes nothing.
+/// Writes a register. A write that stops changes nothing.
 #[tactic(auto, unfolding(reference::specs::Control::write_control))]
 pub fn write_control<L: Levels>(
     levels: &mut L,

@@ -12,7 +12,7 @@ ghost use Rattle.reference.specs.SpecialRegisters.{write_mask, change_state};
 ghost use Rattle.reference.specs.System.{System, system_access, after_tick, deactivated, reset_system, with_nvic};
 ghost use Rattle.scs.specs.Laws.{IsSound};
 
-/// An access that is a bus error or stops by name leaves the system as it was.
+/// An access that is a bus error or stops changes nothing in the system.
 #[tactic(auto, using(crate::proofs::Refusals::system_keeps))]
 pub fn refused_access_changes_nothing()
     ensures { (x : ℕ) (s : System) (q : Request) → LeavesUnlessDone (system_access x s q).answer s (system_access x s q).system }

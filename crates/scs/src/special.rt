@@ -143,7 +143,7 @@ fn write_faultmask<L: Levels>(levels: &mut L, on: bool)
     }
 }
 
-/// Returns whether BASEPRI_MAX takes a value while BASEPRI has another.
+/// Returns whether a write of `value` to BASEPRI_MAX sets BASEPRI, which is `basepri` now.
 fn is_tighter(basepri: u8, value: u8) -> bool
     ensures { result ≡ is_tighter_of basepri value }
 {

@@ -82,8 +82,8 @@ impl<D: Decider, L: Levels, U: DueTicks> System<D, L, U> {
         }
     }
 
-    /// Makes the next tick: time goes on, and what the tick pends becomes pending.
-    /// At most ticks nothing is due, and time alone goes on.
+    /// Makes the next tick: time goes on, and what the tick pends becomes pending. On most ticks
+    /// nothing is due: only time goes on.
     #[inline]
     #[tactic(auto, using(crate::proofs::Due::nothing_is_pended), unfolding(reference::specs::System::after_tick))]
     pub fn tick(&mut self)
@@ -147,8 +147,8 @@ impl<D: Decider, L: Levels, U: DueTicks> System<D, L, U> {
         &self.decider
     }
 
-    /// Returns the rule that decides an access at the execution priority of this moment, and whether
-    /// it grants it.
+    /// Returns the rule that decides an access at the current execution priority, and whether it
+    /// grants it.
     #[inline(always)]
     pub fn decide(&mut self, access: &Access) -> Decision
         ensures value { result ≡ decision_of self.old.mpu access.now.address access.now.kind access.now.privileged (is_below_zero self.old.nvic) }
@@ -181,7 +181,7 @@ impl<D: Decider, L: Levels, U: DueTicks> System<D, L, U> {
         special::read_special(regs, self.levels.masks(), register)
     }
 
-    /// Writes a special register as MSR does, with the privilege of the code that `regs` is of.
+    /// Writes a special register as MSR does, with the privilege of `regs`.
     pub fn write_special(&mut self, regs: &mut Regs, register: SpecialRegister, value: u32)
         ensures registers { regs.new ≡ write_special_of regs.old register value }
         ensures system { self.new ≡ with_nvic self.old (write_mask_of (is_privileged regs.old) self.old.nvic register value) }
@@ -239,7 +239,7 @@ impl<D: Decider, L: Levels, U: DueTicks> System<D, L, U> {
         }
     }
 
-    /// Returns whether an exception is that of a line of the board which is high.
+    /// Returns whether an exception is of a line of the board that is high.
     fn is_held(&self, number: u16) -> bool
         ensures { result ≡ is_held_of self.now number }
     {
@@ -277,7 +277,7 @@ impl<D: Decider, L: Levels, U: DueTicks> System<D, L, U> {
     }
 
     /// Carries out a load or a store in the Private Peripheral Bus while IPSR is `exception`, or
-    /// answers why not.
+    /// returns why not.
     #[tactic(auto, unfolding(reference::specs::System::system_access))]
     pub fn access(&mut self, exception: u16, request: &Request) -> Answer
         ensures system { self.new ≡ (system_access exception self.old request.now).system }
@@ -321,8 +321,8 @@ impl<D: Decider, L: Levels, U: DueTicks> System<D, L, U> {
         }
     }
 
-    /// Returns whether the bus takes an access: one of privileged code, or a word that is stored to
-    /// STIR where CCR.USERSETMPEND is 1.
+    /// Returns whether the bus accepts an access: one of privileged code, or a word that is stored
+    /// to STIR where CCR.USERSETMPEND is 1.
     fn has_access(&self, request: &Request) -> bool
         ensures { result ≡ is_allowed_of self.now request.now }
     {
@@ -354,7 +354,7 @@ impl<D: Decider, L: Levels, U: DueTicks> System<D, L, U> {
         }
     }
 
-    /// Writes a register; a write that stops by name changes nothing.
+    /// Writes a register; a write that stops changes nothing.
     #[tactic(auto, unfolding(reference::specs::System::written))]
     fn write(&mut self, request: &Request, register: SystemRegister) -> Result<(), Stop>
         ensures system { self.new ≡ left self.old (written self.old request.now register) }

@@ -8,7 +8,7 @@ use Rattle.reference.specs.Operations.{result_of}
 use Rattle.reference.specs.State.{State, ticked, with_bus, with_registers}
 use Rattle.reference.specs.Time.{last_tick}
 
--- what holds of the state that is given, where one is
+-- what holds of the resulting state, where there is one
 abbrev pub IfGiven : {E : Type 0} → (State → Type 0) → Result State E → Type 0
 IfGiven P (Ok s) = P s
 IfGiven P (Err why) = Unit {0}

@@ -34,7 +34,7 @@ pub fn phases_keep_the_invariant()
     ensures instruction { (s : State) (i : CodedInstruction) (requests : List Request) → InstructionKeeps s i requests }
 {}
 
-/// A value that is placed into a state keeps the invariant.
+/// A value that `place` puts into a state keeps the invariant.
 pub fn place_keeps_the_invariant()
     ensures { (s : State) (p : Place) → Invariant s → IfGiven Invariant (place s p) }
 {}

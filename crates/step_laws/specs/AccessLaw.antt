@@ -32,8 +32,8 @@ is_refused (FaultRecorded fault) = false
 abbrev pub AllGranted : List Event → Type 0
 AllGranted events = All (λ event. is_refused event.what ≡ false) events
 
--- a fault line is that of a fault of the table: its bits are set in CFSR and HFSR, and what became pending is its
--- exception, or HardFault in its place; in lockup nothing did
+-- a fault line is of a fault of the table: its bits are set in CFSR and HFSR, and what became pending is its exception,
+-- or HardFault in its place; in lockup nothing did
 pub record IsLineOf (effect : FaultEffect) (fault : RecordedFault) : Type 0 where
   pub exception : (fault.exception ≡ effect.exception) ⊎ ((fault.exception ≡ HARD_FAULT) ⊎ (fault.exception ≡ 0))
   pub cfsr : bit_and fault.cfsr effect.cfsr ≡ effect.cfsr
@@ -83,8 +83,8 @@ pub record OnlyCoveredFrom (base : ℕ) (old new : List ℕ) (events : List Even
   pub size : length new ≡ length old
   pub bytes : (k : ℕ) → are_covering events (base + k) ≡ false → slice_index new k ≡ slice_index old k
 
--- flash and RAM keep their addresses and sizes, and their bytes change only where a store or a push of these events that
--- was carried out covers them
+-- flash and RAM keep their addresses and sizes, and their bytes change only where a store or a push of these events
+-- that was carried out covers them
 pub record OnlyCovered (old new : Memory) (events : List Event) : Type 0 where
   pub flash_base : new.flash_base ≡ old.flash_base
   pub flash : OnlyCoveredFrom old.flash_base old.flash new.flash events

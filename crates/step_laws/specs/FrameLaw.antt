@@ -1,4 +1,4 @@
--- What a return gives back of the registers that an entry pushed (ARM DDI 0403, PushStack() and PopStack()).
+-- Which registers a return restores, of those that an entry pushed (ARM DDI 0403, PushStack() and PopStack()).
 use Rattle.std.specs.Prelude.{◌≡◌, ℕ, ◌<◌, List, slice_index, None}
 use Rattle.reference.specs.declared.event.Event.{Event}
 use Rattle.reference.specs.Accesses.{perform_all}
@@ -31,7 +31,7 @@ pub record AreBack (r back : Registers) : Type 0 where
 -- ---- the frame alone
 
 -- let `HasRegisters` hold of r and of u; where the stack pointer that EXC_RETURN names is in u as it was after the push
--- from r, the words of the frame give back what it keeps of r
+-- from r, the words of the frame restore what it keeps of r
 abbrev pub FrameGivesBack : Registers → Registers → Type 0
 FrameGivesBack r u =
     HasRegisters r → HasRegisters u → frame_pointer u (exc_return r) ≡ sp (with_frame r) →
@@ -58,7 +58,7 @@ IsFree s = (s.entry ≡ None) × (s.stop ≡ None)
 
 -- let s and u be states with the invariant; where all eight pushes of an entry from s are carried out, and the frame's
 -- bytes and the stack pointer that EXC_RETURN names are in u as they were after the pushes, a return from u with that
--- EXC_RETURN that neither stops nor begins an entry gives back what the frame keeps of the registers of s
+-- EXC_RETURN that neither stops nor begins an entry restores what the frame keeps of the registers of s
 abbrev pub ReturnGivesBack : State → State → List Event → Type 0
 ReturnGivesBack s u before =
     let returned = (exception_return u before (exc_return s.registers)).state in

@@ -19,7 +19,7 @@ pub fn accesses_of_a_step()
     ensures only_covered { (s : State) → OnlyCovered s.bus.memory (step s).state.bus.memory (step s).events }
 {}
 
-/// The words of a frame give back the registers that were pushed: R0 to R3, R12, LR, PC, the flags,
+/// The words of a frame restore the registers that were pushed: R0 to R3, R12, LR, PC, the flags,
 /// IT, T, the exception's number, the mode, the stack that SP is, and SP itself with its bit 2. The
 /// invariant holds of the registers before the push and before the pop, and the stack pointer that
 /// EXC_RETURN names is as it was after the push (ARM DDI 0403, PushStack() and PopStack()).
@@ -28,7 +28,7 @@ pub fn frame_gives_registers_back()
 {}
 
 /// Where all pushes of an entry from a state with the invariant were carried out, a return with its
-/// EXC_RETURN gives back those registers from every state with the invariant that has the frame's
+/// EXC_RETURN restores those registers from every state with the invariant that has the frame's
 /// bytes and the stack pointer as they were after the pushes, if the return neither stops nor begins
 /// an entry (ARM DDI 0403, PushStack(), ExceptionReturn() and PopStack()).
 pub fn return_gives_registers_back()

@@ -64,8 +64,8 @@ fn step(regs: &mut Regs, memory: &mut Memory) -> Result<Ending, Failure> {
     Ok(finish(&coded, regs, values.as_slice()))
 }
 
-/// Whether an instruction goes on to the next one. MRS and MSR do what is left of them, with masks
-/// after a reset.
+/// Returns whether an instruction goes on to the next one. MRS and MSR do what is left of them,
+/// with masks after a reset.
 fn goes_on(regs: &mut Regs, ending: Ending) -> bool {
     let mut levels = PlainLevels::fresh(0, 8);
     match ending {
@@ -103,7 +103,7 @@ fn runs(case: &mut Case) -> bool {
     true
 }
 
-/// Whether the registers are the ones wanted.
+/// Returns whether the registers are the ones wanted.
 fn has_registers(case: &Case) -> bool {
     'registers: for number in 0..15 {
         if case.regs.get(Register::new(number)) != case.wanted.registers[number as usize] {
@@ -113,7 +113,7 @@ fn has_registers(case: &Case) -> bool {
     case.regs.pc() == case.wanted.registers[15]
 }
 
-/// Whether the flags, IT and T are the ones wanted.
+/// Returns whether the flags, IT and T are the ones wanted.
 fn has_status(case: &Case) -> bool {
     case.regs.apsr() == case.wanted.flags
         && case.regs.it_state() == case.wanted.it

@@ -1,5 +1,5 @@
-//! Runs of whole machines: what they write, and what stands afterwards. Tests alone, over what
-//! `machine` gives to its callers; the values come from the manual (ARM DDI 0403).
+//! Runs of whole machines: what they write, and the state afterwards. Tests alone, over the public
+//! functions of `machine`; the values come from the manual (ARM DDI 0403).
 #![tactic(auto)]
 
 #[cfg(test)]

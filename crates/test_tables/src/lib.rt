@@ -6,7 +6,7 @@ use std::test::Fail;
 
 /// What reads the rows of a table.
 pub trait Rows {
-    /// Whether a row holds. None where it can't be read.
+    /// Returns whether a row holds. None where it can't be read.
     fn holds(&mut self, row: &str) -> Option<bool>;
 }
 
@@ -71,7 +71,7 @@ pub fn long_at(part: &str, place: usize) -> Option<u64> {
     u64::from_str_radix(word(part, place), 16).ok()
 }
 
-/// Whether a word is the first of two, where it is one of them.
+/// Returns whether a word is the first of two, where it is one of them.
 pub fn is_first(word: &str, first: &str, second: &str) -> Option<bool> {
     if word == first {
         Some(true)

@@ -15,7 +15,7 @@ static PAIRS: [u8; 512] = *b"\
     E0E1E2E3E4E5E6E7E8E9EAEBECEDEEEFF0F1F2F3F4F5F6F7F8F9FAFBFCFDFEFF\
     ";
 
-/// The two digits of a byte.
+/// Returns the two digits of a byte.
 #[inline(always)]
 #[tactic(auto, using(crate::proofs::Pairs::pair_at))]
 pub(crate) fn pair(byte: u8) -> [u8; 2]
@@ -25,7 +25,7 @@ pub(crate) fn pair(byte: u8) -> [u8; 2]
     [PAIRS[from], PAIRS[from + 1]]
 }
 
-/// The eight digits of a word.
+/// Returns the eight digits of a word.
 #[inline(always)]
 pub(crate) fn word(value: u32) -> [u8; 8]
     ensures { result ≡ hex_word value }

@@ -28,7 +28,7 @@ const STOP_ROOM: usize = 40;
 /// The text of one line, at most 64 bytes.
 pub type Text = Page<64>;
 
-/// The line of an event.
+/// Returns the line of an event.
 pub fn event_line(event: &Event) -> Text
     ensures { result ≡ line event.now }
 {
@@ -37,7 +37,7 @@ pub fn event_line(event: &Event) -> Text
     text
 }
 
-/// The line of a stop.
+/// Returns the line of a stop.
 pub fn stop_line(stop: &Stop) -> Text
     ensures { result ≡ line_of_stop stop.now }
 {
@@ -47,8 +47,8 @@ pub fn stop_line(stop: &Stop) -> Text
 }
 
 impl<const ROOM: usize> Page<ROOM> {
-    /// Appends the line of an event. Most are accesses, so these are asked for first. `tick` keeps the
-    /// digits of its tick for the next line.
+    /// Appends the line of an event. Most are accesses, so these are tested for first. `tick` keeps
+    /// the digits of its tick for the next line.
     #[inline(always)]
     #[tactic(auto, using(crate::proofs::Parts::tick_and_tail))]
     pub fn put_event(&mut self, tick: &mut Tick, event: &Event)
@@ -75,7 +75,7 @@ impl<const ROOM: usize> Page<ROOM> {
         self.put(b"\n");
     }
 
-    /// Appends what a stop's line says of it.
+    /// Appends the words of a stop.
     fn put_stop_text(&mut self, stop: &Stop)
         requires { length self.old + STOP_ROOM ≤ ROOM }
         ensures text { self.new ≡ self.old ++ stop_text stop.now }
@@ -130,7 +130,7 @@ impl<const ROOM: usize> Page<ROOM> {
         self.put_rule(decided.rule);
     }
 
-    /// Appends what stands between the tick and the rule in the line of an access. Most accesses are
+    /// Appends the part between the tick and the rule in the line of an access. Most accesses are
     /// done, so that is one piece of text.
     #[inline(always)]
     fn put_head(&mut self, decided: &DecidedAccess)
@@ -144,7 +144,7 @@ impl<const ROOM: usize> Page<ROOM> {
         }
     }
 
-    /// Appends what stands between the tick and the rule in the line of any access, piece by piece.
+    /// Appends the part between the tick and the rule in the line of any access, piece by piece.
     #[cold]
     #[inline(never)]
     #[tactic(auto, unfolding(crate::specs::Tails::access_head))]
@@ -278,8 +278,8 @@ impl<const ROOM: usize> Page<ROOM> {
     }
 }
 
-/// What has the same length in the line of each access that was done, from the space after the tick
-/// to the one before the rule.
+/// Returns the fixed-length part of the line of an access that was done: from the space after the
+/// tick to the one before the rule.
 #[inline(always)]
 fn done_head_of(access: &Access) -> [u8; 19]
     ensures { result ≡ access_head access.now ++ (codes "ok" ++ codes " ") }

@@ -28,7 +28,7 @@ impl<const ROOM: usize> Model for Page<ROOM> {
 }
 
 impl<const ROOM: usize> Page<ROOM> {
-    /// A page with no text.
+    /// Returns a page with no text.
     pub fn new() -> Self
         ensures { result ≡ [] }
     {
@@ -46,7 +46,7 @@ impl<const ROOM: usize> Page<ROOM> {
         self.len = 0;
     }
 
-    /// How many bytes of text there are.
+    /// Returns how many bytes of text there are.
     #[inline(always)]
     pub fn len(&self) -> usize
         ensures count { result ≡ length self.now }
@@ -63,7 +63,7 @@ impl<const ROOM: usize> Page<ROOM> {
         self.len == 0
     }
 
-    /// The text.
+    /// Returns the text.
     #[inline(always)]
     pub fn as_slice(&self) -> &[u8]
         ensures { result.now ≡ self.now }

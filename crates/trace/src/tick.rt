@@ -7,9 +7,9 @@ use crate::page::Page;
 use itoa::Buffer;
 use std::marker::Model;
 
-/// The decimal digits of ticks, but for the last one. From one line to the next a tick stays or grows
-/// a little, so all digits but the last are the same for ten ticks, and then made anew. This is a cache
-/// alone: whatever digits it holds, the next line is right.
+/// All decimal digits of a tick but its last one. From one line to the next a tick stays or grows a
+/// little, so these digits are the same for ten ticks, and then made anew. This is only a cache:
+/// whatever digits it holds, the next line is right.
 #[derive(Drop)]
 pub struct Tick {
     /// The digits before the last one, in the first `count` bytes. It is longer than any tick has
@@ -32,7 +32,7 @@ impl Model for Tick {
 }
 
 impl Tick {
-    /// The digits of the first ten ticks.
+    /// Returns the digits of the first ten ticks.
     pub fn new() -> Self
         ensures { result ≡ 0 }
     {

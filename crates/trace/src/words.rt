@@ -7,7 +7,7 @@ ghost use Rattle.reference.specs.Text.{kind_text, privilege_text, unpredictable_
 use reference::access::{Kind, Size};
 use reference::stop::{LeftOut, UnpredictableCase};
 
-/// The letter of a kind of access.
+/// Returns the letter of a kind of access.
 #[inline(always)]
 pub(crate) fn kind_letter(kind: Kind) -> u8
     ensures { result ∷ [] ≡ kind_text kind }
@@ -23,7 +23,7 @@ pub(crate) fn kind_letter(kind: Kind) -> u8
     }
 }
 
-/// The digit of a size in bytes.
+/// Returns the digit of a size in bytes.
 #[inline(always)]
 #[tactic(auto, using(std::proofs::lemmas::Fmt::decimal_digit))]
 pub(crate) fn size_digit(size: Size) -> u8
@@ -36,7 +36,7 @@ pub(crate) fn size_digit(size: Size) -> u8
     }
 }
 
-/// The letter that says whether code is privileged.
+/// Returns the letter that says whether code is privileged.
 #[inline(always)]
 pub(crate) fn privilege_letter(privileged: bool) -> u8
     ensures { result ∷ [] ≡ privilege_text privileged }
@@ -44,7 +44,7 @@ pub(crate) fn privilege_letter(privileged: bool) -> u8
     if privileged { b'p' } else { b'u' }
 }
 
-/// The word of an UNPREDICTABLE case.
+/// Returns the word of an UNPREDICTABLE case.
 pub(crate) fn unpredictable_word(case: UnpredictableCase) -> &'static [u8]
     ensures word { result.now ≡ unpredictable_text case }
     ensures short { length result.now ≤ 16 }
@@ -68,7 +68,7 @@ pub(crate) fn unpredictable_word(case: UnpredictableCase) -> &'static [u8]
     }
 }
 
-/// The word of what the profile leaves out.
+/// Returns the word of what the profile leaves out.
 pub(crate) fn left_out_word(case: LeftOut) -> &'static [u8]
     ensures word { result.now ≡ left_out_text case }
     ensures short { length result.now ≤ 16 }

@@ -14,14 +14,14 @@ mod assembled;
 mod stops;
 mod told;
 
-/// The two halfwords that stand in a line from that place on.
+/// The two halfwords in a line from that place on.
 fn halfwords_at(line: &str, place: usize) -> Option<(u16, u16)>
     requires { place < 8 }
 {
     Some((halfword_at(line, place)?, halfword_at(line, place + 1)?))
 }
 
-/// What the two halfwords mean that stand in a line from that place on, in a word.
+/// The decoding, in a word, of the two halfwords in a line from that place on.
 fn meaning_at(line: &str, place: usize) -> Option<&'static str>
     requires { place < 8 }
 {

@@ -2,7 +2,7 @@
 //!
 //! | Word | Numbers |
 //! |---|---|
-//! | `code` | the address, and the halfwords that stand there |
+//! | `code` | the address, and the halfwords there |
 //! | `registers`, `higher` | R0 to R7, and R8 to LR, before |
 //! | `before`, `after` | a register's number and its value, and so on; 15 is the address of the next instruction |
 //! | `flags`, `flags_after` | APSR |
@@ -65,7 +65,7 @@ fn number_at(numbers: &Numbers, place: usize) -> u32 {
     }
 }
 
-/// Whether a line says what is to be afterwards.
+/// Returns whether a line says what is to be afterwards.
 fn is_check(word: &str) -> bool {
     matches!(
         word,
@@ -146,7 +146,7 @@ impl Case {
         Some(())
     }
 
-    /// The code, behind which the PC is to stand.
+    /// The code, after which the PC is to be.
     fn read_code(&mut self, numbers: &Numbers) {
         let mut at = number_at(numbers, 0);
         self.regs.branch(at);
@@ -183,7 +183,7 @@ impl Case {
         Some(())
     }
 
-    /// A register is given a value, and is to keep it.
+    /// Sets a register to a value, which it is to keep.
     fn set(&mut self, number: u8, value: u32)
         requires { number < 15 }
     {

@@ -66,12 +66,12 @@ impl Memory {
         u16::from_le_bytes([self.byte(address), self.byte(address.wrapping_add(1))])
     }
 
-    /// Whether two memories hold the same bytes, stray ones too.
+    /// Returns whether two memories hold the same bytes, stray ones too.
     pub(super) fn is_same(&self, other: &Memory) -> bool {
         self.holds(other) && other.holds(self)
     }
 
-    /// Whether each byte that was put into another memory is here too.
+    /// Returns whether each byte that was put into another memory is here too.
     fn holds(&self, other: &Memory) -> bool {
         'cells: for cell in other.cells.as_slice() {
             if self.byte(cell.address) != other.byte(cell.address) {
@@ -102,7 +102,7 @@ impl Memory {
         }
     }
 
-    /// An access is carried out; a load gives its value, a store 0.
+    /// Carries out an access; returns the value of a load, and 0 for a store.
     pub(super) fn carry_out(&mut self, request: &Request) -> u32 {
         if request.access.kind.is_store() {
             self.store(request.access.address, request.value, request.access.size);

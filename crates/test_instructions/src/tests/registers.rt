@@ -18,7 +18,7 @@ fn after_reset() -> Regs {
     Regs::reset(0x2000_1000, 0x101)
 }
 
-/// Whether the stack pointers, LR and PC are those.
+/// Returns whether the stack pointers, LR and PC are those.
 fn has_addresses(registers: &Regs, wanted: &str) -> bool {
     numbers(wanted)
         == Some([
@@ -30,7 +30,7 @@ fn has_addresses(registers: &Regs, wanted: &str) -> bool {
         ])
 }
 
-/// Whether T, IT and the mode are those.
+/// Returns whether T, IT and the mode are those.
 fn has_mode(registers: &Regs, wanted: &str) -> bool {
     is_first(word(wanted, 0), "T", "-") == Some(registers.is_thumb())
         && byte_at(wanted, 1) == Some(registers.it_state())
@@ -80,7 +80,7 @@ impl Rows for Kept {
     }
 }
 
-/// A register's number and the value that it is given; what it reads as; what the row is.
+/// A register's number and the value that is written to it; what it reads as; what the row is.
 const KEPT: &str = "\
 0 5 | 5 | R0
 C FFFFFFFF | FFFFFFFF | R12
@@ -121,7 +121,7 @@ fn next_instructions() -> Result<(), Fail> {
     check(NEXT, &mut Next)
 }
 
-/// Whether the flags are those of a part, in which each has its letter or a line.
+/// Returns whether the flags are those of a part, in which each has its letter or a line.
 fn are_flags(flags: Flags, wanted: &str) -> bool {
     is_first(word(wanted, 0), "N", "-") == Some(flags.negative)
         && is_first(word(wanted, 1), "Z", "-") == Some(flags.zero)
@@ -164,7 +164,7 @@ fn carry(part: &str, place: usize) -> Option<bool> {
     is_first(word(part, place), "C", "-")
 }
 
-/// Whether a word and a carry are those.
+/// Returns whether a word and a carry are those.
 fn is_word_and_carry(told: (u32, bool), wanted: &str) -> bool {
     number_at(wanted, 0) == Some(told.0) && carry(wanted, 1) == Some(told.1)
 }
@@ -277,8 +277,8 @@ impl Rows for CodedShifts {
     }
 }
 
-/// The two and the five bits of a row; what they make of 80000001 with C set, and the carry out;
-/// what the row is.
+/// The two and the five bits of a row; the result for 80000001 with C set, and the carry out; what
+/// the row is.
 const ROW_SHIFTS: &str = "\
 0 0 | 80000001 C | LSL #0
 0 4 | 10 - | LSL #4
@@ -330,7 +330,7 @@ fn modified_immediates() -> Result<(), Fail> {
     check(IMMEDIATES, &mut Immediates)
 }
 
-/// Whether a condition holds just where its bit is set.
+/// Returns whether a condition holds just where its bit is set.
 fn holds_so(registers: &Regs, condition: u8, holding: u16) -> bool
     requires { condition < 16 }
 {
@@ -370,7 +370,7 @@ fn conditions() -> Result<(), Fail> {
     check(CONDITIONS, &mut Holding)
 }
 
-/// Whether registers are in an IT block as a part says.
+/// Returns whether registers are in an IT block as a part says.
 fn is_in_block(registers: &Regs, wanted: &str) -> bool {
     is_first(word(wanted, 0), "block", "-") == Some(registers.in_it_block())
         && is_first(word(wanted, 1), "last", "-") == Some(registers.last_in_it_block())

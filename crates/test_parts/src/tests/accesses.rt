@@ -6,7 +6,7 @@ use access::{Bus, Cause, CodeMemory, Counting, Performed, PlainLevels, Reread, S
 use std::test::*;
 use test_tables::{Rows, check, part, word};
 
-/// What an access was told to be: the rule's word, and its outcome.
+/// How an access was decided: the rule's word, and its outcome.
 fn told(performed: Performed) -> (&'static str, &'static str) {
     match performed {
         Performed::Done(rule, _) => (rule_word(rule), "ok"),
@@ -23,7 +23,7 @@ struct Accesses {
 }
 
 impl Rows for Accesses {
-    /// Whether the next access has the lines that its row says.
+    /// Returns whether the next access has the lines that its row says.
     fn holds(&mut self, row: &str) -> Option<bool> {
         let (rule, outcome) = told(self.bus.perform(0, &request(part(row, 0))?));
         let wanted = part(row, 1);

@@ -15,7 +15,7 @@ ram_size = 8192
 priority_bits = 4
 lines = 8";
 
-/// Appends to a text. A growth that is refused is asked for again, once.
+/// Appends to a text. A growth that is refused is tried again, once.
 fn push(text: &mut String, more: &str) -> Option<()> {
     match text.push_str(more) {
         Ok(()) => Some(()),
@@ -29,7 +29,7 @@ fn push_line(text: &mut String, line: &str) -> Option<()> {
     push(text, "\n")
 }
 
-/// The small board with another line at a place, or behind its five lines, and then this.
+/// The small board with another line at a place, or after its five lines, and then this.
 fn text_of(alloc: Global, place: u32, line: &str, rest: &str) -> Option<String> {
     let mut text = String::new(alloc);
     'lines: for (index, small) in SMALL.lines().enumerate() {
@@ -43,7 +43,7 @@ fn text_of(alloc: Global, place: u32, line: &str, rest: &str) -> Option<String> 
     Some(text)
 }
 
-/// The board of a text. A growth that is refused is asked for again, once.
+/// The board of a text. A growth that is refused is tried again, once.
 fn read(alloc: Global, text: &str) -> Result<Board, BoardFault> {
     match read_board(alloc, text) {
         Err(BoardFault::OutOfMemory) => read_board(alloc, text),
@@ -203,7 +203,7 @@ impl Rows for MoreLines {
     }
 }
 
-/// The same, where several lines stand at a place, or a line ends in another way: the place and what
+/// Likewise, where several lines are at a place, or a line ends in another way: the place and what
 /// the text is, and then the lines.
 const MORE_LINES: &str = "\
 0 NotToml
@@ -585,14 +585,14 @@ fn line_of(signal: Signal) -> Option<u8> {
     }
 }
 
-/// Whether an event is that of a row.
+/// Returns whether an event is a row's.
 fn is_event(event: &ScriptedEvent, row: &str) -> bool {
     long_at(row, 0) == Some(event.at)
         && word_of(event.what) == word(row, 1)
         && line_of(event.what) == byte_at(row, 2)
 }
 
-/// Whether the events are those of the rows, in this order.
+/// Returns whether the events are those of the rows, in this order.
 fn are_events(events: &[ScriptedEvent], rows: &str) -> bool {
     let mut agrees = events.len() == rows.lines().count();
     'events: for (event, row) in events.iter().zip(rows.lines()) {
@@ -601,7 +601,7 @@ fn are_events(events: &[ScriptedEvent], rows: &str) -> bool {
     agrees
 }
 
-/// Whether a text is a board with these numbers and events.
+/// Returns whether a text is a board with these numbers and events.
 fn is_board(alloc: Global, text: &str, wanted: [u32; 5], events: &str) -> Option<bool> {
     let board = read(alloc, text).ok()?;
     Some(numbers(board.layout) == wanted && are_events(board.events.as_slice(), events))
@@ -616,7 +616,7 @@ fn numbers_and_events_of_a_board(rt: HostRuntime) {
     );
 }
 
-/// Whether the small board of the reference is that of its text.
+/// Returns whether the small board of the reference is that of its text.
 fn is_small_board(alloc: Global) -> Option<bool> {
     let text = text_of(alloc, 5, "", "")?;
     is_board(alloc, text.as_str(), numbers(SMALL_BOARD), "")

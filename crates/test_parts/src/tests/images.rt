@@ -9,12 +9,12 @@ use test_tables::{Rows, byte_at, check, number, numbers, pair, part};
 /// The bytes of a file.
 type File = ArrayVec<u8, 2104>;
 
-/// Puts a byte behind those of a file.
+/// Appends a byte to those of a file.
 fn push_byte(file: &mut File, byte: u8) -> Option<()> {
     file.try_push(byte).ok()
 }
 
-/// Puts bytes behind those of a file. The text has this character between two of them.
+/// Appends bytes to those of a file. The text has this character between two of them.
 fn push_bytes(file: &mut File, text: &str, between: char) -> Option<()> {
     'bytes: for byte in text.split(between) {
         push_byte(file, byte_at(byte, 0)?)?;
@@ -31,7 +31,7 @@ fn file_of(listing: &str) -> Option<File> {
     Some(file)
 }
 
-/// Puts a byte at a place of a file, if it has the place: both stand in a word.
+/// Puts a byte at a place of a file, if it has the place: a word has both.
 fn put(file: &mut File, word: &str) -> Option<()> {
     let (place, byte) = pair(word)?;
     *file.get_mut(place as usize)? = u8::try_from(byte).ok()?;
@@ -62,7 +62,7 @@ fn name(fault: LoadFault) -> &'static str {
     }
 }
 
-/// Whether a segment has the address and the bytes of a word.
+/// Returns whether a segment has the address and the bytes of a word.
 fn is_segment(segment: &Segment<'_>, word: &str) -> Option<bool> {
     let (address, text) = word.split_once(':')?;
     let mut bytes = File::new();
@@ -70,7 +70,7 @@ fn is_segment(segment: &Segment<'_>, word: &str) -> Option<bool> {
     Some(number(address) == Some(segment.address) && segment.bytes == bytes.as_slice())
 }
 
-/// Whether the segments are those of the words, in this order.
+/// Returns whether the segments are those of the words, in this order.
 fn are_segments(segments: &[Segment<'_>], words: &str) -> bool {
     let mut agrees = segments.len() == words.split_whitespace().count();
     'segments: for (segment, word) in segments.iter().zip(words.split_whitespace()) {
@@ -79,7 +79,7 @@ fn are_segments(segments: &[Segment<'_>], words: &str) -> bool {
     agrees
 }
 
-/// Whether a file is refused by this name, or is taken and brings these segments.
+/// Returns whether a file is refused by this name, or is taken and has these segments.
 fn is_answered_so(file: &[u8], wanted: &str) -> bool {
     match load(file) {
         Err(fault) => name(fault) == wanted,
@@ -244,7 +244,7 @@ fn crowded(last: u8) -> Option<File> {
     Some(file)
 }
 
-/// Whether there are 64 segments of four bytes, at addresses that are 4 apart.
+/// Returns whether there are 64 segments of four bytes, at addresses that are 4 apart.
 fn are_64(segments: &[Segment<'_>]) -> bool {
     'segments: for (index, segment) in segments.iter().enumerate() {
         if segment.address as usize / 4 != index || segment.bytes.len() != 4 {
@@ -254,8 +254,8 @@ fn are_64(segments: &[Segment<'_>]) -> bool {
     segments.len() == 64
 }
 
-/// Whether a table of 64 program headers is taken where the segments are apart, and is refused where
-/// the last two aren't.
+/// Returns whether a table of 64 program headers is taken where the segments are apart, and is
+/// refused where the last two aren't.
 fn are_64_taken() -> Option<bool> {
     let apart = crowded(252)?;
     let overlapped = crowded(249)?;
@@ -290,7 +290,7 @@ fn most_program_headers(rt: HostRuntime) {
 ///     .space 16
 /// ```
 ///
-/// The whole file stands here, its section headers too.
+/// The whole file is here, its section headers too.
 const LINKED: &str = "\
 7F 45 4C 46 01 01 01 00 00 00 00 00 00 00 00 00
 02 00 28 00 01 00 00 00 09 00 00 00 34 00 00 00
@@ -323,7 +323,7 @@ const LINKED_SEGMENTS: &str = "taken \
     0:00.10.00.20.09.00.00.00.02.48.01.68.49.1C.01.60.00.BE.00.00.00.00.00.20 \
     18:44.33.22.11";
 
-/// Whether the linker's file brings its segments.
+/// Returns whether the linker's file has its segments.
 fn is_linked_file_taken() -> Option<bool> {
     let file = file_of(LINKED)?;
     Some(is_answered_so(file.as_slice(), LINKED_SEGMENTS))

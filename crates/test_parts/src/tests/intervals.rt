@@ -22,12 +22,12 @@ const KINDS: [Kind; 7] = [
     Kind::Probe,
 ];
 
-/// Whether two decisions are the same.
+/// Returns whether two decisions are the same.
 fn is_same(one: Decision, other: Decision) -> bool {
     rule_word(one.rule) == rule_word(other.rule) && one.granted == other.granted
 }
 
-/// Whether the table and the search decide each kind of access to an address alike.
+/// Returns whether the table and the search decide each kind of access to an address alike.
 fn agree_at(table: &Table, search: &Search, address: u32) -> bool {
     let mut agrees = true;
     for kind in KINDS.iter() {
@@ -39,7 +39,7 @@ fn agree_at(table: &Table, search: &Search, address: u32) -> bool {
     agrees
 }
 
-/// Whether they do at both ends of each interval, which `find` gives in at most 8 looks.
+/// Returns whether they do at both ends of each interval, which `find` finds in at most 8 tests.
 fn agree(registers: &MpuRegs, table: &Table) -> bool {
     let search = Search::fresh(registers);
     let mut agrees = true;
@@ -65,8 +65,8 @@ fn edges(first: u32, last: u32) -> [u32; 6] {
     ]
 }
 
-/// Whether kept decisions and the search decide each kind of access to an address alike, below
-/// priority 0 too.
+/// Returns whether kept decisions and the search decide each kind of access to an address alike,
+/// below priority 0 too.
 fn keep_at(kept: &mut KeptDecisions<Table>, search: &Search, address: u32) -> bool {
     let mut agrees = true;
     for kind in KINDS.iter() {
@@ -82,7 +82,7 @@ fn keep_at(kept: &mut KeptDecisions<Table>, search: &Search, address: u32) -> bo
     agrees
 }
 
-/// Whether they do about both ends of each interval.
+/// Returns whether they do about both ends of each interval.
 fn kept_agree(registers: &MpuRegs, table: &Table, kept: &mut KeptDecisions<Table>) -> bool {
     let search = Search::fresh(registers);
     let mut agrees = true;

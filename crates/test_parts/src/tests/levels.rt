@@ -39,7 +39,7 @@ fn place(escalation: Escalation) -> u8 {
     }
 }
 
-/// Whether both answer alike of all exceptions.
+/// Returns whether both answer alike of all exceptions.
 fn agree(plain: &PlainLevels, bits: &BitLevels) -> bool {
     plain.best() == bits.best()
         && plain.candidate() == bits.candidate()
@@ -49,7 +49,7 @@ fn agree(plain: &PlainLevels, bits: &BitLevels) -> bool {
         && plain.is_interrupt_pending() == bits.is_interrupt_pending()
 }
 
-/// Whether both answer alike of one exception.
+/// Returns whether both answer alike of one exception.
 fn agree_on(plain: &PlainLevels, bits: &BitLevels, exception: u16) -> bool {
     plain.is_pending(exception) == bits.is_pending(exception)
         && plain.is_enabled(exception) == bits.is_enabled(exception)

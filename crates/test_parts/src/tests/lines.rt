@@ -18,7 +18,7 @@ const REFUSALS: [(&str, Option<Cause>); 3] = [
     ("refused-by-bus", Some(Cause::Bus)),
 ];
 
-/// An access: what is asked for, what became of it, and the rule.
+/// An access: the request, its outcome, and the rule.
 fn access(asked: &str, became: &str) -> Option<DecidedAccess> {
     Some(DecidedAccess {
         access: request(asked)?.access,
@@ -36,7 +36,7 @@ fn fault(part: &str) -> Option<RecordedFault> {
     })
 }
 
-/// What a row tells behind its tick.
+/// What a row has after its tick.
 fn happening(row: &str) -> Option<Happening> {
     let what = part(row, 2);
     match word(part(row, 1), 1) {
@@ -49,7 +49,7 @@ fn happening(row: &str) -> Option<Happening> {
     }
 }
 
-/// Whether a text is this one line.
+/// Returns whether a text is this one line.
 fn is_line(text: &[u8], line: &str) -> bool {
     match text.strip_suffix(b"\n") {
         Some(text) => text == line.as_bytes(),
@@ -170,7 +170,7 @@ const TICK_LINES: &str = "\
 7 O A0
 ";
 
-/// Whether the lines of an event and of a stop stand on the page, which may have had others.
+/// Returns whether the lines of an event and of a stop are on the page, which may have had others.
 fn is_begun(page: &mut Page<1024>, tick: &mut Tick) -> bool {
     page.clear();
     page.put_event(tick, &console(8));
@@ -178,7 +178,8 @@ fn is_begun(page: &mut Page<1024>, tick: &mut Tick) -> bool {
     page.as_slice() == b"8 O A0\nstop steps\n".as_slice() && page.len() == 18
 }
 
-/// Whether these lines stand on the page, which may have had others, for the events of some ticks.
+/// Returns whether these lines are on the page, which may have had others, for the events of some
+/// ticks.
 fn are_lines_so(page: &mut Page<1024>, tick: &mut Tick, ticks: &str, lines: &str) -> Option<bool> {
     let events = consoles(ticks)?;
     page.clear();

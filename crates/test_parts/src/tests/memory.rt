@@ -28,7 +28,7 @@ struct Accesses {
 }
 
 impl Rows for Accesses {
-    /// Whether the next access is answered as its row says.
+    /// Returns whether the next access is answered as its row says.
     fn holds(&mut self, row: &str) -> Option<bool> {
         let answer = self.space.access(&request(part(row, 0))?, 0x1_0000_0005);
         Some(is_number(value(answer), part(row, 1)))

@@ -54,12 +54,12 @@ fn levels(row: &str) -> Option<PlainLevels> {
     Some(levels)
 }
 
-/// Whether the execution priority is the one wanted.
+/// Returns whether the execution priority is the one wanted.
 fn has_priority(levels: &PlainLevels, wanted: &str) -> bool {
     i16::from_str_radix(wanted, 16).ok() == Some(levels.execution_priority().number())
 }
 
-/// Whether the group of the byte FF is the one wanted, where this number of bits is kept.
+/// Returns whether the group of the byte FF is the one wanted, where this number of bits is kept.
 fn is_group(priority_bits: u8, group: u8, wanted: &str) -> bool {
     let mut levels = PlainLevels::fresh(8, priority_bits);
     levels.set_group(group);
@@ -98,7 +98,7 @@ fn groups_of_a_priority() -> Result<(), Fail> {
     check(GROUPS, &mut Groups)
 }
 
-/// Whether an exception is the one wanted, or there is none and none is wanted.
+/// Returns whether an exception is the one wanted, or there is none and none is wanted.
 fn is_wanted(found: Option<u16>, wanted: &str) -> bool {
     found == halfword_at(wanted, 0) && found.is_none() == (wanted == "none")
 }
@@ -268,7 +268,8 @@ fn candidates_after_a_tick() -> Result<(), Fail> {
     check(CANDIDATES_AFTER_A_TICK, &mut AfterATick)
 }
 
-/// Whether an exception is enabled as the words say: at last, after a reset, and once it's disabled.
+/// Returns whether an exception is enabled as the words say: at last, after a reset, and once it's
+/// disabled.
 fn is_enabled_so(levels: &mut PlainLevels, number: u16, words: &str) -> bool {
     let first = levels.is_enabled(number);
     levels.disable(number);
@@ -279,7 +280,7 @@ fn is_enabled_so(levels: &mut PlainLevels, number: u16, words: &str) -> bool {
         && is_first(word(words, 0), "yes", "no") == Some(levels.is_enabled(number))
 }
 
-/// Whether an exception becomes pending and active where it exists, and then neither.
+/// Returns whether an exception becomes pending and active where it exists, and then neither.
 fn is_listed_so(levels: &mut PlainLevels, number: u16, exists: bool) -> bool {
     levels.pend(number);
     levels.activate(number);
@@ -350,7 +351,7 @@ fn a_disabled_line_waits(rt: HostRuntime) {
     assert!(rt; !levels.is_interrupt_pending());
 }
 
-/// Whether the masks are the highest ones of a board that keeps three bits.
+/// Returns whether the masks are the highest ones of a board that keeps three bits.
 fn are_highest(masks: Masks) -> bool {
     masks.basepri == 0xE0 && masks.primask && masks.faultmask
 }

@@ -27,7 +27,7 @@ impl Rows for ReadBack {
 }
 
 /// The name of the registers; the words that are written then; the address that is read; the word
-/// there, or none where no register stands; what the row is.
+/// there, or none where no register is; what the row is.
 const READ_BACK: &str = "\
 blank | | E000ED90 | 00000800 | MPU_TYPE
 blank | E000ED90:00000000 | E000ED90 | 00000800 | MPU_TYPE ignores writes
@@ -57,7 +57,7 @@ fn registers_read_back() -> Result<(), Fail> {
     check(READ_BACK, &mut ReadBack)
 }
 
-/// Whether RBAR and RASR are the wanted ones, or there is none where none is wanted.
+/// Returns whether RBAR and RASR are the wanted ones, or there is none where none is wanted.
 fn is_wanted(shown: Option<(u32, u32)>, wanted: &str) -> bool {
     match shown {
         Some((base, attributes)) => numbers(wanted) == Some([base, attributes]),
@@ -134,7 +134,7 @@ fn word_of(written: Result<(), MpuStop>) -> &'static str {
     }
 }
 
-/// Whether all registers of eight regions are the same.
+/// Returns whether all registers of eight regions are the same.
 fn are_same(registers: &MpuRegs, before: &MpuRegs) -> bool {
     for number in 0..8 {
         if registers.region(number) != before.region(number) {

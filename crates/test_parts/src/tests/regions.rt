@@ -15,7 +15,7 @@ pub(super) fn decision(search: &Search, access: &str) -> Option<Decision> {
     Some(search.decide(address, kind, privileged, below_zero))
 }
 
-/// Whether that rule decided, and granted or refused it.
+/// Returns whether that rule decided, and granted or refused it.
 pub(super) fn is_told(decision: Decision, wanted: &str) -> bool {
     rule_word(decision.rule) == word(wanted, 0)
         && is_first(word(wanted, 1), "ok", "mpu") == Some(decision.granted)
@@ -101,7 +101,7 @@ fn rules_around_the_regions() -> Result<(), Fail> {
 /// The kinds of a row of permissions, in its order.
 const KINDS: [Kind; 5] = [Kind::Fetch, Kind::Load, Kind::Store, Kind::Push, Kind::Pop];
 
-/// Whether region 0 grants and refuses these kinds.
+/// Returns whether region 0 grants and refuses these kinds.
 fn grants(search: &Search, privileged: bool, wanted: &str) -> bool {
     let mut agrees = true;
     for (place, kind) in KINDS.iter().enumerate() {
@@ -124,7 +124,7 @@ impl Rows for Permissions {
 }
 
 /// How many regions there are, MPU_CTRL, RBAR and RASR; whether fetch, load, store, push and pop of
-/// privileged code are granted; the same of unprivileged code; what AP and XN say.
+/// privileged code are granted; likewise for unprivileged code; what AP and XN say.
 const PERMISSIONS: &str = "\
 8 1 20000010:00000013 | no no no no no | no no no no no | no access
 8 1 20000010:01000013 | yes yes yes yes yes | no no no no no | privileged code alone
@@ -146,8 +146,8 @@ fn access_permissions() -> Result<(), Fail> {
     check(PERMISSIONS, &mut Permissions)
 }
 
-/// Whether an eighth belongs to the region, at its first and at its last byte, where it's switched on,
-/// and to none where it's switched off.
+/// Returns whether an eighth belongs to the region, at its first and at its last byte, where it's
+/// switched on, and to none where it's switched off.
 fn is_eighth_so(search: &Search, first: u32, is_off: bool) -> bool {
     let wanted = if is_off { "none mpu" } else { "r0 ok" };
     is_told(search.decide(first, Kind::Store, false, false), wanted)

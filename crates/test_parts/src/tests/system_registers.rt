@@ -49,7 +49,7 @@ fn stop_word(stop: Stop) -> &'static str {
     }
 }
 
-/// Whether an answer is what a word says: a value, `bus`, or the name of a stop.
+/// Returns whether an answer is what a word says: a value, `bus`, or the name of a stop.
 fn is_answer(answer: Answer, wanted: &str) -> bool {
     match answer {
         Answer::Value(value) => number(wanted) == Some(value),
@@ -73,7 +73,7 @@ fn both(system: &mut PlainSystem, size: Size, address: u32, privileged: bool) ->
     (system.access(0, &load), system.access(0, &store))
 }
 
-/// Whether a load and a store by unprivileged code are bus errors, whatever their size.
+/// Returns whether a load and a store by unprivileged code are bus errors, whatever their size.
 fn are_refused(system: &mut PlainSystem, address: u32) -> bool {
     let mut refused = true;
     'sizes: for size in [Size::Byte, Size::Halfword, Size::Word] {
@@ -83,7 +83,7 @@ fn are_refused(system: &mut PlainSystem, address: u32) -> bool {
     refused
 }
 
-/// Whether privileged loads and stores of bytes and halfwords stop, or all are done.
+/// Returns whether privileged loads and stores of bytes and halfwords stop, or all are done.
 fn have_width(system: &mut PlainSystem, address: u32, widths: &str) -> bool {
     let mut wanted = true;
     'sizes: for size in [Size::Byte, Size::Halfword] {
@@ -95,7 +95,7 @@ fn have_width(system: &mut PlainSystem, address: u32, widths: &str) -> bool {
     wanted
 }
 
-/// Each register: its reset value, its widths, and what a store of ones makes of it.
+/// Each register: its reset value, its widths, and its value after a store of ones.
 #[derive(Drop)]
 struct Registers {
     system: PlainSystem,
@@ -216,7 +216,7 @@ impl Steps {
         Some(true)
     }
 
-    /// Whether an access while IPSR is a number is answered so.
+    /// Returns whether an access while IPSR is a number is answered so.
     fn is_answered(&mut self, asked: &str, wanted: &str) -> Option<bool> {
         let exception = halfword_at(asked, 5).unwrap_or(0);
         let answer = self.system.access(exception, &request(asked)?);

@@ -101,7 +101,7 @@ fn peek(clock: &Clock<Counting>) -> Option<Due> {
     }
 }
 
-/// Whether SYST_CVR has these values after the ticks that come, one after another.
+/// Returns whether SYST_CVR has these values after the ticks that come, one after another.
 fn counts_down(clock: &mut Clock<Counting>, values: &str) -> Option<bool> {
     for value in values.split_whitespace() {
         tick(clock)?;
@@ -212,7 +212,7 @@ fn the_registers_of_systick(rt: HostRuntime) -> Result<(), Fail> {
     check(READS, &mut Reads { alloc: rt.alloc() })
 }
 
-/// Whether a write to SYST_CVR clears it, and COUNTFLAG.
+/// Returns whether a write to SYST_CVR clears it, and COUNTFLAG.
 fn is_cleared(alloc: Global) -> Option<bool> {
     let mut clock = counting(alloc, "1 1")?;
     ticks(&mut clock, 3)?;
@@ -232,13 +232,14 @@ fn writes_to_rvr_and_cvr(rt: HostRuntime) -> Result<(), Fail> {
     Ok(())
 }
 
-/// Whether a tick pends what is wanted, as it's foreseen and as it's done.
+/// Returns whether a tick pends what is wanted, as it's foreseen and as it's done.
 fn pends(clock: &mut Clock<Counting>, due: Due) -> Option<bool> {
     let foreseen = peek(clock)? == due;
     Some(foreseen && tick(clock)? == due)
 }
 
-/// Whether the ticks that come pend SysTick's exception at each `F`, and nothing at each `-`.
+/// Returns whether the ticks that come pend SysTick's exception at each `F`, and nothing at each
+/// `-`.
 fn pends_each(clock: &mut Clock<Counting>, words: &str) -> Option<bool> {
     for word in words.split_whitespace() {
         let due = if is_first(word, "F", "-")? {
@@ -318,7 +319,8 @@ fn the_second_tick_of_a_script(rt: HostRuntime) -> Result<(), Fail> {
     check(SECOND_TICKS, &mut SecondTicks { alloc: rt.alloc() })
 }
 
-/// Whether SysTick's exception, NMI and line 3's, 13, pend in the second tick, and nothing in the first.
+/// Returns whether SysTick's exception, NMI and line 3's, 13, pend in the second tick, and nothing in
+/// the first.
 fn shares_a_tick(alloc: Global) -> Option<bool> {
     let mut clock = scripted(alloc, "2:nmi 2:rise:3")?;
     write(&mut clock, "3 1")?;

@@ -79,7 +79,7 @@ pub(super) fn request(part: &str) -> Option<Request> {
     })
 }
 
-/// Whether a number is the one that a word writes, or there is none and the word is `none`.
+/// Returns whether a number is the one that a word writes, or there is none and the word is `none`.
 pub(super) fn is_number(found: Option<u32>, word: &str) -> bool {
     found == number(word) && found.is_none() == (word == "none")
 }

@@ -1,10 +1,10 @@
-//! The command's answers to words that name no run: help, the version, and what is wrong.
+//! The command's answers to arguments that name no run: help, the version, and what is wrong.
 
 use super::files::Ends;
 use std::test::*;
 use test_tables::check_between;
 
-/// Words that name no run, and words that name files that aren't there.
+/// Arguments that name no run, and arguments that name files that aren't there.
 const ANSWERS: &str = "\
 the version
 words --version

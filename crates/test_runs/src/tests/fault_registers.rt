@@ -32,7 +32,8 @@ word E000ED9C 20000410
 word E000EDA0 00000013
 word E000ED94 5";
 
-/// Whether a line of a row is followed: a place is taken, and `scripted` reads events and the board.
+/// Returns whether a line of a row is followed: a place is taken, and `scripted` reads events and
+/// the board.
 fn follows<D: Decider, C: CodeLines, L: Levels, U: DueTicks>(
     machine: &mut Machine<D, C, L, U>,
     line: &str,
@@ -44,7 +45,7 @@ fn follows<D: Decider, C: CodeLines, L: Levels, U: DueTicks>(
     }
 }
 
-/// Whether all lines of a row are followed.
+/// Returns whether all lines of a row are followed.
 fn follows_all<D: Decider, C: CodeLines, L: Levels, U: DueTicks>(
     machine: &mut Machine<D, C, L, U>,
     lines: &str,

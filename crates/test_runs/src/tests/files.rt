@@ -1,4 +1,4 @@
-//! The command: runs from the bytes of files, what it tells, and its words.
+//! The command: runs from the bytes of files, its messages, and its arguments.
 
 use super::cut::{Cut, Short, Text, push_line};
 use super::elf_files::ElfFile;
@@ -71,7 +71,7 @@ impl Case {
         }
     }
 
-    /// A run of the first image on the small board, but for what the lines of a case say behind its
+    /// A run of the first image on the small board, but for what the lines of a case say after its
     /// name.
     fn of(text: &str) -> Option<Self> {
         let mut case = Case::new();
@@ -173,7 +173,8 @@ impl Ended {
         Ok(Ended { status, out, err })
     }
 
-    /// Whether it ended with this status, this on standard output and this on standard error.
+    /// Returns whether it ended with this status, this on standard output and this on standard
+    /// error.
     fn is(&self, status: u8, out: &[u8], err: &[u8]) -> bool {
         self.status == status && self.out.text.as_slice() == out && self.err.text.as_slice() == err
     }
@@ -608,7 +609,7 @@ fn words_without_memory_are_io(rt: HostRuntime) {
     assert!(rt; err.text.as_slice() == line.as_slice());
 }
 
-/// Whether words that can't be read for this reason end in this line.
+/// Returns whether arguments that can't be read for this reason end in this line.
 fn are_refused(kind: io::ErrorKind, line: &[u8]) -> bool {
     let mut err = Cut::whole();
     refuse_words(&io::Error::from(kind), &mut err) == 5 && err.text.as_slice() == line
@@ -622,7 +623,7 @@ fn words_that_cannot_be_read_are_io(rt: HostRuntime) {
     assert!(rt; are_refused(io::ErrorKind::OutOfMemory, memory));
 }
 
-/// Whether the reason of a fault of the first image on the small board is this line.
+/// Returns whether the reason of a fault of the first image on the small board is this line.
 fn is_explained(alloc: Global, fault: Fault, line: &[u8]) -> bool {
     let image = InputFile {
         path: IMAGE_PATH,
@@ -654,7 +655,7 @@ fn files_without_memory_are_explained(rt: HostRuntime) {
     );
 }
 
-/// Whether a fault's line and status are these.
+/// Returns whether a fault's line and status are these.
 fn is_told(fault: Fault, line: &[u8], status: u8) -> bool {
     let mut err = Cut::whole();
     tell(fault, &mut err) == status && err.text.as_slice() == line
@@ -727,7 +728,7 @@ fn files_that_cannot_be_read_are_io(rt: HostRuntime) {
     assert!(rt; matches!(read_file(&rt, "."), Err(FileFault::Read(_))));
 }
 
-/// The steps that a command line asks for: none where it is refused, or where memory was wanting.
+/// The steps that a command line asks for: none where it is refused, or out of memory.
 fn steps_of(alloc: Global, line: &str) -> Option<u64> {
     let mut words = Vec::new(alloc);
     for word in line.split_whitespace() {

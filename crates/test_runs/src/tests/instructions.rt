@@ -3,8 +3,8 @@
 use super::run::check_runs;
 use std::test::*;
 
-/// In an IT block CMP R0, #0, ITE EQ, MOV R1, #1 and MOV R2, #2 stand at 100. In the last run STRH R1,
-/// [R0] and BL stand in RAM: the store writes the second halfword of BL, which was run once before.
+/// In an IT block CMP R0, #0, ITE EQ, MOV R1, #1 and MOV R2, #2 are at 100. In the last run STRH R1,
+/// [R0] and BL are in RAM: the store writes the second halfword of BL, which was run once before.
 const INSTRUCTIONS: &str = "\
 a block whose condition holds: its first part
 word 100 BF0C2800

@@ -12,7 +12,7 @@
 //! | `steps COUNT` | the most steps that are made |
 //! | `trace` and a line | a line of what all the steps write |
 //! | `after reg REGISTER VALUE` | what the register holds now: R0 to R12 by number, others by name |
-//! | `after byte ADDRESS VALUE` | what stands there now, or `none` |
+//! | `after byte ADDRESS VALUE` | the byte there now, or `none` |
 //! | `after region NUMBER RBAR RASR` | what the region holds now, or `none` |
 
 use super::cut::{Cut, Text, push_line, run};
@@ -53,7 +53,7 @@ impl Rows for Runs {
     }
 }
 
-/// Whether a machine goes as a text says.
+/// Returns whether a machine goes as a text says.
 fn goes<D: Decider, C: CodeLines, L: Levels, U: DueTicks>(
     alloc: Global,
     text: &str,
@@ -73,14 +73,14 @@ fn goes<D: Decider, C: CodeLines, L: Levels, U: DueTicks>(
     Some(is_checked && run.out.text.as_slice() == run.wanted.as_slice())
 }
 
-/// Fails with the first run of a table that doesn't go as its text says. The runs stand with a blank
-/// line between them.
+/// Fails with the first run of a table that doesn't go as its text says. The runs are written with a
+/// blank line between them.
 pub(super) fn check_runs(alloc: Global, table: &str) -> Result<(), Fail> {
     check_between(table, "\n\n", &mut Runs { alloc })
 }
 
 impl<D: Decider, C: CodeLines, L: Levels, U: DueTicks> Run<D, C, L, U> {
-    /// Whether a line holds, which is followed if it asks for something.
+    /// Returns whether a line holds, which is followed if it is a command.
     fn follow(&mut self, line: &str) -> Option<bool> {
         let (name, rest) = line.split_once(' ')?;
         match name {
@@ -95,7 +95,7 @@ impl<D: Decider, C: CodeLines, L: Levels, U: DueTicks> Run<D, C, L, U> {
         }
     }
 
-    /// Whether a place is refused, for the reason that stands before it.
+    /// Returns whether a place is refused, for the reason before it.
     fn refuses(&mut self, refused: &str) -> Option<bool> {
         let (why, place_of) = refused.split_once(' ')?;
         match self.machine.place(place(place_of)?) {
@@ -118,7 +118,7 @@ fn name_of(fault: PlaceFault) -> &'static str {
     }
 }
 
-/// Whether a machine holds what a line says behind its first word.
+/// Returns whether a machine holds what a line says after its first word.
 fn holds<D: Decider, C: CodeLines, L: Levels, U: DueTicks>(
     machine: &Machine<D, C, L, U>,
     seen: &str,
@@ -147,7 +147,7 @@ fn register(values: &RegValues, name: &str) -> Option<u32> {
     }
 }
 
-/// Whether a byte stands where `byte ADDRESS VALUE` says it.
+/// Returns whether a byte is where `byte ADDRESS VALUE` says.
 pub(super) fn holds_byte<D: Decider, C: CodeLines, L: Levels, U: DueTicks>(
     machine: &Machine<D, C, L, U>,
     seen: &str,
@@ -156,7 +156,7 @@ pub(super) fn holds_byte<D: Decider, C: CodeLines, L: Levels, U: DueTicks>(
     Some(held == byte_at(seen, 2) && held.is_none() == (word(seen, 2) == "none"))
 }
 
-/// Whether a region holds what `region NUMBER RBAR RASR` says.
+/// Returns whether a region holds what `region NUMBER RBAR RASR` says.
 fn holds_region<D: Decider, C: CodeLines, L: Levels, U: DueTicks>(
     machine: &Machine<D, C, L, U>,
     seen: &str,

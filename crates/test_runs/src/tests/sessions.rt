@@ -287,7 +287,7 @@ reg E FFFFFFFF";
 static ANSWERS: [u8; 79] =
     *b"1 F 00000008 2 p ok off\n2 F 0000000A 2 p ok off\nstop breakpoint 0\n00000008: 05\n";
 
-/// Holds a session of a text, of which the reader gives `left` bytes before it fails.
+/// Holds a session of a text, of which the reader returns `left` bytes before it fails.
 fn talk(machine: &mut Slow, text: &[u8], left: usize, out: &mut Cut) -> Result<(), SessionFault> {
     hear::<Brand>(machine, Short { text, left }, out, Blank::new(1))
 }

@@ -55,12 +55,12 @@ fn flash_and_ram_are_those_of_the_board(rt: HostRuntime) -> Result<(), Fail> {
     check(BYTES, &mut Bytes { machine })
 }
 
-/// Whether a board with an event is made, the second time at the latest.
+/// Returns whether a board with an event is made, the second time at the latest.
 fn is_made(alloc: Global) -> bool {
     small_board(alloc, "event 3 nmi").is_ok() || small_board(alloc, "event 3 nmi").is_ok()
 }
 
-/// Whether a machine with an event starts, the second time at the latest.
+/// Returns whether a machine with an event starts, the second time at the latest.
 fn starts(alloc: Global, image: &Image<'_>) -> bool {
     match small_board(alloc, "event 3 nmi") {
         Ok(board) => {

@@ -4,7 +4,7 @@ use super::machines::machine_with;
 use machine::{Events, Slow, event_line, stop_line};
 use std::test::*;
 
-/// Whether a machine goes on by a step that tells one event, of this line.
+/// Returns whether a machine goes on by a step with one event, of this line.
 fn tells(machine: &mut Slow, events: &mut Events, line: &str) -> bool {
     if machine.step(events).is_some() || events.len() != 1 {
         return false;
@@ -13,7 +13,7 @@ fn tells(machine: &mut Slow, events: &mut Events, line: &str) -> bool {
     event_line(&told[0]).as_slice() == line.as_bytes()
 }
 
-/// Whether a machine stops, or has stopped, by a step of this number of events.
+/// Returns whether a machine stops, or has stopped, by a step of this number of events.
 fn stops(machine: &mut Slow, events: &mut Events, told: usize, line: &str) -> bool {
     let Some(stop) = machine.step(events) else {
         return false;
@@ -28,7 +28,7 @@ reg F 100";
 
 const BREAKPOINT: &str = "stop breakpoint 0\n";
 
-/// A stopped machine repeats its stop and tells nothing.
+/// A stopped machine repeats its stop and has no event.
 #[test]
 fn a_step_tells_its_events(rt: HostRuntime) -> Result<(), Fail> {
     let mut machine: Slow = machine_with(rt.alloc(), TO_BREAKPOINT).ok_or("a machine")?;

@@ -22,12 +22,13 @@ reg E FFFFFFFF";
 static FIRST_TRACE: [u8; 66] =
     *b"1 F 00000008 2 p ok off\n2 F 0000000A 2 p ok off\nstop breakpoint 0\n";
 
-/// Whether a writer got this number of bytes of the trace.
+/// Returns whether a writer got this number of bytes of the trace.
 fn got(out: &Cut, bytes: usize) -> bool {
     out.text.len() == bytes && FIRST_TRACE.starts_with(out.text.as_slice())
 }
 
-/// Whether a writer of this number of bytes breaks a machine, in the step whose line it cuts.
+/// Returns whether a writer of this number of bytes breaks a machine, in the step whose line it
+/// cuts.
 fn breaks(machine: &mut Slow, left: usize, fails: bool) -> bool {
     let mut out = Cut::new(left, 512, fails);
     let wanted = if left < 24 { 1 } else { 2 };
@@ -37,7 +38,7 @@ fn breaks(machine: &mut Slow, left: usize, fails: bool) -> bool {
     }
 }
 
-/// Whether a machine is broken, so that a run writes nothing.
+/// Returns whether a machine is broken, so that a run writes nothing.
 fn is_broken(machine: &mut Slow) -> bool {
     let mut out = Cut::whole();
     matches!(run(machine, 10, &mut out), Err(RunFault::Broken)) && out.text.is_empty()
@@ -55,7 +56,7 @@ fn a_writer_that_fails_breaks_the_machine(rt: HostRuntime) -> Result<(), Fail> {
     Ok(())
 }
 
-/// Whether a run into a writer of one byte a call ends at the breakpoint.
+/// Returns whether a run into a writer of one byte a call ends at the breakpoint.
 fn ends(machine: &mut Slow, out: &mut Cut) -> bool {
     matches!(run(machine, 10, out), Ok(Stop::Breakpoint(0))) && !machine.broken()
 }

@@ -1,4 +1,4 @@
-//! What an instruction says, as the numbers of a line of the tables: a family of shapes a function.
+//! An instruction as the numbers of a line of the tables: a function for each family of shapes.
 
 use reference::instruction::{
     Branch, DataProcessing, Exclusive, Instruction, LoadStore, LoadStoreMultiple, System,
@@ -223,7 +223,7 @@ fn told_fields(instruction: &Instruction) -> Option<Told> {
     }
 }
 
-/// What one register gives: a saturated, an extended or a rearranged word.
+/// Operations on one register: a saturated, an extended or a rearranged word.
 fn told_words(instruction: &Instruction) -> Option<Told> {
     match instruction {
         Instruction::DataProcessing(DataProcessing::Saturate(o)) => {
@@ -430,7 +430,7 @@ fn told_calls(instruction: &Instruction) -> Option<Told> {
     }
 }
 
-/// What an instruction says: each is of one family.
+/// The numbers of an instruction, which is of one family.
 pub fn told_operands(instruction: &Instruction) -> Option<Told> {
     told_data(instruction)
         .or(told_shifts(instruction))
