@@ -1,3 +1,4 @@
+pub mod Fetched
 pub mod Foresight
 pub mod Room
 pub mod Runs
