@@ -1,11 +1,12 @@
 -- The field of a letter, place by place from the highest.
-use Rattle.std.proofs.Common.{◌≡◌, ℕ, ◌+◌, ◌-◌, ◌*◌, ◌^◌, ◌<◌, ◌≤◌, nat_le, IsTrue, ◌==◌, if◌then◌else◌, List, [], length, drop, get_or, refl, arith, length-drop}
+use Rattle.std.proofs.Common.{◌≡◌, ℕ, ◌+◌, ◌-◌, ◌*◌, ◌^◌, ◌<◌, ◌≤◌, IsTrue, ◌==◌, if◌then◌else◌, List, [], length, drop, get_or, refl, arith, length-drop}
 use Rattle.std.proofs.Math.Pow.{pow_mono}
 use Rattle.std.proofs.lemmas.Bool.Decides.{nat_tests}
 use Rattle.std.proofs.lemmas.Grind.{common_steps}
 use Rattle.std.proofs.lemmas.List.{at_drop_more}
 use Rattle.reference.specs.Words.{bit_at}
 use Rattle.reference.specs.Patterns.{joined_field}
+use Rattle.encodings.specs.Runs.{has_field, width}
 
 -- one place more
 pub joined_next : (letter : ℕ) (places : List ℕ) (i x before d : ℕ) → i < length places
@@ -22,8 +23,9 @@ pub joined_end : (letter : ℕ) (places : List ℕ) (i x before : ℕ) → lengt
 unfolding joined_field
 joined_end letter places i x before h = let none : drop i places ≡ [] = grind (arith, common_steps) in rw none refl
 
-pub below_width : (value w n : ℕ) → IsTrue (nat_le w n) → value < 2 ^ w → value < 2 ^ n
-below_width value w n narrow small =
-    let few : w ≤ n = grind (arith, nat_tests, narrow) in
-    let top : 2 ^ w ≤ 2 ^ n = pow_mono {i = w} {j = n} few in
+pub below_width : (most : ℕ) (places : List ℕ) (letter value : ℕ) → IsTrue (has_field most places letter)
+    → value < 2 ^ width places letter → value < 2 ^ most
+below_width most places letter value narrow small =
+    let few : width places letter ≤ most = grind (arith, nat_tests, narrow) in
+    let top : 2 ^ width places letter ≤ 2 ^ most = pow_mono {i = width places letter} {j = most} few in
     omega (arith, top, small)

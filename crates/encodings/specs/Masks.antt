@@ -1,6 +1,6 @@
 -- What a number means by the rows of a table, if one of them applies: each text as a mask and a value.
-use Rattle.std.specs.Prelude.{ℕ, ◌+◌, ◌*◌, ◌^◌, Bool, not, ◌&&◌, ◌==◌, if◌then◌else◌, List, [], ◌∷◌, length, Option, Some, None, bit_and}
-use Rattle.std.specs.List.{list_any}
+use Rattle.std.specs.Prelude.{ℕ, ◌+◌, ◌*◌, ◌^◌, Bool, not, ◌&&◌, ◌==◌, nat_le, if◌then◌else◌, List, [], ◌∷◌, length, Option, Some, None, bit_and}
+use Rattle.std.specs.List.{list_any, list_all}
 use Rattle.reference.specs.declared.instruction.Decoded.{Decoded}
 use Rattle.reference.specs.Patterns.{place_0, place_1, place_z, place_o}
 use Rattle.reference.specs.Rows.{Row, letters, as_printed}
@@ -33,6 +33,10 @@ masked x mask value = bit_and x mask == value
 abbrev pub by_text : ℕ → ℕ → List ℕ → ℕ → Bool
 by_text clear set places x = masked x (mask_of clear set places) (value_of clear set places)
 
+-- whether each text has at most 32 places
+abbrev pub are_narrow : List (List ℕ) → Bool
+are_narrow texts = list_all (λ text. nat_le (length text) 32) texts
+
 -- whether one of the exceptions fits
 abbrev pub excepted : List (List ℕ) → ℕ → Bool
 excepted texts x = list_any (λ text. by_text place_0 place_1 text x) texts
@@ -40,6 +44,10 @@ excepted texts x = list_any (λ text. by_text place_0 place_1 text x) texts
 -- whether a row applies, whose text fits or not, and its exceptions
 unfoldable pub chosen : Bool → Bool → Bool
 chosen fits except = fits && not except
+
+-- whether a row with that text and these exceptions applies
+abbrev pub applies_by_masks : List ℕ → List (List ℕ) → ℕ → Bool
+applies_by_masks places except x = chosen (by_text place_0 place_1 places x) (excepted except x)
 
 -- the decoding of the number by a row
 abbrev pub outcome_of : Row → ℕ → Decoded
@@ -49,7 +57,7 @@ outcome_of row x = as_printed (by_text place_z place_o row.places x) (row.gives 
 unfoldable pub by_masks : List Row → ℕ → Option Decoded
 by_masks [] x = None
 by_masks (row ∷ rows) x =
-    if chosen (by_text place_0 place_1 row.places x) (excepted row.except x) then Some (outcome_of row x) else by_masks rows x
+    if applies_by_masks row.places row.except x then Some (outcome_of row x) else by_masks rows x
 
 -- the decoding of a number by a table, and otherwise by the next
 abbrev pub first_of : Option Decoded → Decoded → Decoded

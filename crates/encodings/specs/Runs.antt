@@ -1,5 +1,5 @@
 -- The field of a letter as the runs of its places.
-use Rattle.std.specs.Prelude.{ℕ, ◌+◌, ◌*◌, ◌^◌, Bool, true, false, ◌==◌, if◌then◌else◌, List, [], ◌∷◌, length}
+use Rattle.std.specs.Prelude.{ℕ, ◌+◌, ◌*◌, ◌^◌, Bool, true, false, ◌&&◌, ◌==◌, nat_le, if◌then◌else◌, List, [], ◌∷◌, length}
 use Rattle.reference.specs.Words.{bits}
 
 -- places of one letter, side by side: how many places are below them, and how many they are
@@ -39,3 +39,7 @@ value_at places x letter = joined_runs (runs_of letter places) x
 -- how many places a letter has
 abbrev pub width : List ℕ → ℕ → ℕ
 width places letter = width_of (runs_of letter places)
+
+-- whether a text has at most 32 places, and at most `most` of that letter
+abbrev pub has_field : ℕ → List ℕ → ℕ → Bool
+has_field most places letter = nat_le (length places) 32 && nat_le (width places letter) most

@@ -1,24 +1,27 @@
 //! The text of a row, read as bits and fields.
 
-ghost use Rattle.std.specs.Prelude.{◌≡◌, ◌==◌, ◌<◌, ◌≤◌, ◌^◌, ◌&&◌, ◌||◌, nat_le, not, length, IsTrue};
-ghost use Rattle.reference.specs.Patterns.{field};
-ghost use Rattle.encodings.specs.Runs.{value_at, width};
-ghost use Rattle.encodings.specs.Masks.{masked, mask_bit, value_bit, mask_of, value_of, chosen};
+ghost use Rattle.std.specs.Prelude.{◌≡◌, ◌==◌, ◌<◌, ◌≤◌, ◌^◌, ◌&&◌, ◌||◌, nat_le, not, length, [], ◌∷◌, IsTrue, Some};
+ghost use Rattle.reference.specs.Patterns.{field, place_0, place_1, place_o, place_z};
+ghost use Rattle.reference.specs.Rows.{as_printed};
+ghost use Rattle.encodings.specs.Runs.{has_field, value_at, width};
+ghost use Rattle.encodings.specs.Masks.{mask_bit, value_bit, mask_of, value_of, are_narrow, applies_by_masks, by_text, chosen};
 
+use crate::outcomes::as_printed;
+use reference::instruction::Decoded;
 use reference::registers::Register;
 
 /// The bits that a row's text fixes, and their values.
 #[derive(Clone, Copy)]
-pub struct Pattern {
-    pub mask: u32,
-    pub value: u32,
+struct Pattern {
+    mask: u32,
+    value: u32,
 }
 
 impl Pattern {
     /// Returns the bits that are 0 at the places `clear` of a text, and 1 at the places `set`.
     #[inline(always)]
-    pub fn of(places: &str, clear: u8, set: u8) -> Pattern
-        requires { IsTrue (nat_le (length places.now) 32) }
+    fn of(places: &str, clear: u8, set: u8) -> Pattern
+        requires { length places.now ≤ 32 }
         ensures mask { result.mask ≡ mask_of clear set places.now }
         ensures value { result.value ≡ value_of clear set places.now }
     {
@@ -29,15 +32,17 @@ impl Pattern {
         }
         Pattern { mask, value }
     }
+}
 
-    /// Returns whether a number has these bits.
-    #[inline(always)]
-    #[tactic(auto, unfolding(crate::specs::Masks::masked))]
-    pub fn fits(self, x: u32) -> bool
-        ensures { result ≡ masked x self.mask self.value }
-    {
-        x & self.mask == self.value
-    }
+/// Returns whether a number has a 0 at the places `clear` of a text, and a 1 at the places `set`.
+#[inline(always)]
+#[tactic(auto, unfolding(crate::specs::Masks::masked))]
+fn has_bits(places: &str, clear: u8, set: u8, x: u32) -> bool
+    requires { IsTrue (nat_le (length places.now) 32) }
+    ensures { result ≡ by_text clear set places.now x }
+{
+    let pattern = Pattern::of(places, clear, set);
+    x & pattern.mask == pattern.value
 }
 
 /// Returns whether a place fixes its bit.
@@ -56,21 +61,100 @@ fn value_bit(clear: u8, set: u8, place: u8) -> u32
     if place != clear && place == set { 1 } else { 0 }
 }
 
-/// Returns whether one of two patterns fits.
+/// Returns whether a text fits a number.
 #[inline(always)]
-pub fn either(first: bool, second: bool) -> bool
-    ensures { result ≡ (first || second) }
+fn fits(places: &str, x: u32) -> bool
+    requires { IsTrue (nat_le (length places.now) 32) }
+    ensures { result ≡ by_text place_0 place_1 places.now x }
 {
-    first || second
+    has_bits(places, b'0', b'1', x)
 }
 
 /// Returns whether a row applies: its text fits, and no exception does.
 #[inline(always)]
 #[tactic(auto, unfolding(crate::specs::Masks::chosen))]
-pub fn chosen(fits: bool, excepted: bool) -> bool
+fn chosen(fits: bool, excepted: bool) -> bool
     ensures { result ≡ chosen fits excepted }
 {
     fits && !excepted
+}
+
+/// Returns whether a row applies that has no exception.
+#[inline(always)]
+pub fn applies(places: &str, x: u32) -> bool
+    requires { IsTrue (nat_le (length places.now) 32) }
+    ensures { result ≡ applies_by_masks places.now [] x }
+{
+    chosen(fits(places, x), false)
+}
+
+/// Returns whether one of two patterns fits.
+#[inline(always)]
+fn either(first: bool, second: bool) -> bool
+    ensures { result ≡ (first || second) }
+{
+    first || second
+}
+
+/// Returns whether a row applies that has one exception.
+#[inline(always)]
+pub fn applies_but(places: &str, other: &str, x: u32) -> bool
+    requires { IsTrue (are_narrow (places.now ∷ other.now ∷ [])) }
+    ensures { result ≡ applies_by_masks places.now (other.now ∷ []) x }
+{
+    chosen(fits(places, x), either(fits(other, x), false))
+}
+
+/// Returns whether a row applies that has two exceptions.
+#[inline(always)]
+pub fn applies_but_2(places: &str, first: &str, second: &str, x: u32) -> bool
+    requires { IsTrue (are_narrow (places.now ∷ first.now ∷ second.now ∷ [])) }
+    ensures { result ≡ applies_by_masks places.now (first.now ∷ second.now ∷ []) x }
+{
+    chosen(
+        fits(places, x),
+        either(fits(first, x), either(fits(second, x), false)),
+    )
+}
+
+/// Returns whether a row applies that has three exceptions.
+#[inline(always)]
+pub fn applies_but_3(places: &str, first: &str, second: &str, third: &str, x: u32) -> bool
+    requires { IsTrue (are_narrow (places.now ∷ first.now ∷ second.now ∷ third.now ∷ [])) }
+    ensures { result ≡ applies_by_masks places.now (first.now ∷ second.now ∷ third.now ∷ []) x }
+{
+    chosen(
+        fits(places, x),
+        either(
+            fits(first, x),
+            either(fits(second, x), either(fits(third, x), false)),
+        ),
+    )
+}
+
+/// Returns whether a row applies that has four exceptions.
+#[inline(always)]
+pub fn applies_but_4(
+    places: &str,
+    first: &str,
+    second: &str,
+    third: &str,
+    fourth: &str,
+    x: u32,
+) -> bool
+    requires { IsTrue (are_narrow (places.now ∷ first.now ∷ second.now ∷ third.now ∷ fourth.now ∷ [])) }
+    ensures { result ≡ applies_by_masks places.now (first.now ∷ second.now ∷ third.now ∷ fourth.now ∷ []) x }
+{
+    chosen(
+        fits(places, x),
+        either(
+            fits(first, x),
+            either(
+                fits(second, x),
+                either(fits(third, x), either(fits(fourth, x), false)),
+            ),
+        ),
+    )
 }
 
 /// Returns the field of a letter.
@@ -112,8 +196,7 @@ impl Letters<'_> {
     #[inline(always)]
     #[tactic(auto, using(crate::proofs::Letters::below_width))]
     pub fn register(self, letter: u8) -> Register
-        requires few { IsTrue (nat_le (length self.places.now) 32) }
-        requires narrow { IsTrue (nat_le (width self.places.now letter) 4) }
+        requires { IsTrue (has_field 4 self.places.now letter) }
         ensures { result ≡ value_at self.entry.places.now self.entry.number letter }
     {
         Register::new(self.number(letter) as u8)
@@ -123,8 +206,7 @@ impl Letters<'_> {
     #[inline(always)]
     #[tactic(auto, using(crate::proofs::Letters::below_width))]
     pub fn byte(self, letter: u8) -> u8
-        requires few { IsTrue (nat_le (length self.places.now) 32) }
-        requires narrow { IsTrue (nat_le (width self.places.now letter) 8) }
+        requires { IsTrue (has_field 8 self.places.now letter) }
         ensures value { result ≡ value_at self.entry.places.now self.entry.number letter }
         ensures small { result < 2 ^ width self.entry.places.now letter }
     {
@@ -135,8 +217,7 @@ impl Letters<'_> {
     #[inline(always)]
     #[tactic(auto, using(crate::proofs::Letters::below_width))]
     pub fn half(self, letter: u8) -> u16
-        requires few { IsTrue (nat_le (length self.places.now) 32) }
-        requires narrow { IsTrue (nat_le (width self.places.now letter) 16) }
+        requires { IsTrue (has_field 16 self.places.now letter) }
         ensures value { result ≡ value_at self.entry.places.now self.entry.number letter }
         ensures small { result < 2 ^ width self.entry.places.now letter }
     {
@@ -151,6 +232,15 @@ impl Letters<'_> {
     {
         self.number(letter) == 1
     }
+
+    /// Returns what a row makes of the number, unless a bit isn't what it should be.
+    #[inline(always)]
+    pub fn says(self, decoded: Decoded) -> Option<Decoded>
+        requires { IsTrue (nat_le (length self.places.now) 32) }
+        ensures { result ≡ Some (as_printed (by_text place_z place_o self.entry.places.now self.entry.number) decoded) }
+    {
+        Some(as_printed(has_bits(self.places, b'z', b'o', self.number), decoded))
+    }
 }
 
 /// Returns the decoding of a number by the first row that applies. A row is its text, the
@@ -160,26 +250,50 @@ macro_rules! rows {
     ($x:ident; $([$($place:tt)*] $(except [$($other:tt)*])* => |$f:ident| $outcome:expr,)*) => {{
         $(
             let places = concat!($(stringify!($place)),*);
-            let fits = $crate::pattern::Pattern::of(places, b'0', b'1').fits($x);
-            let excepted = $crate::excepted!($x; $([$($other)*])*);
-            if $crate::pattern::chosen(fits, excepted) {
-                let printed = $crate::pattern::Pattern::of(places, b'z', b'o').fits($x);
+            if $crate::applies!(places, $x; $([$($other)*])*) {
                 let $f = $crate::pattern::Letters { places, number: $x };
-                return Some($crate::outcomes::as_printed(printed, $outcome));
+                return $f.says($outcome);
             }
         )*
         None
     }};
 }
 
-/// Returns whether one of some exceptions fits.
+/// Returns whether a row applies that has these exceptions.
 #[macro_export]
-macro_rules! excepted {
-    ($x:ident;) => { false };
-    ($x:ident; [$($place:tt)*] $([$($other:tt)*])*) => {
-        $crate::pattern::either(
-            $crate::pattern::Pattern::of(concat!($(stringify!($place)),*), b'0', b'1').fits($x),
-            $crate::excepted!($x; $([$($other)*])*),
+macro_rules! applies {
+    ($places:ident, $x:ident;) => { $crate::pattern::applies($places, $x) };
+    ($places:ident, $x:ident; [$($a:tt)*]) => {
+        $crate::pattern::applies_but($places, concat!($(stringify!($a)),*), $x)
+    };
+    ($places:ident, $x:ident; [$($a:tt)*] [$($b:tt)*]) => {
+        $crate::pattern::applies_but_2(
+            $places, concat!($(stringify!($a)),*), concat!($(stringify!($b)),*), $x,
         )
     };
+    ($places:ident, $x:ident; [$($a:tt)*] [$($b:tt)*] [$($c:tt)*]) => {
+        $crate::pattern::applies_but_3(
+            $places, concat!($(stringify!($a)),*), concat!($(stringify!($b)),*),
+            concat!($(stringify!($c)),*), $x,
+        )
+    };
+    ($places:ident, $x:ident; [$($a:tt)*] [$($b:tt)*] [$($c:tt)*] [$($d:tt)*]) => {
+        $crate::pattern::applies_but_4(
+            $places, concat!($(stringify!($a)),*), concat!($(stringify!($b)),*),
+            concat!($(stringify!($c)),*), concat!($(stringify!($d)),*), $x,
+        )
+    };
+}
+
+/// Returns what the first table says that has a row for a number; what no row has is UNDEFINED.
+#[macro_export]
+macro_rules! first_of {
+    ($x:ident; $($table:ident),* $(,)?) => {{
+        $(
+            if let Some(decoded) = $table($x) {
+                return decoded;
+            }
+        )*
+        Decoded::Undefined
+    }};
 }

@@ -1,0 +1,2 @@
+-- What two halfwords mean. The rows are in the crate `reference`.
+pub use Rattle.reference.specs.Decoding
