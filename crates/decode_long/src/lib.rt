@@ -1,5 +1,5 @@
-//! What two halfwords mean that are an instruction together (ARM DDI 0403, "32-bit Thumb instruction
-//! encoding"): what the row says that applies to them, table by table.
+//! The decoder of 32-bit instructions (ARM DDI 0403, "32-bit Thumb instruction encoding"): two halfwords
+//! are decoded by the row that applies to them, table by table.
 #![tactic(auto)]
 
 ghost use Rattle.std.specs.Prelude.{◌≡◌};
@@ -29,7 +29,7 @@ use crate::long_store::store_rows;
 use encodings::first_of;
 use reference::instruction::Decoded;
 
-/// Returns what two halfwords mean that are an instruction together, the first above the second.
+/// Decodes two halfwords that are one instruction, the first above the second.
 #[tactic(auto, using(encodings::proofs::Tables::long_by_tables))]
 pub fn decode_long(x: u32) -> Decoded
     ensures { result ≡ long_meaning x }

@@ -1,8 +1,9 @@
 //! Encodings and what they mean, of an assembler (LLVM's, for ARMv7-M), each with its text.
 //!
-//! A line has the two halfwords, and then ten numbers of what the text says: the instruction's
-//! variant, its length, its place in an IT block, and its operands in the order of their struct. An
-//! enum counts as its place in the enum, a carry that stays as 2. All numbers are hexadecimal.
+//! A line has the two halfwords, and then ten numbers of what the text says: the number that `told.rt`
+//! has for its shape, its length, its position in an IT block, and its operands in the order of their
+//! struct. An enum counts as its place in the enum, a carry that stays as 2. All numbers are
+//! hexadecimal.
 
 /// Instructions of 16 bits.
 pub const SHORT: &str = "\
