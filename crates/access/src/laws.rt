@@ -8,8 +8,8 @@ ghost use Rattle.reference.specs.declared.access.Request.{Request};
 ghost use Rattle.reference.specs.declared.access.Rule.{Rule};
 ghost use Rattle.reference.specs.State.{Bus};
 
-/// An access that is refused, by a rule or by the bus, leaves memory, the registers and time as
-/// they were.
+/// An access that is refused, by a rule or by the bus, leaves memory, the system registers and time
+/// as they were.
 pub fn refused_access_changes_nothing()
     ensures { (exception : ℕ) (bus : Bus) (request : Request) (rule : Rule) (cause : Cause) → (perform exception bus request).performed ≡ Denied rule cause → (perform exception bus request).bus ≡ bus }
 {}

@@ -1,5 +1,5 @@
--- What the text of a board means (profile), over the `toml` crate's meaning of a document (TOML 1.1). A step is taken
--- only where the ones ahead of it were, so the first refusal is the result.
+-- What the text of a board means (profile), over the `toml` crate's meaning of a document (TOML 1.1). A check is made
+-- only where those before it passed, so the first refusal is the result.
 use Rattle.std.specs.Prelude.{ℕ, suc, ℤ, pos, negsuc, Bool, true, false, ◌&&◌, not, nat_lt, if◌then◌else◌, List, []}
 use Rattle.std.specs.Prelude.{◌∷◌, codes, bytes_eq, Option, Some, None, Result, Ok, Err}
 use Rattle.std.specs.List.{list_any}
@@ -16,7 +16,7 @@ use Rattle.reference.specs.Boards.{Numbers, Described, is_whole_blocks, is_size,
 use Rattle.reference.specs.Boards.{is_line_count}
 use Rattle.reference.specs.Boards.{is_region_count, default_regions, is_tick, first_tick, most_events}
 
--- one step, and then another with its result
+-- one check, and then another with its result
 infixl 10 ◌>>=◌
 abbrev pub ◌>>=◌ : {A B : Type 0} → Result A BoardFault → (A → Result B BoardFault) → Result B BoardFault
 (Ok given) >>= next = next given

@@ -114,8 +114,8 @@ fn debug_by<I: Read + Drop, W: Write + Drop, E: Write>(
     debug_from::<I, W, E, Brand>(alloc, image, board, input, out, err, Blank::new(1))
 }
 
-/// Debugs an image on a board: makes an `In` of `input`, and writes its error. `blank` counts its
-/// failed calls.
+/// Debugs an image on a board: makes an `In` of `input`, and writes why it failed. `blank` counts the
+/// calls of `input` that fail.
 fn debug_from<I: Read + Drop, W: Write + Drop, E: Write, K: Ledger>(
     alloc: Global,
     image: InputFile<'_>,
@@ -145,8 +145,8 @@ fn debug_from<I: Read + Drop, W: Write + Drop, E: Write, K: Ledger>(
     status
 }
 
-/// Debugs an image on a board: makes an `Out` of `out`, and writes its error. `blank` counts its
-/// failed calls.
+/// Debugs an image on a board: makes an `Out` of `out`, and writes why it failed. `blank` counts the
+/// calls of `out` that fail.
 fn debug_to<I: In, W: Write + Drop, E: Write, K: Ledger>(
     alloc: Global,
     image: InputFile<'_>,

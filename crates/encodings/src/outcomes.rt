@@ -35,7 +35,7 @@ pub fn is_bad(register: Register) -> bool
     register.number() == 13 || register.number() == 15
 }
 
-/// Returns an instruction of that length at that position in an IT block.
+/// Returns an instruction with the length of its encoding and its position in an IT block.
 #[inline]
 pub fn placed(length: InstructionLength, place: BlockPlace, instruction: Instruction) -> Decoded
     ensures { result ≡ placed length place instruction }
@@ -98,8 +98,8 @@ pub fn long_unless(refused: bool, instruction: Instruction) -> Decoded
     unless_refused(refused, long(instruction))
 }
 
-/// Returns an instruction of that length at that position in an IT block, unless it refuses its
-/// registers.
+/// Returns an instruction with the length of its encoding and its position in an IT block, unless it
+/// refuses its registers.
 #[inline]
 pub fn placed_unless(
     refused: bool,

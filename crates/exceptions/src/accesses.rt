@@ -23,7 +23,8 @@ pub type Requests = Bounded<Request, MOST_REQUESTS>;
 pub type Values = Bounded<u32, MOST_REQUESTS>;
 
 /// Makes accesses one by one, each in the state that the one before left, to the first failure.
-/// `exception` is the number of the exception that runs. `values` becomes what they read.
+/// `exception` is the number of the exception that runs. `values` becomes what they read. Its
+/// definition is `perform_all` of Accesses.antt; `served` of Step.antt is the rest of a step after it.
 #[inline(always)]
 pub fn serve<D: Decider, C: CodeLines, L: Levels, U: DueTicks, S: Sink>(
     exception: u16,

@@ -53,7 +53,7 @@ pub fn plan(
     }
 }
 
-/// Carries out a branch of that length.
+/// Carries out a branch whose encoding has this length.
 #[inline]
 #[tactic(auto, unfolding(reference::specs::Branches::branch_effect))]
 pub fn finish(length: InstructionLength, branch: &Branch, regs: &mut Regs, values: &[u32]) -> Ending
@@ -162,7 +162,7 @@ fn table_branch(regs: &mut Regs, halfwords: u32) -> Ending
 
 // ---- IT
 
-/// Returns the eight bits of a block that begins.
+/// Returns ITSTATE of an IT block that begins.
 #[inline]
 fn begun(operands: &IfThen) -> u8
     ensures { result ≡ begun operands.now }

@@ -42,7 +42,7 @@ pub fn plan(instruction: &Exclusive, regs: &Regs, requests: &mut Requests) -> Re
     }
 }
 
-/// Carries out an exclusive of that length with the value that it read.
+/// Carries out an exclusive, whose encoding has this length, with the value that it read.
 #[tactic(auto, unfolding(reference::specs::Exclusives::exclusive_effect))]
 pub fn finish(
     length: InstructionLength,

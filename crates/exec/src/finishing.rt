@@ -23,7 +23,7 @@ pub fn finish(coded: &CodedInstruction, regs: &mut Regs, values: &[u32]) -> Endi
     move_on(regs, coded.length)
 }
 
-/// Carries out an instruction of that length whose condition holds.
+/// Carries out an instruction, whose encoding has this length and whose condition holds.
 #[inline]
 #[tactic(auto, unfolding(reference::specs::Operations::effect))]
 fn finish_family(

@@ -21,7 +21,7 @@ pub fn move_on(regs: &mut Regs, length: InstructionLength) -> Ending
     Ending::Next
 }
 
-/// The PC was written.
+/// Ends an instruction that wrote the PC: advances IT alone.
 #[inline]
 pub fn branched(regs: &mut Regs) -> Ending
     ensures { finished_as regs.new result ≡ branches regs.old }

@@ -24,8 +24,8 @@ pub fn has_no_condition(instruction: &System) -> bool
     }
 }
 
-/// Returns the ending of an instruction of that length: what it does besides advancing the PC. SVC
-/// and BKPT leave the PC where it is.
+/// Returns the ending of an instruction, whose encoding has this length: what it does besides advancing
+/// the PC. SVC and BKPT leave the PC where it is.
 #[inline]
 #[tactic(auto, unfolding(reference::specs::SystemInstructions::system_effect))]
 pub fn finish(length: InstructionLength, instruction: &System, regs: &mut Regs) -> Ending

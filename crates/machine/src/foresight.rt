@@ -65,7 +65,7 @@ impl<D: Decider, C: CodeLines, L: Levels, U: DueTicks> Processor<D, C, L, U> {
     }
 
     /// Returns whether the core sleeps on after the next tick, where there is no candidate: nothing
-    /// would preempt were PRIMASK 0.
+    /// would preempt if PRIMASK were 0.
     #[tactic(auto, using(crate::proofs::Foreseen::unmasked_foreseen))]
     fn sleeps_next(&self) -> bool
         requires { self.now.bus.system.time.ticks < 2 ^ 48 }

@@ -38,7 +38,7 @@ use std::alloc::Global;
 use std::marker::Model;
 use trace::sink::Events;
 
-/// Why a run didn't end.
+/// Why a run failed.
 #[derive(Clone, Copy)]
 pub enum RunFault {
     /// The writer failed after `steps` steps of this call.
@@ -99,7 +99,7 @@ impl<D: Decider, C: CodeLines, L: Levels, U: DueTicks> Machine<D, C, L, U> {
         self.core.stop()
     }
 
-    /// Makes a step and writes its lines. `room` is kept from one step to the next. After a fault a prefix
+    /// Makes a step and writes its lines. `room` is kept from one step to the next. On an error a prefix
     /// of the lines went out.
     pub fn write_step<W: Out>(&mut self, room: &mut LineRoom, out: &mut W) -> Result<(), IoFault>
         ensures state { self.new ≡ record self.old { state = (step self.old.state).state } }

@@ -1,4 +1,4 @@
-//! The trait of what decides accesses by the registers of the MPU, however it keeps them.
+//! The trait `Decider`: it decides accesses by the registers of the MPU, however it keeps them.
 
 ghost use Rattle.std.specs.Prelude.{◌≡◌, ◌≤◌};
 ghost use Rattle.mpu.specs.Spans.{BelongTo};

@@ -25,7 +25,7 @@ pub(crate) const HFNMIENA: u32 = 1;
 /// The bit for PRIVDEFENA: where no region matches, privileged code has the default map.
 pub(crate) const PRIVDEFENA: u32 = 2;
 
-/// The bit of RBAR that says that REGION is selected.
+/// The bit of RBAR for VALID: a write with it selects REGION.
 const VALID: u32 = 4;
 
 /// The registers of the MPU. A contract sees them as the reference's `Mpu`.

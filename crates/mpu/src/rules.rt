@@ -51,7 +51,8 @@ fn is_off_below_zero(control: u32, below_zero: bool) -> bool
     below_zero && !is_bit(control, HFNMIENA)
 }
 
-/// What the default memory map grants: all data, and the fetches of code.
+/// Returns whether the default memory map grants an access: all but fetches, and fetches from an
+/// executable address.
 #[inline]
 fn default_map(address: u32, kind: Kind) -> bool
     ensures { result ≡ default_map address kind }

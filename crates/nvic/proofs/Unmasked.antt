@@ -1,4 +1,4 @@
--- What would be the candidate were PRIMASK 0.
+-- What would be the candidate if PRIMASK were 0.
 use Rattle.std.proofs.Common.{◌≡◌, ℕ, zero, suc, ◌<◌, ◌≤◌, ◌⊎◌, min, Bool, true, false, not, ◌&&◌, nat_lt}
 use Rattle.std.proofs.Common.{if◌then◌else◌, slice_index, Option, Some, None, refl, sym, ◌∙◌, ap, subst, arith}
 use Rattle.std.proofs.lemmas.Bool.Decides.{nat_tests}
@@ -30,7 +30,7 @@ unfolding highest_active
 least_open n zero = refl
 least_open n (suc k) = ap (λ p. raised_by n k p) (least_open n k)
 
--- the execution priority were PRIMASK 0
+-- the execution priority if PRIMASK were 0
 abbrev pub limit : Nvic → ℕ
 limit n = min (highest_active n EXCEPTIONS) (boosted n.group (record n.masks { primask = false }))
 

@@ -12,15 +12,15 @@ pub fn execution_priority_is_the_least()
     ensures { (n : Nvic) (p : ℕ) → IsLeast n p ↔ (p ≡ execution_priority n) }
 {}
 
-/// The best exception, and nothing else, is pending and enabled and comes before each other one
-/// that is.
+/// The best exception is exactly the one that is pending and enabled and comes before each other such
+/// one, or None where no exception is pending and enabled.
 #[tactic(auto, using(crate::proofs::Best::best_exactly))]
 pub fn best_comes_before_all()
     ensures { (n : Nvic) (o : Option ℕ) → IsBest n o ↔ (o ≡ best n) }
 {}
 
-/// The candidate, and nothing else, is the best exception where that preempts, and none where no
-/// exception that is pending and enabled does.
+/// The candidate is exactly the best exception where that preempts, or None where no pending and
+/// enabled exception preempts.
 #[tactic(auto, using(crate::proofs::Best::candidate_exactly))]
 pub fn candidate_is_the_best_that_preempts()
     ensures { (n : Nvic) (o : Option ℕ) → IsCandidate n o ↔ (o ≡ candidate n) }

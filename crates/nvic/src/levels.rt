@@ -112,7 +112,7 @@ pub trait Levels: Drop {
     fn copied(&self) -> Self
         ensures { content result ≡ content self.now };
 
-    /// Makes each exception that is due pending: bit n mod 32 of word n / 32 for exception n.
+    /// Pends each exception in `due`: exception n is bit n mod 32 of word n / 32.
     #[tactic(auto, using(crate::proofs::Waiting::nothing_added), unfolding(reference::specs::Priorities::with_due))]
     fn pend_due(&mut self, due: &[u32; 8])
         ensures { content self.new ≡ with_due (content self.old) due.now }
@@ -126,7 +126,7 @@ pub trait Levels: Drop {
         }
     }
 
-    /// The exception becomes pending where it's due.
+    /// Pends an exception where it is in `due`.
     #[tactic(auto, unfolding(reference::specs::Priorities::with_due_at))]
     #[inline]
     fn pend_if_due(&mut self, due: &[u32; 8], number: u16)
@@ -193,8 +193,8 @@ pub trait Levels: Drop {
         if masked.is_below(held) { masked } else { held }
     }
 
-    /// Returns whether the execution priority is below 0, which FAULTMASK, NMI and HardFault alone
-    /// make it.
+    /// Returns whether the execution priority is below 0: where FAULTMASK is set, or NMI or HardFault is
+    /// active.
     #[tactic(auto, using(crate::proofs::BelowZero::below_zero))]
     fn is_below_zero(&self) -> bool
         ensures { result ≡ is_below_zero_of (content self.now) }
@@ -209,7 +209,8 @@ pub trait Levels: Drop {
         fixed_or(number, grouped(self.group(), self.priority(number)))
     }
 
-    /// Returns whether the group priority of an exception is below the execution priority.
+    /// Returns whether an exception preempts: its group priority is a lower number than the execution
+    /// priority.
     fn preempts(&self, number: u16) -> bool
         ensures { result ≡ nat_lt (group_priority_of (content self.now) number) (execution_priority_of (content self.now)) }
     {
@@ -231,7 +232,7 @@ pub trait Levels: Drop {
         }
     }
 
-    /// Returns what would be the candidate were PRIMASK 0. Below priority 0 only NMI can be it, so
+    /// Returns what would be the candidate if PRIMASK were 0. Below priority 0 only NMI can be it, so
     /// only NMI is tested there.
     #[tactic(auto, using(crate::proofs::Unmasked::unmasked, crate::proofs::Unmasked::below_zero_nmi))]
     fn candidate_unmasked(&self) -> Option<u16>
@@ -257,7 +258,7 @@ pub trait Levels: Drop {
         }
     }
 
-    /// Returns how a fault or SVC escalates whose exception has this number.
+    /// Returns how a fault or SVC of the exception of this number escalates.
     #[tactic(auto, unfolding(reference::specs::Priorities::escalation))]
     fn escalate(&self, number: u16) -> Escalation
         ensures { result ≡ escalation (content self.now) number }

@@ -7,7 +7,7 @@ use reference::exception::{
     FIRST_LINE, HARD_FAULT, MEM_MANAGE, NMI, PEND_SV, SV_CALL, SYS_TICK, USAGE_FAULT,
 };
 
-/// NMI and HardFault, whose priorities are fixed.
+/// Returns whether an exception's priority is fixed: that of NMI or HardFault.
 #[inline]
 fn is_fixed(number: u16) -> bool
     ensures { result ≡ is_fixed_of number }
@@ -15,7 +15,7 @@ fn is_fixed(number: u16) -> bool
     matches!(number, NMI | HARD_FAULT)
 }
 
-/// NMI, HardFault, SVCall, PendSV and SysTick, which can't be disabled.
+/// Returns whether an exception can't be disabled: NMI, HardFault, SVCall, PendSV or SysTick.
 #[inline]
 pub fn is_always_enabled(number: u16) -> bool
     ensures { result ≡ is_always_enabled_of number }
@@ -23,7 +23,7 @@ pub fn is_always_enabled(number: u16) -> bool
     is_fixed(number) || matches!(number, SV_CALL | PEND_SV | SYS_TICK)
 }
 
-/// Returns the external interrupts, one for each line of the board.
+/// Returns whether an exception is an external interrupt, that of a line of the board.
 #[inline]
 pub fn is_interrupt(lines: u8, number: u16) -> bool
     ensures { result ≡ is_interrupt_of lines number }
@@ -31,7 +31,8 @@ pub fn is_interrupt(lines: u8, number: u16) -> bool
     number >= FIRST_LINE && number - FIRST_LINE < lines as u16
 }
 
-/// MemManage, BusFault, UsageFault and the interrupts of the board.
+/// Returns whether an exception can be disabled: MemManage, BusFault, UsageFault or an interrupt of
+/// the board.
 #[inline]
 pub fn can_be_disabled(lines: u8, number: u16) -> bool
     ensures { result ≡ can_be_disabled_of lines number }
@@ -47,7 +48,7 @@ pub fn is_exception(lines: u8, number: u16) -> bool
     is_always_enabled(number) || can_be_disabled(lines, number)
 }
 
-/// Returns whether it has a priority byte.
+/// Returns whether an exception has a priority byte.
 #[inline]
 pub fn has_priority_byte(lines: u8, number: u16) -> bool
     ensures { result ≡ has_priority_byte_of lines number }

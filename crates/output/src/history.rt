@@ -5,7 +5,7 @@ ghost use Rattle.std.specs.Borrow.{ftrue};
 
 use std::marker::{Model, PhantomData};
 
-/// Pairs of values, in the order in which they were put down.
+/// Pairs of values, in the order in which they were added.
 #[derive(Drop)]
 pub(crate) struct History<A, B> {
     of: PhantomData<(A, B)>,

@@ -50,7 +50,7 @@ impl<O: Out + Drop> Paged<O> {
         inner
     }
 
-    /// Sends the page to the writer below. After a fault a prefix of it was sent, and the page
+    /// Sends the page to the writer below. On an error a prefix of it was sent, and the page
     /// still has the rest.
     #[cold]
     #[inline(never)]

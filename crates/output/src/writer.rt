@@ -39,7 +39,7 @@ impl LineRoom {
 pub struct IoFault;
 
 /// A writer that reports how many of the bytes it took. A contract sees the bytes that it has
-/// taken, where they are known, and how many calls failed or took none of a piece that isn't empty.
+/// taken, where they are known, and how many calls failed or took 0 bytes of a nonempty piece.
 pub trait Out {
     ghost written: { Self → Option (List ℕ) };
 
@@ -49,7 +49,7 @@ pub trait Out {
     fn put(&mut self, bytes: &[u8]) -> Result<usize, IoFault>
         ensures { Took (written self.old) (written self.new) (faults self.old) (faults self.new) bytes.now result };
 
-    /// Puts all of the bytes, piece by piece. After a fault a prefix of them went out.
+    /// Puts all of the bytes, piece by piece. On an error a prefix of them went out.
     fn put_all(&mut self, bytes: &[u8]) -> Result<(), IoFault>
         ensures { Put (written self.old) (written self.new) (faults self.old) (faults self.new) bytes.now result }
     {
@@ -91,7 +91,7 @@ pub trait In {
         ensures { Received (left self.old) (left self.new) (misses self.old) (misses self.new) room.new result };
 }
 
-/// A writer or a reader of the standard library, whose faults are counted in contracts alone.
+/// A writer or a reader of the standard library, whose failed calls are counted in contracts alone.
 #[derive(Drop)]
 pub struct Over<T: Drop, K: Ledger> {
     inner: T,

@@ -1,5 +1,5 @@
 -- Exception entry in two steps: the frame is pushed, and the vector is read (ARM DDI 0403, ExceptionEntry():
--- PushStack() and ExceptionTaken(); that they are two steps, and what comes between, is the profile's). In this file
+-- PushStack() and ExceptionTaken(); the split into two steps, and what comes between, is the profile's). In this file
 -- `e` is the value of EXC_RETURN, which the handler gets in LR, and `x` is the number of the exception that is taken.
 use Rattle.std.specs.Prelude.{ℕ, ◌*◌, Bool, true, false, if◌then◌else◌, List, [], ◌∷◌, ◌++◌, Option, Some, None, Result}
 use Rattle.std.specs.Prelude.{Ok, Err}

@@ -1,5 +1,5 @@
 -- Exception return (ARM DDI 0403, ExceptionReturn(), DeActivate() and PopStack()). Its named stops are the profile's.
--- So is that a fault during a return starts an exception entry in the same step, without a push. Read this file from
+-- So is this: a fault during a return starts an exception entry in the same step, without a push. Read this file from
 -- its last function upward.
 use Rattle.std.specs.Prelude.{ℕ, Bool, true, false, not, ◌&&◌, ◌||◌, ◌==◌, if◌then◌else◌, List, [], ◌∷◌, ◌++◌, Option}
 use Rattle.std.specs.Prelude.{Some, None, replicate}

@@ -1,5 +1,5 @@
 -- What holds of a state at the start, after each step and after each value that `place` puts. It's proved in the crate
--- `state_laws`. The definitions of a step are for all states, those without the invariant too.
+-- `state_laws`. A step is defined in every state, also in one without the invariant.
 use Rattle.std.specs.Prelude.{◌≡◌, ℕ, ◌+◌, ◌%◌, ◌^◌, ◌<◌, ◌≤◌, Bool, true, is_some, List, length, slice_index, None}
 use Rattle.reference.specs.declared.exception.TheConstants.{EXCEPTIONS, MOST_LINES}
 use Rattle.reference.specs.Boards.{Described, IsScript, IsScriptFrom, is_flash, is_line_count, is_region_count}
@@ -96,7 +96,7 @@ pub record SystemInvariant (s : System) : Type 0 where
 -- what holds of the state
 pub record Invariant (s : State) : Type 0 where
   pub registers : HasRegisters s.registers
-  -- an entry phase has a candidate, unless the machine has stopped
+  -- in the entry phase there is a candidate, unless the machine has stopped
   pub entry : s.stop ≡ None → is_some s.entry ≡ true → is_some (candidate s.bus.system.nvic) ≡ true
   pub memory : FlashEndsBelowRam s.bus.memory
   pub system : SystemInvariant s.bus.system

@@ -110,7 +110,7 @@ transfer traps kind privileged size address value =
 abbrev pub is_made_privileged : Bool → Registers → Bool
 is_made_privileged unprivileged r = is_privileged r && not unprivileged
 
--- the list of accesses of a load to R[t]: the PC is loaded from a multiple of 4, or the case is UNPREDICTABLE
+-- the list of accesses of a load to R[t]; one to the PC from an address that isn't a multiple of 4 is UNPREDICTABLE
 unfoldable pub load : Traps → LoadForm → ℕ → Bool → ℕ → Result (List Request) Failure
 load traps form t privileged address =
     if t == 15 && not (is_aligned Word address)

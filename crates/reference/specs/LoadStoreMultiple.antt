@@ -69,8 +69,8 @@ unfoldable pub word_requests : Kind → ℕ → List ℕ → Registers → List 
 word_requests kind address [] r = []
 word_requests kind address (n ∷ ns) r = word_request kind address n r ∷ word_requests kind (word_sum address 4) ns r
 
--- the accesses of several registers: MemA[] of an address that isn't a multiple of 4 is UsageFault UNALIGNED, whatever
--- CCR.UNALIGN_TRP is
+-- the accesses of several registers, or of the two of LDRD and STRD: MemA[] of an address that isn't a multiple of 4 is
+-- UsageFault UNALIGNED, whatever CCR.UNALIGN_TRP is
 unfoldable pub several : Kind → List ℕ → ℕ → Registers → Result (List Request) Failure
 several kind registers address r =
     if is_aligned Word address then Ok (word_requests kind address registers r) else Err (Usage Unaligned)

@@ -4,8 +4,8 @@
 --
 -- A priority is here the manual's number plus 2, so that it's a whole number: 0 for the manual's -2, 1 for its -1,
 -- b + 2 for the byte b, and 258 for its 256. A higher priority is a lower number, as in the manual; "below" and
--- "above" compare numbers. The best of some exceptions is the one of the highest priority; of several, the one with the
--- lowest exception number.
+-- "above" compare numbers. The best of some exceptions is the one of the highest priority; among equal priorities, the
+-- one with the lowest exception number.
 use Rattle.std.specs.Prelude.{ℕ, zero, suc, ◌+◌, ◌-◌, ◌*◌, ◌/◌, ◌%◌, ◌^◌, min, Bool, true, false, not, ◌&&◌, ◌||◌, ◌==◌}
 use Rattle.std.specs.Prelude.{nat_lt, nat_le, if◌then◌else◌, List, slice_index, slice_index_or, slice_set, replicate}
 use Rattle.std.specs.Prelude.{Option, Some, None}
@@ -156,7 +156,7 @@ candidate n = if_preempts n (best n)
 abbrev pub is_below_zero : Nvic → Bool
 is_below_zero n = is_negative (execution_priority n)
 
--- how a fault or SVC escalates whose exception is x: its own exception where that is enabled and preempts, otherwise
+-- how a fault or SVC of exception x escalates: to its own exception where that is enabled and preempts, otherwise
 -- lockup where the execution priority is below 0, and otherwise HardFault
 unfoldable pub escalation : Nvic → ℕ → Escalation
 escalation n x =

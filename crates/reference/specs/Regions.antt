@@ -41,7 +41,7 @@ is_on_below_zero control = is_bit control 1
 abbrev pub has_background : ℕ → Bool
 has_background control = is_bit control 2
 
--- the fields of a RASR: ENABLE, SIZE, SRD, AP and XN
+-- the fields of a RASR: ENABLE, SIZE (the field, not the bytes of the region), SRD (its eight bits), AP and XN
 abbrev pub is_region_enabled : ℕ → Bool
 is_region_enabled attributes = is_bit attributes 0
 

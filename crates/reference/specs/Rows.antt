@@ -122,7 +122,7 @@ short instruction = Instr (record { instruction = instruction; length = Short; p
 abbrev pub long : Instruction → Decoded
 long instruction = Instr (record { instruction = instruction; length = Long; place = Anywhere })
 
--- an instruction of that length at that place in an IT block
+-- an instruction with the length of its encoding and its position in an IT block
 abbrev pub placed : InstructionLength → BlockPlace → Instruction → Decoded
 placed length place instruction = Instr (record { instruction = instruction; length = length; place = place })
 

@@ -19,7 +19,7 @@ use Rattle.reference.specs.Regions.{has_background, IsOwner}
 abbrev pub is_executable : ℕ → Bool
 is_executable a = nat_lt (a / 2 ^ 29) 2 || (a / 2 ^ 29 == 3) || (a / 2 ^ 29 == 4)
 
--- what the default map grants: all data, and the fetches of code
+-- what the default map grants: every access but a fetch, and a fetch from an executable address
 abbrev pub default_map : ℕ → Kind → Bool
 default_map a Fetch = is_executable a
 default_map a Load = true
@@ -131,7 +131,7 @@ rank (Region k) = 5
 rank Background = 6
 rank NoRegion = 7
 
--- whether the case of a rule fits, apart from the cases before it, which `rank` orders
+-- whether the case of a rule fits, whatever cases come before it (`rank` has their order)
 abbrev pub Fits : Mpu → Asked → Rule → Type 0
 Fits m q NeverExecute = is_never_executed q.address q.kind ≡ true
 Fits m q VectorRead = is_vector q.kind ≡ true

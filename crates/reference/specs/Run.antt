@@ -17,7 +17,7 @@ unfoldable pub events_of : ℕ → State → List Event
 events_of zero s = []
 events_of (suc n) s = events_of n s ++ (step (after n s)).events
 
--- the stop of a run of at most n steps: why it ends
+-- the stop of a run of at most n steps (an `Ending` is another thing: how an instruction ends)
 abbrev pub ending_of : ℕ → State → Stop
 ending_of n s = unwrap_or (after n s).stop StepLimit
 

@@ -50,7 +50,7 @@ abbrev pub in_block : {A : Type 0} → (A → SystemRegister) → Option A → S
 in_block named (Some which) otherwise = named which
 in_block named None otherwise = otherwise
 
--- the registers that are alone in their block
+-- the registers that belong to no block: ICTR, SHCSR and STIR
 unfoldable pub single_at : ℕ → SystemRegister
 single_at word =
     if word == 0xE000_E004 then register.Ictr

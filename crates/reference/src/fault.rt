@@ -63,6 +63,6 @@ pub enum PlaceFault {
     NoSuchPlace,
     /// The machine has stopped, is in the entry phase, or is in Handler mode.
     Stopped,
-    /// The store of the value would stop the machine with this stop.
+    /// The store of the value would stop the machine with this stop. A bus error is `NoSuchPlace`.
     Refused(Stop),
 }

@@ -42,7 +42,7 @@ pub fn register_at(word: u32) -> SystemRegister
     single_at(word)
 }
 
-/// Returns a register that is alone in its block, or `Unlisted`.
+/// Returns ICTR, SHCSR or STIR, or `Unlisted` at another address.
 #[tactic(auto, unfolding(reference::specs::System::single_at))]
 fn single_at(word: u32) -> SystemRegister
     ensures { result ≡ single_at_of word }
@@ -105,7 +105,7 @@ pub fn part_of(request: &Request, word: u32) -> u32
     lowest_bytes(request.access.size, word >> (8 * first_byte(request)))
 }
 
-/// Returns the bytes that an access writes, in their place of a word whose other bytes are 0.
+/// Returns a word with the bytes that an access writes in their place, and 0 in the others.
 #[tactic(auto, using(crate::proofs::Places::placed))]
 pub fn in_place(request: &Request) -> u32
     ensures { result ≡ in_place_of request.now }

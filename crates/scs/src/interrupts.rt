@@ -48,7 +48,7 @@ fn first_exception(word: u8) -> u16
     FIRST_LINE + 32 * u16::from(word)
 }
 
-/// Returns whether a register reads 1 at an exception.
+/// Returns whether a register reads 1 at the bit of an exception.
 fn is_shown<L: Levels>(levels: &L, register: InterruptRegister, number: u16) -> bool
     ensures { result ≡ is_shown_of (L.content levels.now) register number }
 {
@@ -75,7 +75,7 @@ pub fn read_interrupts<L: Levels>(levels: &L, register: InterruptRegister, word:
     value
 }
 
-/// Writes a 1 at an exception.
+/// Writes 1 to the bit of an exception.
 #[tactic(auto, unfolding(reference::specs::Interrupts::with_one))]
 fn write_one<L: Levels>(levels: &mut L, register: InterruptRegister, number: u16)
     ensures { L.content levels.new ≡ with_one (L.content levels.old) register number }
@@ -89,7 +89,7 @@ fn write_one<L: Levels>(levels: &mut L, register: InterruptRegister, number: u16
     }
 }
 
-/// Writes one bit of a value, whose bit 0 is at the exception `first`.
+/// Writes one bit of a value, whose bit 0 is that of the exception `first`.
 #[tactic(auto, unfolding(reference::specs::Interrupts::with_bit))]
 fn write_bit<L: Levels>(
     levels: &mut L,

@@ -190,7 +190,7 @@ impl<D: Decider, L: Levels, U: DueTicks> System<D, L, U> {
         special::write_special(regs, register, value);
     }
 
-    /// Writes a special register as MSR by privileged code does, whatever code `regs` is of.
+    /// Writes a special register as MSR by privileged code does, whatever privilege `regs` has.
     pub fn place_special(&mut self, regs: &mut Regs, register: SpecialRegister, value: u32)
         ensures registers { regs.new ≡ with_special regs.old register value }
         ensures system { self.new ≡ with_nvic self.old (with_mask self.old.nvic register value) }
@@ -239,7 +239,7 @@ impl<D: Decider, L: Levels, U: DueTicks> System<D, L, U> {
         }
     }
 
-    /// Returns whether an exception is of a line of the board that is high.
+    /// Returns whether an exception is an interrupt of the board whose line is high.
     fn is_held(&self, number: u16) -> bool
         ensures { result ≡ is_held_of self.now number }
     {
