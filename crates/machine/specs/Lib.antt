@@ -1,4 +1,3 @@
-pub mod Fetched
 pub mod Foresight
 pub mod Room
 pub mod Runs
