@@ -49,8 +49,8 @@ fn add(points: &mut Points, boundary: u64)
     }
 }
 
-/// The pieces of a region of which each lies in it or doesn't: its eighths where SRD isn't 0, and
-/// otherwise the whole.
+/// The pieces of a region's block, each of which the region has wholly or not at all: the eighths
+/// where SRD isn't 0, and otherwise the whole.
 #[derive(Clone, Copy)]
 struct Pieces {
     /// Where the first begins.

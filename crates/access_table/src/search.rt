@@ -27,8 +27,8 @@ pub fn find_in(intervals: &[Interval], address: u32) -> (usize, u32)
     (low, looks)
 }
 
-/// Returns a place between two that aren't neighbours, such that neither half is longer than the
-/// rounded half of the whole.
+/// Returns the index halfway between two that aren't neighbours: each part is at most half as long
+/// as the whole, rounded up.
 fn middle_of(low: usize, high: usize) -> usize
     requires { low + 1 < high }
     ensures above { low < result }

@@ -69,7 +69,7 @@ fn sweep(points: &[u32], registers: &MpuRegs) -> Intervals
     intervals
 }
 
-/// Returns whether two regions are one, or none both.
+/// Returns whether two regions are the same, or both are None.
 fn is_same(region: Option<u8>, other: Option<u8>) -> bool
     ensures { Decides result (region ≡ other) }
 {

@@ -76,7 +76,7 @@ pub fn first_of(sets: &Sets, bits: u8) -> Option<u8>
     None
 }
 
-/// Returns the priority byte at a place among those whose low bits are dropped.
+/// Returns the priority byte of an index: the index with `dropped` zeros below it.
 #[tactic(auto, using(crate::proofs::Spaced::in_range))]
 fn byte_at(place: u16, dropped: u8) -> usize
     requires few { dropped ≤ 8 }

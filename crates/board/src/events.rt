@@ -177,7 +177,7 @@ fn nmi_signal(value: &Value, event: &Table) -> Result<Signal, BoardFault>
     Ok(signal)
 }
 
-// `nmi` is true.
+// The signal of NMI where `nmi` is true. Another value is refused.
 fn nmi(value: Option<bool>) -> Result<Signal, BoardFault>
     ensures { result ≡ nmi value }
 {

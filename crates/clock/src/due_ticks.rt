@@ -57,7 +57,7 @@ pub trait DueTicks: Drop {
         ensures due { IfSome (due self.new) (λ tick. tick ≡ next_due now systick next_event) };
 }
 
-/// Counts on each tick, and keeps none.
+/// Counts SysTick on each tick, and keeps no due tick.
 #[derive(Drop)]
 pub struct Counting {
     systick: SysTick,

@@ -202,7 +202,7 @@ impl<U: DueTicks> Clock<U> {
         self.count_on();
     }
 
-    /// The clock and SysTick go on by one, after the events of that tick.
+    /// Advances the clock and SysTick by one. Its caller has applied the events of that tick.
     #[inline]
     fn count_on(&mut self)
         requires { self.old.time.ticks < 2 ^ 48 }

@@ -12,7 +12,7 @@ pub const LINES: usize = MOST_LINES as usize;
 /// For each line, whether it is high.
 pub type HighLines = [bool; LINES];
 
-/// Returns whether a line is high. A line that can't be isn't.
+/// Returns whether a line is high: never for a number from 240 on.
 #[inline]
 pub fn is_high(high: &HighLines, line: u8) -> bool
     ensures { result ≡ slice_index_or high.now line false }

@@ -35,7 +35,7 @@ impl Model for SysTick {
 }
 
 impl SysTick {
-    /// SysTick after a reset.
+    /// Returns SysTick after a reset.
     pub(crate) const fn reset() -> Self
         ensures { result ≡ reset_systick }
     {
@@ -64,7 +64,7 @@ impl SysTick {
         self.reaches_zero() && self.tickint
     }
 
-    /// One count.
+    /// Counts once.
     #[inline]
     pub(crate) fn count(&mut self)
         ensures { self.new ≡ counted self.old }
@@ -81,7 +81,7 @@ impl SysTick {
         }
     }
 
-    /// SysTick some ticks later, at none of which anything is due.
+    /// Returns SysTick some ticks later, at none of which anything is due.
     pub(crate) fn later(&self, ticks: u64) -> Self
         ensures { result ≡ later self.now ticks }
     {
@@ -108,7 +108,7 @@ impl SysTick {
         }
     }
 
-    /// SYST_CSR, as a read finds it.
+    /// Returns SYST_CSR, as a read finds it.
     pub(crate) fn csr(&self) -> u32
         ensures { result ≡ csr_of self.now }
     {
@@ -118,14 +118,14 @@ impl SysTick {
             + weighed(self.countflag, 1 << 16)
     }
 
-    /// What a read of SYST_CSR leaves: COUNTFLAG is cleared.
+    /// Clears COUNTFLAG, as a read of SYST_CSR does.
     pub(crate) fn clear_countflag(&mut self)
         ensures { self.new ≡ after_csr_read self.old }
     {
         self.countflag = false;
     }
 
-    /// A write to SYST_CSR.
+    /// Writes SYST_CSR.
     pub(crate) fn write_csr(&mut self, value: u32)
         ensures { self.new ≡ with_csr self.old value }
     {
@@ -133,28 +133,28 @@ impl SysTick {
         self.tickint = value / 2 % 2 == 1;
     }
 
-    /// SYST_RVR.
+    /// Returns SYST_RVR.
     pub(crate) fn rvr(&self) -> u32
         ensures { result ≡ self.now.reload }
     {
         self.reload
     }
 
-    /// A write to SYST_RVR.
+    /// Writes SYST_RVR.
     pub(crate) fn write_rvr(&mut self, value: u32)
         ensures { self.new ≡ with_rvr self.old value }
     {
         self.reload = value & COUNTER_MASK;
     }
 
-    /// SYST_CVR.
+    /// Returns SYST_CVR.
     pub(crate) fn cvr(&self) -> u32
         ensures { result ≡ self.now.current }
     {
         self.current
     }
 
-    /// A write to SYST_CVR, of any value.
+    /// Clears SYST_CVR, as a write of any value does.
     pub(crate) fn clear_cvr(&mut self)
         ensures { self.new ≡ with_cvr_cleared self.old }
     {

@@ -33,8 +33,8 @@ pub fn program<R: Files + AllocGlobal, I: Read + Drop, W: Write + Drop, E: Write
     }
 }
 
-/// Writes the answer to arguments that name no run and no session. Returns 2, 0 for the version, 5 where that
-/// fails.
+/// Writes the answer to arguments that name no run and no session. Returns 2; 0 for the version; 5
+/// where the version can't be written or memory ran out.
 pub fn answer<W: Write + Drop, E: Write>(fault: WordsFault, mut out: W, err: &mut E) -> u8
     ensures { (result ≡ 2) ⊎ ((result ≡ 0) ⊎ (result ≡ 5)) }
 {

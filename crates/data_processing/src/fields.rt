@@ -16,7 +16,7 @@ fn low_bits(x: u32, width: u8) -> u32
     if width < 32 { x % (1 << width) } else { x }
 }
 
-/// Returns the bits from the lowest on, moved down to bit 0.
+/// Returns x shifted right by `low`.
 #[inline]
 #[tactic(auto, using(crate::proofs::Parts::none_above))]
 fn down(x: u32, low: u8) -> u32
@@ -25,7 +25,7 @@ fn down(x: u32, low: u8) -> u32
     if low < 32 { x >> low } else { 0 }
 }
 
-/// Returns the bits moved up from bit 0.
+/// Returns x shifted left by `low`.
 #[inline]
 #[tactic(auto, using(crate::proofs::Parts::none_below))]
 fn up(x: u32, low: u8) -> u32
@@ -34,7 +34,7 @@ fn up(x: u32, low: u8) -> u32
     if low < 32 { x << low } else { 0 }
 }
 
-/// Returns a number of `width` bits, whose highest one becomes the bits above it.
+/// Returns a number of `width` bits, sign-extended to a word.
 #[inline]
 #[tactic(auto, using(crate::proofs::Parts::sign_lemmas))]
 fn sign_extended(width: u8, x: u32) -> u32

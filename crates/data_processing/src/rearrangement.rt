@@ -10,7 +10,7 @@ use reference::operands::{Extend, Rearrange, Rearrangement};
 use reference::shift::ShiftType;
 use regs::{Regs, shift_c};
 
-/// Returns how many bits it has.
+/// Returns how many bits a byte, a halfword or a word has.
 #[inline]
 pub fn width_of(size: Size) -> u8
     ensures { result ≡ width_of size }

@@ -77,7 +77,7 @@ fn address(d: Register, words: u8) -> Decoded
     })))
 }
 
-/// Returns ADD and SUB of SP and a number, which counts words; no flags.
+/// Returns ADD or SUB of SP and a number, which counts words; no flags.
 #[tactic(auto, unfolding(reference::specs::ShortMiscellaneous::sp_number_row))]
 fn sp_number(operation: DataOperation, d: Register, words: u8) -> Decoded
     ensures { result ≡ sp_number_row operation d words }
@@ -91,7 +91,7 @@ fn sp_number(operation: DataOperation, d: Register, words: u8) -> Decoded
     })))
 }
 
-/// Returns SXTB, SXTH, UXTB and UXTH.
+/// Returns SXTB, SXTH, UXTB or UXTH.
 #[tactic(auto, unfolding(reference::specs::ShortMiscellaneous::extend_row))]
 fn extend(signed: bool, size: Size, d: Register, m: Register) -> Decoded
     ensures { result ≡ extend_row signed size d m }
@@ -105,7 +105,7 @@ fn extend(signed: bool, size: Size, d: Register, m: Register) -> Decoded
     })))
 }
 
-/// Returns REV, REV16 and REVSH.
+/// Returns REV, REV16 or REVSH.
 #[tactic(auto, unfolding(reference::specs::ShortMiscellaneous::rearrange_row))]
 fn rearrange(operation: Rearrangement, d: Register, m: Register) -> Decoded
     ensures { result ≡ rearrange_row operation d m }
@@ -164,7 +164,7 @@ fn pop(pc: u16, list: u8) -> Decoded
     )
 }
 
-/// Returns CBZ and CBNZ: the offset counts halfwords.
+/// Returns CBZ or CBNZ: the offset counts halfwords.
 #[tactic(auto, unfolding(reference::specs::ShortMiscellaneous::compare_and_branch_row))]
 fn compare_and_branch(nonzero: bool, halfwords: u32, n: Register) -> Decoded
     requires { halfwords < 64 }

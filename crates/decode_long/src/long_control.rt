@@ -161,7 +161,7 @@ fn move_from_special(d: Register, number: u8) -> Decoded
     unless_refused(is_bad(d), known)
 }
 
-/// Returns the hints of 32 bits by their number: DBG has the top sixteen.
+/// Returns the hint of 32 bits of this number: DBG has the top sixteen.
 #[tactic(auto, unfolding(reference::specs::LongControl::long_hint_of))]
 fn long_hint(number: u8) -> Hint
     ensures { result ≡ long_hint_of number }

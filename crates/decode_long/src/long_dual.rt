@@ -73,7 +73,7 @@ pub(crate) fn dual_rows(x: u32) -> Option<Decoded>
     }
 }
 
-/// Returns STREX, STREXB and STREXH: R[d] is neither the base nor the register that is stored.
+/// Returns STREX, STREXB or STREXH: R[d] is neither the base nor the register that is stored.
 #[tactic(auto, unfolding(reference::specs::LongDual::store_exclusive_row))]
 fn store_exclusive(size: Size, d: Register, t: Register, n: Register, offset: u32) -> Decoded
     ensures { result ≡ store_exclusive_row (record { size = size; status = d; target = t; base = n; offset = offset }) }
@@ -90,7 +90,7 @@ fn store_exclusive(size: Size, d: Register, t: Register, n: Register, offset: u3
     long_unless(refused, instruction)
 }
 
-/// Returns LDREX, LDREXB and LDREXH.
+/// Returns LDREX, LDREXB or LDREXH.
 #[tactic(auto, unfolding(reference::specs::LongDual::load_exclusive_row))]
 fn load_exclusive(size: Size, t: Register, n: Register, offset: u32) -> Decoded
     ensures { result ≡ load_exclusive_row (record { size = size; target = t; base = n; offset = offset }) }
@@ -105,7 +105,7 @@ fn load_exclusive(size: Size, t: Register, n: Register, offset: u32) -> Decoded
     long_unless(refused, instruction)
 }
 
-/// Returns TBB and TBH.
+/// Returns TBB or TBH.
 #[tactic(auto, unfolding(reference::specs::LongDual::table_branch_row))]
 fn table_branch(size: Size, n: Register, m: Register) -> Decoded
     ensures { result ≡ table_branch_row size n m }
@@ -153,7 +153,7 @@ fn load_dual(t: Register, u: Register, address: ImmediateAddress) -> Decoded
     long_unless(refused, instruction)
 }
 
-/// Returns LDRD at the PC, which isn't written.
+/// Returns LDRD (literal): W = 1 is UNPREDICTABLE.
 #[tactic(auto, unfolding(reference::specs::LongDual::load_dual_literal_row))]
 fn load_dual_literal(write_back: bool, t: Register, u: Register, offset: u32) -> Decoded
     ensures { result ≡ load_dual_literal_row write_back (record { first = t; second = u; offset = offset }) }

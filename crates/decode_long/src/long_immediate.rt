@@ -179,7 +179,7 @@ fn compare_immediate(operation: Comparison, n: Register, second: Option<Immediat
     unless_refused(is_refused_first(compares_sp(operation), n), expanded)
 }
 
-/// Returns MOV and MVN of a modified immediate.
+/// Returns MOV or MVN of a modified immediate.
 #[tactic(auto, unfolding(reference::specs::LongImmediate::move_immediate_row))]
 fn move_immediate(
     operation: MoveOperation,

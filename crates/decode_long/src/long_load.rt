@@ -214,7 +214,7 @@ fn load_indexed(form: LoadForm, t: Register, n: Register, m: Register, shift: u8
     placed_unless(refused, InstructionLength::Long, place, instruction)
 }
 
-/// Returns PLD and PLI, where a byte would be loaded to PC; where a halfword would be, the hint is
+/// Returns PLD or PLI, where a byte would be loaded to PC; where a halfword would be, the hint is
 /// unallocated.
 #[tactic(auto, unfolding(reference::specs::LongLoad::memory_hint_row))]
 fn memory_hint(half: u32) -> Decoded
@@ -228,7 +228,7 @@ fn memory_hint(half: u32) -> Decoded
     long(Instruction::System(System::Hint(hint)))
 }
 
-/// Returns PLD and PLI at two registers, likewise.
+/// Returns PLD or PLI at two registers, likewise.
 #[tactic(auto, unfolding(reference::specs::LongLoad::memory_hint_indexed_row))]
 fn memory_hint_indexed(half: u32, m: Register) -> Decoded
     ensures { result ≡ memory_hint_indexed_row half m }

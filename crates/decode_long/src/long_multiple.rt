@@ -52,7 +52,7 @@ fn has_few(list: u16) -> bool
     list.count_ones() < 2
 }
 
-/// Returns STM and STMDB: PC isn't a base, and a base that is stored isn't written back.
+/// Returns STM or STMDB: PC isn't a base, and a base that is stored isn't written back.
 #[tactic(auto, unfolding(reference::specs::LongMultiple::store_list_wide_row))]
 fn store_list_wide(n: Register, list: u16, order: ListOrder, write_back: bool) -> Decoded
     ensures { result ≡ store_list_wide_row (record { base = n; list = list; order = order; write_back = write_back }) }
@@ -74,7 +74,7 @@ fn store_list_wide(n: Register, list: u16, order: ListOrder, write_back: bool) -
     )
 }
 
-/// Returns LDM and LDMDB: PC isn't a base, LR and PC aren't both loaded, and a base that is loaded
+/// Returns LDM or LDMDB: PC isn't a base, LR and PC aren't both loaded, and a base that is loaded
 /// isn't written back.
 #[tactic(auto, unfolding(reference::specs::LongMultiple::load_list_wide_row))]
 fn load_list_wide(n: Register, list: u16, order: ListOrder, write_back: bool) -> Decoded

@@ -60,7 +60,7 @@ fn multiply_wide(n: Register, d: Register, m: Register) -> Decoded
     long_unless(is_bad(n) || is_bad(d) || is_bad(m), instruction)
 }
 
-/// Returns MLA and MLS.
+/// Returns MLA or MLS.
 #[tactic(auto, unfolding(reference::specs::LongMultiply::multiply_accumulate_row))]
 fn multiply_accumulate(
     operation: Accumulation,
@@ -84,7 +84,7 @@ fn multiply_accumulate(
     long_unless(refused, instruction)
 }
 
-/// Returns SMULL, UMULL, SMLAL and UMLAL: the two destinations differ.
+/// Returns SMULL, UMULL, SMLAL or UMLAL: the two destinations differ.
 #[tactic(auto, unfolding(reference::specs::LongMultiply::multiply_long_row))]
 fn multiply_long(
     signed: bool,
@@ -109,7 +109,7 @@ fn multiply_long(
     long_unless(refused, instruction)
 }
 
-/// Returns SDIV and UDIV.
+/// Returns SDIV or UDIV.
 #[tactic(auto, unfolding(reference::specs::LongMultiply::divide_row))]
 fn divide(signed: bool, n: Register, d: Register, m: Register) -> Decoded
     ensures { result ≡ divide_row (record { signed = signed; destination = d; dividend = n; divisor = m }) }

@@ -80,7 +80,7 @@ fn halfword(top: u8, imm12: u16) -> u16
     top as u16 * 0x1000 + imm12
 }
 
-/// Returns ADDW and SUBW: a number of twelve bits, which sets no flags.
+/// Returns ADDW or SUBW: a number of twelve bits, which sets no flags.
 #[tactic(auto, unfolding(reference::specs::LongPlain::add_wide_row))]
 fn add_wide(operation: DataOperation, n: Register, d: Register, imm12: u16) -> Decoded
     ensures { result ≡ add_wide_row operation n d imm12 }
@@ -133,7 +133,7 @@ fn move_top(d: Register, imm16: u16) -> Decoded
     long_unless(is_bad(d), instruction)
 }
 
-/// Returns SSAT and USAT, to `bits` bits.
+/// Returns SSAT or USAT, to `bits` bits.
 #[tactic(auto, unfolding(reference::specs::LongPlain::saturate_row))]
 fn saturate(signed: bool, destination: Register, bits: u8, source: ShiftedRegister) -> Decoded
     ensures { result ≡ saturate_row (record { signed = signed; destination = destination; bits = bits; source = source }) }
@@ -160,7 +160,7 @@ fn long_within(outside: bool, instruction: Instruction) -> Decoded
     )
 }
 
-/// Returns SBFX and UBFX: the field ends at most at bit 31.
+/// Returns SBFX or UBFX: the field ends at most at bit 31.
 #[tactic(auto, unfolding(reference::specs::LongPlain::extract_field_row))]
 fn extract_field(signed: bool, n: Register, d: Register, low: u8, width: u8) -> Decoded
     requires inside { low < 32 }

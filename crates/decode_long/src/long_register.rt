@@ -58,7 +58,7 @@ pub(crate) fn register_rows(x: u32) -> Option<Decoded>
     }
 }
 
-/// Returns LSL, LSR, ASR and ROR by their two bits.
+/// Returns LSL, LSR, ASR or ROR by their two bits.
 fn shift_type_of(bits: u32) -> ShiftType
     ensures { result ≡ shift_type_of bits }
 {
@@ -94,7 +94,7 @@ fn extended_size(bit: u32) -> Size
     if bit == 1 { Size::Byte } else { Size::Halfword }
 }
 
-/// Returns SXTB, SXTH, UXTB and UXTH, after a rotation.
+/// Returns SXTB, SXTH, UXTB or UXTH, after a rotation.
 #[tactic(auto, unfolding(reference::specs::LongRegister::extend_wide_row))]
 fn extend_wide(signed: bool, size: Size, d: Register, m: Register, rotation: u8) -> Decoded
     ensures { result ≡ extend_wide_row (record { signed = signed; size = size; destination = d; source = m; rotation = rotation }) }
@@ -109,7 +109,7 @@ fn extend_wide(signed: bool, size: Size, d: Register, m: Register, rotation: u8)
     long_unless(is_bad(d) || is_bad(m), instruction)
 }
 
-/// Returns REV, REV16, RBIT, REVSH and CLZ, in which the source is encoded twice.
+/// Returns REV, REV16, RBIT, REVSH or CLZ, in which the source is encoded twice.
 #[tactic(auto, unfolding(reference::specs::LongRegister::rearrange_wide_row))]
 fn rearrange_wide(operation: Rearrangement, again: Register, d: Register, m: Register) -> Decoded
     ensures { result ≡ rearrange_wide_row operation again d m }

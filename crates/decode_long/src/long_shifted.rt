@@ -101,8 +101,8 @@ fn is_lsl_below(shift: Shift, bound: u8) -> bool
     matches!(shift.shift_type, ShiftType::Lsl) && shift.amount < bound
 }
 
-/// Returns an operation on two registers, the second shifted; SP and a register may be written to
-/// SP where the shift is LSL by at most 3.
+/// Returns an operation on two registers, the second shifted. ADD and SUB may write SP only if the
+/// first operand is SP and the shift is LSL by at most 3.
 #[tactic(auto, unfolding(reference::specs::LongShifted::data_shifted_row))]
 fn data_shifted(
     operation: DataOperation,
@@ -144,8 +144,8 @@ fn compare_shifted(operation: Comparison, n: Register, second: ShiftedRegister) 
     long_unless(refused, instruction)
 }
 
-/// Returns whether a MOV refuses its registers: without flags and shift it takes and writes SP,
-/// but not SP to SP.
+/// Returns whether a MOV refuses its registers: without S and without a shift it may read SP or
+/// write SP, but not both.
 fn is_refused_move(s: bool, d: Register, m: Register, shift: Shift) -> bool
     ensures { result ≡ is_refused_move s d (record { register = m; shift = shift }) }
 {

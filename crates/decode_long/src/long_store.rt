@@ -66,7 +66,7 @@ fn size_of(bits: u32) -> Size
     }
 }
 
-/// Returns whether a store refuses its target: PC always, and SP but as a word.
+/// Returns whether a store refuses its target: PC always, and SP unless a word is stored.
 fn is_refused_store(size: Size, t: Register) -> bool
     ensures { result ≡ is_refused_store size t }
 {

@@ -14,7 +14,7 @@ use reference::registers::Register;
 use reference::shift::{Shift, ShiftType};
 use regs::decode_imm_shift;
 
-/// Returns the hints by their number.
+/// Returns the hint of this number.
 #[tactic(auto, unfolding(reference::specs::RowOperands::hint_of))]
 pub fn hint(number: u8) -> Hint
     ensures { result ≡ hint_of number }
@@ -64,7 +64,7 @@ pub fn operand_of(imm12: u16, expanded: Option<(u32, bool)>) -> Option<Immediate
     })
 }
 
-/// Returns the word that added to a word takes the other away: its two's complement.
+/// Returns the two's complement of a word: adding it subtracts the word.
 #[inline]
 #[tactic(auto, unfolding(reference::specs::Words::negated))]
 pub fn negated(offset: u32) -> u32
@@ -124,7 +124,7 @@ pub fn shifted(m: Register, shift_type: u8, imm5: u8) -> ShiftedRegister
     }
 }
 
-/// Returns when flags are set by `S`.
+/// Returns whether an instruction with this S bit sets flags: always or never.
 pub fn flags_if(sets: bool) -> FlagSetting
     ensures { result ≡ flags_if sets }
 {
@@ -154,7 +154,8 @@ pub fn signed_offset(up: u32, offset: u32) -> u32
     if up == 1 { offset } else { negated(offset) }
 }
 
-/// Returns the form of an index: P is before the access, W writes it back.
+/// Returns the indexing. P = 1: the offset is added before the access, and the base is written back
+/// where W = 1. P = 0: it is added after the access, and the base is always written back.
 pub fn indexing_of(before: u32, write_back: u32) -> Indexing
     ensures { result ≡ indexing_of before write_back }
 {

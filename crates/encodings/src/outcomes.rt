@@ -47,7 +47,7 @@ pub fn placed(length: InstructionLength, place: BlockPlace, instruction: Instruc
     })
 }
 
-/// Returns an instruction that writes the PC may only be the last of an IT block.
+/// Returns where in an IT block an instruction may be: only last if it writes the PC.
 #[inline]
 pub fn last_only_if(writes_pc: bool) -> BlockPlace
     ensures { result ≡ last_only_if writes_pc }

@@ -1,5 +1,5 @@
 //! The instructions for special registers, the hints, SVC and BKPT (ARM DDI 0403, the operation of
-//! CPS, MSR, MRS, WFI, SVC, BKPT and the other hints). None makes an access.
+//! CPS, MSR, MRS, SVC, BKPT, WFI and the other hints). None makes an access.
 
 ghost use Rattle.std.specs.Prelude.{◌≡◌};
 ghost use Rattle.exec.specs.Plans.{finished_as};

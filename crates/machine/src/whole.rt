@@ -41,7 +41,7 @@ use trace::sink::Events;
 /// Why a run failed.
 #[derive(Clone, Copy)]
 pub enum RunFault {
-    /// The writer failed after `steps` steps of this call.
+    /// One call of the writer failed in this run, which made `steps` steps.
     Write { steps: u64 },
     /// The writer failed in an earlier run.
     Broken,

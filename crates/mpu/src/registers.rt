@@ -81,7 +81,7 @@ impl MpuRegs {
         }
     }
 
-    /// MPU_CTRL: ENABLE, HFNMIENA and PRIVDEFENA are its bits 0 to 2.
+    /// Returns MPU_CTRL: ENABLE, HFNMIENA and PRIVDEFENA are its bits 0 to 2.
     #[inline]
     pub fn control(&self) -> u32
         ensures { result ≡ self.now.control }
@@ -98,7 +98,7 @@ impl MpuRegs {
         self.count
     }
 
-    /// What the registers hold of a region.
+    /// Returns what the registers hold of a region.
     #[inline]
     pub fn at(&self, number: u8) -> Region
         requires { number < 16 }
@@ -108,7 +108,8 @@ impl MpuRegs {
         self.regions[number as usize]
     }
 
-    /// RBAR with VALID 0 and REGION this number, and RASR. None where there is no such region.
+    /// Returns RBAR with VALID 0 and REGION this number, and RASR; None where there is no such
+    /// region.
     pub fn region(&self, number: u8) -> Option<(u32, u32)>
         ensures { result ≡ shown self.now number }
     {
@@ -118,7 +119,7 @@ impl MpuRegs {
         Some((self.base_word(number), self.at(number).attributes))
     }
 
-    /// RBAR of a region, with VALID 0 and REGION its number.
+    /// Returns RBAR of a region, with VALID 0 and REGION its number.
     fn base_word(&self, number: u8) -> u32
         requires { number < 16 }
         ensures { result ≡ (region_of self.now number).base + number }
@@ -126,7 +127,7 @@ impl MpuRegs {
         self.at(number).base + u32::from(number)
     }
 
-    /// What a register reads as.
+    /// Returns what a register reads as.
     #[tactic(auto, unfolding(reference::specs::Regions::read))]
     pub fn read_reg(&self, register: MpuRegister) -> u32
         ensures { result ≡ read self.now register }
@@ -155,7 +156,7 @@ impl MpuRegs {
         }
     }
 
-    /// MPU_CTRL: HFNMIENA without ENABLE stops.
+    /// Writes MPU_CTRL; HFNMIENA without ENABLE stops.
     fn write_mpu_ctrl(&mut self, value: u32) -> Result<(), MpuStop>
         ensures state { self.new ≡ left self.old (write_mpu_ctrl self.old value) }
         ensures answer { result ≡ answered (write_mpu_ctrl self.old value) }
@@ -179,7 +180,7 @@ impl MpuRegs {
         Ok(())
     }
 
-    /// RBAR: with VALID 1 it selects its region first.
+    /// Writes RBAR; with VALID 1 the write selects its region first.
     fn write_base(&mut self, value: u32) -> Result<(), MpuStop>
         ensures state { self.new ≡ left self.old (write_base self.old value) }
         ensures answer { result ≡ answered (write_base self.old value) }
@@ -191,7 +192,7 @@ impl MpuRegs {
         Ok(())
     }
 
-    /// The base of the selected region.
+    /// Sets the base of the selected region.
     fn set_base(&mut self, base: u32)
         requires { base % 32 ≡ 0 }
         ensures { self.new ≡ with_region_base self.old self.old.number base }
@@ -199,7 +200,7 @@ impl MpuRegs {
         self.regions[self.number as usize].base = base;
     }
 
-    /// RASR.
+    /// Writes RASR.
     fn write_attributes(&mut self, value: u32) -> Result<(), MpuStop>
         ensures state { self.new ≡ left self.old (write_attributes self.old value) }
         ensures answer { result ≡ answered (write_attributes self.old value) }
@@ -212,7 +213,7 @@ impl MpuRegs {
         Ok(())
     }
 
-    /// The attributes of the selected region.
+    /// Sets the attributes of the selected region.
     fn set_attributes(&mut self, attributes: u32)
         requires { is_accepted attributes ≡ true }
         ensures { self.new ≡ with_attributes self.old self.old.number attributes }

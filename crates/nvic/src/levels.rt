@@ -20,11 +20,11 @@ pub trait Levels: Drop {
     fn fresh(lines: u8, priority_bits: u8) -> Self
         ensures { content result ≡ reset_nvic lines priority_bits };
 
-    /// The exception becomes pending.
+    /// Makes the exception pending.
     fn pend(&mut self, number: u16)
         ensures { content self.new ≡ with_pending (content self.old) number true };
 
-    /// The exception isn't pending any more.
+    /// Makes the exception no longer pending.
     fn clear(&mut self, number: u16)
         ensures { content self.new ≡ with_pending (content self.old) number false };
 
@@ -41,11 +41,11 @@ pub trait Levels: Drop {
     fn set_priority(&mut self, number: u16, byte: u8)
         ensures { content self.new ≡ with_priority (content self.old) number byte };
 
-    /// The exception becomes active.
+    /// Makes the exception active.
     fn activate(&mut self, number: u16)
         ensures { content self.new ≡ with_active (content self.old) number true };
 
-    /// The exception isn't active any more.
+    /// Makes the exception inactive.
     fn deactivate(&mut self, number: u16)
         ensures { content self.new ≡ with_active (content self.old) number false };
 
@@ -53,7 +53,7 @@ pub trait Levels: Drop {
     fn set_group(&mut self, group: u8)
         ensures { content self.new ≡ with_group (content self.old) group };
 
-    /// PRIMASK.
+    /// Sets PRIMASK.
     fn set_primask(&mut self, on: bool)
         ensures { content self.new ≡ with_primask (content self.old) on };
 
@@ -81,12 +81,12 @@ pub trait Levels: Drop {
     fn priority(&self, number: u16) -> u8
         ensures { result ≡ slice_index (content self.now).priorities number };
 
-    /// AIRCR.PRIGROUP, from 0 to 7.
+    /// Returns AIRCR.PRIGROUP, from 0 to 7.
     fn group(&self) -> u8
         ensures value { result ≡ (content self.now).group }
         ensures small { result < 8 };
 
-    /// PRIMASK, FAULTMASK and BASEPRI.
+    /// Returns PRIMASK, FAULTMASK and BASEPRI.
     fn masks(&self) -> Masks
         ensures { result ≡ (content self.now).masks };
 

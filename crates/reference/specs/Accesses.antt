@@ -1,5 +1,5 @@
 -- One access, and a list of them (ARM DDI 0403, MemA[]; what the bus takes is the profile's). The rule decides first,
--- then the bus answers. An unaligned access of MemU[] is a list of accesses of a byte, which `transfer` of LoadStore
+-- then the bus answers. An unaligned access of MemU[] is a list of byte accesses, which `transfer` of LoadStore
 -- makes.
 use Rattle.std.specs.Prelude.{ℕ, ◌%◌, if◌then◌else◌, List, [], ◌∷◌, ◌++◌, Option, Some, None, Result, Ok, Err}
 use Rattle.reference.specs.declared.access.Answer.{Answer}

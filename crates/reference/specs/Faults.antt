@@ -111,7 +111,7 @@ forced s events = pended_by_fault (with_status s (with_fault_bits s.bus.system.s
 abbrev pub locked_up : State → List Event → Stepped
 locked_up s events = stopped s (events ++ fault_line s 0 ∷ []) stop.Lockup
 
--- a fault whose exception is x becomes pending itself, pends HardFault in its place, or is lockup
+-- a fault of exception x: x becomes pending, or HardFault in its place, or the machine locks up
 abbrev pub escalated : State → List Event → ℕ → Escalation → Stepped
 escalated s events x Itself = pended_by_fault s events x
 escalated s events x HardFault = forced s events

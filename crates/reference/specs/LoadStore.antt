@@ -90,7 +90,7 @@ byte_requests kind privileged address (byte ∷ bytes) =
 abbrev pub meets_device : List Request → Bool
 meets_device requests = list_any (λ q. has_side_effects q.access.address) requests
 
--- the accesses of a byte that an unaligned access makes, or its stop before the first, where one is to a device
+-- the byte accesses that an unaligned access makes, or its stop before the first, where one is to a device
 -- (profile)
 abbrev pub unaligned : List Request → Result (List Request) Failure
 unaligned requests = if meets_device requests then Err (Stop (OutOfProfile UnalignedDevice)) else Ok requests

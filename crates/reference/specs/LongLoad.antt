@@ -151,7 +151,7 @@ ldrbt_t1 = record {
 }
 
 -- LDRB and LDRH (immediate), encoding T3; LDRSB and LDRSH, encoding T2; with n = 1111 they are literal; with t = 1111
--- and P, U, W = 100 hints, 110 are the unprivileged forms, and P = 0 with W = 0 is UNDEFINED
+-- and P, U, W = 100 they are hints; P, U, W = 110 are the unprivileged forms; and P = 0 with W = 0 is UNDEFINED
 abbrev pub ldrb_immediate_t3 : Row
 ldrb_immediate_t3 = record {
   places = unspaced (codes "1111100 X 0 0s 1 nnnn tttt 1 P U W iiiiiiii");

@@ -1,5 +1,5 @@
--- The instructions for special registers, the hints, SVC and BKPT (ARM DDI 0403, the operation of CPS, MSR, MRS, WFI,
--- SVC, BKPT and the other hints): none makes an access, and what each does besides advancing the PC is its ending.
+-- The instructions for special registers, the hints, SVC and BKPT (ARM DDI 0403, the operation of CPS, MSR, MRS, SVC,
+-- BKPT, WFI and the other hints): none makes an access, and what each does besides advancing the PC is its ending.
 use Rattle.std.specs.Prelude.{Bool, true, false}
 use Rattle.reference.specs.declared.instruction.Ending.{Ending}
 use Rattle.reference.specs.declared.instruction.Ending.TheVariants as ending

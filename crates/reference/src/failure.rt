@@ -6,7 +6,7 @@ use crate::stop::Stop;
 /// Why an instruction isn't carried out to its end.
 #[derive(Clone, Copy)]
 pub enum Failure {
-    /// An access was refused: a memory management fault or a bus fault.
+    /// An access was refused, by its rule or by the bus.
     Refused(Access, Cause),
     /// A usage fault.
     Usage(UsageFault),
