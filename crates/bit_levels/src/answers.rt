@@ -11,7 +11,7 @@ use reference::exception::{Masks, Priority};
 /// least number) of the active ones, and whether the execution priority is below 0. They always equal
 /// what the `L` would return: each change computes anew what it may change.
 #[derive(Drop)]
-pub struct KeptAnswers<L: Levels> {
+pub struct KeptPriorities<L: Levels> {
     levels: L,
     best: Option<u16>,
     active_priority: Priority,
@@ -21,7 +21,7 @@ pub struct KeptAnswers<L: Levels> {
     ghost below_known: { below_zero ≡ is_below_zero_of (L.content levels) },
 }
 
-impl<L: Levels> KeptAnswers<L> {
+impl<L: Levels> KeptPriorities<L> {
     /// Returns the exceptions.
     pub fn levels(&self) -> &L
         ensures { result.now ≡ self.now.levels }
@@ -30,7 +30,7 @@ impl<L: Levels> KeptAnswers<L> {
     }
 }
 
-impl<L: Levels> Levels for KeptAnswers<L> {
+impl<L: Levels> Levels for KeptPriorities<L> {
     ghost content = { λ k. L.content k.levels };
 
     fn fresh(lines: u8, priority_bits: u8) -> Self {
@@ -38,7 +38,7 @@ impl<L: Levels> Levels for KeptAnswers<L> {
         let best = levels.best();
         let active_priority = levels.active_priority();
         let below_zero = levels.is_below_zero();
-        KeptAnswers {
+        KeptPriorities {
             levels,
             best,
             active_priority,
@@ -178,7 +178,7 @@ impl<L: Levels> Levels for KeptAnswers<L> {
     }
 
     fn copied(&self) -> Self {
-        KeptAnswers {
+        KeptPriorities {
             levels: self.levels.copied(),
             best: self.best,
             active_priority: self.active_priority,

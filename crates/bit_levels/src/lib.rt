@@ -6,6 +6,6 @@ mod answers;
 mod levels;
 mod sets;
 
-pub use answers::KeptAnswers;
+pub use answers::KeptPriorities;
 pub use levels::BitLevels;
 pub use nvic::Levels;

@@ -6,7 +6,7 @@ use crate::debugging::debug;
 use crate::engine::go;
 use crate::fault::{Fault, tell};
 use crate::files::{FileFault, InputFile, read_file};
-use crate::noting::Noting;
+use crate::last_error::LastError;
 use crate::request::{Request, Task, read_words};
 use command_line::WordsFault;
 use machine::{In, Over, Paged};
@@ -129,8 +129,8 @@ fn debug_from<I: Read + Drop, W: Write + Drop, E: Write, K: Ledger>(
     requires parts { blank.parts ≡ K.parts }
     requires some { blank.parts ≡ 1 }
 {
-    let mut input: Over<Noting<I>, K> = Over::new(Noting::new(input), blank);
-    let status = debug_to::<Over<Noting<I>, K>, W, E, Brand>(
+    let mut input: Over<LastError<I>, K> = Over::new(LastError::new(input), blank);
+    let status = debug_to::<Over<LastError<I>, K>, W, E, Brand>(
         alloc,
         image,
         board,
@@ -160,7 +160,7 @@ fn debug_to<I: In, W: Write + Drop, E: Write, K: Ledger>(
     requires parts { blank.parts ≡ K.parts }
     requires some { blank.parts ≡ 1 }
 {
-    let mut out: Over<Noting<W>, K> = Over::new(Noting::new(out), blank);
+    let mut out: Over<LastError<W>, K> = Over::new(LastError::new(out), blank);
     let status = debug(alloc, image, board, input, &mut out, err);
     if let Some(error) = out.into_inner().error() {
         let _ = writeln!(err, "  standard output: {error}");
@@ -182,7 +182,7 @@ fn run_files<W: Write + Drop, E: Write, K: Ledger>(
     requires parts { blank.parts ≡ K.parts }
     requires some { blank.parts ≡ 1 }
 {
-    let mut out: Paged<Over<Noting<W>, K>> = Paged::new(Over::new(Noting::new(out), blank));
+    let mut out: Paged<Over<LastError<W>, K>> = Paged::new(Over::new(LastError::new(out), blank));
     let status = go(alloc, image, board, steps, &mut out, err);
     if let Some(error) = out.into_inner().into_inner().error() {
         let _ = writeln!(err, "  standard output: {error}");

@@ -8,7 +8,7 @@ mod engine;
 mod explanations;
 mod fault;
 mod files;
-mod noting;
+mod last_error;
 mod request;
 
 pub use command_line::WordsFault;

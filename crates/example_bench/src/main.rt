@@ -5,7 +5,7 @@
 use board::{Board, read_board};
 use elf::{Image, load};
 use machine::{Event, Events, Fast, Place, PlaceFault, event_line};
-use reference::event::Happening;
+use reference::event::EventKind;
 use std::alloc::Global;
 use std::io::Write;
 use std::{env, fs, io};
@@ -84,7 +84,7 @@ fn set_up(machine: &mut Fast, address: u32) -> Result<(), PlaceFault> {
 /// Returns whether an access is refused.
 fn is_refused(events: &[Event]) -> bool {
     for event in events {
-        if let Happening::Accessed(access) = event.what {
+        if let EventKind::Accessed(access) = event.what {
             if access.refused.is_some() {
                 return true;
             }

@@ -5,14 +5,14 @@ ghost use Rattle.access.specs.Kept.{HasHalfword, fetch_at};
 ghost use Rattle.exceptions.specs.Room.{lines_of, most_lines};
 ghost use Rattle.exceptions.specs.Serving.{Serves};
 ghost use Rattle.reference.specs.Accesses.{accessed, access_lines, value_of, perform, perform_all};
-ghost use Rattle.reference.specs.declared.event.Happening.TheVariants.{ConsoleByte};
+ghost use Rattle.reference.specs.declared.event.EventKind.TheVariants.{ConsoleByte};
 ghost use Rattle.reference.specs.Kinds.{bytes_in};
 ghost use Rattle.trace.specs.Emission.{with_emitted};
 
 use access::{Bus, CodeLines, Decider, DueTicks, Levels, fetch_at, is_out};
 use bounded::Bounded;
 use reference::access::{Cause, DecidedAccess, MOST_REQUESTS, Performed, Request, Rule};
-use reference::event::{Event, Happening, MOST_EVENTS};
+use reference::event::{Event, EventKind, MOST_EVENTS};
 use reference::failure::Failure;
 use trace::sink::Sink;
 
@@ -124,7 +124,7 @@ fn accessed(tick: u64, request: &Request, rule: Rule, refused: Option<Cause>) ->
 {
     Event {
         tick,
-        what: Happening::Accessed(DecidedAccess {
+        what: EventKind::Accessed(DecidedAccess {
             access: request.access,
             rule,
             refused,
@@ -138,6 +138,6 @@ fn console_line(tick: u64, word: u32) -> Event
 {
     Event {
         tick,
-        what: Happening::ConsoleByte((word % 256) as u8),
+        what: EventKind::ConsoleByte((word % 256) as u8),
     }
 }

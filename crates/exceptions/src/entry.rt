@@ -11,7 +11,7 @@ use crate::faults::vector_fault;
 use crate::state::Core;
 use access::{CodeLines, Decider, DueTicks, Levels};
 use reference::access::{Access, Kind, Request, Size};
-use reference::event::{Event, Happening, MOST_EVENTS};
+use reference::event::{Event, EventKind, MOST_EVENTS};
 use reference::exception::{HARD_FAULT, NMI};
 use reference::failure::Failure;
 use regs::Regs;
@@ -136,7 +136,7 @@ impl<D: Decider, C: CodeLines, L: Levels, U: DueTicks> Core<D, C, L, U> {
     {
         events.emit(Event {
             tick: self.bus.system.ticks(),
-            what: Happening::HandlerEntered(exception),
+            what: EventKind::HandlerEntered(exception),
         });
         self.regs.enter_handler(exception, exc_return, vector);
         self.bus.system.clear(exception);

@@ -7,7 +7,7 @@ ghost use Rattle.trace.specs.Emission.{with_emitted};
 use crate::state::Core;
 use access::{CodeLines, Decider, DueTicks, Levels};
 use reference::access::{Access, Cause, Kind};
-use reference::event::{Event, Happening, MOST_EVENTS, RecordedFault};
+use reference::event::{Event, EventKind, MOST_EVENTS, RecordedFault};
 use reference::exception::{BUS_FAULT, Escalation, HARD_FAULT, MEM_MANAGE, SV_CALL, USAGE_FAULT};
 use reference::failure::{Failure, UsageFault};
 use reference::fault_status::{
@@ -125,7 +125,7 @@ impl<D: Decider, C: CodeLines, L: Levels, U: DueTicks> Core<D, C, L, U> {
         let status = self.bus.system.status();
         Event {
             tick: self.bus.system.ticks(),
-            what: Happening::FaultRecorded(RecordedFault {
+            what: EventKind::FaultRecorded(RecordedFault {
                 cfsr: status.cfsr(),
                 hfsr: status.hfsr(),
                 exception,

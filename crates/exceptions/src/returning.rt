@@ -15,7 +15,7 @@ use crate::entry::words_from;
 use crate::state::Core;
 use access::{CodeLines, Decider, DueTicks, Levels};
 use reference::access::Kind;
-use reference::event::{Event, Happening, MOST_EVENTS};
+use reference::event::{Event, EventKind, MOST_EVENTS};
 use reference::exception::NMI;
 use reference::failure::{Failure, UsageFault};
 use reference::stop::{Stop, UnpredictableCase};
@@ -86,7 +86,7 @@ impl<D: Decider, C: CodeLines, L: Levels, U: DueTicks> Core<D, C, L, U> {
     {
         events.emit(Event {
             tick: self.bus.system.ticks(),
-            what: Happening::ReturnBegan(exc_return),
+            what: EventKind::ReturnBegan(exc_return),
         });
         if !has_reserved_ones(exc_return) {
             self.end(Stop::Unpredictable(UnpredictableCase::ExceptionReturn));

@@ -13,7 +13,7 @@ pub use access::{
     Ahead, CodeLines, Counting, Decider, DueTicks, Levels, PlainLevels, Reread, Search,
 };
 pub use access_table::{KeptDecisions, Table};
-pub use bit_levels::{BitLevels, KeptAnswers};
+pub use bit_levels::{BitLevels, KeptPriorities};
 pub use board::{Board, InterruptLine, ScriptedEvent, Signal};
 pub use code_lines::Lines;
 pub use foresight::StepKind;

@@ -24,7 +24,7 @@ use crate::start::start_core;
 use crate::stepping::Processor;
 use access::{Ahead, CodeLines, Counting, Decider, DueTicks, Levels, PlainLevels, Reread, Search};
 use access_table::{KeptDecisions, Table};
-use bit_levels::{BitLevels, KeptAnswers};
+use bit_levels::{BitLevels, KeptPriorities};
 use board::Board;
 use code_lines::Lines;
 use elf::Image;
@@ -62,7 +62,7 @@ pub type Slow = Machine<Search, Reread, PlainLevels, Counting>;
 /// The machine that finds the deciding region in a table and keeps decisions, keeps decoded instructions by
 /// their addresses, keeps the exceptions in sets of bits with three values that each step reads, and knows
 /// the next tick at which something is due. Its steps are those of `Slow`, by the same contracts.
-pub type Fast = Machine<KeptDecisions<Table>, Lines, KeptAnswers<BitLevels>, Ahead>;
+pub type Fast = Machine<KeptDecisions<Table>, Lines, KeptPriorities<BitLevels>, Ahead>;
 
 impl<D: Decider, C: CodeLines, L: Levels, U: DueTicks> Model for Machine<D, C, L, U> {
     ghost use Rattle.machine.specs.Whole.{Whole};

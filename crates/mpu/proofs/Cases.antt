@@ -8,7 +8,7 @@ use Rattle.reference.specs.declared.access.Rule.TheVariants.{NeverExecute, Vecto
 use Rattle.reference.specs.declared.access.Rule.TheVariants.{NegativePriority, Region, Background, NoRegion}
 use Rattle.reference.specs.Kinds.{is_vector}
 use Rattle.reference.specs.Regions.{Mpu, owner, is_on, IsOwner}
-use Rattle.reference.specs.Rules.{default_map, Asked, Fits, IsFirstFit, rank, rule_grants, before_regions, by_owner}
+use Rattle.reference.specs.Rules.{default_map, AccessQuery, Fits, IsFirstFit, rank, rule_grants, before_regions, by_owner}
 use Rattle.reference.specs.Rules.{first_of_two, decision_of, is_never_executed, is_ppb_data, is_off_below_zero}
 use Rattle.reference.specs.Rules.{is_background}
 use Rattle.mpu.proofs.Belonging.{only_owner, owner_is}
@@ -53,13 +53,13 @@ number_of NoRegion h = absurd (let wrong : ⊥ = omega arith in wrong)
 -- ---- the cases that don't fit
 
 -- none of the cases above a rank fits
-abbrev Missed : Mpu → Asked → ℕ → Type 0
+abbrev Missed : Mpu → AccessQuery → ℕ → Type 0
 Missed m q n = (r : Rule) → rank r < n → Fits m q r → ⊥
 
-nothing_above : (m : Mpu) (q : Asked) → Missed m q 0
+nothing_above : (m : Mpu) (q : AccessQuery) → Missed m q 0
 nothing_above m q r above f = omega arith
 
-and_rule : (m : Mpu) (q : Asked) (s : Rule) → (rank s ≡ 5 → ⊥) → Missed m q (rank s) → (Fits m q s → ⊥)
+and_rule : (m : Mpu) (q : AccessQuery) (s : Rule) → (rank s ≡ 5 → ⊥) → Missed m q (rank s) → (Fits m q s → ⊥)
     → Missed m q (rank s + 1)
 and_rule m q s h before here r above f = lead (cases_lt (rank r) (rank s))
   where
@@ -67,7 +67,7 @@ and_rule m q s h before here r above f = lead (cases_lt (rank r) (rank s))
     lead (inl under) = before r under f
     lead (inr over) = let e : rank r ≡ rank s = omega arith in here (subst (Fits m q) (same_rule r s e h) f)
 
-and_regions : (m : Mpu) (q : Asked) → Missed m q 5 → ((k : ℕ) → IsOwner m q.address (Some k) → ⊥) → Missed m q 6
+and_regions : (m : Mpu) (q : AccessQuery) → Missed m q 5 → ((k : ℕ) → IsOwner m q.address (Some k) → ⊥) → Missed m q 6
 and_regions m q before here r above f = lead (cases_lt (rank r) 5)
   where
     lead : ((rank r < 5) ⊎ (5 ≤ rank r)) → ⊥
@@ -85,7 +85,7 @@ unlike b e f = let e : true ≡ false = sym f ∙ e in cc
 unlike_too : (b : Bool) → b ≡ true → b ≡ false → ⊥
 unlike_too b e f = unlike b f e
 
-behind : (m : Mpu) (q : Asked) (b : Bool) → is_background m.control q.privileged ≡ b → Missed m q 6
+behind : (m : Mpu) (q : AccessQuery) (b : Bool) → is_background m.control q.privileged ≡ b → Missed m q 6
     → IsFirstFit m q (if b then record { rule = Background; granted = default_map q.address q.kind }
     else record { rule = NoRegion; granted = false })
 behind m q true e missed = record { fits = e; first = missed; granted = refl }
@@ -95,14 +95,14 @@ behind m q false e missed = record {
   granted = refl;
 }
 
-at_regions : (m : Mpu) (q : Asked) (o : Option ℕ) → Missed m q 5 → IsOwner m q.address o
+at_regions : (m : Mpu) (q : AccessQuery) (o : Option ℕ) → Missed m q 5 → IsOwner m q.address o
     → IsFirstFit m q (by_owner m q.kind q.address q.privileged o)
 at_regions m q (Some k) missed owns = record { fits = owns; first = missed; granted = refl }
 at_regions m q None missed owns =
     behind m q (is_background m.control q.privileged) refl
     (and_regions m q missed (λ k other. let e = only_owner m q.address None (Some k) owns other in cc))
 
-fit : (m : Mpu) (q : Asked) (xn vec ppb on neg : Bool) (o : Option ℕ)
+fit : (m : Mpu) (q : AccessQuery) (xn vec ppb on neg : Bool) (o : Option ℕ)
     → is_never_executed q.address q.kind ≡ xn → is_vector q.kind ≡ vec → is_ppb_data q.address q.kind ≡ ppb
     → is_on m.control ≡ on → is_off_below_zero m.control q.below_zero ≡ neg → IsOwner m q.address o
     → IsFirstFit m q (first_of_two (
@@ -140,13 +140,13 @@ fit m q false false false true false o e1 e2 e3 e4 e5 owns =
     at_regions m q o m5 owns
 
 -- the decision is by the first case that fits
-decision_is : (m : Mpu) (q : Asked) → IsFirstFit m q (decision_of m q.address q.kind q.privileged q.below_zero)
+decision_is : (m : Mpu) (q : AccessQuery) → IsFirstFit m q (decision_of m q.address q.kind q.privileged q.below_zero)
 unfolding decision_of before_regions
 decision_is m q = fit m q _ _ _ _ _ (owner m q.address) refl refl refl refl refl (owner_is m q.address)
 
 -- ---- two such decisions are one
 
-same_case : (m : Mpu) (q : Asked) (r s : Rule) → rank r ≡ rank s → Fits m q r → Fits m q s → r ≡ s
+same_case : (m : Mpu) (q : AccessQuery) (r s : Rule) → rank r ≡ rank s → Fits m q r → Fits m q s → r ≡ s
 same_case m q r s e f g = lead (rank s == 5) refl
   where
     regions : rank r ≡ 5 → rank s ≡ 5 → r ≡ s
@@ -166,7 +166,7 @@ same_decision d e p g =
     let made : Rule → Bool → Decision = λ r b. record { rule = r; granted = b } in
     ap (λ r. made r d.granted) p ∙ ap (made e.rule) g
 
-only_decision : (m : Mpu) (q : Asked) (d e : Decision) → IsFirstFit m q d → IsFirstFit m q e → d ≡ e
+only_decision : (m : Mpu) (q : AccessQuery) (d e : Decision) → IsFirstFit m q d → IsFirstFit m q e → d ≡ e
 only_decision m q d e f g = same_decision d e same (f.granted ∙ ap (rule_grants m q) same ∙ sym g.granted)
   where
     places : ((rank d.rule < rank e.rule) ⊎ (rank e.rule ≤ rank d.rule))
@@ -179,7 +179,7 @@ only_decision m q d e f g = same_decision d e same (f.granted ∙ ap (rule_grant
     same = same_case m q d.rule e.rule
         (places (cases_lt (rank d.rule) (rank e.rule)) (cases_lt (rank e.rule) (rank d.rule))) f.fits g.fits
 
-pub decision_exactly : (m : Mpu) (q : Asked) (d : Decision)
+pub decision_exactly : (m : Mpu) (q : AccessQuery) (d : Decision)
     → IsFirstFit m q d ↔ (d ≡ decision_of m q.address q.kind q.privileged q.below_zero)
 decision_exactly m q d = (
   λ f. only_decision m q d (decision_of m q.address q.kind q.privileged q.below_zero) f (decision_is m q),

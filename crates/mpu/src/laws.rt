@@ -3,7 +3,7 @@
 
 ghost use Rattle.std.specs.Prelude.{◌≡◌, ◌↔◌, ◌⊎◌, ℕ, Option};
 ghost use Rattle.reference.specs.Regions.{Mpu, IsSound, IsOwner, owner, fresh, write, left};
-ghost use Rattle.reference.specs.Rules.{Asked, IsFirstFit, decision_of};
+ghost use Rattle.reference.specs.Rules.{AccessQuery, IsFirstFit, decision_of};
 ghost use Rattle.reference.specs.declared.access.Decision.{Decision};
 ghost use Rattle.reference.specs.declared.mpu.MpuRegister.{MpuRegister};
 
@@ -24,5 +24,5 @@ pub fn owner_is_the_highest()
 /// The decision on an access is exactly that of the first case of the table that fits, and grants
 /// what that case grants. So exactly one rule decides each access.
 pub fn decision_is_by_the_first_case()
-    ensures { (m : Mpu) (q : Asked) (d : Decision) → IsFirstFit m q d ↔ (d ≡ decision_of m q.address q.kind q.privileged q.below_zero) }
+    ensures { (m : Mpu) (q : AccessQuery) (d : Decision) → IsFirstFit m q d ↔ (d ≡ decision_of m q.address q.kind q.privileged q.below_zero) }
 {}

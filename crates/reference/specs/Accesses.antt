@@ -12,7 +12,7 @@ use Rattle.reference.specs.declared.access.Performed.TheVariants as performed
 use Rattle.reference.specs.declared.access.Request.{Request}
 use Rattle.reference.specs.declared.access.Rule.{Rule}
 use Rattle.reference.specs.declared.event.Event.{Event}
-use Rattle.reference.specs.declared.event.Happening.TheVariants.{Accessed, ConsoleByte}
+use Rattle.reference.specs.declared.event.EventKind.TheVariants.{Accessed, ConsoleByte}
 use Rattle.reference.specs.declared.failure.Failure.{Failure}
 use Rattle.reference.specs.declared.failure.Failure.TheVariants as failure
 use Rattle.reference.specs.Kinds.{is_probe}

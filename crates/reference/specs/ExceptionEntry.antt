@@ -8,7 +8,7 @@ use Rattle.reference.specs.declared.access.Kind.TheVariants.{Push, Vector}
 use Rattle.reference.specs.declared.access.Request.{Request}
 use Rattle.reference.specs.declared.access.Size.TheVariants.{Word}
 use Rattle.reference.specs.declared.event.Event.{Event}
-use Rattle.reference.specs.declared.event.Happening.TheVariants.{HandlerEntered}
+use Rattle.reference.specs.declared.event.EventKind.TheVariants.{HandlerEntered}
 use Rattle.reference.specs.declared.exception.TheConstants.{HARD_FAULT}
 use Rattle.reference.specs.declared.failure.Failure.{Failure}
 use Rattle.reference.specs.declared.failure.Failure.TheVariants as failure

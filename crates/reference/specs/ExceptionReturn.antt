@@ -6,7 +6,7 @@ use Rattle.std.specs.Prelude.{Some, None, replicate}
 use Rattle.reference.specs.declared.access.Kind.TheVariants.{Pop}
 use Rattle.reference.specs.declared.access.Request.{Request}
 use Rattle.reference.specs.declared.event.Event.{Event}
-use Rattle.reference.specs.declared.event.Happening.TheVariants.{ReturnBegan}
+use Rattle.reference.specs.declared.event.EventKind.TheVariants.{ReturnBegan}
 use Rattle.reference.specs.declared.exception.TheConstants.{NMI}
 use Rattle.reference.specs.declared.failure.Failure.{Failure}
 use Rattle.reference.specs.declared.failure.Failure.TheVariants.{Usage}

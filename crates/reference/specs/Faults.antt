@@ -6,7 +6,7 @@ use Rattle.reference.specs.declared.access.Cause.TheVariants.{Mpu, Bus}
 use Rattle.reference.specs.declared.access.Kind.{Kind}
 use Rattle.reference.specs.declared.access.Kind.TheVariants.{Fetch, Load, Store, Push, Pop, Vector, Probe}
 use Rattle.reference.specs.declared.event.Event.{Event}
-use Rattle.reference.specs.declared.event.Happening.TheVariants.{FaultRecorded}
+use Rattle.reference.specs.declared.event.EventKind.TheVariants.{FaultRecorded}
 use Rattle.reference.specs.declared.exception.Escalation.{Escalation}
 use Rattle.reference.specs.declared.exception.Escalation.TheVariants.{Itself, HardFault, Lockup}
 use Rattle.reference.specs.declared.exception.TheConstants.{HARD_FAULT, MEM_MANAGE, BUS_FAULT, USAGE_FAULT, SV_CALL}

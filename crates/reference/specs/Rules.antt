@@ -114,7 +114,7 @@ decision_of m a kind privileged below_zero =
 -- The same as a table: the first case that fits decides
 
 -- an access that is to be decided
-pub record Asked : Type 0 where
+pub record AccessQuery : Type 0 where
   pub address : ℕ
   pub kind : Kind
   pub privileged : Bool
@@ -132,7 +132,7 @@ rank Background = 6
 rank NoRegion = 7
 
 -- whether the case of a rule fits, whatever cases come before it (`rank` has their order)
-abbrev pub Fits : Mpu → Asked → Rule → Type 0
+abbrev pub Fits : Mpu → AccessQuery → Rule → Type 0
 Fits m q NeverExecute = is_never_executed q.address q.kind ≡ true
 Fits m q VectorRead = is_vector q.kind ≡ true
 Fits m q PrivatePeripheralBus = is_ppb_data q.address q.kind ≡ true
@@ -143,7 +143,7 @@ Fits m q Background = is_background m.control q.privileged ≡ true
 Fits m q NoRegion = ⊤
 
 -- what a rule grants, where it decides
-abbrev pub rule_grants : Mpu → Asked → Rule → Bool
+abbrev pub rule_grants : Mpu → AccessQuery → Rule → Bool
 rule_grants m q NeverExecute = false
 rule_grants m q VectorRead = true
 rule_grants m q PrivatePeripheralBus = true
@@ -154,7 +154,7 @@ rule_grants m q Background = default_map q.address q.kind
 rule_grants m q NoRegion = false
 
 -- a decision names the first case that fits, and grants what that case grants
-pub record IsFirstFit (m : Mpu) (q : Asked) (d : Decision) : Type 0 where
+pub record IsFirstFit (m : Mpu) (q : AccessQuery) (d : Decision) : Type 0 where
   pub fits : Fits m q d.rule
   pub first : (r : Rule) → rank r < rank d.rule → Fits m q r → ⊥
   pub granted : d.granted ≡ rule_grants m q d.rule

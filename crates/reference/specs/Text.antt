@@ -13,9 +13,9 @@ use Rattle.reference.specs.declared.access.Rule.{Rule}
 use Rattle.reference.specs.declared.access.Rule.TheVariants.{NeverExecute, VectorRead, PrivatePeripheralBus, MpuOff}
 use Rattle.reference.specs.declared.access.Rule.TheVariants.{NegativePriority, Region, Background, NoRegion}
 use Rattle.reference.specs.declared.event.Event.{Event}
-use Rattle.reference.specs.declared.event.Happening.{Happening}
-use Rattle.reference.specs.declared.event.Happening.TheVariants.{Accessed, ConsoleByte, ReturnBegan, HandlerEntered}
-use Rattle.reference.specs.declared.event.Happening.TheVariants.{FaultRecorded}
+use Rattle.reference.specs.declared.event.EventKind.{EventKind}
+use Rattle.reference.specs.declared.event.EventKind.TheVariants.{Accessed, ConsoleByte, ReturnBegan, HandlerEntered}
+use Rattle.reference.specs.declared.event.EventKind.TheVariants.{FaultRecorded}
 use Rattle.reference.specs.declared.event.RecordedFault.{RecordedFault}
 use Rattle.reference.specs.declared.stop.LeftOut.{LeftOut}
 use Rattle.reference.specs.declared.stop.LeftOut.TheVariants.{ExclusiveDevice, UnalignedDevice, RegisterWidth}
@@ -91,7 +91,7 @@ access_text d =
 abbrev pub fault_text : RecordedFault → List ℕ
 fault_text f = (((decimal f.exception ++ codes " ") ++ hex_word f.cfsr) ++ codes " ") ++ hex_word f.hfsr
 
-abbrev pub happening_text : Happening → List ℕ
+abbrev pub happening_text : EventKind → List ℕ
 happening_text (Accessed a) = access_text a
 happening_text (ConsoleByte byte) = codes "O " ++ hex_byte byte
 happening_text (ReturnBegan exc_return) = codes "R " ++ hex_word exc_return

@@ -10,12 +10,12 @@ pub const MOST_EVENTS: usize = 40;
 pub struct Event {
     /// The tick of the step, from 1.
     pub tick: u64,
-    pub what: Happening,
+    pub what: EventKind,
 }
 
 /// What an event is.
 #[derive(Clone, Copy)]
-pub enum Happening {
+pub enum EventKind {
     /// An access was decided.
     Accessed(DecidedAccess),
     /// A byte went out to the console.
@@ -44,7 +44,7 @@ impl Default for Event {
     fn default() -> Self {
         Event {
             tick: 0,
-            what: Happening::ConsoleByte(0),
+            what: EventKind::ConsoleByte(0),
         }
     }
 }

@@ -7,7 +7,7 @@ use Rattle.reference.specs.declared.access.Access.{Access}
 use Rattle.reference.specs.declared.access.Cause.{Cause}
 use Rattle.reference.specs.declared.access.Rule.{Rule}
 use Rattle.reference.specs.declared.event.Event.{Event}
-use Rattle.reference.specs.declared.event.Happening.TheVariants.{Accessed}
+use Rattle.reference.specs.declared.event.EventKind.TheVariants.{Accessed}
 use Rattle.reference.specs.declared.failure.Failure.{Failure}
 use Rattle.reference.specs.declared.failure.Failure.TheVariants.{Refused, Usage, Stop}
 use Rattle.reference.specs.Map.{ram_base}

@@ -7,9 +7,9 @@ use Rattle.reference.specs.declared.access.Cause.{Cause}
 use Rattle.reference.specs.declared.access.DecidedAccess.{DecidedAccess}
 use Rattle.reference.specs.declared.access.Rule.{Rule}
 use Rattle.reference.specs.declared.event.Event.{Event}
-use Rattle.reference.specs.declared.event.Happening.{Happening}
-use Rattle.reference.specs.declared.event.Happening.TheVariants.{Accessed, ConsoleByte, ReturnBegan, HandlerEntered}
-use Rattle.reference.specs.declared.event.Happening.TheVariants.{FaultRecorded}
+use Rattle.reference.specs.declared.event.EventKind.{EventKind}
+use Rattle.reference.specs.declared.event.EventKind.TheVariants.{Accessed, ConsoleByte, ReturnBegan, HandlerEntered}
+use Rattle.reference.specs.declared.event.EventKind.TheVariants.{FaultRecorded}
 use Rattle.reference.specs.declared.event.RecordedFault.{RecordedFault}
 use Rattle.reference.specs.declared.exception.TheConstants.{HARD_FAULT}
 use Rattle.reference.specs.declared.fault_status.FaultEffect.{FaultEffect}
@@ -21,7 +21,7 @@ use Rattle.reference.specs.Memory.{Memory}
 -- ---- refused accesses
 
 -- whether an event is an access that was refused, by a rule or by the bus
-abbrev pub is_refused : Happening → Bool
+abbrev pub is_refused : EventKind → Bool
 is_refused (Accessed a) = is_some a.refused
 is_refused (ConsoleByte byte) = false
 is_refused (ReturnBegan exc_return) = false
@@ -67,7 +67,7 @@ writes a address =
     && (nat_le a.access.address address && nat_lt address (a.access.address + bytes_in a.access.size))
 
 -- whether an event is such an access
-abbrev pub covers : Happening → ℕ → Bool
+abbrev pub covers : EventKind → ℕ → Bool
 covers (Accessed a) address = writes a address
 covers (ConsoleByte byte) address = false
 covers (ReturnBegan exc_return) address = false

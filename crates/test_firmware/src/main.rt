@@ -6,7 +6,7 @@
 use board::{Board, read_board};
 use elf::{Image, load};
 use machine::{Event, Events, Fast, Slow, Stop, event_line, stop_line};
-use reference::event::Happening;
+use reference::event::EventKind;
 use std::alloc::Global;
 use std::io::Write;
 use std::{env, fs, io};
@@ -128,7 +128,7 @@ fn stop_alike(stop: Option<Stop>, other: Option<Stop>) -> bool {
 /// Writes the console bytes among the events of a step.
 fn write_console<W: Write>(events: &[Event], out: &mut W) -> io::Result<()> {
     for event in events {
-        if let Happening::ConsoleByte(byte) = event.what {
+        if let EventKind::ConsoleByte(byte) = event.what {
             out.write_all(&[byte])?;
         }
     }

@@ -5,7 +5,7 @@ use Rattle.std.specs.Fmt.{decimal}
 use Rattle.std.specs.Prelude.{codes}
 use Rattle.reference.specs.declared.access.DecidedAccess.{DecidedAccess}
 use Rattle.reference.specs.declared.event.Event.{Event}
-use Rattle.reference.specs.declared.event.Happening.TheVariants.{Accessed}
+use Rattle.reference.specs.declared.event.EventKind.TheVariants.{Accessed}
 use Rattle.reference.specs.Text.{line, lines, line_feed, outcome_text, rule_text}
 use Rattle.trace.specs.Tails.{access_head, tail}
 

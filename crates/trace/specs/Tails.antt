@@ -1,12 +1,12 @@
 -- What follows the tick in a line.
 use Rattle.std.specs.Prelude.{ℕ, List, ◌++◌, codes, decimal}
 use Rattle.reference.specs.declared.access.Access.{Access}
-use Rattle.reference.specs.declared.event.Happening.{Happening}
+use Rattle.reference.specs.declared.event.EventKind.{EventKind}
 use Rattle.reference.specs.Kinds.{bytes_in}
 use Rattle.reference.specs.Text.{kind_text, hex_word, privilege_text, happening_text, line_feed}
 
 -- all of a line but its tick
-unfoldable pub tail : Happening → List ℕ
+unfoldable pub tail : EventKind → List ℕ
 tail what = codes " " ++ (happening_text what ++ line_feed)
 
 -- what has the same length in the line of each access: from the space after the tick to the one before the outcome

@@ -1,7 +1,7 @@
 //! The lines of events and of stops.
 
 ghost use Rattle.std.specs.Prelude.{◌≡◌, ◌+◌, ◌≤◌, ◌++◌, length, codes, decimal};
-ghost use Rattle.reference.specs.declared.event.Happening.TheVariants.{Accessed, ConsoleByte, ReturnBegan, HandlerEntered, FaultRecorded};
+ghost use Rattle.reference.specs.declared.event.EventKind.TheVariants.{Accessed, ConsoleByte, ReturnBegan, HandlerEntered, FaultRecorded};
 ghost use Rattle.reference.specs.Text.{line, stop_line as line_of_stop, stop_text, outcome_text, rule_text, line_feed};
 ghost use Rattle.trace.specs.Tails.{access_head, tail};
 
@@ -10,7 +10,7 @@ use crate::page::Page;
 use crate::tick::Tick;
 use crate::words::{kind_letter, left_out_word, privilege_letter, size_digit, unpredictable_word};
 use reference::access::{Access, Cause, DecidedAccess, Rule};
-use reference::event::{Event, Happening, RecordedFault};
+use reference::event::{Event, EventKind, RecordedFault};
 use reference::stop::Stop;
 
 /// The most bytes after the tick of a line. A tick takes 21 bytes at most, so a line takes 64.
@@ -58,7 +58,7 @@ impl<const ROOM: usize> Page<ROOM> {
     {
         tick.put_on(event.tick, self);
         match &event.what {
-            Happening::Accessed(access) => self.put_access(access),
+            EventKind::Accessed(access) => self.put_access(access),
             what => self.put_tail(*what),
         }
     }
@@ -104,17 +104,17 @@ impl<const ROOM: usize> Page<ROOM> {
     /// needs no memory; so does `put_rare_head`.
     #[cold]
     #[inline(never)]
-    fn put_tail(&mut self, what: Happening)
+    fn put_tail(&mut self, what: EventKind)
         requires { length self.old + TAIL_ROOM ≤ ROOM }
         ensures text { self.new ≡ self.old ++ tail what }
         ensures short { length self.new ≤ length self.old + TAIL_ROOM }
     {
         match what {
-            Happening::Accessed(access) => self.put_access(&access),
-            Happening::ConsoleByte(byte) => self.put_console_byte(byte),
-            Happening::ReturnBegan(exc_return) => self.put_return(exc_return),
-            Happening::HandlerEntered(exception) => self.put_handler(exception),
-            Happening::FaultRecorded(fault) => self.put_fault(&fault),
+            EventKind::Accessed(access) => self.put_access(&access),
+            EventKind::ConsoleByte(byte) => self.put_console_byte(byte),
+            EventKind::ReturnBegan(exc_return) => self.put_return(exc_return),
+            EventKind::HandlerEntered(exception) => self.put_handler(exception),
+            EventKind::FaultRecorded(fault) => self.put_fault(&fault),
         }
     }
 

@@ -3,7 +3,7 @@
 use super::words::{request, rule};
 use arrayvec::ArrayVec;
 use reference::access::{Cause, DecidedAccess};
-use reference::event::{Event, Happening, RecordedFault};
+use reference::event::{Event, EventKind, RecordedFault};
 use reference::stop::{LeftOut, Stop, UnpredictableCase};
 use std::test::*;
 use test_tables::{Rows, byte_at, check, halfword_at, long_at, meaning, number_at, part, word};
@@ -37,14 +37,14 @@ fn fault(part: &str) -> Option<RecordedFault> {
 }
 
 /// What a row has after its tick.
-fn happening(row: &str) -> Option<Happening> {
+fn happening(row: &str) -> Option<EventKind> {
     let what = part(row, 2);
     match word(part(row, 1), 1) {
-        "console" => Some(Happening::ConsoleByte(byte_at(what, 0)?)),
-        "return" => Some(Happening::ReturnBegan(number_at(what, 0)?)),
-        "handler" => Some(Happening::HandlerEntered(halfword_at(what, 0)?)),
-        "fault" => Some(Happening::FaultRecorded(fault(what)?)),
-        "access" => Some(Happening::Accessed(access(what, part(row, 3))?)),
+        "console" => Some(EventKind::ConsoleByte(byte_at(what, 0)?)),
+        "return" => Some(EventKind::ReturnBegan(number_at(what, 0)?)),
+        "handler" => Some(EventKind::HandlerEntered(halfword_at(what, 0)?)),
+        "fault" => Some(EventKind::FaultRecorded(fault(what)?)),
+        "access" => Some(EventKind::Accessed(access(what, part(row, 3))?)),
         _ => None,
     }
 }
@@ -139,7 +139,7 @@ fn lines_of_stops() -> Result<(), Fail> {
 fn console(tick: u64) -> Event {
     Event {
         tick,
-        what: Happening::ConsoleByte(0xA0),
+        what: EventKind::ConsoleByte(0xA0),
     }
 }
 

@@ -18,8 +18,8 @@
 use super::cut::{Cut, Text, push_line, run};
 use super::machines::{event, place, place_vectors, scripted};
 use machine::{
-    Ahead, BitLevels, CodeLines, Counting, Decider, DueTicks, KeptAnswers, KeptDecisions, Levels,
-    Lines, Machine, PlaceFault, PlainLevels, RegValues, Reread, Search, Stop, Table,
+    Ahead, BitLevels, CodeLines, Counting, Decider, DueTicks, KeptDecisions, KeptPriorities,
+    Levels, Lines, Machine, PlaceFault, PlainLevels, RegValues, Reread, Search, Stop, Table,
 };
 use reference::stop::{LeftOut, UnpredictableCase};
 use std::alloc::Global;
@@ -46,7 +46,7 @@ impl Rows for Runs {
     fn holds(&mut self, text: &str) -> Option<bool> {
         Some(
             goes::<Search, Reread, PlainLevels, Counting>(self.alloc, text)?
-                && goes::<KeptDecisions<Table>, Lines, KeptAnswers<BitLevels>, Ahead>(
+                && goes::<KeptDecisions<Table>, Lines, KeptPriorities<BitLevels>, Ahead>(
                     self.alloc, text,
                 )?,
         )

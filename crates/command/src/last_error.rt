@@ -5,25 +5,25 @@ use std::io::{Read, Write};
 
 /// A writer or a reader over another that keeps the last error, for a message.
 #[derive(Drop)]
-pub struct Noting<T: Drop> {
+pub struct LastError<T: Drop> {
     inner: T,
     error: Option<io::Error>,
 }
 
-impl<T: Drop> Noting<T> {
+impl<T: Drop> LastError<T> {
     /// Returns a writer or a reader over another, with no error.
     pub fn new(inner: T) -> Self {
-        Noting { inner, error: None }
+        LastError { inner, error: None }
     }
 
     /// Returns the last error.
     pub fn error(self) -> Option<io::Error> {
-        let Noting { inner: _, error } = self;
+        let LastError { inner: _, error } = self;
         error
     }
 }
 
-impl<W: Write + Drop> Write for Noting<W> {
+impl<W: Write + Drop> Write for LastError<W> {
     ghost contents = { λ w. W.contents w.inner };
 
     fn write(&mut self, buf: &[u8]) -> io::Result<usize> {
@@ -42,7 +42,7 @@ impl<W: Write + Drop> Write for Noting<W> {
     }
 }
 
-impl<R: Read + Drop> Read for Noting<R> {
+impl<R: Read + Drop> Read for LastError<R> {
     ghost remaining = { λ r. R.remaining r.inner };
 
     fn read(&mut self, buf: &mut [u8]) -> io::Result<usize> {
