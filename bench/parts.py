@@ -1,6 +1,6 @@
 """Times two parts of a step, decoding and deciding, over some mixes, and beside them the loops and the real program that
 they are of, in shuffled rounds. Prints how many are made in a second, and what part of a step they take: of decoding,
-where what halfwords meant is kept, as a machine does."""
+where what halfwords meant is kept, as the machine Slow does."""
 
 import random
 import re

@@ -41,9 +41,10 @@ def image(encoding):
     return elf(flash.ljust(CODE, b"\0") + here + b"\x00\xbf" * 8)
 
 
-def trace_of(encoding, steps):
-    """The lines of a trace behind those of the code ahead, each in its words, and the words of the last line."""
-    path = written(FOLDER, f"image{encoding:x}", image(encoding))
+def trace_of(number, encoding, steps):
+    """The lines of a trace behind those of the code ahead, each in its words, and the words of the last line. The file has
+    the number of the encoding, since a random encoding may come twice."""
+    path = written(FOLDER, f"image{number}", image(encoding))
     lines = subprocess.run(traced(MARM, board, steps, path), stdout=subprocess.PIPE, text=True).stdout.splitlines()
     os.unlink(path)
     return [line.split() for line in lines[:-1] if int(line.split()[0]) > AHEAD], lines[-1]
@@ -54,9 +55,9 @@ def fault_at(lines, tick):
     return next((int(line[3], 16) for line in lines if line[:2] == [str(tick), "!"]), 0)
 
 
-def answer(encoding):
+def answer(number, encoding):
     """How an encoding ends, its accesses, and where the machine goes on, if it does."""
-    lines, stop = trace_of(encoding, AHEAD + 2)
+    lines, stop = trace_of(number, encoding, AHEAD + 2)
     mine = [(line[1], int(line[2], 16), int(line[3]), line[5]) for line in lines if line[0] == str(AHEAD + 1) and line[1] != "!"]
     behind = [line for line in lines if line[0] == str(AHEAD + 2)]
     accesses = [access for access in mine if access[0] != "F"]
@@ -106,7 +107,7 @@ encodings = list(range(0xE800)) + [random_long(source) for _ in range(COUNT)]
 llvm, gnu, places = listings(FOLDER, encodings)
 doubted = unpredictable(FOLDER, encodings)
 with ThreadPoolExecutor(os.cpu_count()) as pool:
-    answers = list(pool.map(answer, encodings, chunksize=64))
+    answers = list(pool.map(answer, range(len(encodings)), encodings, chunksize=64))
 kinds = collections.defaultdict(list)
 for number, encoding in enumerate(encodings):
     kind = verdict(encoding, answers[number], llvm[number], gnu[number], places[number], number in doubted)
