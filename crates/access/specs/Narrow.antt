@@ -9,9 +9,3 @@ abbrev pub GivesNarrow : Size → Performed → Type 0
 GivesNarrow size (Done rule value) = value < 256 ^ bytes_in size
 GivesNarrow size (Denied rule cause) = ⊤
 GivesNarrow size (Stop why) = ⊤
-
--- an access that was done gave this value
-abbrev pub GivesHalfword : ℕ → Performed → Type 0
-GivesHalfword halfword (Done rule value) = value ≡ halfword
-GivesHalfword halfword (Denied rule cause) = ⊤
-GivesHalfword halfword (Stop why) = ⊤

@@ -3,7 +3,7 @@
 ghost use Rattle.std.specs.Prelude.{◌≡◌, ℕ, ◌+◌, ◌≤◌, ◌<◌, ◌^◌, ◌%◌, ◌++◌, length, IfOk};
 ghost use Rattle.access.specs.Kept.{HasHalfword, fetch_at};
 ghost use Rattle.exceptions.specs.Room.{lines_of, most_lines};
-ghost use Rattle.exceptions.specs.Serving.{Serves};
+ghost use Rattle.exceptions.specs.Serving.{Serves, done_lines, fetched_if};
 ghost use Rattle.reference.specs.Accesses.{accessed, access_lines, value_of, perform, perform_all};
 ghost use Rattle.reference.specs.declared.event.EventKind.TheVariants.{ConsoleByte};
 ghost use Rattle.reference.specs.Kinds.{bytes_in};
@@ -70,10 +70,7 @@ pub fn access<D: Decider, C: CodeLines, L: Levels, U: DueTicks, S: Sink>(
 {
     match bus.perform(exception, request) {
         Performed::Done(rule, value) => {
-            events.emit(accessed(tick, request, rule, None));
-            if is_out(request) {
-                events.emit(console_line(tick, request.value));
-            }
+            put_done(events, tick, request, rule);
             Ok(value)
         }
         Performed::Denied(rule, cause) => {
@@ -84,7 +81,21 @@ pub fn access<D: Decider, C: CodeLines, L: Levels, U: DueTicks, S: Sink>(
     }
 }
 
-/// Makes the fetch of a halfword that memory is known to have, and appends its line.
+/// Appends the lines of an access that was done.
+#[inline(always)]
+pub fn put_done<S: Sink>(events: &mut S, tick: u64, request: &Request, rule: Rule)
+    requires { length (S.emitted events.old).events + lines_of request.now ≤ MOST_EVENTS }
+    ensures events { S.emitted events.new ≡ with_emitted (S.emitted events.old) ((S.emitted events.old).events ++ done_lines tick request.now rule) }
+    ensures room { length (S.emitted events.new).events ≤ length (S.emitted events.old).events + lines_of request.now }
+{
+    events.emit(accessed(tick, request, rule, None));
+    if is_out(request) {
+        events.emit(console_line(tick, request.value));
+    }
+}
+
+/// Makes the fetch of a halfword that memory is known to have, and appends its line. Returns whether it
+/// was done; otherwise its rule refused it.
 #[inline(always)]
 pub fn fetch_known<D: Decider, C: CodeLines, L: Levels, U: DueTicks, S: Sink>(
     bus: &mut Bus<D, C, L, U>,
@@ -93,33 +104,28 @@ pub fn fetch_known<D: Decider, C: CodeLines, L: Levels, U: DueTicks, S: Sink>(
     address: u32,
     privileged: bool,
     halfword: u16,
-) -> Result<u16, Failure>
+) -> bool
     requires known { HasHalfword bus.old.memory address halfword }
     requires room { length (S.emitted events.old).events < MOST_EVENTS }
     ensures bus { (exception : ℕ) → bus.new ≡ (perform exception bus.old (fetch_at address privileged)).bus }
     ensures same { bus.new ≡ bus.old }
     ensures events { (exception : ℕ) → S.emitted events.new ≡ with_emitted (S.emitted events.old) ((S.emitted events.old).events ++ access_lines tick (fetch_at address privileged) (perform exception bus.old (fetch_at address privileged)).performed) }
     ensures room { length (S.emitted events.new).events ≤ length (S.emitted events.old).events + 1 }
-    ensures answer { (exception : ℕ) → result ≡ value_of (fetch_at address privileged) (perform exception bus.old (fetch_at address privileged)).performed }
-    ensures value { IfOk result (λ fetched. fetched ≡ halfword) }
+    ensures answer { (exception : ℕ) → fetched_if result address privileged halfword ≡ value_of (fetch_at address privileged) (perform exception bus.old (fetch_at address privileged)).performed }
 {
+    let decision = bus.fetch_known(address, privileged, halfword);
     let request = fetch_at(address, privileged);
-    match bus.fetch_known(address, privileged, halfword) {
-        Performed::Done(rule, _) => {
-            events.emit(accessed(tick, &request, rule, None));
-            Ok(halfword)
-        }
-        Performed::Denied(rule, cause) => {
-            events.emit(accessed(tick, &request, rule, Some(cause)));
-            Err(Failure::Refused(request.access, cause))
-        }
-        Performed::Stop(why) => Err(Failure::Stop(why)),
+    if decision.granted {
+        events.emit(accessed(tick, &request, decision.rule, None));
+    } else {
+        events.emit(accessed(tick, &request, decision.rule, Some(Cause::Mpu)));
     }
+    decision.granted
 }
 
 /// Returns the line of an access that was decided.
 #[inline]
-fn accessed(tick: u64, request: &Request, rule: Rule, refused: Option<Cause>) -> Event
+pub fn accessed(tick: u64, request: &Request, rule: Rule, refused: Option<Cause>) -> Event
     ensures { result ≡ accessed tick request.now rule refused }
 {
     Event {

@@ -94,7 +94,7 @@ impl<O: Out + Drop> Out for Paged<O> {
                 Err(fault) => return Err(fault),
             }
         }
-        self.page.put_event(&mut room.tick, event);
+        self.page.put_event(&mut room.kept, event);
         Ok(())
     }
 }

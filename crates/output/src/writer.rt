@@ -10,17 +10,17 @@ use std::io::{Read, Write};
 use std::marker::Model;
 use std::sync::ledger::{Blank, Book, Ledger, Share};
 use thiserror::Error;
+use trace::lines::KeptText;
 use trace::page::Page;
-use trace::tick::Tick;
 
 /// Room for one line; the same type as `Text` of `trace`.
 pub type LinePage = Page<64>;
 
-/// Room for the text of one line, and the digits of its tick, kept for the next one.
+/// Room for the text of one line, and what is kept of its text for later ones.
 #[derive(Drop)]
 pub struct LineRoom {
     page: LinePage,
-    pub(crate) tick: Tick,
+    pub(crate) kept: KeptText,
 }
 
 impl LineRoom {
@@ -28,7 +28,7 @@ impl LineRoom {
     pub fn new() -> Self {
         LineRoom {
             page: LinePage::new(),
-            tick: Tick::new(),
+            kept: KeptText::new(),
         }
     }
 }
@@ -72,7 +72,7 @@ pub trait Out {
         ensures { Put (written self.old) (written self.new) (faults self.old) (faults self.new) (line event.now) result }
     {
         room.page.clear();
-        room.page.put_event(&mut room.tick, event);
+        room.page.put_event(&mut room.kept, event);
         let text = room.page.as_slice();
         self.put_all(text)
     }

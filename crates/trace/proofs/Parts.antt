@@ -1,12 +1,11 @@
 -- The parts of a line, put together.
-use Rattle.std.proofs.Common.{◌≡◌, ℕ, ◌+◌, ◌<◌, ◌≤◌, List, ◌++◌, length, drop, get_or, append_assoc, add-one, drop-cons}
-use Rattle.std.proofs.lemmas.List.{drop_all, append-nil}
+use Rattle.std.proofs.Common.{◌≡◌, ℕ, List, ◌++◌, append_assoc}
 use Rattle.std.specs.Fmt.{decimal}
 use Rattle.std.specs.Prelude.{codes}
 use Rattle.reference.specs.declared.access.DecidedAccess.{DecidedAccess}
 use Rattle.reference.specs.declared.event.Event.{Event}
 use Rattle.reference.specs.declared.event.EventKind.TheVariants.{Accessed}
-use Rattle.reference.specs.Text.{line, lines, line_feed, outcome_text, rule_text}
+use Rattle.reference.specs.Text.{line, line_feed, outcome_text, rule_text}
 use Rattle.trace.specs.Tails.{access_head, tail}
 
 -- a line is its tick and its tail

@@ -5,11 +5,12 @@ ghost use Rattle.reference.specs.declared.event.EventKind.TheVariants.{Accessed,
 ghost use Rattle.reference.specs.Text.{line, stop_line as line_of_stop, stop_text, outcome_text, rule_text, line_feed};
 ghost use Rattle.trace.specs.Tails.{access_head, tail};
 
+use crate::fetches::FetchTails;
 use crate::hex;
 use crate::page::Page;
 use crate::tick::Tick;
 use crate::words::{kind_letter, left_out_word, privilege_letter, size_digit, unpredictable_word};
-use reference::access::{Access, Cause, DecidedAccess, Rule};
+use reference::access::{Access, Cause, DecidedAccess, Kind, Rule, Size};
 use reference::event::{Event, EventKind, RecordedFault};
 use reference::stop::Stop;
 
@@ -28,12 +29,32 @@ const STOP_ROOM: usize = 40;
 /// The text of one line, at most 64 bytes.
 pub type Text = Page<64>;
 
+/// What is kept of the text of earlier lines: the digits of a tick, and the lines of fetches. This is
+/// only a cache: whatever it holds, the next line is right.
+#[derive(Drop)]
+pub struct KeptText {
+    tick: Tick,
+    fetches: FetchTails,
+}
+
+impl KeptText {
+    /// Returns room for text, of which none is kept yet but the digits of the first ticks.
+    pub fn new() -> Self {
+        KeptText {
+            tick: Tick::new(),
+            fetches: FetchTails::new(),
+        }
+    }
+}
+
 /// Returns the line of an event.
+#[tactic(auto, using(crate::proofs::Parts::tick_and_tail))]
 pub fn event_line(event: &Event) -> Text
     ensures { result ≡ line event.now }
 {
     let mut text = Page::new();
-    text.put_event(&mut Tick::new(), event);
+    Tick::new().put_on(event.tick, &mut text);
+    text.put_tail(event.what);
     text
 }
 
@@ -47,19 +68,34 @@ pub fn stop_line(stop: &Stop) -> Text
 }
 
 impl<const ROOM: usize> Page<ROOM> {
-    /// Appends the line of an event. Most are accesses, so these are tested for first. `tick` keeps
-    /// the digits of its tick for the next line.
+    /// Appends the line of an event. Most are accesses, so these are tested for first.
     #[inline(always)]
     #[tactic(auto, using(crate::proofs::Parts::tick_and_tail))]
-    pub fn put_event(&mut self, tick: &mut Tick, event: &Event)
+    pub fn put_event(&mut self, kept: &mut KeptText, event: &Event)
         requires { length self.old + 64 ≤ ROOM }
         ensures text { self.new ≡ self.old ++ line event.now }
         ensures short { length self.new ≤ length self.old + 64 }
     {
-        tick.put_on(event.tick, self);
+        kept.tick.put_on(event.tick, self);
         match &event.what {
-            EventKind::Accessed(access) => self.put_access(access),
+            EventKind::Accessed(access) => self.put_decided(&mut kept.fetches, access),
             what => self.put_tail(*what),
+        }
+    }
+
+    /// Appends the line of an access but for its tick: that of a fetch that was done as it's kept.
+    #[inline(always)]
+    fn put_decided(&mut self, fetches: &mut FetchTails, decided: &DecidedAccess)
+        requires { length self.old + TAIL_ROOM ≤ ROOM }
+        ensures text { self.new ≡ self.old ++ tail (Accessed decided.now) }
+        ensures short { length self.new ≤ length self.old + TAIL_ROOM }
+    {
+        let access = &decided.access;
+        match (access.kind, access.size, decided.refused) {
+            (Kind::Fetch, Size::Halfword, None) => {
+                self.put_fetch(fetches, access.address, access.privileged, decided.rule);
+            }
+            _ => self.put_access(decided),
         }
     }
 
@@ -121,7 +157,7 @@ impl<const ROOM: usize> Page<ROOM> {
     /// Appends the line of an access but for its tick. Most lines are of this kind.
     #[inline(always)]
     #[tactic(auto, using(crate::proofs::Parts::head_and_rule))]
-    fn put_access(&mut self, decided: &DecidedAccess)
+    pub(crate) fn put_access(&mut self, decided: &DecidedAccess)
         requires { length self.old + TAIL_ROOM ≤ ROOM }
         ensures text { self.new ≡ self.old ++ tail (Accessed decided.now) }
         ensures short { length self.new ≤ length self.old + TAIL_ROOM }

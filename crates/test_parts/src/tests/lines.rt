@@ -7,9 +7,8 @@ use reference::event::{Event, EventKind, RecordedFault};
 use reference::stop::{LeftOut, Stop, UnpredictableCase};
 use std::test::*;
 use test_tables::{Rows, byte_at, check, halfword_at, long_at, meaning, number_at, part, word};
-use trace::lines::{event_line, stop_line};
+use trace::lines::{KeptText, event_line, stop_line};
 use trace::page::Page;
-use trace::tick::Tick;
 
 /// What refused an access, by its word.
 const REFUSALS: [(&str, Option<Cause>); 3] = [
@@ -94,6 +93,44 @@ fn lines_of_events() -> Result<(), Fail> {
     check(EVENTS, &mut EventLines)
 }
 
+/// The lines of events one after another, with what is kept of the text of the earlier ones.
+#[derive(Drop)]
+struct KeptLines {
+    kept: KeptText,
+}
+
+impl Rows for KeptLines {
+    fn holds(&mut self, row: &str) -> Option<bool> {
+        let tick = long_at(part(row, 1), 0)?;
+        let what = happening(row)?;
+        let mut page = Page::<64>::new();
+        page.put_event(&mut self.kept, &Event { tick, what });
+        Some(is_line(page.as_slice(), part(row, 0)))
+    }
+}
+
+/// As in `EVENTS`. The lines of 00000008 and 00000808 have one place.
+const FETCHES: &str = "\
+1 F 00000008 2 p ok off   | 1 access | F halfword 8 0 p | done off
+2 F 00000008 2 p ok off   | 2 access | F halfword 8 0 p | done off
+2 F 00000008 2 u ok off   | 2 access | F halfword 8 0 u | done off
+3 F 00000808 2 u ok off   | 3 access | F halfword 808 0 u | done off
+4 F 00000008 2 u ok off   | 4 access | F halfword 8 0 u | done off
+5 F 00000008 2 u ok r7    | 5 access | F halfword 8 0 u | done r7
+6 F 00000008 2 u ok r15   | 6 access | F halfword 8 0 u | done rF
+7 F 00000008 2 u ok r15   | 7 access | F halfword 8 0 u | done rF
+8 F 00000008 2 u mpu r15  | 8 access | F halfword 8 0 u | refused-by-mpu rF
+9 F 00000008 2 u ok bg    | 9 access | F halfword 8 0 u | done bg
+10 F 00000008 2 u ok neg  | A access | F halfword 8 0 u | done neg";
+
+#[test]
+fn lines_of_fetches_after_one_another() -> Result<(), Fail> {
+    let mut lines = KeptLines {
+        kept: KeptText::new(),
+    };
+    check(FETCHES, &mut lines)
+}
+
 /// The stops that the rows name.
 const STOPS: [(&str, Stop); 6] = [
     ("StepLimit", Stop::StepLimit),
@@ -171,23 +208,23 @@ const TICK_LINES: &str = "\
 ";
 
 /// Returns whether the lines of an event and of a stop are on the page, which may have had others.
-fn is_begun(page: &mut Page<1024>, tick: &mut Tick) -> bool {
+fn is_begun(page: &mut Page<1024>, kept: &mut KeptText) -> bool {
     page.clear();
-    page.put_event(tick, &console(8));
+    page.put_event(kept, &console(8));
     page.put_stop(&Stop::StepLimit);
     page.as_slice() == b"8 O A0\nstop steps\n".as_slice() && page.len() == 18
 }
 
 /// Returns whether these lines are on the page, which may have had others, for the events of some
 /// ticks.
-fn are_lines_so(page: &mut Page<1024>, tick: &mut Tick, ticks: &str, lines: &str) -> Option<bool> {
+fn are_lines_so(page: &mut Page<1024>, kept: &mut KeptText, ticks: &str, lines: &str) -> Option<bool> {
     let events = consoles(ticks)?;
     page.clear();
     for event in events.as_slice() {
         if page.len() > 1024 - 64 {
             return None;
         }
-        page.put_event(tick, event);
+        page.put_event(kept, event);
     }
     Some(page.as_slice() == lines.as_bytes())
 }
@@ -195,9 +232,9 @@ fn are_lines_so(page: &mut Page<1024>, tick: &mut Tick, ticks: &str, lines: &str
 #[test]
 fn ticks_after_one_another(rt: HostRuntime) {
     let mut page = Page::new();
-    let mut tick = Tick::new();
+    let mut kept = KeptText::new();
     assert!(rt; page.is_empty(), "a new page");
-    assert!(rt; is_begun(&mut page, &mut tick), "an event and a stop");
-    let answer = are_lines_so(&mut page, &mut tick, TICKS, TICK_LINES);
+    assert!(rt; is_begun(&mut page, &mut kept), "an event and a stop");
+    let answer = are_lines_so(&mut page, &mut kept, TICKS, TICK_LINES);
     assert!(rt; answer == Some(true), "the ticks after one another");
 }
