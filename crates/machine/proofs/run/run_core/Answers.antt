@@ -1,4 +1,4 @@
-use Rattle.std.proofs.Common.{◌≡◌, ◌⊎◌, inl, inr, ◌∙◌, sym, refl, ap, arith, IsSome, is_some, false}
+use Rattle.std.proofs.Common.{◌≡◌, ◌⊎◌, inl, inr, ◌∙◌, sym, refl, arith, IsSome, is_some, false}
 use Rattle.std.proofs.KnownBytes.{Appends-nil}
 use Rattle.machine.proofs.Running.{none_made, none_told, after_on, told_on, made_on, not_some, cut_in_step, cut_in_stop}
 use Rattle.machine.proofs.Running.{all_told, all_made, ends_so, alone}
