@@ -217,7 +217,12 @@ fn is_begun(page: &mut Page<1024>, kept: &mut KeptText) -> bool {
 
 /// Returns whether these lines are on the page, which may have had others, for the events of some
 /// ticks.
-fn are_lines_so(page: &mut Page<1024>, kept: &mut KeptText, ticks: &str, lines: &str) -> Option<bool> {
+fn are_lines_so(
+    page: &mut Page<1024>,
+    kept: &mut KeptText,
+    ticks: &str,
+    lines: &str,
+) -> Option<bool> {
     let events = consoles(ticks)?;
     page.clear();
     for event in events.as_slice() {
