@@ -110,11 +110,11 @@ fn fault_of(alloc: Global, error: &Error) -> WordsFault {
             WordsFault::Help(text)
         }
         ErrorKind::DisplayVersion => WordsFault::Version(text),
+        ErrorKind::ValueValidation => advised(text, STEPS_ADVICE),
+        ErrorKind::InvalidSubcommand => advised(text, COMMANDS_ADVICE),
         ErrorKind::InvalidValue
         | ErrorKind::UnknownArgument
-        | ErrorKind::InvalidSubcommand
         | ErrorKind::NoEquals
-        | ErrorKind::ValueValidation
         | ErrorKind::TooManyValues
         | ErrorKind::TooFewValues
         | ErrorKind::WrongNumberOfValues
@@ -125,6 +125,21 @@ fn fault_of(alloc: Global, error: &Error) -> WordsFault {
         | ErrorKind::Format => WordsFault::Wrong(text),
     }
 }
+
+/// Returns the fault of an error whose text doesn't say what to write instead.
+fn advised(text: String, advice: &str) -> WordsFault {
+    let mut text = text;
+    match text.push_str(advice) {
+        Ok(()) => WordsFault::Wrong(text),
+        Err(_) => WordsFault::OutOfMemory,
+    }
+}
+
+/// What `--steps` takes: the one value that `clap` checks.
+const STEPS_ADVICE: &str = "--steps takes a decimal number from 0 to 4294967296.\n";
+
+/// The commands of the program.
+const COMMANDS_ADVICE: &str = "The commands are run, debug and help.\n";
 
 /// What the program's help says of its statuses and messages.
 const AFTER_MARM: &str = "\
@@ -161,6 +176,7 @@ Commands, one a line on standard input; numbers are decimal, or hexadecimal afte
   step               makes a step: its trace lines, then `at <pc>` or the stop line
   run <n>            makes up to n steps, from 1 to 1000000, and ends at a breakpoint
   break <a>          sets a breakpoint at an address, at most 16
+                     an odd address is never hit, and no command removes a breakpoint
   regs               shows the core registers
   mem <a> <n>        shows n bytes from an address on, from 1 to 256
   regions            shows RBAR and RASR of each region of the MPU

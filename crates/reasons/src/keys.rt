@@ -72,7 +72,7 @@ pub const NMI: Key = Key {
 };
 
 /// Returns whether a block of memory can have this many bytes.
-fn is_size(bytes: i64) -> bool {
+pub fn is_size(bytes: i64) -> bool {
     (1024..=0x10_0000).contains(&bytes) && bytes % 1024 == 0
 }
 

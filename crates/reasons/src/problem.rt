@@ -16,6 +16,8 @@ pub enum Problem<'a> {
     Unknown(&'a str, &'static str),
     /// The tick of an event is below that of the event before it.
     Order(i64, i64),
+    /// Flash at this base, with this size, ends too high.
+    FlashEnd(i64, i64),
 }
 
 /// Writes a problem.
@@ -34,6 +36,12 @@ pub fn write_problem<W: Write>(out: &mut W, problem: &Problem<'_>) -> io::Result
             writeln!(
                 out,
                 "at is {at}, and the event before it is at {before}: events come in the order of at"
+            )
+        }
+        Problem::FlashEnd(base, size) => {
+            writeln!(
+                out,
+                "flash_base is {base} and flash_size {size}: their sum is at most 536870912"
             )
         }
     }

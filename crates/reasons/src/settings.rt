@@ -3,7 +3,7 @@
 use crate::events::{EventProblem, events_problem};
 use crate::keys::{
     FLASH_BASE, FLASH_SIZE, Key, LINES, PRIORITY_BITS, RAM_SIZE, REGIONS, is_flash_base,
-    is_flash_size, is_line_count, is_priority_bits, is_ram_size, is_region_count,
+    is_flash_size, is_line_count, is_priority_bits, is_ram_size, is_region_count, is_size,
 };
 use crate::problem::{Problem, write_problem};
 use reference::fault::BoardFault;
@@ -67,7 +67,10 @@ fn write_misplaced<W: Write>(
 ) -> io::Result<()> {
     match *problem {
         Problem::Missing(_) => {}
-        Problem::Value(_, _) | Problem::Unknown(_, _) | Problem::Order(_, _) => return Ok(()),
+        Problem::Value(_, _)
+        | Problem::Unknown(_, _)
+        | Problem::Order(_, _)
+        | Problem::FlashEnd(_, _) => return Ok(()),
     }
     match unknown(document, &BOARD_KEYS, BOARD_KEY_NAMES) {
         Some(other) => {
@@ -138,6 +141,7 @@ fn flash_problem(document: &Table) -> Option<Problem<'_>> {
     }
     match integer(document, FLASH_SIZE) {
         Ok((size, _)) if is_flash_size(base, size) => None,
+        Ok((size, _)) if is_size(size) => Some(Problem::FlashEnd(base, size)),
         Ok((_, value)) => Some(Problem::Value(FLASH_SIZE, value)),
         Err(problem) => Some(problem),
     }

@@ -145,6 +145,7 @@ out Commands, one a line on standard input; numbers are decimal, or hexadecimal 
 out   step               makes a step: its trace lines, then `at <pc>` or the stop line
 out   run <n>            makes up to n steps, from 1 to 1000000, and ends at a breakpoint
 out   break <a>          sets a breakpoint at an address, at most 16
+out                      an odd address is never hit, and no command removes a breakpoint
 out   regs               shows the core registers
 out   mem <a> <n>        shows n bytes from an address on, from 1 to 256
 out   regions            shows RBAR and RASR of each region of the MPU
@@ -186,6 +187,7 @@ out Commands, one a line on standard input; numbers are decimal, or hexadecimal 
 out   step               makes a step: its trace lines, then `at <pc>` or the stop line
 out   run <n>            makes up to n steps, from 1 to 1000000, and ends at a breakpoint
 out   break <a>          sets a breakpoint at an address, at most 16
+out                      an odd address is never hit, and no command removes a breakpoint
 out   regs               shows the core registers
 out   mem <a> <n>        shows n bytes from an address on, from 1 to 256
 out   regions            shows RBAR and RASR of each region of the MPU
@@ -229,6 +231,7 @@ err
 err Usage: marm <COMMAND>
 err
 err For more information, try '--help'.
+err The commands are run, debug and help.
 
 an option that does not exist
 words run --frob --board board.toml --steps 10 image.elf
@@ -260,6 +263,7 @@ err marm: usage
 err error: invalid value 'ten' for '--steps <N>': invalid digit found in string
 err
 err For more information, try '--help'.
+err --steps takes a decimal number from 0 to 4294967296.
 
 a word that does not exist
 words frob
@@ -270,6 +274,7 @@ err
 err Usage: marm <COMMAND>
 err
 err For more information, try '--help'.
+err The commands are run, debug and help.
 
 no words
 words
@@ -289,6 +294,7 @@ err marm: usage
 err error: invalid value '4294967297' for '--steps <N>': 4294967297 is not in 0..=4294967296
 err
 err For more information, try '--help'.
+err --steps takes a decimal number from 0 to 4294967296.
 
 a file that is not there
 words run --board board.toml --steps 10 missing.elf

@@ -429,6 +429,13 @@ ends 3
 err marm: board 4 OutOfRange
 err   board.toml: flash_size is 1000: it takes a multiple of 1024 from 1024 to 1048576, with flash_base + flash_size at most 536870912
 
+flash that begins where flash must have ended
+board flash_base = 536870912
+board flash_size = 4096
+ends 3
+err marm: board 4 OutOfRange
+err   board.toml: flash_base is 536870912 and flash_size 4096: their sum is at most 536870912
+
 no RAM
 board flash_base = 0
 board flash_size = 4096
