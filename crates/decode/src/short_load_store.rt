@@ -168,7 +168,7 @@ fn store_list(n: Register, list: u8) -> Decoded
     unless(
         list == 0,
         BlockPlace::Anywhere,
-        UnpredictableCase::ShortList,
+        UnpredictableCase::FewRegisters,
         unless(
             is_above_lowest(n, list as u16),
             BlockPlace::Anywhere,
@@ -194,7 +194,7 @@ fn load_list(n: Register, list: u8) -> Decoded
     unless(
         list == 0,
         BlockPlace::Anywhere,
-        UnpredictableCase::ShortList,
+        UnpredictableCase::FewRegisters,
         short(instruction),
     )
 }

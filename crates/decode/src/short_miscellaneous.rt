@@ -3,10 +3,10 @@
 
 ghost use Rattle.std.specs.Prelude.{◌≡◌, ◌≢◌, ◌==◌, ◌<◌, ◌≤◌, ◌+◌, ◌-◌, ◌*◌, ◌^◌, ◌&&◌, ◌||◌, not, true, false, nat_lt};
 ghost use Rattle.encodings.specs.Masks.{by_masks};
-ghost use Rattle.reference.specs.RowOperands.{number};
+ghost use Rattle.reference.specs.RowOperands.{plain_immediate};
 ghost use Rattle.reference.specs.ShortMiscellaneous.{address_row, adjusting_rows, breakpoint_row, change_state_row, compare_and_branch_row, controlling_rows, extend_row, if_then_row, is_one_bit, pop_row, push_row, rearrange_row, sp_number_row};
 
-use encodings::operands::{hint, number};
+use encodings::operands::{hint, plain_immediate};
 use encodings::outcomes::{last_only_if, placed, placed_unless, short, unless};
 use encodings::rows;
 use reference::access::Size;
@@ -87,7 +87,7 @@ fn sp_number(operation: DataOperation, d: Register, words: u8) -> Decoded
         flags: FlagSetting::Never,
         destination: d,
         first: Register::SP,
-        second: number(words as u32 * 4),
+        second: plain_immediate(words as u32 * 4),
     })))
 }
 
@@ -135,7 +135,7 @@ fn push(lr: u16, list: u8) -> Decoded
     unless(
         list == 0,
         BlockPlace::Anywhere,
-        UnpredictableCase::ShortList,
+        UnpredictableCase::FewRegisters,
         short(instruction),
     )
 }
@@ -159,7 +159,7 @@ fn pop(pc: u16, list: u8) -> Decoded
     unless(
         list == 0,
         place,
-        UnpredictableCase::ShortList,
+        UnpredictableCase::FewRegisters,
         placed(InstructionLength::Short, place, instruction),
     )
 }

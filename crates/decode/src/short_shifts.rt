@@ -5,7 +5,7 @@ ghost use Rattle.std.specs.Prelude.{◌≡◌, ◌≢◌, ◌==◌, ◌<◌, ◌
 ghost use Rattle.encodings.specs.Masks.{by_masks};
 ghost use Rattle.reference.specs.ShortShifts.{compare_number_row, data_number_row, data_registers_row, move_low_row, move_number_row, shift_number_row, shifts_and_moves};
 
-use encodings::operands::{number, unshifted};
+use encodings::operands::{plain_immediate, unshifted};
 use encodings::outcomes::{placed, short};
 use encodings::rows;
 use reference::instruction::{BlockPlace, DataProcessing, Decoded, Instruction, InstructionLength};
@@ -107,7 +107,7 @@ pub(crate) fn data_number(operation: DataOperation, d: Register, n: Register, va
         flags: FlagSetting::OutsideBlock,
         destination: d,
         first: n,
-        second: number(value),
+        second: plain_immediate(value),
     })))
 }
 
@@ -120,7 +120,7 @@ fn move_number(d: Register, value: u32) -> Decoded
         operation: MoveOperation::Move,
         flags: FlagSetting::OutsideBlock,
         destination: d,
-        source: number(value),
+        source: plain_immediate(value),
     })))
 }
 
@@ -132,6 +132,6 @@ fn compare_number(n: Register, value: u32) -> Decoded
     short(Instruction::DataProcessing(DataProcessing::CompareImmediate(CompareImmediate {
         operation: Comparison::Compare,
         first: n,
-        second: number(value),
+        second: plain_immediate(value),
     })))
 }

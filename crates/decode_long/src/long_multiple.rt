@@ -69,7 +69,7 @@ fn store_list_wide(n: Register, list: u16, order: ListOrder, write_back: bool) -
     unless(
         has_few(list),
         BlockPlace::Anywhere,
-        UnpredictableCase::ShortList,
+        UnpredictableCase::FewRegisters,
         long_unless(refused, instruction),
     )
 }
@@ -92,5 +92,5 @@ fn load_list_wide(n: Register, list: u16, order: ListOrder, write_back: bool) ->
         },
     ));
     let allowed = placed_unless(refused, InstructionLength::Long, place, instruction);
-    unless(has_few(list), place, UnpredictableCase::ShortList, allowed)
+    unless(has_few(list), place, UnpredictableCase::FewRegisters, allowed)
 }

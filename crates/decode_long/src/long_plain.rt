@@ -9,7 +9,7 @@ ghost use Rattle.reference.specs.declared.instruction.BlockPlace.TheVariants.{An
 ghost use Rattle.reference.specs.declared.stop.UnpredictableCase.TheVariants.{BitField};
 
 use crate::long_immediate::is_refused_destination;
-use encodings::operands::{negated, number, shifted};
+use encodings::operands::{negated, plain_immediate, shifted};
 use encodings::outcomes::{is_bad, long, long_unless, unless, unless_refused};
 use encodings::rows;
 use reference::instruction::{BlockPlace, DataProcessing, Decoded, Instruction};
@@ -90,7 +90,7 @@ fn add_wide(operation: DataOperation, n: Register, d: Register, imm12: u16) -> D
         flags: FlagSetting::Never,
         destination: d,
         first: n,
-        second: number(imm12 as u32),
+        second: plain_immediate(imm12 as u32),
     }));
     long_unless(is_refused_destination(true, n, d), instruction)
 }
@@ -116,7 +116,7 @@ fn move_wide(d: Register, imm16: u16) -> Decoded
         operation: MoveOperation::Move,
         flags: FlagSetting::Never,
         destination: d,
-        source: number(imm16 as u32),
+        source: plain_immediate(imm16 as u32),
     }));
     long_unless(is_bad(d), instruction)
 }

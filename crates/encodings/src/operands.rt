@@ -3,7 +3,7 @@
 ghost use Rattle.std.specs.Prelude.{◌≡◌, ◌==◌, ◌<◌, ◌^◌};
 ghost use Rattle.reference.specs.LongImmediate.{operand_of};
 ghost use Rattle.reference.specs.LoadStore.{writes_back};
-ghost use Rattle.reference.specs.RowOperands.{unshifted, shifted_by_number, number, flags_if, at_offset, signed_offset, indexing_of, byte_or_halfword, hint_of};
+ghost use Rattle.reference.specs.RowOperands.{unshifted, shifted_by_number, plain_immediate, flags_if, at_offset, signed_offset, indexing_of, byte_or_halfword, hint_of};
 ghost use Rattle.reference.specs.ShortLoadStore.{is_above_lowest};
 ghost use Rattle.reference.specs.Words.{is_bit, negated, sign_extended};
 
@@ -43,10 +43,10 @@ pub fn sign_extend(bits: u8, number: u32) -> u32
     }
 }
 
-/// Returns a number that keeps the carry.
+/// Returns an immediate that leaves the carry flag as it is.
 #[inline]
-pub fn number(value: u32) -> Immediate
-    ensures { result ≡ number value }
+pub fn plain_immediate(value: u32) -> Immediate
+    ensures { result ≡ plain_immediate value }
 {
     Immediate { value, carry: None }
 }

@@ -7,23 +7,23 @@ use Rattle.reference.specs.declared.mpu.MpuRegister.TheVariants as register
 use Rattle.reference.specs.declared.mpu.MpuStop.{MpuStop}
 use Rattle.reference.specs.declared.mpu.MpuStop.TheVariants as stop
 use Rattle.reference.specs.declared.mpu.Region.{Region}
-use Rattle.reference.specs.Regions.{Mpu, IsSound, region, empty, fresh, write, write_base, left, selected, based}
+use Rattle.reference.specs.Regions.{Mpu, IsSound, region, empty, fresh, write, write_base, after_write, selected, based}
 use Rattle.reference.specs.Regions.{with_attributes, kept_attributes, is_accepted, is_on, is_on_below_zero}
 use Rattle.reference.specs.Words.{is_bit}
 use Rattle.mpu.proofs.Sound.{with_region-sound}
 
-left-taken : (m n : Mpu) (b : Bool) (why : MpuStop)
-    → IsSound m → (b ≡ true → IsSound n) → IsSound (left m (if b then Ok n else Err why))
-left-taken m n true why s t = t refl
-left-taken m n false why s t = s
+after-write-taken : (m n : Mpu) (b : Bool) (why : MpuStop)
+    → IsSound m → (b ≡ true → IsSound n) → IsSound (after_write m (if b then Ok n else Err why))
+after-write-taken m n true why s t = t refl
+after-write-taken m n false why s t = s
 
-left-stopped : (m n : Mpu) (b : Bool) (why : MpuStop)
-    → IsSound m → IsSound n → IsSound (left m (if b then Err why else Ok n))
-left-stopped m n true why s t = s
-left-stopped m n false why s t = t
+after-write-stopped : (m n : Mpu) (b : Bool) (why : MpuStop)
+    → IsSound m → IsSound n → IsSound (after_write m (if b then Err why else Ok n))
+after-write-stopped m n true why s t = s
+after-write-stopped m n false why s t = t
 
-selected-sound : (m : Mpu) (k : ℕ) → IsSound m → IsSound (left m (selected m k))
-selected-sound m k s = left-taken m (record m { number = k }) (nat_lt k m.count) stop.Region s (λ h. record {
+selected-sound : (m : Mpu) (k : ℕ) → IsSound m → IsSound (after_write m (selected m k))
+selected-sound m k s = after-write-taken m (record m { number = k }) (nat_lt k m.count) stop.Region s (λ h. record {
   count_known = s.count_known;
   number_within = ltb-true k m.count h;
   control_small = s.control_small;
@@ -32,26 +32,26 @@ selected-sound m k s = left-taken m (record m { number = k }) (nat_lt k m.count)
   taken = s.taken;
 })
 
-based-sound : (m : Mpu) (r : Result Mpu MpuStop) (value : ℕ) → IsSound m → IsSound (left m r)
-    → IsSound (left m (based r value))
+based-sound : (m : Mpu) (r : Result Mpu MpuStop) (value : ℕ) → IsSound m → IsSound (after_write m r)
+    → IsSound (after_write m (based r value))
 based-sound m (Ok n) value s t =
     with_region-sound n n.number (record (region n n.number) { base = value / 32 * 32 }) t (omega arith)
     (t.taken n.number)
 based-sound m (Err why) value s t = s
 
-write_base-sound : (m : Mpu) (value : ℕ) → IsSound m → IsSound (left m (write_base m value))
+write_base-sound : (m : Mpu) (value : ℕ) → IsSound m → IsSound (after_write m (write_base m value))
 write_base-sound m value s = based-sound m (if is_bit value 4 then selected m (value % 16) else Ok m) value s
     (lead (is_bit value 4))
   where
-    lead : (b : Bool) → IsSound (left m (if b then selected m (value % 16) else Ok m))
+    lead : (b : Bool) → IsSound (after_write m (if b then selected m (value % 16) else Ok m))
     lead true = selected-sound m (value % 16) s
     lead false = s
 
-pub sound_after_write : (m : Mpu) (r : MpuRegister) (value : ℕ) → IsSound m → IsSound (left m (write m r value))
+pub sound_after_write : (m : Mpu) (r : MpuRegister) (value : ℕ) → IsSound m → IsSound (after_write m (write m r value))
 unfolding write
 sound_after_write m register.Type value s = s
 sound_after_write m register.Control value s =
-    left-stopped m (record m { control = value % 8 }) (is_on_below_zero value && not (is_on value)) stop.Control s
+    after-write-stopped m (record m { control = value % 8 }) (is_on_below_zero value && not (is_on value)) stop.Control s
     (record {
       count_known = s.count_known;
       number_within = s.number_within;
@@ -63,7 +63,7 @@ sound_after_write m register.Control value s =
 sound_after_write m register.Number value s = selected-sound m (value % 256) s
 sound_after_write m register.Base value s = write_base-sound m value s
 sound_after_write m register.Attributes value s =
-    left-taken m (with_attributes m m.number (kept_attributes value)) (is_accepted (kept_attributes value)) stop.Region
+    after-write-taken m (with_attributes m m.number (kept_attributes value)) (is_accepted (kept_attributes value)) stop.Region
     s
     (λ h. with_region-sound m m.number (record (region m m.number) { attributes = kept_attributes value }) s
     (s.based m.number) h)

@@ -2,7 +2,7 @@
 //! function that does nothing.
 
 ghost use Rattle.std.specs.Prelude.{◌≡◌, ◌↔◌, ◌⊎◌, ℕ, Option};
-ghost use Rattle.reference.specs.Regions.{Mpu, IsSound, IsOwner, owner, fresh, write, left};
+ghost use Rattle.reference.specs.Regions.{Mpu, IsSound, IsOwner, owner, fresh, write, after_write};
 ghost use Rattle.reference.specs.Rules.{AccessQuery, IsFirstFit, decision_of};
 ghost use Rattle.reference.specs.declared.access.Decision.{Decision};
 ghost use Rattle.reference.specs.declared.mpu.MpuRegister.{MpuRegister};
@@ -11,7 +11,7 @@ ghost use Rattle.reference.specs.declared.mpu.MpuRegister.{MpuRegister};
 #[tactic(auto, using(crate::proofs::Writes::sound_at_reset, crate::proofs::Writes::sound_after_write))]
 pub fn registers_stay_sound()
     ensures reset { (count : ℕ) → (count ≡ 8) ⊎ (count ≡ 16) → IsSound (fresh count) }
-    ensures writes { (m : Mpu) (register : MpuRegister) (value : ℕ) → IsSound m → IsSound (left m (write m register value)) }
+    ensures writes { (m : Mpu) (register : MpuRegister) (value : ℕ) → IsSound m → IsSound (after_write m (write m register value)) }
 {}
 
 /// The owner of an address is exactly the enabled region of the greatest number that it lies in, or

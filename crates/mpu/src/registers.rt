@@ -2,7 +2,7 @@
 
 ghost use Rattle.std.specs.Prelude.{◌≡◌, ◌+◌, ◌%◌, ◌<◌, ◌≤◌, ◌⊎◌, true, IfSome};
 ghost use Rattle.mpu.specs.Spans.{BelongTo};
-ghost use Rattle.reference.specs.Regions.{fresh, read, write, left, answered, shown, region as region_of, with_region_base, with_attributes, selected, write_mpu_ctrl, write_base, based, write_attributes, is_accepted, owner, mpu_register_at, stop_of};
+ghost use Rattle.reference.specs.Regions.{fresh, read, write, after_write, answered, shown, region as region_of, with_region_base, with_attributes, selected, write_mpu_ctrl, write_base, based, write_attributes, is_accepted, owner, mpu_register_at, stop_of};
 
 use crate::regions::{is_accepted, is_bit, matches};
 use crate::spans::{Span, cut};
@@ -144,7 +144,7 @@ impl MpuRegs {
     /// Writes a register. Where the write stops by name, all registers are as they were.
     #[tactic(auto, unfolding(reference::specs::Regions::write))]
     pub fn write_reg(&mut self, register: MpuRegister, value: u32) -> Result<(), MpuStop>
-        ensures state { self.new ≡ left self.old (write self.old register value) }
+        ensures state { self.new ≡ after_write self.old (write self.old register value) }
         ensures answer { result ≡ answered (write self.old register value) }
     {
         match register {
@@ -158,7 +158,7 @@ impl MpuRegs {
 
     /// Writes MPU_CTRL; HFNMIENA without ENABLE stops.
     fn write_mpu_ctrl(&mut self, value: u32) -> Result<(), MpuStop>
-        ensures state { self.new ≡ left self.old (write_mpu_ctrl self.old value) }
+        ensures state { self.new ≡ after_write self.old (write_mpu_ctrl self.old value) }
         ensures answer { result ≡ answered (write_mpu_ctrl self.old value) }
     {
         if is_bit(value, HFNMIENA) && !is_bit(value, ENABLE) {
@@ -170,7 +170,7 @@ impl MpuRegs {
 
     /// Writes the number of an existing region to RNR, or refuses it.
     fn select(&mut self, number: u8) -> Result<(), MpuStop>
-        ensures state { self.new ≡ left self.old (selected self.old number) }
+        ensures state { self.new ≡ after_write self.old (selected self.old number) }
         ensures answer { result ≡ answered (selected self.old number) }
     {
         if number >= self.count {
@@ -182,7 +182,7 @@ impl MpuRegs {
 
     /// Writes RBAR; with VALID 1 the write selects its region first.
     fn write_base(&mut self, value: u32) -> Result<(), MpuStop>
-        ensures state { self.new ≡ left self.old (write_base self.old value) }
+        ensures state { self.new ≡ after_write self.old (write_base self.old value) }
         ensures answer { result ≡ answered (write_base self.old value) }
     {
         if is_bit(value, VALID) {
@@ -202,7 +202,7 @@ impl MpuRegs {
 
     /// Writes RASR.
     fn write_attributes(&mut self, value: u32) -> Result<(), MpuStop>
-        ensures state { self.new ≡ left self.old (write_attributes self.old value) }
+        ensures state { self.new ≡ after_write self.old (write_attributes self.old value) }
         ensures answer { result ≡ answered (write_attributes self.old value) }
     {
         let attributes = value & STORED;

@@ -14,7 +14,7 @@ use Rattle.reference.specs.Priorities.{with_group}
 use Rattle.reference.specs.Registers.{weighed}
 use Rattle.reference.specs.Words.{is_bit}
 
--- the registers' addresses
+-- the register at an address, if there is one
 unfoldable pub control_at : ℕ → Option ControlRegister
 control_at word =
     if word == 0xE000_ED00 then Some Cpuid

@@ -1,5 +1,5 @@
--- The instructions that compute (ARM DDI 0403, "Alphabetical list of ARMv7-M Thumb instructions"): which of them is a
--- fault, and what each leaves. None makes an access.
+-- The instructions that compute (ARM DDI 0403, "Alphabetical list of ARMv7-M Thumb instructions"): which of them
+-- faults, and what each leaves. None makes an access.
 use Rattle.std.specs.Prelude.{Bool, false, ◌&&◌, ◌==◌, if◌then◌else◌, List, [], Result, Ok, Err}
 use Rattle.reference.specs.declared.access.Request.{Request}
 use Rattle.reference.specs.declared.failure.Failure.{Failure}

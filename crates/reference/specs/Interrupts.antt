@@ -16,7 +16,7 @@ ictr n = (n.lines - 1) / 32
 
 -- ISER, ICER, ISPR, ICPR and IABR: eight words each, with a bit for each interrupt
 
--- the registers' addresses; word k of one is 4 * k bytes from its first
+-- the register at an address, if there is one; word k of a register is 4 * k bytes from its first
 unfoldable pub interrupts_at : ℕ → Option InterruptRegister
 interrupts_at word =
     let first = word / 32 * 32 in
@@ -50,8 +50,8 @@ shown_below n register x (suc bit) = shown_below n register x bit + weighed (is_
 unfoldable pub read_interrupts : Nvic → InterruptRegister → ℕ → ℕ
 read_interrupts n register k = shown_below n register (first_exception k) 32
 
--- what a 1 at exception x does. After a 1 of ICPR a line that stays high is not pended again before a deactivation
--- (profile)
+-- what a 1 written to the bit of exception x does. After a 1 written to its bit of ICPR, an interrupt whose line stays
+-- high becomes pending again only when it is deactivated (profile)
 unfoldable pub with_one : Nvic → InterruptRegister → ℕ → Nvic
 with_one n Iser x = with_enabled n x true
 with_one n Icer x = with_enabled n x false

@@ -103,7 +103,8 @@ pub record Invariant (s : State) : Type 0 where
 
 -- ---- the board that it needs
 
--- a board whose flash and whose numbers of lines and regions are in range, and whose script is one of its lines
+-- a board whose flash, number of lines and number of regions are in range, and whose script is sorted and names only
+-- lines that the board has
 pub record IsBoard (board : Described) : Type 0 where
   pub flash : is_flash board.numbers.flash_base board.numbers.flash_size ≡ true
   pub lines : is_line_count board.numbers.lines ≡ true

@@ -97,7 +97,7 @@ mrs_t1 = record {
   gives = λ f. move_from_special_row f.d f.s;
 }
 
--- The hints of 32 bits, encoding T2
+-- The hints of 32 bits, encoding T2, and DBG, encoding T1
 abbrev pub nop_t2 : Row
 nop_t2 = record {
   places = unspaced (codes "11110 0 1110 10 oooo 10 z 0 z 000 hhhhhhhh");

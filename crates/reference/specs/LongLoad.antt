@@ -77,7 +77,7 @@ memory_hint_indexed_row half m = unless (is_bad m) place.Anywhere cause.Register
 
 -- ---- the rows: of a byte or a halfword, then of a word
 
--- PLD and PLI (literal), encoding T1, and the hint of a halfword
+-- PLD (literal), encoding T1, PLI (literal), encoding T3, and the hint of a halfword
 abbrev pub pld_literal_t1 : Row
 pld_literal_t1 = record {
   places = unspaced (codes "1111100 x x 0s 1 1111 1111 xxxxxxxxxxxx");

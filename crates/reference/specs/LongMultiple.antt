@@ -21,14 +21,14 @@ has_few list = nat_lt (count_ones list) 2
 -- STM and STMDB: PC isn't a base, and a base that is stored isn't written back
 unfoldable pub store_list_wide_row : StoreMultiple → Decoded
 store_list_wide_row o =
-    unless (has_few o.list) place.Anywhere cause.ShortList
+    unless (has_few o.list) place.Anywhere cause.FewRegisters
     (unless (o.base == 15 || o.write_back && is_bit o.list o.base) place.Anywhere cause.Registers
     (long (LoadStoreMultiple (multiple.StoreMultiple o))))
 
 -- LDM and LDMDB: PC isn't a base, LR and PC aren't both loaded, and a base that is loaded isn't written back
 unfoldable pub load_list_wide_row : LoadMultiple → Decoded
 load_list_wide_row o =
-    unless (has_few o.list) (last_only_if (is_bit o.list 15)) cause.ShortList
+    unless (has_few o.list) (last_only_if (is_bit o.list 15)) cause.FewRegisters
     (unless (o.base == 15 || (is_bit o.list 15 && is_bit o.list 14 || o.write_back && is_bit o.list o.base))
     (last_only_if (is_bit o.list 15)) cause.Registers
     (placed Long (last_only_if (is_bit o.list 15)) (LoadStoreMultiple (multiple.LoadMultiple o))))

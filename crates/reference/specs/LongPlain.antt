@@ -14,7 +14,7 @@ use Rattle.reference.specs.declared.operands.Saturate.{Saturate}
 use Rattle.reference.specs.declared.stop.UnpredictableCase.TheVariants as cause
 use Rattle.reference.specs.LongImmediate.{is_refused_destination}
 use Rattle.reference.specs.Patterns.{unspaced}
-use Rattle.reference.specs.RowOperands.{number, shifted_by_number}
+use Rattle.reference.specs.RowOperands.{plain_immediate, shifted_by_number}
 use Rattle.reference.specs.Rows.{Row, long, unless, is_bad}
 use Rattle.reference.specs.Words.{negated}
 
@@ -27,7 +27,7 @@ add_wide_row operation n d imm12 =
       flags = flags.Never;
       destination = d;
       first = n;
-      second = number imm12;
+      second = plain_immediate imm12;
     }))))
 
 -- ADR
@@ -45,7 +45,7 @@ unfoldable pub move_wide_row : ℕ → ℕ → Decoded
 move_wide_row d imm16 =
     unless (is_bad d) place.Anywhere cause.Registers
     (long (DataProcessing (processing.MoveImmediate
-    (record { operation = Move; flags = flags.Never; destination = d; source = number imm16 }))))
+    (record { operation = Move; flags = flags.Never; destination = d; source = plain_immediate imm16 }))))
 
 -- MOVT
 unfoldable pub move_top_row : ℕ → ℕ → Decoded

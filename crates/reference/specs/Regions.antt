@@ -68,7 +68,8 @@ region m k = slice_index_or m.regions k empty
 abbrev pub with_region : Mpu → ℕ → Region → Mpu
 with_region m k r = record m { regions = slice_set m.regions k r }
 
--- the registers after a reset, with this number of regions
+-- the registers after a reset, with this number of regions. MPU_RNR, MPU_RBAR and MPU_RASR, whose reset values are
+-- UNKNOWN, are 0 (profile)
 abbrev pub fresh : ℕ → Mpu
 fresh count = record { control = 0; number = 0; count = count; regions = replicate 16 empty }
 
@@ -159,9 +160,9 @@ write m register.Base value = write_base m value
 write m register.Attributes value = write_attributes m value
 
 -- a write that stops leaves the registers as they were
-abbrev pub left : Mpu → Result Mpu MpuStop → Mpu
-left m (Ok n) = n
-left m (Err why) = m
+abbrev pub after_write : Mpu → Result Mpu MpuStop → Mpu
+after_write m (Ok n) = n
+after_write m (Err why) = m
 
 -- the result of a write
 abbrev pub answered : Result Mpu MpuStop → Result (Unit {0}) MpuStop

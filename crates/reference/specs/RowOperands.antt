@@ -26,8 +26,8 @@ unfoldable pub shifted_by_number : ℕ → ℕ → ℕ → ShiftedRegister
 shifted_by_number m type imm5 = record { register = m; shift = decode_imm_shift type imm5 }
 
 -- an immediate that leaves the carry flag as it is
-abbrev pub number : ℕ → Immediate
-number value = record { value = value; carry = None }
+abbrev pub plain_immediate : ℕ → Immediate
+plain_immediate value = record { value = value; carry = None }
 
 -- S
 abbrev pub flags_if : Bool → FlagSetting

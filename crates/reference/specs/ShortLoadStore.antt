@@ -10,7 +10,7 @@ use Rattle.reference.specs.declared.instruction.LoadStore.TheVariants.{LoadImmed
 use Rattle.reference.specs.declared.instruction.LoadStore.TheVariants.{StoreImmediate, StoreRegister}
 use Rattle.reference.specs.declared.instruction.LoadStoreMultiple.TheVariants.{LoadMultiple, StoreMultiple}
 use Rattle.reference.specs.declared.operands.ListOrder.TheVariants.{IncrementAfter}
-use Rattle.reference.specs.declared.stop.UnpredictableCase.TheVariants.{ShortList, StoredBase}
+use Rattle.reference.specs.declared.stop.UnpredictableCase.TheVariants.{FewRegisters, StoredBase}
 use Rattle.reference.specs.Patterns.{unspaced}
 use Rattle.reference.specs.RowOperands.{at_offset}
 use Rattle.reference.specs.Rows.{Row, short, unless}
@@ -63,7 +63,7 @@ is_above_lowest n list = is_bit list n && not (list % 2 ^ n == 0)
 -- STM, which writes back always
 unfoldable pub store_list_row : ℕ → ℕ → Decoded
 store_list_row n list =
-    unless (list == 0) place.Anywhere ShortList
+    unless (list == 0) place.Anywhere FewRegisters
     (unless (is_above_lowest n list) place.Anywhere StoredBase
     (short (LoadStoreMultiple (StoreMultiple
     (record { base = n; list = list; order = IncrementAfter; write_back = true })))))
@@ -71,7 +71,7 @@ store_list_row n list =
 -- LDM, which writes back where the base isn't in the list
 unfoldable pub load_list_row : ℕ → ℕ → Decoded
 load_list_row n list =
-    unless (list == 0) place.Anywhere ShortList
+    unless (list == 0) place.Anywhere FewRegisters
     (short (LoadStoreMultiple (LoadMultiple
     (record { base = n; list = list; order = IncrementAfter; write_back = not (is_bit list n) }))))
 

@@ -19,9 +19,9 @@ use Rattle.reference.specs.declared.operands.ListOrder.TheVariants.{IncrementAft
 use Rattle.reference.specs.declared.operands.Rearrangement.{Rearrangement}
 use Rattle.reference.specs.declared.operands.Rearrangement.TheVariants.{ReverseWord, ReverseHalfwords}
 use Rattle.reference.specs.declared.operands.Rearrangement.TheVariants.{ReverseSignedHalfword}
-use Rattle.reference.specs.declared.stop.UnpredictableCase.TheVariants.{ShortList, ItBlock, Registers}
+use Rattle.reference.specs.declared.stop.UnpredictableCase.TheVariants.{FewRegisters, ItBlock, Registers}
 use Rattle.reference.specs.Patterns.{unspaced}
-use Rattle.reference.specs.RowOperands.{number, hint_of}
+use Rattle.reference.specs.RowOperands.{plain_immediate, hint_of}
 use Rattle.reference.specs.Rows.{Row, short, placed, last_only_if, unless}
 
 -- ADR: the offset counts words
@@ -36,7 +36,7 @@ sp_number_row operation d words =
       flags = flags.Never;
       destination = d;
       first = 13;
-      second = number (words * 4);
+      second = plain_immediate (words * 4);
     })))
 
 -- SXTB, SXTH, UXTB and UXTH
@@ -52,14 +52,14 @@ rearrange_row operation d m = short
 -- PUSH of registers from R0 to R7, and of LR
 unfoldable pub push_row : ℕ → ℕ → Decoded
 push_row lr list =
-    unless (lr * 2 ^ 14 + list == 0) place.Anywhere ShortList
+    unless (lr * 2 ^ 14 + list == 0) place.Anywhere FewRegisters
     (short (LoadStoreMultiple (StoreMultiple
     (record { base = 13; list = lr * 2 ^ 14 + list; order = DecrementBefore; write_back = true }))))
 
 -- POP of registers from R0 to R7, and of PC
 unfoldable pub pop_row : ℕ → ℕ → Decoded
 pop_row pc list =
-    unless (pc * 2 ^ 15 + list == 0) (last_only_if (pc == 1)) ShortList
+    unless (pc * 2 ^ 15 + list == 0) (last_only_if (pc == 1)) FewRegisters
     (placed Short (last_only_if (pc == 1))
     (LoadStoreMultiple (LoadMultiple
     (record { base = 13; list = pc * 2 ^ 15 + list; order = IncrementAfter; write_back = true }))))
@@ -85,7 +85,7 @@ breakpoint_row value = short (System (Breakpoint value))
 abbrev pub is_one_bit : ℕ → Bool
 is_one_bit mask = mask == 1 || mask == 2 || mask == 4 || mask == 8
 
--- IT: the condition 1111, and 1110 for more than one instruction, are UNPREDICTABLE
+-- IT: the condition 1111, and 1110 with more than one bit in the mask, are UNPREDICTABLE
 unfoldable pub if_then_row : ℕ → ℕ → Decoded
 if_then_row condition mask =
     unless (condition == 15 || condition == 14 && not (is_one_bit mask)) place.Never ItBlock

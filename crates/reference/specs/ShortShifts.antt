@@ -14,7 +14,7 @@ use Rattle.reference.specs.declared.operands.FlagSetting.TheVariants as flags
 use Rattle.reference.specs.declared.operands.MoveOperation.TheVariants.{Move}
 use Rattle.reference.specs.Arithmetic.{decode_imm_shift}
 use Rattle.reference.specs.Patterns.{unspaced}
-use Rattle.reference.specs.RowOperands.{unshifted, number}
+use Rattle.reference.specs.RowOperands.{unshifted, plain_immediate}
 use Rattle.reference.specs.Rows.{Row, short, placed}
 
 -- MOV of a low register, which sets N and Z always
@@ -57,19 +57,19 @@ data_number_row operation d n value =
       flags = flags.OutsideBlock;
       destination = d;
       first = n;
-      second = number value;
+      second = plain_immediate value;
     })))
 
 -- MOV of a number
 unfoldable pub move_number_row : ℕ → ℕ → Decoded
 move_number_row d value =
     short (DataProcessing (MoveImmediate
-    (record { operation = Move; flags = flags.OutsideBlock; destination = d; source = number value })))
+    (record { operation = Move; flags = flags.OutsideBlock; destination = d; source = plain_immediate value })))
 
 -- CMP with a number
 unfoldable pub compare_number_row : ℕ → ℕ → Decoded
 compare_number_row n value =
-    short (DataProcessing (CompareImmediate (record { operation = Compare; first = n; second = number value })))
+    short (DataProcessing (CompareImmediate (record { operation = Compare; first = n; second = plain_immediate value })))
 
 -- ---- the rows
 

@@ -20,7 +20,7 @@ pub record Status : Type 0 where
   pub mmfar : ℕ
   pub bfar : ℕ
 
--- the registers' addresses
+-- the register at an address, if there is one
 unfoldable pub status_at : ℕ → Option StatusRegister
 status_at word =
     if word == 0xE000_ED08 then Some Vtor

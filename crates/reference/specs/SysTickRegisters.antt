@@ -5,7 +5,7 @@ use Rattle.reference.specs.declared.system.SysTickRegister.{SysTickRegister}
 use Rattle.reference.specs.declared.system.SysTickRegister.TheVariants.{Csr, Rvr, Cvr}
 use Rattle.reference.specs.Time.{SysTick, csr, after_csr_read, with_csr, with_rvr, with_cvr_cleared}
 
--- the registers' addresses
+-- the register at an address, if there is one
 unfoldable pub systick_at : ℕ → Option SysTickRegister
 systick_at word =
     if word == 0xE000_E010 then Some Csr

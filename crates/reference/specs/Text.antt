@@ -25,7 +25,7 @@ use Rattle.reference.specs.declared.stop.Stop.{Stop}
 use Rattle.reference.specs.declared.stop.Stop.TheVariants.{StepLimit, Breakpoint, Lockup, Unpredictable, OutOfProfile}
 use Rattle.reference.specs.declared.stop.Stop.TheVariants.{ResetRequested}
 use Rattle.reference.specs.declared.stop.UnpredictableCase.{UnpredictableCase}
-use Rattle.reference.specs.declared.stop.UnpredictableCase.TheVariants.{Encoding, ItBlock, ShortList, Registers}
+use Rattle.reference.specs.declared.stop.UnpredictableCase.TheVariants.{Encoding, ItBlock, FewRegisters, Registers}
 use Rattle.reference.specs.declared.stop.UnpredictableCase.TheVariants.{StoredBase, Immediate, BitField}
 use Rattle.reference.specs.declared.stop.UnpredictableCase.TheVariants.{SpecialRegister, LoadPc, LiteralPc, MpuRegion}
 use Rattle.reference.specs.declared.stop.UnpredictableCase.TheVariants.{MpuControl, Icsr, ExceptionReturn, PoppedPc}
@@ -77,30 +77,30 @@ rule_text Background = codes "bg"
 rule_text NoRegion = codes "none"
 
 -- kind, address, size and privilege
-abbrev pub asked_text : Access → List ℕ
-asked_text a =
+abbrev pub access_text : Access → List ℕ
+access_text a =
     (((((kind_text a.kind ++ codes " ") ++ hex_word a.address) ++ codes " ") ++ decimal (bytes_in a.size)) ++ codes " ")
     ++ privilege_text a.privileged
 
 -- the access, what became of it, and the rule
-abbrev pub access_text : DecidedAccess → List ℕ
-access_text d =
-    (((asked_text d.access ++ codes " ") ++ outcome_text d.refused) ++ codes " ") ++ rule_text d.rule
+abbrev pub decided_text : DecidedAccess → List ℕ
+decided_text d =
+    (((access_text d.access ++ codes " ") ++ outcome_text d.refused) ++ codes " ") ++ rule_text d.rule
 
 -- the exception, CFSR and HFSR
 abbrev pub fault_text : RecordedFault → List ℕ
 fault_text f = (((decimal f.exception ++ codes " ") ++ hex_word f.cfsr) ++ codes " ") ++ hex_word f.hfsr
 
-abbrev pub happening_text : EventKind → List ℕ
-happening_text (Accessed a) = access_text a
-happening_text (ConsoleByte byte) = codes "O " ++ hex_byte byte
-happening_text (ReturnBegan exc_return) = codes "R " ++ hex_word exc_return
-happening_text (HandlerEntered exception) = codes "X " ++ decimal exception
-happening_text (FaultRecorded f) = codes "! " ++ fault_text f
+abbrev pub event_text : EventKind → List ℕ
+event_text (Accessed a) = decided_text a
+event_text (ConsoleByte byte) = codes "O " ++ hex_byte byte
+event_text (ReturnBegan exc_return) = codes "R " ++ hex_word exc_return
+event_text (HandlerEntered exception) = codes "X " ++ decimal exception
+event_text (FaultRecorded f) = codes "! " ++ fault_text f
 
 -- the line of an event
 unfoldable pub line : Event → List ℕ
-line e = ((decimal e.tick ++ codes " ") ++ happening_text e.what) ++ line_feed
+line e = ((decimal e.tick ++ codes " ") ++ event_text e.what) ++ line_feed
 
 -- the lines of events, one after another
 unfoldable pub lines : List Event → List ℕ
@@ -110,7 +110,7 @@ lines (e ∷ es) = line e ++ lines es
 abbrev pub unpredictable_text : UnpredictableCase → List ℕ
 unpredictable_text Encoding = codes "encoding"
 unpredictable_text ItBlock = codes "it-block"
-unpredictable_text ShortList = codes "empty-list"
+unpredictable_text FewRegisters = codes "empty-list"
 unpredictable_text Registers = codes "registers"
 unpredictable_text StoredBase = codes "stored-base"
 unpredictable_text Immediate = codes "immediate"

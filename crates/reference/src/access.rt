@@ -122,7 +122,7 @@ pub enum Rule {
     Region(u8),
     /// No region matches, and privileged code has the default map.
     Background,
-    /// No region matches, and there is no default map.
+    /// No region matches, and the code has no default map: it is unprivileged, or PRIVDEFENA is 0.
     NoRegion,
 }
 

@@ -26,8 +26,9 @@ pub enum UnpredictableCase {
     /// An instruction is in an IT block where it may not be.
     ItBlock,
     /// No register in a list of 16 bits, or fewer than two in one of 32 bits.
-    ShortList,
-    /// A register that the row doesn't allow there.
+    FewRegisters,
+    /// Operands that the row doesn't allow: most often a register; also CPS without I and F, and LDRD
+    /// (literal) with write-back.
     Registers,
     /// A base register is stored that isn't the lowest of the list: the value stored is UNKNOWN.
     StoredBase,

@@ -23,7 +23,7 @@ use Rattle.reference.specs.SpecialRegisters.{faultmask_written, is_tighter, base
 use Rattle.reference.specs.SpecialRegisters.{change_state}
 use Rattle.reference.specs.System.{with_pended_at, with_pended_below, with_pended}
 use Rattle.reference.specs.Words.{is_bit}
-use Rattle.scs.specs.Writes.{left}
+use Rattle.scs.specs.Writes.{after_write}
 
 either : (test : Bool) (x y : Nvic) → IsOfBoard x → IsOfBoard y → IsOfBoard (if test then x else y)
 either true x y first second = first
@@ -31,7 +31,7 @@ either false x y first second = second
 
 -- the exceptions that a write leaves, whether it stops or not
 abbrev LeavesBoard : Nvic → Result Nvic Stop → Type 0
-LeavesBoard n made = IsOfBoard (left n made)
+LeavesBoard n made = IsOfBoard (after_write n made)
 
 either_made : (n : Nvic) (test : Bool) (x y : Result Nvic Stop) → LeavesBoard n x → LeavesBoard n y
     → LeavesBoard n (if test then x else y)

@@ -18,7 +18,7 @@ use Rattle.reference.specs.Control.{write_control}
 use Rattle.reference.specs.Handlers.{write_shcsr}
 use Rattle.reference.specs.Kinds.{bytes_in, is_load, is_store}
 use Rattle.reference.specs.Priorities.{Nvic, with_active}
-use Rattle.reference.specs.Regions.{Mpu, IsSound as IsSoundMpu, left as left_mpu, write as write_mpu}
+use Rattle.reference.specs.Regions.{Mpu, IsSound as IsSoundMpu, after_write as after_mpu_write, write as write_mpu}
 use Rattle.reference.specs.Status.{Status, write_status}
 use Rattle.reference.specs.System.{System, SystemAnswer, replied, with_nvic, with_systick, nvic_written, status_written}
 use Rattle.reference.specs.System.{mpu_written, in_place, first_byte, has_access, has_width, after_read, written}
@@ -28,7 +28,7 @@ use Rattle.reference.specs.SysTickRegisters.{after_systick_read, write_systick}
 use Rattle.reference.specs.Time.{SysTick, next_current, tick_pends, after_tick as time_after_tick}
 use Rattle.scs.proofs.Boards.{interrupts, priorities, trigger, control, shcsr, pended}
 use Rattle.scs.specs.Laws.{IsSound}
-use Rattle.scs.specs.Writes.{left}
+use Rattle.scs.specs.Writes.{after_write}
 
 either : (test : Bool) (x y : System) → IsSound x → IsSound y → IsSound (if test then x else y)
 either true x y first second = first
@@ -55,12 +55,12 @@ systick_changed s t h reload current = record {
   script = h.script;
 }
 
-nvic_left : (s : System) (made : Result Nvic Stop) → IsSound s → IsOfBoard (left s.nvic made)
-    → IsSound (left s (nvic_written s made))
+nvic_left : (s : System) (made : Result Nvic Stop) → IsSound s → IsOfBoard (after_write s.nvic made)
+    → IsSound (after_write s (nvic_written s made))
 nvic_left s (Ok n) h board = nvic_changed s n h board
 nvic_left s (Err why) h board = h
 
-status_left : (s : System) (made : Result Status Stop) → IsSound s → IsSound (left s (status_written s made))
+status_left : (s : System) (made : Result Status Stop) → IsSound s → IsSound (after_write s (status_written s made))
 status_left s (Ok st) h = record {
   mpu = h.mpu;
   nvic = h.nvic;
@@ -70,8 +70,8 @@ status_left s (Ok st) h = record {
 }
 status_left s (Err why) h = h
 
-mpu_left : (s : System) (made : Result Mpu MpuStop) → IsSound s → IsSoundMpu (left_mpu s.mpu made)
-    → IsSound (left s (mpu_written s made))
+mpu_left : (s : System) (made : Result Mpu MpuStop) → IsSound s → IsSoundMpu (after_mpu_write s.mpu made)
+    → IsSound (after_write s (mpu_written s made))
 mpu_left s (Ok m) h sound = record {
   mpu = sound;
   nvic = h.nvic;
@@ -110,7 +110,7 @@ systick_written s Csr value h = systick_changed s _ h h.reload h.current
 systick_written s Rvr value h = systick_changed s _ h (omega arith) h.current
 systick_written s Cvr value h = systick_changed s _ h h.reload (omega arith)
 
-written_sound : (s : System) (q : Request) (it : SystemRegister) → IsSound s → IsSound (left s (written s q it))
+written_sound : (s : System) (q : Request) (it : SystemRegister) → IsSound s → IsSound (after_write s (written s q it))
 unfolding written
 written_sound s q register.Ictr h = h
 written_sound s q (register.SysTick it) h = systick_written s it q.value h
@@ -127,7 +127,7 @@ written_sound s q (register.Mpu it) h =
 written_sound s q register.Stir h = nvic_changed s _ h (trigger s.nvic q.value h.nvic)
 written_sound s q register.Unlisted h = h
 
-replied_sound : (s : System) (made : Result System Stop) → IsSound (left s made) → IsSound (replied s made).system
+replied_sound : (s : System) (made : Result System Stop) → IsSound (after_write s made) → IsSound (replied s made).system
 replied_sound s (Ok after) h = h
 replied_sound s (Err why) h = h
 

@@ -3,9 +3,9 @@ use Rattle.std.specs.Prelude.{Result, Ok, Err}
 use Rattle.reference.specs.declared.stop.Stop.{Stop}
 
 -- a write that stops leaves the registers as they were
-abbrev pub left : {A : Type 0} → A → Result A Stop → A
-left old (Ok new) = new
-left old (Err why) = old
+abbrev pub after_write : {A : Type 0} → A → Result A Stop → A
+after_write old (Ok new) = new
+after_write old (Err why) = old
 
 -- the answer to a write
 abbrev pub answered : {A : Type 0} → Result A Stop → Result (Unit {0}) Stop

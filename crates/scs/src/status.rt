@@ -2,7 +2,7 @@
 
 ghost use Rattle.std.specs.Prelude.{◌≡◌};
 ghost use Rattle.reference.specs.Status.{has_parts as has_parts_of, status_at as status_at_of, reset_status, nonbasethrdena, usersetmpend, unalign_trp, div_0_trp, read_status, write_status, write_scr, write_ccr, with_fault_bits, with_mmfar, with_bfar};
-ghost use Rattle.scs.specs.Writes.{left, answered};
+ghost use Rattle.scs.specs.Writes.{after_write, answered};
 
 use crate::bits::is_bit;
 use reference::stop::{LeftOut, Stop};
@@ -159,7 +159,7 @@ impl Status {
     /// Writes a word to a register; a write that stops by name leaves the registers as they were.
     #[tactic(auto, unfolding(reference::specs::Status::write_status))]
     pub fn write(&mut self, register: StatusRegister, value: u32) -> Result<(), Stop>
-        ensures state { self.new ≡ left self.old (write_status self.old register value) }
+        ensures state { self.new ≡ after_write self.old (write_status self.old register value) }
         ensures answer { result ≡ answered (write_status self.old register value) }
     {
         match register {
@@ -176,7 +176,7 @@ impl Status {
 
     /// Writes SCR; SLEEPONEXIT stops.
     fn write_scr(&mut self, value: u32) -> Result<(), Stop>
-        ensures state { self.new ≡ left self.old (write_scr self.old value) }
+        ensures state { self.new ≡ after_write self.old (write_scr self.old value) }
         ensures answer { result ≡ answered (write_scr self.old value) }
     {
         if is_bit(value, 1) {
@@ -188,7 +188,7 @@ impl Status {
 
     /// Writes CCR; BFHFNMIGN stops.
     fn write_ccr(&mut self, value: u32) -> Result<(), Stop>
-        ensures state { self.new ≡ left self.old (write_ccr self.old value) }
+        ensures state { self.new ≡ after_write self.old (write_ccr self.old value) }
         ensures answer { result ≡ answered (write_ccr self.old value) }
     {
         if is_bit(value, 8) {

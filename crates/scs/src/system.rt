@@ -12,7 +12,7 @@ ghost use Rattle.reference.specs.Registers.{is_privileged};
 ghost use Rattle.reference.specs.Rules.{decision_of};
 ghost use Rattle.reference.specs.SpecialRegisters.{read_special as read_special_of, write_special as write_special_of, write_mask as write_mask_of, change_state as change_state_of, with_special, with_mask};
 ghost use Rattle.reference.specs.Status.{with_fault_bits, with_mmfar, with_bfar};
-ghost use Rattle.scs.specs.Writes.{left, answered};
+ghost use Rattle.scs.specs.Writes.{after_write, answered};
 
 use crate::addresses::{first_byte, has_width, in_place, part_of, register_at};
 use crate::control::{read_control, write_control};
@@ -357,7 +357,7 @@ impl<D: Decider, L: Levels, U: DueTicks> System<D, L, U> {
     /// Writes a register; a write that stops changes nothing.
     #[tactic(auto, unfolding(reference::specs::System::written))]
     fn write(&mut self, request: &Request, register: SystemRegister) -> Result<(), Stop>
-        ensures system { self.new ≡ left self.old (written self.old request.now register) }
+        ensures system { self.new ≡ after_write self.old (written self.old request.now register) }
         ensures answer { result ≡ answered (written self.old request.now register) }
     {
         let value = request.value;
@@ -396,7 +396,7 @@ impl<D: Decider, L: Levels, U: DueTicks> System<D, L, U> {
 
     /// Writes a register of the MPU, and reloads the decider.
     fn write_mpu(&mut self, register: MpuRegister, value: u32) -> Result<(), Stop>
-        ensures system { self.new ≡ left self.old (mpu_written self.old (write_mpu_of self.old.mpu register value)) }
+        ensures system { self.new ≡ after_write self.old (mpu_written self.old (write_mpu_of self.old.mpu register value)) }
         ensures answer { result ≡ answered (mpu_written self.old (write_mpu_of self.old.mpu register value)) }
     {
         match self.mpu.write_reg(register, value) {

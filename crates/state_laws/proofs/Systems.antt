@@ -13,7 +13,7 @@ use Rattle.reference.specs.ExceptionEntry.{activated}
 use Rattle.reference.specs.ExceptionReturn.{exception_ended}
 use Rattle.reference.specs.Kinds.{bytes_in, is_load, is_store}
 use Rattle.reference.specs.Priorities.{Nvic, with_pending, with_active}
-use Rattle.reference.specs.Regions.{Mpu, IsSound, left, write as write_mpu}
+use Rattle.reference.specs.Regions.{Mpu, IsSound, after_write, write as write_mpu}
 use Rattle.reference.specs.SpecialRegisters.{with_mask, write_mask, change_state}
 use Rattle.reference.specs.Status.{Status, write_status}
 use Rattle.reference.specs.System.{System, SystemAnswer, replied, with_nvic, nvic_written, status_written, mpu_written}
@@ -52,7 +52,7 @@ status_done : (lines bits : ℕ) (s : System) (r : Result Status Stop) → IsWho
 status_done lines bits s (Ok st) h = status_whole lines bits s st h
 status_done lines bits s (Err why) h = tt
 
-mpu_done : (lines bits : ℕ) (s : System) (r : Result Mpu MpuStop) → IsWhole lines bits s → IsSound (left s.mpu r) →
+mpu_done : (lines bits : ℕ) (s : System) (r : Result Mpu MpuStop) → IsWhole lines bits s → IsSound (after_write s.mpu r) →
     IfDone (IsWhole lines bits) (mpu_written s r)
 mpu_done lines bits s (Ok m) h new = record { nvic = h.nvic; time = h.time; mpu = new }
 mpu_done lines bits s (Err why) h new = tt

@@ -7,11 +7,11 @@ use Rattle.reference.specs.declared.access.Rule.{Rule}
 use Rattle.reference.specs.declared.access.Size.TheVariants.{Halfword}
 use Rattle.reference.specs.declared.event.EventKind.{EventKind}
 use Rattle.reference.specs.Kinds.{bytes_in}
-use Rattle.reference.specs.Text.{kind_text, hex_word, privilege_text, happening_text, line_feed}
+use Rattle.reference.specs.Text.{kind_text, hex_word, privilege_text, event_text, line_feed}
 
 -- all of a line but its tick
 unfoldable pub tail : EventKind → List ℕ
-tail what = codes " " ++ (happening_text what ++ line_feed)
+tail what = codes " " ++ (event_text what ++ line_feed)
 
 -- what has the same length in the line of each access: from the space after the tick to the one before the outcome
 unfoldable pub access_head : Access → List ℕ

@@ -52,7 +52,7 @@ pub(crate) fn unpredictable_word(case: UnpredictableCase) -> &'static [u8]
     match case {
         UnpredictableCase::Encoding => b"encoding",
         UnpredictableCase::ItBlock => b"it-block",
-        UnpredictableCase::ShortList => b"empty-list",
+        UnpredictableCase::FewRegisters => b"empty-list",
         UnpredictableCase::Registers => b"registers",
         UnpredictableCase::StoredBase => b"stored-base",
         UnpredictableCase::Immediate => b"immediate",
