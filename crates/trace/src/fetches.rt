@@ -4,6 +4,7 @@ ghost use Rattle.std.specs.Prelude.{◌≡◌, ◌+◌, ◌<◌, ◌≤◌, ◌+
 ghost use Rattle.reference.specs.declared.event.EventKind.TheVariants.{Accessed};
 ghost use Rattle.trace.specs.Tails.{fetch_done, tail};
 
+use crate::lines::TAIL_ROOM;
 use crate::page::Page;
 use reference::access::{Access, DecidedAccess, Kind, Rule, Size};
 
@@ -80,9 +81,9 @@ impl<const ROOM: usize> Page<ROOM> {
         privileged: bool,
         rule: Rule,
     )
-        requires { length self.old + 43 ≤ ROOM }
+        requires { length self.old + TAIL_ROOM ≤ ROOM }
         ensures text { self.new ≡ self.old ++ tail (Accessed (fetch_done address privileged rule)) }
-        ensures short { length self.new ≤ length self.old + 43 }
+        ensures short { length self.new ≤ length self.old + TAIL_ROOM }
     {
         match &tails.places[place_of(address)] {
             Some(kept) if kept.is_of(address, privileged, rule) => {
@@ -96,9 +97,9 @@ impl<const ROOM: usize> Page<ROOM> {
     #[cold]
     #[inline(never)]
     fn put_fetch_anew(&mut self, tails: &mut FetchTails, address: u32, privileged: bool, rule: Rule)
-        requires { length self.old + 43 ≤ ROOM }
+        requires { length self.old + TAIL_ROOM ≤ ROOM }
         ensures text { self.new ≡ self.old ++ tail (Accessed (fetch_done address privileged rule)) }
-        ensures short { length self.new ≤ length self.old + 43 }
+        ensures short { length self.new ≤ length self.old + TAIL_ROOM }
     {
         let mut line = Page::<64>::new();
         line.put_access(&fetch_done(address, privileged, rule));

@@ -15,7 +15,7 @@ use reference::event::{Event, EventKind, RecordedFault};
 use reference::stop::Stop;
 
 /// The most bytes after the tick of a line. A tick takes 21 bytes at most, so a line takes 64.
-const TAIL_ROOM: usize = 43;
+pub(crate) const TAIL_ROOM: usize = 43;
 
 /// The most bytes between the tick of an access and its rule.
 const HEAD_ROOM: usize = 20;
