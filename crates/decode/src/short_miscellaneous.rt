@@ -211,7 +211,7 @@ fn is_one_bit(mask: u8) -> bool
     mask == 1 || mask == 2 || mask == 4 || mask == 8
 }
 
-/// Returns IT: the condition 1111, and 1110 for more than one instruction, are UNPREDICTABLE.
+/// Returns IT: the condition 1111, and 1110 with more than one bit in the mask, are UNPREDICTABLE.
 #[tactic(auto, unfolding(reference::specs::ShortMiscellaneous::if_then_row))]
 fn if_then(condition: u8, mask: u8) -> Decoded
     ensures { result ≡ if_then_row condition mask }
