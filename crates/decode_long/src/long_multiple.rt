@@ -92,5 +92,10 @@ fn load_list_wide(n: Register, list: u16, order: ListOrder, write_back: bool) ->
         },
     ));
     let allowed = placed_unless(refused, InstructionLength::Long, place, instruction);
-    unless(has_few(list), place, UnpredictableCase::FewRegisters, allowed)
+    unless(
+        has_few(list),
+        place,
+        UnpredictableCase::FewRegisters,
+        allowed,
+    )
 }
