@@ -15,9 +15,10 @@ use std::alloc::Global;
 use std::io::Write;
 use std::str;
 
-/// Runs an image on a board for at most `steps` steps and writes its trace to `out`, or the refusal to
-/// `err`, the fault first and then its reason. Returns the exit status: 0 after all steps or at a
-/// breakpoint, 3 for a refused image or board, 4 at another stop, 5 where `out` failed.
+/// Runs an image on a board for at most `steps` steps and writes its trace to `out`, or the refusal
+/// to `err`, the fault first and then its reason. Returns the exit status: 0 after all steps or at
+/// a breakpoint, 3 for a refused image, board or start, or where memory runs out for the board or
+/// the machine, 4 at another stop, 5 where `out` failed.
 pub fn go<O: Out + Drop, E: Write>(
     alloc: Global,
     image: InputFile<'_>,
