@@ -13,7 +13,7 @@ NAMES = {
     "unpredictable empty-list": "a list without a register, or one of 32 bits with fewer than two, is UNPREDICTABLE",
     "unpredictable immediate": "ThumbExpandImm_C() of a byte 0 in the patterns 01, 10 and 11 is UNPREDICTABLE",
     "unpredictable bit-field": "a bit field whose msb is below its lsb, or that ends above bit 31, is UNPREDICTABLE",
-    "unpredictable it-block": "IT with firstcond 1111, or 1110 and more than one instruction, is UNPREDICTABLE",
+    "unpredictable it-block": "IT with firstcond 1111, or 1110 with more than one bit in the mask, is UNPREDICTABLE",
     "unpredictable special-register": "a special register or a mask that isn't in the table of MSR and MRS is UNPREDICTABLE",
     "unpredictable load-pc": "LDR to the PC from an address that isn't a multiple of 4 is UNPREDICTABLE",
     "unpredictable literal-pc": "LDRD (literal) where the PC isn't a multiple of 4 is UNPREDICTABLE",
