@@ -235,6 +235,11 @@ fn boards_are_refused_in_words(rt: HostRuntime) -> Result<(), Fail> {
     check_between(BOARDS, "\n\n", &mut Ends { rt: &rt })
 }
 
+/// Fails with a name unless a condition holds: an error, and no failed assertion, where memory ran out.
+fn holds(is_so: bool, name: &str) -> Result<(), Fail> {
+    if is_so { Ok(()) } else { Err(Fail::new(name)) }
+}
+
 #[test]
 fn too_many_events_are_counted(rt: HostRuntime) -> Result<(), Fail> {
     let mut board = Vec::new(rt.alloc());
@@ -247,8 +252,7 @@ fn too_many_events_are_counted(rt: HostRuntime) -> Result<(), Fail> {
     let ended = Ended::of(&rt, RUN_WORDS, &FIRST, board.as_slice(), NO_INPUT, 512)?;
     let err =
         b"marm: board 4 OutOfRange\n  board.toml: event has 65537 tables: it takes a list of at most 65536 tables, each written as [[event]]\n";
-    assert!(rt; ended.is(3, b"", err));
-    Ok(())
+    holds(ended.is(3, b"", err), "65537 events")
 }
 
 /// Arguments of which one isn't a text.
@@ -294,8 +298,9 @@ fn a_word_that_is_no_text_is_numbered(rt: HostRuntime) -> Result<(), Fail> {
         Ok(_) => 0,
         Err(error) => refuse_words(&error, &mut err),
     };
-    assert!(rt; status == 5);
     let text = b"marm: io\n  word 2 isn't a text in UTF-8 (the program's name is word 0)\n";
-    assert!(rt; err.text.as_slice() == text.as_slice());
-    Ok(())
+    holds(
+        status == 5 && err.text.as_slice() == text.as_slice(),
+        "word 2",
+    )
 }
