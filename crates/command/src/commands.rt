@@ -70,11 +70,11 @@ fn carry_out<R: Files + AllocGlobal, I: Read + Drop, W: Write + Drop, E: Write>(
 ) -> u8 {
     let image = match read_file(rt, request.image) {
         Ok(bytes) => bytes,
-        Err(fault) => return tell_file(request.image, &fault, err),
+        Err(fault) => return tell_file("IMAGE", request.image, &fault, err),
     };
     let board = match read_file(rt, request.board) {
         Ok(bytes) => bytes,
-        Err(fault) => return tell_file(request.board, &fault, err),
+        Err(fault) => return tell_file("--board", request.board, &fault, err),
     };
     let image = InputFile {
         path: request.image,
@@ -190,8 +190,8 @@ fn run_files<W: Write + Drop, E: Write, K: Ledger>(
     status
 }
 
-/// Writes why a file isn't read, and returns the status.
-fn tell_file<E: Write>(path: &str, fault: &FileFault, err: &mut E) -> u8
+/// Writes why the file of an argument isn't read, and returns the status.
+fn tell_file<E: Write>(argument: &str, path: &str, fault: &FileFault, err: &mut E) -> u8
     ensures { (result ≡ 3) ⊎ (result ≡ 5) }
 {
     match fault {
@@ -203,8 +203,18 @@ fn tell_file<E: Write>(path: &str, fault: &FileFault, err: &mut E) -> u8
             );
             status
         }
+        FileFault::Read(_) if path.is_empty() => tell_empty(argument, err),
         FileFault::Read(error) => tell_io(path, error, err),
     }
+}
+
+/// Writes that the path of an argument is empty, and returns the status.
+fn tell_empty<E: Write>(argument: &str, err: &mut E) -> u8
+    ensures { result ≡ 5 }
+{
+    let status = tell(Fault::Io, err);
+    let _ = writeln!(err, "  {argument}: the path is empty");
+    status
 }
 
 /// Writes why the arguments can't be read, and returns the status.
@@ -213,7 +223,7 @@ pub fn refuse_words<E: Write>(error: &io::Error, err: &mut E) -> u8
 {
     if matches!(error.kind(), io::ErrorKind::InvalidData) {
         let status = tell(Fault::Io, err);
-        let _ = writeln!(err, "  a word isn't a text in UTF-8");
+        let _ = writeln!(err, "  {error}");
         return status;
     }
     tell_io("the words", error, err)

@@ -4,18 +4,62 @@ ghost use Rattle.std.specs.Prelude.{◌≤◌, IfOk, vec_len};
 
 use std::io::Read;
 use std::rt::{Env, Files};
-use std::{env, fs, io};
+use std::{env, fs, io, str};
 
 /// The most bytes of a file: 16 MiB.
 const LIMIT: u64 = 0x100_0000;
 
-/// Returns all arguments, the program's name among them.
+/// The most bytes of a word whose place is found: 128 KiB, as Linux passes at most.
+const MOST_WORD_BYTES: usize = 0x2_0000;
+
+/// Returns all arguments, the program's name among them. The error for a word that isn't a text says
+/// which one it is.
 pub fn words<R: Env + AllocGlobal>(rt: &R) -> io::Result<Vec<String>> {
     let mut words = Vec::new(rt.alloc());
-    for word in env::args(rt)? {
+    let args = match env::args(rt) {
+        Ok(args) => args,
+        Err(error) => return Err(placed(rt, error)),
+    };
+    for word in args {
         words.push(word)?;
     }
     Ok(words)
+}
+
+/// Returns the error of arguments that can't be read, with the place of the word that isn't a text.
+fn placed<R: Env + AllocGlobal>(rt: &R, error: io::Error) -> io::Error {
+    if !matches!(error.kind(), io::ErrorKind::InvalidData) {
+        return error;
+    }
+    let said = match no_text(rt) {
+        Some(place) => {
+            format!(in rt.alloc();
+                "word {place} isn't a text in UTF-8 (the program's name is word 0)"
+            )
+        }
+        None => "a word isn't a text in UTF-8".to_string(rt.alloc()),
+    };
+    match said {
+        Ok(said) => io::Error::new(io::ErrorKind::InvalidData, said.as_str()),
+        Err(_) => error,
+    }
+}
+
+/// Returns the place of the first word that isn't a text: 0 for the program's name.
+fn no_text<R: Env + AllocGlobal>(rt: &R) -> Option<usize> {
+    let mut room = Vec::new(rt.alloc());
+    if room.resize(MOST_WORD_BYTES, 0u8).is_err() {
+        return None;
+    }
+    'words: for place in 0..usize::MAX {
+        let Ok(length) = rt.arg(place, room.as_mut_slice()) else {
+            return None;
+        };
+        if str::from_utf8(room.as_slice().get(..length)?).is_err() {
+            return Some(place);
+        }
+    }
+    None
 }
 
 /// A file that was read.

@@ -112,8 +112,8 @@ fn fault_of(alloc: Global, error: &Error) -> WordsFault {
         ErrorKind::DisplayVersion => WordsFault::Version(text),
         ErrorKind::ValueValidation => advised(text, STEPS_ADVICE),
         ErrorKind::InvalidSubcommand => advised(text, COMMANDS_ADVICE),
+        ErrorKind::UnknownArgument => advised_of_dash(text),
         ErrorKind::InvalidValue
-        | ErrorKind::UnknownArgument
         | ErrorKind::NoEquals
         | ErrorKind::TooManyValues
         | ErrorKind::TooFewValues
@@ -135,8 +135,31 @@ fn advised(text: String, advice: &str) -> WordsFault {
     }
 }
 
+/// Returns the fault of a word that isn't taken. `clap` says of one that begins with `-` that it can be
+/// a value, which is so for an image alone.
+fn advised_of_dash(text: String) -> WordsFault {
+    if text.as_str().contains(DASH_TIP) {
+        advised(text, DASH_ADVICE)
+    } else {
+        WordsFault::Wrong(text)
+    }
+}
+
+/// What `clap` says of a word that begins with `-`.
+const DASH_TIP: &str = "tip: to pass ";
+
+/// What to write in place of a word that begins with `-`.
+const DASH_ADVICE: &str = "\
+Only the options of the usage are taken.
+A file whose name begins with - is written with ./ before it.
+";
+
 /// What `--steps` takes: the one value that `clap` checks.
-const STEPS_ADVICE: &str = "--steps takes a decimal number from 0 to 4294967296.\n";
+pub const STEPS_ADVICE: &str = "--steps takes a decimal number from 0 to 4294967296.\n";
+
+/// What the help says of `--steps`.
+pub const STEPS_HELP: &str =
+    "The most steps (instructions, entries, idle ticks) to make, from 0 to 4294967296";
 
 /// The commands of the program.
 const COMMANDS_ADVICE: &str = "The commands are run, debug and help.\n";
@@ -184,6 +207,9 @@ Commands, one a line on standard input; numbers are decimal, or hexadecimal afte
                      shows the rule that would decide an access by privileged (p) or unprivileged (u)
                      code that reads, writes or executes, and whether the rule would grant it
   quit               ends the session, as the end of the input does
+
+Words are separated by exactly one space. A line ends with a line feed, without a carriage return, and
+has at most 80 bytes before it. The last line needs no line feed.
 
 Answers `error 1` (no such command, or another number of words), `error 2` (a word isn't allowed there)
 and `error 3` (16 breakpoints are set) change nothing.
@@ -239,14 +265,16 @@ fn board<'a>(alloc: Global) -> Arg<'a> {
         .action(ArgAction::Set)
 }
 
-/// Returns `--steps N`, from 0 to 4294967296.
+/// Returns `--steps N`, from 0 to 4294967296. A negative number is refused as its value, and not as an
+/// option.
 fn steps<'a>(alloc: Global) -> Arg<'a> {
     Arg::new(alloc, "steps")
         .long("steps")
         .value_name("N")
-        .help("The most steps (instructions, entries, idle ticks) to make, from 0 to 4294967296")
+        .help(STEPS_HELP)
         .required(true)
         .action(ArgAction::Set)
+        .allow_negative_numbers(true)
         .value_parser(ValueParser::unsigned(0, MOST_STEPS))
 }
 

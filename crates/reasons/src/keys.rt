@@ -10,6 +10,21 @@ pub struct Key {
     pub takes: &'static str,
 }
 
+/// The keys of a board.
+pub static BOARD_KEYS: [&str; 7] = [
+    "flash_base",
+    "flash_size",
+    "ram_size",
+    "priority_bits",
+    "lines",
+    "regions",
+    "event",
+];
+
+/// The keys of a board, as a message lists them.
+pub const BOARD_KEY_NAMES: &str =
+    "flash_base, flash_size, ram_size, priority_bits, lines, regions and event";
+
 pub const FLASH_BASE: Key = Key {
     name: "flash_base",
     takes: "a multiple of 1024, at least 0",
@@ -56,10 +71,8 @@ pub const AT: Key = Key {
     takes: "an integer from 1 to 281474976710656",
 };
 
-pub const LINE: Key = Key {
-    name: "line",
-    takes: "an integer from 0 to lines - 1",
-};
+/// The key of the line of an event: what it takes depends on the board.
+pub const LINE_NAME: &str = "line";
 
 pub const WHAT: Key = Key {
     name: "what",

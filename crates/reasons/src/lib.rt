@@ -10,6 +10,7 @@ mod settings;
 mod start;
 #[cfg(test)]
 mod tests;
+mod text;
 
 pub use image::write_image_reason;
 pub use settings::write_board_reason;

@@ -1,6 +1,7 @@
 //! What is wrong with a key, in the words of a message.
 
-use crate::keys::Key;
+use crate::keys::{EVENT, Key};
+use crate::text::{write_key, write_quoted};
 use std::io;
 use std::io::Write;
 use toml::Value;
@@ -12,8 +13,18 @@ pub enum Problem<'a> {
     Missing(Key),
     /// The value of a key isn't one that it takes.
     Value(Key, &'a Value),
+    /// The value of a key isn't of the type that it takes.
+    Kind(Key, &'a Value),
+    /// The value of a key that takes an integer isn't one.
+    Integer(Key, &'a Value),
+    /// The line of an event, None where it's missing, isn't one of the board's, and how many it has.
+    Line(Option<&'a Value>, i64),
+    /// There are this many events, which is too many.
+    Events(usize),
     /// A key isn't known, and which are.
     Unknown(&'a str, &'static str),
+    /// A key of the board is in an event.
+    Misplaced(&'a str),
     /// The tick of an event is below that of the event before it.
     Order(i64, i64),
     /// Flash at this base, with this size, ends too high.
@@ -27,32 +38,129 @@ pub fn write_problem<W: Write>(out: &mut W, problem: &Problem<'_>) -> io::Result
             let (name, takes) = (key.name, key.takes);
             writeln!(out, "the key {name} is missing: it takes {takes}")
         }
-        Problem::Value(key, value) => write_value(out, key, value),
-        Problem::Unknown(name, known) => writeln!(
-            out,
-            "{name} is no key here: the keys are {known}"
-        ),
-        Problem::Order(at, before) => {
-            writeln!(
-                out,
-                "at is {at}, and the event before it is at {before}: events come in the order of at"
-            )
+        Problem::Value(key, value) => write_range(out, key, value),
+        Problem::Kind(key, value) => write_kind(out, key, value),
+        Problem::Integer(key, value) => write_integer(out, key, value),
+        Problem::Line(value, lines) => write_line(out, value, lines),
+        Problem::Events(count) => {
+            let (name, takes) = (EVENT.name, EVENT.takes);
+            writeln!(out, "{name} has {count} tables: it takes {takes}")
         }
-        Problem::FlashEnd(base, size) => {
-            writeln!(
+        Problem::Unknown(name, known) => {
+            write_key(out, name)?;
+            writeln!(out, " is no key here: the keys are {known}")
+        }
+        Problem::Misplaced(name) => writeln!(
+            out,
+            "{name} is a key of the board: it stands before the first [[event]]"
+        ),
+        Problem::Order(at, before) => writeln!(
+            out,
+            "at is {at}, and the event before it is at {before}: events come in the order of at"
+        ),
+        Problem::FlashEnd(base, size) => writeln!(
+            out,
+            "flash_base is {base} and flash_size {size}: their sum is at most 536870912"
+        ),
+    }
+}
+
+/// Writes a value that its key doesn't take.
+fn write_range<W: Write>(out: &mut W, key: Key, value: &Value) -> io::Result<()> {
+    let (name, takes) = (key.name, key.takes);
+    write!(out, "{name} is ")?;
+    write_value(out, value)?;
+    writeln!(out, ": it takes {takes}")
+}
+
+/// Writes a value of a type that its key doesn't take.
+fn write_kind<W: Write>(out: &mut W, key: Key, value: &Value) -> io::Result<()> {
+    let (name, takes) = (key.name, key.takes);
+    write!(out, "{name} is ")?;
+    write_typed(out, value)?;
+    writeln!(out, ": it takes {takes}")
+}
+
+/// Writes a value that isn't an integer, of a key that takes one.
+fn write_integer<W: Write>(out: &mut W, key: Key, value: &Value) -> io::Result<()> {
+    let (name, takes) = (key.name, key.takes);
+    write!(out, "{name} is ")?;
+    write_typed(out, value)?;
+    write!(out, ": it takes {takes}")?;
+    write_form(out, value)
+}
+
+/// Writes what is wrong with the line of an event on a board of this many lines.
+fn write_line<W: Write>(out: &mut W, value: Option<&Value>, lines: i64) -> io::Result<()> {
+    match value {
+        None => write!(out, "the key line is missing")?,
+        Some(value) if value.is_integer() => write!(out, "line is {value}")?,
+        Some(value) => {
+            write!(out, "line is ")?;
+            write_typed(out, value)?;
+        }
+    }
+    write_line_range(out, lines)?;
+    match value {
+        Some(value) if lines > 0 => write_form(out, value),
+        Some(_) | None => writeln!(out),
+    }
+}
+
+/// Writes which line an event takes on a board of this many lines.
+fn write_line_range<W: Write>(out: &mut W, lines: i64) -> io::Result<()> {
+    match lines {
+        0 => write!(
+            out,
+            ", and the board has no lines: only NMI can have events (nmi = true)"
+        ),
+        1 => write!(out, ": it takes 0 (lines is 1)"),
+        _ => {
+            let last = lines.saturating_sub(1);
+            write!(
                 out,
-                "flash_base is {base} and flash_size {size}: their sum is at most 536870912"
+                ": it takes an integer from 0 to {last} (lines is {lines})"
             )
         }
     }
 }
 
-/// Writes a value that its key doesn't take. Of a list or a table its type alone is written.
-fn write_value<W: Write>(out: &mut W, key: Key, value: &Value) -> io::Result<()> {
-    let (name, takes) = (key.name, key.takes);
-    if value.is_array() || value.is_table() {
-        let kind = value.type_str();
-        return writeln!(out, "{name} is of the type {kind}: it takes {takes}");
+/// Ends the line of a value that isn't the integer that its key takes: says how an integer is written
+/// where the value may be meant as one.
+fn write_form<W: Write>(out: &mut W, value: &Value) -> io::Result<()> {
+    if value.is_float() || value.is_str() {
+        write!(out, "; an integer has no point and no quotes")?;
     }
-    writeln!(out, "{name} is {value}: it takes {takes}")
+    writeln!(out)
+}
+
+/// Writes a value and its type; of a list or a table its type alone.
+fn write_typed<W: Write>(out: &mut W, value: &Value) -> io::Result<()> {
+    let kind = kind_of(value);
+    if value.is_array() || value.is_table() {
+        return write!(out, "{kind}");
+    }
+    write_value(out, value)?;
+    write!(out, ", {kind}")
+}
+
+/// Writes a value, and a string with no control character in it.
+fn write_value<W: Write>(out: &mut W, value: &Value) -> io::Result<()> {
+    match value.as_str() {
+        Some(text) => write_quoted(out, text),
+        None => write!(out, "{value}"),
+    }
+}
+
+/// Returns the type of a value, with its article.
+fn kind_of(value: &Value) -> &'static str {
+    match value {
+        Value::String(_) => "a string",
+        Value::Integer(_) => "an integer",
+        Value::Float(_) => "a float",
+        Value::Boolean(_) => "a boolean",
+        Value::Datetime(_) => "a date or time",
+        Value::Array(_) => "an array",
+        Value::Table(_) => "a table",
+    }
 }

@@ -1,9 +1,10 @@
 //! Why a board is refused: the key or the event, its value, and what it takes.
 
-use crate::events::{EventProblem, events_problem};
+use crate::events::{EventProblem, event_with, events_problem};
 use crate::keys::{
-    FLASH_BASE, FLASH_SIZE, Key, LINES, PRIORITY_BITS, RAM_SIZE, REGIONS, is_flash_base,
-    is_flash_size, is_line_count, is_priority_bits, is_ram_size, is_region_count, is_size,
+    BOARD_KEY_NAMES, BOARD_KEYS, FLASH_BASE, FLASH_SIZE, Key, LINES, PRIORITY_BITS, RAM_SIZE,
+    REGIONS, is_flash_base, is_flash_size, is_line_count, is_priority_bits, is_ram_size,
+    is_region_count, is_size,
 };
 use crate::problem::{Problem, write_problem};
 use reference::fault::BoardFault;
@@ -45,8 +46,8 @@ fn write_document_reason<W: Write>(
         write_problem(out, &problem)?;
         return write_misplaced(out, document, &problem);
     }
-    if let Some(problem) = unknown(document, &BOARD_KEYS, BOARD_KEY_NAMES) {
-        return write_problem(out, &problem);
+    if let Some(name) = unknown(document, &BOARD_KEYS) {
+        return write_problem(out, &Problem::Unknown(name, BOARD_KEY_NAMES));
     }
     match events_problem(document) {
         Some(EventProblem { number: 0, problem }) => write_problem(out, &problem),
@@ -58,43 +59,39 @@ fn write_document_reason<W: Write>(
     }
 }
 
-/// Writes, after a missing key, the first key that isn't known: it may be the missing one misspelled, or
-/// the name of a table that the keys of the board are in.
+/// Writes, after a missing key of the board, where it may be: in an event, or misspelled, or in a table
+/// whose name is the first key that isn't known.
 fn write_misplaced<W: Write>(
     out: &mut W,
     document: &Table,
     problem: &Problem<'_>,
 ) -> io::Result<()> {
-    match *problem {
-        Problem::Missing(_) => {}
+    let missing = match *problem {
+        Problem::Missing(key) => key.name,
         Problem::Value(_, _)
+        | Problem::Kind(_, _)
+        | Problem::Integer(_, _)
+        | Problem::Line(_, _)
+        | Problem::Events(_)
         | Problem::Unknown(_, _)
+        | Problem::Misplaced(_)
         | Problem::Order(_, _)
         | Problem::FlashEnd(_, _) => return Ok(()),
+    };
+    if let Some(number) = event_with(document, missing) {
+        return writeln!(
+            out,
+            "  event {number} has it: keys of the board stand before the first [[event]]"
+        );
     }
-    match unknown(document, &BOARD_KEYS, BOARD_KEY_NAMES) {
-        Some(other) => {
+    match unknown(document, &BOARD_KEYS) {
+        Some(name) => {
             write!(out, "  ")?;
-            write_problem(out, &other)
+            write_problem(out, &Problem::Unknown(name, BOARD_KEY_NAMES))
         }
         None => Ok(()),
     }
 }
-
-/// The keys of a board.
-static BOARD_KEYS: [&str; 7] = [
-    "flash_base",
-    "flash_size",
-    "ram_size",
-    "priority_bits",
-    "lines",
-    "regions",
-    "event",
-];
-
-/// The keys of a board, as a message lists them.
-const BOARD_KEY_NAMES: &str =
-    "flash_base, flash_size, ram_size, priority_bits, lines, regions and event";
 
 /// Returns the line and the column of a byte of the file, both from 1.
 fn position(file: &[u8], at: usize) -> (usize, usize) {
@@ -116,7 +113,7 @@ pub fn integer<'a>(table: &'a Table, key: Key) -> Result<(i64, &'a Value), Probl
     match table.get(key.name) {
         None => Err(Problem::Missing(key)),
         Some(value) => match value.as_integer() {
-            None => Err(Problem::Value(key, value)),
+            None => Err(Problem::Integer(key, value)),
             Some(number) => Ok((number, value)),
         },
     }
@@ -178,17 +175,17 @@ fn regions_problem(document: &Table) -> Option<Problem<'_>> {
 }
 
 /// Returns the first key of a table that isn't known.
-pub fn unknown<'a>(table: &'a Table, known: &[&str], names: &'static str) -> Option<Problem<'a>> {
+pub fn unknown<'a>(table: &'a Table, known: &[&str]) -> Option<&'a str> {
     'members: for (key, _value) in table.iter() {
         if !is_known(known, key.as_str()) {
-            return Some(Problem::Unknown(key.as_str(), names));
+            return Some(key.as_str());
         }
     }
     None
 }
 
 /// Returns whether a key is one of these.
-fn is_known(known: &[&str], key: &str) -> bool {
+pub fn is_known(known: &[&str], key: &str) -> bool {
     'keys: for other in known {
         if key == *other {
             return true;

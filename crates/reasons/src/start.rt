@@ -19,8 +19,17 @@ pub fn write_start_reason<W: Write>(
             Some(header) => write_outside(out, &header, layout),
             None => writeln!(out, "{fault}"),
         },
-        StartFault::NoMemory => writeln!(out, "{fault}"),
+        StartFault::NoMemory => write_need(out, layout, fault),
     }
+}
+
+/// Writes how much memory a machine takes.
+fn write_need<W: Write>(out: &mut W, layout: &Layout, fault: StartFault) -> io::Result<()> {
+    let bytes = u64::from(layout.flash_size) + u64::from(layout.ram_size);
+    writeln!(
+        out,
+        "{fault}: flash and RAM take {bytes} bytes, and events and decoded instructions some more"
+    )
 }
 
 /// Returns the first segment that is neither wholly in flash nor wholly in RAM.

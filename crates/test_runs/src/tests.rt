@@ -1,5 +1,6 @@
 mod accesses;
 mod answers;
+mod board_messages;
 mod both;
 mod cut;
 mod elf_files;

@@ -154,6 +154,9 @@ out                      shows the rule that would decide an access by privilege
 out                      code that reads, writes or executes, and whether the rule would grant it
 out   quit               ends the session, as the end of the input does
 out
+out Words are separated by exactly one space. A line ends with a line feed, without a carriage return, and
+out has at most 80 bytes before it. The last line needs no line feed.
+out
 out Answers `error 1` (no such command, or another number of words), `error 2` (a word isn't allowed there)
 out and `error 3` (16 breakpoints are set) change nothing.
 out
@@ -195,6 +198,9 @@ out   explain <a> p|u r|w|x
 out                      shows the rule that would decide an access by privileged (p) or unprivileged (u)
 out                      code that reads, writes or executes, and whether the rule would grant it
 out   quit               ends the session, as the end of the input does
+out
+out Words are separated by exactly one space. A line ends with a line feed, without a carriage return, and
+out has at most 80 bytes before it. The last line needs no line feed.
 out
 out Answers `error 1` (no such command, or another number of words), `error 2` (a word isn't allowed there)
 out and `error 3` (16 breakpoints are set) change nothing.
@@ -244,6 +250,8 @@ err
 err Usage: marm run --board <FILE> --steps <N> <IMAGE>
 err
 err For more information, try '--help'.
+err Only the options of the usage are taken.
+err A file whose name begins with - is written with ./ before it.
 
 an option is missing
 words run --board board.toml image.elf
@@ -296,6 +304,60 @@ err
 err For more information, try '--help'.
 err --steps takes a decimal number from 0 to 4294967296.
 
+fewer than no steps
+words run --board board.toml --steps -1 image.elf
+ends 2
+err marm: usage
+err error: invalid value '-1' for '--steps <N>': invalid digit found in string
+err
+err For more information, try '--help'.
+err --steps takes a decimal number from 0 to 4294967296.
+
+a board whose name begins with a hyphen
+words run --board -x --steps 1 image.elf
+ends 2
+err marm: usage
+err error: unexpected argument '-x' found
+err
+err   tip: to pass '-x' as a value, use '-- -x'
+err
+err Usage: marm run --board <FILE> --steps <N> <IMAGE>
+err
+err For more information, try '--help'.
+err Only the options of the usage are taken.
+err A file whose name begins with - is written with ./ before it.
+
+an image whose name begins with a hyphen
+words run --board board.toml --steps 1 -1
+ends 2
+err marm: usage
+err error: unexpected argument '-1' found
+err
+err   tip: to pass '-1' as a value, use '-- -1'
+err
+err Usage: marm run --board <FILE> --steps <N> <IMAGE>
+err
+err For more information, try '--help'.
+err Only the options of the usage are taken.
+err A file whose name begins with - is written with ./ before it.
+
+files with their folder before their name
+words run --board ./board.toml --steps 0 ./image.elf
+ends 0
+out stop steps
+
+an empty path of the board
+words run --board '' --steps 1 image.elf
+ends 5
+err marm: io
+err   --board: the path is empty
+
+an empty path of the image
+words debug --board board.toml ''
+ends 5
+err marm: io
+err   IMAGE: the path is empty
+
 a file that is not there
 words run --board board.toml --steps 10 missing.elf
 ends 5
@@ -341,6 +403,8 @@ err
 err Usage: marm debug --board <FILE> <IMAGE>
 err
 err For more information, try '--help'.
+err Only the options of the usage are taken.
+err A file whose name begins with - is written with ./ before it.
 
 an option without its value
 words run --steps 10 image.elf --board

@@ -16,11 +16,11 @@ use std::{fs, io, str};
 use test_tables::{Rows, byte_at, check, check_between, number_at, part};
 
 /// The file examples/first.elf: MOV R0, #5 and BKPT 0 at address 8.
-static FIRST: [u8; 96] =
+pub(super) static FIRST: [u8; 96] =
     *b"\x7fELF\x01\x01\x01\0\0\0\0\0\0\0\0\0\x02\0\x28\0\x01\0\0\0\0\0\0\0\x34\0\0\0\0\0\0\0\0\0\0\x05\x34\0\x20\0\x01\0\0\0\0\0\0\0\x01\0\0\0\x54\0\0\0\0\0\0\0\0\0\0\0\x0c\0\0\0\x0c\0\0\0\x05\0\0\0\x04\0\0\0\0\x10\0\x20\x09\0\0\0\x05\x20\0\xbe";
 
 /// The small board: 4 KiB of flash at 0 and 8 KiB of RAM.
-const SMALL: &str =
+pub(super) const SMALL: &str =
     "flash_base = 0\nflash_size = 4096\nram_size = 8192\npriority_bits = 4\nlines = 8\n";
 
 /// The paths of the files of a case.
@@ -28,11 +28,14 @@ const IMAGE_PATH: &str = "image.elf";
 
 const BOARD_PATH: &str = "board.toml";
 
+/// An empty word, as it is written for a shell.
+const NO_WORD: &str = "''";
+
 /// Standard input without a byte.
-const NO_INPUT: &[u8] = b"";
+pub(super) const NO_INPUT: &[u8] = b"";
 
 /// The words of a case that has none of its own.
-const RUN_WORDS: &str = "run --board board.toml --steps 10 image.elf";
+pub(super) const RUN_WORDS: &str = "run --board board.toml --steps 10 image.elf";
 
 /// The words and files of a run of the program, and how it is to end.
 #[derive(Drop)]
@@ -142,7 +145,7 @@ impl Case {
 
 /// How the program ended: its status, and what it wrote.
 #[derive(Drop)]
-struct Ended {
+pub(super) struct Ended {
     status: u8,
     out: Cut,
     err: Cut,
@@ -150,7 +153,7 @@ struct Ended {
 
 impl Ended {
     /// Runs the program on files, with room for `room` bytes of standard output.
-    fn of<I: Read + Drop>(
+    pub(super) fn of<I: Read + Drop>(
         rt: &HostRuntime,
         words: &str,
         image: &[u8],
@@ -161,6 +164,7 @@ impl Ended {
         let mut given = Vec::new(rt.alloc());
         given.push("marm".to_string(rt.alloc())?)?;
         'words: for word in words.split_whitespace() {
+            let word = if word == NO_WORD { "" } else { word };
             given.push(word.to_string(rt.alloc())?)?;
         }
         fs::write(rt, IMAGE_PATH, image)?;
@@ -175,7 +179,7 @@ impl Ended {
 
     /// Returns whether it ended with this status, this on standard output and this on standard
     /// error.
-    fn is(&self, status: u8, out: &[u8], err: &[u8]) -> bool {
+    pub(super) fn is(&self, status: u8, out: &[u8], err: &[u8]) -> bool {
         self.status == status && self.out.text.as_slice() == out && self.err.text.as_slice() == err
     }
 }
@@ -352,7 +356,7 @@ a word in place of a number
 board flash_base = \"0\"
 ends 3
 err marm: board 3 WrongKind
-err   board.toml: flash_base is \"0\": it takes a multiple of 1024, at least 0
+err   board.toml: flash_base is \"0\", a string: it takes a multiple of 1024, at least 0; an integer has no point and no quotes
 
 an event on no line
 board flash_base = 0
@@ -366,7 +370,7 @@ board line = 0
 board what = \"rise\"
 ends 3
 err marm: board 4 OutOfRange
-err   board.toml: event 1: line is 0: it takes an integer from 0 to lines - 1
+err   board.toml: event 1: line is 0, and the board has no lines: only NMI can have events (nmi = true)
 
 events out of order
 board flash_base = 0
@@ -451,7 +455,7 @@ board ram_size = 8192
 board priority_bits = [4]
 ends 3
 err marm: board 3 WrongKind
-err   board.toml: priority_bits is of the type array: it takes an integer from 3 to 8
+err   board.toml: priority_bits is an array: it takes an integer from 3 to 8
 
 two bits of a priority
 board flash_base = 0
@@ -482,13 +486,13 @@ events that are no list
 with event = 1
 ends 3
 err marm: board 3 WrongKind
-err   board.toml: event is 1: it takes a list of at most 65536 tables, each written as [[event]]
+err   board.toml: event is 1, an integer: it takes a list of at most 65536 tables, each written as [[event]]
 
 an event that is no table
 with event = [1]
 ends 3
 err marm: board 3 WrongKind
-err   board.toml: event 1: event is 1: it takes a table, written as [[event]]
+err   board.toml: event 1: event is 1, an integer: it takes a table, written as [[event]]
 
 an event without a tick
 with [[event]]
@@ -510,7 +514,7 @@ with [[event]]
 with at = 1
 ends 3
 err marm: board 2 MissingKey
-err   board.toml: event 1: the key line is missing: it takes an integer from 0 to lines - 1
+err   board.toml: event 1: the key line is missing: it takes an integer from 0 to 7 (lines is 8)
 
 an event in which nothing happens
 with [[event]]
@@ -616,18 +620,12 @@ fn words_without_memory_are_io(rt: HostRuntime) {
     assert!(rt; err.text.as_slice() == line.as_slice());
 }
 
-/// Returns whether arguments that can't be read for this reason end in this line.
-fn are_refused(kind: io::ErrorKind, line: &[u8]) -> bool {
-    let mut err = Cut::whole();
-    refuse_words(&io::Error::from(kind), &mut err) == 5 && err.text.as_slice() == line
-}
-
 #[test]
 fn words_that_cannot_be_read_are_io(rt: HostRuntime) {
-    let text = b"marm: io\n  a word isn't a text in UTF-8\n";
-    assert!(rt; are_refused(io::ErrorKind::InvalidData, text));
-    let memory = b"marm: io\n  the words: out of memory\n";
-    assert!(rt; are_refused(io::ErrorKind::OutOfMemory, memory));
+    let mut err = Cut::whole();
+    let status = refuse_words(&io::Error::from(io::ErrorKind::OutOfMemory), &mut err);
+    assert!(rt; status == 5);
+    assert!(rt; err.text.as_slice() == b"marm: io\n  the words: out of memory\n".as_slice());
 }
 
 /// Returns whether the reason of a fault of the first image on the small board is this line.
@@ -657,7 +655,7 @@ fn files_without_memory_are_explained(rt: HostRuntime) {
         is_explained(
             rt.alloc(),
             Fault::Start(StartFault::NoMemory),
-            b"  image.elf: no memory was found for the machine\n"
+            b"  image.elf: no memory was found for the machine: flash and RAM take 12288 bytes, and events and decoded instructions some more\n"
         )
     );
 }
