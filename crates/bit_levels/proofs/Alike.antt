@@ -70,7 +70,8 @@ best_of_idle n x on off = best_below_idle n x on EXCEPTIONS off
 
 -- ---- the least priority of the active exceptions
 
-least_below_pending : (n : Nvic) (p : List Bool) (k : ℕ) → highest_active (record n { pending = p }) k ≡ highest_active n k
+least_below_pending : (n : Nvic) (p : List Bool) (k : ℕ)
+    → highest_active (record n { pending = p }) k ≡ highest_active n k
 unfolding highest_active
 least_below_pending n p zero = refl
 least_below_pending n p (suc k) = ap (raised_by n k) (least_below_pending n p k)
@@ -79,7 +80,8 @@ pub least_of_pending : (n : Nvic) (x : ℕ) (on : Bool)
     → highest_active (with_pending n x on) EXCEPTIONS ≡ highest_active n EXCEPTIONS
 least_of_pending n x on = least_below_pending n (with_member n.lines n.pending x on) EXCEPTIONS
 
-least_below_enabled : (n : Nvic) (e : List Bool) (k : ℕ) → highest_active (record n { enabled = e }) k ≡ highest_active n k
+least_below_enabled : (n : Nvic) (e : List Bool) (k : ℕ)
+    → highest_active (record n { enabled = e }) k ≡ highest_active n k
 unfolding highest_active
 least_below_enabled n e zero = refl
 least_below_enabled n e (suc k) = ap (raised_by n k) (least_below_enabled n e k)

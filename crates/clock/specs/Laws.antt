@@ -2,14 +2,14 @@
 use Rattle.std.specs.Prelude.{ℕ, zero, suc, ◌+◌, ◌-◌, ◌<◌, ◌≤◌, ◌≡◌, ◌⊎◌, true, false, ◌==◌, List, [], ◌∷◌}
 use Rattle.std.specs.List.{filter}
 use Rattle.reference.specs.declared.script.ScriptedEvent.{ScriptedEvent}
-use Rattle.reference.specs.Time.{Time, SysTick, after_tick, tick_pends, passed, counted, reaches_zero, due_of}
+use Rattle.reference.specs.Time.{Time, SysTick, time_after_tick, tick_pends, passed, counted, reaches_zero, due_of}
 use Rattle.reference.specs.Time.{due_count, events_at, events_after, last_tick}
 
 -- a tick before what is due changes the clock and the counter alone and pends nothing, and what is due stays so
 abbrev pub QuietBeforeDue : Time → Type 0
 QuietBeforeDue t =
     t.ticks + 1 < due_of t →
-    (after_tick t ≡ passed t) × ((n : ℕ) → tick_pends t n ≡ false) × (due_of (passed t) ≡ due_of t)
+    (time_after_tick t ≡ passed t) × ((n : ℕ) → tick_pends t n ≡ false) × (due_of (passed t) ≡ due_of t)
 
 -- in the tick that is due SysTick goes from 1 to 0, or an event applies
 abbrev pub HappensWhenDue : Time → Type 0

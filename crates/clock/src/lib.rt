@@ -4,7 +4,7 @@
 
 ghost use Rattle.std.specs.Prelude.{◌≡◌, ℕ, ◌+◌, ◌^◌, ◌<◌, ◌≤◌, true, false};
 ghost use Rattle.clock.specs.Kept.{IsRight, IsQuiet};
-ghost use Rattle.reference.specs.Time.{after_tick, counted, timer_pends, tick_pends, script_due, event_applies_next, passed, is_high, start_time, csr, after_csr_read, with_csr, with_rvr, with_cvr_cleared, IsSetOf};
+ghost use Rattle.reference.specs.Time.{time_after_tick, counted, timer_pends, tick_pends, script_due, event_applies_next, passed, is_high, start_time, csr, after_csr_read, with_csr, with_rvr, with_cvr_cleared, IsSetOf};
 
 mod ahead;
 mod due_ticks;
@@ -128,7 +128,7 @@ impl<U: DueTicks> Clock<U> {
     #[tactic(auto, using(crate::proofs::Quiet::right_tick, crate::proofs::Quiet::right_pends, crate::proofs::Quiet::right_stays))]
     pub fn tick(&mut self) -> Due
         requires { self.old.time.ticks < 2 ^ 48 }
-        ensures time { IsRight self.old → self.new.time ≡ after_tick self.old.time }
+        ensures time { IsRight self.old → self.new.time ≡ time_after_tick self.old.time }
         ensures due { IsRight self.old → IsSetOf result (tick_pends self.old.time) }
         ensures right { IsRight self.old → IsRight self.new }
         ensures passes { IsQuiet self.old → self.new ≡ record self.old { time = passed self.old.time } }
@@ -152,7 +152,7 @@ impl<U: DueTicks> Clock<U> {
     pub fn tick_quietly(&mut self) -> bool
         requires { self.old.time.ticks < 2 ^ 48 }
         ensures same { result ≡ false → self.new ≡ self.old }
-        ensures time { result ≡ true → IsRight self.old → self.new.time ≡ after_tick self.old.time }
+        ensures time { result ≡ true → IsRight self.old → self.new.time ≡ time_after_tick self.old.time }
         ensures quiet { result ≡ true → IsRight self.old → (number : ℕ) → tick_pends self.old.time number ≡ false }
         ensures right { IsRight self.old → IsRight self.new }
     {
@@ -170,7 +170,7 @@ impl<U: DueTicks> Clock<U> {
     fn pass(&mut self) -> Due
         requires bounded { self.old.time.ticks < 2 ^ 48 }
         requires quiet { event_applies_next self.old.time ≡ false }
-        ensures time { self.new.time ≡ after_tick self.old.time }
+        ensures time { self.new.time ≡ time_after_tick self.old.time }
         ensures due { IsSetOf result (tick_pends self.old.time) }
         ensures right { IsRight self.new }
     {
@@ -190,10 +190,10 @@ impl<U: DueTicks> Clock<U> {
     }
 
     /// Makes a tick in which events of the script may apply.
-    #[tactic(auto, unfolding(reference::specs::Time::after_tick))]
+    #[tactic(auto, unfolding(reference::specs::Time::time_after_tick))]
     fn count(&mut self)
         requires { self.old.time.ticks < 2 ^ 48 }
-        ensures time { self.new.time ≡ after_tick self.old.time }
+        ensures time { self.new.time ≡ time_after_tick self.old.time }
         ensures right { IsRight self.new }
     {
         let count = script::due_count(self.ticks + 1, &self.script[self.done..]);

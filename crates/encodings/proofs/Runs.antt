@@ -57,7 +57,8 @@ placed true x at before (run ∷ runs) =
 
 -- a field is the bits of its letter's runs, behind those that stood before
 joined_are : (letter : ℕ) (places : List ℕ) (x before : ℕ)
-    → joined_field letter places x before ≡ before * 2 ^ width_of (runs_of letter places) + joined_bits (runs_of letter places) x
+    → joined_field letter places x before
+    ≡ before * 2 ^ width_of (runs_of letter places) + joined_bits (runs_of letter places) x
 unfolding joined_field
 joined_are letter [] x before = omega arith
 joined_are letter (place ∷ places) x before =

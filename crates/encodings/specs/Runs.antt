@@ -30,7 +30,8 @@ width_of (run ∷ runs) = run.width + width_of runs
 abbrev pub joined_runs : List Run → ℕ → ℕ
 joined_runs [] x = 0
 joined_runs (run ∷ []) x = bits x run.low run.width
-joined_runs (run ∷ (next ∷ runs)) x = bits x run.low run.width * 2 ^ width_of (next ∷ runs) + joined_runs (next ∷ runs) x
+joined_runs (run ∷ (next ∷ runs)) x =
+    bits x run.low run.width * 2 ^ width_of (next ∷ runs) + joined_runs (next ∷ runs) x
 
 -- the field of a letter
 abbrev pub value_at : List ℕ → ℕ → ℕ → ℕ

@@ -54,7 +54,7 @@ pub fn plan(
 }
 
 /// Carries out a branch whose encoding has this length.
-#[inline]
+#[inline(always)]
 #[tactic(auto, unfolding(reference::specs::Branches::branch_effect))]
 pub fn finish(length: InstructionLength, branch: &Branch, regs: &mut Regs, values: &[u32]) -> Ending
     ensures { finished_as regs.new result ≡ branch_effect length branch.now regs.old values.now }

@@ -72,7 +72,7 @@ pub fn exchange(regs: &mut Regs, value: u32) -> Ending
 }
 
 /// Writes a loaded value to a register: `LoadWritePC(value)` for the PC.
-#[inline]
+#[inline(always)]
 pub fn load_into(regs: &mut Regs, length: InstructionLength, target: Register, value: u32) -> Ending
     ensures { finished_as regs.new result ≡ loads_into length target value regs.old }
 {

@@ -8,7 +8,7 @@ use Rattle.elf.specs.declared.image.Segment.{Segment as Lent}
 use Rattle.elf.specs.Segment.{segment_of}
 use Rattle.reference.specs.Images.{Segment}
 use Rattle.reference.specs.Memory.{Memory, is_in_flash, is_in_ram, is_within, overwritten, with_bytes}
-use Rattle.reference.specs.Start.{is_placed, are_placed, loaded}
+use Rattle.reference.specs.Start.{is_placed, are_placed, image_loaded}
 
 -- the segment at a place, and the later ones
 front : (segments : List Lent) (i : ℕ) (d : Lent) → i < length segments
@@ -36,8 +36,8 @@ pub next_placed : (m : Memory) (segments : List Lent) (i : ℕ) (d : Lent) → i
 next_placed m segments i d below placed = both_true _ _ (rw (front segments i d below) at placed)
 
 next_loaded : (m : Memory) (segments : List Lent) (i : ℕ) (d : Lent) → i < length segments
-    → loaded m (map segment_of (drop i segments))
-    ≡ loaded (overwritten m (get_or segments i d).address (get_or segments i d).bytes.now)
+    → image_loaded m (map segment_of (drop i segments))
+    ≡ image_loaded (overwritten m (get_or segments i d).address (get_or segments i d).bytes.now)
     (map segment_of (drop (i + 1) segments))
 next_loaded m segments i d below = rw (front segments i d below) refl
 
@@ -94,7 +94,7 @@ others_stay m segments i d below placed =
 
 -- what is still to be loaded when one is
 pub others_rest : (m : Memory) (first : Memory) (segments : List Lent) (i : ℕ) (d : Lent) → i < length segments
-    → loaded m (map segment_of (drop i segments)) ≡ first
-    → loaded (overwritten m (get_or segments i d).address (get_or segments i d).bytes.now)
+    → image_loaded m (map segment_of (drop i segments)) ≡ first
+    → image_loaded (overwritten m (get_or segments i d).address (get_or segments i d).bytes.now)
     (map segment_of (drop (i + 1) segments)) ≡ first
 others_rest m first segments i d below rest = sym (next_loaded m segments i d below) ∙ rest

@@ -4,7 +4,7 @@ ghost use Rattle.std.specs.Prelude.{◌≡◌, true, map};
 ghost use Rattle.board.specs.Seen.{described};
 ghost use Rattle.machine.specs.Starts.{StartsAt};
 ghost use Rattle.reference.specs.Boards.{numbers_of};
-ghost use Rattle.reference.specs.Start.{start, blank, are_placed, is_placed, loaded, vector};
+ghost use Rattle.reference.specs.Start.{start, blank, are_placed, is_placed, image_loaded, vector};
 ghost use Rattle.elf.specs.Segment.{segment_of};
 
 use crate::stepping::Processor;
@@ -81,7 +81,7 @@ fn is_placed(board: &Layout, segment: &Segment<'_>) -> bool
 /// Puts the segments into memory, in their order.
 fn load_segments(space: &mut Space, segments: &[Segment<'_>])
     requires { are_placed space.old (map segment_of segments.now) ≡ true }
-    ensures { space.new ≡ loaded space.old (map segment_of segments.now) }
+    ensures { space.new ≡ image_loaded space.old (map segment_of segments.now) }
 {
     'segments: for segment in segments {
         space.overwrite(segment.address, segment.bytes);

@@ -51,7 +51,8 @@ pub sound_after_write : (m : Mpu) (r : MpuRegister) (value : ℕ) → IsSound m 
 unfolding write
 sound_after_write m register.Type value s = s
 sound_after_write m register.Control value s =
-    after-write-stopped m (record m { control = value % 8 }) (is_on_below_zero value && not (is_on value)) stop.Control s
+    after-write-stopped m (record m { control = value % 8 }) (is_on_below_zero value && not (is_on value)) stop.Control
+    s
     (record {
       count_known = s.count_known;
       number_within = s.number_within;
@@ -63,8 +64,8 @@ sound_after_write m register.Control value s =
 sound_after_write m register.Number value s = selected-sound m (value % 256) s
 sound_after_write m register.Base value s = write_base-sound m value s
 sound_after_write m register.Attributes value s =
-    after-write-taken m (with_attributes m m.number (kept_attributes value)) (is_accepted (kept_attributes value)) stop.Region
-    s
+    after-write-taken m (with_attributes m m.number (kept_attributes value)) (is_accepted (kept_attributes value))
+    stop.Region s
     (λ h. with_region-sound m m.number (record (region m m.number) { attributes = kept_attributes value }) s
     (s.based m.number) h)
 

@@ -22,7 +22,8 @@ lessened_high n x p f g h = split (is_in n.active x) refl
         omega (arith, high, h)
     split false e = h
 
-active_high : (n : Nvic) (k : ℕ) → is_in n.active NMI ≡ false → is_in n.active HARD_FAULT ≡ false → 2 ≤ highest_active n k
+active_high : (n : Nvic) (k : ℕ) → is_in n.active NMI ≡ false → is_in n.active HARD_FAULT ≡ false
+    → 2 ≤ highest_active n k
 unfolding highest_active
 active_high n zero f g = omega arith
 active_high n (suc k) f g = lessened_high n k (highest_active n k) f g (active_high n k f g)

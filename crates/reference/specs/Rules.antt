@@ -79,7 +79,8 @@ permission_grants ap xn Probe privileged = may_write ap privileged
 
 -- what the attributes of a region grant
 abbrev pub grants : ℕ → Kind → Bool → Bool
-grants attributes kind privileged = permission_grants (permission attributes) (never_executes attributes) kind privileged
+grants attributes kind privileged =
+    permission_grants (permission attributes) (never_executes attributes) kind privileged
 
 -- The regions, and the rules after them
 

@@ -69,7 +69,11 @@ move_number_row d value =
 -- CMP with a number
 unfoldable pub compare_number_row : ℕ → ℕ → Decoded
 compare_number_row n value =
-    short (DataProcessing (CompareImmediate (record { operation = Compare; first = n; second = plain_immediate value })))
+    short (DataProcessing (CompareImmediate (record {
+      operation = Compare;
+      first = n;
+      second = plain_immediate value;
+    })))
 
 -- ---- the rows
 

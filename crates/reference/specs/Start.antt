@@ -25,9 +25,9 @@ abbrev pub is_placed : Memory → Segment → Bool
 is_placed m s = is_in_flash m s.address (length s.bytes) || is_in_ram m s.address (length s.bytes)
 
 -- memory with the segments in it, in their order
-abbrev pub loaded : Memory → List Segment → Memory
-loaded m [] = m
-loaded m (s ∷ segments) = loaded (overwritten m s.address s.bytes) segments
+abbrev pub image_loaded : Memory → List Segment → Memory
+image_loaded m [] = m
+image_loaded m (s ∷ segments) = image_loaded (overwritten m s.address s.bytes) segments
 
 abbrev pub are_placed : Memory → List Segment → Bool
 are_placed m [] = true
@@ -54,5 +54,5 @@ reset board m script = record {
 unfoldable pub start : Described → List Segment → Result State StartFault
 start board image =
     if are_placed (blank board.numbers) image
-    then Ok (reset board.numbers (loaded (blank board.numbers) image) board.script)
+    then Ok (reset board.numbers (image_loaded (blank board.numbers) image) board.script)
     else Err SegmentOutsideMemory

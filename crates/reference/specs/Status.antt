@@ -95,16 +95,16 @@ write_ccr st value =
     if is_bit value 8 then Err (OutOfProfile IgnoredBusFaults) else Ok (record st { ccr = ccr_of value })
 
 -- a word after a write of ones, each of which clears its bit
-abbrev pub cleared : ℕ → ℕ → ℕ
-cleared word ones = bit_and word (2 ^ 32 - 1 - ones)
+abbrev pub bits_cleared : ℕ → ℕ → ℕ
+bits_cleared word ones = bit_and word (2 ^ 32 - 1 - ones)
 
 -- the registers after a write of a word, or why it stops; VTOR keeps bits 31:7
 unfoldable pub write_status : Status → StatusRegister → ℕ → Result Status Stop
 write_status st Vtor value = Ok (record st { vtor = value / 2 ^ 7 * 2 ^ 7 })
 write_status st Scr value = write_scr st value
 write_status st Ccr value = write_ccr st value
-write_status st Cfsr value = Ok (record st { cfsr = cleared st.cfsr value })
-write_status st Hfsr value = Ok (record st { hfsr = cleared st.hfsr value })
+write_status st Cfsr value = Ok (record st { cfsr = bits_cleared st.cfsr value })
+write_status st Hfsr value = Ok (record st { hfsr = bits_cleared st.hfsr value })
 write_status st Mmfar value = Ok (record st { mmfar = value })
 write_status st Bfar value = Ok (record st { bfar = value })
 

@@ -25,7 +25,7 @@ use Rattle.reference.specs.Priorities.{Nvic, is_interrupt, with_pending, with_ac
 use Rattle.reference.specs.Regions.{Mpu, mpu_register_at, read as read_mpu, write as write_mpu, stop_of, fresh}
 use Rattle.reference.specs.Status.{Status, status_at, has_parts, usersetmpend, read_status, write_status, reset_status}
 use Rattle.reference.specs.SysTickRegisters.{systick_at, read_systick, after_systick_read, write_systick}
-use Rattle.reference.specs.Time.{Time, SysTick, start_time, is_high, tick_pends, after_tick as time_after_tick}
+use Rattle.reference.specs.Time.{Time, SysTick, start_time, is_high, tick_pends, time_after_tick}
 
 pub record System : Type 0 where
   pub mpu : Mpu
@@ -171,19 +171,19 @@ after_read s register.Stir = s
 after_read s register.Unlisted = s
 
 -- the state after a write to a register, or the named stop with which the write stops the machine
-unfoldable pub written : System → Request → SystemRegister → Result System Stop
-written s q register.Ictr = Ok s
-written s q (register.SysTick which) = Ok (with_systick s (write_systick s.time.systick which q.value))
-written s q (register.Interrupts which k) = Ok (with_nvic s (write_interrupts s.nvic which k q.value))
-written s q (register.Priorities first) =
+unfoldable pub register_written : System → Request → SystemRegister → Result System Stop
+register_written s q register.Ictr = Ok s
+register_written s q (register.SysTick which) = Ok (with_systick s (write_systick s.time.systick which q.value))
+register_written s q (register.Interrupts which k) = Ok (with_nvic s (write_interrupts s.nvic which k q.value))
+register_written s q (register.Priorities first) =
     Ok (with_nvic s (write_priorities s.nvic (first + first_byte q.access.size q.access.address) q.value
     (bytes_in q.access.size)))
-written s q (register.Control which) = nvic_written s (write_control s.nvic which q.value)
-written s q register.Shcsr = nvic_written s (write_shcsr s.nvic q.value)
-written s q (register.Status which) = status_written s (write_status s.status which (in_place q))
-written s q (register.Mpu which) = mpu_written s (write_mpu s.mpu which q.value)
-written s q register.Stir = Ok (with_nvic s (triggered s.nvic q.value))
-written s q register.Unlisted = Ok s
+register_written s q (register.Control which) = nvic_written s (write_control s.nvic which q.value)
+register_written s q register.Shcsr = nvic_written s (write_shcsr s.nvic q.value)
+register_written s q (register.Status which) = status_written s (write_status s.status which (in_place q))
+register_written s q (register.Mpu which) = mpu_written s (write_mpu s.mpu which q.value)
+register_written s q register.Stir = Ok (with_nvic s (triggered s.nvic q.value))
+register_written s q register.Unlisted = Ok s
 
 -- unprivileged code may store a word to STIR where CCR.USERSETMPEND is 1, and nothing else
 abbrev pub has_access : System → Request → Bool
@@ -196,7 +196,7 @@ unfoldable pub register_access : ℕ → System → Request → SystemRegister �
 register_access x s q which =
     if not (has_access s q) then errs s
     else if not (has_width which q.access.size) then stops s (OutOfProfile RegisterWidth)
-    else if is_store q.access.kind then replied s (written s q which)
+    else if is_store q.access.kind then replied s (register_written s q which)
     else replies (after_read s which) (part_of q (word_at x s which))
 
 -- an access to the Private Peripheral Bus while IPSR is x: the bus takes loads and stores alone; a push, a pop or a

@@ -117,8 +117,8 @@ is_high t line = slice_index_or t.high line false
 -- A tick
 
 -- time after the next tick: the clock goes on by one, SysTick counts, and then the tick's events apply in file order
-unfoldable pub after_tick : Time → Time
-after_tick t = record {
+unfoldable pub time_after_tick : Time → Time
+time_after_tick t = record {
   ticks = t.ticks + 1;
   systick = counted t.systick;
   high = with_events t.high (events_at (t.ticks + 1) t.script);

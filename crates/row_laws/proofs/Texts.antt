@@ -30,7 +30,8 @@ bits places x f = eqb-true (bit_and x (mask places)) (value places) (sym (bits_b
 abbrev excludes : List ℕ → List ℕ → Bool
 excludes text other = not (bit_and (value text) (mask other) == bit_and (value other) (mask text))
 
-excludes_fits : (text other : List ℕ) (x : ℕ) → excludes text other ≡ true → fits text x ≡ true → fits other x ≡ true → ⊥
+excludes_fits : (text other : List ℕ) (x : ℕ) → excludes text other ≡ true → fits text x ≡ true → fits other x ≡ true
+    → ⊥
 excludes_fits text other x e f g =
     let a = bits text x f in
     let b = bits other x g in
@@ -46,7 +47,8 @@ implied text other = bit_and (mask other) (mask text) == mask text && bit_and (v
 implied_fits : (text other : List ℕ) (x : ℕ) → implied text other ≡ true → fits other x ≡ true → fits text x ≡ true
 unfolding masked
 implied_fits text other x e f =
-    let (within, agree) = and_parts (bit_and (mask other) (mask text) == mask text) (bit_and (value other) (mask text) == value text) e in
+    let (within, agree) =
+    and_parts (bit_and (mask other) (mask text) == mask text) (bit_and (value other) (mask text) == value text) e in
     let same : bit_and x (mask text) ≡ value text =
     ap (λ m. bit_and x m) (sym (eqb-true _ _ within)) ∙ sym (and_assoc (mask text) x (mask other))
     ∙ ap (λ v. bit_and v (mask text)) (bits other x f) ∙ eqb-true _ _ agree in
@@ -118,18 +120,21 @@ all_have_places places rows e =
 
 -- whether two rows exclude one another, or one gives way
 abbrev pub are_settled : Row → Row → Bool
-are_settled one other = excludes one.places other.places || (yields one.except other.places || yields other.except one.places)
+are_settled one other =
+    excludes one.places other.places || (yields one.except other.places || yields other.except one.places)
 
 settled : (one other : Row) → are_settled one other ≡ true → (x : ℕ) → applies one x ≡ true → applies other x ≡ true → ⊥
 settled one other e x f g =
-    let more = met one other (yields one.except other.places || yields other.except one.places) x e (fits_of one x f) (fits_of other x g) in
+    let more = met one other (yields one.except other.places || yields other.except one.places) x e (fits_of one x f)
+    (fits_of other x g) in
     elim (or_cases (yields one.except other.places) (yields other.except one.places) more) [
       | inl here ↦ both_ways (applies one x) (yields_applies one other.places x here (fits_of other x g)) f
       | inr there ↦ both_ways (applies other x) (yields_applies other one.places x there (fits_of one x f)) g
     ]
 
 pub all_apart : (rows : List Row) → of_pairs are_settled rows ≡ true → AreApart rows
-all_apart rows e = each_pair (λ one other. (x : ℕ) → applies one x ≡ true → applies other x ≡ true → ⊥) are_settled rows settled e
+all_apart rows e =
+    each_pair (λ one other. (x : ℕ) → applies one x ≡ true → applies other x ≡ true → ⊥) are_settled rows settled e
 
 -- ---- the overlaps
 
@@ -138,12 +143,14 @@ abbrev pub is_listed : List Overlap → Row → Row → Bool
 is_listed overlaps one other =
     excludes one.places other.places || (has_overlap overlaps one other || has_overlap overlaps other one)
 
-pub all_listed : (overlaps : List Overlap) (rows : List Row) → of_pairs (is_listed overlaps) rows ≡ true → OverlapOnly overlaps rows
+pub all_listed : (overlaps : List Overlap) (rows : List Row) → of_pairs (is_listed overlaps) rows ≡ true
+    → OverlapOnly overlaps rows
 all_listed overlaps rows e =
     each_pair
     (λ one other. (x : ℕ) → fits one.places x ≡ true → fits other.places x ≡ true
     → (has_overlap overlaps one other || has_overlap overlaps other one) ≡ true)
-    (is_listed overlaps) rows (λ one other h x. met one other (has_overlap overlaps one other || has_overlap overlaps other one) x h) e
+    (is_listed overlaps) rows
+    (λ one other h x. met one other (has_overlap overlaps one other || has_overlap overlaps other one) x h) e
 
 -- a number with the ones of both texts
 abbrev common : Row → Row → ℕ
@@ -161,7 +168,10 @@ won winner row e =
     let (one, other) = and_parts (fits winner.places (common winner row)) (fits row.places (common winner row)) both in
     ((common winner row, one, other), λ x f. yields_applies row winner.places x taken f)
 
-pub all_won : (overlaps : List Overlap) → list_all (λ o. list_all (λ winner. is_won winner o.row) o.others) overlaps ≡ true → DoOverlap overlaps
+pub all_won : (overlaps : List Overlap)
+    → list_all (λ o. list_all (λ winner. is_won winner o.row) o.others) overlaps ≡ true → DoOverlap overlaps
 all_won overlaps e =
-    each_passes (λ o. All (λ winner. WinsOver winner o.row) o.others) (λ o. list_all (λ winner. is_won winner o.row) o.others) overlaps
-    (λ o h. each_passes (λ winner. WinsOver winner o.row) (λ winner. is_won winner o.row) o.others (λ winner w. won winner o.row w) h) e
+    each_passes (λ o. All (λ winner. WinsOver winner o.row) o.others)
+    (λ o. list_all (λ winner. is_won winner o.row) o.others) overlaps
+    (λ o h. each_passes (λ winner. WinsOver winner o.row) (λ winner. is_won winner o.row) o.others
+    (λ winner w. won winner o.row w) h) e

@@ -5,7 +5,7 @@ use Rattle.reference.specs.declared.stop.Stop.{Stop as Why}
 use Rattle.reference.specs.declared.system.SystemRegister.{SystemRegister}
 use Rattle.reference.specs.Answers.{LeavesUnlessDone}
 use Rattle.reference.specs.Kinds.{is_load, is_store}
-use Rattle.reference.specs.System.{System, SystemAnswer, replied, has_access, has_width, written, register_at}
+use Rattle.reference.specs.System.{System, SystemAnswer, replied, has_access, has_width, register_written, register_at}
 use Rattle.reference.specs.System.{register_access, system_access}
 
 abbrev Keeps : System → SystemAnswer → Type 0
@@ -24,7 +24,7 @@ unfolding register_access
 register_keeps x s q it =
     either s (not (has_access s q)) _ _ refl
     (either s (not (has_width it q.access.size)) _ _ refl
-    (either s (is_store q.access.kind) _ _ (replied_keeps s (written s q it)) tt))
+    (either s (is_store q.access.kind) _ _ (replied_keeps s (register_written s q it)) tt))
 
 -- an access that isn't carried out leaves the system as it was
 pub system_keeps : (x : ℕ) (s : System) (q : Request)

@@ -21,11 +21,11 @@ use Rattle.reference.specs.Priorities.{Nvic, with_active}
 use Rattle.reference.specs.Regions.{Mpu, IsSound as IsSoundMpu, after_write as after_mpu_write, write as write_mpu}
 use Rattle.reference.specs.Status.{Status, write_status}
 use Rattle.reference.specs.System.{System, SystemAnswer, replied, with_nvic, with_systick, nvic_written, status_written}
-use Rattle.reference.specs.System.{mpu_written, in_place, first_byte, has_access, has_width, after_read, written}
+use Rattle.reference.specs.System.{mpu_written, in_place, first_byte, has_access, has_width, after_read, register_written}
 use Rattle.reference.specs.System.{register_at, register_access, system_access, after_tick, reset_system, is_held}
 use Rattle.reference.specs.System.{deactivated}
 use Rattle.reference.specs.SysTickRegisters.{after_systick_read, write_systick}
-use Rattle.reference.specs.Time.{SysTick, next_current, tick_pends, after_tick as time_after_tick}
+use Rattle.reference.specs.Time.{SysTick, next_current, tick_pends, time_after_tick}
 use Rattle.scs.proofs.Boards.{interrupts, priorities, trigger, control, shcsr, pended}
 use Rattle.scs.specs.Laws.{IsSound}
 use Rattle.scs.specs.Writes.{after_write}
@@ -110,8 +110,9 @@ systick_written s Csr value h = systick_changed s _ h h.reload h.current
 systick_written s Rvr value h = systick_changed s _ h (omega arith) h.current
 systick_written s Cvr value h = systick_changed s _ h h.reload (omega arith)
 
-written_sound : (s : System) (q : Request) (it : SystemRegister) → IsSound s → IsSound (after_write s (written s q it))
-unfolding written
+written_sound : (s : System) (q : Request) (it : SystemRegister) → IsSound s
+    → IsSound (after_write s (register_written s q it))
+unfolding register_written
 written_sound s q register.Ictr h = h
 written_sound s q (register.SysTick it) h = systick_written s it q.value h
 written_sound s q (register.Interrupts it k) h = nvic_changed s _ h (interrupts s.nvic it k q.value h.nvic)
@@ -127,7 +128,8 @@ written_sound s q (register.Mpu it) h =
 written_sound s q register.Stir h = nvic_changed s _ h (trigger s.nvic q.value h.nvic)
 written_sound s q register.Unlisted h = h
 
-replied_sound : (s : System) (made : Result System Stop) → IsSound (after_write s made) → IsSound (replied s made).system
+replied_sound : (s : System) (made : Result System Stop) → IsSound (after_write s made)
+    → IsSound (replied s made).system
 replied_sound s (Ok after) h = h
 replied_sound s (Err why) h = h
 
@@ -143,7 +145,7 @@ register_sound x s q it h =
     either_replied (not (has_access s q)) _ _ h
     (either_replied (not (has_width it q.access.size)) _ _ h
     (either_replied (is_store q.access.kind) _ _
-    (replied_sound s (written s q it) (written_sound s q it h))
+    (replied_sound s (register_written s q it) (written_sound s q it h))
     (read_sound s it h)))
 
 pub access_sound : (x : ℕ) (s : System) (q : Request) → IsSound s → IsSound (system_access x s q).system

@@ -3,7 +3,7 @@
 ghost use Rattle.std.specs.Prelude.{◌≡◌, ◌+◌, ◌^◌, ◌<◌, ◌≤◌, ◌⊎◌, ℕ, true, false};
 ghost use Rattle.clock.specs.Kept.{IsRight};
 ghost use Rattle.reference.specs.Answers.{IsNarrow, LeavesUnlessDone};
-ghost use Rattle.reference.specs.System.{reset_system, after_tick, deactivated, is_held as is_held_of, has_access as is_allowed_of, word_at as word_at_of, after_read, written, register_access, system_access, with_nvic, mpu_written, first_byte as first_byte_of};
+ghost use Rattle.reference.specs.System.{reset_system, after_tick, deactivated, is_held as is_held_of, has_access as is_allowed_of, word_at as word_at_of, after_read, register_written, register_access, system_access, with_nvic, mpu_written, first_byte as first_byte_of};
 ghost use Rattle.reference.specs.Interrupts.{write_priorities as write_priorities_of};
 ghost use Rattle.reference.specs.Kinds.{bytes_in};
 ghost use Rattle.reference.specs.Regions.{shown, write as write_mpu_of};
@@ -355,10 +355,10 @@ impl<D: Decider, L: Levels, U: DueTicks> System<D, L, U> {
     }
 
     /// Writes a register; a write that stops changes nothing.
-    #[tactic(auto, unfolding(reference::specs::System::written))]
+    #[tactic(auto, unfolding(reference::specs::System::register_written))]
     fn write(&mut self, request: &Request, register: SystemRegister) -> Result<(), Stop>
-        ensures system { self.new ≡ after_write self.old (written self.old request.now register) }
-        ensures answer { result ≡ answered (written self.old request.now register) }
+        ensures system { self.new ≡ after_write self.old (register_written self.old request.now register) }
+        ensures answer { result ≡ answered (register_written self.old request.now register) }
     {
         let value = request.value;
         match register {

@@ -10,7 +10,7 @@ use Rattle.reference.specs.Kinds.{bytes_in, is_write}
 use Rattle.reference.specs.Map.{is_in_window}
 use Rattle.reference.specs.Memory.{Memory, is_in_flash, is_in_ram, bytes_of, overwritten}
 use Rattle.reference.specs.Space.{SpaceAnswer, written_to, space_access}
-use Rattle.reference.specs.Start.{blank, loaded}
+use Rattle.reference.specs.Start.{blank, image_loaded}
 use Rattle.state_laws.proofs.Nvic.{either}
 use Rattle.space.proofs.Blocks.{length-with_bytes}
 
@@ -43,11 +43,11 @@ blank_apart : (board : Numbers) → is_flash board.flash_base board.flash_size �
 blank_apart board fits =
     rw (length-replicate {A = ℕ} board.flash_size 0xFF) (apart_of board.flash_base board.flash_size fits)
 
-loaded_apart : (m : Memory) (image : List Segment) → FlashEndsBelowRam m → FlashEndsBelowRam (loaded m image)
+loaded_apart : (m : Memory) (image : List Segment) → FlashEndsBelowRam m → FlashEndsBelowRam (image_loaded m image)
 loaded_apart m [] h = h
 loaded_apart m (s ∷ segments) h =
     loaded_apart (overwritten m s.address s.bytes) segments (overwritten_apart m s.address s.bytes h)
 
 pub start_apart : (board : Numbers) (image : List Segment) → is_flash board.flash_base board.flash_size ≡ true →
-    FlashEndsBelowRam (loaded (blank board) image)
+    FlashEndsBelowRam (image_loaded (blank board) image)
 start_apart board image fits = loaded_apart (blank board) image (blank_apart board fits)

@@ -17,7 +17,7 @@ use Rattle.reference.specs.Regions.{Mpu, IsSound, after_write, write as write_mp
 use Rattle.reference.specs.SpecialRegisters.{with_mask, write_mask, change_state}
 use Rattle.reference.specs.Status.{Status, write_status}
 use Rattle.reference.specs.System.{System, SystemAnswer, replied, with_nvic, nvic_written, status_written, mpu_written}
-use Rattle.reference.specs.System.{first_byte, in_place, after_read, written, has_access, has_width, register_access}
+use Rattle.reference.specs.System.{first_byte, in_place, after_read, register_written, has_access, has_width, register_access}
 use Rattle.reference.specs.System.{system_access, register_at, after_tick, is_held, deactivated}
 use Rattle.reference.specs.SysTickRegisters.{after_systick_read, write_systick}
 use Rattle.reference.specs.Time.{last_tick, tick_pends}
@@ -52,14 +52,15 @@ status_done : (lines bits : ℕ) (s : System) (r : Result Status Stop) → IsWho
 status_done lines bits s (Ok st) h = status_whole lines bits s st h
 status_done lines bits s (Err why) h = tt
 
-mpu_done : (lines bits : ℕ) (s : System) (r : Result Mpu MpuStop) → IsWhole lines bits s → IsSound (after_write s.mpu r) →
+mpu_done : (lines bits : ℕ) (s : System) (r : Result Mpu MpuStop) → IsWhole lines bits s
+    → IsSound (after_write s.mpu r) →
     IfDone (IsWhole lines bits) (mpu_written s r)
 mpu_done lines bits s (Ok m) h new = record { nvic = h.nvic; time = h.time; mpu = new }
 mpu_done lines bits s (Err why) h new = tt
 
 written_whole : (lines bits : ℕ) (s : System) (q : Request) (it : SystemRegister) → IsWhole lines bits s →
-    IfDone (IsWhole lines bits) (written s q it)
-unfolding written
+    IfDone (IsWhole lines bits) (register_written s q it)
+unfolding register_written
 written_whole lines bits s q register.Ictr h = h
 written_whole lines bits s q (register.SysTick it) h = record {
   nvic = h.nvic;
@@ -123,7 +124,7 @@ register_whole lines bits x s q it h =
     either (IsWholeReply lines bits) (not (has_access s q)) _ _ (λ e. h)
     (λ e. either (IsWholeReply lines bits) (not (has_width it q.access.size)) _ _ (λ f. h)
     (λ f. either (IsWholeReply lines bits) (is_store q.access.kind) _ _
-    (λ g. replied_whole lines bits s (written s q it) h (written_whole lines bits s q it h))
+    (λ g. replied_whole lines bits s (register_written s q it) h (written_whole lines bits s q it h))
     (λ g. read_whole lines bits s it h)))
 
 pub access_whole : (lines bits x : ℕ) (s : System) (q : Request) → IsWhole lines bits s →

@@ -14,7 +14,7 @@ use Rattle.reference.specs.Boards.{IsScriptFrom}
 use Rattle.reference.specs.Invariant.{IsWithinClock, HasTimerBits, IsAhead}
 use Rattle.reference.specs.SysTickRegisters.{after_systick_read, write_systick}
 use Rattle.reference.specs.Time.{Time, SysTick, last_tick, counted, with_signal, with_events, events_at, due_count}
-use Rattle.reference.specs.Time.{events_after, after_tick, start_time}
+use Rattle.reference.specs.Time.{events_after, time_after_tick, start_time}
 use Rattle.state_laws.proofs.Nvic.{either}
 
 -- what holds of time on a board with these lines
@@ -89,8 +89,8 @@ with_timer lines t timer bits h = record {
 
 -- ---- a tick, and the start
 
-pub tick_timely : (lines : ℕ) (t : Time) → t.ticks < last_tick → IsTimely lines t → IsTimely lines (after_tick t)
-unfolding after_tick
+pub tick_timely : (lines : ℕ) (t : Time) → t.ticks < last_tick → IsTimely lines t → IsTimely lines (time_after_tick t)
+unfolding time_after_tick
 tick_timely lines t early h = record {
   clock = omega arith;
   timer = counted_bits t.systick h.timer;
