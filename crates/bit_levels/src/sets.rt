@@ -4,6 +4,7 @@ ghost use Rattle.std.specs.Prelude.{◌≡◌, ◌==◌, ◌&&◌, ◌<◌, ◌�
 ghost use Rattle.bit_levels.specs.Sets.{AreSpaced, IsFirstLevelled, IsFirstOf, level};
 ghost use Rattle.reference.specs.Priorities.{is_in_words};
 
+use nvic::is_empty;
 use reference::exception::EXCEPTIONS;
 
 /// The number of bits of a priority byte.
@@ -47,9 +48,20 @@ pub fn put_at(sets: &mut Sets, priority: u8, number: u8, on: bool)
     sets[priority as usize] = set;
 }
 
-/// Returns the first exception of a set.
-#[tactic(auto, using(crate::proofs::Bits::none_in_word, crate::proofs::Bits::first_in_word))]
+/// Returns the first exception of a set. Most sets are empty.
+#[inline]
 pub fn first(set: &Set) -> Option<u8>
+    ensures { IsFirstOf set.now result }
+{
+    if is_empty(set) {
+        return None;
+    }
+    first_by_word(set)
+}
+
+/// Returns the first exception of a set, by its words.
+#[tactic(auto, using(crate::proofs::Bits::none_in_word, crate::proofs::Bits::first_in_word))]
+fn first_by_word(set: &Set) -> Option<u8>
     ensures { IsFirstOf set.now result }
 {
     for word in 0..8u8 {

@@ -5,3 +5,4 @@ pub mod Due
 pub mod BelowZero
 pub mod Unmasked
 pub mod Waiting
+pub mod Sets

@@ -1,14 +1,9 @@
 -- How many exceptions are pending, and that none is the best where none is.
-use Rattle.std.proofs.Common.{◌≡◌, ℕ, zero, suc, ◌+◌, ◌/◌, ◌%◌, ◌^◌, ◌<◌, ◌≤◌, Bool, true, false, if◌then◌else◌, List}
-use Rattle.std.proofs.Common.{[], ◌∷◌, length, slice_set, slice_index_or, slice_index, replicate, None, refl, arith}
-use Rattle.std.proofs.Math.Nat.{zero-div}
+use Rattle.std.proofs.Common.{◌≡◌, ℕ, zero, suc, ◌+◌, ◌<◌, ◌≤◌, Bool, true, false, if◌then◌else◌, List}
+use Rattle.std.proofs.Common.{[], ◌∷◌, length, slice_set, slice_index_or, replicate, None, refl, arith}
 use Rattle.std.proofs.lemmas.List.Sums.{sum_by-set, sum_by-cons, count_by-le-length}
 use Rattle.reference.specs.declared.exception.TheConstants.{EXCEPTIONS}
-use Rattle.reference.specs.Priorities.{Nvic, is_in, with_ready, best_below, best, is_in_words, with_due_at}
-use Rattle.reference.specs.Priorities.{with_due_below}
-use Rattle.reference.specs.Priorities.{with_due}
-use Rattle.reference.specs.Words.{is_bit}
-use Rattle.nvic.proofs.Boards.{same_each}
+use Rattle.reference.specs.Priorities.{Nvic, is_in, with_ready, best_below, best}
 use Rattle.nvic.specs.Waiting.{count_in}
 
 abbrev weight : Bool → ℕ
@@ -43,20 +38,3 @@ none_best n e = none_ready n EXCEPTIONS e
 
 pub none_at_first : count_in (replicate EXCEPTIONS false) ≡ 0
 none_at_first = refl
-
--- ---- nothing is due
-
-no_bit : (w k : ℕ) → w ≡ 0 → is_bit w k ≡ false
-no_bit w k e = rw (e, zero-div (2 ^ k)) refl
-
-nothing_due : (x : ℕ) → is_in_words (replicate 8 0) x ≡ false
-nothing_due x = no_bit (slice_index (replicate 8 0) (x / 32)) (x % 32) (same_each 8 0 (x / 32))
-
-nothing_below : (n : Nvic) (k : ℕ) → with_due_below n (replicate 8 0) k ≡ n
-unfolding with_due_below with_due_at
-nothing_below n zero = refl
-nothing_below n (suc k) = rw (nothing_due k) (nothing_below n k)
-
-pub nothing_added : (n : Nvic) (due : List ℕ) → due ≡ replicate 8 0 → with_due n due ≡ n
-unfolding with_due
-nothing_added n due e = rw e (nothing_below n EXCEPTIONS)

@@ -1,10 +1,10 @@
 //! The state of the exceptions, however it is kept: a trait with one contract.
 
-ghost use Rattle.std.specs.Prelude.{◌≡◌, ◌<◌, true, false, min, nat_lt, slice_index, IfSome};
+ghost use Rattle.std.specs.Prelude.{◌≡◌, ◌+◌, ◌*◌, ◌<◌, true, false, min, nat_lt, slice_index, IfSome};
 ghost use Rattle.reference.specs.declared.exception.TheConstants.{EXCEPTIONS};
-ghost use Rattle.reference.specs.Priorities.{Nvic, is_in, is_enabled as is_enabled_of, best as best_of, is_interrupt_pending as is_interrupt_pending_of, is_other_active as is_other_active_of, highest_active, group_priority as group_priority_of, is_below_zero as is_below_zero_of, execution_priority as execution_priority_of, candidate as candidate_of, candidate_unmasked as candidate_unmasked_of, boosted as boosted_of, candidate_after as candidate_after_of, escalation, with_pending, with_active, with_enabled, with_priority, with_group, with_primask, with_faultmask, with_basepri, with_due, with_due_at, reset_nvic};
+ghost use Rattle.reference.specs.Priorities.{Nvic, is_in, is_enabled as is_enabled_of, best as best_of, is_interrupt_pending as is_interrupt_pending_of, is_other_active as is_other_active_of, highest_active, group_priority as group_priority_of, is_below_zero as is_below_zero_of, execution_priority as execution_priority_of, candidate as candidate_of, candidate_unmasked as candidate_unmasked_of, boosted as boosted_of, candidate_after as candidate_after_of, escalation, with_pending, with_active, with_enabled, with_priority, with_group, with_primask, with_faultmask, with_basepri, with_due, with_due_at, with_due_below, reset_nvic};
 
-use crate::numbers::{is_in_words, is_interrupt};
+use crate::numbers::{is_empty, is_in_words, is_interrupt};
 use crate::priorities::{boosted, fixed_or, grouped};
 use reference::exception::{EXCEPTIONS, Escalation, HARD_FAULT, Masks, NMI, Priority};
 
@@ -113,15 +113,28 @@ pub trait Levels: Drop {
         ensures { content result ≡ content self.now };
 
     /// Pends each exception in `due`: exception n is bit n mod 32 of word n / 32.
-    #[tactic(auto, using(crate::proofs::Waiting::nothing_added), unfolding(reference::specs::Priorities::with_due))]
+    #[tactic(auto, using(crate::proofs::Sets::none_added))]
     fn pend_due(&mut self, due: &[u32; 8])
         ensures { content self.new ≡ with_due (content self.old) due.now }
     {
-        if *due == [0; 8] {
+        if is_empty(due) {
             return;
         }
+        #[tactic(auto, using(crate::proofs::Sets::empty_word), unfolding(reference::specs::Priorities::with_due_below))]
+        'words: for word in 0..8u16 {
+            if due[word as usize] != 0 {
+                self.pend_word(due, word);
+            }
+        }
+    }
+
+    /// Pends the exceptions of one word that are due, after those of the words before it.
+    fn pend_word(&mut self, due: &[u32; 8], word: u16)
+        requires { word < 8 }
+        ensures { (n : Nvic) → content self.old ≡ with_due_below n due.now (word * 32) → content self.new ≡ with_due_below n due.now ((word + 1) * 32) }
+    {
         #[tactic(auto, unfolding(reference::specs::Priorities::with_due_below))]
-        'each: for number in 0..EXCEPTIONS {
+        'each: for number in word * 32..(word + 1) * 32 {
             self.pend_if_due(due, number);
         }
     }

@@ -9,7 +9,7 @@ mod plain;
 mod priorities;
 
 pub use levels::Levels;
-pub use numbers::{can_be_disabled, has_priority_byte, is_always_enabled, is_exception};
+pub use numbers::{can_be_disabled, has_priority_byte, is_always_enabled, is_empty, is_exception};
 pub use plain::PlainLevels;
 pub use priorities::{grouped, kept};
 pub use reference::exception::{Escalation, Masks, Priority};

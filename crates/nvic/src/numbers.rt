@@ -1,6 +1,7 @@
 //! Which numbers exceptions have, and what can be done with each.
 
-ghost use Rattle.std.specs.Prelude.{◌≡◌, ◌+◌, ◌<◌, ◌≤◌, true};
+ghost use Rattle.std.specs.Prelude.{◌≡◌, ◌+◌, ◌<◌, ◌≤◌, ℕ, true, false};
+ghost use Rattle.reference.specs.declared.exception.TheConstants.{EXCEPTIONS};
 ghost use Rattle.reference.specs.Priorities.{is_fixed as is_fixed_of, is_always_enabled as is_always_enabled_of, is_interrupt as is_interrupt_of, can_be_disabled as can_be_disabled_of, is_exception as is_exception_of, has_priority_byte as has_priority_byte_of, is_in_words as is_in_words_of};
 
 use reference::exception::{
@@ -63,4 +64,13 @@ pub fn is_in_words(due: &[u32; 8], number: u16) -> bool
     ensures { result ≡ is_in_words_of due.now number }
 {
     due[(number / 32) as usize] >> (number % 32) & 1 == 1
+}
+
+/// Returns whether such a set has no number.
+#[inline]
+#[tactic(auto, using(crate::proofs::Sets::none_in_zeros))]
+pub fn is_empty(set: &[u32; 8]) -> bool
+    ensures { result ≡ true → (x : ℕ) → x < EXCEPTIONS → is_in_words_of set.now x ≡ false }
+{
+    set[0] | set[1] | set[2] | set[3] | set[4] | set[5] | set[6] | set[7] == 0
 }
