@@ -4,3 +4,4 @@ pub mod First
 pub mod Kept
 pub mod Lists
 pub mod Spaced
+pub mod Others

@@ -139,6 +139,10 @@ impl<L: Levels> Levels for KeptPriorities<L> {
         self.levels.is_active(number)
     }
 
+    fn is_other_active(&self, number: u16) -> bool {
+        self.levels.is_other_active(number)
+    }
+
     #[inline]
     fn priority(&self, number: u16) -> u8 {
         self.levels.priority(number)

@@ -5,7 +5,7 @@ ghost use Rattle.bit_levels.specs.Sets.{is_levelled as is_levelled_of};
 ghost use Rattle.reference.specs.declared.exception.TheConstants.{NMI, HARD_FAULT};
 ghost use Rattle.reference.specs.Priorities.{best as best_of, is_in_words, is_fixed, is_in, is_ready, kept as kept_of};
 
-use crate::sets::{Set, Sets, all_empty, empty, first_of, has, put, put_at};
+use crate::sets::{Set, Sets, all_empty, empty, first_of, has, has_other, put, put_at};
 use nvic::{
     Levels, can_be_disabled, grouped, has_priority_byte, is_always_enabled, is_exception, kept,
 };
@@ -247,6 +247,10 @@ impl Levels for BitLevels {
     #[tactic(auto, using(crate::proofs::Lists::flag, crate::proofs::Lists::no_flag))]
     fn is_active(&self, number: u16) -> bool {
         number < EXCEPTIONS && has(&self.active, number as u8)
+    }
+
+    fn is_other_active(&self, number: u16) -> bool {
+        has_other(&self.active, number)
     }
 
     #[inline]

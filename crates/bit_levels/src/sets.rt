@@ -1,8 +1,9 @@
 //! Sets of exceptions as bits.
 
-ghost use Rattle.std.specs.Prelude.{◌≡◌, ◌==◌, ◌&&◌, ◌<◌, ◌≤◌, ◌*◌, ◌/◌, ◌^◌, ℕ, false, if◌then◌else◌};
+ghost use Rattle.std.specs.Prelude.{◌≡◌, ◌==◌, ◌&&◌, ◌<◌, ◌≤◌, ◌*◌, ◌/◌, ◌^◌, ℕ, not, false, if◌then◌else◌};
 ghost use Rattle.bit_levels.specs.Sets.{AreSpaced, IsFirstLevelled, IsFirstOf, level};
-ghost use Rattle.reference.specs.Priorities.{is_in_words};
+ghost use Rattle.reference.specs.declared.exception.TheConstants.{EXCEPTIONS};
+ghost use Rattle.reference.specs.Priorities.{is_in_words, some_below};
 
 use nvic::is_empty;
 use reference::exception::EXCEPTIONS;
@@ -60,6 +61,7 @@ pub fn first(set: &Set) -> Option<u8>
 }
 
 /// Returns the first exception of a set, by its words.
+#[inline(never)]
 #[tactic(auto, using(crate::proofs::Bits::none_in_word, crate::proofs::Bits::first_in_word))]
 fn first_by_word(set: &Set) -> Option<u8>
     ensures { IsFirstOf set.now result }
@@ -71,6 +73,26 @@ fn first_by_word(set: &Set) -> Option<u8>
         }
     }
     None
+}
+
+/// Returns whether a set has another exception than this one.
+pub fn has_other(set: &Set, number: u16) -> bool
+    ensures { result ≡ some_below (λ y. not (y == number) && is_in_words set.now y) EXCEPTIONS }
+{
+    let others = without(set, number);
+    first(&others).is_some()
+}
+
+/// Returns a set without one exception.
+#[tactic(auto, using(crate::proofs::Others::taken_out, crate::proofs::Others::not_there))]
+fn without(set: &Set, number: u16) -> Set
+    ensures { (y : ℕ) → y < 256 → is_in_words result y ≡ (not (y == number) && is_in_words set.now y) }
+{
+    let mut others = *set;
+    if number < EXCEPTIONS {
+        put(&mut others, number as u8, false);
+    }
+    others
 }
 
 /// Returns the first exception of the first set that isn't empty, on a board that keeps that many of
