@@ -16,10 +16,14 @@ or_zero a b e =
     let right = le_or_r a b in
     (omega (arith, left, e), omega (arith, right, e))
 
+-- the bits of all words of a set
+abbrev all_bits : List ℕ → ℕ
+all_bits set =
+    let w = slice_index set in
+    bit_or (bit_or (bit_or (bit_or (bit_or (bit_or (bit_or (w 0) (w 1)) (w 2)) (w 3)) (w 4)) (w 5)) (w 6)) (w 7)
+
 -- a set whose words are 0 has no number
-pub none_in_zeros : (set : List ℕ)
-    → bit_or (bit_or (bit_or (bit_or (bit_or (bit_or (bit_or (slice_index set 0) (slice_index set 1)) (slice_index set 2))
-    (slice_index set 3)) (slice_index set 4)) (slice_index set 5)) (slice_index set 6)) (slice_index set 7) ≡ 0
+pub none_in_zeros : (set : List ℕ) → all_bits set ≡ 0
     → (x : ℕ) → x < EXCEPTIONS → is_in_words set x ≡ false
 none_in_zeros set e x h =
     let (to_6, w7) = or_zero _ _ e in
