@@ -3,12 +3,13 @@ of the ends of cases. Usage: compare_exceptions.py MARM CROSSCHECK FOLDER SEED C
 
 import collections
 import random
+import re
 import sys
 from concurrent.futures import ThreadPoolExecutor
 
 from exception_cases import fixed_cases, name_of, random_case
 from exception_known import KNOWN, compared
-from exception_machines import all_on_qemu, assembled, on_marm, on_qemu
+from exception_machines import ALIASED, STORED, all_on_qemu, assembled, on_marm, on_qemu
 from exception_records import ACTIVE, FAULTS, described
 
 SEED, COUNT = int(sys.argv[4]), int(sys.argv[5])
@@ -54,6 +55,11 @@ def covered(records_of_cases):
             print(f"{kind:8} {first:12} " + "  ".join(row))
 
 
+def lockup(lines):
+    """Returns what a lockup of marm is called: a lockup, or one by a store to flash, by its last lines."""
+    return "lockup by a store to flash" if len(lines) > 2 and re.search(STORED, lines[-3]) else "lockup"
+
+
 NAMES = ["NMI", "HardFault", "MemManage", "BusFault", "UsageFault", "SVCall", "PendSV", "SysTick", "IRQ"]
 
 source = random.Random(SEED)
@@ -64,7 +70,7 @@ harness, parts = assembled(numbered)
 entries = dict(zip(cases, parts))
 with ThreadPoolExecutor(JOBS) as pool:
     ours = dict(zip(cases, pool.map(lambda number: on_marm(harness, entries[number], number), cases)))
-    aliased = {number for number in cases if any(" bus " in line for line in ours[number][2])}
+    aliased = {number for number in cases if any(re.search(ALIASED, line) for line in ours[number][2])}
     taken = [number for number in cases if ours[number][0] == LAST and number not in aliased]
     locked = [number for number in cases if ours[number][0] == LOCKUP and number not in aliased]
     alone = [number for number in taken if is_alone(cases[number], ours[number][1])]
@@ -77,7 +83,7 @@ with ThreadPoolExecutor(JOBS) as pool:
         theirs[number] = ending, ended[0] if ended else rest
 known, differ = collections.Counter(), []
 for number in sorted(theirs):
-    wanted = "lockup" if number in set(locked) else "end"
+    wanted = lockup(ours[number][2]) if number in set(locked) else "end"
     names, difference = compared(cases[number], entries[number], (wanted, ours[number][1]), theirs[number])
     known.update(names)
     if difference is not None:
