@@ -113,7 +113,7 @@ pub record SystemAnswer : Type 0 where
 abbrev pub replies : System → ℕ → SystemAnswer
 replies s value = record { system = s; answer = answer.Value value }
 
--- a bus error and a named stop change nothing
+-- a bus error and a stop change nothing
 abbrev pub errs : System → SystemAnswer
 errs s = record { system = s; answer = answer.Error }
 
@@ -130,7 +130,7 @@ with_systick s t = record s { time = record s.time { systick = t } }
 abbrev pub with_nvic : System → Nvic → System
 with_nvic s n = record s { nvic = n }
 
--- a block after a write, or the named stop with which the write stops the machine
+-- a block after a write, or the stop with which the write stops the machine
 
 abbrev pub nvic_written : System → Result Nvic Stop → Result System Stop
 nvic_written s (Ok n) = Ok (with_nvic s n)
@@ -170,7 +170,7 @@ after_read s (register.Mpu which) = s
 after_read s register.Stir = s
 after_read s register.Unlisted = s
 
--- the state after a write to a register, or the named stop with which the write stops the machine
+-- the state after a write to a register, or the stop with which the write stops the machine
 unfoldable pub register_written : System → Request → SystemRegister → Result System Stop
 register_written s q register.Ictr = Ok s
 register_written s q (register.SysTick which) = Ok (with_systick s (write_systick s.time.systick which q.value))

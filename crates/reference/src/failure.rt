@@ -10,7 +10,7 @@ pub enum Failure {
     Refused(Access, Cause),
     /// A usage fault.
     Usage(UsageFault),
-    /// The machine stops with a named stop.
+    /// The machine stops, and the step ends.
     Stop(Stop),
 }
 
