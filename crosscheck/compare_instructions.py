@@ -80,6 +80,6 @@ lost = ours.count(NOTHING)
 differ = [case for case, left, right in zip(taken, ours, theirs) if NOTHING != left != right]
 for case in differ[:10]:
     print(described(case))
-print(f"{lost:7} lost ahead of other entries")
+print(f"{lost:7} lost: needs the entries after it")
 print(f"{len(taken) - lost} carried out, {len(differ)} differ")
 sys.exit(1 if differ else 0)

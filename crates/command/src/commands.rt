@@ -54,7 +54,7 @@ pub fn answer<W: Write + Drop, E: Write>(fault: WordsFault, mut out: W, err: &mu
         },
         WordsFault::OutOfMemory => {
             let status = tell(Fault::Io, err);
-            let _ = writeln!(err, "  no memory was found for the words");
+            let _ = writeln!(err, "  no memory was found for the arguments");
             status
         }
     }
@@ -226,7 +226,7 @@ pub fn refuse_words<E: Write>(error: &io::Error, err: &mut E) -> u8
         let _ = writeln!(err, "  {error}");
         return status;
     }
-    tell_io("the words", error, err)
+    tell_io("the arguments", error, err)
 }
 
 /// Writes what the system says of a file or a stream, and returns the status.

@@ -159,7 +159,7 @@ pub const STEPS_ADVICE: &str = "--steps takes a decimal number from 0 to 4294967
 
 /// What the help says of `--steps`.
 pub const STEPS_HELP: &str =
-    "The most steps (instructions, entries, idle ticks) to make, from 0 to 4294967296";
+    "The most steps (instructions, halves of exception entries, idle ticks) to make, from 0 to 4294967296";
 
 /// The commands of the program.
 const COMMANDS_ADVICE: &str = "The commands are run, debug and help.\n";
@@ -168,11 +168,11 @@ const COMMANDS_ADVICE: &str = "The commands are run, debug and help.\n";
 const AFTER_MARM: &str = "\
 Exit status:
   0  all steps were made, a breakpoint was met, or a debug session ended; or the version was asked for
-  2  the words are wrong, or help was asked for (marm: usage)
+  2  the arguments are wrong, or help was asked for (marm: usage)
   3  the image or the board is refused, or memory ran out for the board or the machine
      (marm: load, board, start, size)
   4  the machine stopped otherwise: the trace's last line says why
-  5  reading or writing failed, or memory ran out for the words or a file (marm: io)
+  5  reading or writing failed, or memory ran out for the arguments or a file (marm: io)
 
 Example:
   marm run --board examples/boards/small.toml --steps 10 examples/first.elf";
@@ -184,11 +184,11 @@ and the rule or region that decided it. Its last line says why the run ended.
 
 Exit status:
   0  all steps were made, or a breakpoint was met
-  2  the words are wrong, or help was asked for (marm: usage)
+  2  the arguments are wrong, or help was asked for (marm: usage)
   3  the image or the board is refused, or memory ran out for the board or the machine
      (marm: load, board, start, size)
   4  the machine stopped otherwise: the trace's last line says why
-  5  reading or writing failed, or memory ran out for the words or a file (marm: io)
+  5  reading or writing failed, or memory ran out for the arguments or a file (marm: io)
 
 Example:
   marm run --board examples/boards/small.toml --steps 10 examples/first.elf";
@@ -216,10 +216,10 @@ and `error 3` (16 breakpoints are set) change nothing.
 
 Exit status:
   0  the session ended
-  2  the words are wrong, or help was asked for (marm: usage)
+  2  the arguments are wrong, or help was asked for (marm: usage)
   3  the image or the board is refused, or memory ran out for the board or the machine
      (marm: load, board, start, size)
-  5  reading or writing failed, or memory ran out for the words or a file (marm: io)
+  5  reading or writing failed, or memory ran out for the arguments or a file (marm: io)
 
 Example:
   echo 'explain 0x20000000 u w' |
@@ -260,7 +260,9 @@ fn board<'a>(alloc: Global) -> Arg<'a> {
     Arg::new(alloc, "board")
         .long("board")
         .value_name("FILE")
-        .help("The board: a TOML file of at most 16 MiB with the memory, the lines and the events")
+        .help(
+            "The board: a TOML file of at most 16 MiB with the memory sizes, the interrupt lines and the events",
+        )
         .required(true)
         .action(ArgAction::Set)
 }

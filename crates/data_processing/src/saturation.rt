@@ -63,7 +63,7 @@ fn nearest(from: i64, to: i64, value: i64) -> i64
     }
 }
 
-/// Returns the low word of a whole number.
+/// Returns the low word of an integer.
 #[inline]
 fn low_word(value: i64) -> u32
     ensures { result ≡ low_bits 32 value }

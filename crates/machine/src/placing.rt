@@ -80,7 +80,7 @@ impl<D: Decider, C: CodeLines, L: Levels, U: DueTicks> Processor<D, C, L, U> {
         Ok(())
     }
 
-    /// Returns a privileged store to the Private Peripheral Bus, which no rule decides.
+    /// Stores a word to the Private Peripheral Bus, as privileged code does. No rule decides it.
     fn take_register(&mut self, address: u32, value: u32) -> Result<(), PlaceFault>
         requires { is_in_ppb address ≡ true }
         ensures { PlacesAt (taken self.old (Word address value)) self.old self.new result }

@@ -53,7 +53,7 @@ pub const LINES: Key = Key {
 
 pub const REGIONS: Key = Key {
     name: "regions",
-    takes: "8 or 16, and 8 where it isn't there",
+    takes: "8 or 16 (8 where the key is missing)",
 };
 
 pub const EVENT: Key = Key {

@@ -119,7 +119,7 @@ pub fn integer<'a>(table: &'a Table, key: Key) -> Result<(i64, &'a Value), Probl
     }
 }
 
-/// Returns the first problem of the five numbers, in the order in which they are read.
+/// Returns the first problem of the six numbers, in the order in which they are read.
 fn numbers_problem(document: &Table) -> Option<Problem<'_>> {
     match flash_problem(document) {
         Some(problem) => Some(problem),

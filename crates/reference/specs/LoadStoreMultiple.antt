@@ -1,5 +1,5 @@
 -- Loads and stores of several registers (ARM DDI 0403, the operation of LDM, LDMDB, STM, STMDB, PUSH, POP, LDRD and
--- STRD): each is a word, upward from the lowest address.
+-- STRD): each access is of a word, and they go upward from the lowest address.
 use Rattle.std.specs.Prelude.{ℕ, ◌*◌, Bool, if◌then◌else◌, List, [], ◌∷◌, length, drop, slice_index, Result, Ok, Err}
 use Rattle.std.specs.Int.RustNames.{count_ones}
 use Rattle.std.specs.List.{filter, range_with_len}
@@ -89,8 +89,9 @@ unfoldable pub loaded : List ℕ → List ℕ → Registers → Registers
 loaded [] values r = r
 loaded (n ∷ ns) values r = loaded ns (drop 1 values) (with_register r n (slice_index values 0))
 
--- the base is written back, then R0 to LR are loaded. The manual writes the base last: the same, since no row writes
--- back a base in its list
+-- the base is written back, then R0 to LR are loaded. LDM of the manual writes the base last: the same, since no row
+-- writes back a base in its list, but where the value for the PC begins a return from an exception. Then all registers
+-- are written before the return begins (profile)
 abbrev pub loaded_below_pc : LoadMultiple → List ℕ → Registers → Registers
 loaded_below_pc o values r =
     loaded (registers_below 15 o.list) values (with_moved_base o.write_back o.base o.order o.list r)

@@ -2,7 +2,7 @@
 -- (ARM DDI 0403, "Exception number definition", "Exception priorities and preemption", "Priority escalation", and the
 -- pseudocode of ExecutionPriority()).
 --
--- A priority is here the manual's number plus 2, so that it's a whole number: 0 for the manual's -2, 1 for its -1,
+-- A priority is here the manual's number plus 2, so that it isn't negative: 0 for the manual's -2, 1 for its -1,
 -- b + 2 for the byte b, and 258 for its 256. A higher priority is a lower number, as in the manual; "below" and
 -- "above" compare numbers. The best of some exceptions is the one of the highest priority; among equal priorities, the
 -- one with the lowest exception number.

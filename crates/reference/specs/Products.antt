@@ -13,7 +13,7 @@ use Rattle.reference.specs.TwoOperands.{written}
 use Rattle.reference.specs.Registers.{Registers, register, with_register, with_result}
 use Rattle.reference.specs.Words.{word_sum, negated}
 
--- ---- whole numbers and their bits
+-- ---- integers and their bits
 
 -- z<width - 1:0>, the low bits in two's complement: those of -n - 1 are those of n, each inverted
 abbrev pub low_bits : ℕ → ℤ → ℕ
@@ -24,7 +24,7 @@ low_bits width (negsuc n) = 2 ^ width - 1 - n % 2 ^ width
 abbrev pub signed_wide : ℕ → ℤ
 signed_wide x = if nat_lt x (2 ^ 63) then pos x else pos x -ℤ pos (2 ^ 64)
 
--- a word as a whole number: SInt(x), or UInt(x)
+-- a word as an integer: SInt(x), or UInt(x)
 abbrev pub number_of : Bool → ℕ → ℤ
 number_of is_signed x = if is_signed then signed x else pos x
 
@@ -65,7 +65,7 @@ pair r high low = register r high * 2 ^ 32 + register r low
 abbrev pub with_pair : Registers → ℕ → ℕ → ℕ → Registers
 with_pair r high low x = with_register (with_register r high (x / 2 ^ 32)) low (x % 2 ^ 32)
 
--- the product of two words, as a whole number
+-- the product of two words, as an integer
 abbrev pub product_of : Bool → ℕ → ℕ → ℤ
 product_of is_signed x y = number_of is_signed x *ℤ number_of is_signed y
 

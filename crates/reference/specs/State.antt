@@ -17,7 +17,8 @@ pub record State : Type 0 where
   pub bus : Bus
   -- whether WFI has put the processor to sleep
   pub asleep : Bool
-  -- between the two steps of an exception entry: the EXC_RETURN that the handler will get
+  -- in the entry phase (from a Stack step, or from a return that tail-chains or is a fault, to the Vector step): the
+  -- EXC_RETURN that the handler will get
   pub entry : Option ℕ
   -- why the machine has stopped, if it has
   pub stop : Option Stop
@@ -40,7 +41,7 @@ with_system s system = with_bus s (record s.bus { system = system })
 abbrev pub with_exceptions : State → Nvic → State
 with_exceptions s n = with_system s (record s.bus.system { nvic = n })
 
--- the state after one tick of the system registers
+-- the state after one tick of the clock
 abbrev pub ticked : State → State
 ticked s = with_system s (after_tick s.bus.system)
 

@@ -32,7 +32,7 @@ pub enum UnpredictableCase {
     Registers,
     /// A base register is stored that isn't the lowest of the list: the value stored is UNKNOWN.
     StoredBase,
-    /// A modified immediate with a byte of 0.
+    /// A modified immediate that repeats a byte of 0.
     Immediate,
     /// A bit field that ends above bit 31, or before it begins.
     BitField,

@@ -162,7 +162,7 @@ impl Regs {
         self.general
     }
 
-    /// Returns the address of the next instruction.
+    /// Returns the address of the instruction that is executed; between steps, of the next one.
     #[inline]
     pub fn pc(&self) -> u32
         ensures { result ≡ self.now.pc }

@@ -18,9 +18,9 @@ use Rattle.reference.specs.Map.{is_in_ppb, is_in_window}
 use Rattle.reference.specs.Memory.{Memory, is_in_ram, bytes_of, overwritten}
 use Rattle.reference.specs.Space.{SpaceAnswer, is_out, written_to, space_access}
 use Rattle.reference.specs.State.{Bus}
-use Rattle.step_laws.specs.AccessLaw.{AllGranted, are_covering, OnlyCovered}
+use Rattle.step_laws.specs.AccessLaw.{NoneRefused, are_covering, OnlyCovered}
 use Rattle.space.proofs.Blocks.{IsOutside, blocks_kept}
-use Rattle.step_laws.proofs.Lines.{granted-nil, granted-cons, EndIn, failure_in, ends-append, covered-append, covered-same}
+use Rattle.step_laws.proofs.Lines.{unrefused-nil, unrefused-cons, EndIn, failure_in, ends-append, covered-append, covered-same}
 
 -- ---- the bytes of one access
 
@@ -103,22 +103,22 @@ perform_writes exception tick b q = decided_writes exception tick b q (decision 
 
 -- ---- the lines of one access
 
-console_granted : (tick : ℕ) (q : Request) (out : Bool) → is_out q ≡ out → AllGranted (console_line tick q)
-console_granted tick q true e = rw e (granted-cons _ [] refl granted-nil)
-console_granted tick q false e = rw e granted-nil
+console_unrefused : (tick : ℕ) (q : Request) (out : Bool) → is_out q ≡ out → NoneRefused (console_line tick q)
+console_unrefused tick q true e = rw e (unrefused-cons _ [] refl unrefused-nil)
+console_unrefused tick q false e = rw e unrefused-nil
 
 -- the lines of an access end as it does
 pub told_ends : (tick : ℕ) (q : Request) (p : Performed) → EndIn (failure_in (value_of q p)) (access_lines tick q p)
-told_ends tick q (performed.Done rule value) = granted-cons _ _ refl (console_granted tick q _ refl)
+told_ends tick q (performed.Done rule value) = unrefused-cons _ _ refl (console_unrefused tick q _ refl)
 told_ends tick q (performed.Denied rule cause) = record {
-  granted = [];
+  unrefused = [];
   refused = accessed tick q rule (Some cause);
   rule = rule;
   events_are = refl;
-  are_granted = granted-nil;
+  none_refused = unrefused-nil;
   is_refusal = refl;
 }
-told_ends tick q (performed.Stop why) = granted-nil
+told_ends tick q (performed.Stop why) = unrefused-nil
 
 -- ---- a list of accesses
 
@@ -139,7 +139,7 @@ followed_well old events after (Err why) rest ends only well = record { ends = e
 pub served_well : (exception tick : ℕ) (b : Bus) (qs : List Request) →
     ServedWell b.memory (perform_all exception tick b qs)
 unfolding perform_all
-served_well exception tick b [] = record { ends = granted-nil; only = covered-same b.memory [] }
+served_well exception tick b [] = record { ends = unrefused-nil; only = covered-same b.memory [] }
 served_well exception tick b (q ∷ qs) =
     followed_well b.memory _ _ _ _ (told_ends tick q (perform exception b q).performed)
     (perform_writes exception tick b q)

@@ -18,10 +18,10 @@ use Rattle.reference.specs.Memory.{Memory}
 use Rattle.reference.specs.State.{State, with_bus, with_system}
 use Rattle.reference.specs.Words.{is_bit}
 use Rattle.step_laws.specs.AccessLaw.{OnlyCovered}
-use Rattle.step_laws.proofs.Lines.{granted-nil, granted-cons, granted-append, EndIn, failure_in, ends-append}
+use Rattle.step_laws.proofs.Lines.{unrefused-nil, unrefused-cons, unrefused-append, EndIn, failure_in, ends-append}
 use Rattle.step_laws.proofs.Lines.{covered-append, covered-more}
 use Rattle.step_laws.proofs.Bytes.{either, perform_writes, told_ends, ServedWell, served_well}
-use Rattle.step_laws.proofs.Faults.{IsLawful, MayGoOn, at_first, goes_on_lawful, failed_granted, failed_lawful}
+use Rattle.step_laws.proofs.Faults.{IsLawful, MayGoOn, at_first, goes_on_lawful, failed_unrefused, failed_lawful}
 use Rattle.step_laws.proofs.Faults.{vector_refused_lawful}
 
 -- ---- entry
@@ -44,7 +44,7 @@ vector_lawful : (old : Memory) (s : State) (x e : ℕ) (events : List Event) (q 
     q.access.kind ≡ Vector → EndIn (failure_in (value_of q p)) events → OnlyCovered old s.bus.memory events →
     IsLawful old (vector_taken s events x e (value_of q p))
 vector_lawful old s x e events q (performed.Done rule value) kind end only = record {
-  one_refusal = inl (granted-append events _ end (granted-cons _ [] refl granted-nil));
+  one_refusal = inl (unrefused-append events _ end (unrefused-cons _ [] refl unrefused-nil));
   only_covered = covered-more old s.bus.memory events _ only;
 }
 vector_lawful old s x e events q (performed.Denied rule cause) kind end only =
@@ -78,23 +78,23 @@ unstacked_lawful : (old : Memory) (s : State) (events : List Event) (e : ℕ) (f
 unfolding unstacked
 unstacked_lawful old s events e frame ready =
     either (IsLawful old) (not (fits_mode e frame)) _ _
-    (λ is. failed_granted old (with_entry s e) events (failure.Usage InvalidReturn)
-    (record { granted = ready.granted; only = ready.only }))
+    (λ is. failed_unrefused old (with_entry s e) events (failure.Usage InvalidReturn)
+    (record { unrefused = ready.unrefused; only = ready.only }))
     (λ is. either (IsLawful old) (is_bit (popped_pc frame) 0) _ _
-    (λ odd. record { one_refusal = inl ready.granted; only_covered = ready.only })
-    (λ even. record { one_refusal = inl ready.granted; only_covered = ready.only }))
+    (λ odd. record { one_refusal = inl ready.unrefused; only_covered = ready.only })
+    (λ even. record { one_refusal = inl ready.unrefused; only_covered = ready.only }))
 
 read_lawful : (old : Memory) (s : State) (events : List Event) (e : ℕ) (all : ListResult) (end : Option Failure) →
     all.failure ≡ end → MayGoOn old s events → ServedWell s.bus.memory all →
     IsLawful old (frame_read s events e all end)
 read_lawful old s events e all None is ready well =
     unstacked_lawful old (with_bus s all.bus) (events ++ all.events) e all.values (record {
-      granted = granted-append events all.events ready.granted (rw is at well.ends);
+      unrefused = unrefused-append events all.events ready.unrefused (rw is at well.ends);
       only = covered-append old s.bus.memory all.bus.memory events all.events ready.only well.only;
     })
 read_lawful old s events e all (Some why) is ready well =
     failed_lawful old (with_entry (with_bus s all.bus) e) (events ++ all.events) why
-    (ends-append (Some why) events all.events ready.granted (rw is at well.ends))
+    (ends-append (Some why) events all.events ready.unrefused (rw is at well.ends))
     (covered-append old s.bus.memory all.bus.memory events all.events ready.only well.only)
 
 popped_lawful : (old : Memory) (s : State) (events : List Event) (e : ℕ) → MayGoOn old s events →
@@ -106,25 +106,25 @@ popped_lawful old s events e ready =
 
 chained_lawful : (old : Memory) (s : State) (events : List Event) (e : ℕ) (next : Option ℕ) →
     MayGoOn old s events → IsLawful old (chained s events e next)
-chained_lawful old s events e (Some x) ready = record { one_refusal = inl ready.granted; only_covered = ready.only }
+chained_lawful old s events e (Some x) ready = record { one_refusal = inl ready.unrefused; only_covered = ready.only }
 chained_lawful old s events e None ready = popped_lawful old s events e ready
 
 returned_lawful : (old : Memory) (s : State) (events : List Event) (e : ℕ) (allowed : Bool) →
     MayGoOn old s events → IsLawful old (returned s events e allowed)
 returned_lawful old s events e true ready = chained_lawful old s events e _ ready
 returned_lawful old s events e false ready =
-    failed_granted old (with_entry s e) events (failure.Usage InvalidReturn)
-    (record { granted = ready.granted; only = ready.only })
+    failed_unrefused old (with_entry s e) events (failure.Usage InvalidReturn)
+    (record { unrefused = ready.unrefused; only = ready.only })
 
 -- a return
 pub return_lawful : (old : Memory) (s : State) (before : List Event) (e : ℕ) → MayGoOn old s before →
     IsLawful old (exception_return s before e)
 unfolding exception_return
 return_lawful old s before e ready =
-    let granted = granted-append before (return_line s e ∷ []) ready.granted
-    (granted-cons (return_line s e) [] refl granted-nil) in
+    let unrefused = unrefused-append before (return_line s e ∷ []) ready.unrefused
+    (unrefused-cons (return_line s e) [] refl unrefused-nil) in
     let only = covered-more old s.bus.memory before (return_line s e ∷ []) ready.only in
     either (IsLawful old) (has_reserved_ones e) _ _
     (λ ones. returned_lawful old (with_system s (exception_ended s.bus.system s.registers.exception))
-    (before ++ return_line s e ∷ []) e (is_allowed s e) (record { granted = granted; only = only }))
-    (λ other. record { one_refusal = inl granted; only_covered = only })
+    (before ++ return_line s e ∷ []) e (is_allowed s e) (record { unrefused = unrefused; only = only }))
+    (λ other. record { one_refusal = inl unrefused; only_covered = only })

@@ -27,8 +27,8 @@ use Rattle.reference.specs.ExceptionEntry.{vector_refused}
 use Rattle.reference.specs.Priorities.{is_fixed}
 use Rattle.reference.specs.State.{State, Stepped}
 use Rattle.reference.specs.Status.{Status, with_fault_bits}
-use Rattle.step_laws.specs.AccessLaw.{AllGranted, IsLineOf, EndsRefused, OneRefusal, OnlyCovered}
-use Rattle.step_laws.proofs.Lines.{granted-nil, granted-cons, granted-append, LastRefused, EndIn, covered-more, covered-same}
+use Rattle.step_laws.specs.AccessLaw.{NoneRefused, IsLineOf, EndsRefused, OneRefusal, OnlyCovered}
+use Rattle.step_laws.proofs.Lines.{unrefused-nil, unrefused-cons, unrefused-append, LastRefused, EndIn, covered-more, covered-same}
 
 -- what holds of a step that began with this memory
 pub record IsLawful (old : Memory) (step : Stepped) : Type 0 where
@@ -37,13 +37,13 @@ pub record IsLawful (old : Memory) (step : Stepped) : Type 0 where
 
 -- a phase may go on with these lines
 pub record MayGoOn (old : Memory) (s : State) (events : List Event) : Type 0 where
-  pub granted : AllGranted events
+  pub unrefused : NoneRefused events
   pub only : OnlyCovered old s.bus.memory events
 
 -- the first phase may
 pub at_first : (old : Memory) (s : State) → s.bus.memory ≡ old → MayGoOn old s []
 at_first old s e =
-    record { granted = granted-nil; only = subst (λ m. OnlyCovered old m []) (sym e) (covered-same old []) }
+    record { unrefused = unrefused-nil; only = subst (λ m. OnlyCovered old m []) (sym e) (covered-same old []) }
 
 -- ---- the line of a fault
 
@@ -115,24 +115,24 @@ forced_line s f apart = record {
 
 -- ---- lines with that of a fault
 
--- granted lines, and the line of a fault
-fault_granted : (s : State) (events : List Event) (x : ℕ) → AllGranted events →
-    AllGranted (events ++ fault_line s x ∷ [])
-fault_granted s events x granted =
-    granted-append events (fault_line s x ∷ []) granted (granted-cons (fault_line s x) [] refl granted-nil)
+-- unrefused lines, and the line of a fault
+fault_unrefused : (s : State) (events : List Event) (x : ℕ) → NoneRefused events →
+    NoneRefused (events ++ fault_line s x ∷ [])
+fault_unrefused s events x unrefused =
+    unrefused-append events (fault_line s x ∷ []) unrefused (unrefused-cons (fault_line s x) [] refl unrefused-nil)
 
 -- lines whose last is the refusal of an access, and the line of its fault
 refusal_ends : (access : Access) (cause : Cause) (s : State) (events : List Event) (x : ℕ) →
     LastRefused access cause events → IsLineOf (fault_of access cause) (shown s x) →
     EndsRefused (events ++ fault_line s x ∷ [])
 refusal_ends access cause s events x last line = record {
-  granted = last.granted;
+  before = last.unrefused;
   refused = last.refused;
   last = fault_line s x;
   events_are =
       ap (λ es. es ++ fault_line s x ∷ []) last.events_are
-      ∙ append_assoc last.granted (last.refused ∷ []) (fault_line s x ∷ []);
-  are_granted = last.are_granted;
+      ∙ append_assoc last.unrefused (last.refused ∷ []) (fault_line s x ∷ []);
+  none_refused = last.none_refused;
   access = access;
   rule = last.rule;
   cause = cause;
@@ -144,19 +144,19 @@ refusal_ends access cause s events x last line = record {
 
 -- ---- failures
 
--- a fault after granted lines
-escalated_granted : (old : Memory) (s : State) (events : List Event) (x : ℕ) (e : Escalation) →
+-- a fault after unrefused lines
+escalated_unrefused : (old : Memory) (s : State) (events : List Event) (x : ℕ) (e : Escalation) →
     MayGoOn old s events → IsLawful old (escalated s events x e)
-escalated_granted old s events x Itself ready = record {
-  one_refusal = inl (fault_granted s events x ready.granted);
+escalated_unrefused old s events x Itself ready = record {
+  one_refusal = inl (fault_unrefused s events x ready.unrefused);
   only_covered = covered-more old s.bus.memory events _ ready.only;
 }
-escalated_granted old s events x HardFault ready = record {
-  one_refusal = inl (fault_granted (with_forced s) events HARD_FAULT ready.granted);
+escalated_unrefused old s events x HardFault ready = record {
+  one_refusal = inl (fault_unrefused (with_forced s) events HARD_FAULT ready.unrefused);
   only_covered = covered-more old s.bus.memory events _ ready.only;
 }
-escalated_granted old s events x Lockup ready = record {
-  one_refusal = inl (fault_granted s events 0 ready.granted);
+escalated_unrefused old s events x Lockup ready = record {
+  one_refusal = inl (fault_unrefused s events 0 ready.unrefused);
   only_covered = covered-more old s.bus.memory events _ ready.only;
 }
 
@@ -186,11 +186,11 @@ escalated_refused old s events access cause Lockup last only = record {
   only_covered = covered-more old s.bus.memory events _ only;
 }
 
-faulted_granted : (old : Memory) (s : State) (events : List Event) (f : FaultEffect) → MayGoOn old s events →
+faulted_unrefused : (old : Memory) (s : State) (events : List Event) (f : FaultEffect) → MayGoOn old s events →
     IsLawful old (faulted s events f)
 unfolding faulted
-faulted_granted old s events f ready =
-    escalated_granted old (recorded s f) events f.exception _ (record { granted = ready.granted; only = ready.only })
+faulted_unrefused old s events f ready =
+    escalated_unrefused old (recorded s f) events f.exception _ (record { unrefused = ready.unrefused; only = ready.only })
 
 faulted_refused : (old : Memory) (s : State) (events : List Event) (access : Access) (cause : Cause) →
     LastRefused access cause events → OnlyCovered old s.bus.memory events →
@@ -201,23 +201,23 @@ faulted_refused old s events access cause last only = escalated_refused old s ev
 -- a step that ends here
 pub goes_on_lawful : (old : Memory) (s : State) (events : List Event) → MayGoOn old s events →
     IsLawful old (record { state = s; events = events })
-goes_on_lawful old s events ready = record { one_refusal = inl ready.granted; only_covered = ready.only }
+goes_on_lawful old s events ready = record { one_refusal = inl ready.unrefused; only_covered = ready.only }
 
 -- a failure that isn't of an access
-pub failed_granted : (old : Memory) (s : State) (events : List Event) (why : Failure) → MayGoOn old s events →
+pub failed_unrefused : (old : Memory) (s : State) (events : List Event) (why : Failure) → MayGoOn old s events →
     IsLawful old (failed s events why)
-failed_granted old s events (failure.Refused access cause) ready =
-    faulted_granted old s events (fault_of access cause) ready
-failed_granted old s events (failure.Usage fault) ready = faulted_granted old s events (usage_fault_of fault) ready
-failed_granted old s events (failure.Stop why) ready =
-    record { one_refusal = inl ready.granted; only_covered = ready.only }
+failed_unrefused old s events (failure.Refused access cause) ready =
+    faulted_unrefused old s events (fault_of access cause) ready
+failed_unrefused old s events (failure.Usage fault) ready = faulted_unrefused old s events (usage_fault_of fault) ready
+failed_unrefused old s events (failure.Stop why) ready =
+    record { one_refusal = inl ready.unrefused; only_covered = ready.only }
 
 -- a failure of an access
 pub failed_lawful : (old : Memory) (s : State) (events : List Event) (why : Failure) → EndIn (Some why) events →
     OnlyCovered old s.bus.memory events → IsLawful old (failed s events why)
 failed_lawful old s events (failure.Refused access cause) end only = faulted_refused old s events access cause end only
 failed_lawful old s events (failure.Usage fault) end only =
-    faulted_granted old s events (usage_fault_of fault) (record { granted = end; only = only })
+    faulted_unrefused old s events (usage_fault_of fault) (record { unrefused = end; only = only })
 failed_lawful old s events (failure.Stop why) end only = record { one_refusal = inl end; only_covered = only }
 
 -- the vector of an exception was refused
@@ -255,9 +255,9 @@ vector_refused_lawful old s events x access cause kind last only =
 -- SVC
 called_lawful : (old : Memory) (s : State) (events : List Event) (e : Escalation) → MayGoOn old s events →
     IsLawful old (supervisor_called_by s events e)
-called_lawful old s events Itself ready = record { one_refusal = inl ready.granted; only_covered = ready.only }
-called_lawful old s events HardFault ready = escalated_granted old s events SV_CALL HardFault ready
-called_lawful old s events Lockup ready = escalated_granted old s events SV_CALL Lockup ready
+called_lawful old s events Itself ready = record { one_refusal = inl ready.unrefused; only_covered = ready.only }
+called_lawful old s events HardFault ready = escalated_unrefused old s events SV_CALL HardFault ready
+called_lawful old s events Lockup ready = escalated_unrefused old s events SV_CALL Lockup ready
 
 pub supervisor_lawful : (old : Memory) (s : State) (events : List Event) → MayGoOn old s events →
     IsLawful old (supervisor_called s events)

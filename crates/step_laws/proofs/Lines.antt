@@ -12,57 +12,57 @@ use Rattle.reference.specs.declared.failure.Failure.{Failure}
 use Rattle.reference.specs.declared.failure.Failure.TheVariants.{Refused, Usage, Stop}
 use Rattle.reference.specs.Map.{ram_base}
 use Rattle.reference.specs.Memory.{Memory}
-use Rattle.step_laws.specs.AccessLaw.{is_refused, AllGranted, covers, are_covering, OnlyCovered, OnlyCoveredFrom}
+use Rattle.step_laws.specs.AccessLaw.{is_refused, NoneRefused, covers, are_covering, OnlyCovered, OnlyCoveredFrom}
 
 -- ---- refusals
 
-pub granted-nil : AllGranted []
-granted-nil = All-nil (λ event. is_refused event.what ≡ false)
+pub unrefused-nil : NoneRefused []
+unrefused-nil = All-nil (λ event. is_refused event.what ≡ false)
 
-pub granted-cons : (e : Event) (es : List Event) → is_refused e.what ≡ false → AllGranted es → AllGranted (e ∷ es)
-granted-cons e es first rest = All-cons (λ event. is_refused event.what ≡ false) e es first rest
+pub unrefused-cons : (e : Event) (es : List Event) → is_refused e.what ≡ false → NoneRefused es → NoneRefused (e ∷ es)
+unrefused-cons e es first rest = All-cons (λ event. is_refused event.what ≡ false) e es first rest
 
-pub granted-append : (xs ys : List Event) → AllGranted xs → AllGranted ys → AllGranted (xs ++ ys)
-granted-append xs ys first rest = All-append (λ event. is_refused event.what ≡ false) xs ys first rest
+pub unrefused-append : (xs ys : List Event) → NoneRefused xs → NoneRefused ys → NoneRefused (xs ++ ys)
+unrefused-append xs ys first rest = All-append (λ event. is_refused event.what ≡ false) xs ys first rest
 
 -- the last event is the refusal of this access
 pub record LastRefused (access : Access) (cause : Cause) (events : List Event) : Type 0 where
-  pub granted : List Event
+  pub unrefused : List Event
   pub refused : Event
   pub rule : Rule
-  pub events_are : events ≡ granted ++ refused ∷ []
-  pub are_granted : AllGranted granted
+  pub events_are : events ≡ unrefused ++ refused ∷ []
+  pub none_refused : NoneRefused unrefused
   pub is_refusal : refused.what ≡ Accessed (record { access = access; rule = rule; refused = Some cause })
 
 -- lines that end in a failure, or in none
 abbrev pub EndIn : Option Failure → List Event → Type 0
-EndIn None events = AllGranted events
+EndIn None events = NoneRefused events
 EndIn (Some (Refused access cause)) events = LastRefused access cause events
-EndIn (Some (Usage fault)) events = AllGranted events
-EndIn (Some (Stop why)) events = AllGranted events
+EndIn (Some (Usage fault)) events = NoneRefused events
+EndIn (Some (Stop why)) events = NoneRefused events
 
 abbrev pub failure_in : Result ℕ Failure → Option Failure
 failure_in (Ok value) = None
 failure_in (Err why) = Some why
 
-last-append : (access : Access) (cause : Cause) (xs ys : List Event) → AllGranted xs →
+last-append : (access : Access) (cause : Cause) (xs ys : List Event) → NoneRefused xs →
     LastRefused access cause ys → LastRefused access cause (xs ++ ys)
 last-append access cause xs ys before last = record {
-  granted = xs ++ last.granted;
+  unrefused = xs ++ last.unrefused;
   refused = last.refused;
   rule = last.rule;
-  events_are = ap (λ es. xs ++ es) last.events_are ∙ sym (append_assoc xs last.granted (last.refused ∷ []));
-  are_granted = granted-append xs last.granted before last.are_granted;
+  events_are = ap (λ es. xs ++ es) last.events_are ∙ sym (append_assoc xs last.unrefused (last.refused ∷ []));
+  none_refused = unrefused-append xs last.unrefused before last.none_refused;
   is_refusal = last.is_refusal;
 }
 
--- granted lines before them
-pub ends-append : (failure : Option Failure) (xs ys : List Event) → AllGranted xs → EndIn failure ys →
+-- unrefused lines before them
+pub ends-append : (failure : Option Failure) (xs ys : List Event) → NoneRefused xs → EndIn failure ys →
     EndIn failure (xs ++ ys)
-ends-append None xs ys before end = granted-append xs ys before end
+ends-append None xs ys before end = unrefused-append xs ys before end
 ends-append (Some (Refused access cause)) xs ys before end = last-append access cause xs ys before end
-ends-append (Some (Usage fault)) xs ys before end = granted-append xs ys before end
-ends-append (Some (Stop why)) xs ys before end = granted-append xs ys before end
+ends-append (Some (Usage fault)) xs ys before end = unrefused-append xs ys before end
+ends-append (Some (Stop why)) xs ys before end = unrefused-append xs ys before end
 
 -- ---- bytes
 

@@ -29,9 +29,9 @@ use Rattle.reference.specs.Step.{running, unless_stopped, step}
 use Rattle.reference.specs.Time.{last_tick}
 use Rattle.reference.specs.Words.{word_sum}
 use Rattle.step_laws.specs.AccessLaw.{OnlyCovered}
-use Rattle.step_laws.proofs.Lines.{granted-nil, granted-append, EndIn, failure_in, ends-append, covered-append, covered-same}
+use Rattle.step_laws.proofs.Lines.{unrefused-nil, unrefused-append, EndIn, failure_in, ends-append, covered-append, covered-same}
 use Rattle.step_laws.proofs.Bytes.{either, perform_writes, told_ends, ServedWell, served_well}
-use Rattle.step_laws.proofs.Faults.{IsLawful, MayGoOn, at_first, goes_on_lawful, failed_granted, failed_lawful}
+use Rattle.step_laws.proofs.Faults.{IsLawful, MayGoOn, at_first, goes_on_lawful, failed_unrefused, failed_lawful}
 use Rattle.step_laws.proofs.Faults.{supervisor_lawful}
 use Rattle.step_laws.proofs.Exceptions.{entry_lawful, vector_step_lawful, return_lawful}
 
@@ -41,22 +41,22 @@ ended_lawful : (old : Memory) (s : State) (events : List Event) (end : Ending) �
     IsLawful old (ended s events end)
 ended_lawful old s events ending.Next ready = goes_on_lawful old s events ready
 ended_lawful old s events (ending.ReadSpecial o) ready =
-    record { one_refusal = inl ready.granted; only_covered = ready.only }
+    record { one_refusal = inl ready.unrefused; only_covered = ready.only }
 ended_lawful old s events (ending.WriteSpecial special value) ready =
-    record { one_refusal = inl ready.granted; only_covered = ready.only }
+    record { one_refusal = inl ready.unrefused; only_covered = ready.only }
 ended_lawful old s events (ending.ChangeState o) ready =
-    record { one_refusal = inl ready.granted; only_covered = ready.only }
-ended_lawful old s events ending.Sleep ready = record { one_refusal = inl ready.granted; only_covered = ready.only }
+    record { one_refusal = inl ready.unrefused; only_covered = ready.only }
+ended_lawful old s events ending.Sleep ready = record { one_refusal = inl ready.unrefused; only_covered = ready.only }
 ended_lawful old s events (ending.SupervisorCall number) ready = supervisor_lawful old s events ready
 ended_lawful old s events (ending.Breakpoint number) ready =
-    record { one_refusal = inl ready.granted; only_covered = ready.only }
+    record { one_refusal = inl ready.unrefused; only_covered = ready.only }
 ended_lawful old s events (ending.ExceptionReturn value) ready = return_lawful old s events value ready
 
 finished_lawful : (old : Memory) (s : State) (events : List Event) (f : Finished) → MayGoOn old s events →
     IsLawful old (finished s events f)
 finished_lawful old s events f ready =
     ended_lawful old (with_registers s f.registers) events f.ending
-    (record { granted = ready.granted; only = ready.only })
+    (record { unrefused = ready.unrefused; only = ready.only })
 
 -- ---- its accesses
 
@@ -65,12 +65,12 @@ served_lawful : (old : Memory) (s : State) (events : List Event) (i : CodedInstr
     all.failure ≡ end → MayGoOn old s events → ServedWell s.bus.memory all → IsLawful old (served s events i all end)
 served_lawful old s events i all None is ready well =
     finished_lawful old (with_bus s all.bus) (events ++ all.events) (result_of i s.registers all.values) (record {
-      granted = granted-append events all.events ready.granted (rw is at well.ends);
+      unrefused = unrefused-append events all.events ready.unrefused (rw is at well.ends);
       only = covered-append old s.bus.memory all.bus.memory events all.events ready.only well.only;
     })
 served_lawful old s events i all (Some why) is ready well =
     failed_lawful old (with_bus s all.bus) (events ++ all.events) why
-    (ends-append (Some why) events all.events ready.granted (rw is at well.ends))
+    (ends-append (Some why) events all.events ready.unrefused (rw is at well.ends))
     (covered-append old s.bus.memory all.bus.memory events all.events ready.only well.only)
 
 performed_lawful : (old : Memory) (s : State) (events : List Event) (i : CodedInstruction) (qs : List Request) →
@@ -83,7 +83,7 @@ planned_lawful : (old : Memory) (s : State) (events : List Event) (i : CodedInst
     (List Request) Failure) →
     MayGoOn old s events → IsLawful old (planned s events i asked)
 planned_lawful old s events i (Ok qs) ready = performed_lawful old s events i qs ready
-planned_lawful old s events i (Err why) ready = failed_granted old s events why ready
+planned_lawful old s events i (Err why) ready = failed_unrefused old s events why ready
 
 -- ---- the decoded instruction
 
@@ -92,7 +92,7 @@ meaningless_lawful : (old : Memory) (s : State) (events : List Event) (length : 
     MayGoOn old s events → IsLawful old (without_meaning s events length fault)
 meaningless_lawful old s events length fault ready =
     either (IsLawful old) (condition_passed s.registers.it_state s.registers.flags) _ _
-    (λ passed. failed_granted old s events (failure.Usage fault) ready)
+    (λ passed. failed_unrefused old s events (failure.Usage fault) ready)
     (λ skipped. finished_lawful old s events (moves_on length s.registers) ready)
 
 executed_lawful : (old : Memory) (s : State) (events : List Event) (length : InstructionLength) (d : Decoded) →
@@ -103,7 +103,7 @@ executed_lawful old s events length decoded.Undefined ready =
 executed_lawful old s events length decoded.NoCoprocessor ready =
     meaningless_lawful old s events length NoCoprocessor ready
 executed_lawful old s events length (decoded.Unpredictable place why) ready =
-    record { one_refusal = inl ready.granted; only_covered = ready.only }
+    record { one_refusal = inl ready.unrefused; only_covered = ready.only }
 
 -- ---- the fetches
 
@@ -119,7 +119,7 @@ fetch_leaves old s events q ready =
     let answer = perform s.registers.exception s.bus q in record {
       ends =
           ends-append (failure_in (value_of q answer.performed)) events
-          (access_lines s.bus.system.time.ticks q answer.performed) ready.granted
+          (access_lines s.bus.system.time.ticks q answer.performed) ready.unrefused
           (told_ends s.bus.system.time.ticks q answer.performed);
       only =
           covered-append old s.bus.memory answer.bus.memory events
@@ -130,7 +130,7 @@ fetch_leaves old s events q ready =
 second_lawful : (old : Memory) (s : State) (events : List Event) (hw1 : ℕ) (answer : Result ℕ Failure) →
     Fetched old s events answer → IsLawful old (fetched_second s events hw1 answer)
 second_lawful old s events hw1 (Ok hw2) fetched =
-    executed_lawful old s events Long _ (record { granted = fetched.ends; only = fetched.only })
+    executed_lawful old s events Long _ (record { unrefused = fetched.ends; only = fetched.only })
 second_lawful old s events hw1 (Err why) fetched = failed_lawful old s events why fetched.ends fetched.only
 
 with_second_lawful : (old : Memory) (s : State) (events : List Event) (hw1 : ℕ) → MayGoOn old s events →
@@ -145,7 +145,7 @@ with_second_lawful old s events hw1 ready =
 first_lawful : (old : Memory) (s : State) (events : List Event) (answer : Result ℕ Failure) →
     Fetched old s events answer → IsLawful old (fetched_first s events answer)
 first_lawful old s events (Ok hw1) fetched =
-    with_second_lawful old s events hw1 (record { granted = fetched.ends; only = fetched.only })
+    with_second_lawful old s events hw1 (record { unrefused = fetched.ends; only = fetched.only })
 first_lawful old s events (Err why) fetched = failed_lawful old s events why fetched.ends fetched.only
 
 -- an Instruction step
@@ -156,7 +156,7 @@ instruction_lawful s =
     either (IsLawful s.bus.memory) s.registers.thumb _ _
     (λ thumb. first_lawful s.bus.memory _ _ _
     (fetch_leaves s.bus.memory s [] (fetching s.registers s.registers.pc) ready))
-    (λ arm. failed_granted s.bus.memory s [] (failure.Usage InvalidState) ready)
+    (λ arm. failed_unrefused s.bus.memory s [] (failure.Usage InvalidState) ready)
 
 -- ---- the step
 
@@ -172,12 +172,12 @@ phase_lawful s None None =
 running_lawful : (s : State) → IsLawful s.bus.memory (running s)
 running_lawful s =
     either (IsLawful s.bus.memory) (nat_le last_tick s.bus.system.time.ticks) _ _
-    (λ late. record { one_refusal = inl granted-nil; only_covered = covered-same s.bus.memory [] })
+    (λ late. record { one_refusal = inl unrefused-nil; only_covered = covered-same s.bus.memory [] })
     (λ early. phase_lawful (ticked s) s.entry _)
 
 stopped_lawful : (s : State) (why : Option Stop) → IsLawful s.bus.memory (unless_stopped s why)
 stopped_lawful s None = running_lawful s
-stopped_lawful s (Some why) = record { one_refusal = inl granted-nil; only_covered = covered-same s.bus.memory [] }
+stopped_lawful s (Some why) = record { one_refusal = inl unrefused-nil; only_covered = covered-same s.bus.memory [] }
 
 -- a step
 pub step_lawful : (s : State) → IsLawful s.bus.memory (step s)

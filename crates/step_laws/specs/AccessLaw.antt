@@ -29,8 +29,8 @@ is_refused (HandlerEntered exception) = false
 is_refused (FaultRecorded fault) = false
 
 -- no access is refused
-abbrev pub AllGranted : List Event → Type 0
-AllGranted events = All (λ event. is_refused event.what ≡ false) events
+abbrev pub NoneRefused : List Event → Type 0
+NoneRefused events = All (λ event. is_refused event.what ≡ false) events
 
 -- a fault line is of a fault of the table: its bits are set in CFSR and HFSR, and what became pending is its exception,
 -- or HardFault in its place; in lockup nothing did
@@ -41,11 +41,11 @@ pub record IsLineOf (effect : FaultEffect) (fault : RecordedFault) : Type 0 wher
 
 -- the last access is refused, and the last event is the line of its fault
 pub record EndsRefused (events : List Event) : Type 0 where
-  pub granted : List Event
+  pub before : List Event
   pub refused : Event
   pub last : Event
-  pub events_are : events ≡ granted ++ refused ∷ last ∷ []
-  pub are_granted : AllGranted granted
+  pub events_are : events ≡ before ++ refused ∷ last ∷ []
+  pub none_refused : NoneRefused before
   pub access : Access
   pub rule : Rule
   pub cause : Cause
@@ -56,7 +56,7 @@ pub record EndsRefused (events : List Event) : Type 0 where
 
 -- at most one access is refused: it is the last access, and the next event, which is the last, is the line of its fault
 abbrev pub OneRefusal : List Event → Type 0
-OneRefusal events = AllGranted events ⊎ EndsRefused events
+OneRefusal events = NoneRefused events ⊎ EndsRefused events
 
 -- ---- bytes
 

@@ -29,11 +29,11 @@ out   -V, --version  Print version
 out
 out Exit status:
 out   0  all steps were made, a breakpoint was met, or a debug session ended; or the version was asked for
-out   2  the words are wrong, or help was asked for (marm: usage)
+out   2  the arguments are wrong, or help was asked for (marm: usage)
 out   3  the image or the board is refused, or memory ran out for the board or the machine
 out      (marm: load, board, start, size)
 out   4  the machine stopped otherwise: the trace's last line says why
-out   5  reading or writing failed, or memory ran out for the words or a file (marm: io)
+out   5  reading or writing failed, or memory ran out for the arguments or a file (marm: io)
 out
 out Example:
 out   marm run --board examples/boards/small.toml --steps 10 examples/first.elf
@@ -50,8 +50,8 @@ out Arguments:
 out   <IMAGE>  The image: an ELF file for ARM of at most 16 MiB, linked to run
 out
 out Options:
-out       --board <FILE>  The board: a TOML file of at most 16 MiB with the memory, the lines and the events
-out       --steps <N>     The most steps (instructions, entries, idle ticks) to make, from 0 to 4294967296
+out       --board <FILE>  The board: a TOML file of at most 16 MiB with the memory sizes, the interrupt lines and the events
+out       --steps <N>     The most steps (instructions, halves of exception entries, idle ticks) to make, from 0 to 4294967296
 out   -h, --help          Print help
 out
 out The trace has one line for each access: its tick, kind, address, size in bytes, privilege, outcome,
@@ -59,11 +59,11 @@ out and the rule or region that decided it. Its last line says why the run ended
 out
 out Exit status:
 out   0  all steps were made, or a breakpoint was met
-out   2  the words are wrong, or help was asked for (marm: usage)
+out   2  the arguments are wrong, or help was asked for (marm: usage)
 out   3  the image or the board is refused, or memory ran out for the board or the machine
 out      (marm: load, board, start, size)
 out   4  the machine stopped otherwise: the trace's last line says why
-out   5  reading or writing failed, or memory ran out for the words or a file (marm: io)
+out   5  reading or writing failed, or memory ran out for the arguments or a file (marm: io)
 out
 out Example:
 out   marm run --board examples/boards/small.toml --steps 10 examples/first.elf
@@ -87,11 +87,11 @@ out   -V, --version  Print version
 out
 out Exit status:
 out   0  all steps were made, a breakpoint was met, or a debug session ended; or the version was asked for
-out   2  the words are wrong, or help was asked for (marm: usage)
+out   2  the arguments are wrong, or help was asked for (marm: usage)
 out   3  the image or the board is refused, or memory ran out for the board or the machine
 out      (marm: load, board, start, size)
 out   4  the machine stopped otherwise: the trace's last line says why
-out   5  reading or writing failed, or memory ran out for the words or a file (marm: io)
+out   5  reading or writing failed, or memory ran out for the arguments or a file (marm: io)
 out
 out Example:
 out   marm run --board examples/boards/small.toml --steps 10 examples/first.elf
@@ -108,8 +108,8 @@ out Arguments:
 out   <IMAGE>  The image: an ELF file for ARM of at most 16 MiB, linked to run
 out
 out Options:
-out       --board <FILE>  The board: a TOML file of at most 16 MiB with the memory, the lines and the events
-out       --steps <N>     The most steps (instructions, entries, idle ticks) to make, from 0 to 4294967296
+out       --board <FILE>  The board: a TOML file of at most 16 MiB with the memory sizes, the interrupt lines and the events
+out       --steps <N>     The most steps (instructions, halves of exception entries, idle ticks) to make, from 0 to 4294967296
 out   -h, --help          Print help
 out
 out The trace has one line for each access: its tick, kind, address, size in bytes, privilege, outcome,
@@ -117,11 +117,11 @@ out and the rule or region that decided it. Its last line says why the run ended
 out
 out Exit status:
 out   0  all steps were made, or a breakpoint was met
-out   2  the words are wrong, or help was asked for (marm: usage)
+out   2  the arguments are wrong, or help was asked for (marm: usage)
 out   3  the image or the board is refused, or memory ran out for the board or the machine
 out      (marm: load, board, start, size)
 out   4  the machine stopped otherwise: the trace's last line says why
-out   5  reading or writing failed, or memory ran out for the words or a file (marm: io)
+out   5  reading or writing failed, or memory ran out for the arguments or a file (marm: io)
 out
 out Example:
 out   marm run --board examples/boards/small.toml --steps 10 examples/first.elf
@@ -138,7 +138,7 @@ out Arguments:
 out   <IMAGE>  The image: an ELF file for ARM of at most 16 MiB, linked to run
 out
 out Options:
-out       --board <FILE>  The board: a TOML file of at most 16 MiB with the memory, the lines and the events
+out       --board <FILE>  The board: a TOML file of at most 16 MiB with the memory sizes, the interrupt lines and the events
 out   -h, --help          Print help
 out
 out Commands, one a line on standard input; numbers are decimal, or hexadecimal after 0x:
@@ -162,10 +162,10 @@ out and `error 3` (16 breakpoints are set) change nothing.
 out
 out Exit status:
 out   0  the session ended
-out   2  the words are wrong, or help was asked for (marm: usage)
+out   2  the arguments are wrong, or help was asked for (marm: usage)
 out   3  the image or the board is refused, or memory ran out for the board or the machine
 out      (marm: load, board, start, size)
-out   5  reading or writing failed, or memory ran out for the words or a file (marm: io)
+out   5  reading or writing failed, or memory ran out for the arguments or a file (marm: io)
 out
 out Example:
 out   echo 'explain 0x20000000 u w' |
@@ -183,7 +183,7 @@ out Arguments:
 out   <IMAGE>  The image: an ELF file for ARM of at most 16 MiB, linked to run
 out
 out Options:
-out       --board <FILE>  The board: a TOML file of at most 16 MiB with the memory, the lines and the events
+out       --board <FILE>  The board: a TOML file of at most 16 MiB with the memory sizes, the interrupt lines and the events
 out   -h, --help          Print help
 out
 out Commands, one a line on standard input; numbers are decimal, or hexadecimal after 0x:
@@ -207,10 +207,10 @@ out and `error 3` (16 breakpoints are set) change nothing.
 out
 out Exit status:
 out   0  the session ended
-out   2  the words are wrong, or help was asked for (marm: usage)
+out   2  the arguments are wrong, or help was asked for (marm: usage)
 out   3  the image or the board is refused, or memory ran out for the board or the machine
 out      (marm: load, board, start, size)
-out   5  reading or writing failed, or memory ran out for the words or a file (marm: io)
+out   5  reading or writing failed, or memory ran out for the arguments or a file (marm: io)
 out
 out Example:
 out   echo 'explain 0x20000000 u w' |

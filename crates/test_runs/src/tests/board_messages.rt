@@ -148,7 +148,7 @@ a number with an exponent
 with regions = 8e0
 ends 3
 err marm: board 3 WrongKind
-err   board.toml: regions is 8.0, a float: it takes 8 or 16, and 8 where it isn't there; an integer has no point and no quotes
+err   board.toml: regions is 8.0, a float: it takes 8 or 16 (8 where the key is missing); an integer has no point and no quotes
 
 a number in quotes
 board flash_base = 0

@@ -480,7 +480,7 @@ nine regions
 with regions = 9
 ends 3
 err marm: board 4 OutOfRange
-err   board.toml: regions is 9: it takes 8 or 16, and 8 where it isn't there
+err   board.toml: regions is 9: it takes 8 or 16 (8 where the key is missing)
 
 events that are no list
 with event = 1
@@ -616,7 +616,7 @@ fn words_without_memory_are_io(rt: HostRuntime) {
     let mut err = Cut::whole();
     let status = answer(WordsFault::OutOfMemory, &mut out, &mut err);
     assert!(rt; status == 5 && out.text.is_empty());
-    let line = b"marm: io\n  no memory was found for the words\n";
+    let line = b"marm: io\n  no memory was found for the arguments\n";
     assert!(rt; err.text.as_slice() == line.as_slice());
 }
 
@@ -625,7 +625,7 @@ fn words_that_cannot_be_read_are_io(rt: HostRuntime) {
     let mut err = Cut::whole();
     let status = refuse_words(&io::Error::from(io::ErrorKind::OutOfMemory), &mut err);
     assert!(rt; status == 5);
-    assert!(rt; err.text.as_slice() == b"marm: io\n  the words: out of memory\n".as_slice());
+    assert!(rt; err.text.as_slice() == b"marm: io\n  the arguments: out of memory\n".as_slice());
 }
 
 /// Returns whether the reason of a fault of the first image on the small board is this line.
