@@ -1,4 +1,4 @@
-"""Counts the instructions of the processor that a step of marm takes, on boards with different scripts and with regions."""
+"""Counts the host instructions that a step of marm takes, on boards with different scripts and with regions."""
 
 import re
 import subprocess

@@ -11,7 +11,7 @@ pub struct Interval {
     pub region: Option<u8>,
 }
 
-// An empty interval: the value of the unused elements of a fixed-size list.
+// A blank interval: the value of the unused elements of a fixed-size list.
 impl Default for Interval {
     fn default() -> Self {
         Interval {

@@ -33,7 +33,7 @@ abbrev pub counts : ℕ → SysTick → SysTick
 counts zero t = t
 counts (suc k) t = counted (counts k t)
 
--- from 0 the counter takes RVR and one more counts to come back to 0, and in between it has the value of each count
+-- from 0 the counter takes RVR and one more counts to come back to 0, and in between it falls from RVR by one a count
 abbrev pub HasThePeriod : SysTick → Type 0
 HasThePeriod t =
     t.enable ≡ true → t.current ≡ 0 →

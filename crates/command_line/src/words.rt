@@ -211,8 +211,8 @@ Commands, one a line on standard input; numbers are decimal, or hexadecimal afte
 Words are separated by exactly one space. A line ends with a line feed, without a carriage return, and
 has at most 80 bytes before it. The last line needs no line feed.
 
-Answers `error 1` (no such command, or another number of words), `error 2` (a word isn't allowed there)
-and `error 3` (16 breakpoints are set) change nothing.
+Answers `error 1` (no such command, a wrong number of words, or a line of more than 80 bytes), `error 2`
+(a word isn't allowed there) and `error 3` (16 breakpoints are set) change nothing.
 
 Exit status:
   0  the session ended

@@ -35,7 +35,7 @@ pub enum Command {
 /// Why a line is no command.
 #[derive(Clone, Copy)]
 pub enum LineFault {
-    /// There is no such command, it takes another number of words, or the line is too long.
+    /// There is no such command, the number of words is wrong, or the line is too long.
     Command,
     /// A word isn't a number or a letter that is allowed there.
     Word,

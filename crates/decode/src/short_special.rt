@@ -52,7 +52,7 @@ fn add_high(d: Register, m: Register) -> Decoded
     )
 }
 
-/// Returns CMP of any registers, of which one is above R7.
+/// Returns CMP of any registers, of which at least one is above R7.
 #[tactic(auto, unfolding(reference::specs::ShortSpecial::compare_high_row))]
 fn compare_high(n: Register, m: Register) -> Decoded
     ensures { result ≡ compare_high_row n m }

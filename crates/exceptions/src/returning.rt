@@ -101,8 +101,9 @@ impl<D: Decider, C: CodeLines, L: Levels, U: DueTicks> Core<D, C, L, U> {
         }
     }
 
-    /// Returns whether a return is allowed: the handler's exception is active, and a return to
-    /// Thread mode leaves no other one active, unless CCR.NONBASETHRDENA is 1.
+    /// Returns whether a return is allowed: the handler's exception is active; bits 3:0 of EXC_RETURN are
+    /// 0001, 1001 or 1101; and a return to Thread mode leaves no other exception active, unless
+    /// CCR.NONBASETHRDENA is 1.
     fn is_allowed(&self, exc_return: u32) -> bool
         ensures { result ≡ is_allowed_of self.now exc_return }
     {

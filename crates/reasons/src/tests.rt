@@ -20,7 +20,7 @@ fn the_text_of_lines_has_the_most_lines(rt: HostRuntime) -> Result<(), Fail> {
 fn the_text_of_regions_has_both_counts(rt: HostRuntime) -> Result<(), Fail> {
     let few = RegionCount::Eight.number();
     let many = RegionCount::Sixteen.number();
-    let takes = format!(in rt.alloc(); "{few} or {many}, and {few} where it isn't there")?;
+    let takes = format!(in rt.alloc(); "{few} or {many} ({few} where the key is missing)")?;
     assert!(rt; REGIONS.takes == takes.as_str());
     'counts: for regions in 0..32i64 {
         let taken = regions == i64::from(few) || regions == i64::from(many);

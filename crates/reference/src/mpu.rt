@@ -36,7 +36,7 @@ pub struct Region {
     pub attributes: u32,
 }
 
-/// The most regions that an MPU can have here, of the 256 that MPU_TYPE.DREGION can say (profile).
+/// The most regions that an MPU can have here, of the 255 that MPU_TYPE.DREGION can say (profile).
 pub const MOST_REGIONS: u8 = 16;
 
 /// How many regions an MPU has: MPU_TYPE.DREGION.

@@ -157,8 +157,8 @@ out
 out Words are separated by exactly one space. A line ends with a line feed, without a carriage return, and
 out has at most 80 bytes before it. The last line needs no line feed.
 out
-out Answers `error 1` (no such command, or another number of words), `error 2` (a word isn't allowed there)
-out and `error 3` (16 breakpoints are set) change nothing.
+out Answers `error 1` (no such command, a wrong number of words, or a line of more than 80 bytes), `error 2`
+out (a word isn't allowed there) and `error 3` (16 breakpoints are set) change nothing.
 out
 out Exit status:
 out   0  the session ended
@@ -202,8 +202,8 @@ out
 out Words are separated by exactly one space. A line ends with a line feed, without a carriage return, and
 out has at most 80 bytes before it. The last line needs no line feed.
 out
-out Answers `error 1` (no such command, or another number of words), `error 2` (a word isn't allowed there)
-out and `error 3` (16 breakpoints are set) change nothing.
+out Answers `error 1` (no such command, a wrong number of words, or a line of more than 80 bytes), `error 2`
+out (a word isn't allowed there) and `error 3` (16 breakpoints are set) change nothing.
 out
 out Exit status:
 out   0  the session ended
