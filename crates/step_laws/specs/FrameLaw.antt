@@ -11,7 +11,7 @@ use Rattle.reference.specs.Registers.{Registers, is_handler, uses_psp, sp}
 use Rattle.reference.specs.State.{State}
 use Rattle.reference.specs.Words.{word_sum}
 
--- what a frame keeps of the registers is back: also the mode and the stack that SP is, and SP itself
+-- what a frame keeps of the registers is back: also the mode, which of the two stack pointers SP is, and SP itself
 pub record AreBack (r back : Registers) : Type 0 where
   pub r0 : slice_index back.general 0 ≡ slice_index r.general 0
   pub r1 : slice_index back.general 1 ≡ slice_index r.general 1

@@ -20,8 +20,8 @@ pub fn accesses_of_a_step()
 {}
 
 /// The words of a frame restore the registers that were pushed: R0 to R3, R12, LR, PC, the flags,
-/// IT, T, the exception's number, the mode, the stack that SP is, and SP itself with its bit 2. The
-/// invariant holds of the registers before the push and before the pop, and the stack pointer that
+/// IT, T, the exception's number, the mode, which of the two stack pointers SP is, and SP itself with its
+/// bit 2. The invariant holds of the registers before the push and before the pop, and the stack pointer that
 /// EXC_RETURN names is as it was after the push (ARM DDI 0403, PushStack() and PopStack()).
 pub fn frame_gives_registers_back()
     ensures { (r u : Registers) → FrameGivesBack r u }
