@@ -138,8 +138,8 @@ in_it_block it_state = not (it_state % 2 ^ 4 == 0)
 abbrev pub last_in_it_block : ℕ → Bool
 last_in_it_block it_state = it_state % 2 ^ 4 == 8
 
--- CurrentCond() of an instruction that has none of its own: that of the IT block, or AL outside one. IT<3:0> = 0 with
--- other bits is UNPREDICTABLE in CurrentCond(); AL here (profile)
+-- CurrentCond() of an instruction that has none of its own: that of the IT block, or AL outside one. IT<3:0> = 0
+-- where IT<7:4> isn't 0 is UNPREDICTABLE in CurrentCond(); here it is AL (profile)
 abbrev pub current_condition : ℕ → ℕ
 current_condition it_state = if in_it_block it_state then it_state / 2 ^ 4 else 14
 

@@ -89,8 +89,8 @@ IsOfBoard lines (Fall line) = line < lines
 IsOfBoard lines (Pulse line) = line < lines
 IsOfBoard lines Nmi = Unit {0}
 
--- the events of a script, the first of them no earlier than a tick: none is earlier than the one ahead of it or later
--- than the clock's last tick, and each is on a line that the board has, or is NMI
+-- the events of a script that begins at the tick `before` or later: none is earlier than the event in front of it, none
+-- is later than the clock's last tick, and each is on a line that the board has, or is NMI
 abbrev pub IsScriptFrom : ℕ → ℕ → List ScriptedEvent → Type 0
 IsScriptFrom lines before [] = Unit {0}
 IsScriptFrom lines before (event ∷ events) =

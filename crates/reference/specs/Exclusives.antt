@@ -49,7 +49,8 @@ without_mark r = record r { monitor = None }
 abbrev pub exclusive_address : ℕ → ℕ → Registers → ℕ
 exclusive_address base offset r = word_sum (register r base) offset
 
--- an unaligned access is UsageFault UNALIGNED whatever CCR says, and one to a device stops (profile)
+-- an unaligned access is UsageFault UNALIGNED whatever CCR says; an aligned one to the device window or the Private
+-- Peripheral Bus stops (profile)
 unfoldable pub exclusive_access : Kind → Bool → Size → ℕ → ℕ → Result (List Request) Failure
 exclusive_access kind privileged size address value =
     if not (is_aligned size address) then Err (Usage Unaligned)

@@ -45,7 +45,7 @@ vector_fault = record { exception = HARD_FAULT; cfsr = 0; hfsr = VECTTBL; addres
 
 -- the fault of a refused access at an address, by what it was for and what refused it. `Vector Mpu` and `Probe Bus`
 -- never occur: the rule `vec` grants every read of a vector, and a probe doesn't reach the bus. A refused fetch leaves
--- MMARVALID and MMFAR as they were, and a bus error is always precise, PRECISERR (profile)
+-- MMARVALID and MMFAR as they were, and a bus error of a load or a store is always precise: PRECISERR (profile)
 abbrev pub access_fault : Kind → Cause → ℕ → FaultEffect
 access_fault Fetch Mpu address = mem_manage IACCVIOL NotKept
 access_fault Load Mpu address = mem_manage (DACCVIOL + MMARVALID) (Mmfar address)

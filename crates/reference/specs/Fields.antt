@@ -81,7 +81,7 @@ clear_field o r = with_register r o.destination (cleared (register r o.destinati
 
 -- ---- extension
 
--- how many bits it has
+-- how many bits a byte, a halfword or a word has
 abbrev pub width_of : Size → ℕ
 width_of Byte = 8
 width_of Halfword = 16

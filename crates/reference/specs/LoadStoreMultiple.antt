@@ -27,7 +27,7 @@ use Rattle.reference.specs.Words.{word_sum, negated, is_bit}
 
 -- ---- lists
 
--- the registers of a list that have a number below that, the lowest first
+-- the registers of a list that have a number below `top`, the lowest first
 unfoldable pub registers_below : ℕ → ℕ → List ℕ
 registers_below top list = filter (λ n. is_bit list n) (range_with_len 0 top)
 

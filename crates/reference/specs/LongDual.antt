@@ -118,7 +118,7 @@ tbb_t1 = record {
   gives = λ f. table_branch_row (byte_or_halfword f.H) f.n f.m;
 }
 
--- LDRD (literal), encoding T1; P = 0 with W = 0 are the rows above
+-- LDRD (literal), encoding T1; P = 0 with W = 0 are the rows above, or UNDEFINED
 abbrev pub ldrd_literal_t1 : Row
 ldrd_literal_t1 = record {
   places = unspaced (codes "1110100 P U 1 W 1 1111 tttt uuuu iiiiiiii");
@@ -130,7 +130,7 @@ ldrd_literal_t1 = record {
   });
 }
 
--- LDRD (immediate), encoding T1; P = 0 with W = 0 are the rows above, and with n = 1111 it is LDRD (literal)
+-- LDRD (immediate), encoding T1; P = 0 with W = 0 are the rows above, or UNDEFINED, and with n = 1111 it is LDRD (literal)
 abbrev pub ldrd_immediate_t1 : Row
 ldrd_immediate_t1 = record {
   places = unspaced (codes "1110100 P U 1 W 1 nnnn tttt uuuu iiiiiiii");
@@ -140,7 +140,7 @@ ldrd_immediate_t1 = record {
   gives = λ f. load_dual_row (record { first = f.t; second = f.u; address = dual_address f });
 }
 
--- STRD (immediate), encoding T1; P = 0 with W = 0 are the rows above
+-- STRD (immediate), encoding T1; P = 0 with W = 0 are the rows above, or UNDEFINED
 abbrev pub strd_immediate_t1 : Row
 strd_immediate_t1 = record {
   places = unspaced (codes "1110100 P U 1 W 0 nnnn tttt uuuu iiiiiiii");

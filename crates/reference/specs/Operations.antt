@@ -48,7 +48,7 @@ is_carried_out i r = is_unconditional i || condition_passed r.it_state r.flags
 
 -- ---- the accesses of an instruction
 
--- one that is carried out: the accesses in their order, or the fault or the stop for which there are none
+-- one that is carried out: the accesses in their order, or the fault or the stop that comes in place of them
 unfoldable pub requests_of : Traps → Instruction → Registers → Result (List Request) Failure
 requests_of traps (DataProcessing i) r = data_processing_requests traps i r
 requests_of traps (LoadStore i) r = load_store_requests traps i r

@@ -137,7 +137,7 @@ write_base m value = based (if is_bit value 4 then selected m (value % 16) else 
 abbrev pub kept_attributes : ℕ → ℕ
 kept_attributes value = bit_and value 0x173F_FF3F
 
--- an enabled region has at least 32 bytes and an AP other than 100, and below 256 bytes it has no subregions
+-- an enabled region has at least 32 bytes, an AP other than 100, and SRD 0 where it has fewer than 256 bytes
 abbrev pub is_accepted : ℕ → Bool
 is_accepted attributes =
     not (is_region_enabled attributes)

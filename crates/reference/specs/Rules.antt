@@ -19,7 +19,7 @@ use Rattle.reference.specs.Regions.{has_background, IsOwner}
 abbrev pub is_executable : ℕ → Bool
 is_executable a = nat_lt (a / 2 ^ 29) 2 || (a / 2 ^ 29 == 3) || (a / 2 ^ 29 == 4)
 
--- what the default map grants: every access but a fetch, and a fetch from an executable address
+-- what the default map grants: each access that isn't a fetch, and a fetch where the address is executable
 abbrev pub default_map : ℕ → Kind → Bool
 default_map a Fetch = is_executable a
 default_map a Load = true

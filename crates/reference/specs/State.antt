@@ -1,4 +1,5 @@
--- The state of the machine: one field for each part below. No field repeats what others determine.
+-- The state of the machine: a record whose fields are the records of other chapters. No field repeats what others
+-- determine.
 use Rattle.std.specs.Prelude.{ℕ, Bool, List, Option, Some}
 use Rattle.reference.specs.declared.event.Event.{Event}
 use Rattle.reference.specs.declared.stop.Stop.{Stop}

@@ -218,7 +218,7 @@ pub enum Hint {
     Unallocated,
 }
 
-/// What an instruction does beside the core registers that it writes itself.
+/// What is left to do of an instruction after `effect` has set the registers.
 #[derive(Clone, Copy)]
 pub enum Ending {
     /// Nothing: the step is over, and the PC is at the next instruction.

@@ -25,12 +25,12 @@ pub enum UnpredictableCase {
     Encoding,
     /// An instruction is in an IT block where it may not be.
     ItBlock,
-    /// No register in a list of 16 bits, or fewer than two in one of 32 bits.
+    /// No register in the list of a 16-bit encoding, or fewer than two in that of a 32-bit one.
     FewRegisters,
     /// Operands that the row doesn't allow: most often a register; also CPS without I and F, and LDRD
     /// (literal) with write-back.
     Registers,
-    /// A base register is stored that isn't the lowest of the list: the value stored is UNKNOWN.
+    /// STM of 16 bits whose base is in its list and isn't the lowest there: the value stored is UNKNOWN.
     StoredBase,
     /// A modified immediate that repeats a byte of 0.
     Immediate,
@@ -38,11 +38,12 @@ pub enum UnpredictableCase {
     BitField,
     /// A special register that isn't there.
     SpecialRegister,
-    /// A load to the PC from an address that isn't a multiple of 4.
+    /// LDR to the PC from an address that isn't a multiple of 4.
     LoadPc,
     /// LDRD (literal) where the PC isn't a multiple of 4.
     LiteralPc,
-    /// A write to RNR, RBAR or RASR: a missing region, SIZE below 4, AP 100, or SRD with SIZE below 7.
+    /// A write to RNR or RBAR that selects a missing region, or one to RASR that enables a region with SIZE
+    /// below 4, with AP 100, or with SRD not 0 and SIZE below 7.
     MpuRegion,
     /// MPU_CTRL.HFNMIENA without ENABLE.
     MpuControl,
@@ -57,9 +58,10 @@ pub enum UnpredictableCase {
 /// What this project's profile leaves out.
 #[derive(Clone, Copy)]
 pub enum LeftOut {
-    /// An exclusive access to the device window or the Private Peripheral Bus.
+    /// An aligned exclusive access to the device window or the Private Peripheral Bus.
     ExclusiveDevice,
-    /// An unaligned access to the device window or the Private Peripheral Bus.
+    /// An access that would be made byte by byte, with a byte in the device window or the Private Peripheral
+    /// Bus.
     UnalignedDevice,
     /// An access to a system register at a width that the register doesn't have.
     RegisterWidth,

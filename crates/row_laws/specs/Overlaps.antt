@@ -1,4 +1,4 @@
--- The rows whose texts some halfwords both fit, with the row that wins: what the manual says by "SEE".
+-- The pairs of rows whose texts fit the same halfwords, with the row that wins: what the manual says by "SEE".
 use Rattle.std.specs.Prelude.{List, [], ◌∷◌}
 use Rattle.reference.specs.Rows.{Row}
 use Rattle.reference.specs.ShortShifts.{mov_register_t2, lsl_immediate_t1}
