@@ -5,7 +5,7 @@ ghost use Rattle.reference.specs.Kinds.{bytes_in, is_fetch, is_load, is_probe, i
 
 use crate::stop::Stop;
 
-/// The most accesses of one instruction.
+/// No instruction has more accesses than this.
 pub const MOST_REQUESTS: usize = 16;
 
 /// What an access is for.

@@ -2,7 +2,7 @@
 
 use crate::access::DecidedAccess;
 
-/// The most lines of one step.
+/// No step has more lines than this.
 pub const MOST_EVENTS: usize = 40;
 
 /// One line of the trace.
