@@ -1,5 +1,5 @@
 -- What the value of an access is: it has no more bits than the access moves.
-use Rattle.std.specs.Prelude.{◌≡◌, ℕ, ◌^◌, ◌<◌, ⊤}
+use Rattle.std.specs.Prelude.{◌^◌, ◌<◌, ⊤}
 use Rattle.reference.specs.declared.access.Performed.{Performed}
 use Rattle.reference.specs.declared.access.Performed.TheVariants.{Done, Denied, Stop}
 use Rattle.reference.specs.declared.access.Size.{Size}

@@ -2,3 +2,4 @@ pub mod Boundaries
 pub mod Intervals
 pub mod Tables
 pub mod Windows
+pub mod Fetches

@@ -3,6 +3,7 @@
 #![tactic(auto)]
 
 mod boundaries;
+mod fetches;
 mod interval;
 mod kept_decisions;
 mod search;

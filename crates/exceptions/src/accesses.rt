@@ -113,6 +113,33 @@ pub fn fetch_known<D: Decider, C: CodeLines, L: Levels, U: DueTicks, S: Sink>(
     ensures room { length (S.emitted events.new).events ≤ length (S.emitted events.old).events + 1 }
     ensures answer { (exception : ℕ) → fetched_if result address privileged halfword ≡ value_of (fetch_at address privileged) (perform exception bus.old (fetch_at address privileged)).performed }
 {
+    if let Some(fetch) = bus.kept_fetch(address, privileged, halfword) {
+        events.emit_fetch(tick, fetch);
+        return true;
+    }
+    fetch_decided(bus, tick, events, address, privileged, halfword)
+}
+
+/// Makes the fetch of a halfword that memory is known to have and whose text isn't kept, and appends its line.
+/// Returns whether it was done; otherwise its rule refused it.
+#[cold]
+#[inline(never)]
+fn fetch_decided<D: Decider, C: CodeLines, L: Levels, U: DueTicks, S: Sink>(
+    bus: &mut Bus<D, C, L, U>,
+    tick: u64,
+    events: &mut S,
+    address: u32,
+    privileged: bool,
+    halfword: u16,
+) -> bool
+    requires known { HasHalfword bus.old.memory address halfword }
+    requires room { length (S.emitted events.old).events < MOST_EVENTS }
+    ensures bus { (exception : ℕ) → bus.new ≡ (perform exception bus.old (fetch_at address privileged)).bus }
+    ensures same { bus.new ≡ bus.old }
+    ensures events { (exception : ℕ) → S.emitted events.new ≡ with_emitted (S.emitted events.old) ((S.emitted events.old).events ++ access_lines tick (fetch_at address privileged) (perform exception bus.old (fetch_at address privileged)).performed) }
+    ensures room { length (S.emitted events.new).events ≤ length (S.emitted events.old).events + 1 }
+    ensures answer { (exception : ℕ) → fetched_if result address privileged halfword ≡ value_of (fetch_at address privileged) (perform exception bus.old (fetch_at address privileged)).performed }
+{
     let decision = bus.fetch_known(address, privileged, halfword);
     let request = fetch_at(address, privileged);
     if decision.granted {

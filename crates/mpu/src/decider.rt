@@ -1,6 +1,7 @@
 //! The trait `Decider`: it decides accesses by the registers of the MPU, however it keeps them.
 
-ghost use Rattle.std.specs.Prelude.{◌≡◌, ◌≤◌};
+ghost use Rattle.std.specs.Prelude.{◌≡◌, ◌≤◌, IfSome};
+ghost use Rattle.mpu.specs.Fetches.{GrantsFetch};
 ghost use Rattle.mpu.specs.Spans.{BelongTo};
 ghost use Rattle.reference.specs.Regions.{Mpu, owner};
 ghost use Rattle.reference.specs.Rules.{by_owner, decision_of};
@@ -9,6 +10,7 @@ use crate::registers::MpuRegs;
 use crate::rules::{Rights, before_regions, by_region, without_region};
 use crate::spans::Span;
 use reference::access::{Decision, Kind};
+use trace::fetches::KeptFetch;
 
 /// Decides each access by the MPU's registers as they were last loaded.
 pub trait Decider: Drop {
@@ -42,6 +44,16 @@ pub trait Decider: Drop {
         ensures kept { (m : Mpu) → stands_for self.old m → stands_for self.new m }
     {
         self.decide(address, kind, privileged, below_zero)
+    }
+
+    /// Returns the fetch of a halfword from an address, by code of that privilege, if it is kept with its
+    /// text: its rule grants it while the execution priority isn't below 0.
+    #[inline(always)]
+    fn kept_fetch(&self, address: u32, privileged: bool) -> Option<&KeptFetch>
+        ensures { (m : Mpu) → stands_for self.now m → IfSome result (λ fetch. GrantsFetch m address privileged fetch.now) }
+    {
+        let _unused = (address, privileged);
+        None
     }
 
     /// Returns an interval around an address in which each address has the same region, or none has

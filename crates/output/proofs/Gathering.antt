@@ -1,13 +1,12 @@
 -- Lines that wait on a page, after the bytes that a writer took.
-use Rattle.std.proofs.Common.{◌≡◌, ℕ, suc, ◌+◌, ◌<◌, List, [], ◌∷◌, length, take, drop, Option, Result, Ok, Err, refl}
-use Rattle.std.proofs.Common.{sym, arith, length-append, false, true, ◌==◌}
+use Rattle.std.proofs.Common.{◌≡◌, ℕ, ◌+◌, ◌<◌, List, [], ◌∷◌, length, take, drop, Option, Result, Ok, Err, refl}
+use Rattle.std.proofs.Common.{sym, arith, length-append}
 use Rattle.std.proofs.KnownBytes.{Appends-nil, Appends-kept, Keeps-trans, append_known-kept, append_known-moved}
 use Rattle.std.proofs.KnownBytes.{append_known-passed}
-use Rattle.std.proofs.lemmas.Bool.Decides.{nat_tests}
 use Rattle.std.proofs.lemmas.List.{take-append-drop, drop-drop, append-nil}
 use Rattle.std.specs.Io.KnownBytes.{Appends, Keeps, append_known}
 use Rattle.reference.specs.declared.event.Event.{Event}
-use Rattle.reference.specs.Text.{line, lines}
+use Rattle.reference.specs.Text.{line}
 use Rattle.output.specs.Output.{IsCutShort, Took}
 
 -- the writer took n more bytes of the page

@@ -3,11 +3,14 @@
 ghost use Rattle.std.specs.Prelude.{◌≡◌, [], Option};
 ghost use Rattle.output.specs.Emitting.{BeforeStep, PutsUnless, WritesSoFar, emission};
 ghost use Rattle.output.specs.Output.{Put};
+ghost use Rattle.reference.specs.declared.event.EventKind.TheVariants.{Accessed};
 ghost use Rattle.reference.specs.Text.{line, lines};
+ghost use Rattle.trace.specs.Fetches.{access_of};
 
 use crate::history::History;
 use crate::writer::{IoFault, LineRoom, Out};
 use reference::event::Event;
+use trace::fetches::KeptFetch;
 use trace::sink::Sink;
 
 /// Writes the lines of one step's events, each as it comes. After a line that didn't go out whole, no
@@ -56,6 +59,13 @@ impl<'a, O: Out> Sink for EventLines<'a, O> {
         self.failed = put_unless(self.failed, self.out, self.room, &event);
         self.history = history;
     }
+
+    #[inline(always)]
+    fn emit_fetch(&mut self, tick: u64, fetch: &KeptFetch) {
+        let history = self.history.and(self.out, &fetch.event(tick));
+        self.failed = put_fetch_unless(self.failed, self.out, self.room, tick, fetch);
+        self.history = history;
+    }
 }
 
 /// Puts the line of an event, unless an earlier line failed. Returns whether either failed.
@@ -70,4 +80,18 @@ fn put_unless<O: Out>(failed: bool, out: &mut O, room: &mut LineRoom, event: &Ev
         Ok(()) => false,
         Err(_) => true,
     }
+}
+
+/// Puts the line of a fetch at a tick, unless an earlier line failed. Returns whether either failed.
+#[inline(always)]
+fn put_fetch_unless<O: Out>(
+    failed: bool,
+    out: &mut O,
+    room: &mut LineRoom,
+    tick: u64,
+    fetch: &KeptFetch,
+) -> bool
+    ensures { PutsUnless failed (O.written out.old) (O.written out.new) (O.faults out.old) (O.faults out.new) (line (record { tick = tick; what = Accessed (access_of fetch.now) })) result }
+{
+    failed || out.put_fetch(room, tick, fetch).is_err()
 }

@@ -6,6 +6,7 @@ ghost use Rattle.std.specs.Io.KnownBytes.{append_known, Keeps};
 
 use crate::writer::{IoFault, LineRoom, Out};
 use reference::event::Event;
+use trace::fetches::KeptFetch;
 use trace::page::Page;
 
 /// How many bytes are gathered at most.
@@ -94,7 +95,24 @@ impl<O: Out + Drop> Out for Paged<O> {
                 Err(fault) => return Err(fault),
             }
         }
-        self.page.put_event(&mut room.kept, event);
+        self.page.put_event(&mut room.digits, event);
+        Ok(())
+    }
+
+    #[inline(always)]
+    fn put_fetch(
+        &mut self,
+        room: &mut LineRoom,
+        tick: u64,
+        fetch: &KeptFetch,
+    ) -> Result<(), IoFault> {
+        if self.page.len() > FULL {
+            match self.flush() {
+                Ok(()) => {}
+                Err(fault) => return Err(fault),
+            }
+        }
+        self.page.put_fetch(&mut room.digits, tick, fetch);
         Ok(())
     }
 }

@@ -1,10 +1,11 @@
 //! The state of the System Control Space, accesses to it, and ticks.
 
-ghost use Rattle.std.specs.Prelude.{◌≡◌, ◌+◌, ◌^◌, ◌<◌, ◌≤◌, ◌⊎◌, ℕ, true, false};
+ghost use Rattle.std.specs.Prelude.{◌≡◌, ◌+◌, ◌^◌, ◌<◌, ◌≤◌, ◌⊎◌, ℕ, true, false, IfSome};
 ghost use Rattle.clock.specs.Kept.{IsRight};
 ghost use Rattle.reference.specs.Answers.{IsNarrow, LeavesUnlessDone};
 ghost use Rattle.reference.specs.System.{reset_system, after_tick, deactivated, is_held as is_held_of, has_access as is_allowed_of, word_at as word_at_of, after_read, register_written, register_access, system_access, with_nvic, mpu_written, first_byte as first_byte_of};
 ghost use Rattle.reference.specs.Interrupts.{write_priorities as write_priorities_of};
+ghost use Rattle.reference.specs.declared.access.Kind.TheVariants.{Fetch};
 ghost use Rattle.reference.specs.Kinds.{bytes_in};
 ghost use Rattle.reference.specs.Regions.{shown, write as write_mpu_of};
 ghost use Rattle.reference.specs.Priorities.{is_below_zero, with_pending, with_active, with_faultmask};
@@ -13,6 +14,8 @@ ghost use Rattle.reference.specs.Rules.{decision_of};
 ghost use Rattle.reference.specs.SpecialRegisters.{read_special as read_special_of, write_special as write_special_of, write_mask as write_mask_of, change_state as change_state_of, with_special, with_mask};
 ghost use Rattle.reference.specs.Status.{with_fault_bits, with_mmfar, with_bfar};
 ghost use Rattle.scs.specs.Writes.{after_write, answered};
+ghost use Rattle.trace.specs.Fetches.{access_of};
+ghost use Rattle.trace.specs.Tails.{fetch_done};
 
 use crate::addresses::{first_byte, has_width, in_place, part_of, register_at};
 use crate::control::{read_control, write_control};
@@ -33,6 +36,7 @@ use reference::stop::{LeftOut, Stop};
 use reference::system::SystemRegister;
 use regs::Regs;
 use std::marker::Model;
+use trace::fetches::KeptFetch;
 
 /// The address of STIR.
 const STIR: u32 = 0xE000_EF00;
@@ -157,6 +161,19 @@ impl<D: Decider, L: Levels, U: DueTicks> System<D, L, U> {
         let below_zero = self.levels.is_below_zero();
         self.decider
             .decide_and_keep(access.address, access.kind, access.privileged, below_zero)
+    }
+
+    /// Returns the fetch of a halfword from an address, by code of that privilege, if it is kept with its
+    /// text: its rule grants it at the current execution priority.
+    #[inline(always)]
+    pub fn kept_fetch(&self, address: u32, privileged: bool) -> Option<&KeptFetch>
+        ensures fetch { IfSome result (λ fetch. access_of fetch.now ≡ fetch_done address privileged fetch.now.rule) }
+        ensures granted { IfSome result (λ fetch. decision_of self.now.mpu address Fetch privileged (is_below_zero self.now.nvic) ≡ record { rule = fetch.now.rule; granted = true }) }
+    {
+        if self.levels.is_below_zero() {
+            return None;
+        }
+        self.decider.kept_fetch(address, privileged)
     }
 
     /// Returns VTOR, SCR, CCR and the registers of faults.

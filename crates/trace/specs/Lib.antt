@@ -1,3 +1,4 @@
 pub mod Digits
 pub mod Emission
 pub mod Tails
+pub mod Fetches

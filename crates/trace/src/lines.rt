@@ -3,9 +3,10 @@
 ghost use Rattle.std.specs.Prelude.{◌≡◌, ◌+◌, ◌≤◌, ◌++◌, length, codes, decimal};
 ghost use Rattle.reference.specs.declared.event.EventKind.TheVariants.{Accessed, ConsoleByte, ReturnBegan, HandlerEntered, FaultRecorded};
 ghost use Rattle.reference.specs.Text.{line, stop_line as line_of_stop, stop_text, outcome_text, rule_text, line_feed};
+ghost use Rattle.trace.specs.Fetches.{access_of};
 ghost use Rattle.trace.specs.Tails.{access_head, tail};
 
-use crate::fetches::FetchTails;
+use crate::fetches::KeptFetch;
 use crate::hex;
 use crate::page::Page;
 use crate::tick::Tick;
@@ -28,24 +29,6 @@ const STOP_ROOM: usize = 40;
 
 /// The text of one line, at most 64 bytes.
 pub type Text = Page<64>;
-
-/// What is kept of the text of earlier lines: the digits of a tick, and the lines of fetches. This is
-/// only a cache: whatever it holds, the next line is right.
-#[derive(Drop)]
-pub struct KeptText {
-    tick: Tick,
-    fetches: FetchTails,
-}
-
-impl KeptText {
-    /// Returns room for text, of which none is kept yet but the digits of the first ticks.
-    pub fn new() -> Self {
-        KeptText {
-            tick: Tick::new(),
-            fetches: FetchTails::new(),
-        }
-    }
-}
 
 /// Returns the line of an event.
 #[tactic(auto, using(crate::proofs::Parts::tick_and_tail))]
@@ -71,32 +54,37 @@ impl<const ROOM: usize> Page<ROOM> {
     /// Appends the line of an event. Most are accesses, so these are tested for first.
     #[inline(always)]
     #[tactic(auto, using(crate::proofs::Parts::tick_and_tail))]
-    pub fn put_event(&mut self, kept: &mut KeptText, event: &Event)
+    pub fn put_event(&mut self, digits: &mut Tick, event: &Event)
         requires { length self.old + 64 ≤ ROOM }
         ensures text { self.new ≡ self.old ++ line event.now }
         ensures short { length self.new ≤ length self.old + 64 }
     {
-        kept.tick.put_on(event.tick, self);
+        digits.put_on(event.tick, self);
         match &event.what {
-            EventKind::Accessed(access) => self.put_decided(&mut kept.fetches, access),
+            EventKind::Accessed(access) => self.put_access(access),
             what => self.put_tail(*what),
         }
     }
 
-    /// Appends the line of an access but for its tick: that of a fetch that was done as it's kept.
+    /// Appends the line of a fetch at a tick, whose text is kept.
     #[inline(always)]
-    fn put_decided(&mut self, fetches: &mut FetchTails, decided: &DecidedAccess)
+    pub fn put_fetch(&mut self, digits: &mut Tick, tick: u64, fetch: &KeptFetch)
+        requires { length self.old + 64 ≤ ROOM }
+        ensures text { self.new ≡ self.old ++ line (record { tick = tick; what = Accessed (access_of fetch.now) }) }
+        ensures short { length self.new ≤ length self.old + 64 }
+    {
+        digits.put_on(tick, self);
+        self.put_kept(fetch);
+    }
+
+    /// Appends the line of a fetch whose text is kept, but for its tick.
+    #[inline(always)]
+    fn put_kept(&mut self, fetch: &KeptFetch)
         requires { length self.old + TAIL_ROOM ≤ ROOM }
-        ensures text { self.new ≡ self.old ++ tail (Accessed decided.now) }
+        ensures text { self.new ≡ self.old ++ tail (Accessed (access_of fetch.now)) }
         ensures short { length self.new ≤ length self.old + TAIL_ROOM }
     {
-        let access = &decided.access;
-        match (access.kind, access.size, decided.refused) {
-            (Kind::Fetch, Size::Halfword, None) => {
-                self.put_fetch(fetches, access.address, access.privileged, decided.rule);
-            }
-            _ => self.put_access(decided),
-        }
+        self.put_some(&fetch.text, fetch.length);
     }
 
     /// Appends the line of a stop.

@@ -138,6 +138,30 @@ fn the_table_and_kept_decisions_decide_as_the_search() -> Result<(), Fail> {
     check(AGREEMENTS, &mut Agreements)
 }
 
+/// Returns whether a fetch by privileged code is kept with its text, and none by unprivileged code.
+fn is_kept(kept: &KeptDecisions<Table>, address: u32) -> bool {
+    let of_unprivileged = kept.kept_fetch(address, false).is_some();
+    match kept.kept_fetch(address, true) {
+        Some(fetch) => fetch.is_of(address, true) && !of_unprivileged,
+        None => false,
+    }
+}
+
+#[test]
+fn fetches_are_kept_until_the_registers_are_written(rt: HostRuntime) {
+    let mut registers = MpuRegs::new(8);
+    let mut kept = KeptDecisions::<Table>::fresh(&registers);
+    let _ = kept.decide_and_keep(0x100, Kind::Fetch, true, true);
+    assert!(rt; !is_kept(&kept, 0x100), "at a priority below 0");
+    let _ = kept.decide_and_keep(0x100, Kind::Fetch, true, false);
+    assert!(rt; is_kept(&kept, 0x100), "where it is granted");
+    let _ = kept.decide_and_keep(0x4000_0000, Kind::Fetch, true, false);
+    assert!(rt; !is_kept(&kept, 0x4000_0000), "where it is refused");
+    assert!(rt; write_pairs(&mut registers, "E000ED94:00000005").is_some());
+    kept.reload(&registers);
+    assert!(rt; !is_kept(&kept, 0x100), "after a write");
+}
+
 #[test]
 fn nothing_is_due_before_the_tick_that_is_kept(rt: HostRuntime) -> Result<(), Fail> {
     let mut clock = Clock::<Ahead>::new(Vec::new(rt.alloc()));

@@ -2,13 +2,15 @@
 
 use super::words::{request, rule};
 use arrayvec::ArrayVec;
-use reference::access::{Cause, DecidedAccess};
+use reference::access::{Cause, DecidedAccess, Rule};
 use reference::event::{Event, EventKind, RecordedFault};
 use reference::stop::{LeftOut, Stop, UnpredictableCase};
 use std::test::*;
 use test_tables::{Rows, byte_at, check, halfword_at, long_at, meaning, number_at, part, word};
-use trace::lines::{KeptText, event_line, stop_line};
+use trace::fetches::KeptFetch;
+use trace::lines::{event_line, stop_line};
 use trace::page::Page;
+use trace::tick::Tick;
 
 /// What refused an access, by its word.
 const REFUSALS: [(&str, Option<Cause>); 3] = [
@@ -93,10 +95,21 @@ fn lines_of_events() -> Result<(), Fail> {
     check(EVENTS, &mut EventLines)
 }
 
-/// The lines of events one after another, with what is kept of the text of the earlier ones.
+/// The lines of events one after another, with the digits of the earlier tick. The text of a fetch that was
+/// done is kept.
 #[derive(Drop)]
 struct KeptLines {
-    kept: KeptText,
+    digits: Tick,
+}
+
+/// Returns the fetch that was done, if this is one.
+fn fetch_of(what: &EventKind) -> Option<KeptFetch> {
+    match what {
+        EventKind::Accessed(done) if done.access.kind.is_fetch() && done.refused.is_none() => {
+            KeptFetch::new(done.access.address, done.access.privileged, done.rule)
+        }
+        _ => None,
+    }
 }
 
 impl Rows for KeptLines {
@@ -104,12 +117,15 @@ impl Rows for KeptLines {
         let tick = long_at(part(row, 1), 0)?;
         let what = happening(row)?;
         let mut page = Page::<64>::new();
-        page.put_event(&mut self.kept, &Event { tick, what });
+        match fetch_of(&what) {
+            Some(fetch) => page.put_fetch(&mut self.digits, tick, &fetch),
+            None => page.put_event(&mut self.digits, &Event { tick, what }),
+        }
         Some(is_line(page.as_slice(), part(row, 0)))
     }
 }
 
-/// As in `EVENTS`. The lines of 00000008 and 00000808 have one place.
+/// As in `EVENTS`.
 const FETCHES: &str = "\
 1 F 00000008 2 p ok off   | 1 access | F halfword 8 0 p | done off
 2 F 00000008 2 p ok off   | 2 access | F halfword 8 0 p | done off
@@ -126,9 +142,23 @@ const FETCHES: &str = "\
 #[test]
 fn lines_of_fetches_after_one_another() -> Result<(), Fail> {
     let mut lines = KeptLines {
-        kept: KeptText::new(),
+        digits: Tick::new(),
     };
     check(FETCHES, &mut lines)
+}
+
+#[test]
+fn a_kept_fetch_is_of_its_address_and_privilege(rt: HostRuntime) {
+    match KeptFetch::new(8, true, Rule::Region(15)) {
+        Some(fetch) => {
+            assert!(rt;
+                fetch.is_of(8, true) && !fetch.is_of(8, false) && !fetch.is_of(0x808, true)
+            );
+            let line = event_line(&fetch.event(3));
+            assert!(rt; line.as_slice() == b"3 F 00000008 2 p ok r15\n".as_slice());
+        }
+        None => assert!(rt; false, "its text is short"),
+    }
 }
 
 /// The stops that the rows name.
@@ -208,9 +238,9 @@ const TICK_LINES: &str = "\
 ";
 
 /// Returns whether the lines of an event and of a stop are on the page, which may have had others.
-fn is_begun(page: &mut Page<1024>, kept: &mut KeptText) -> bool {
+fn is_begun(page: &mut Page<1024>, digits: &mut Tick) -> bool {
     page.clear();
-    page.put_event(kept, &console(8));
+    page.put_event(digits, &console(8));
     page.put_stop(&Stop::StepLimit);
     page.as_slice() == b"8 O A0\nstop steps\n".as_slice() && page.len() == 18
 }
@@ -219,7 +249,7 @@ fn is_begun(page: &mut Page<1024>, kept: &mut KeptText) -> bool {
 /// ticks.
 fn are_lines_so(
     page: &mut Page<1024>,
-    kept: &mut KeptText,
+    digits: &mut Tick,
     ticks: &str,
     lines: &str,
 ) -> Option<bool> {
@@ -229,7 +259,7 @@ fn are_lines_so(
         if page.len() > 1024 - 64 {
             return None;
         }
-        page.put_event(kept, event);
+        page.put_event(digits, event);
     }
     Some(page.as_slice() == lines.as_bytes())
 }
@@ -237,9 +267,9 @@ fn are_lines_so(
 #[test]
 fn ticks_after_one_another(rt: HostRuntime) {
     let mut page = Page::new();
-    let mut kept = KeptText::new();
+    let mut digits = Tick::new();
     assert!(rt; page.is_empty(), "a new page");
-    assert!(rt; is_begun(&mut page, &mut kept), "an event and a stop");
-    let answer = are_lines_so(&mut page, &mut kept, TICKS, TICK_LINES);
+    assert!(rt; is_begun(&mut page, &mut digits), "an event and a stop");
+    let answer = are_lines_so(&mut page, &mut digits, TICKS, TICK_LINES);
     assert!(rt; answer == Some(true), "the ticks after one another");
 }
