@@ -56,8 +56,8 @@ pub mod Frames
 pub mod ExceptionEntry
 pub mod ExceptionReturn
 pub mod Step
-pub mod Run
 pub mod Text
+pub mod Run
 pub mod Images
 pub mod Boards
 pub mod Start

@@ -21,7 +21,7 @@ use Rattle.reference.specs.Patterns.{unspaced}
 use Rattle.reference.specs.RowOperands.{flags_if, shifted_by_number}
 use Rattle.reference.specs.Rows.{Row, long, unless, is_bad}
 
--- whether it is LSL
+-- whether a type of shift is LSL
 abbrev pub is_lsl : ShiftType → Bool
 is_lsl Lsl = true
 is_lsl Lsr = false
@@ -29,7 +29,7 @@ is_lsl Asr = false
 is_lsl Ror = false
 is_lsl Rrx = false
 
--- whether a shift is LSL by less than that
+-- whether a shift is LSL by less than `bound`
 abbrev pub is_lsl_below : Shift → ℕ → Bool
 is_lsl_below shift bound = is_lsl shift.shift_type && nat_lt shift.amount bound
 

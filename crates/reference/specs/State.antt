@@ -18,7 +18,7 @@ pub record State : Type 0 where
   pub bus : Bus
   -- whether WFI has put the processor to sleep
   pub asleep : Bool
-  -- in the entry phase (from a Stack step, or from a return that tail-chains or is a fault, to the Vector step): the
+  -- in the entry phase (from a Stack step, or from a return that tail-chains or faults, to the Vector step): the
   -- EXC_RETURN that the handler will get
   pub entry : Option ℕ
   -- why the machine has stopped, if it has

@@ -3,7 +3,7 @@ use Rattle.std.specs.Prelude.{ℕ, List, Option}
 use Rattle.reference.specs.declared.event.Event.{Event}
 
 -- the events that a sink has taken so far; and how it was before them: the bytes that it had written, where they are
--- known, and how many of its calls had failed. `writer` names the writer that it lends, 0 where it lends none
+-- known, and how many of its calls had failed. `writer` is the writer that it borrows, 0 where it borrows none
 pub record Emission : Type 0 where
   pub writer : ℕ
   pub written : Option (List ℕ)
