@@ -3,4 +3,4 @@ pub mod Owned
 pub mod Halves
 pub mod Deciding
 pub mod Alike
-pub mod Kept
+pub mod Copies

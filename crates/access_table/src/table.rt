@@ -118,7 +118,7 @@ impl Decider for Table {
 }
 
 impl Table {
-    /// Returns the decision of the region of an address, or of the default map where it has none.
+    /// Returns the decision of the region of an address, or of the rules after the regions where it has none.
     #[inline(never)]
     fn by_interval(&self, address: u32, kind: Kind, privileged: bool) -> Decision
         ensures { (m : _) → StandsFor self.now m → result ≡ by_owner m kind address privileged (owner m address) }

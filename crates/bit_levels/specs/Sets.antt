@@ -5,7 +5,7 @@ use Rattle.std.specs.List.{range_with_len}
 use Rattle.reference.specs.declared.exception.TheConstants.{EXCEPTIONS}
 use Rattle.reference.specs.Priorities.{is_always_enabled, is_in_words, is_fixed, kept}
 
--- a set of the reference, which has a place for each number, of the exceptions with a test
+-- the exceptions that pass a test, as a set of the reference: a place for each number
 unfoldable pub flags : (ℕ → Bool) → List Bool
 flags test = map test (range_with_len 0 EXCEPTIONS)
 

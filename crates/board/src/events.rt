@@ -18,7 +18,7 @@ use toml::{Table, Value};
 /// The most events that a board can have.
 pub const MOST_SCRIPT_EVENTS: usize = 65_536;
 
-// The tick of the first event, and the last tick of the clock.
+// The least and the greatest tick that an event can have.
 const FIRST_TICK: u64 = 1;
 
 const LAST_TICK: u64 = 1 << 48;

@@ -92,7 +92,7 @@ fn is_flash(base: u64, bytes: u64) -> bool
     is_size(bytes) && base + bytes <= u64::from(RAM_BASE)
 }
 
-// Whether a priority of `bits` bits can be kept.
+// Whether a board can have priorities of this many bits.
 fn is_priority_bits(bits: u64) -> bool
     ensures test { result ≡ is_priority_bits bits }
     ensures enough { OnTrue result (3 ≤ bits) }

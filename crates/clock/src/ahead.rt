@@ -88,7 +88,7 @@ impl Clock<Ahead> {
     }
 }
 
-/// Returns the next tick at which something is due, where the script goes on at another.
+/// Returns the next tick at which something is due, where the script's next event is at `next_event`.
 fn next_due(now: u64, systick: &SysTick, next_event: u64) -> u64
     requires { now ≤ 2 ^ 48 }
     ensures { result ≡ next_due now systick.now next_event }

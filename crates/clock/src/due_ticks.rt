@@ -22,13 +22,13 @@ pub trait DueTicks: Drop {
     /// The tick that is kept as the next one at which something is due, if one is kept.
     ghost due: { Self → Option ℕ };
 
-    /// SysTick after a reset, where the script goes on at a tick.
+    /// SysTick after a reset, where the script's first event is at `next_event`.
     fn fresh(next_event: u64) -> Self
         ensures systick { systick_at result 0 ≡ reset_systick }
         ensures since { since result ≡ 0 }
         ensures due { IfSome (due result) (λ tick. tick ≡ next_due 0 reset_systick next_event) };
 
-    /// Returns whether nothing is due at the tick after this one, as far as is kept.
+    /// Returns whether a due tick is kept and is after the next tick, so that nothing is due at that one.
     fn is_quiet_after(&self, now: u64) -> bool
         requires known { since self.now ≤ now }
         requires bounded { now ≤ 2 ^ 48 }
@@ -49,7 +49,7 @@ pub trait DueTicks: Drop {
         ensures since { since self.new ≤ now + 1 }
         ensures due { IfSome (due self.new) (λ tick. tick ≡ next_due (now + 1) (counted (systick_at self.old now)) next_event) };
 
-    /// Sets the state of SysTick at a tick. The script goes on at another.
+    /// Sets the state of SysTick at a tick. The script's next event is at `next_event`.
     fn set(&mut self, now: u64, systick: SysTick, next_event: u64)
         requires { now ≤ 2 ^ 48 }
         ensures systick { systick_at self.new now ≡ systick }

@@ -146,7 +146,7 @@ impl<U: DueTicks> Clock<U> {
         due
     }
 
-    /// Makes the next tick where nothing is due at it, as far as is kept. Returns whether it did.
+    /// Makes the next tick if the due tick that is kept says that nothing is due at it. Returns whether it did.
     #[inline]
     #[tactic(auto, using(crate::proofs::Quiet::right_tick, crate::proofs::Quiet::right_pends, crate::proofs::Quiet::right_stays))]
     pub fn tick_quietly(&mut self) -> bool
@@ -289,7 +289,7 @@ impl<U: DueTicks> Clock<U> {
         self.timer.set(self.ticks, systick, next_event);
     }
 
-    /// Returns the tick at which the script goes on.
+    /// Returns the tick of the script's next event.
     #[inline]
     fn next_event(&self) -> u64
         ensures { result ≡ script_due self.now.time.script }

@@ -1,4 +1,4 @@
-//! How a script goes on.
+//! When the next event of a script is due.
 
 ghost use Rattle.std.specs.Prelude.{◌≡◌, ◌≤◌, length};
 ghost use Rattle.reference.specs.Time.{due_count, script_due};
@@ -22,7 +22,7 @@ pub fn due_count(tick: u64, script: &[ScriptedEvent]) -> usize
     script.len()
 }
 
-/// Returns the tick at which a script goes on.
+/// Returns the tick of the next event of a script.
 #[inline]
 pub fn script_due(script: &[ScriptedEvent]) -> u64
     ensures { result ≡ script_due script.now }

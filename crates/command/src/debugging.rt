@@ -16,8 +16,8 @@ use std::alloc::Global;
 use std::io::Write;
 
 /// Debugs an image on a board by the commands of `input`, and writes their answers to `out`, or the
-/// refusal to `err`. Returns the exit status: 0 where the session ended, 3 for a refused image or
-/// board, 5 where `input` or `out` failed.
+/// refusal to `err`. Returns the exit status: 0 where the session ended, 3 for a refused image, board or
+/// start or where memory runs out, 5 where `input` or `out` failed.
 pub fn debug<I: In, O: Out, E: Write>(
     alloc: Global,
     image: InputFile<'_>,

@@ -9,10 +9,10 @@ use std::{env, fs, io, str};
 /// The most bytes of a file: 16 MiB.
 const LIMIT: u64 = 0x100_0000;
 
-/// The most bytes of a word whose place is found: 128 KiB, as Linux passes at most.
-const MOST_WORD_BYTES: usize = 0x2_0000;
+/// The most bytes of an argument whose place is found: 128 KiB, as Linux passes at most.
+const MOST_ARGUMENT_BYTES: usize = 0x2_0000;
 
-/// Returns all arguments, the program's name among them. The error for a word that isn't a text says
+/// Returns all arguments, the program's name among them. The error for an argument that isn't a text says
 /// which one it is.
 pub fn words<R: Env + AllocGlobal>(rt: &R) -> io::Result<Vec<String>> {
     let mut words = Vec::new(rt.alloc());
@@ -26,7 +26,7 @@ pub fn words<R: Env + AllocGlobal>(rt: &R) -> io::Result<Vec<String>> {
     Ok(words)
 }
 
-/// Returns the error of arguments that can't be read, with the place of the word that isn't a text.
+/// Returns the error of arguments that can't be read, with the place of the one that isn't a text.
 fn placed<R: Env + AllocGlobal>(rt: &R, error: io::Error) -> io::Error {
     if !matches!(error.kind(), io::ErrorKind::InvalidData) {
         return error;
@@ -34,10 +34,10 @@ fn placed<R: Env + AllocGlobal>(rt: &R, error: io::Error) -> io::Error {
     let said = match no_text(rt) {
         Some(place) => {
             format!(in rt.alloc();
-                "word {place} isn't a text in UTF-8 (the program's name is word 0)"
+                "argument {place} isn't a text in UTF-8 (the program's name is argument 0)"
             )
         }
-        None => "a word isn't a text in UTF-8".to_string(rt.alloc()),
+        None => "an argument isn't a text in UTF-8".to_string(rt.alloc()),
     };
     match said {
         Ok(said) => io::Error::new(io::ErrorKind::InvalidData, said.as_str()),
@@ -45,10 +45,10 @@ fn placed<R: Env + AllocGlobal>(rt: &R, error: io::Error) -> io::Error {
     }
 }
 
-/// Returns the place of the first word that isn't a text: 0 for the program's name.
+/// Returns the place of the first argument that isn't a text: 0 for the program's name.
 fn no_text<R: Env + AllocGlobal>(rt: &R) -> Option<usize> {
     let mut room = Vec::new(rt.alloc());
-    if room.resize(MOST_WORD_BYTES, 0u8).is_err() {
+    if room.resize(MOST_ARGUMENT_BYTES, 0u8).is_err() {
         return None;
     }
     'words: for place in 0..usize::MAX {

@@ -11,7 +11,7 @@ use reference::operands::Saturate;
 use reference::registers::Flags;
 use regs::Regs;
 
-/// A range of this many bits, or of more, has each word in it.
+/// A range of more bits than this saturates each word as one of this many bits does.
 const WIDEST: u8 = 32;
 
 /// Returns the least number of `bits` bits.

@@ -45,7 +45,7 @@ abbrev pub alone : Command → Option (List ℕ) → Result Command LineFault
 alone c None = Ok c
 alone c (Some more) = Err fault.Command
 
--- a word that isn't a number or letter that is allowed there
+-- a command from its words; it is refused where a word isn't a number or letter that is allowed there
 abbrev pub run_of : Option ℕ → Result Command LineFault
 run_of None = Err fault.Word
 run_of (Some n) = Ok (command.Run n)

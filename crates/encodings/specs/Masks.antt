@@ -37,11 +37,11 @@ by_text clear set places x = masked x (mask_of clear set places) (value_of clear
 abbrev pub are_narrow : List (List ℕ) → Bool
 are_narrow texts = list_all (λ text. nat_le (length text) 32) texts
 
--- whether one of the exceptions fits
+-- whether one of the `except` texts fits
 abbrev pub excepted : List (List ℕ) → ℕ → Bool
 excepted texts x = list_any (λ text. by_text place_0 place_1 text x) texts
 
--- whether a row applies, whose text fits or not, and its exceptions
+-- whether a row applies, by whether its text fits and whether one of its `except` texts does
 unfoldable pub chosen : Bool → Bool → Bool
 chosen fits except = fits && not except
 

@@ -70,7 +70,7 @@ fn fits(places: &str, x: u32) -> bool
     has_bits(places, b'0', b'1', x)
 }
 
-/// Returns whether a row applies: its text fits, and no exception does.
+/// Returns whether a row applies: its text fits, and none of its `except` texts does.
 #[inline(always)]
 #[tactic(auto, unfolding(crate::specs::Masks::chosen))]
 fn chosen(fits: bool, excepted: bool) -> bool
@@ -79,7 +79,7 @@ fn chosen(fits: bool, excepted: bool) -> bool
     fits && !excepted
 }
 
-/// Returns whether a row applies that has no exception.
+/// Returns whether a row without an `except` text applies.
 #[inline(always)]
 pub fn applies(places: &str, x: u32) -> bool
     requires { IsTrue (nat_le (length places.now) 32) }
@@ -96,7 +96,7 @@ fn either(first: bool, second: bool) -> bool
     first || second
 }
 
-/// Returns whether a row applies that has one exception.
+/// Returns whether a row with one `except` text applies.
 #[inline(always)]
 pub fn applies_but(places: &str, other: &str, x: u32) -> bool
     requires { IsTrue (are_narrow (places.now ∷ other.now ∷ [])) }
@@ -105,7 +105,7 @@ pub fn applies_but(places: &str, other: &str, x: u32) -> bool
     chosen(fits(places, x), either(fits(other, x), false))
 }
 
-/// Returns whether a row applies that has two exceptions.
+/// Returns whether a row with two `except` texts applies.
 #[inline(always)]
 pub fn applies_but_2(places: &str, first: &str, second: &str, x: u32) -> bool
     requires { IsTrue (are_narrow (places.now ∷ first.now ∷ second.now ∷ [])) }
@@ -117,7 +117,7 @@ pub fn applies_but_2(places: &str, first: &str, second: &str, x: u32) -> bool
     )
 }
 
-/// Returns whether a row applies that has three exceptions.
+/// Returns whether a row with three `except` texts applies.
 #[inline(always)]
 pub fn applies_but_3(places: &str, first: &str, second: &str, third: &str, x: u32) -> bool
     requires { IsTrue (are_narrow (places.now ∷ first.now ∷ second.now ∷ third.now ∷ [])) }
@@ -132,7 +132,7 @@ pub fn applies_but_3(places: &str, first: &str, second: &str, third: &str, x: u3
     )
 }
 
-/// Returns whether a row applies that has four exceptions.
+/// Returns whether a row with four `except` texts applies.
 #[inline(always)]
 pub fn applies_but_4(
     places: &str,
@@ -243,8 +243,8 @@ impl Letters<'_> {
     }
 }
 
-/// Returns the decoding of a number by the first row that applies. A row is its text, the
-/// exceptions to it, and the decoding of its fields.
+/// Returns the decoding of a number by the first row that applies. A row is its text, the `except` texts
+/// of encodings to which it doesn't apply, and the decoding of its fields.
 #[macro_export]
 macro_rules! rows {
     ($x:ident; $([$($place:tt)*] $(except [$($other:tt)*])* => |$f:ident| $outcome:expr,)*) => {{
@@ -259,7 +259,7 @@ macro_rules! rows {
     }};
 }
 
-/// Returns whether a row applies that has these exceptions.
+/// Returns whether a row with these `except` texts applies.
 #[macro_export]
 macro_rules! applies {
     ($places:ident, $x:ident;) => { $crate::pattern::applies($places, $x) };

@@ -1,15 +1,14 @@
 //! The accesses of a step, one by one, and their lines.
 
-ghost use Rattle.std.specs.Prelude.{◌≡◌, ℕ, ◌+◌, ◌≤◌, ◌<◌, ◌^◌, ◌%◌, ◌++◌, length, IfOk};
-ghost use Rattle.access.specs.Kept.{HasHalfword, fetch_at};
+ghost use Rattle.std.specs.Prelude.{◌≡◌, ◌+◌, ◌≤◌, ◌<◌, ◌^◌, ◌%◌, ◌++◌, length, IfOk};
 ghost use Rattle.exceptions.specs.Room.{lines_of, most_lines};
-ghost use Rattle.exceptions.specs.Serving.{Serves, done_lines, fetched_if};
+ghost use Rattle.exceptions.specs.Serving.{Serves, done_lines};
 ghost use Rattle.reference.specs.Accesses.{accessed, access_lines, value_of, perform, perform_all};
 ghost use Rattle.reference.specs.declared.event.EventKind.TheVariants.{ConsoleByte};
 ghost use Rattle.reference.specs.Kinds.{bytes_in};
 ghost use Rattle.trace.specs.Emission.{with_emitted};
 
-use access::{Bus, CodeLines, Decider, DueTicks, Levels, fetch_at, is_out};
+use access::{Bus, CodeLines, Decider, DueTicks, Levels, is_out};
 use bounded::Bounded;
 use reference::access::{Cause, DecidedAccess, MOST_REQUESTS, Performed, Request, Rule};
 use reference::event::{Event, EventKind, MOST_EVENTS};
@@ -92,62 +91,6 @@ pub fn put_done<S: Sink>(events: &mut S, tick: u64, request: &Request, rule: Rul
     if is_out(request) {
         events.emit(console_line(tick, request.value));
     }
-}
-
-/// Makes the fetch of a halfword that memory is known to have, and appends its line. Returns whether it
-/// was done; otherwise its rule refused it.
-#[inline(always)]
-pub fn fetch_known<D: Decider, C: CodeLines, L: Levels, U: DueTicks, S: Sink>(
-    bus: &mut Bus<D, C, L, U>,
-    tick: u64,
-    events: &mut S,
-    address: u32,
-    privileged: bool,
-    halfword: u16,
-) -> bool
-    requires known { HasHalfword bus.old.memory address halfword }
-    requires room { length (S.emitted events.old).events < MOST_EVENTS }
-    ensures bus { (exception : ℕ) → bus.new ≡ (perform exception bus.old (fetch_at address privileged)).bus }
-    ensures same { bus.new ≡ bus.old }
-    ensures events { (exception : ℕ) → S.emitted events.new ≡ with_emitted (S.emitted events.old) ((S.emitted events.old).events ++ access_lines tick (fetch_at address privileged) (perform exception bus.old (fetch_at address privileged)).performed) }
-    ensures room { length (S.emitted events.new).events ≤ length (S.emitted events.old).events + 1 }
-    ensures answer { (exception : ℕ) → fetched_if result address privileged halfword ≡ value_of (fetch_at address privileged) (perform exception bus.old (fetch_at address privileged)).performed }
-{
-    if let Some(fetch) = bus.kept_fetch(address, privileged, halfword) {
-        events.emit_fetch(tick, fetch);
-        return true;
-    }
-    fetch_decided(bus, tick, events, address, privileged, halfword)
-}
-
-/// Makes the fetch of a halfword that memory is known to have and whose text isn't kept, and appends its line.
-/// Returns whether it was done; otherwise its rule refused it.
-#[cold]
-#[inline(never)]
-fn fetch_decided<D: Decider, C: CodeLines, L: Levels, U: DueTicks, S: Sink>(
-    bus: &mut Bus<D, C, L, U>,
-    tick: u64,
-    events: &mut S,
-    address: u32,
-    privileged: bool,
-    halfword: u16,
-) -> bool
-    requires known { HasHalfword bus.old.memory address halfword }
-    requires room { length (S.emitted events.old).events < MOST_EVENTS }
-    ensures bus { (exception : ℕ) → bus.new ≡ (perform exception bus.old (fetch_at address privileged)).bus }
-    ensures same { bus.new ≡ bus.old }
-    ensures events { (exception : ℕ) → S.emitted events.new ≡ with_emitted (S.emitted events.old) ((S.emitted events.old).events ++ access_lines tick (fetch_at address privileged) (perform exception bus.old (fetch_at address privileged)).performed) }
-    ensures room { length (S.emitted events.new).events ≤ length (S.emitted events.old).events + 1 }
-    ensures answer { (exception : ℕ) → fetched_if result address privileged halfword ≡ value_of (fetch_at address privileged) (perform exception bus.old (fetch_at address privileged)).performed }
-{
-    let decision = bus.fetch_known(address, privileged, halfword);
-    let request = fetch_at(address, privileged);
-    if decision.granted {
-        events.emit(accessed(tick, &request, decision.rule, None));
-    } else {
-        events.emit(accessed(tick, &request, decision.rule, Some(Cause::Mpu)));
-    }
-    decision.granted
 }
 
 /// Returns the line of an access that was decided.

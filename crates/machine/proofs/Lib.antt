@@ -1,4 +1,5 @@
 pub mod AtOnce
+pub mod Fetching
 mod Foreseen
 mod Loading
 pub mod Running

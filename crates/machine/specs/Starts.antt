@@ -19,7 +19,7 @@ Starts read (Ok m) = (read ≡ Ok m.state) × (m.broken ≡ false)
 Starts read (Err SegmentOutsideMemory) = read ≡ Err SegmentOutsideMemory
 Starts read (Err NoMemory) = IsOk read
 
--- a value was placed as the definition says; a refusal is its, and changes nothing
+-- a value was placed as the definition says, or refused as it says, and then nothing changed
 abbrev pub PlacesAt : Result State PlaceFault → State → State → Result (Unit {0}) PlaceFault → Type 0
 PlacesAt read old new (Ok done) = read ≡ Ok new
 PlacesAt read old new (Err fault) = (read ≡ Err fault) × (new ≡ old)

@@ -99,8 +99,8 @@ impl<D: Decider, C: CodeLines, L: Levels, U: DueTicks> Machine<D, C, L, U> {
         self.core.stop()
     }
 
-    /// Makes a step and writes its lines. `room` is kept from one step to the next. On an error a prefix
-    /// of the lines went out.
+    /// Makes a step and writes its lines. `room` is a buffer for one line, the same at each step. On an error
+    /// a prefix of the lines went out.
     pub fn write_step<W: Out>(&mut self, room: &mut LineRoom, out: &mut W) -> Result<(), IoFault>
         ensures state { self.new ≡ record self.old { state = (step self.old.state).state } }
         ensures put { Put (W.written out.old) (W.written out.new) (W.faults out.old) (W.faults out.new) (lines (step self.old.state).events) result }
@@ -154,7 +154,8 @@ impl<D: Decider, C: CodeLines, L: Levels, U: DueTicks> Machine<D, C, L, U> {
         self.core.stop()
     }
 
-    /// Returns what the next step will do, None where it would only stop.
+    /// Returns what the next step will do; None where the machine has stopped, or where the step would only
+    /// stop it.
     pub fn next_kind(&self) -> Option<StepKind>
         ensures { result ≡ next_kind_of self.now.state }
     {

@@ -21,8 +21,8 @@ pub fn owner_is_the_highest()
     ensures { (m : Mpu) (a : ℕ) (o : Option ℕ) → IsOwner m a o ↔ (o ≡ owner m a) }
 {}
 
-/// The decision on an access is exactly that of the first case of the table that fits, and grants
-/// what that case grants. So exactly one rule decides each access.
+/// The decision on an access is exactly that of the first rule that fits, in the order of `rank` of
+/// Rules.antt, and grants what that rule grants. So exactly one rule decides each access.
 pub fn decision_is_by_the_first_case()
     ensures { (m : Mpu) (q : AccessQuery) (d : Decision) → IsFirstFit m q d ↔ (d ≡ decision_of m q.address q.kind q.privileged q.below_zero) }
 {}

@@ -19,7 +19,7 @@ const STORED: u32 = 0x173F_FF3F;
 /// The bit of MPU_CTRL for ENABLE: the MPU is on.
 pub(crate) const ENABLE: u32 = 0;
 
-/// The bit for HFNMIENA: it's on for code whose execution priority is below 0 too.
+/// The bit for HFNMIENA: the MPU is on also for code whose execution priority is below 0.
 pub(crate) const HFNMIENA: u32 = 1;
 
 /// The bit for PRIVDEFENA: where no region matches, privileged code has the default map.

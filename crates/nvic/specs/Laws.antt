@@ -41,12 +41,12 @@ pub record IsLeast (n : Nvic) (p : ℕ) : Type 0 where
   pub holds : Holds n p
   pub least : (q : ℕ) → Holds n q → p ≤ q
 
--- a set has a place for each number, and only these numbers are in it
+-- a set has a place for each number, and only numbers that pass the test are in it
 pub record IsSetOf (test : ℕ → Bool) (set : List Bool) : Type 0 where
   pub places : length set ≡ EXCEPTIONS
   pub members : (x : ℕ) → is_in set x ≡ true → test x ≡ true
 
--- there's a byte for each number, and each has only bits that are kept
+-- there's a byte for each number, and each has only bits that the board keeps
 pub record AreKept (bits : ℕ) (bytes : List ℕ) : Type 0 where
   pub places : length bytes ≡ EXCEPTIONS
   pub keep : (x : ℕ) → kept bits (slice_index bytes x) ≡ slice_index bytes x
@@ -62,7 +62,7 @@ pub record IsOfBoard (n : Nvic) : Type 0 where
   pub group : n.group < 8
   pub lines : n.lines ≤ MOST_LINES
 
--- beside the exceptions that were pending those of the board are that are due, and nothing else has changed
+-- pending now: what was pending, and the exceptions of the board that are due; nothing else has changed
 pub record AddsDue (n : Nvic) (due : List ℕ) (m : Nvic) : Type 0 where
   pub pending : (x : ℕ) → x < EXCEPTIONS
       → is_in m.pending x ≡ (is_in n.pending x || (is_in_words due x && is_exception n.lines x))

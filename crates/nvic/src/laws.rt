@@ -41,7 +41,7 @@ pub fn changes_stay_on_the_board()
     ensures due { (n : Nvic) (due : List ℕ) → IsOfBoard n → IsOfBoard (with_due n due) }
 {}
 
-/// After a tick exactly the exceptions of the board are pending that were or that are due.
+/// After a tick, pending are those that were, and the exceptions of the board that are due.
 pub fn what_is_due_is_added()
     ensures { (n : Nvic) (due : List ℕ) → length n.pending ≡ 256 → AddsDue n due (with_due n due) }
 {}

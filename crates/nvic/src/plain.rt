@@ -1,4 +1,4 @@
-//! The exceptions as plain sets: each query tests all of them.
+//! The exceptions as plain sets, which are searched exception by exception.
 
 ghost use Rattle.std.specs.Prelude.{◌≡◌, ◌<◌, slice_set};
 ghost use Rattle.reference.specs.Priorities.{priority_of as priority_of_number, group_priority as group_priority_of, is_ready as is_ready_of, highest_active as least_active_of, execution_priority as execution_priority_of, better_of as better_of_both, with_ready as with_ready_of};

@@ -20,7 +20,7 @@ lines_more [] e = append-nil (line e)
 lines_more (event ∷ events) e = rw (lines_more events e, append_assoc) refl
 
 -- one event more
-pub one_more : {O : Type 0} (written : O → Option (List ℕ)) (faults : O → ℕ) (name : ℕ) (old new : O)
+one_more : {O : Type 0} (written : O → Option (List ℕ)) (faults : O → ℕ) (name : ℕ) (old new : O)
     (items : List (O × Event)) (e : Event)
     → emission written faults name new (items ++ (old, e) ∷ [])
     ≡ record (emission written faults name old items) {
@@ -59,7 +59,7 @@ cut_behind old mid new text more went cut = record {
 }
 
 -- the line of one event more
-pub line_more : (e : Emission) (event : Event) (mid new : Option (List ℕ)) (before now : ℕ) (failed after : Bool)
+line_more : (e : Emission) (event : Event) (mid new : Option (List ℕ)) (before now : ℕ) (failed after : Bool)
     → WritesSoFar e mid before failed → PutsUnless failed mid new before now (line event) after
     → WritesSoFar (record e { events = e.events ++ event ∷ [] }) new now after
 line_more e event mid new before now true true so_far put =
@@ -143,3 +143,14 @@ found e now faults false so_far =
     (went_found e.written now (lines e.events) (∥∥₁_map so_far (λ w. w.0)), ∥∥₁_elim so_far (search props) (λ w. w.1))
 found e now faults true so_far =
     (cut_found e.written now (lines e.events) (∥∥₁_map so_far (λ w. w.0)), ∥∥₁_elim so_far (search props) (λ w. w.1))
+
+-- one event more, whose line was put unless an earlier one failed
+pub one_line_more : {O : Type 0} (written : O → Option (List ℕ)) (faults : O → ℕ) (name : ℕ) (old new : O)
+    (items later : List (O × Event)) (e : Event) (failed after : Bool) → later ≡ items ++ (old, e) ∷ []
+    → ∥ WritesSoFar (emission written faults name old items) (written old) (faults old) failed ∥₁
+    → PutsUnless failed (written old) (written new) (faults old) (faults new) (line e) after
+    → ∥ WritesSoFar (emission written faults name new later) (written new) (faults new) after ∥₁
+one_line_more written faults name old new items later e failed after is so_far put =
+    rw (is, one_more written faults name old new items e)
+    (let before = emission written faults name old items in
+    ∣ line_more before e _ _ _ _ _ _ (found before _ _ _ so_far) put ∣₁)

@@ -6,7 +6,7 @@ use Rattle.reference.specs.declared.event.Event.{Event}
 use Rattle.reference.specs.Text.{lines}
 use Rattle.trace.specs.Emission.{Emission}
 
--- the writer as it was before each event, and that event: so it was before all of them, and those are the events
+-- from pairs of an event and the writer before it: the writer before the first event, and the events
 abbrev pub emission : {O : Type 0} → (O → Option (List ℕ)) → (O → ℕ) → ℕ → O → List (O × Event) → Emission
 emission written faults name now [] = record { writer = name; written = written now; faults = faults now; events = [] }
 emission written faults name now (first ∷ later) =

@@ -19,7 +19,7 @@ IsCutShort old new text = IsCutAfter old new [] text
 abbrev pub took_none : List ℕ → ℕ → Bool
 took_none bytes taken = (taken == 0) && not (length bytes == 0)
 
--- one call: the bytes that it took went out, and it counts where it failed or took none
+-- one call: the bytes that it took went out; it counts as failed where it failed or took none
 abbrev pub Took : {E : Type 0} → Option (List ℕ) → Option (List ℕ) → ℕ → ℕ → List ℕ → Result ℕ E → Type 0
 Took old new before now bytes (Ok taken) =
     (taken ≤ length bytes) × Appends old new (take taken bytes)

@@ -73,13 +73,7 @@ impl<'a, O: Out> Sink for EventLines<'a, O> {
 fn put_unless<O: Out>(failed: bool, out: &mut O, room: &mut LineRoom, event: &Event) -> bool
     ensures { PutsUnless failed (O.written out.old) (O.written out.new) (O.faults out.old) (O.faults out.new) (line event.now) result }
 {
-    if failed {
-        return true;
-    }
-    match out.put_line(room, event) {
-        Ok(()) => false,
-        Err(_) => true,
-    }
+    failed || out.put_line(room, event).is_err()
 }
 
 /// Puts the line of a fetch at a tick, unless an earlier line failed. Returns whether either failed.

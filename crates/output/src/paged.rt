@@ -51,6 +51,22 @@ impl<O: Out + Drop> Paged<O> {
         inner
     }
 
+    /// Sends the page to the writer below unless it has room for a line. On an error a prefix of the page was
+    /// sent, and the page still has the rest.
+    #[inline(always)]
+    fn make_room(&mut self) -> Result<(), IoFault>
+        ensures known { Keeps (append_known (O.written self.old.inner) (drop self.old.at self.old.page)) (append_known (O.written self.new.inner) (drop self.new.at self.new.page)) }
+        ensures room { OnOk result (length self.new.page + 64 ≤ 0x4000) }
+        ensures quiet { OnOk result (O.faults self.new.inner ≡ O.faults self.old.inner) }
+        ensures fault { OnErr result (O.faults self.new.inner ≡ O.faults self.old.inner + 1) }
+    {
+        if self.page.len() > FULL {
+            self.flush()
+        } else {
+            Ok(())
+        }
+    }
+
     /// Sends the page to the writer below. On an error a prefix of it was sent, and the page
     /// still has the rest.
     #[cold]
@@ -89,14 +105,13 @@ impl<O: Out + Drop> Out for Paged<O> {
 
     #[inline(always)]
     fn put_line(&mut self, room: &mut LineRoom, event: &Event) -> Result<(), IoFault> {
-        if self.page.len() > FULL {
-            match self.flush() {
-                Ok(()) => {}
-                Err(fault) => return Err(fault),
+        match self.make_room() {
+            Ok(()) => {
+                self.page.put_event(&mut room.digits, event);
+                Ok(())
             }
+            Err(fault) => Err(fault),
         }
-        self.page.put_event(&mut room.digits, event);
-        Ok(())
     }
 
     #[inline(always)]
@@ -106,13 +121,12 @@ impl<O: Out + Drop> Out for Paged<O> {
         tick: u64,
         fetch: &KeptFetch,
     ) -> Result<(), IoFault> {
-        if self.page.len() > FULL {
-            match self.flush() {
-                Ok(()) => {}
-                Err(fault) => return Err(fault),
+        match self.make_room() {
+            Ok(()) => {
+                self.page.put_fetch(&mut room.digits, tick, fetch);
+                Ok(())
             }
+            Err(fault) => Err(fault),
         }
-        self.page.put_fetch(&mut room.digits, tick, fetch);
-        Ok(())
     }
 }

@@ -8,8 +8,6 @@ mod keys;
 mod problem;
 mod settings;
 mod start;
-#[cfg(test)]
-mod tests;
 mod text;
 
 pub use image::write_image_reason;

@@ -144,7 +144,7 @@ fn write_typed<W: Write>(out: &mut W, value: &Value) -> io::Result<()> {
     write!(out, ", {kind}")
 }
 
-/// Writes a value, and a string with no control character in it.
+/// Writes a value. In a string, control characters are escaped.
 fn write_value<W: Write>(out: &mut W, value: &Value) -> io::Result<()> {
     match value.as_str() {
         Some(text) => write_quoted(out, text),

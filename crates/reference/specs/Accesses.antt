@@ -96,7 +96,7 @@ access_lines tick q (performed.Stop why) = []
 
 -- ---- a list of accesses
 
--- the value that an access read, or the failure that ends the instruction
+-- the value that an access read, or the failure that ends the list of accesses
 abbrev pub value_of : Request → Performed → Result ℕ Failure
 value_of q (performed.Done rule value) = Ok value
 value_of q (performed.Denied rule cause) = Err (failure.Refused q.access cause)

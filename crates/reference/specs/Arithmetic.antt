@@ -147,8 +147,8 @@ current_condition it_state = if in_it_block it_state then it_state / 2 ^ 4 else 
 abbrev pub condition_passed : ℕ → Flags → Bool
 condition_passed it_state f = condition_holds (current_condition it_state) f
 
--- ITAdvance(): the low five bits move left by one, and after the last instruction of the block all are 0; outside a
--- block nothing moves (profile)
+-- ITAdvance(): the low five bits move left by one, but after the last instruction of the block all eight become 0;
+-- outside a block nothing moves (profile)
 abbrev pub it_advance : ℕ → ℕ
 it_advance it_state =
     if not (in_it_block it_state) then it_state

@@ -39,7 +39,7 @@ numbers_of layout = record {
 abbrev pub block : ℕ
 block = 1024
 
--- flash and RAM have a mebibyte at most
+-- flash and RAM have a mebibyte each at most
 abbrev pub most_bytes : ℕ
 most_bytes = 0x10_0000
 

@@ -75,7 +75,7 @@ abbrev pub returned : State → List Event → ℕ → Bool → Stepped
 returned s events e true = chained s events e (candidate s.bus.system.nvic)
 returned s events e false = failed (with_entry s e) events (Usage InvalidReturn)
 
--- DeActivate(); FAULTMASK is cleared too, except on a return from NMI
+-- DeActivate(): `deactivated`, and FAULTMASK is cleared, except on a return from NMI
 abbrev pub exception_ended : System → ℕ → System
 exception_ended t x =
     let after = deactivated t x in

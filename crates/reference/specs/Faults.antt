@@ -103,7 +103,7 @@ pended s x = with_exceptions s (with_pending s.bus.system.nvic x true)
 abbrev pub pended_by_fault : State → List Event → ℕ → Stepped
 pended_by_fault s events x = record { state = pended s x; events = events ++ fault_line s x ∷ [] }
 
--- HardFault takes the place of a fault that can't be taken
+-- HardFault becomes pending in place of a fault or an SVC that can't be taken
 abbrev pub forced : State → List Event → Stepped
 forced s events = pended_by_fault (with_status s (with_fault_bits s.bus.system.status 0 FORCED)) events HARD_FAULT
 

@@ -120,7 +120,7 @@ significant_bits (suc i) x = if is_bit x i then i + 1 else significant_bits i x
 abbrev pub count_leading_zero_bits : ℕ → ℕ
 count_leading_zero_bits x = 32 - significant_bits 32 x
 
--- the bytes or the bits of a word in another order, or how many zeros are above its highest one
+-- the bytes or the bits of a word in another order, or how many 0 bits are above its highest 1 bit (32 for 0)
 unfoldable pub rearranged : Rearrangement → ℕ → ℕ
 rearranged ReverseWord x = word (byte 0 x) (byte 1 x) (byte 2 x) (byte 3 x)
 rearranged ReverseHalfwords x = word (byte 2 x) (byte 3 x) (byte 0 x) (byte 1 x)

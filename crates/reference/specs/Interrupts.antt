@@ -50,8 +50,8 @@ shown_below n register x (suc bit) = shown_below n register x bit + weighed (is_
 unfoldable pub read_interrupts : Nvic → InterruptRegister → ℕ → ℕ
 read_interrupts n register k = shown_below n register (first_exception k) 32
 
--- what a 1 written to the bit of exception x does. After a 1 written to its bit of ICPR, an interrupt whose line stays
--- high becomes pending again only when it is deactivated (profile)
+-- what a 1 written to the bit of exception x does. After a 1 written to its bit of ICPR, a line that only stays high
+-- makes its interrupt pending again no sooner than when the interrupt is deactivated (profile)
 unfoldable pub with_one : Nvic → InterruptRegister → ℕ → Nvic
 with_one n Iser x = with_enabled n x true
 with_one n Icer x = with_enabled n x false

@@ -36,7 +36,7 @@ pub record KeepsTopBits (n : Nvic) : Type 0 where
   pub basepri : IsKeptByte n.priority_bits n.masks.basepri
   pub group : n.group < 2 ^ 3
 
--- a set has a place for each number, and only these numbers are in it
+-- a set has an element for each number below EXCEPTIONS, and only numbers that pass the test are in it
 pub record HasOnly (test : ℕ → Bool) (set : List Bool) : Type 0 where
   pub places : length set ≡ EXCEPTIONS
   pub members : (x : ℕ) → is_in set x ≡ true → test x ≡ true
@@ -49,8 +49,8 @@ pub record HasExceptionsOfBoard (n : Nvic) : Type 0 where
   pub active : HasOnly (is_exception n.lines) n.active
   pub lines : n.lines ≤ MOST_LINES
 
--- the events that are still to come are a script of a board with these lines, later than the clock, and `high` has an
--- element for each line
+-- the events that are still to come are a script, later than the clock, of a board with this number of lines, and
+-- `high` has MOST_LINES elements
 pub record IsAhead (lines : ℕ) (t : Time) : Type 0 where
   pub script : IsScriptFrom lines (t.ticks + 1) t.script
   pub high : length t.high ≡ MOST_LINES
@@ -90,7 +90,7 @@ pub record SystemInvariant (s : System) : Type 0 where
   pub priorities : KeepsTopBits s.nvic
   pub sets : HasExceptionsOfBoard s.nvic
   pub script : IsAhead s.nvic.lines s.time
-  -- each enabled region has attributes that a write to RASR accepts
+  -- the MPU's registers are as `IsSound` says
   pub regions : IsSound s.mpu
 
 -- what holds of the state

@@ -84,7 +84,7 @@ load_dual_literal o r =
 
 -- ---- values
 
--- the value of its access is written to each register, in order
+-- each register, in order, gets the value that its own access read
 unfoldable pub loaded : List ℕ → List ℕ → Registers → Registers
 loaded [] values r = r
 loaded (n ∷ ns) values r = loaded ns (drop 1 values) (with_register r n (slice_index values 0))

@@ -49,14 +49,14 @@ compares_sp CompareNegative = true
 abbrev pub is_refused_first : Bool → ℕ → Bool
 is_refused_first sp n = n == 15 || n == 13 && not sp
 
--- whether a destination is refused: PC always, and SP unless it is SP that the operation starts from
+-- whether a destination is refused: PC always, and SP unless `sp` is true and the first operand is SP
 abbrev pub is_refused_destination : Bool → ℕ → ℕ → Bool
 is_refused_destination sp n d = d == 15 || d == 13 && not (sp && n == 13)
 
 -- ---- modified immediates
 
--- a modified immediate as an operand: in the byte patterns the carry flag stays; otherwise it is bit 31 of the rotated
--- value
+-- a modified immediate as an operand: its carry, which only logical operations and moves use, is bit 31 of the rotated
+-- value; in the byte patterns it has none
 abbrev pub operand_of : ℕ → Option (ℕ × Bool) → Option Immediate
 operand_of imm12 None = None
 operand_of imm12 (Some expanded) =

@@ -102,7 +102,7 @@ bic_register_t2 = record {
   gives = λ f. data_shifted_row BitClear (f.S == 1) f.n f.d (shifted_by_number f.m f.t f.i);
 }
 
--- MOV (register), encoding T3; LSL, LSR, ASR, ROR and RRX by a number are this
+-- MOV (register), encoding T3; LSL, LSR, ASR and ROR by a number, and RRX, are this
 abbrev pub mov_register_t3 : Row
 mov_register_t3 = record {
   places = unspaced (codes "1110101 0010 S 1111 z iii dddd ii tt mmmm");

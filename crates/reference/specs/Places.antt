@@ -54,7 +54,7 @@ stored_in_ppb s a = register_taken s a.bus a.answer
 abbrev pub store_of : ℕ → ℕ → Request
 store_of address value = request Store true size.Word address value
 
--- the state with the value in it, for a machine that takes values
+-- the state with the value in it, or a refusal; `place` below asks first whether the machine takes values now
 abbrev pub taken : State → Place → Result State PlaceFault
 taken s (Reg number value) = Ok (with_registers s (with_register s.registers number value))
 taken s (Special number value) = special_taken s (special_of number) value

@@ -80,7 +80,7 @@ of_byte b = b + 2
 abbrev pub lowest : ℕ
 lowest = 258
 
--- whether a priority is below 0
+-- whether a priority is below the manual's 0
 abbrev pub is_negative : ℕ → Bool
 is_negative p = nat_lt p (of_byte 0)
 
@@ -237,7 +237,7 @@ reset_nvic lines bits = record {
   priority_bits = bits;
 }
 
--- Not used by a step: for the contracts of nvic and clock; `due` is a set of exceptions in eight words
+-- Not used by a step: the rest of this file, for the crates nvic and clock. `due` is a set of exceptions in eight words
 
 -- whether bit x mod 32 of word x / 32 is 1: whether the set of exceptions that eight words hold has x
 abbrev pub is_in_words : List ℕ → ℕ → Bool

@@ -73,7 +73,7 @@ product_of is_signed x y = number_of is_signed x *ℤ number_of is_signed y
 unfoldable pub wide_product : Bool → ℕ → ℕ → ℕ
 wide_product is_signed x y = low_bits 64 (product_of is_signed x y)
 
--- SMLAL and UMLAL: those of the product and a number of 64 bits
+-- SMLAL and UMLAL: the low 64 bits of the sum of the product and a number of 64 bits
 unfoldable pub wide_accumulated : Bool → ℕ → ℕ → ℕ → ℕ
 wide_accumulated is_signed x y addend = low_bits 64 (product_of is_signed x y +ℤ wide_number_of is_signed addend)
 

@@ -25,7 +25,7 @@ unshifted m = record { register = m; shift = record { shift_type = Lsl; amount =
 unfoldable pub shifted_by_number : ℕ → ℕ → ℕ → ShiftedRegister
 shifted_by_number m type imm5 = record { register = m; shift = decode_imm_shift type imm5 }
 
--- an immediate that leaves the carry flag as it is
+-- an immediate whose expansion has no carry: a logical operation or a move leaves C as it is
 abbrev pub plain_immediate : ℕ → Immediate
 plain_immediate value = record { value = value; carry = None }
 

@@ -118,11 +118,11 @@ meaning rows otherwise number = by_found otherwise number (find (λ row. applies
 abbrev pub short : Instruction → Decoded
 short instruction = Instr (record { instruction = instruction; length = Short; place = Anywhere })
 
--- one of two halfwords
+-- an instruction of two halfwords
 abbrev pub long : Instruction → Decoded
 long instruction = Instr (record { instruction = instruction; length = Long; place = Anywhere })
 
--- an instruction with the length of its encoding and its position in an IT block
+-- an instruction with the length of its encoding, and where in an IT block it may be
 abbrev pub placed : InstructionLength → BlockPlace → Instruction → Decoded
 placed length place instruction = Instr (record { instruction = instruction; length = length; place = place })
 

@@ -29,7 +29,7 @@ add_high_row d m =
       second = unshifted m;
     }))))
 
--- CMP of any registers, of which at least one is above R7
+-- CMP of any registers but PC, of which at least one is above R7
 unfoldable pub compare_high_row : ℕ → ℕ → Decoded
 compare_high_row n m =
     unless (n == 15 || m == 15 || nat_lt n 8 && nat_lt m 8) place.Anywhere Registers

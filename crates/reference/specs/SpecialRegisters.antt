@@ -159,7 +159,7 @@ write_mask privileged n special value = if privileged then with_mask n special v
 
 -- ---- CPS
 
--- PRIMASK, or FAULTMASK, becomes `on` where the instruction names it
+-- PRIMASK becomes `on` where the instruction names it; FAULTMASK too, where `faultmask_written` allows it
 abbrev pub with_primask_if : Bool → Nvic → Bool → Nvic
 with_primask_if named n on = if named then with_primask n on else n
 

@@ -1,5 +1,5 @@
--- The state of the machine: a record whose fields are the records of other chapters. No field repeats what others
--- determine.
+-- The state of the machine: registers, memory and System Control Space, which other chapters define, and what is kept
+-- between steps. No field repeats what others determine.
 use Rattle.std.specs.Prelude.{ℕ, Bool, List, Option, Some}
 use Rattle.reference.specs.declared.event.Event.{Event}
 use Rattle.reference.specs.declared.stop.Stop.{Stop}

@@ -33,8 +33,8 @@ pub record System : Type 0 where
   pub status : Status
   pub time : Time
 
--- after a reset of a board: where its flash begins, its lines, the bits of a priority that it keeps, its regions, and
--- its script
+-- the state after a reset, by what the board has: where flash begins, the number of lines, the number of priority bits,
+-- the number of regions, and the script
 abbrev pub reset_system : ℕ → ℕ → ℕ → ℕ → List ScriptedEvent → System
 reset_system flash_base lines bits regions script = record {
   mpu = fresh regions;
@@ -232,7 +232,7 @@ after_tick s = record s { nvic = with_pended s.nvic (tick_pends s.time); time = 
 abbrev pub is_held : System → ℕ → Bool
 is_held s x = is_interrupt s.nvic.lines x && is_high s.time (x - FIRST_LINE)
 
--- DeActivate(): exception x isn't active any more, and is pending again where its line is high (profile)
+-- DeActivate() but for FAULTMASK: exception x isn't active any more, and is pending if its line is high (profile)
 unfoldable pub deactivated : System → ℕ → System
 deactivated s x =
     if is_held s x

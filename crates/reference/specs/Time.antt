@@ -139,7 +139,7 @@ tick_pends t n =
 abbrev pub start_time : List ScriptedEvent → Time
 start_time script = record { ticks = 0; systick = reset_systick; high = replicate MOST_LINES false; script = script }
 
--- Not used by a step: for the contracts of nvic and clock
+-- Not used by a step, but by the contracts of the crates nvic and clock: the rest of this file
 
 -- these eight words hold exactly the exceptions for which the test holds
 abbrev pub IsSetOf : List ℕ → (ℕ → Bool) → Type 0

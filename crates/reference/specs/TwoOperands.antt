@@ -1,6 +1,6 @@
 -- Operations on two operands, moves, comparisons, shifts by a register and ADR (ARM DDI 0403, "Alphabetical list of
--- ARMv7-M Thumb instructions", the operation of each). The PC is still the instruction's address: the step
--- moves it on.
+-- ARMv7-M Thumb instructions", the operation of each). Unless one of these writes the PC, it stays at the instruction:
+-- `data_processing_effect` moves it on.
 use Rattle.std.specs.Prelude.{ℕ, ◌+◌, ◌-◌, ◌*◌, ◌/◌, ◌%◌, ◌^◌, Bool, true, false, not, if◌then◌else◌, bit_and, bit_or}
 use Rattle.std.specs.Prelude.{bit_xor}
 use Rattle.std.specs.Option.{unwrap_or}

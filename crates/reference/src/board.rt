@@ -9,7 +9,7 @@ use crate::mpu::RegionCount;
 /// The sizes and numbers that differ from one board to the next (profile).
 #[derive(Clone, Copy)]
 pub struct Layout {
-    /// The address of the first byte of flash, a multiple of 1,024. The vector table is there.
+    /// The address of the first byte of flash, a multiple of 1,024. After a reset the vector table is there.
     pub flash_base: u32,
     /// The bytes of flash, a multiple of 1,024 from 1,024 to 1,048,576.
     pub flash_size: u32,

@@ -92,7 +92,7 @@ impl Priority {
         self.raised < 2
     }
 
-    /// Returns whether the priority has a lower number than the other, which is more urgent.
+    /// Returns whether the priority has a lower number than the other, and so is more urgent.
     #[inline]
     pub fn is_below(self, other: Priority) -> bool
         ensures { result ≡ nat_lt self other }

@@ -60,7 +60,7 @@ pub const DIVBYZERO: u32 = 1 << 25;
 /// The read of a vector was refused.
 pub const VECTTBL: u32 = 1 << 1;
 
-/// HardFault took the place of a fault that could not be taken.
+/// HardFault took the place of a fault or an SVC that could not be taken.
 pub const FORCED: u32 = 1 << 30;
 
 /// What a fault pends, and what it sets.

@@ -1,5 +1,5 @@
-//! The instructions, by family: one variant for each shape of operands, so that every encoding of
-//! one operation has the same variant.
+//! The instructions, by family: one variant for each shape of operands. Encodings of one operation whose
+//! operands have the same shape have the same variant.
 
 ghost use Rattle.std.specs.Prelude.{◌≡◌};
 ghost use Rattle.reference.specs.ProgramCounter.{instruction_bytes};
@@ -88,7 +88,7 @@ pub enum DataProcessing {
     DataRegister(DataRegister),
     /// MOV and MVN of a number.
     MoveImmediate(MoveImmediate),
-    /// MOV and MVN of a shifted register; so LSL, LSR, ASR, ROR and RRX by a number too.
+    /// MOV and MVN of a shifted register; so LSL, LSR, ASR and ROR by a number, and RRX, too.
     MoveRegister(MoveRegister),
     /// MOVT.
     MoveTop(MoveTop),

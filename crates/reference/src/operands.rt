@@ -70,7 +70,7 @@ pub enum MoveOperation {
 #[derive(Clone, Copy)]
 pub struct Immediate {
     pub value: u32,
-    /// None where the carry doesn't change.
+    /// None where the expansion has no carry: a logical operation or a move then leaves C as it is.
     pub carry: Option<bool>,
 }
 
@@ -273,7 +273,7 @@ pub enum Rearrangement {
     ReverseSignedHalfword,
     /// RBIT: the bits in the other order.
     ReverseBits,
-    /// CLZ: how many zeros are above the highest one.
+    /// CLZ: how many 0 bits are above the highest 1 bit; 32 where no bit is 1.
     CountLeadingZeros,
 }
 
@@ -330,7 +330,7 @@ pub struct LoadImmediate {
     pub form: LoadForm,
     pub target: Register,
     pub address: ImmediateAddress,
-    /// Whether it is made as by unprivileged code.
+    /// Whether the access is made as by unprivileged code, even where the code is privileged.
     pub unprivileged: bool,
 }
 
@@ -357,7 +357,7 @@ pub struct StoreImmediate {
     pub size: Size,
     pub target: Register,
     pub address: ImmediateAddress,
-    /// Whether it is made as by unprivileged code.
+    /// Whether the access is made as by unprivileged code, even where the code is privileged.
     pub unprivileged: bool,
 }
 
@@ -450,7 +450,7 @@ pub struct StoreExclusive {
 /// The operand of B and BL.
 #[derive(Clone, Copy)]
 pub struct Offset {
-    /// In bytes, from the PC as an operand; modulo 2^32.
+    /// In bytes, added modulo 2^32 to the PC as the instruction reads it (its address plus 4).
     pub offset: u32,
 }
 
@@ -459,7 +459,7 @@ pub struct Offset {
 pub struct ConditionalBranch {
     /// The four bits of the condition, from 0 to 13.
     pub condition: u8,
-    /// In bytes, from the PC as an operand; modulo 2^32.
+    /// In bytes, added modulo 2^32 to the PC as the instruction reads it (its address plus 4).
     pub offset: u32,
 }
 

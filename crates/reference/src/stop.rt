@@ -23,7 +23,7 @@ pub enum Stop {
 pub enum UnpredictableCase {
     /// A bit that should be 0 or should be 1 isn't.
     Encoding,
-    /// An instruction is in an IT block where it may not be.
+    /// An instruction where an IT block doesn't allow it; IT with condition 1111, or 1110 and several mask bits.
     ItBlock,
     /// No register in the list of a 16-bit encoding, or fewer than two in that of a 32-bit one.
     FewRegisters,
@@ -36,7 +36,7 @@ pub enum UnpredictableCase {
     Immediate,
     /// A bit field that ends above bit 31, or before it begins.
     BitField,
-    /// A special register that isn't there.
+    /// MRS or MSR of a special register that isn't there, or MSR with a mask other than 10.
     SpecialRegister,
     /// LDR to the PC from an address that isn't a multiple of 4.
     LoadPc,

@@ -73,7 +73,7 @@ impl Regs {
         ]
     }
 
-    /// Moves SP below that frame.
+    /// Moves SP to the address of the frame that exception entry pushes.
     pub fn reserve_frame(&mut self)
         ensures { self.new ≡ with_frame self.old }
     {

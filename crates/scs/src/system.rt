@@ -309,7 +309,7 @@ impl<D: Decider, L: Levels, U: DueTicks> System<D, L, U> {
         self.access_register(exception, request, register)
     }
 
-    /// Carries out an access to a register, whose privilege is checked first, then its width.
+    /// Carries out an access to a register: the access's privilege is checked first, then its width.
     #[tactic(auto, using(crate::proofs::Refused::refused_leaves), unfolding(reference::specs::System::register_access))]
     fn access_register(
         &mut self,

@@ -124,8 +124,8 @@ impl<const ROOM: usize> Page<ROOM> {
         }
     }
 
-    /// Appends all of a line but its tick. It takes a copy, so that an event whose line is written in place
-    /// needs no memory; so does `put_rare_head`.
+    /// Appends all of a line but its tick. It takes a copy, so that the compiler can keep an event that never
+    /// comes here in the host's registers; so does `put_rare_head`.
     #[cold]
     #[inline(never)]
     fn put_tail(&mut self, what: EventKind)

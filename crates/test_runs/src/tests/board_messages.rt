@@ -1,4 +1,4 @@
-//! What is wrong in a board, in the words of a message, and which word of the arguments isn't a text.
+//! What is wrong in a board, in the words of a message, and which argument isn't a text.
 
 use super::cut::Cut;
 use super::files::{Ended, Ends, FIRST, NO_INPUT, RUN_WORDS, SMALL};
@@ -298,7 +298,7 @@ fn a_word_that_is_no_text_is_numbered(rt: HostRuntime) -> Result<(), Fail> {
         Ok(_) => 0,
         Err(error) => refuse_words(&error, &mut err),
     };
-    let text = b"marm: io\n  word 2 isn't a text in UTF-8 (the program's name is word 0)\n";
+    let text = b"marm: io\n  argument 2 isn't a text in UTF-8 (the program's name is argument 0)\n";
     holds(
         status == 5 && err.text.as_slice() == text.as_slice(),
         "word 2",
