@@ -18,8 +18,8 @@ pub record State : Type 0 where
   pub bus : Bus
   -- whether WFI has put the processor to sleep
   pub asleep : Bool
-  -- in the entry phase (from a Stack step, or from a return that tail-chains or faults, to the Vector step): the
-  -- EXC_RETURN that the handler will get
+  -- in the entry phase (from a Stack step, or from a return that tail-chains or faults, until a Vector step enters a
+  -- handler): the EXC_RETURN that the handler will get
   pub entry : Option ℕ
   -- why the machine has stopped, if it has
   pub stop : Option Stop
