@@ -1,5 +1,5 @@
 #!/usr/bin/env bash
-# Runs the program itself once for each exit status, and compares the status and the first line that it
+# Runs the program itself at least once for each exit status, and compares the status and the first line that it
 # writes: of standard output for 0 and 4, and of standard error for 2, 3 and 5.
 set -euo pipefail
 top=$(cd "$(dirname "${BASH_SOURCE[0]}")/.." && pwd)
