@@ -1,9 +1,8 @@
 -- What a table decides by an interval is what the owner of the address decides.
 use Rattle.std.proofs.Common.{◌≡◌, ℕ, ◌+◌, ◌<◌, Bool, List, length, get_or, slice_set, Some, false, refl, ◌∙◌, arith}
 use Rattle.std.proofs.Common.{below_more}
-use Rattle.std.specs.Prelude.{IfSome}
 use Rattle.std.proofs.lemmas.List.{get_or-set_same, get_or-set_other}
-use Rattle.access_table.specs.Intervals.{HasAddress, interval}
+use Rattle.access_table.specs.Intervals.{HasAddress, HasRegionBelow16, interval}
 use Rattle.access_table.specs.Tables.{HasRights, StandsFor, View}
 use Rattle.mpu.specs.declared.rules.Rights.{Rights}
 use Rattle.reference.specs.Regions.{Mpu, region, owner, permission, never_executes}
@@ -29,12 +28,15 @@ pub owner_there : (t : View) (m : Mpu) (a place : ℕ) → StandsFor t m → pla
     → owner m a ≡ (interval t.spans place).region
 owner_there t m a place stands within there = stands.names place _ within a there.0 there.1
 
+-- the rights that a table has of a region
+abbrev rights_of : View → ℕ → Rights
+rights_of t k = get_or t.rights k (record { permission = 0; never_executes = false })
+
 pub by_own : (t : View) (m : Mpu) (kind : Kind) (a : ℕ) (privileged : Bool) (place k : ℕ) (d : Decision)
     → StandsFor t m → place < length t.spans → HasAddress (interval t.spans place) a
-    → (interval t.spans place).region ≡ Some k → IfSome (interval t.spans place).region (λ number. number < 16)
+    → (interval t.spans place).region ≡ Some k → HasRegionBelow16 (interval t.spans place)
     → d.rule ≡ rule.Region k
-    → d.granted ≡ permission_grants (get_or t.rights k (record { permission = 0; never_executes = false })).permission
-    (get_or t.rights k (record { permission = 0; never_executes = false })).never_executes kind privileged
+    → d.granted ≡ permission_grants (rights_of t k).permission (rights_of t k).never_executes kind privileged
     → d ≡ by_owner m kind a privileged (owner m a)
 by_own t m kind a privileged place k d stands within there named small r g =
     let o : owner m a ≡ Some k = owner_there t m a place stands within there ∙ named in

@@ -130,12 +130,15 @@ made_same m points i first region next xs parts order room made e same = record 
   owned = owned_same m points i first region parts order room made.owned (sym e ∙ same);
 }
 
+-- one interval more, up to the address before the next one
+abbrev pub ended : List Interval → ℕ → ℕ → Option ℕ → List Interval
+ended xs first next region = xs ++ record { first = first; last = next - 1; region = region } ∷ []
+
 pub made_next : (m : Mpu) (points : List ℕ) (i first : ℕ) (region next : Option ℕ) (xs : List Interval)
     → PartsRegions points m → IsNonDecreasing points → i < length points → get_or points i 0 < 2 ^ 32
     → IsMade m points i first region xs → next ≡ owner m (get_or points i 0) → (next ≡ region → ⊥)
     → IfSome next (λ number. number < 16)
-    → IsMade m points (i + 1) (get_or points i 0) next
-    (xs ++ record { first = first; last = get_or points i 0 - 1; region = region } ∷ [])
+    → IsMade m points (i + 1) (get_or points i 0) next (ended xs first (get_or points i 0) region)
 made_next m points i first region next xs parts order room small made e other within = record {
   small = small;
   tiles = let h = above in tiles_push xs _ 0 first _ made.tiles refl (omega (arith, h)) (omega (arith, h));
@@ -166,7 +169,7 @@ made_next m points i first region next xs parts order room small made e other wi
 -- the last interval ends at the last address
 pub made_last : (m : Mpu) (points : List ℕ) (i first : ℕ) (region : Option ℕ) (xs : List Interval) → length points ≤ i
     → IsMade m points i first region xs
-    → (let all = xs ++ record { first = first; last = 2 ^ 32 - 1; region = region } ∷ [] in
+    → (let all = ended xs first (2 ^ 32) region in
     Tiles all 0 (2 ^ 32) × All (NamesOwner m) all × All HasRegionBelow16 all)
 made_last m points i first region xs done made = (
   tiles_push xs _ 0 first _ made.tiles refl (let h = made.small in omega (arith, h)) (omega arith),

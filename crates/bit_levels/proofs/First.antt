@@ -4,7 +4,7 @@ use Rattle.std.proofs.Common.{slice_index, Some, None, refl, sym, ◌∙◌, ap,
 use Rattle.std.proofs.Math.Bool.{or-true}
 use Rattle.std.proofs.lemmas.Bool.{cases_lt, eqb-true, eq-eqb}
 use Rattle.std.proofs.lemmas.Bool.Decides.{nat_tests}
-use Rattle.bit_levels.proofs.Kept.{not_true}
+use Rattle.bit_levels.proofs.Kept.{not_true, view_of}
 use Rattle.bit_levels.proofs.Lists.{flag}
 use Rattle.bit_levels.specs.Sets.{flags, level, is_waiting, is_levelled, AreEmpty, IsKept, IsFirstOf}
 use Rattle.nvic.proofs.Best.{best_exactly}
@@ -25,16 +25,7 @@ pub record IsOf (n : Nvic) (levels : List (List ℕ)) (held enabled : List ℕ) 
 pub of_view : (levels : List (List ℕ)) (held enabled active priorities : List ℕ) (group : ℕ) (masks : Masks)
     (lines bits : ℕ)
     → IsKept levels held enabled priorities
-    → IsOf (record {
-      pending = flags (is_waiting levels held priorities);
-      enabled = flags (is_in_words enabled);
-      active = flags (is_in_words active);
-      priorities = priorities;
-      group = group;
-      masks = masks;
-      lines = lines;
-      priority_bits = bits;
-    }) levels held enabled
+    → IsOf (view_of levels held enabled active priorities group masks lines bits) levels held enabled
 of_view levels held enabled active priorities group masks lines bits kept =
     record { kept = kept; pending = refl; enabled_is = refl }
 

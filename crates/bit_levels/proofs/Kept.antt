@@ -7,8 +7,9 @@ use Rattle.std.proofs.lemmas.Bool.Decides.{nat_tests}
 use Rattle.std.proofs.lemmas.List.{get_or-set_other}
 use Rattle.bit_levels.proofs.Lists.{flags_set, flags_same, flags_none}
 use Rattle.bit_levels.specs.Sets.{flags, level, is_waiting, is_levelled, IsKept}
+use Rattle.reference.specs.declared.exception.Masks.{Masks}
 use Rattle.reference.specs.declared.exception.TheConstants.{EXCEPTIONS, MOST_LINES}
-use Rattle.reference.specs.Priorities.{is_always_enabled, is_in_words, is_fixed, reset_nvic}
+use Rattle.reference.specs.Priorities.{Nvic, is_always_enabled, is_in_words, is_fixed, reset_nvic}
 
 -- one exception of a set, and one of the set of a priority byte
 abbrev Puts : List ℕ → List ℕ → ℕ → Bool → Type 0
@@ -210,38 +211,47 @@ seen_moved levels held enabled priorities x b small kept out =
         now ∙ sym before
     lead y h false e = ap (λ p. is_in_words held y || is_in_words (level levels p) y) (moved priorities x y b e)
 
+-- what a contract sees of these fields
+abbrev pub view_of : List (List ℕ) → List ℕ → List ℕ → List ℕ → List ℕ → ℕ → Masks → ℕ → ℕ → Nvic
+view_of levels held enabled active priorities group masks lines bits = record {
+  pending = flags (is_waiting levels held priorities);
+  enabled = flags (is_in_words enabled);
+  active = flags (is_in_words active);
+  priorities = priorities;
+  group = group;
+  masks = masks;
+  lines = lines;
+  priority_bits = bits;
+}
+
 -- ---- after a reset
 
+-- a set has no exception
+abbrev HasNone : List ℕ → Type 0
+HasNone set = (x : ℕ) → is_in_words set x ≡ false
+
+abbrev no_masks : Masks
+no_masks = record { primask = false; faultmask = false; basepri = 0 }
+
 pub kept_none : (levels : List (List ℕ)) (held enabled priorities : List ℕ)
-    → ((p : ℕ) (x : ℕ) → is_in_words (level levels p) x ≡ false)
-    → ((x : ℕ) → is_in_words held x ≡ false) → IsKept levels held enabled priorities
+    → ((p : ℕ) → HasNone (level levels p)) → HasNone held → IsKept levels held enabled priorities
 kept_none levels held enabled priorities none out = record {
   in_level = λ p x h t. absurd (let f = none p x in let w : ⊥ = cc in w);
   in_held = λ x h t. absurd (let f = out x in let w : ⊥ = cc in w);
 }
 
 pub seen_none : (levels : List (List ℕ)) (held priorities : List ℕ)
-    → ((p : ℕ) (x : ℕ) → is_in_words (level levels p) x ≡ false)
-    → ((x : ℕ) → is_in_words held x ≡ false) → flags (is_waiting levels held priorities) ≡ replicate EXCEPTIONS false
+    → ((p : ℕ) → HasNone (level levels p)) → HasNone held
+    → flags (is_waiting levels held priorities) ≡ replicate EXCEPTIONS false
 seen_none levels held priorities none out =
     flags_none (is_waiting levels held priorities) (λ x h. rw (out x, none (slice_index priorities x) x) refl)
 
-pub set_none : (set : List ℕ) → ((x : ℕ) → is_in_words set x ≡ false)
-    → flags (is_in_words set) ≡ replicate EXCEPTIONS false
+pub set_none : (set : List ℕ) → HasNone set → flags (is_in_words set) ≡ replicate EXCEPTIONS false
 set_none set none = flags_none (is_in_words set) (λ x h. none x)
 
 pub reset_is : (levels : List (List ℕ)) (held enabled active : List ℕ) (lines bits kept : ℕ)
-    → ((p : ℕ) (x : ℕ) → is_in_words (level levels p) x ≡ false) → ((x : ℕ) → is_in_words held x ≡ false)
-    → ((x : ℕ) → is_in_words enabled x ≡ false) → ((x : ℕ) → is_in_words active x ≡ false) → kept ≡ min lines MOST_LINES
-    → (record {
-      pending = flags (is_waiting levels held (replicate EXCEPTIONS 0));
-      enabled = flags (is_in_words enabled);
-      active = flags (is_in_words active);
-      priorities = replicate EXCEPTIONS 0;
-      group = 0;
-      masks = record { primask = false; faultmask = false; basepri = 0 };
-      lines = kept;
-      priority_bits = bits;
-    }) ≡ reset_nvic lines bits
+    → ((p : ℕ) → HasNone (level levels p)) → HasNone held → HasNone enabled → HasNone active
+    → kept ≡ min lines MOST_LINES
+    → view_of levels held enabled active (replicate EXCEPTIONS 0) 0 no_masks kept bits ≡ reset_nvic lines bits
 reset_is levels held enabled active lines bits kept none out off idle e =
     rw (seen_none levels held (replicate EXCEPTIONS 0) none out, set_none enabled off, set_none active idle, e) refl

@@ -1,6 +1,6 @@
 -- Accesses that are performed one by one.
 use Rattle.std.proofs.Common.{◌≡◌, ℕ, suc, ◌+◌, ◌<◌, ◌≤◌, List, [], ◌∷◌, ◌++◌, length, drop, get_or, Some, None, Ok}
-use Rattle.std.proofs.Common.{Err, refl, sym, ap, ◌∙◌, append_assoc, add-one}
+use Rattle.std.proofs.Common.{Result, Err, refl, sym, ap, ◌∙◌, append_assoc, add-one}
 use Rattle.std.proofs.Math.ListN.{drop_of_length-le}
 use Rattle.std.proofs.Math.Seq.{drop-cons}
 use Rattle.std.proofs.lemmas.List.{append-nil}
@@ -15,10 +15,21 @@ use Rattle.trace.specs.Emission.{Emission}
 abbrev pub behind : List Event → List ℕ → ListResult → ListResult
 behind events values all = record all { events = events ++ all.events; values = values ++ all.values }
 
+-- the lines of one access, and its value or failure
+abbrev pub lines_by : ℕ → ℕ → Bus → Request → List Event
+lines_by exception tick b q = access_lines tick q (perform exception b q).performed
+
+abbrev pub value_by : ℕ → Bus → Request → Result ℕ Failure
+value_by exception b q = value_of q (perform exception b q).performed
+
+-- the accesses of a list from its i-th one on
+abbrev pub perform_from : ℕ → ℕ → Bus → List Request → ℕ → ListResult
+perform_from exception tick b qs i = perform_all exception tick b (drop i qs)
+
 front : (exception tick : ℕ) (b : Bus) (q : Request) (qs : List Request)
     → perform_all exception tick b (q ∷ qs)
-    ≡ followed (access_lines tick q (perform exception b q).performed) (perform exception b q).bus
-    (value_of q (perform exception b q).performed) (perform_all exception tick (perform exception b q).bus qs)
+    ≡ followed (lines_by exception tick b q) (perform exception b q).bus (value_by exception b q)
+    (perform_all exception tick (perform exception b q).bus qs)
 unfolding perform_all
 front exception tick b q qs = refl
 
@@ -33,43 +44,40 @@ followed_on events values lines after value rest =
     rw (append_assoc events lines rest.events, append_assoc values (value ∷ []) rest.values) refl
 
 -- one access more was carried out
-pub one_more : (exception tick : ℕ) (b : Bus) (requests : List Request) (i value : ℕ) (d : Request)
-    (events : List Event) (values : List ℕ) → i < length requests
-    → value_of (get_or requests i d) (perform exception b (get_or requests i d)).performed ≡ Ok value
-    → behind events values (perform_all exception tick b (drop i requests))
-    ≡ behind (events ++ access_lines tick (get_or requests i d) (perform exception b (get_or requests i d)).performed)
-    (values ++ value ∷ []) (perform_all exception tick (perform exception b (get_or requests i d)).bus
-    (drop (i + 1) requests))
-one_more exception tick b requests i value d events values below went =
-    rw (drop-cons requests i d below, add-one, front, went)
-    (followed_on events values
-    (access_lines tick (get_or requests i d) (perform exception b (get_or requests i d)).performed)
-    (perform exception b (get_or requests i d)).bus value
-    (perform_all exception tick (perform exception b (get_or requests i d)).bus (drop (suc i) requests)))
+pub one_more : (exception tick : ℕ) (b : Bus) (qs : List Request) (i value : ℕ) (d : Request)
+    (events : List Event) (values : List ℕ) → i < length qs
+    → (let q = get_or qs i d in
+    value_by exception b q ≡ Ok value
+    → behind events values (perform_from exception tick b qs i)
+    ≡ behind (events ++ lines_by exception tick b q) (values ++ value ∷ [])
+    (perform_from exception tick (perform exception b q).bus qs (i + 1)))
+one_more exception tick b qs i value d events values below went =
+    rw (drop-cons qs i d below, add-one, front, went)
+    (followed_on events values (lines_by exception tick b (get_or qs i d))
+    (perform exception b (get_or qs i d)).bus value
+    (perform_all exception tick (perform exception b (get_or qs i d)).bus (drop (suc i) qs)))
 
 -- an access failed: the list ends with it
-pub ended_early : (exception tick : ℕ) (b : Bus) (requests : List Request) (i : ℕ) (d : Request) (why : Failure)
-    (events : List Event) (values : List ℕ) (all : ListResult) → i < length requests
-    → value_of (get_or requests i d) (perform exception b (get_or requests i d)).performed ≡ Err why
-    → behind events values (perform_all exception tick b (drop i requests)) ≡ all
-    → ((perform exception b (get_or requests i d)).bus ≡ all.bus)
-    × (events ++ access_lines tick (get_or requests i d) (perform exception b (get_or requests i d)).performed
-    ≡ all.events)
-    × (all.failure ≡ Some why)
-ended_early exception tick b requests i d why events values all below failed rest =
-    let whole = rw (drop-cons requests i d below, front, failed) at rest in (
+pub ended_early : (exception tick : ℕ) (b : Bus) (qs : List Request) (i : ℕ) (d : Request) (why : Failure)
+    (events : List Event) (values : List ℕ) (all : ListResult) → i < length qs
+    → (let q = get_or qs i d in
+    value_by exception b q ≡ Err why → behind events values (perform_from exception tick b qs i) ≡ all
+    → ((perform exception b q).bus ≡ all.bus) × (events ++ lines_by exception tick b q ≡ all.events)
+    × (all.failure ≡ Some why))
+ended_early exception tick b qs i d why events values all below failed rest =
+    let whole = rw (drop-cons qs i d below, front, failed) at rest in (
       ap (λ (s : ListResult). s.bus) whole,
       ap (λ (s : ListResult). s.events) whole,
       sym (ap (λ (s : ListResult). s.failure) whole),
     )
 
 -- no access is left
-pub all_served : (exception tick : ℕ) (b : Bus) (requests : List Request) (i : ℕ) (events : List Event)
-    (values : List ℕ) (all : ListResult) → length requests ≤ i
-    → behind events values (perform_all exception tick b (drop i requests)) ≡ all
+pub all_served : (exception tick : ℕ) (b : Bus) (qs : List Request) (i : ℕ) (events : List Event)
+    (values : List ℕ) (all : ListResult) → length qs ≤ i
+    → behind events values (perform_from exception tick b qs i) ≡ all
     → (b ≡ all.bus) × (events ≡ all.events) × (values ≡ all.values) × (all.failure ≡ None)
-all_served exception tick b requests i events values all past rest =
-    let whole = rw (drop_of_length-le requests past, none_left, append-nil events, append-nil values) at rest in (
+all_served exception tick b qs i events values all past rest =
+    let whole = rw (drop_of_length-le qs past, none_left, append-nil events, append-nil values) at rest in (
       ap (λ (s : ListResult). s.bus) whole,
       ap (λ (s : ListResult). s.events) whole,
       ap (λ (s : ListResult). s.values) whole,

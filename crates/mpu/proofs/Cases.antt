@@ -102,47 +102,59 @@ at_regions m q None missed owns =
     behind m q (is_background m.control q.privileged) refl
     (and_regions m q missed (λ k other. let e = only_owner m q.address None (Some k) owns other in cc))
 
-fit : (m : Mpu) (q : AccessQuery) (xn vec ppb on neg : Bool) (o : Option ℕ)
-    → is_never_executed q.address q.kind ≡ xn → is_vector q.kind ≡ vec → is_ppb_data q.address q.kind ≡ ppb
-    → is_on m.control ≡ on → is_off_below_zero m.control q.below_zero ≡ neg → IsOwner m q.address o
-    → IsFirstFit m q (first_of_two (
+-- the first of the tests before the regions that holds
+abbrev before : AccessQuery → Bool → Bool → Bool → Bool → Bool → Option Decision
+before q xn vec ppb on neg =
     if xn then Some (record { rule = NeverExecute; granted = false })
     else if vec then Some (record { rule = VectorRead; granted = true })
     else if ppb then Some (record { rule = PrivatePeripheralBus; granted = true })
     else if not on then Some (record { rule = MpuOff; granted = default_map q.address q.kind })
     else if neg then Some (record { rule = NegativePriority; granted = default_map q.address q.kind })
-    else None) (by_owner m q.kind q.address q.privileged o))
-fit m q true vec ppb on neg o e1 e2 e3 e4 e5 owns = record { fits = e1; first = nothing_above m q; granted = refl }
-fit m q false true ppb on neg o e1 e2 e3 e4 e5 owns =
-    let m1 = and_rule m q NeverExecute (λ h. omega arith) (nothing_above m q) (unlike _ e1) in
-    record { fits = e2; first = m1; granted = refl }
-fit m q false false true on neg o e1 e2 e3 e4 e5 owns =
-    let m1 = and_rule m q NeverExecute (λ h. omega arith) (nothing_above m q) (unlike _ e1) in
-    let m2 = and_rule m q VectorRead (λ h. omega arith) m1 (unlike _ e2) in
-    record { fits = e3; first = m2; granted = refl }
-fit m q false false false false neg o e1 e2 e3 e4 e5 owns =
-    let m1 = and_rule m q NeverExecute (λ h. omega arith) (nothing_above m q) (unlike _ e1) in
-    let m2 = and_rule m q VectorRead (λ h. omega arith) m1 (unlike _ e2) in
-    let m3 = and_rule m q PrivatePeripheralBus (λ h. omega arith) m2 (unlike _ e3) in
-    record { fits = e4; first = m3; granted = refl }
-fit m q false false false true true o e1 e2 e3 e4 e5 owns =
-    let m1 = and_rule m q NeverExecute (λ h. omega arith) (nothing_above m q) (unlike _ e1) in
-    let m2 = and_rule m q VectorRead (λ h. omega arith) m1 (unlike _ e2) in
-    let m3 = and_rule m q PrivatePeripheralBus (λ h. omega arith) m2 (unlike _ e3) in
-    let m4 = and_rule m q MpuOff (λ h. omega arith) m3 (unlike_too _ e4) in
-    record { fits = e5; first = m4; granted = refl }
-fit m q false false false true false o e1 e2 e3 e4 e5 owns =
-    let m1 = and_rule m q NeverExecute (λ h. omega arith) (nothing_above m q) (unlike _ e1) in
-    let m2 = and_rule m q VectorRead (λ h. omega arith) m1 (unlike _ e2) in
-    let m3 = and_rule m q PrivatePeripheralBus (λ h. omega arith) m2 (unlike _ e3) in
-    let m4 = and_rule m q MpuOff (λ h. omega arith) m3 (unlike_too _ e4) in
-    let m5 = and_rule m q NegativePriority (λ h. omega arith) m4 (unlike _ e5) in
+    else None
+
+-- what the tests find
+record Tests (m : Mpu) (q : AccessQuery) (xn vec ppb on neg : Bool) : Type 0 where
+  xn_is : is_never_executed q.address q.kind ≡ xn
+  vec_is : is_vector q.kind ≡ vec
+  ppb_is : is_ppb_data q.address q.kind ≡ ppb
+  on_is : is_on m.control ≡ on
+  neg_is : is_off_below_zero m.control q.below_zero ≡ neg
+
+fit : (m : Mpu) (q : AccessQuery) (xn vec ppb on neg : Bool) (o : Option ℕ) → Tests m q xn vec ppb on neg
+    → IsOwner m q.address o
+    → IsFirstFit m q (first_of_two (before q xn vec ppb on neg) (by_owner m q.kind q.address q.privileged o))
+fit m q true vec ppb on neg o t owns = record { fits = t.xn_is; first = nothing_above m q; granted = refl }
+fit m q false true ppb on neg o t owns =
+    let m1 = and_rule m q NeverExecute (λ h. omega arith) (nothing_above m q) (unlike _ t.xn_is) in
+    record { fits = t.vec_is; first = m1; granted = refl }
+fit m q false false true on neg o t owns =
+    let m1 = and_rule m q NeverExecute (λ h. omega arith) (nothing_above m q) (unlike _ t.xn_is) in
+    let m2 = and_rule m q VectorRead (λ h. omega arith) m1 (unlike _ t.vec_is) in
+    record { fits = t.ppb_is; first = m2; granted = refl }
+fit m q false false false false neg o t owns =
+    let m1 = and_rule m q NeverExecute (λ h. omega arith) (nothing_above m q) (unlike _ t.xn_is) in
+    let m2 = and_rule m q VectorRead (λ h. omega arith) m1 (unlike _ t.vec_is) in
+    let m3 = and_rule m q PrivatePeripheralBus (λ h. omega arith) m2 (unlike _ t.ppb_is) in
+    record { fits = t.on_is; first = m3; granted = refl }
+fit m q false false false true true o t owns =
+    let m1 = and_rule m q NeverExecute (λ h. omega arith) (nothing_above m q) (unlike _ t.xn_is) in
+    let m2 = and_rule m q VectorRead (λ h. omega arith) m1 (unlike _ t.vec_is) in
+    let m3 = and_rule m q PrivatePeripheralBus (λ h. omega arith) m2 (unlike _ t.ppb_is) in
+    let m4 = and_rule m q MpuOff (λ h. omega arith) m3 (unlike_too _ t.on_is) in
+    record { fits = t.neg_is; first = m4; granted = refl }
+fit m q false false false true false o t owns =
+    let m1 = and_rule m q NeverExecute (λ h. omega arith) (nothing_above m q) (unlike _ t.xn_is) in
+    let m2 = and_rule m q VectorRead (λ h. omega arith) m1 (unlike _ t.vec_is) in
+    let m3 = and_rule m q PrivatePeripheralBus (λ h. omega arith) m2 (unlike _ t.ppb_is) in
+    let m4 = and_rule m q MpuOff (λ h. omega arith) m3 (unlike_too _ t.on_is) in
+    let m5 = and_rule m q NegativePriority (λ h. omega arith) m4 (unlike _ t.neg_is) in
     at_regions m q o m5 owns
 
 -- the decision is by the first case that fits
 decision_is : (m : Mpu) (q : AccessQuery) → IsFirstFit m q (decision_of m q.address q.kind q.privileged q.below_zero)
 unfolding decision_of before_regions
-decision_is m q = fit m q _ _ _ _ _ (owner m q.address) refl refl refl refl refl (owner_is m q.address)
+decision_is m q = fit m q _ _ _ _ _ (owner m q.address)
+    (record { xn_is = refl; vec_is = refl; ppb_is = refl; on_is = refl; neg_is = refl }) (owner_is m q.address)
 
 -- ---- two such decisions are one
 

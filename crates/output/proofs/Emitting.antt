@@ -144,12 +144,17 @@ found e now faults false so_far =
 found e now faults true so_far =
     (cut_found e.written now (lines e.events) (∥∥₁_map so_far (λ w. w.0)), ∥∥₁_elim so_far (search props) (λ w. w.1))
 
+-- what a sink has put so far
+abbrev Puts : {O : Type 0} → (O → Option (List ℕ)) → (O → ℕ) → ℕ → O → List (O × Event) → Bool → Type 0
+Puts written faults name now items failed =
+    ∥ WritesSoFar (emission written faults name now items) (written now) (faults now) failed ∥₁
+
 -- one event more, whose line was put unless an earlier one failed
 pub one_line_more : {O : Type 0} (written : O → Option (List ℕ)) (faults : O → ℕ) (name : ℕ) (old new : O)
     (items later : List (O × Event)) (e : Event) (failed after : Bool) → later ≡ items ++ (old, e) ∷ []
-    → ∥ WritesSoFar (emission written faults name old items) (written old) (faults old) failed ∥₁
+    → Puts written faults name old items failed
     → PutsUnless failed (written old) (written new) (faults old) (faults new) (line e) after
-    → ∥ WritesSoFar (emission written faults name new later) (written new) (faults new) after ∥₁
+    → Puts written faults name new later after
 one_line_more written faults name old new items later e failed after is so_far put =
     rw (is, one_more written faults name old new items e)
     (let before = emission written faults name old items in

@@ -1,7 +1,7 @@
 -- What a contract sees of a writer to which the lines of a step's events go one by one.
-use Rattle.std.specs.Prelude.{◌≡◌, ℕ, ◌+◌, Bool, true, false, List, [], ◌∷◌, Option, map}
+use Rattle.std.specs.Prelude.{◌≡◌, ℕ, ◌+◌, Bool, true, false, List, [], ◌∷◌, Option, Result, map}
 use Rattle.std.specs.Io.KnownBytes.{Appends}
-use Rattle.output.specs.Output.{IsCutShort}
+use Rattle.output.specs.Output.{IsCutShort, Put}
 use Rattle.reference.specs.declared.event.Event.{Event}
 use Rattle.reference.specs.Text.{lines}
 use Rattle.trace.specs.Emission.{Emission}
@@ -27,6 +27,10 @@ BeforeStep written faults name now items =
 abbrev pub WritesSoFar : Emission → Option (List ℕ) → ℕ → Bool → Type 0
 WritesSoFar e now faults false = Appends e.written now (lines e.events) × (faults ≡ e.faults)
 WritesSoFar e now faults true = IsCutShort e.written now (lines e.events) × (faults ≡ e.faults + 1)
+
+-- all lines of a step's events were put
+abbrev pub PutsLines : {E : Type 0} → Emission → Option (List ℕ) → ℕ → Result (Unit {0}) E → Type 0
+PutsLines e now faults result = Put e.written now e.faults faults (lines e.events) result
 
 -- a line after others: it isn't begun where one of those failed; otherwise it went out, or it failed and a prefix of it
 -- did

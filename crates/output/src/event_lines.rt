@@ -1,10 +1,9 @@
 //! A sink that writes the line of each event at once.
 
 ghost use Rattle.std.specs.Prelude.{◌≡◌, [], Option};
-ghost use Rattle.output.specs.Emitting.{BeforeStep, PutsUnless, WritesSoFar, emission};
-ghost use Rattle.output.specs.Output.{Put};
+ghost use Rattle.output.specs.Emitting.{BeforeStep, PutsLines, PutsUnless, WritesSoFar, emission};
 ghost use Rattle.reference.specs.declared.event.EventKind.TheVariants.{Accessed};
-ghost use Rattle.reference.specs.Text.{line, lines};
+ghost use Rattle.reference.specs.Text.{line};
 ghost use Rattle.trace.specs.Fetches.{access_of};
 
 use crate::history::History;
@@ -44,7 +43,7 @@ impl<'a, O: Out> EventLines<'a, O> {
     /// Returns whether the lines of all events went out.
     #[inline(always)]
     pub fn end(&self) -> Result<(), IoFault>
-        ensures { Put (emission O.written O.faults self.now.out.ghost_name self.now.out.now self.now.history.items).written (O.written self.now.out.now) (emission O.written O.faults self.now.out.ghost_name self.now.out.now self.now.history.items).faults (O.faults self.now.out.now) (lines (emission O.written O.faults self.now.out.ghost_name self.now.out.now self.now.history.items).events) result }
+        ensures { PutsLines (emission O.written O.faults self.now.out.ghost_name self.now.out.now self.now.history.items) (O.written self.now.out.now) (O.faults self.now.out.now) result }
     {
         if self.failed { Err(IoFault) } else { Ok(()) }
     }

@@ -44,7 +44,7 @@ saturated is_signed bits x =
     let result = nearest (least is_signed bits) (greatest is_signed bits) (signed x) in
     (low_bits 32 result, not (int_eq result (signed x)))
 
--- SSAT and USAT of the word shifted, read as signed: Q is set where the result is saturated, and otherwise stays as it was
+-- SSAT and USAT of the word shifted, read as signed: Q is set where the result is saturated, otherwise left as it was
 abbrev pub saturate : Saturate → Registers → Registers
 saturate o r =
     let given = saturated o.signed o.bits (shifted o.source r).0 in

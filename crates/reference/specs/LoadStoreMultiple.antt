@@ -89,9 +89,9 @@ unfoldable pub loaded : List ℕ → List ℕ → Registers → Registers
 loaded [] values r = r
 loaded (n ∷ ns) values r = loaded ns (drop 1 values) (with_register r n (slice_index values 0))
 
--- the base is written back, then R0 to LR are loaded. The manual's LDM writes the base last, with the same result, since
--- no row writes back a base that is in its list. Where the value for the PC begins a return from an exception, all these
--- registers are written before the return begins (profile)
+-- the base is written back, then R0 to LR are loaded. The manual's LDM writes the base last, with the same result,
+-- since no row writes back a base that is in its list. Where the value for the PC begins a return from an exception,
+-- all these registers are written before the return begins (profile)
 abbrev pub loaded_below_pc : LoadMultiple → List ℕ → Registers → Registers
 loaded_below_pc o values r =
     loaded (registers_below 15 o.list) values (with_moved_base o.write_back o.base o.order o.list r)

@@ -130,7 +130,7 @@ ldrd_literal_t1 = record {
   });
 }
 
--- LDRD (immediate), encoding T1; P = 0 with W = 0 are the rows above, or UNDEFINED, and with n = 1111 it is LDRD (literal)
+-- LDRD (immediate), encoding T1; P = 0 with W = 0 are the rows above, or UNDEFINED; with n = 1111 it is LDRD (literal)
 abbrev pub ldrd_immediate_t1 : Row
 ldrd_immediate_t1 = record {
   places = unspaced (codes "1110100 P U 1 W 1 nnnn tttt uuuu iiiiiiii");

@@ -22,7 +22,7 @@ use Rattle.reference.specs.declared.fault_status.TheConstants.{FORCED}
 use Rattle.reference.specs.Faults.{access_fault, fault_of, usage_fault_of, vector_fault, with_fault_address, recorded}
 use Rattle.reference.specs.Faults.{fault_line, with_status, pended_by_fault, locked_up, escalated, faulted, failed}
 use Rattle.reference.specs.Faults.{supervisor_called_by, supervisor_called}
-use Rattle.reference.specs.Memory.{Memory, byte_at}
+use Rattle.reference.specs.Memory.{Memory}
 use Rattle.reference.specs.ExceptionEntry.{vector_refused}
 use Rattle.reference.specs.Priorities.{is_fixed}
 use Rattle.reference.specs.State.{State, Stepped}
@@ -190,7 +190,8 @@ faulted_unrefused : (old : Memory) (s : State) (events : List Event) (f : FaultE
     IsLawful old (faulted s events f)
 unfolding faulted
 faulted_unrefused old s events f ready =
-    escalated_unrefused old (recorded s f) events f.exception _ (record { unrefused = ready.unrefused; only = ready.only })
+    escalated_unrefused old (recorded s f) events f.exception _
+    (record { unrefused = ready.unrefused; only = ready.only })
 
 faulted_refused : (old : Memory) (s : State) (events : List Event) (access : Access) (cause : Cause) →
     LastRefused access cause events → OnlyCovered old s.bus.memory events →

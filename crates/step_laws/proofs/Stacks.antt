@@ -38,9 +38,13 @@ HoldsWords m a (v ∷ vs) = IsWord m a v × HoldsWords m (word_sum a 4) vs
 
 -- ---- pushes
 
+-- words that are pushed from an address upward
+abbrev pub pushed : ℕ → ℕ → Bool → Bus → ℕ → List ℕ → ListResult
+pushed exception tick privileged b a vs = perform_all exception tick b (words_from Push privileged a vs)
+
 -- the first push goes to RAM
 starts_in_ram : (exception tick : ℕ) (privileged : Bool) (b : Bus) (a v : ℕ) (vs : List ℕ) →
-    (perform_all exception tick b (words_from Push privileged a (v ∷ vs))).failure ≡ None → ram_base ≤ a
+    (pushed exception tick privileged b a (v ∷ vs)).failure ≡ None → ram_base ≤ a
 unfolding perform_all
 starts_in_ram exception tick privileged b a v vs none =
     let on = went_on _ _ _ _ none in
@@ -55,12 +59,10 @@ pub record AreThere (old : Memory) (a : ℕ) (vs : List ℕ) (new : Memory) : Ty
 
 -- the others leave what is below the next word
 others_keep : (exception tick : ℕ) (privileged : Bool) (b : Bus) (a : ℕ) (vs : List ℕ) → a % 4 ≡ 0 → a < 2 ^ 32 →
-    (perform_all exception tick b (words_from Push privileged (word_sum a 4) vs)).failure ≡ None →
-    AreThere b.memory (word_sum a 4) vs
-    (perform_all exception tick b (words_from Push privileged (word_sum a 4) vs)).bus.memory →
+    (pushed exception tick privileged b (word_sum a 4) vs).failure ≡ None →
+    AreThere b.memory (word_sum a 4) vs (pushed exception tick privileged b (word_sum a 4) vs).bus.memory →
     (x : ℕ) → x < a + 4 →
-    byte_at (perform_all exception tick b (words_from Push privileged (word_sum a 4) vs)).bus.memory x
-    ≡ byte_at b.memory x
+    byte_at (pushed exception tick privileged b (word_sum a 4) vs).bus.memory x ≡ byte_at b.memory x
 unfolding perform_all
 others_keep exception tick privileged b a [] aligned low none rest x below = refl
 others_keep exception tick privileged b a (w ∷ ws) aligned low none rest x below =
@@ -85,8 +87,8 @@ one_pushed old next new a v vs apart pushed kept rest = record {
 pub words_pushed : (exception tick : ℕ) (privileged : Bool) (b : Bus) (a : ℕ) (vs : List ℕ) →
     FlashEndsBelowRam b.memory →
     a % 4 ≡ 0 → a < 2 ^ 32 →
-    (perform_all exception tick b (words_from Push privileged a vs)).failure ≡ None →
-    AreThere b.memory a vs (perform_all exception tick b (words_from Push privileged a vs)).bus.memory
+    (pushed exception tick privileged b a vs).failure ≡ None →
+    AreThere b.memory a vs (pushed exception tick privileged b a vs).bus.memory
 unfolding perform_all
 words_pushed exception tick privileged b a [] apart aligned low none =
     record { apart = apart; words = tt; below = λ x under. refl }
