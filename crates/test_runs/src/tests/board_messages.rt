@@ -91,6 +91,52 @@ ends 3
 err marm: board 3 WrongKind
 err   board.toml: event 1: line is an array: it takes an integer from 0 to 7 (lines is 8)
 
+a number of lines below 0
+board flash_base = 0
+board flash_size = 4096
+board ram_size = 8192
+board priority_bits = 4
+board lines = -1
+ends 3
+err marm: board 4 OutOfRange
+err   board.toml: lines is -1: it takes an integer from 0 to 240
+
+no regions
+with regions = 0
+ends 3
+err marm: board 4 OutOfRange
+err   board.toml: regions is 0: it takes 8 or 16 (8 where the key is missing)
+
+a number of regions below 0
+with regions = -8
+ends 3
+err marm: board 4 OutOfRange
+err   board.toml: regions is -8: it takes 8 or 16 (8 where the key is missing)
+
+seven regions
+with regions = 7
+ends 3
+err marm: board 4 OutOfRange
+err   board.toml: regions is 7: it takes 8 or 16 (8 where the key is missing)
+
+fifteen regions
+with regions = 15
+ends 3
+err marm: board 4 OutOfRange
+err   board.toml: regions is 15: it takes 8 or 16 (8 where the key is missing)
+
+seventeen regions
+with regions = 17
+ends 3
+err marm: board 4 OutOfRange
+err   board.toml: regions is 17: it takes 8 or 16 (8 where the key is missing)
+
+thirty-two regions
+with regions = 32
+ends 3
+err marm: board 4 OutOfRange
+err   board.toml: regions is 32: it takes 8 or 16 (8 where the key is missing)
+
 regions after the first event
 with [[event]]
 with at = 1
