@@ -7,6 +7,7 @@ import re
 import struct
 import sys
 
+import results
 from loops import LOOPS, REGIONS, best_of, flash_of, image, trace_of, traced, with_regions, written
 
 RATE, MARM, SMALL, LARGE, PROGRAM, LISTING, FOLDER = sys.argv[1:8]
@@ -92,10 +93,12 @@ path = written(FOLDER, "crc32-loop.elf", with_regions(flash, REGIONS[:8]))
 runs["crc32-loop", "regions"] = traced(MARM, LARGE, STEPS, path)
 
 best = best_of(runs, ROUNDS)
+figures = {}
 print(f"{COUNT} decodes or decisions, {STEPS} steps, the best of {ROUNDS} shuffled rounds")
 for name, pairs in mixes.items():
     count = times_of(pairs) * len(pairs)
     decode, memo = best[name, "decode"] / count, best[name, "memo"] / count
+    figures[f"decode, {name}, ns"] = f"{decode * 1e9:.1f}"
     line = f"{name:<32} {1e-6 / decode:6.1f} M decodes/s   {decode * 1e9:5.1f} ns each, {memo * 1e9:5.1f} where meanings are kept"
     if (name, "marm") in best:
         step = best[name, "marm"] / STEPS
@@ -105,7 +108,9 @@ each_step = len(accesses) / len(mixes["crc32-loop"])
 for text, run in (("the MPU off", "marm"), ("eight regions", "regions")):
     decide = best["decide", run] / (times_of(accesses) * len(accesses))
     step = best["crc32-loop", run] / STEPS
+    figures[f"decide, {text}, ns"] = f"{decide * 1e9:.1f}"
     print(
         f"{'crc32-loop, ' + text:<32} {1e-6 / decide:6.1f} M decisions/s {decide * 1e9:5.1f} ns each"
         f"   {step * 1e9:5.1f} ns a step, of which deciding {each_step * decide / step:.0%} ({each_step:.2f} a step)"
     )
+results.append(f"bench/parts.sh {COUNT} {ROUNDS}", figures)

@@ -2,7 +2,8 @@
 # Prints how many decodes a second the proved decoder makes: over random halfwords, over a program that clang compiled
 # for ARMv7-M (left out where clang or llvm-objdump isn't there), and over the loops and the real program of bench/run.sh,
 # with what part of their steps it takes where meanings are kept, as they are there; and the same of the decisions of that
-# program's accesses, with the MPU off and with eight regions. Usage: bench/parts.sh [COUNT] [ROUNDS]
+# program's accesses, with the MPU off and with eight regions. Appends the figures to bench/results.csv.
+# Usage: bench/parts.sh [COUNT] [ROUNDS]
 set -euo pipefail
 top=$(cd "$(dirname "${BASH_SOURCE[0]}")/.." && pwd)
 folder=$(mktemp -d)

@@ -4,6 +4,7 @@ with the MPU off; and the loops with the trace to a file, and in QEMU with a plu
 
 import sys
 
+import results
 from loops import (
     EVENTS, LOOPS, REGIONS, SIZES, best_of, counted, flash_of, image, script, timer_image, to_file, trace_of, traced,
     with_regions, written,
@@ -54,6 +55,7 @@ for count in COUNTS:
 steps, lines = counted(trace_of(runs["crc32-loop", "marm"]))
 
 best = best_of(runs, ROUNDS)
+figures = {}
 print(f"{STEPS} steps, the best of {ROUNDS} shuffled rounds, the trace to /dev/null")
 for name, (_, share) in LOOPS.items():
     marm, plain = best[name, "marm"], best[name, "format"]
@@ -61,16 +63,22 @@ for name, (_, share) in LOOPS.items():
         f"{name:<11} marm {STEPS / marm / 1e6:6.1f} M steps/s {share * STEPS / marm / 1e6:6.1f} M lines/s   "
         f"C formatter {share * STEPS / plain / 1e6:6.1f} M lines/s   ratio {plain / marm:.2f}"
     )
+    figures[f"bench {name}, M lines/s"] = f"{share * STEPS / marm / 1e6:.1f}"
+    figures[f"bench {name}, of the formatter"] = f"{plain / marm:.2f}"
     if PLUGIN:
         plugin = best[name, "qemu"]
+        figures[f"bench {name}, of QEMU"] = f"{plugin / marm:.2f}"
         print(f"{name:<11} QEMU {share * STEPS / plugin / 1e6:6.1f} M lines/s   ratio {plugin / marm:.2f}")
 marm, untraced = best["crc32-loop", "marm"], best["crc32-loop", "untraced"]
 print(
     f"crc32-loop  marm {steps / marm / 1e6:6.1f} M steps/s {lines / marm / 1e6:6.1f} M lines/s   "
     f"untraced    {steps / untraced / 1e6:6.1f} M steps/s   formatting {1 - untraced / marm:.0%}   ({steps} steps)"
 )
+figures["bench crc32-loop, M lines/s"] = f"{lines / marm / 1e6:.1f}"
 # What each way takes, as a part of the steps a second of the quiet board with the MPU off.
 WAYS = [*((count, f"{count} regions") for count in COUNTS), ("timer", "SysTick"), ("events", "events"), ("file", "a file")]
 for name in [*LOOPS, "crc32-loop"]:
-    parts = [f"{text} {best[name, 'marm'] / best[name, way]:.2f}" for way, text in WAYS if (name, way) in best]
-    print(f"{name:<11} of the steps with the MPU off: " + ", ".join(parts))
+    parts = {text: f"{best[name, 'marm'] / best[name, way]:.2f}" for way, text in WAYS if (name, way) in best}
+    print(f"{name:<11} of the steps with the MPU off: " + ", ".join(f"{text} {part}" for text, part in parts.items()))
+    figures.update((f"bench {name}, {text}", part) for text, part in parts.items())
+results.append(f"bench/run.sh {STEPS} {ROUNDS}", figures)

@@ -3,7 +3,7 @@
 # more than format such lines, with regions, SysTick and a script; and on a real program, beside the same machine without a
 # trace. Where qemu-system-arm and qemu-plugin.h are installed, a plugin of QEMU that writes the same lines runs too; set
 # QEMU_PLUGIN_HEADERS to the folder of the header where the compiler doesn't look. Then, by bench/parts.sh, what part of a
-# step decoding and deciding take. Usage: bench/run.sh [STEPS] [ROUNDS]
+# step decoding and deciding take. Appends the figures to bench/results.csv. Usage: bench/run.sh [STEPS] [ROUNDS]
 set -euo pipefail
 top=$(cd "$(dirname "${BASH_SOURCE[0]}")/.." && pwd)
 folder=$(mktemp -d)

@@ -5,6 +5,7 @@ import subprocess
 import sys
 from concurrent.futures import ThreadPoolExecutor
 
+import results
 from loops import EVENTS, LOOPS, REGIONS, SIZES, flash_of, image, script, timer_image, traced, with_regions, written
 
 MARM, PROGRAM, FOLDER = sys.argv[1:4]
@@ -65,7 +66,7 @@ def rows():
     return found[:1] + regions + [("SysTick each 1,000", quiet, timer_programs())] + found[1:]
 
 
-first = {}
+first, figures = {}, {}
 for number, (name, text, paths) in enumerate(rows()):
     board = written(FOLDER, f"board{number}.toml", text.encode())
     if number == 0:
@@ -73,5 +74,7 @@ for number, (name, text, paths) in enumerate(rows()):
     line = f"{name:24}"
     for program, path in paths.items():
         count = a_step(board, path)
+        figures[f"cost {program}, {name}"] = f"{count:.1f}"
         line += f"{count:14.1f}{count / first.setdefault(program, count):6.3f}"
     print(line, flush=True)
+results.append(f"crosscheck/cost.sh {STEPS}", figures)

@@ -1,8 +1,8 @@
 #!/usr/bin/env bash
 # Prints how many host instructions a step of marm takes, as valgrind's callgrind counts them: of the loops of
 # bench/run.sh and of a real program, on boards without a script, with one, eight and sixteen regions, with SysTick and a
-# handler each 1,000 ticks, and on boards with 65,536 events and 240 lines. A number is the difference of two runs, over the difference of their steps, so that starting the
-# program doesn't count.
+# handler each 1,000 ticks, and on boards with 65,536 events and 240 lines. A number is the difference of two runs, over
+# the difference of their steps, so that starting the program doesn't count. Appends the numbers to bench/results.csv.
 # Usage: crosscheck/cost.sh [STEPS]
 set -euo pipefail
 command -v valgrind >/dev/null || { echo "crosscheck: valgrind isn't there" >&2; exit 1; }

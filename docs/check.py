@@ -3,6 +3,10 @@
 
     python3 docs/check.py            all pages; exits 1 and lists 'file:line: name' where a name is missing
     python3 docs/check.py PAGE..     these pages alone
+    python3 docs/check.py --fix      writes the numbers and tables of marks first, in these pages or in all
+
+A number or a table that a script can write has a mark beside it, which marks.py explains: it has to be what counts.py
+counts in the sources, or what bench/results.csv has last.
 
 A page is README.md, CONTRIBUTING.md, docs/*.md or crates/*/README.md. A name is what stands there in code quotes:
 
@@ -28,6 +32,10 @@ import shutil
 import subprocess
 import sys
 
+sys.dont_write_bytecode = True  # (so that no folder of them stands among the pages)
+
+from marks import Marks
+
 TOP = os.path.dirname(os.path.dirname(os.path.abspath(__file__)))
 
 # ---- what is no name of the repository -------------------------------------------------------------------------
@@ -52,7 +60,7 @@ take unwrap_or Prelude Type nat_le nat_lt is_some Invariants Answers Proof old n
 OUTSIDE = set("""e_ident EI_CLASS EI_DATA e_type e_machine e_phoff e_phentsize e_phnum e_entry e_version e_flags e_ehsize
 p_type p_offset p_paddr p_filesz p_vaddr p_memsz p_flags p_align MEMORY PHDRS FILEHDR FLASH RAM AT LOADADDR ORIGIN
 PROVIDE KEEP memcpy memmove memset strcmp strstr printf malloc _sbrk _write _exit _read _close _fstat _isatty _lseek
-mps2-an385 lm3s6965evb stm32vldiscovery -singlestep armv7m_nvic_complete_irq start.elf hello-newlib.elf hello-plain.elf arm-none-eabi-size .bss .data setpan setend rattle-kit-13b""".split())
+mps2-an385 lm3s6965evb stm32vldiscovery -singlestep armv7m_nvic_complete_irq start.elf hello-newlib.elf hello-plain.elf arm-none-eabi-size .bss .data setpan setend hi.c /opt/rattle""".split())
 
 # instructions and registers of the manual, and words of a trace line
 MANUAL = re.compile(r"""^(R\d+|R\[n\]|[A-Z][A-Z0-9_]+(\.[A-Z0-9_]+)?   # registers, fields, instructions
@@ -65,7 +73,7 @@ PLACEHOLDERS = set("""N NAME FILE IMAGE BOARD STEPS COUNT SEED ROUNDS PAGE WORD 
 name x i f b o z a c s n e mmm ddd .. steps""".split())
 
 # pages that speak of examples/, bench/ and crosscheck/ too
-EXAMPLE_PAGES = {f"docs/{name}.md" for name in "FIRMWARE KERNELS BUILDING CROSSCHECK QEMU AUDIT".split()}
+EXAMPLE_PAGES = {f"docs/{name}.md" for name in "FIRMWARE KERNELS BUILDING PERFORMANCE CROSSCHECK QEMU AUDIT".split()}
 
 # what the kit and a shell print or take
 WHOLE = re.compile(r"^(rattle-kit-.*|Handles allowed: none\.|grep .*|N passed, 0 failed|old \+\+ bytes|List ℕ|WHAT|rattle|git .*|.*::Chapter::.*)$")
@@ -408,24 +416,44 @@ def pages():
     return found
 
 
+def write_marks(marks, page):
+    """Writes what the marks of a page want."""
+    text = read(page)
+    fixed = marks.fixed(text)
+    if fixed != text:
+        with open(os.path.join(TOP, page), "w", encoding="utf-8") as file:
+            file.write(fixed)
+
+
+def of_pages(repo, chosen, fix):
+    """Yields what is wrong on these pages, after their marks were written if that is wanted."""
+    marks = Marks()
+    for page in chosen:
+        if fix:
+            write_marks(marks, page)
+        for number, text in [*check(repo, page), *marks.wrong(read(page))]:
+            yield f"{page}:{number}: {text}"
+
+
+def of_repository(repo):
+    """Yields what is wrong with the lists, the copies and the manual page."""
+    for page, name in lists(repo):
+        yield f"{page}:1: {name} (left out of its list, or not there)"
+    yield from copies()
+    for warning in manual_page():
+        yield f"{MANUAL_PAGE}: {warning}"
+
+
 def main():
+    words = [word for word in sys.argv[1:] if word != "--fix"]
+    chosen = [os.path.relpath(os.path.abspath(page), TOP) for page in words] or pages()
     repo = Repository()
-    count = 0
-    for page in sys.argv[1:] or pages():
-        page = os.path.relpath(os.path.abspath(page), TOP)
-        for number, name in check(repo, page):
-            print(f"{page}:{number}: {name}")
-            count += 1
-    for page, name in lists(repo) if not sys.argv[1:] else []:
-        print(f"{page}:1: {name} (left out of its list, or not there)")
-        count += 1
-    for copy in copies() if not sys.argv[1:] else []:
-        print(copy)
-        count += 1
-    for warning in manual_page() if not sys.argv[1:] else []:
-        print(f"{MANUAL_PAGE}: {warning}")
-        count += 1
-    sys.exit(1 if count else 0)
+    found = list(of_pages(repo, chosen, "--fix" in sys.argv[1:]))
+    if not words:
+        found += of_repository(repo)
+    for line in found:
+        print(line)
+    sys.exit(1 if found else 0)
 
 
 if __name__ == "__main__":

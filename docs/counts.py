@@ -1,0 +1,260 @@
+"""What the pages count in the sources: COUNTS has a function for each name that a mark `<!--count NAME-->` can have.
+
+marks.py compares the number ahead of a mark with what the function finds. A page says what a name counts, and this file
+where.
+"""
+
+import glob
+import os
+import re
+
+TOP = os.path.dirname(os.path.dirname(os.path.abspath(__file__)))
+
+# an assumption of docs/AUDIT.md
+LINES_A_MINUTE = 25
+
+
+class NotFound(Exception):
+    """There is no count of a name, or what it counts isn't where it was."""
+
+
+def found(*patterns):
+    """Returns the files that fit the patterns, from the top of the repository; each pattern has to fit one."""
+    paths = []
+    for pattern in patterns:
+        fitting = sorted(glob.glob(os.path.join(TOP, pattern)))
+        if not fitting:
+            raise FileNotFoundError(pattern)
+        paths += fitting
+    return paths
+
+
+def text_of(path):
+    with open(os.path.join(TOP, path), encoding="utf-8") as file:
+        return file.read()
+
+
+def matches(pattern, *paths):
+    """Returns how often a pattern is in the files."""
+    return sum(len(re.findall(pattern, text_of(path), re.M)) for path in found(*paths))
+
+
+# ---- crates, chapters and rows ---------------------------------------------------------------------------------
+
+
+def crates():
+    return matches(r"^[a-z]\w*:", "crates.txt")
+
+
+def chapters():
+    return len([path for path in found("crates/reference/specs/*.antt") if not path.endswith("/Lib.antt")])
+
+
+def rows(width):
+    """Returns how many rows of the instruction set are defined, of a width, `Short` or `Long`."""
+    return matches(r"^.*\b\w+ : Row$", f"crates/reference/specs/{width}*.antt")
+
+
+def overlaps(name):
+    """Returns how many pairs of rows a list of `Overlaps.antt` has: one for each other row that wins."""
+    text = text_of("crates/row_laws/specs/Overlaps.antt")
+    (body,) = re.findall(rf"^{name} =\n((?: .*\n?)+)", text, re.M)
+    return sum(others.count("∷") for others in re.findall(r"others = ([^}]*)\[\]", body))
+
+
+# ---- lines to read ---------------------------------------------------------------------------------------------
+
+
+def spec(name):
+    """Returns the path of a file of definitions: `crate/Name`, or a chapter of `reference`."""
+    crate, _, stem = name.rpartition("/")
+    return f"crates/{crate or 'reference'}/specs/{stem}.antt"
+
+
+def lines_in(text):
+    """Returns how many lines a text has without imports and blank lines."""
+    return len([line for line in text.splitlines() if line and not line.startswith("use")])
+
+
+def lines_of(*paths):
+    return sum(lines_in(text_of(path)) for path in found(*paths))
+
+
+def lines_of_item(path, name):
+    """Returns the lines of one type or trait with the comment above it."""
+    item = re.search(rf"^(?:(?:///|#\[).*\n)*pub (?:trait|struct|enum) {name}\b.*?^\}}", text_of(path), re.M | re.S)
+    return lines_in(item[0])
+
+
+# the parts of the table of docs/AUDIT.md, "What to read, in order", each with its files of definitions
+AUDIT_PARTS = {
+    "claim": "machine/Whole machine/Runs output/Output Run",
+    "step": "State Step Operations ProgramCounter",
+    "access": "Map Memory Regions Rules Space Accesses",
+    "words": "Words Arithmetic Kinds Registers",
+    "priorities": "Priorities Time",
+    "exceptions": "Faults Frames ExceptionEntry ExceptionReturn",
+    "system": "Status Interrupts Handlers Control SysTickRegisters System SpecialRegisters",
+    "instructions": "TwoOperands Products Fields DataProcessing LoadStore LoadStoreMultiple Exclusives Branches "
+    "SystemInstructions",
+    "patterns": "Patterns Rows RowOperands Decoding",
+    "rows": "Short* Long*",
+    "text": "Text",
+    "files": "Images Boards Start board/Texts board/Seen command/Statuses output/Gathered machine/Starts",
+}
+
+# the enums and structs that the definitions name, beside all those of `reference`
+AUDIT_ITEMS = {
+    "crates/output/src/writer.rt": "Out",
+    "crates/output/src/paged.rt": "Paged",
+    "crates/command/src/fault.rt": "Fault",
+    "crates/machine/src/whole.rt": "RunFault",
+    "crates/board/src/whole.rt": "Board",
+}
+
+
+def audit_lines(part):
+    if part == "types":
+        return lines_of("crates/reference/src/*.rt") + sum(lines_of_item(*item) for item in AUDIT_ITEMS.items())
+    return lines_of(*(spec(name) for name in AUDIT_PARTS[part].split()))
+
+
+def audit_minutes(part):
+    return round(audit_lines(part) / LINES_A_MINUTE)
+
+
+def all_audit_lines():
+    return sum(audit_lines(part) for part in [*AUDIT_PARTS, "types"])
+
+
+# ---- tests and mutations ---------------------------------------------------------------------------------------
+
+
+def tests(crate):
+    """Returns how many functions of a crate, or of one of its modules (`crate/module`), are tests."""
+    crate, _, module = crate.partition("/")
+    paths = [f"crates/{crate}/src/tests/{module}.rt"] if module else [f"crates/{crate}/src/**/*.rt"]
+    files = [path for pattern in paths for path in glob.glob(os.path.join(TOP, pattern), recursive=True)]
+    return sum(len(re.findall(r"^\s*#\[test\]", text_of(path), re.M)) for path in files)
+
+
+def tables(crate, modules):
+    """Yields the texts of the tables that modules of a crate's tests have: `module` for all, `module:NAME` for one."""
+    for module in modules.split():
+        stem, _, name = module.partition(":")
+        (path,) = found(f"crates/{crate}/src/tests/{stem}.rt")
+        texts = re.findall(rf'const {name or "[A-Z_]+"}: &str = "\\\n(.*?)";', text_of(path), re.S)
+        if not texts:
+            raise FileNotFoundError(f"{stem}.rt: {name}")
+        yield from texts
+
+
+def table_lines(crate, modules):
+    return sum(len(table.split("\n")) for table in tables(crate, modules))
+
+
+def cases(crate, modules, between="\n\n"):
+    """Returns how many cases the tables have; a blank line separates two, or what is between them."""
+    return sum(len(table.split(between)) for table in tables(crate, modules))
+
+
+def board_texts():
+    lines = table_lines("test_parts", "boards:LINES")
+    return lines + cases("test_parts", "boards:MORE_LINES boards:EVENTS boards:TEXTS", "\n---\n")
+
+
+def constant(path, name):
+    """Returns the value of a constant of the code."""
+    return int(re.search(rf"const {name}: \w+ = (\d+);", text_of(path))[1])
+
+
+AGREED = "short_data short_others long_data_first long_data_second long_others_first"
+AGREED += " long_others_second:LONG_OTHERS_SECOND"
+COMPUTING = "data_edges_fields data_edges_moves data_edges_products data_edges_sums"
+ENCODINGS = "SHORT LONG_DATA LONG_CONTROL LONG_OTHERS"
+RUNS = "accesses exclusives handlers instructions special traces"
+
+
+def encodings(names):
+    return table_lines("test_instructions", " ".join(f"decoding/assembled:{name}" for name in names.split()))
+
+
+def mutations(folder):
+    """Returns how many mutations there are below a folder, `crates/*/must-fail` or `mutations/*`."""
+    return len(glob.glob(os.path.join(TOP, folder, "*.edit")))
+
+
+# ---- images ----------------------------------------------------------------------------------------------------
+
+
+# the programs of docs/FIRMWARE.md that CI runs, and all images whose bytes a page has
+PROGRAMS = "sort crc32 sha256 division print strings floats fields".split()
+KERNELS = "round_robin faults nested atomics".split()
+IMAGES = {name: f"crates/test_firmware/data/{name}.elf" for name in PROGRAMS + KERNELS}
+IMAGES["crc32-loop"] = "examples/firmware/crc32-loop.elf"
+
+
+def image_bytes(name):
+    (path,) = found(IMAGES[name])
+    return os.path.getsize(path)
+
+
+def steps_of_firmware():
+    """Returns the sum of the steps in the table of docs/FIRMWARE.md, of the programs that CI runs."""
+    steps = re.findall(r"^\| `([\w-]+)\.elf` .* ([\d,]+) \|$", text_of("docs/FIRMWARE.md"), re.M)
+    return sum(int(count.replace(",", "")) for name, count in steps if name in PROGRAMS)
+
+
+COUNTS = {
+    "crates": crates,
+    "chapters": chapters,
+    "rows": lambda: rows("Short") + rows("Long"),
+    "short rows": lambda: rows("Short"),
+    "long rows": lambda: rows("Long"),
+    "short overlaps": lambda: overlaps("short_overlaps"),
+    "long overlaps": lambda: overlaps("long_overlaps"),
+    "instructions": lambda: encodings(ENCODINGS),
+    "no instructions": lambda: encodings("UNDEFINED COPROCESSORS"),
+    "stopping encodings": lambda: table_lines("test_instructions", "decoding/stops"),
+    "agreed cases": lambda: cases("test_instructions", AGREED),
+    "special cases": lambda: cases("test_instructions", "long_others_second:SPECIAL_REGISTERS"),
+    "edges": lambda: cases("test_instructions", "edges " + COMPUTING),
+    "computing edges": lambda: cases("test_instructions", COMPUTING),
+    "other edges": lambda: cases("test_instructions", "edges"),
+    "edge stops": lambda: cases("test_instructions", "edge_stops"),
+    "register rows": lambda: table_lines("test_instructions", "registers"),
+    "runs": lambda: cases("test_runs", RUNS),
+    "faults": lambda: cases("test_runs", "fault_registers:FAULTS"),
+    "stored runs": lambda: cases("test_runs", "files:RUNS board_messages"),
+    "stored images": lambda: cases("test_runs", "stored_faults stored_handlers"),
+    "random images": lambda: constant("crates/test_runs/src/tests/both.rt", "IMAGES"),
+    "refused places": lambda: matches("^refused", "crates/test_runs/src/tests/places.rt"),
+    "board texts": board_texts,
+    "sessions": lambda: cases("test_runs", "sessions:SESSIONS"),
+    "answers": lambda: cases("test_runs", "answers"),
+    "mutations": lambda: mutations("crates/*/must-fail") + mutations("mutations/*"),
+    "mutations in CI": lambda: mutations("crates/*/must-fail"),
+    "other mutations": lambda: mutations("mutations/*"),
+    "example_bench lines": lambda: len(text_of("crates/example_bench/src/main.rt").splitlines()),
+    "firmware steps": steps_of_firmware,
+    "audit lines": all_audit_lines,
+    "lines places": lambda: lines_of(spec("Places"), spec("Answers")),
+}
+
+for crate in ("test_instructions", "test_instructions/decoding", "test_runs", "test_parts", "test_parts/ticks"):
+    COUNTS[f"tests {crate}"] = lambda crate=crate: tests(crate)
+for part in [*AUDIT_PARTS, "types"]:
+    COUNTS[f"lines {part}"] = lambda part=part: audit_lines(part)
+    COUNTS[f"minutes {part}"] = lambda part=part: audit_minutes(part)
+for name in IMAGES:
+    COUNTS[f"bytes {name}"] = lambda name=name: image_bytes(name)
+
+
+def count(name):
+    """Returns what is counted under a name, as pages write it, or raises NotFound."""
+    if name not in COUNTS:
+        raise NotFound(f"docs/counts.py has no {name}")
+    try:
+        return f"{COUNTS[name]():,}"
+    except (OSError, LookupError, TypeError, ValueError) as error:
+        raise NotFound(f"docs/counts.py doesn't find what it counts as {name}: {error}") from error
