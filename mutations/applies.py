@@ -1,6 +1,6 @@
 #!/usr/bin/env python3
-"""Checks that each edit of mutations/ and of crates/*/must-fail can be applied, as `rt must-fail` applies it: each text after
-'old:' is in its file exactly once. It proves nothing, and takes a second.
+"""Checks that each edit of mutations/ and of crates/*/must-fail can be applied, as `rt must-fail` applies it: each text
+after 'old:' is in its file exactly once. It proves nothing, and takes a second.
 
     python3 mutations/applies.py            the edits of all crates
     python3 mutations/applies.py CRATE..    those of these crates
@@ -46,7 +46,7 @@ def reason(edit, crate):
 
 
 def main():
-    crates = {re.match(r"[a-z]\w*", line)[0] for line in read(f"{TOP}/crates.txt").split("\n") if re.match(r"[a-z]\w*", line)}
+    crates = re.findall(r"(?m)^[a-z]\w*", read(f"{TOP}/crates.txt"))
     for name in sys.argv[1:]:
         if name not in crates:
             print(f"mutations: crates.txt names no crate {name}", file=sys.stderr)

@@ -1,9 +1,9 @@
 #!/usr/bin/env bash
-# Tries the mutations that CI leaves out: the prover has to refuse a crate with each edit of mutations/CRATE. `rt must-fail`
-# tries them in a copy of the sources, with links to what `rt check`, `rt lib` or ./marm kept in crates/*/out, so that it
-# proves no library again whose sources are as they were. Several runs, of other crates, can go side by side.
-# With --apply-only it proves nothing, and only checks that each edit still fits its source: those of mutations/ and those of
-# crates/*/must-fail. Ends with 1 where an edit isn't refused or doesn't fit.
+# Tries the mutations that CI leaves out: the prover has to refuse a crate with each edit of mutations/CRATE. They are tried
+# by `rt must-fail` in a copy of the sources, with links to what `rt check`, `rt lib` or ./marm left in crates/*/out, so that
+# no library is proved again whose sources are as they were. Several runs can go side by side, each with other crates.
+# With --apply-only it proves nothing, and only checks that each edit still fits its source: those of mutations/ and those
+# of crates/*/must-fail. Ends with 1 where an edit isn't refused or doesn't fit.
 # Usage: mutations/run.sh [--apply-only] [CRATE..]
 set -euo pipefail
 top=$(cd "$(dirname "${BASH_SOURCE[0]}")/.." && pwd)
@@ -44,7 +44,7 @@ refused=0
 for crate in "$@"; do
     cp -a "$top/mutations/$crate" "$room/crates/$crate/must-fail"
     count=$(find "$room/crates/$crate/must-fail" -name '*.edit' | wc -l)
-    echo "$crate: trying $count mutations"
+    echo "$crate: $count to try"
     SECONDS=0
     (cd "$room" && rt must-fail "$crate") </dev/null 2>&1 | tee "$room/log" || true
     found=$(grep -c "^rt: must-fail $crate/.*: refused, as it must be" "$room/log" || true)
