@@ -1,9 +1,9 @@
 #!/usr/bin/env bash
-# Tries the mutations that CI leaves out: the prover has to refuse a crate with each edit of mutations/CRATE. They are tried
-# by `rt must-fail` in a copy of the sources, with links to what `rt check`, `rt lib` or ./marm left in crates/*/out, so that
-# no library is proved again whose sources are as they were. Several runs can go side by side, each with other crates.
-# With --apply-only it proves nothing, and only checks that each edit still fits its source: those of mutations/ and those
-# of crates/*/must-fail. Ends with 1 where an edit isn't refused or doesn't fit.
+# Tries the mutations that CI leaves out: the prover has to refuse a crate with each edit of mutations/CRATE. They are
+# tried by `rt must-fail` in a copy of the sources, with links to what `rt check`, `rt lib` or ./marm left in
+# crates/*/out, so that no library is proved again whose sources are as they were. Several runs can go side by side,
+# each with other crates. With --apply-only it proves nothing, and only checks that each edit still fits its source:
+# those of mutations/ and those of crates/*/must-fail. Ends with 1 where an edit isn't refused or doesn't fit.
 # Usage: mutations/run.sh [--apply-only] [CRATE..]
 set -euo pipefail
 top=$(cd "$(dirname "${BASH_SOURCE[0]}")/.." && pwd)
@@ -35,7 +35,8 @@ for folder in "$top"/crates/*/; do
         [ ! -d "$folder$part" ] || cp -a "$folder$part" "$copy"
     done
     for part in rlib incremental; do
-        [ ! -d "${folder}out/$part" ] || cp -al "${folder}out/$part" "$copy/out" 2>/dev/null || cp -a "${folder}out/$part" "$copy/out"
+        [ -d "${folder}out/$part" ] || continue
+        cp -al "${folder}out/$part" "$copy/out" 2>/dev/null || cp -a "${folder}out/$part" "$copy/out"
     done
 done
 
