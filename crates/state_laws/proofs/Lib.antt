@@ -1,4 +1,4 @@
-mod Nvic
+pub mod Nvic
 mod Sets
 mod Ticks
 mod Systems
@@ -12,4 +12,4 @@ mod Frames
 mod Core
 mod Candidates
 mod Entries
-mod Ends
+pub mod Ends

@@ -1,0 +1,10 @@
+mod Blocks
+mod Memories
+mod Priorities
+pub mod Instructions
+mod Accesses
+mod Tasks
+mod Requests
+mod Effects
+mod Steps
+mod Laws
