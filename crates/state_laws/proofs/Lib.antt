@@ -6,8 +6,8 @@ mod Memories
 mod Accesses
 mod Faults
 mod Steps
+pub mod Effects
 mod Registers
-mod Effects
 mod Frames
 mod Core
 mod Candidates

@@ -5,6 +5,5 @@ pub mod Instructions
 mod Accesses
 mod Tasks
 mod Requests
-mod Effects
 mod Steps
 mod Laws

@@ -3,10 +3,11 @@ use Rattle.std.proofs.Common.{◌≡◌, ℕ, Bool, true, false, not, ◌&&◌, 
 use Rattle.std.proofs.Common.{eqb-true}
 use Rattle.reference.specs.Priorities.{is_below_zero}
 use Rattle.reference.specs.Regions.{Mpu, is_on}
-use Rattle.reference.specs.Registers.{Registers, is_privileged}
+use Rattle.reference.specs.Registers.{Registers, is_handler, is_privileged}
 use Rattle.reference.specs.Rules.{is_off_below_zero}
 use Rattle.reference.specs.State.{State}
 use Rattle.reference.specs.System.{System}
+use Rattle.state_laws.proofs.Effects.{KeepsWrites}
 use Rattle.task_laws.specs.Tasks.{is_task, uses_regions}
 use Rattle.task_laws.proofs.Priorities.{Decides}
 
@@ -18,6 +19,30 @@ pub record IsUnprivileged (r : Registers) : Type 0 where
 -- it isn't privileged
 pub unprivileged_is : (r : Registers) → IsUnprivileged r → is_privileged r ≡ false
 unprivileged_is r t = rw (t.thread, t.unprivileged) refl
+
+-- its mode isn't Handler mode
+pub never : (r : Registers) → is_handler r ≡ true → IsUnprivileged r → ⊥
+never r e t = let w : false ≡ true = rw t.thread at e in cc
+
+same : (r u : Registers) → u.exception ≡ r.exception → u.unprivileged ≡ r.unprivileged → IsUnprivileged r →
+    IsUnprivileged u
+same r u e f t = record { thread = e ∙ t.thread; unprivileged = f ∙ t.unprivileged }
+
+-- each write of a register keeps it
+pub writes_kept : KeepsWrites IsUnprivileged
+writes_kept = record {
+  general = λ r n v word. same r _ refl refl;
+  msp = λ r v is. same r _ refl refl;
+  psp = λ r v is. same r _ refl refl;
+  lr = λ r v word. same r _ refl refl;
+  pc = λ r v is. same r _ refl refl;
+  next = λ r length. same r _ refl refl;
+  flags = λ r f. same r _ refl refl;
+  it_state = λ r it small. same r _ refl refl;
+  advanced = λ r. same r _ refl refl;
+  thumb = λ r on. same r _ refl refl;
+  monitor = λ r m. same r _ refl refl;
+}
 
 -- the parts of `is_task`
 pub record Parts (s : State) : Type 0 where
