@@ -1,7 +1,6 @@
 -- A task: code that runs in unprivileged Thread mode while the regions of the MPU decide its accesses (ARM DDI 0403,
 -- "Operating modes", "Privileged and unprivileged execution", "MPU_CTRL"), and how a run of it ends.
-use Rattle.std.specs.Prelude.{◌≡◌, ℕ, ◌<◌, Bool, true, false, not, ◌&&◌, is_some, if◌then◌else◌, Option, Some, None}
-use Rattle.reference.specs.declared.stop.Stop.{Stop}
+use Rattle.std.specs.Prelude.{◌≡◌, ℕ, ◌<◌, Bool, true, false, not, ◌&&◌, is_some, Some, None}
 use Rattle.reference.specs.Priorities.{is_below_zero}
 use Rattle.reference.specs.Regions.{is_on}
 use Rattle.reference.specs.Registers.{is_handler}

@@ -1,0 +1,9 @@
+mod Blocks
+mod Memories
+mod Priorities
+pub mod Instructions
+mod Accesses
+mod Tasks
+mod Requests
+mod Steps
+mod Laws
