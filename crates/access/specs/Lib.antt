@@ -1,3 +1,3 @@
-pub use Rattle.decode.specs.Lines
+pub use Rattle.kept_code.specs.Lines
 pub mod Kept
 pub mod Narrow

@@ -9,7 +9,7 @@ pub mod laws;
 pub use bus::{Bus, fetch_at};
 pub use clock::{Ahead, Counting, DueTicks, ScriptedEvent};
 pub use code_memory::CodeMemory;
-pub use decode::{CodeLines, Line, Reread};
+pub use kept_code::{CodeLines, Line};
 pub use mpu::{Decider, Search};
 pub use nvic::{Levels, PlainLevels};
 pub use reference::access::{Answer, Cause, Decision, Kind, Performed, Request, Rule, Size};

@@ -11,13 +11,12 @@ mod stepping;
 mod task;
 mod whole;
 
-pub use access::{
-    Ahead, CodeLines, Counting, Decider, DueTicks, Levels, PlainLevels, Reread, Search,
-};
+pub use access::{Ahead, CodeLines, Counting, Decider, DueTicks, Levels, PlainLevels, Search};
 pub use access_table::{KeptDecisions, Table};
 pub use bit_levels::{BitLevels, KeptPriorities};
 pub use board::{Board, InterruptLine, ScriptedEvent, Signal};
 pub use code_lines::Lines;
+pub use decode::Reread;
 pub use foresight::is_instruction;
 pub use output::{In, IoFault, LineRoom, Out, Over, Paged};
 pub use readers::RegValues;

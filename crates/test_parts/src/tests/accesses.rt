@@ -2,7 +2,8 @@
 
 use super::memory::blank;
 use super::words::{request, rule_word};
-use access::{Bus, Cause, CodeMemory, Counting, Performed, PlainLevels, Reread, Search, System};
+use access::{Bus, Cause, CodeMemory, Counting, Performed, PlainLevels, Search, System};
+use decode::Reread;
 use std::test::*;
 use test_tables::{Rows, check, part, word};
 

@@ -1,2 +1,0 @@
--- What two halfwords mean. The rows are in the crate `reference`.
-pub use Rattle.reference.specs.Decoding
