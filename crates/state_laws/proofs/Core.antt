@@ -77,7 +77,8 @@ ended_kept s events (ending.SupervisorCall number) h = supervisor_kept s events 
 ended_kept s events (ending.Breakpoint number) h = h
 ended_kept s events (ending.ExceptionReturn value) h = return_kept s events value h
 
-finished_kept : (s : State) (events : List Event) (f : Finished) → Leaves HasRegisters f → LeavesGood (finished s events f)
+finished_kept : (s : State) (events : List Event) (f : Finished) → Leaves HasRegisters f →
+    LeavesGood (finished s events f)
 finished_kept s events f h = ended_kept (with_registers s f.registers) events f.ending h.kept
 
 -- ---- its accesses

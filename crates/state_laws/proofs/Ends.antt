@@ -101,7 +101,11 @@ register_placed lines bits s after (answer.Stop why) r out h = tt
 
 taken_placed : (lines bits : ℕ) (s : State) (p : Place) → IsGood lines bits s → IsPlaced lines bits (taken s p)
 taken_placed lines bits s (Reg number value) h =
-    record { registers = register_kept writes_kept s.registers number value h.registers; entry = h.entry; system = h.system }
+    record {
+      registers = register_kept writes_kept s.registers number value h.registers;
+      entry = h.entry;
+      system = h.system;
+    }
 taken_placed lines bits s (Special number value) h = special_placed lines bits s (special_of number) value h
 taken_placed lines bits s (Word address value) h =
     let a = answered_by_bus s.registers.exception s.bus (store_of address value) in

@@ -1,6 +1,6 @@
 -- The phases of an Instruction step of a task, in two states that look the same to it, from the last one up.
-use Rattle.std.proofs.Common.{◌≡◌, ℕ, ◌%◌, Bool, true, false, List, [], ◌++◌, Option, Some, None}
-use Rattle.std.proofs.Common.{Result, Ok, Err, refl, sym, ap, subst, ◌∙◌, arith, if◌then◌else◌}
+use Rattle.std.proofs.Common.{◌≡◌, ℕ, ◌%◌, Bool, true, List, [], ◌++◌, Option, Some, None}
+use Rattle.std.proofs.Common.{Result, Ok, Err, refl, sym, ap, subst, ◌∙◌, arith}
 use Rattle.reference.specs.declared.access.Request.{Request}
 use Rattle.reference.specs.declared.event.Event.{Event}
 use Rattle.reference.specs.declared.exception.Escalation.{Escalation}
@@ -18,12 +18,6 @@ use Rattle.reference.specs.declared.instruction.Ending.{Ending}
 use Rattle.reference.specs.declared.instruction.Ending.TheVariants as ending
 use Rattle.reference.specs.declared.instruction.InstructionLength.TheVariants.{Short, Long}
 use Rattle.reference.specs.declared.instruction.InstructionLength.{InstructionLength}
-use Rattle.reference.specs.declared.operands.ChangeProcessorState.{ChangeProcessorState}
-use Rattle.reference.specs.declared.operands.SpecialRegister.{SpecialRegister}
-use Rattle.reference.specs.declared.operands.SpecialRegister.TheVariants.{Apsr, Iapsr, Eapsr, Xpsr}
-use Rattle.reference.specs.declared.stop.LeftOut.TheVariants.{ClockEnd}
-use Rattle.reference.specs.declared.stop.Stop.{Stop}
-use Rattle.reference.specs.declared.stop.Stop.TheVariants as stop
 use Rattle.reference.specs.Accesses.{AccessResult, ListResult, perform, perform_all, access_lines, value_of}
 use Rattle.reference.specs.Arithmetic.{condition_passed}
 use Rattle.reference.specs.Decoding.{is_long}
@@ -32,76 +26,32 @@ use Rattle.reference.specs.Faults.{failed}
 use Rattle.reference.specs.Faults.{supervisor_called_by, supervisor_called}
 use Rattle.reference.specs.Memory.{Memory}
 use Rattle.reference.specs.Operations.{result_of}
-use Rattle.reference.specs.Priorities.{Nvic, candidate, is_below_zero}
+use Rattle.reference.specs.Priorities.{Nvic, is_below_zero}
 use Rattle.reference.specs.ProgramCounter.{Finished, moves_on}
 use Rattle.reference.specs.Regions.{Mpu, IsSound}
-use Rattle.reference.specs.Registers.{Registers, is_privileged}
-use Rattle.reference.specs.SpecialRegisters.{is_open, with_special, write_special, write_mask, change_state}
-use Rattle.reference.specs.State.{Bus, State, Stepped, ticked, with_bus, with_system, with_registers, with_exceptions, stopped}
+use Rattle.reference.specs.Registers.{Registers}
+use Rattle.reference.specs.SpecialRegisters.{write_special}
+use Rattle.reference.specs.State.{Bus, State, Stepped, ticked, with_bus, with_system, with_registers, with_exceptions}
 use Rattle.reference.specs.Status.{Status}
-use Rattle.reference.specs.Step.{goes_on, ended, finished, served, performed_all, planned, without_meaning, executed, fetching}
-use Rattle.reference.specs.Step.{fetched_second, with_second, fetched_first, instruction, sleeps_on, phase}
-use Rattle.reference.specs.Step.{unless_stopped, step, traps}
+use Rattle.reference.specs.Step.{ended, finished, served, performed_all, planned, without_meaning, executed, fetching}
+use Rattle.reference.specs.Step.{fetched_second, with_second, fetched_first, instruction}
+use Rattle.reference.specs.Step.{step, traps}
 use Rattle.reference.specs.System.{System}
 use Rattle.reference.specs.Words.{word_sum}
 use Rattle.task_laws.specs.TaskLaw.{IsOfTask, AreOfTask, AskOfTask}
-use Rattle.task_laws.proofs.Tasks.{IsUnprivileged, writes_kept, never, unprivileged_is}
-use Rattle.task_laws.proofs.Instructions.{IsInstruction}
+use Rattle.task_laws.proofs.Unprivileged.{IsUnprivileged, writes_kept, not_handler, unprivileged_is, special_kept, mask_kept}
+use Rattle.task_laws.proofs.Unprivileged.{state_kept}
+use Rattle.task_laws.proofs.Instructions.{IsInstruction, awoken, step_is}
 use Rattle.task_laws.specs.Sight.{with_memory}
 use Rattle.task_laws.proofs.Memories.{both}
-use Rattle.state_laws.proofs.Nvic.{either}
 use Rattle.task_laws.proofs.Priorities.{Decides, pending_alike, tick_decides}
 use Rattle.task_laws.proofs.Accesses.{Alike, SameResult, SameList, result_with, list_with, with_memory_of, perform_alike, all_alike}
 use Rattle.task_laws.proofs.Requests.{wants_asked, fetch_of}
 use Rattle.state_laws.proofs.Effects.{IsEndIn, Leaves, register_kept, moves_on_kept, result_kept}
 
--- ---- what an instruction does to the special registers
+-- ---- what each phase takes and leaves
 
-open_kept : (r : Registers) (special : SpecialRegister) (value : ℕ) → is_open special ≡ true → IsUnprivileged r →
-    IsUnprivileged (with_special r special value)
-unfolding with_special
-open_kept r Apsr value e h = record { thread = h.thread; unprivileged = h.unprivileged }
-open_kept r Iapsr value e h = record { thread = h.thread; unprivileged = h.unprivileged }
-open_kept r Eapsr value e h = record { thread = h.thread; unprivileged = h.unprivileged }
-open_kept r Xpsr value e h = record { thread = h.thread; unprivileged = h.unprivileged }
-open_kept r special value e h = absurd cc
-
-special_kept : (r : Registers) (special : SpecialRegister) (value : ℕ) → IsUnprivileged r →
-    IsUnprivileged (write_special r special value)
-unfolding write_special
-special_kept r special value h =
-    rw (unprivileged_is r h)
-    (either IsUnprivileged (is_open special) _ _ (λ e. open_kept r special value e h) (λ e. h))
-
-mask_kept : (r : Registers) (n : Nvic) (special : SpecialRegister) (value : ℕ) → IsUnprivileged r →
-    write_mask (is_privileged r) n special value ≡ n
-unfolding write_mask
-mask_kept r n special value h = rw (unprivileged_is r h) refl
-
-state_kept : (r : Registers) (n : Nvic) (o : ChangeProcessorState) → IsUnprivileged r → change_state (is_privileged r) n o ≡ n
-unfolding change_state
-state_kept r n o h = rw (unprivileged_is r h) refl
-
--- ---- an Instruction step
-
-awoken : State → State
-awoken s = record (ticked s) { asleep = false }
-
-phase_is : (s : State) → sleeps_on s ≡ false → phase s None None ≡ instruction (record s { asleep = false })
-unfolding phase
-phase_is s e = ap (λ (b : Bool). if b then goes_on s [] else instruction (record s { asleep = false })) e
-
--- an Instruction step is `instruction` after the tick
-step_is : (s : State) → IsInstruction s → step s ≡ instruction (awoken s)
-unfolding step awoken
-step_is s i =
-    ap (λ (why : Option Stop). unless_stopped s why) i.running
-    ∙ ap (λ (b : Bool). if b then stopped s [] (stop.OutOfProfile ClockEnd) else phase (ticked s) s.entry (candidate (ticked s).bus.system.nvic)) i.early
-    ∙ ap (λ (e : Option ℕ). phase (ticked s) e (candidate (ticked s).bus.system.nvic)) i.outside
-    ∙ ap (λ (x : Option ℕ). phase (ticked s) None x) i.unpreempted
-    ∙ phase_is (ticked s) i.awake
-
--- it is one in the other state too
+-- the next step is an Instruction step whatever the memory
 pub instruction_there : (s : State) (k : Memory) → IsInstruction s → IsInstruction (with_memory s k)
 instruction_there s k i = record {
   running = i.running;
@@ -110,16 +60,6 @@ instruction_there s k i = record {
   unpreempted = i.unpreempted;
   awake = i.awake;
 }
-
-there_is : (s : State) (k : Memory) → awoken (with_memory s k) ≡ with_memory (awoken s) k
-unfolding awoken
-there_is s k = refl
-
-even_there : (s : State) → s.registers.pc % 2 ≡ 0 → (awoken s).registers.pc % 2 ≡ 0
-unfolding awoken
-even_there s e = e
-
--- ---- what each phase takes and leaves
 
 -- the end of a step with another memory
 abbrev pub step_with : Stepped → Memory → Stepped
@@ -250,7 +190,7 @@ module _ (m : Mpu) (z : Bool) (old : Memory) where
   ended_alike s k events ending.Sleep e r = record { rest = refl; ready = r }
   ended_alike s k events (ending.SupervisorCall number) e r = supervisor_alike s k events r
   ended_alike s k events (ending.Breakpoint number) e r = record { rest = refl; ready = r }
-  ended_alike s k events (ending.ExceptionReturn value) e r = absurd (never s.registers e r.thread)
+  ended_alike s k events (ending.ExceptionReturn value) e r = absurd (not_handler s.registers r.thread e)
 
   finished_alike : (s : State) (k : Memory) (events : List Event) (f : Finished) →
       Leaves IsUnprivileged f → Ready s k → SameStep (finished s events f) (finished (with_memory s k) events f)
@@ -298,7 +238,7 @@ module _ (m : Mpu) (z : Bool) (old : Memory) where
       (length : InstructionLength) (fault : UsageFault) → Ready s k →
       SameStep (without_meaning s events length fault) (without_meaning (with_memory s k) events length fault)
   meaningless_alike s k events length fault r =
-      both (SameStep) (condition_passed s.registers.it_state s.registers.flags) _ _ _ _
+      both SameStep (condition_passed s.registers.it_state s.registers.flags) _ _ _ _
       (λ passed. failed_alike s k events (failure.Usage fault) r)
       (λ skipped. finished_alike s k events (moves_on length s.registers)
       (moves_on_kept writes_kept length s.registers r.thread) r)
@@ -344,7 +284,7 @@ module _ (m : Mpu) (z : Bool) (old : Memory) where
   with_second_alike s k events hw1 even r =
       let q = fetching s.registers (word_sum s.registers.pc 2) in
       let next : word_sum s.registers.pc 2 % 2 ≡ 0 = omega arith in
-      both (SameStep) (is_long hw1) _ _ _ _
+      both SameStep (is_long hw1) _ _ _ _
       (λ long. after_access s k q (rest_of_second events hw1 q) (fetch_of s.registers _ (unprivileged_is s.registers r.thread) next) r
       (λ one new ready. second_alike (with_bus s one.bus) new
       (events ++ access_lines s.bus.system.time.ticks q one.performed) hw1 (value_of q one.performed) ready))
@@ -361,7 +301,7 @@ module _ (m : Mpu) (z : Bool) (old : Memory) where
   unfolding instruction
   instruction_alike s k even r =
       let q = fetching s.registers s.registers.pc in
-      both (SameStep) s.registers.thumb _ _ _ _
+      both SameStep s.registers.thumb _ _ _ _
       (λ thumb. after_access s k q (rest_of_first q) (fetch_of s.registers _ (unprivileged_is s.registers r.thread) even) r
       (λ one new ready. first_alike (with_bus s one.bus) new
       ([] ++ access_lines s.bus.system.time.ticks q one.performed) (value_of q one.performed) even ready))
@@ -369,14 +309,12 @@ module _ (m : Mpu) (z : Bool) (old : Memory) where
 
   -- ---- the step
 
-  awoken_ready : (s : State) (k : Memory) → Ready s k →
-      Ready (awoken s) k
-  unfolding awoken
+  awoken_ready : (s : State) (k : Memory) → Ready s k → Ready (awoken s) k
   awoken_ready s k r =
       with_new_system s k (ticked s).bus.system (tick_decides m z s.bus.system r.alike.decides) r
 
-  pub step_alike : (s : State) (k : Memory) → s.registers.pc % 2 ≡ 0 →
-      IsInstruction s → Ready s k → SameStep (step s) (step (with_memory s k))
+  pub step_alike : (s : State) (k : Memory) → s.registers.pc % 2 ≡ 0 → IsInstruction s → Ready s k →
+      SameStep (step s) (step (with_memory s k))
   step_alike s k even i r =
-      rw (step_is s i, step_is (with_memory s k) (instruction_there s k i), there_is s k)
-      (instruction_alike (awoken s) k (even_there s even) (awoken_ready s k r))
+      rw (step_is s i, step_is (with_memory s k) (instruction_there s k i))
+      (instruction_alike (awoken s) k even (awoken_ready s k r))
