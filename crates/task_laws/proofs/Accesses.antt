@@ -54,8 +54,8 @@ or_right true q e = refl
 or_right false q e = e
 
 -- a request that is granted is so
-is_open : (m : Mpu) (z : Bool) (q : Request) → IsSound m → IsOfTask q →
-    may m z q.access.kind q.access.address ≡ true → IsOpen m z q
+is_open : (m : Mpu) (z : Bool) (q : Request) → IsSound m → IsOfTask q → may m z q.access.kind q.access.address ≡ true →
+    IsOpen m z q
 is_open m z q sound of granted = split of.kind
   where
     no_write : (kind : Kind) → q.access.kind ≡ kind → is_write kind ≡ false → is_write q.access.kind ≡ true →
@@ -126,8 +126,8 @@ module _ (m : Mpu) (z : Bool) (old : Memory) where
     looks : Agree (sees m z) one.memory two.memory
     kept : Agree (denies m z) old one.memory
 
-  write_alike : (b : Bus) (k : Memory) (q : Request) → Alike b k →
-      Granted m z Store q → SameSpace (written_to b.memory q) (written_to k q)
+  write_alike : (b : Bus) (k : Memory) (q : Request) → Alike b k → Granted m z Store q →
+      SameSpace (written_to b.memory q) (written_to k q)
   write_alike b k q alike granted =
       let bytes = bytes_of (bytes_in q.access.size) q.value in
       let long = length-bytes_of (bytes_in q.access.size) q.value in
@@ -144,9 +144,8 @@ module _ (m : Mpu) (z : Bool) (old : Memory) where
       })
       (λ f. record { rest = refl; looks = alike.looks; kept = alike.kept })))
 
-  space_alike : (b : Bus) (k : Memory) (ticks : ℕ) (q : Request) →
-      Alike b k → IsOpen m z q → is_probe q.access.kind ≡ false →
-      SameSpace (space_access b.memory ticks q) (space_access k ticks q)
+  space_alike : (b : Bus) (k : Memory) (ticks : ℕ) (q : Request) → Alike b k → IsOpen m z q →
+      is_probe q.access.kind ≡ false → SameSpace (space_access b.memory ticks q) (space_access k ticks q)
   unfolding space_access
   space_alike b k ticks q alike opened unprobed =
       both (SameSpace) (is_write q.access.kind) _ _ _ _ (λ e. write_alike b k q alike (opened.writes e))
@@ -168,8 +167,7 @@ module _ (m : Mpu) (z : Bool) (old : Memory) where
     rest : two ≡ answer_with one two.bus.memory
     alike : Alike one.bus two.bus.memory
 
-  carried_alike : (x : ℕ) (b : Bus) (k : Memory) (q : Request) → IsOfTask q →
-      Alike b k → IsOpen m z q →
+  carried_alike : (x : ℕ) (b : Bus) (k : Memory) (q : Request) → IsOfTask q → Alike b k → IsOpen m z q →
       SameAnswer (answered_by_bus x b q) (answered_by_bus x (with_memory_of b k) q)
   unfolding answered_by_bus
   carried_alike x b k q of alike opened =
@@ -196,8 +194,8 @@ module _ (m : Mpu) (z : Bool) (old : Memory) where
     pub rest : two ≡ result_with one two.bus.memory
     pub alike : Alike one.bus two.bus.memory
 
-  by_decision : (x : ℕ) (b : Bus) (k : Memory) (q : Request) (d : Decision)
-      (granted : Bool) → d.granted ≡ granted → IsOfTask q → Alike b k → (d.granted ≡ true → IsOpen m z q) →
+  by_decision : (x : ℕ) (b : Bus) (k : Memory) (q : Request) (d : Decision) (granted : Bool) → d.granted ≡ granted →
+      IsOfTask q → Alike b k → (d.granted ≡ true → IsOpen m z q) →
       SameResult (decided x b q d) (decided x (with_memory_of b k) q d)
   by_decision x b k q d true e of alike opened =
       let here = carried_alike x b k q of alike (opened e) in
@@ -205,8 +203,8 @@ module _ (m : Mpu) (z : Bool) (old : Memory) where
   by_decision x b k q d false e of alike opened = rw e (record { rest = refl; alike = alike })
 
   -- an access of unprivileged code
-  pub perform_alike : (x : ℕ) (b : Bus) (k : Memory) (q : Request) → IsSound m →
-      IsOfTask q → Alike b k → SameResult (perform x b q) (perform x (with_memory_of b k) q)
+  pub perform_alike : (x : ℕ) (b : Bus) (k : Memory) (q : Request) → IsSound m → IsOfTask q → Alike b k →
+      SameResult (perform x b q) (perform x (with_memory_of b k) q)
   unfolding perform
   perform_alike x b k q sound of alike =
       by_decision x b k q (decision b q) _ refl of alike
@@ -219,16 +217,15 @@ module _ (m : Mpu) (z : Bool) (old : Memory) where
     pub rest : two ≡ list_with one two.bus.memory
     pub alike : Alike one.bus two.bus.memory
 
-  followed_alike : (events : List Event) (b : Bus) (k : Memory)
-      (value : Result ℕ Failure) (first second : ListResult) → Alike b k → SameList first second →
+  followed_alike : (events : List Event) (b : Bus) (k : Memory) (value : Result ℕ Failure) (first second : ListResult) →
+      Alike b k → SameList first second →
       SameList (followed events b value first) (followed events (with_memory_of b k) value second)
   followed_alike events b k (Ok value) first second alike others =
       record { rest = ap (followed events b (Ok value)) others.rest; alike = others.alike }
   followed_alike events b k (Err why) first second alike others = record { rest = refl; alike = alike }
 
   -- a list of accesses of unprivileged code
-  pub all_alike : (x tick : ℕ) (b : Bus) (k : Memory) (qs : List Request) →
-      IsSound m → AreOfTask qs → Alike b k →
+  pub all_alike : (x tick : ℕ) (b : Bus) (k : Memory) (qs : List Request) → IsSound m → AreOfTask qs → Alike b k →
       SameList (perform_all x tick b qs) (perform_all x tick (with_memory_of b k) qs)
   unfolding perform_all
   all_alike x tick b k [] sound of alike = record { rest = refl; alike = alike }

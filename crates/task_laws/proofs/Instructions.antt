@@ -45,9 +45,9 @@ running_by : (s : State) (late : Bool) → nat_le last_tick s.bus.system.time.ti
 running_by s true e = rw e refl
 running_by s false e = rw e (after_by (ticked s) s.entry (candidate (ticked s).bus.system.nvic))
 
-unless_by : (s : State) (why : Option Stop) → kind_unless_stopped s why
-    ≡ kind_by why (nat_le last_tick s.bus.system.time.ticks) s.entry (candidate (ticked s).bus.system.nvic)
-    (sleeps_on (ticked s))
+unless_by : (s : State) (why : Option Stop) →
+    kind_unless_stopped s why ≡ kind_by why (nat_le last_tick s.bus.system.time.ticks) s.entry
+    (candidate (ticked s).bus.system.nvic) (sleeps_on (ticked s))
 unless_by s (Some why) = refl
 unless_by s None = running_by s _ refl
 

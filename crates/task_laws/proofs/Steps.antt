@@ -93,56 +93,51 @@ module _ (m : Mpu) (z : Bool) (old : Memory) where
     pub rest : two ≡ step_with one two.state.bus.memory
     pub ready : Ready one.state two.state.bus.memory
 
-  with_new_registers : (s : State) (k : Memory) (r : Registers) → IsUnprivileged r →
-      Ready s k → Ready (with_registers s r) k
+  with_new_registers : (s : State) (k : Memory) (r : Registers) → IsUnprivileged r → Ready s k →
+      Ready (with_registers s r) k
   with_new_registers s k new thread r =
       record { sound = r.sound; alike = r.alike; thread = thread; outside = r.outside }
 
-  with_new_bus : (s : State) (k new : Memory) (b : Bus) → Alike m z old b new →
-      Ready s k → Ready (with_bus s b) new
+  with_new_bus : (s : State) (k new : Memory) (b : Bus) → Alike m z old b new → Ready s k → Ready (with_bus s b) new
   with_new_bus s k new b alike r =
       record { sound = r.sound; alike = alike; thread = r.thread; outside = r.outside }
 
-  with_new_system : (s : State) (k : Memory) (y : System) → Decides m z y →
-      Ready s k → Ready (with_system s y) k
+  with_new_system : (s : State) (k : Memory) (y : System) → Decides m z y → Ready s k → Ready (with_system s y) k
   with_new_system s k y decides r =
       with_new_bus s k k (with_system s y).bus
       (record { looks = r.alike.looks; kept = r.alike.kept; decides = decides }) r
 
-  with_new_status : (s : State) (k : Memory) (status : Status) → Ready s k →
-      Ready (with_status s status) k
+  with_new_status : (s : State) (k : Memory) (status : Status) → Ready s k → Ready (with_status s status) k
   with_new_status s k status r =
       with_new_system s k (with_status s status).bus.system
       (record { mpu = r.alike.decides.mpu; below_zero = r.alike.decides.below_zero }) r
 
-  with_new_nvic : (s : State) (k : Memory) (n : Nvic) →
-      is_below_zero n ≡ is_below_zero s.bus.system.nvic → Ready s k → Ready (with_exceptions s n) k
+  with_new_nvic : (s : State) (k : Memory) (n : Nvic) → is_below_zero n ≡ is_below_zero s.bus.system.nvic → Ready s k →
+      Ready (with_exceptions s n) k
   with_new_nvic s k n e r =
       with_new_system s k (with_exceptions s n).bus.system
       (record { mpu = r.alike.decides.mpu; below_zero = e ∙ r.alike.decides.below_zero }) r
 
   -- ---- faults
 
-  pended_ready : (s : State) (k : Memory) (x : ℕ) → Ready s k →
-      Ready (pended s x) k
+  pended_ready : (s : State) (k : Memory) (x : ℕ) → Ready s k → Ready (pended s x) k
   pended_ready s k x r = with_new_nvic s k _ (pending_alike s.bus.system.nvic x true) r
 
-  escalated_alike : (s : State) (k : Memory) (events : List Event) (x : ℕ)
-      (e : Escalation) → Ready s k →
+  escalated_alike : (s : State) (k : Memory) (events : List Event) (x : ℕ) (e : Escalation) → Ready s k →
       SameStep (escalated s events x e) (escalated (with_memory s k) events x e)
   escalated_alike s k events x Itself r = record { rest = refl; ready = pended_ready s k x r }
   escalated_alike s k events x HardFault r =
       record { rest = refl; ready = pended_ready (with_status s _) k HARD_FAULT (with_new_status s k _ r) }
   escalated_alike s k events x Lockup r = record { rest = refl; ready = r }
 
-  faulted_alike : (s : State) (k : Memory) (events : List Event) (f : FaultEffect) →
-      Ready s k → SameStep (faulted s events f) (faulted (with_memory s k) events f)
+  faulted_alike : (s : State) (k : Memory) (events : List Event) (f : FaultEffect) → Ready s k →
+      SameStep (faulted s events f) (faulted (with_memory s k) events f)
   unfolding faulted
   faulted_alike s k events f r =
       escalated_alike (recorded s f) k events f.exception _ (with_new_status s k _ r)
 
-  failed_alike : (s : State) (k : Memory) (events : List Event) (why : Failure) →
-      Ready s k → SameStep (failed s events why) (failed (with_memory s k) events why)
+  failed_alike : (s : State) (k : Memory) (events : List Event) (why : Failure) → Ready s k →
+      SameStep (failed s events why) (failed (with_memory s k) events why)
   failed_alike s k events (failure.Refused access cause) r =
       faulted_alike s k events (fault_of access cause) r
   failed_alike s k events (failure.Usage fault) r = faulted_alike s k events (usage_fault_of fault) r
@@ -150,8 +145,7 @@ module _ (m : Mpu) (z : Bool) (old : Memory) where
 
   -- ---- the end of an instruction
 
-  called_alike : (s : State) (k : Memory) (events : List Event) (e : Escalation) →
-      Ready s k →
+  called_alike : (s : State) (k : Memory) (events : List Event) (e : Escalation) → Ready s k →
       SameStep (supervisor_called_by s events e) (supervisor_called_by (with_memory s k) events e)
   called_alike s k events Itself r = record {
     rest = refl;
@@ -162,13 +156,12 @@ module _ (m : Mpu) (z : Bool) (old : Memory) where
   called_alike s k events HardFault r = escalated_alike s k events SV_CALL HardFault r
   called_alike s k events Lockup r = escalated_alike s k events SV_CALL Lockup r
 
-  supervisor_alike : (s : State) (k : Memory) (events : List Event) →
-      Ready s k → SameStep (supervisor_called s events) (supervisor_called (with_memory s k) events)
+  supervisor_alike : (s : State) (k : Memory) (events : List Event) → Ready s k →
+      SameStep (supervisor_called s events) (supervisor_called (with_memory s k) events)
   unfolding supervisor_called
   supervisor_alike s k events r = called_alike s k events _ r
 
-  ended_alike : (s : State) (k : Memory) (events : List Event) (end : Ending) →
-      IsEndIn s.registers end → Ready s k →
+  ended_alike : (s : State) (k : Memory) (events : List Event) (end : Ending) → IsEndIn s.registers end → Ready s k →
       SameStep (ended s events end) (ended (with_memory s k) events end)
   ended_alike s k events ending.Next e r = record { rest = refl; ready = r }
   ended_alike s k events (ending.ReadSpecial o) e r = record {
@@ -192,17 +185,16 @@ module _ (m : Mpu) (z : Bool) (old : Memory) where
   ended_alike s k events (ending.Breakpoint number) e r = record { rest = refl; ready = r }
   ended_alike s k events (ending.ExceptionReturn value) e r = absurd (not_handler s.registers r.thread e)
 
-  finished_alike : (s : State) (k : Memory) (events : List Event) (f : Finished) →
-      Leaves IsUnprivileged f → Ready s k → SameStep (finished s events f) (finished (with_memory s k) events f)
+  finished_alike : (s : State) (k : Memory) (events : List Event) (f : Finished) → Leaves IsUnprivileged f → Ready s k →
+      SameStep (finished s events f) (finished (with_memory s k) events f)
   finished_alike s k events f leaves r =
       ended_alike (with_registers s f.registers) k events f.ending leaves.ending
       (with_new_registers s k f.registers leaves.kept r)
 
   -- ---- its accesses
 
-  served_alike : (s : State) (k new : Memory) (events : List Event)
-      (i : CodedInstruction) (all : ListResult) (end : Option Failure) → Ready s k →
-      Alike m z old all.bus new →
+  served_alike : (s : State) (k new : Memory) (events : List Event) (i : CodedInstruction) (all : ListResult)
+      (end : Option Failure) → Ready s k → Alike m z old all.bus new →
       SameStep (served s events i all end) (served (with_memory s k) events i (list_with all new) end)
   served_alike s k new events i all None r alike =
       finished_alike (with_bus s all.bus) new (events ++ all.events) (result_of i s.registers all.values)
@@ -211,9 +203,8 @@ module _ (m : Mpu) (z : Bool) (old : Memory) where
       failed_alike (with_bus s all.bus) new (events ++ all.events) why
       (with_new_bus s k new all.bus alike r)
 
-  performed_alike : (s : State) (k : Memory) (events : List Event)
-      (i : CodedInstruction) (qs : List Request) → AreOfTask qs → Ready s k →
-      SameStep (performed_all s events i qs) (performed_all (with_memory s k) events i qs)
+  performed_alike : (s : State) (k : Memory) (events : List Event) (i : CodedInstruction) (qs : List Request) →
+      AreOfTask qs → Ready s k → SameStep (performed_all s events i qs) (performed_all (with_memory s k) events i qs)
   unfolding performed_all
   performed_alike s k events i qs of r =
       let x = s.registers.exception in
@@ -226,28 +217,27 @@ module _ (m : Mpu) (z : Bool) (old : Memory) where
       (served (with_memory s k) events i all all.failure))
       (sym both.rest) (served_alike s k two.bus.memory events i one one.failure r both.alike)
 
-  planned_alike : (s : State) (k : Memory) (events : List Event)
-      (i : CodedInstruction) (asked : Result (List Request) Failure) → AskOfTask asked → Ready s k →
+  planned_alike : (s : State) (k : Memory) (events : List Event) (i : CodedInstruction)
+      (asked : Result (List Request) Failure) → AskOfTask asked → Ready s k →
       SameStep (planned s events i asked) (planned (with_memory s k) events i asked)
   planned_alike s k events i (Ok qs) of r = performed_alike s k events i qs of r
   planned_alike s k events i (Err why) of r = failed_alike s k events why r
 
   -- ---- the decoded instruction
 
-  meaningless_alike : (s : State) (k : Memory) (events : List Event)
-      (length : InstructionLength) (fault : UsageFault) → Ready s k →
-      SameStep (without_meaning s events length fault) (without_meaning (with_memory s k) events length fault)
+  meaningless_alike : (s : State) (k : Memory) (events : List Event) (length : InstructionLength) (fault : UsageFault) →
+      Ready s k → SameStep (without_meaning s events length fault)
+      (without_meaning (with_memory s k) events length fault)
   meaningless_alike s k events length fault r =
       both SameStep (condition_passed s.registers.it_state s.registers.flags) _ _ _ _
       (λ passed. failed_alike s k events (failure.Usage fault) r)
       (λ skipped. finished_alike s k events (moves_on length s.registers)
       (moves_on_kept writes_kept length s.registers r.thread) r)
 
-  executed_alike : (s : State) (k : Memory) (events : List Event)
-      (length : InstructionLength) (d : Decoded) → Ready s k →
-      SameStep (executed s events length d) (executed (with_memory s k) events length d)
+  executed_alike : (s : State) (k : Memory) (events : List Event) (length : InstructionLength) (d : Decoded) →
+      Ready s k → SameStep (executed s events length d) (executed (with_memory s k) events length d)
   executed_alike s k events length (decoded.Instr i) r =
-      planned_alike s k events i _ (wants_asked (traps s) i s.registers (unprivileged_is s.registers r.thread)) r
+      planned_alike s k events i _ (wants_asked s.registers (unprivileged_is s.registers r.thread) (traps s) i) r
   executed_alike s k events length decoded.Undefined r =
       meaningless_alike s k events length UndefinedInstruction r
   executed_alike s k events length decoded.NoCoprocessor r =
@@ -257,9 +247,8 @@ module _ (m : Mpu) (z : Bool) (old : Memory) where
   -- ---- the fetches
 
   -- the rest of a step after an access
-  after_access : (s : State) (k : Memory) (q : Request)
-      (rest : State → AccessResult → Stepped) → IsOfTask q → Ready s k →
-      ((one : AccessResult) (new : Memory) → Ready (with_bus s one.bus) new →
+  after_access : (s : State) (k : Memory) (q : Request) (rest : State → AccessResult → Stepped) → IsOfTask q →
+      Ready s k → ((one : AccessResult) (new : Memory) → Ready (with_bus s one.bus) new →
       SameStep (rest s one) (rest (with_memory s k) (result_with one new))) →
       SameStep (rest s (perform s.registers.exception s.bus q))
       (rest (with_memory s k) (perform s.registers.exception (with_memory_of s.bus k) q))
@@ -271,38 +260,35 @@ module _ (m : Mpu) (z : Bool) (old : Memory) where
       subst (λ (a : AccessResult). SameStep (rest s one) (rest (with_memory s k) a)) (sym both.rest)
       (others one two.bus.memory (with_new_bus s k two.bus.memory one.bus both.alike r))
 
-  second_alike : (s : State) (k : Memory) (events : List Event) (hw1 : ℕ)
-      (answer : Result ℕ Failure) → Ready s k →
+  second_alike : (s : State) (k : Memory) (events : List Event) (hw1 : ℕ) (answer : Result ℕ Failure) → Ready s k →
       SameStep (fetched_second s events hw1 answer) (fetched_second (with_memory s k) events hw1 answer)
   second_alike s k events hw1 (Ok hw2) r = executed_alike s k events Long _ r
   second_alike s k events hw1 (Err why) r = failed_alike s k events why r
 
-  with_second_alike : (s : State) (k : Memory) (events : List Event) (hw1 : ℕ) →
-      s.registers.pc % 2 ≡ 0 → Ready s k →
+  with_second_alike : (s : State) (k : Memory) (events : List Event) (hw1 : ℕ) → s.registers.pc % 2 ≡ 0 → Ready s k →
       SameStep (with_second s events hw1) (with_second (with_memory s k) events hw1)
   unfolding with_second
   with_second_alike s k events hw1 even r =
       let q = fetching s.registers (word_sum s.registers.pc 2) in
       let next : word_sum s.registers.pc 2 % 2 ≡ 0 = omega arith in
       both SameStep (is_long hw1) _ _ _ _
-      (λ long. after_access s k q (rest_of_second events hw1 q) (fetch_of s.registers _ (unprivileged_is s.registers r.thread) next) r
+      (λ long. after_access s k q (rest_of_second events hw1 q) (fetch_of s.registers (unprivileged_is s.registers r.thread) _ next) r
       (λ one new ready. second_alike (with_bus s one.bus) new
       (events ++ access_lines s.bus.system.time.ticks q one.performed) hw1 (value_of q one.performed) ready))
       (λ short. executed_alike s k events Short _ r)
 
-  first_alike : (s : State) (k : Memory) (events : List Event)
-      (answer : Result ℕ Failure) → s.registers.pc % 2 ≡ 0 → Ready s k →
-      SameStep (fetched_first s events answer) (fetched_first (with_memory s k) events answer)
+  first_alike : (s : State) (k : Memory) (events : List Event) (answer : Result ℕ Failure) → s.registers.pc % 2 ≡ 0 →
+      Ready s k → SameStep (fetched_first s events answer) (fetched_first (with_memory s k) events answer)
   first_alike s k events (Ok hw1) even r = with_second_alike s k events hw1 even r
   first_alike s k events (Err why) even r = failed_alike s k events why r
 
-  instruction_alike : (s : State) (k : Memory) → s.registers.pc % 2 ≡ 0 →
-      Ready s k → SameStep (instruction s) (instruction (with_memory s k))
+  instruction_alike : (s : State) (k : Memory) → s.registers.pc % 2 ≡ 0 → Ready s k →
+      SameStep (instruction s) (instruction (with_memory s k))
   unfolding instruction
   instruction_alike s k even r =
       let q = fetching s.registers s.registers.pc in
       both SameStep s.registers.thumb _ _ _ _
-      (λ thumb. after_access s k q (rest_of_first q) (fetch_of s.registers _ (unprivileged_is s.registers r.thread) even) r
+      (λ thumb. after_access s k q (rest_of_first q) (fetch_of s.registers (unprivileged_is s.registers r.thread) _ even) r
       (λ one new ready. first_alike (with_bus s one.bus) new
       ([] ++ access_lines s.bus.system.time.ticks q one.performed) (value_of q one.performed) even ready))
       (λ arm. failed_alike s k [] (failure.Usage InvalidState) r)
