@@ -1,7 +1,7 @@
 -- An access of unprivileged code, and a list of them, from two buses that differ only in memory, where the memories look
 -- the same to it. Each lemma says of what follows: it differs only in memory again, and `Alike` holds.
-use Rattle.std.proofs.Common.{◌≡◌, ◌⊎◌, inl, inr, ℕ, zero, suc, ◌+◌, ◌/◌, Bool, true, false, not, ◌||◌}
-use Rattle.std.proofs.Common.{List, [], ◌∷◌, length, Result, Ok, Err, refl, sym, ap, subst, ◌∙◌}
+use Rattle.std.proofs.Common.{◌≡◌, ◌⊎◌, inl, inr, ℕ, zero, suc, ◌+◌, ◌/◌, Bool, true, false, not, ◌||◌, List, [], ◌∷◌}
+use Rattle.std.proofs.Common.{length, Result, Ok, Err, refl, sym, ap, subst, ◌∙◌}
 use Rattle.reference.specs.declared.access.Answer.{Answer}
 use Rattle.reference.specs.declared.access.Decision.{Decision}
 use Rattle.reference.specs.declared.access.Kind.{Kind}
@@ -9,9 +9,8 @@ use Rattle.reference.specs.declared.access.Kind.TheVariants.{Fetch, Load, Store,
 use Rattle.reference.specs.declared.access.Request.{Request}
 use Rattle.reference.specs.declared.event.Event.{Event}
 use Rattle.reference.specs.declared.failure.Failure.{Failure}
-use Rattle.reference.specs.Accesses.{BusAnswer, AccessResult, ListResult, answered_by_bus, answered_under, decided, decision}
-use Rattle.reference.specs.Accesses.{lifted}
-use Rattle.reference.specs.Accesses.{access_lines, perform, value_of, followed, perform_all}
+use Rattle.reference.specs.Accesses.{BusAnswer, AccessResult, ListResult, answered_by_bus, answered_under, decided}
+use Rattle.reference.specs.Accesses.{decision, lifted, access_lines, perform, value_of, followed, perform_all}
 use Rattle.reference.specs.Kinds.{bytes_in, is_probe, is_write}
 use Rattle.reference.specs.Map.{is_in_ppb, is_in_window}
 use Rattle.reference.specs.Memory.{Memory, is_in_ram, bytes_of}

@@ -1,12 +1,12 @@
 -- Neither a tick nor an access of unprivileged code changes what the decision depends on: they make exceptions pending.
-use Rattle.std.proofs.Common.{◌≡◌, ℕ, zero, suc, ◌+◌, ◌*◌, ◌/◌, ◌%◌, ◌^◌, Bool, true, false, not, ◌||◌, ◌==◌, ◌∙◌, refl, sym, ap}
-use Rattle.std.proofs.Common.{eqb-true}
+use Rattle.std.proofs.Common.{◌≡◌, ℕ, zero, suc, ◌+◌, ◌*◌, ◌/◌, ◌%◌, ◌^◌, Bool, true, false, not, ◌||◌, ◌==◌, ◌∙◌, refl}
+use Rattle.std.proofs.Common.{sym, ap, eqb-true}
 use Rattle.std.proofs.lemmas.Bool.{and_parts}
 use Rattle.nvic.proofs.BelowZero.{below_zero}
 use Rattle.reference.specs.declared.access.Request.{Request}
+use Rattle.reference.specs.declared.exception.TheConstants.{EXCEPTIONS, FIRST_LINE}
 use Rattle.reference.specs.declared.system.SystemRegister.{SystemRegister}
 use Rattle.reference.specs.declared.system.SystemRegister.TheVariants as register
-use Rattle.reference.specs.declared.exception.TheConstants.{EXCEPTIONS, FIRST_LINE}
 use Rattle.reference.specs.Control.{control_at}
 use Rattle.reference.specs.Handlers.{handler_priority_at}
 use Rattle.reference.specs.Interrupts.{interrupts_at, interrupt_priority_at, stir_address, triggered}
@@ -16,8 +16,8 @@ use Rattle.reference.specs.Regions.{Mpu}
 use Rattle.reference.specs.Status.{status_at, usersetmpend}
 use Rattle.reference.specs.SysTickRegisters.{systick_at}
 use Rattle.reference.specs.System.{System, SystemAnswer, single_at, register_at, has_access, has_width, after_read}
-use Rattle.reference.specs.System.{register_written}
-use Rattle.reference.specs.System.{register_access, system_access, with_pended_at, with_pended_below, with_pended, after_tick}
+use Rattle.reference.specs.System.{register_written, register_access, system_access, with_pended_at, with_pended_below}
+use Rattle.reference.specs.System.{with_pended, after_tick}
 use Rattle.reference.specs.Time.{tick_pends}
 use Rattle.state_laws.proofs.Nvic.{either}
 

@@ -1,6 +1,6 @@
 -- The accesses of an instruction of unprivileged code.
-use Rattle.std.proofs.Common.{◌≡◌, inl, inr, ℕ, ◌%◌, Bool, true, false, not, ◌&&◌, ◌==◌, List, [], ◌∷◌}
-use Rattle.std.proofs.Common.{refl, arith, eqb-true}
+use Rattle.std.proofs.Common.{◌≡◌, inl, inr, ℕ, ◌%◌, Bool, true, false, not, ◌&&◌, ◌==◌, List, [], ◌∷◌, refl, arith}
+use Rattle.std.proofs.Common.{eqb-true}
 use Rattle.reference.specs.declared.access.Kind.{Kind}
 use Rattle.reference.specs.declared.access.Kind.TheVariants.{Load, Store, Probe}
 use Rattle.reference.specs.declared.access.Request.{Request}
@@ -32,8 +32,8 @@ use Rattle.reference.specs.Operations.{is_misplaced, is_carried_out, requests_of
 use Rattle.reference.specs.Registers.{Registers, register, is_privileged}
 use Rattle.reference.specs.Step.{fetching}
 use Rattle.reference.specs.Words.{word_sum}
-use Rattle.task_laws.specs.TaskLaw.{IsTaskKind, IsOfTask, AreOfTask, AskOfTask, RequestsLaw}
 use Rattle.state_laws.proofs.Nvic.{either}
+use Rattle.task_laws.specs.TaskLaw.{IsTaskKind, IsOfTask, AreOfTask, AskOfTask, RequestsLaw}
 
 -- ---- what an access is for
 

@@ -1,6 +1,13 @@
--- The phases of an Instruction step of a task, in two states that look the same to it, from the last one up.
-use Rattle.std.proofs.Common.{◌≡◌, ℕ, ◌%◌, Bool, true, List, [], ◌++◌, Option, Some, None}
-use Rattle.std.proofs.Common.{Result, Ok, Err, refl, sym, ap, subst, ◌∙◌, arith}
+-- The phases of an Instruction step of a task, from two states that differ only in memory, where the memories look the
+-- same to it. Each phase has one lemma: from `Ready` before it to `SameStep` at the end of the step.
+--
+-- - The lemmas follow `reference`'s Step from its last phase up: faults, the end of an instruction, its accesses, the
+--   decoded instruction, the fetches, the step.
+-- - The two runs choose alike at each test, since no test reads memory: `both` goes into both branches.
+-- - What an access or a list of them returns is equal but for memory (`perform_alike`, `all_alike`): the second result is
+--   replaced by the first with another memory, and the rest of the step goes on from there.
+use Rattle.std.proofs.Common.{◌≡◌, ℕ, ◌%◌, Bool, true, List, [], ◌++◌, Option, Some, None, Result, Ok, Err, refl, sym}
+use Rattle.std.proofs.Common.{ap, subst, ◌∙◌, arith}
 use Rattle.reference.specs.declared.access.Request.{Request}
 use Rattle.reference.specs.declared.event.Event.{Event}
 use Rattle.reference.specs.declared.exception.Escalation.{Escalation}
@@ -16,13 +23,12 @@ use Rattle.reference.specs.declared.instruction.Decoded.{Decoded}
 use Rattle.reference.specs.declared.instruction.Decoded.TheVariants as decoded
 use Rattle.reference.specs.declared.instruction.Ending.{Ending}
 use Rattle.reference.specs.declared.instruction.Ending.TheVariants as ending
-use Rattle.reference.specs.declared.instruction.InstructionLength.TheVariants.{Short, Long}
 use Rattle.reference.specs.declared.instruction.InstructionLength.{InstructionLength}
+use Rattle.reference.specs.declared.instruction.InstructionLength.TheVariants.{Short, Long}
 use Rattle.reference.specs.Accesses.{AccessResult, ListResult, perform, perform_all, access_lines, value_of}
 use Rattle.reference.specs.Arithmetic.{condition_passed}
 use Rattle.reference.specs.Decoding.{is_long}
-use Rattle.reference.specs.Faults.{fault_of, usage_fault_of, recorded, with_status, pended, escalated, faulted}
-use Rattle.reference.specs.Faults.{failed}
+use Rattle.reference.specs.Faults.{fault_of, usage_fault_of, recorded, with_status, pended, escalated, faulted, failed}
 use Rattle.reference.specs.Faults.{supervisor_called_by, supervisor_called}
 use Rattle.reference.specs.Memory.{Memory}
 use Rattle.reference.specs.Operations.{result_of}
@@ -34,24 +40,22 @@ use Rattle.reference.specs.SpecialRegisters.{write_special}
 use Rattle.reference.specs.State.{Bus, State, Stepped, ticked, with_bus, with_system, with_registers, with_exceptions}
 use Rattle.reference.specs.Status.{Status}
 use Rattle.reference.specs.Step.{ended, finished, served, performed_all, planned, without_meaning, executed, fetching}
-use Rattle.reference.specs.Step.{fetched_second, with_second, fetched_first, instruction}
-use Rattle.reference.specs.Step.{step, traps}
+use Rattle.reference.specs.Step.{fetched_second, with_second, fetched_first, instruction, step, traps}
 use Rattle.reference.specs.System.{System}
 use Rattle.reference.specs.Words.{word_sum}
-use Rattle.task_laws.specs.TaskLaw.{IsOfTask, AreOfTask, AskOfTask}
-use Rattle.task_laws.proofs.Unprivileged.{IsUnprivileged, writes_kept, not_handler, unprivileged_is, special_kept, mask_kept}
-use Rattle.task_laws.proofs.Unprivileged.{state_kept}
-use Rattle.task_laws.proofs.Instructions.{IsInstruction, awoken, step_is}
+use Rattle.state_laws.proofs.Effects.{IsEndIn, Leaves, register_kept, moves_on_kept, result_kept}
 use Rattle.task_laws.specs.Sight.{with_memory}
+use Rattle.task_laws.specs.TaskLaw.{IsOfTask, AreOfTask, AskOfTask}
+use Rattle.task_laws.proofs.Accesses.{Alike, SameResult, SameList, result_with, list_with, with_memory_of}
+use Rattle.task_laws.proofs.Accesses.{perform_alike, all_alike}
+use Rattle.task_laws.proofs.Instructions.{IsInstruction, awoken, step_is}
 use Rattle.task_laws.proofs.Memories.{both}
 use Rattle.task_laws.proofs.Priorities.{Decides, pending_alike, tick_decides}
-use Rattle.task_laws.proofs.Accesses.{Alike, SameResult, SameList, result_with, list_with, with_memory_of, perform_alike, all_alike}
 use Rattle.task_laws.proofs.Requests.{wants_asked, fetch_of}
-use Rattle.state_laws.proofs.Effects.{IsEndIn, Leaves, register_kept, moves_on_kept, result_kept}
+use Rattle.task_laws.proofs.Unprivileged.{IsUnprivileged, writes_kept, not_handler, unprivileged_is, special_kept}
+use Rattle.task_laws.proofs.Unprivileged.{mask_kept, state_kept}
 
--- ---- what each phase takes and leaves
-
--- the next step is an Instruction step whatever the memory
+-- the next step is an Instruction step whatever memory holds
 pub instruction_there : (s : State) (k : Memory) → IsInstruction s → IsInstruction (with_memory s k)
 instruction_there s k i = record {
   running = i.running;
@@ -62,37 +66,40 @@ instruction_there s k i = record {
 }
 
 -- the end of a step with another memory
-abbrev pub step_with : Stepped → Memory → Stepped
+abbrev step_with : Stepped → Memory → Stepped
 step_with p k = record p { state = with_memory p.state k }
+
+-- the rest of a step after the fetch of the first halfword, and of the second one
+abbrev rest_of_first : Request → State → AccessResult → Stepped
+rest_of_first q s a =
+    fetched_first (with_bus s a.bus) ([] ++ access_lines s.bus.system.time.ticks q a.performed) (value_of q a.performed)
 
 abbrev rest_of_second : List Event → ℕ → Request → State → AccessResult → Stepped
 rest_of_second events hw1 q s a =
     fetched_second (with_bus s a.bus) (events ++ access_lines s.bus.system.time.ticks q a.performed) hw1
     (value_of q a.performed)
 
-abbrev rest_of_first : Request → State → AccessResult → Stepped
-rest_of_first q s a =
-    fetched_first (with_bus s a.bus) ([] ++ access_lines s.bus.system.time.ticks q a.performed) (value_of q a.performed)
-
+-- m and z are what the decision depends on, and `old` is the memory before the step
 module _ (m : Mpu) (z : Bool) (old : Memory) where
-  -- of a bus, the registers and the entry phase of a state, and of another memory: the MPU's registers are sound, the code
-  -- is unprivileged in Thread mode, outside the entry phase, and the memories look the same to it
-  pub record Inside (b : Bus) (r : Registers) (entry : Option ℕ) (k : Memory)
-      : Type 0 where
+  -- ---- what each phase takes and leaves
+
+  -- a bus, registers and an entry phase in which unprivileged code runs, and the memory k, which looks the same to it
+  pub record Inside (b : Bus) (r : Registers) (entry : Option ℕ) (k : Memory) : Type 0 where
     pub sound : IsSound m
     pub alike : Alike m z old b k
     pub thread : IsUnprivileged r
     pub outside : entry ≡ None
 
-  -- it holds of a state
+  -- a state that has them
   abbrev pub Ready : State → Memory → Type 0
   Ready s k = Inside s.bus s.registers s.entry k
 
-  -- the ends of two steps
+  -- the ends of the two steps: they differ only in memory, and the first state is ready again
   pub record SameStep (one two : Stepped) : Type 0 where
     pub rest : two ≡ step_with one two.state.bus.memory
     pub ready : Ready one.state two.state.bus.memory
 
+  -- a state that is ready stays so with other registers, another bus, ..
   with_new_registers : (s : State) (k : Memory) (r : Registers) → IsUnprivileged r → Ready s k →
       Ready (with_registers s r) k
   with_new_registers s k new thread r =
@@ -107,6 +114,7 @@ module _ (m : Mpu) (z : Bool) (old : Memory) where
       with_new_bus s k k (with_system s y).bus
       (record { looks = r.alike.looks; kept = r.alike.kept; decides = decides }) r
 
+  -- the fault status isn't what the decision depends on
   with_new_status : (s : State) (k : Memory) (status : Status) → Ready s k → Ready (with_status s status) k
   with_new_status s k status r =
       with_new_system s k (with_status s status).bus.system
@@ -120,6 +128,7 @@ module _ (m : Mpu) (z : Bool) (old : Memory) where
 
   -- ---- faults
 
+  -- an exception becomes pending
   pended_ready : (s : State) (k : Memory) (x : ℕ) → Ready s k → Ready (pended s x) k
   pended_ready s k x r = with_new_nvic s k _ (pending_alike s.bus.system.nvic x true) r
 
@@ -246,7 +255,7 @@ module _ (m : Mpu) (z : Bool) (old : Memory) where
 
   -- ---- the fetches
 
-  -- the rest of a step after an access
+  -- an access, and the rest of the step after it
   after_access : (s : State) (k : Memory) (q : Request) (rest : State → AccessResult → Stepped) → IsOfTask q →
       Ready s k → ((one : AccessResult) (new : Memory) → Ready (with_bus s one.bus) new →
       SameStep (rest s one) (rest (with_memory s k) (result_with one new))) →
@@ -272,7 +281,8 @@ module _ (m : Mpu) (z : Bool) (old : Memory) where
       let q = fetching s.registers (word_sum s.registers.pc 2) in
       let next : word_sum s.registers.pc 2 % 2 ≡ 0 = omega arith in
       both SameStep (is_long hw1) _ _ _ _
-      (λ long. after_access s k q (rest_of_second events hw1 q) (fetch_of s.registers (unprivileged_is s.registers r.thread) _ next) r
+      (λ long. after_access s k q (rest_of_second events hw1 q)
+      (fetch_of s.registers (unprivileged_is s.registers r.thread) _ next) r
       (λ one new ready. second_alike (with_bus s one.bus) new
       (events ++ access_lines s.bus.system.time.ticks q one.performed) hw1 (value_of q one.performed) ready))
       (λ short. executed_alike s k events Short _ r)
@@ -288,17 +298,20 @@ module _ (m : Mpu) (z : Bool) (old : Memory) where
   instruction_alike s k even r =
       let q = fetching s.registers s.registers.pc in
       both SameStep s.registers.thumb _ _ _ _
-      (λ thumb. after_access s k q (rest_of_first q) (fetch_of s.registers (unprivileged_is s.registers r.thread) _ even) r
+      (λ thumb. after_access s k q (rest_of_first q)
+      (fetch_of s.registers (unprivileged_is s.registers r.thread) _ even) r
       (λ one new ready. first_alike (with_bus s one.bus) new
       ([] ++ access_lines s.bus.system.time.ticks q one.performed) (value_of q one.performed) even ready))
       (λ arm. failed_alike s k [] (failure.Usage InvalidState) r)
 
   -- ---- the step
 
+  -- the tick, and the wake-up
   awoken_ready : (s : State) (k : Memory) → Ready s k → Ready (awoken s) k
   awoken_ready s k r =
       with_new_system s k (ticked s).bus.system (tick_decides m z s.bus.system r.alike.decides) r
 
+  -- an Instruction step
   pub step_alike : (s : State) (k : Memory) → s.registers.pc % 2 ≡ 0 → IsInstruction s → Ready s k →
       SameStep (step s) (step (with_memory s k))
   step_alike s k even i r =
