@@ -1,7 +1,8 @@
--- An access of unprivileged code, and a list of them, from two buses that differ only in memory, where the memories look
--- the same to it. Each lemma says of what follows: it differs only in memory again, and `Alike` holds.
-use Rattle.std.proofs.Common.{◌≡◌, ◌⊎◌, inl, inr, ℕ, zero, suc, ◌+◌, ◌/◌, Bool, true, false, not, ◌||◌, List, [], ◌∷◌}
+-- An access of unprivileged code, and a list of them, from two buses that differ only in memory, where the memories
+-- look the same to it: what is left differs only in memory again, and `Alike` holds of it.
+use Rattle.std.proofs.Common.{◌≡◌, ◌⊎◌, inl, inr, ℕ, zero, suc, ◌+◌, ◌/◌, Bool, true, false, not, List, [], ◌∷◌}
 use Rattle.std.proofs.Common.{length, Result, Ok, Err, refl, sym, ap, subst, ◌∙◌}
+use Rattle.std.proofs.lemmas.Bool.{or_right}
 use Rattle.reference.specs.declared.access.Answer.{Answer}
 use Rattle.reference.specs.declared.access.Decision.{Decision}
 use Rattle.reference.specs.declared.access.Kind.{Kind}
@@ -29,11 +30,11 @@ use Rattle.task_laws.proofs.Priorities.{Decides, system_decides}
 abbrev pub denies : Mpu → Bool → ℕ → Bool
 denies m z a = not (may m z Store a)
 
--- a kind of access is granted at each byte of a request
+-- the decision grants a kind of access at each byte of a request
 abbrev Granted : Mpu → Bool → Kind → Request → Type 0
 Granted m z kind q = AllIn (may m z kind) q.access.address (bytes_in q.access.size)
 
--- where it is granted at the address, it is granted at each byte
+-- where it grants that kind at the address, it grants it at each byte
 granted_in : (m : Mpu) (z : Bool) (kind : Kind) (q : Request) → IsSound m → IsOfTask q →
     may m z kind q.access.address ≡ true → Granted m z kind q
 granted_in m z kind q sound of granted k below =
@@ -48,11 +49,7 @@ record IsOpen (m : Mpu) (z : Bool) (q : Request) : Type 0 where
       AllIn (sees m z) q.access.address (bytes_in q.access.size)
   writes : is_write q.access.kind ≡ true → Granted m z Store q
 
-or_right : (p q : Bool) → q ≡ true → (p || q) ≡ true
-or_right true q e = refl
-or_right false q e = e
-
--- a request that is granted is so
+-- where the decision grants a request, it is so
 is_open : (m : Mpu) (z : Bool) (q : Request) → IsSound m → IsOfTask q → may m z q.access.kind q.access.address ≡ true →
     IsOpen m z q
 is_open m z q sound of granted = split of.kind
@@ -109,6 +106,7 @@ result_with a k = record a { bus = with_memory_of a.bus k }
 abbrev pub list_with : ListResult → Memory → ListResult
 list_with all k = record all { bus = with_memory_of all.bus k }
 
+-- m and z are what the decision depends on, and `old` is the memory before the accesses
 module _ (m : Mpu) (z : Bool) (old : Memory) where
   -- the memory of a bus looks the same as k, each byte that may not be stored is as in `old`, and m and z are what the
   -- decision depends on
@@ -119,7 +117,7 @@ module _ (m : Mpu) (z : Bool) (old : Memory) where
 
   -- ---- flash, RAM and the device window
 
-  -- two answers of them
+  -- two answers of them: they differ only in memory
   record SameSpace (one two : SpaceAnswer) : Type 0 where
     rest : two ≡ space_with one two.memory
     looks : Agree (sees m z) one.memory two.memory
@@ -130,10 +128,10 @@ module _ (m : Mpu) (z : Bool) (old : Memory) where
   write_alike b k q alike granted =
       let bytes = bytes_of (bytes_in q.access.size) q.value in
       let long = length-bytes_of (bytes_in q.access.size) q.value in
-      both (SameSpace) (is_in_window q.access.address) _ _ _ _
+      both SameSpace (is_in_window q.access.address) _ _ _ _
       (λ e. record { rest = refl; looks = alike.looks; kept = alike.kept })
       (λ e. rw alike.looks.ram.size
-      (both (SameSpace) (is_in_ram b.memory q.access.address (bytes_in q.access.size)) _ _ _ _
+      (both SameSpace (is_in_ram b.memory q.access.address (bytes_in q.access.size)) _ _ _ _
       (λ there. record {
         rest = refl;
         looks = written_alike (sees m z) b.memory k q.access.address bytes (rw long there) alike.looks;
@@ -147,7 +145,7 @@ module _ (m : Mpu) (z : Bool) (old : Memory) where
       is_probe q.access.kind ≡ false → SameSpace (space_access b.memory ticks q) (space_access k ticks q)
   unfolding space_access
   space_alike b k ticks q alike opened unprobed =
-      both (SameSpace) (is_write q.access.kind) _ _ _ _ (λ e. write_alike b k q alike (opened.writes e))
+      both SameSpace (is_write q.access.kind) _ _ _ _ (λ e. write_alike b k q alike (opened.writes e))
       (λ e. record {
         rest =
             ap (λ (a : Answer). record { memory = k; answer = a })
@@ -161,7 +159,7 @@ module _ (m : Mpu) (z : Bool) (old : Memory) where
 
   -- ---- the bus
 
-  -- two answers of the bus
+  -- two answers of the bus: they differ only in memory
   record SameAnswer (one two : BusAnswer) : Type 0 where
     rest : two ≡ answer_with one two.bus.memory
     alike : Alike one.bus two.bus.memory
@@ -170,8 +168,8 @@ module _ (m : Mpu) (z : Bool) (old : Memory) where
       SameAnswer (answered_by_bus x b q) (answered_by_bus x (with_memory_of b k) q)
   unfolding answered_by_bus
   carried_alike x b k q of alike opened =
-      both (SameAnswer) (is_probe q.access.kind) _ _ _ _ (λ e. record { rest = refl; alike = alike })
-      (λ e. both (SameAnswer) (is_in_ppb q.access.address) _ _ _ _
+      both SameAnswer (is_probe q.access.kind) _ _ _ _ (λ e. record { rest = refl; alike = alike })
+      (λ e. both SameAnswer (is_in_ppb q.access.address) _ _ _ _
       (λ f. record {
         rest = refl;
         alike = record {
@@ -188,7 +186,7 @@ module _ (m : Mpu) (z : Bool) (old : Memory) where
 
   -- ---- one access
 
-  -- the results of two accesses
+  -- the results of two accesses: they differ only in memory
   pub record SameResult (one two : AccessResult) : Type 0 where
     pub rest : two ≡ result_with one two.bus.memory
     pub alike : Alike one.bus two.bus.memory
@@ -211,7 +209,7 @@ module _ (m : Mpu) (z : Bool) (old : Memory) where
 
   -- ---- a list of accesses
 
-  -- the results of two lists
+  -- the results of two lists: they differ only in memory
   pub record SameList (one two : ListResult) : Type 0 where
     pub rest : two ≡ list_with one two.bus.memory
     pub alike : Alike one.bus two.bus.memory

@@ -13,8 +13,8 @@ use Rattle.task_laws.specs.declared.foresight.StepKind.TheVariants as kind
 use Rattle.task_laws.specs.Foresight.{kind_after, kind_of_running, kind_unless_stopped, next_kind_of, is_instruction}
 use Rattle.task_laws.specs.Foresight.{is_instruction_next}
 
--- the next step is an Instruction step: the machine hasn't stopped, the clock isn't at its end, the machine isn't in the
--- entry phase, and after the tick it has no candidate and doesn't sleep on
+-- the next step is an Instruction step: the machine hasn't stopped, the clock isn't at its end, it isn't in the entry
+-- phase, and after the tick it has no candidate and doesn't sleep on
 pub record IsInstruction (s : State) : Type 0 where
   pub running : s.stop ≡ None
   pub early : nat_le last_tick s.bus.system.time.ticks ≡ false

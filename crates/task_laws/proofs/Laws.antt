@@ -215,6 +215,6 @@ end_law n s t steps end inv task same are ends =
     let all = run_law s t steps inv task same are in (
       all.instructions,
       subst (λ (u : State). Ends n steps u end) (sym all.same.rest)
-      (end_there n steps (after steps s) (after steps t).bus.memory end ends),
+          (end_there n steps (after steps s) (after steps t).bus.memory end ends),
       all.events,
     )
