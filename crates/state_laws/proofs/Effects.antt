@@ -1,6 +1,7 @@
 -- What each write of a core register keeps, each instruction keeps.
-use Rattle.std.proofs.Common.{refl, ℕ, Bool, List, [], ◌∷◌, drop, slice_index, arith, ◌≡◌, ◌^◌, ◌<◌, true, false, ◌&&◌}
-use Rattle.std.proofs.Common.{◌==◌, slice_set, Option}
+use Rattle.std.proofs.Common.{ℕ, Bool, List, [], ◌∷◌, drop, slice_index, arith, ◌≡◌, ◌^◌, ◌<◌, true, ◌==◌, slice_set}
+use Rattle.std.proofs.Common.{Option}
+use Rattle.std.proofs.lemmas.Bool.{and_parts}
 use Rattle.reference.specs.declared.instruction.Branch.{Branch}
 use Rattle.reference.specs.declared.instruction.Branch.TheVariants as branch
 use Rattle.reference.specs.declared.instruction.CodedInstruction.{CodedInstruction}
@@ -55,8 +56,8 @@ code_address_is v = record { word = omega arith; even = omega arith }
 
 -- ---- writes
 
--- each write of a register keeps a property: of a value that the register may have, of the address of the next
--- instruction to the PC, and of the next ITSTATE to IT
+-- each write of a register keeps a property: of any value that the register may have; of the next instruction's address
+-- to the PC; and of the advanced ITSTATE
 pub record KeepsWrites (P : Registers → Type 0) : Type 0 where
   pub general : (r : Registers) (n v : ℕ) → v < 2 ^ 32 → P r → P (record r { general = slice_set r.general n v })
   pub msp : (r : Registers) (v : ℕ) → IsStackPointer v → P r → P (record r { msp = v })
@@ -73,29 +74,22 @@ pub record KeepsWrites (P : Registers → Type 0) : Type 0 where
 
 -- ---- the end of an instruction
 
--- only in Handler mode an instruction ends by a return from an exception
+-- an instruction ends with a return from an exception only in Handler mode
 abbrev pub IsEndIn : Registers → Ending → Type 0
 IsEndIn r (ending.ExceptionReturn value) = is_handler r ≡ true
 IsEndIn r end = Unit {0}
 
--- the registers that an instruction leaves have the property, and its ending is one of their mode
+-- the registers that an instruction leaves have the property, and it returns from an exception only in Handler mode
 pub record Leaves (P : Registers → Type 0) (f : Finished) : Type 0 where
   pub kept : P f.registers
   pub ending : IsEndIn f.registers f.ending
-
-handler_of : (v : ℕ) (r : Registers) → is_exception_return v r ≡ true → is_handler r ≡ true
-handler_of v r e = split (is_handler r) _ e
-  where
-    split : (p q : Bool) → (p && q) ≡ true → p ≡ true
-    split true q h = refl
-    split false q h = absurd cc
 
 -- no hint returns from an exception
 hint_ends : (hint : Hint) (r : Registers) → IsEndIn r (hint_ending hint)
 hint_ends hint.WaitForInterrupt r = tt
 hint_ends it r = tt
 
--- ---- what is kept
+-- ---- what the writes keep, each instruction keeps
 
 module _ {P : Registers → Type 0} (k : KeepsWrites P) where
   flags_kept : (r : Registers) (f : Flags) → P r → P (record r { flags = f })
@@ -112,47 +106,44 @@ module _ {P : Registers → Type 0} (k : KeepsWrites P) where
   pub exchange_kept : (r : Registers) (v : ℕ) → P r → P (with_exchange r v)
   exchange_kept r v p = k.thumb (with_pc r v) _ (pc_kept r v p)
 
-  pub register_kept : (r : Registers) (n v : ℕ) → P r →
-      P (with_register r n v)
+  pub register_kept : (r : Registers) (n v : ℕ) → P r → P (with_register r n v)
   register_kept r n v p =
       let word : low_word v < 2 ^ 32 = omega arith in
       either P (n == 13) _ _ (λ e. sp_kept r v p)
       (λ e. either P (n == 14) _ _ (λ f. k.lr r (low_word v) word p)
       (λ f. either P (n == 15) _ _ (λ g. pc_kept r v p) (λ g. k.general r n (low_word v) word p)))
 
-  pub moves_on_kept : (length : InstructionLength) (r : Registers) → P r →
-      Leaves P (moves_on length r)
+  pub moves_on_kept : (length : InstructionLength) (r : Registers) → P r → Leaves P (moves_on length r)
   moves_on_kept length r p = record { kept = k.next (advanced r) length (k.advanced r p); ending = tt }
 
-  -- an instruction that does something else beside moving on
-  pub moves_on_and_kept : (e : Ending) (length : InstructionLength)
-      (r : Registers) → IsEndIn (moves_on length r).registers e → P r → Leaves P (moves_on_and e length r)
+  -- the PC moves past the instruction, which ends with e
+  pub moves_on_and_kept : (e : Ending) (length : InstructionLength) (r : Registers) →
+      IsEndIn (moves_on length r).registers e → P r → Leaves P (moves_on_and e length r)
   moves_on_and_kept e length r end p = record { kept = (moves_on_kept length r p).kept; ending = end }
 
   pub branches_kept : (r : Registers) → P r → Leaves P (branches r)
   branches_kept r p = record { kept = k.advanced r p; ending = tt }
 
-  pub branches_by_kept : (offset : ℕ) (r : Registers) → P r →
-      Leaves P (branches_by offset r)
+  pub branches_by_kept : (offset : ℕ) (r : Registers) → P r → Leaves P (branches_by offset r)
   branches_by_kept offset r p =
       branches_kept (with_pc r (word_sum (register r 15) offset))
       (pc_kept r (word_sum (register r 15) offset) p)
 
-  pub exchanges_kept : (v : ℕ) (r : Registers) → P r →
-      Leaves P (exchanges v r)
+  pub exchanges_kept : (v : ℕ) (r : Registers) → P r → Leaves P (exchanges v r)
   exchanges_kept v r p =
-      either (Leaves P) (is_exception_return v r) _ _ (λ e. record { kept = p; ending = handler_of v r e })
+      either (Leaves P) (is_exception_return v r) _ _ (λ e. record { kept = p; ending = (and_parts _ _ e).0 })
       (λ e. branches_kept (with_exchange r v) (exchange_kept r v p))
 
-  pub loads_into_kept : (length : InstructionLength) (t value : ℕ)
-      (r : Registers) → P r → Leaves P (loads_into length t value r)
+  pub loads_into_kept : (length : InstructionLength) (t value : ℕ) (r : Registers) → P r →
+      Leaves P (loads_into length t value r)
   loads_into_kept length t value r p =
       either (Leaves P) (t == 15) _ _ (λ e. exchanges_kept value r p)
       (λ e. moves_on_kept length (with_register r t value) (register_kept r t value p))
 
   -- ---- the instructions that compute
 
-  written_kept : (setting : FlagSetting) (d : ℕ) (given : ℕ × Flags) (r : Registers) → P r → P (written setting d given r)
+  written_kept : (setting : FlagSetting) (d : ℕ) (given : ℕ × Flags) (r : Registers) → P r →
+      P (written setting d given r)
   written_kept setting d given r h =
       let value = register_kept r d given.0 h in
       either P (sets_flags setting r) _ _ (λ e. k.flags (with_register r d given.0) given.1 value)
@@ -166,7 +157,8 @@ module _ {P : Registers → Type 0} (k : KeepsWrites P) where
   processed_kept (data_processing.CompareImmediate o) r h = flags_kept r _ h
   processed_kept i r h = search writes
 
-  data_kept : (length : InstructionLength) (i : DataProcessing) (r : Registers) → P r → Leaves P (data_processing_effect length i r)
+  data_kept : (length : InstructionLength) (i : DataProcessing) (r : Registers) → P r →
+      Leaves P (data_processing_effect length i r)
   data_kept length i r h =
       let after = processed_kept i r h in
       either (Leaves P) (writes_pc i) _ _ (λ e. branches_kept (processed i r) after)
@@ -178,7 +170,8 @@ module _ {P : Registers → Type 0} (k : KeepsWrites P) where
   base_kept a r h =
       either P (writes_back a.indexing) _ _ (λ e. register_kept r a.base (offset_address r a) h) (λ e. h)
 
-  load_store_kept : (length : InstructionLength) (i : LoadStore) (r : Registers) (values : List ℕ) → P r → Leaves P (load_store_effect length i r values)
+  load_store_kept : (length : InstructionLength) (i : LoadStore) (r : Registers) (values : List ℕ) → P r →
+      Leaves P (load_store_effect length i r values)
   unfolding load_store_effect
   load_store_kept length (load_store.LoadImmediate o) r values h =
       loads_into_kept length o.target _ (with_base o.address r) (base_kept o.address r h)
@@ -188,7 +181,8 @@ module _ {P : Registers → Type 0} (k : KeepsWrites P) where
       moves_on_kept length (with_base o.address r) (base_kept o.address r h)
   load_store_kept length (load_store.StoreRegister o) r values h = moves_on_kept length r h
 
-  moved_kept : (writes : Bool) (n : ℕ) (order : ListOrder) (list : ℕ) (r : Registers) → P r → P (with_moved_base writes n order list r)
+  moved_kept : (writes : Bool) (n : ℕ) (order : ListOrder) (list : ℕ) (r : Registers) → P r →
+      P (with_moved_base writes n order list r)
   moved_kept writes n order list r h =
       either P writes _ _ (λ e. register_kept r n (moved_base order list (register r n)) h) (λ e. h)
 
@@ -199,7 +193,8 @@ module _ {P : Registers → Type 0} (k : KeepsWrites P) where
       loaded_kept ns (drop 1 values) (with_register r n (slice_index values 0))
       (register_kept r n (slice_index values 0) h)
 
-  load_multiple_kept : (length : InstructionLength) (o : LoadMultiple) (values : List ℕ) (r : Registers) → P r → Leaves P (load_multiple length o values r)
+  load_multiple_kept : (length : InstructionLength) (o : LoadMultiple) (values : List ℕ) (r : Registers) → P r →
+      Leaves P (load_multiple length o values r)
   unfolding load_multiple
   load_multiple_kept length o values r h =
       let moved = moved_kept o.write_back o.base o.order o.list r h in
@@ -207,7 +202,8 @@ module _ {P : Registers → Type 0} (k : KeepsWrites P) where
       either (Leaves P) (is_bit o.list 15) _ _ (λ e. exchanges_kept _ (loaded_below_pc o values r) below)
       (λ e. moves_on_kept length (loaded_below_pc o values r) below)
 
-  multiple_kept : (length : InstructionLength) (i : LoadStoreMultiple) (r : Registers) (values : List ℕ) → P r → Leaves P (load_store_multiple_effect length i r values)
+  multiple_kept : (length : InstructionLength) (i : LoadStoreMultiple) (r : Registers) (values : List ℕ) → P r →
+      Leaves P (load_store_multiple_effect length i r values)
   unfolding load_store_multiple_effect
   multiple_kept length (multiple.LoadDual o) r values h =
       moves_on_kept length _
@@ -220,7 +216,8 @@ module _ {P : Registers → Type 0} (k : KeepsWrites P) where
   multiple_kept length (multiple.StoreMultiple o) r values h =
       moves_on_kept length _ (moved_kept o.write_back o.base o.order o.list r h)
 
-  exclusive_kept : (length : InstructionLength) (i : Exclusive) (r : Registers) (values : List ℕ) → P r → Leaves P (exclusive_effect length i r values)
+  exclusive_kept : (length : InstructionLength) (i : Exclusive) (r : Registers) (values : List ℕ) → P r →
+      Leaves P (exclusive_effect length i r values)
   unfolding exclusive_effect
   exclusive_kept length (exclusive.Load o) r values h =
       moves_on_kept length _ (register_kept _ o.target _ (k.monitor r _ h))
@@ -233,7 +230,8 @@ module _ {P : Registers → Type 0} (k : KeepsWrites P) where
   link_kept : (length : InstructionLength) (r : Registers) → P r → P (with_link length r)
   link_kept length r h = register_kept r 14 _ h
 
-  branch_kept : (length : InstructionLength) (i : Branch) (r : Registers) (values : List ℕ) → P r → Leaves P (branch_effect length i r values)
+  branch_kept : (length : InstructionLength) (i : Branch) (r : Registers) (values : List ℕ) → P r →
+      Leaves P (branch_effect length i r values)
   unfolding branch_effect
   branch_kept length (branch.Immediate o) r values h = branches_by_kept o.offset r h
   branch_kept length (branch.Conditional o) r values h =
@@ -258,11 +256,13 @@ module _ {P : Registers → Type 0} (k : KeepsWrites P) where
   system_kept length (system.ChangeProcessorState o) r h = moves_on_and_kept _ length r tt h
   system_kept length (system.MoveToSpecial o) r h = moves_on_and_kept _ length r tt h
   system_kept length (system.MoveFromSpecial o) r h = moves_on_and_kept _ length r tt h
-  system_kept length (system.Hint hint) r h = moves_on_and_kept _ length r (hint_ends hint (moves_on length r).registers) h
+  system_kept length (system.Hint hint) r h =
+      moves_on_and_kept _ length r (hint_ends hint (moves_on length r).registers) h
   system_kept length (system.SupervisorCall number) r h = record { kept = h; ending = tt }
   system_kept length (system.Breakpoint number) r h = record { kept = h; ending = tt }
 
-  effect_kept : (length : InstructionLength) (i : Instruction) (r : Registers) (values : List ℕ) → P r → Leaves P (effect length i r values)
+  effect_kept : (length : InstructionLength) (i : Instruction) (r : Registers) (values : List ℕ) → P r →
+      Leaves P (effect length i r values)
   unfolding effect
   effect_kept length (family.DataProcessing i) r values h = data_kept length i r h
   effect_kept length (family.LoadStore i) r values h = load_store_kept length i r values h

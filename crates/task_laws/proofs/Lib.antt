@@ -3,6 +3,7 @@ mod Memories
 mod Priorities
 pub mod Instructions
 mod Accesses
+mod Unprivileged
 mod Tasks
 mod Requests
 mod Steps

@@ -1,6 +1,13 @@
--- The phases of an Instruction step of a task, in two states that look the same to it, from the last one up.
-use Rattle.std.proofs.Common.{◌≡◌, ℕ, ◌%◌, Bool, true, false, List, [], ◌++◌, Option, Some, None}
-use Rattle.std.proofs.Common.{Result, Ok, Err, refl, sym, ap, subst, ◌∙◌, arith, if◌then◌else◌}
+-- The phases of an Instruction step of a task, from two states that differ only in memory, where the memories look the
+-- same to it. Each phase has one lemma: from `Ready` before it to `SameStep` at the end of the step.
+--
+-- - The lemmas follow `reference`'s Step from its last phase up: faults, the end of an instruction, its accesses, the
+--   decoded instruction, the fetches, the step.
+-- - The two runs choose alike at each test, since no test reads memory: `both` goes into both branches.
+-- - What an access or a list of them returns is equal but for memory (`perform_alike`, `all_alike`): the second result is
+--   replaced by the first with another memory, and the rest of the step goes on from there.
+use Rattle.std.proofs.Common.{◌≡◌, ℕ, ◌%◌, Bool, true, List, [], ◌++◌, Option, Some, None, Result, Ok, Err, refl, sym}
+use Rattle.std.proofs.Common.{ap, subst, ◌∙◌, arith}
 use Rattle.reference.specs.declared.access.Request.{Request}
 use Rattle.reference.specs.declared.event.Event.{Event}
 use Rattle.reference.specs.declared.exception.Escalation.{Escalation}
@@ -16,92 +23,39 @@ use Rattle.reference.specs.declared.instruction.Decoded.{Decoded}
 use Rattle.reference.specs.declared.instruction.Decoded.TheVariants as decoded
 use Rattle.reference.specs.declared.instruction.Ending.{Ending}
 use Rattle.reference.specs.declared.instruction.Ending.TheVariants as ending
-use Rattle.reference.specs.declared.instruction.InstructionLength.TheVariants.{Short, Long}
 use Rattle.reference.specs.declared.instruction.InstructionLength.{InstructionLength}
-use Rattle.reference.specs.declared.operands.ChangeProcessorState.{ChangeProcessorState}
-use Rattle.reference.specs.declared.operands.SpecialRegister.{SpecialRegister}
-use Rattle.reference.specs.declared.operands.SpecialRegister.TheVariants.{Apsr, Iapsr, Eapsr, Xpsr}
-use Rattle.reference.specs.declared.stop.LeftOut.TheVariants.{ClockEnd}
-use Rattle.reference.specs.declared.stop.Stop.{Stop}
-use Rattle.reference.specs.declared.stop.Stop.TheVariants as stop
+use Rattle.reference.specs.declared.instruction.InstructionLength.TheVariants.{Short, Long}
 use Rattle.reference.specs.Accesses.{AccessResult, ListResult, perform, perform_all, access_lines, value_of}
 use Rattle.reference.specs.Arithmetic.{condition_passed}
 use Rattle.reference.specs.Decoding.{is_long}
-use Rattle.reference.specs.Faults.{fault_of, usage_fault_of, recorded, with_status, pended, escalated, faulted}
-use Rattle.reference.specs.Faults.{failed}
+use Rattle.reference.specs.Faults.{fault_of, usage_fault_of, recorded, with_status, pended, escalated, faulted, failed}
 use Rattle.reference.specs.Faults.{supervisor_called_by, supervisor_called}
 use Rattle.reference.specs.Memory.{Memory}
 use Rattle.reference.specs.Operations.{result_of}
-use Rattle.reference.specs.Priorities.{Nvic, candidate, is_below_zero}
+use Rattle.reference.specs.Priorities.{Nvic, is_below_zero}
 use Rattle.reference.specs.ProgramCounter.{Finished, moves_on}
 use Rattle.reference.specs.Regions.{Mpu, IsSound}
-use Rattle.reference.specs.Registers.{Registers, is_privileged}
-use Rattle.reference.specs.SpecialRegisters.{is_open, with_special, write_special, write_mask, change_state}
-use Rattle.reference.specs.State.{Bus, State, Stepped, ticked, with_bus, with_system, with_registers, with_exceptions, stopped}
+use Rattle.reference.specs.Registers.{Registers}
+use Rattle.reference.specs.SpecialRegisters.{write_special}
+use Rattle.reference.specs.State.{Bus, State, Stepped, ticked, with_bus, with_system, with_registers, with_exceptions}
 use Rattle.reference.specs.Status.{Status}
-use Rattle.reference.specs.Step.{goes_on, ended, finished, served, performed_all, planned, without_meaning, executed, fetching}
-use Rattle.reference.specs.Step.{fetched_second, with_second, fetched_first, instruction, sleeps_on, phase}
-use Rattle.reference.specs.Step.{unless_stopped, step, traps}
+use Rattle.reference.specs.Step.{ended, finished, served, performed_all, planned, without_meaning, executed, fetching}
+use Rattle.reference.specs.Step.{fetched_second, with_second, fetched_first, instruction, step, traps}
 use Rattle.reference.specs.System.{System}
 use Rattle.reference.specs.Words.{word_sum}
-use Rattle.task_laws.specs.TaskLaw.{IsOfTask, AreOfTask, AskOfTask}
-use Rattle.task_laws.proofs.Tasks.{IsUnprivileged, writes_kept, never, unprivileged_is}
-use Rattle.task_laws.proofs.Instructions.{IsInstruction}
-use Rattle.task_laws.specs.Sight.{with_memory}
-use Rattle.task_laws.proofs.Memories.{both}
-use Rattle.state_laws.proofs.Nvic.{either}
-use Rattle.task_laws.proofs.Priorities.{Decides, pending_alike, tick_decides}
-use Rattle.task_laws.proofs.Accesses.{Alike, SameResult, SameList, result_with, list_with, with_memory_of, perform_alike, all_alike}
-use Rattle.task_laws.proofs.Requests.{wants_asked, fetch_of}
 use Rattle.state_laws.proofs.Effects.{IsEndIn, Leaves, register_kept, moves_on_kept, result_kept}
+use Rattle.task_laws.specs.Sight.{with_memory}
+use Rattle.task_laws.specs.TaskLaw.{IsOfTask, AreOfTask, AskOfTask}
+use Rattle.task_laws.proofs.Accesses.{Alike, SameResult, SameList, result_with, list_with, with_memory_of}
+use Rattle.task_laws.proofs.Accesses.{perform_alike, all_alike}
+use Rattle.task_laws.proofs.Instructions.{IsInstruction, awoken, step_is}
+use Rattle.task_laws.proofs.Memories.{both}
+use Rattle.task_laws.proofs.Priorities.{Decides, pending_alike, tick_decides}
+use Rattle.task_laws.proofs.Requests.{wants_asked, fetch_of}
+use Rattle.task_laws.proofs.Unprivileged.{IsUnprivileged, writes_kept, not_handler, unprivileged_is, special_kept}
+use Rattle.task_laws.proofs.Unprivileged.{mask_kept, state_kept}
 
--- ---- what an instruction does to the special registers
-
-open_kept : (r : Registers) (special : SpecialRegister) (value : ℕ) → is_open special ≡ true → IsUnprivileged r →
-    IsUnprivileged (with_special r special value)
-unfolding with_special
-open_kept r Apsr value e h = record { thread = h.thread; unprivileged = h.unprivileged }
-open_kept r Iapsr value e h = record { thread = h.thread; unprivileged = h.unprivileged }
-open_kept r Eapsr value e h = record { thread = h.thread; unprivileged = h.unprivileged }
-open_kept r Xpsr value e h = record { thread = h.thread; unprivileged = h.unprivileged }
-open_kept r special value e h = absurd cc
-
-special_kept : (r : Registers) (special : SpecialRegister) (value : ℕ) → IsUnprivileged r →
-    IsUnprivileged (write_special r special value)
-unfolding write_special
-special_kept r special value h =
-    rw (unprivileged_is r h)
-    (either IsUnprivileged (is_open special) _ _ (λ e. open_kept r special value e h) (λ e. h))
-
-mask_kept : (r : Registers) (n : Nvic) (special : SpecialRegister) (value : ℕ) → IsUnprivileged r →
-    write_mask (is_privileged r) n special value ≡ n
-unfolding write_mask
-mask_kept r n special value h = rw (unprivileged_is r h) refl
-
-state_kept : (r : Registers) (n : Nvic) (o : ChangeProcessorState) → IsUnprivileged r → change_state (is_privileged r) n o ≡ n
-unfolding change_state
-state_kept r n o h = rw (unprivileged_is r h) refl
-
--- ---- an Instruction step
-
-awoken : State → State
-awoken s = record (ticked s) { asleep = false }
-
-phase_is : (s : State) → sleeps_on s ≡ false → phase s None None ≡ instruction (record s { asleep = false })
-unfolding phase
-phase_is s e = ap (λ (b : Bool). if b then goes_on s [] else instruction (record s { asleep = false })) e
-
--- an Instruction step is `instruction` after the tick
-step_is : (s : State) → IsInstruction s → step s ≡ instruction (awoken s)
-unfolding step awoken
-step_is s i =
-    ap (λ (why : Option Stop). unless_stopped s why) i.running
-    ∙ ap (λ (b : Bool). if b then stopped s [] (stop.OutOfProfile ClockEnd) else phase (ticked s) s.entry (candidate (ticked s).bus.system.nvic)) i.early
-    ∙ ap (λ (e : Option ℕ). phase (ticked s) e (candidate (ticked s).bus.system.nvic)) i.outside
-    ∙ ap (λ (x : Option ℕ). phase (ticked s) None x) i.unpreempted
-    ∙ phase_is (ticked s) i.awake
-
--- it is one in the other state too
+-- the next step is an Instruction step whatever memory holds
 pub instruction_there : (s : State) (k : Memory) → IsInstruction s → IsInstruction (with_memory s k)
 instruction_there s k i = record {
   running = i.running;
@@ -111,98 +65,88 @@ instruction_there s k i = record {
   awake = i.awake;
 }
 
-there_is : (s : State) (k : Memory) → awoken (with_memory s k) ≡ with_memory (awoken s) k
-unfolding awoken
-there_is s k = refl
-
-even_there : (s : State) → s.registers.pc % 2 ≡ 0 → (awoken s).registers.pc % 2 ≡ 0
-unfolding awoken
-even_there s e = e
-
--- ---- what each phase takes and leaves
-
 -- the end of a step with another memory
-abbrev pub step_with : Stepped → Memory → Stepped
+abbrev step_with : Stepped → Memory → Stepped
 step_with p k = record p { state = with_memory p.state k }
+
+-- the rest of a step after the fetch of the first halfword, and of the second one
+abbrev rest_of_first : Request → State → AccessResult → Stepped
+rest_of_first q s a =
+    fetched_first (with_bus s a.bus) ([] ++ access_lines s.bus.system.time.ticks q a.performed) (value_of q a.performed)
 
 abbrev rest_of_second : List Event → ℕ → Request → State → AccessResult → Stepped
 rest_of_second events hw1 q s a =
     fetched_second (with_bus s a.bus) (events ++ access_lines s.bus.system.time.ticks q a.performed) hw1
     (value_of q a.performed)
 
-abbrev rest_of_first : Request → State → AccessResult → Stepped
-rest_of_first q s a =
-    fetched_first (with_bus s a.bus) ([] ++ access_lines s.bus.system.time.ticks q a.performed) (value_of q a.performed)
-
+-- m and z are what the decision depends on, and `old` is the memory before the step
 module _ (m : Mpu) (z : Bool) (old : Memory) where
-  -- of a bus, the registers and the entry phase of a state, and of another memory: the MPU's registers are sound, the code
-  -- is unprivileged in Thread mode, outside the entry phase, and the memories look the same to it
-  pub record Inside (b : Bus) (r : Registers) (entry : Option ℕ) (k : Memory)
-      : Type 0 where
+  -- ---- what each phase takes and leaves
+
+  -- a bus, registers and an entry phase in which unprivileged code runs, and the memory k, which looks the same to it
+  pub record Inside (b : Bus) (r : Registers) (entry : Option ℕ) (k : Memory) : Type 0 where
     pub sound : IsSound m
     pub alike : Alike m z old b k
     pub thread : IsUnprivileged r
     pub outside : entry ≡ None
 
-  -- it holds of a state
+  -- a state that has them
   abbrev pub Ready : State → Memory → Type 0
   Ready s k = Inside s.bus s.registers s.entry k
 
-  -- the ends of two steps
+  -- the ends of the two steps: they differ only in memory, and the first state is ready again
   pub record SameStep (one two : Stepped) : Type 0 where
     pub rest : two ≡ step_with one two.state.bus.memory
     pub ready : Ready one.state two.state.bus.memory
 
-  with_new_registers : (s : State) (k : Memory) (r : Registers) → IsUnprivileged r →
-      Ready s k → Ready (with_registers s r) k
+  -- a state that is ready stays so with other registers, another bus, ..
+  with_new_registers : (s : State) (k : Memory) (r : Registers) → IsUnprivileged r → Ready s k →
+      Ready (with_registers s r) k
   with_new_registers s k new thread r =
       record { sound = r.sound; alike = r.alike; thread = thread; outside = r.outside }
 
-  with_new_bus : (s : State) (k new : Memory) (b : Bus) → Alike m z old b new →
-      Ready s k → Ready (with_bus s b) new
+  with_new_bus : (s : State) (k new : Memory) (b : Bus) → Alike m z old b new → Ready s k → Ready (with_bus s b) new
   with_new_bus s k new b alike r =
       record { sound = r.sound; alike = alike; thread = r.thread; outside = r.outside }
 
-  with_new_system : (s : State) (k : Memory) (y : System) → Decides m z y →
-      Ready s k → Ready (with_system s y) k
+  with_new_system : (s : State) (k : Memory) (y : System) → Decides m z y → Ready s k → Ready (with_system s y) k
   with_new_system s k y decides r =
       with_new_bus s k k (with_system s y).bus
       (record { looks = r.alike.looks; kept = r.alike.kept; decides = decides }) r
 
-  with_new_status : (s : State) (k : Memory) (status : Status) → Ready s k →
-      Ready (with_status s status) k
+  -- the fault status isn't what the decision depends on
+  with_new_status : (s : State) (k : Memory) (status : Status) → Ready s k → Ready (with_status s status) k
   with_new_status s k status r =
       with_new_system s k (with_status s status).bus.system
       (record { mpu = r.alike.decides.mpu; below_zero = r.alike.decides.below_zero }) r
 
-  with_new_nvic : (s : State) (k : Memory) (n : Nvic) →
-      is_below_zero n ≡ is_below_zero s.bus.system.nvic → Ready s k → Ready (with_exceptions s n) k
+  with_new_nvic : (s : State) (k : Memory) (n : Nvic) → is_below_zero n ≡ is_below_zero s.bus.system.nvic → Ready s k →
+      Ready (with_exceptions s n) k
   with_new_nvic s k n e r =
       with_new_system s k (with_exceptions s n).bus.system
       (record { mpu = r.alike.decides.mpu; below_zero = e ∙ r.alike.decides.below_zero }) r
 
   -- ---- faults
 
-  pended_ready : (s : State) (k : Memory) (x : ℕ) → Ready s k →
-      Ready (pended s x) k
+  -- an exception becomes pending
+  pended_ready : (s : State) (k : Memory) (x : ℕ) → Ready s k → Ready (pended s x) k
   pended_ready s k x r = with_new_nvic s k _ (pending_alike s.bus.system.nvic x true) r
 
-  escalated_alike : (s : State) (k : Memory) (events : List Event) (x : ℕ)
-      (e : Escalation) → Ready s k →
+  escalated_alike : (s : State) (k : Memory) (events : List Event) (x : ℕ) (e : Escalation) → Ready s k →
       SameStep (escalated s events x e) (escalated (with_memory s k) events x e)
   escalated_alike s k events x Itself r = record { rest = refl; ready = pended_ready s k x r }
   escalated_alike s k events x HardFault r =
       record { rest = refl; ready = pended_ready (with_status s _) k HARD_FAULT (with_new_status s k _ r) }
   escalated_alike s k events x Lockup r = record { rest = refl; ready = r }
 
-  faulted_alike : (s : State) (k : Memory) (events : List Event) (f : FaultEffect) →
-      Ready s k → SameStep (faulted s events f) (faulted (with_memory s k) events f)
+  faulted_alike : (s : State) (k : Memory) (events : List Event) (f : FaultEffect) → Ready s k →
+      SameStep (faulted s events f) (faulted (with_memory s k) events f)
   unfolding faulted
   faulted_alike s k events f r =
       escalated_alike (recorded s f) k events f.exception _ (with_new_status s k _ r)
 
-  failed_alike : (s : State) (k : Memory) (events : List Event) (why : Failure) →
-      Ready s k → SameStep (failed s events why) (failed (with_memory s k) events why)
+  failed_alike : (s : State) (k : Memory) (events : List Event) (why : Failure) → Ready s k →
+      SameStep (failed s events why) (failed (with_memory s k) events why)
   failed_alike s k events (failure.Refused access cause) r =
       faulted_alike s k events (fault_of access cause) r
   failed_alike s k events (failure.Usage fault) r = faulted_alike s k events (usage_fault_of fault) r
@@ -210,8 +154,7 @@ module _ (m : Mpu) (z : Bool) (old : Memory) where
 
   -- ---- the end of an instruction
 
-  called_alike : (s : State) (k : Memory) (events : List Event) (e : Escalation) →
-      Ready s k →
+  called_alike : (s : State) (k : Memory) (events : List Event) (e : Escalation) → Ready s k →
       SameStep (supervisor_called_by s events e) (supervisor_called_by (with_memory s k) events e)
   called_alike s k events Itself r = record {
     rest = refl;
@@ -222,13 +165,12 @@ module _ (m : Mpu) (z : Bool) (old : Memory) where
   called_alike s k events HardFault r = escalated_alike s k events SV_CALL HardFault r
   called_alike s k events Lockup r = escalated_alike s k events SV_CALL Lockup r
 
-  supervisor_alike : (s : State) (k : Memory) (events : List Event) →
-      Ready s k → SameStep (supervisor_called s events) (supervisor_called (with_memory s k) events)
+  supervisor_alike : (s : State) (k : Memory) (events : List Event) → Ready s k →
+      SameStep (supervisor_called s events) (supervisor_called (with_memory s k) events)
   unfolding supervisor_called
   supervisor_alike s k events r = called_alike s k events _ r
 
-  ended_alike : (s : State) (k : Memory) (events : List Event) (end : Ending) →
-      IsEndIn s.registers end → Ready s k →
+  ended_alike : (s : State) (k : Memory) (events : List Event) (end : Ending) → IsEndIn s.registers end → Ready s k →
       SameStep (ended s events end) (ended (with_memory s k) events end)
   ended_alike s k events ending.Next e r = record { rest = refl; ready = r }
   ended_alike s k events (ending.ReadSpecial o) e r = record {
@@ -250,19 +192,18 @@ module _ (m : Mpu) (z : Bool) (old : Memory) where
   ended_alike s k events ending.Sleep e r = record { rest = refl; ready = r }
   ended_alike s k events (ending.SupervisorCall number) e r = supervisor_alike s k events r
   ended_alike s k events (ending.Breakpoint number) e r = record { rest = refl; ready = r }
-  ended_alike s k events (ending.ExceptionReturn value) e r = absurd (never s.registers e r.thread)
+  ended_alike s k events (ending.ExceptionReturn value) e r = absurd (not_handler s.registers r.thread e)
 
-  finished_alike : (s : State) (k : Memory) (events : List Event) (f : Finished) →
-      Leaves IsUnprivileged f → Ready s k → SameStep (finished s events f) (finished (with_memory s k) events f)
+  finished_alike : (s : State) (k : Memory) (events : List Event) (f : Finished) → Leaves IsUnprivileged f → Ready s k →
+      SameStep (finished s events f) (finished (with_memory s k) events f)
   finished_alike s k events f leaves r =
       ended_alike (with_registers s f.registers) k events f.ending leaves.ending
       (with_new_registers s k f.registers leaves.kept r)
 
   -- ---- its accesses
 
-  served_alike : (s : State) (k new : Memory) (events : List Event)
-      (i : CodedInstruction) (all : ListResult) (end : Option Failure) → Ready s k →
-      Alike m z old all.bus new →
+  served_alike : (s : State) (k new : Memory) (events : List Event) (i : CodedInstruction) (all : ListResult)
+      (end : Option Failure) → Ready s k → Alike m z old all.bus new →
       SameStep (served s events i all end) (served (with_memory s k) events i (list_with all new) end)
   served_alike s k new events i all None r alike =
       finished_alike (with_bus s all.bus) new (events ++ all.events) (result_of i s.registers all.values)
@@ -271,9 +212,8 @@ module _ (m : Mpu) (z : Bool) (old : Memory) where
       failed_alike (with_bus s all.bus) new (events ++ all.events) why
       (with_new_bus s k new all.bus alike r)
 
-  performed_alike : (s : State) (k : Memory) (events : List Event)
-      (i : CodedInstruction) (qs : List Request) → AreOfTask qs → Ready s k →
-      SameStep (performed_all s events i qs) (performed_all (with_memory s k) events i qs)
+  performed_alike : (s : State) (k : Memory) (events : List Event) (i : CodedInstruction) (qs : List Request) →
+      AreOfTask qs → Ready s k → SameStep (performed_all s events i qs) (performed_all (with_memory s k) events i qs)
   unfolding performed_all
   performed_alike s k events i qs of r =
       let x = s.registers.exception in
@@ -286,28 +226,27 @@ module _ (m : Mpu) (z : Bool) (old : Memory) where
       (served (with_memory s k) events i all all.failure))
       (sym both.rest) (served_alike s k two.bus.memory events i one one.failure r both.alike)
 
-  planned_alike : (s : State) (k : Memory) (events : List Event)
-      (i : CodedInstruction) (asked : Result (List Request) Failure) → AskOfTask asked → Ready s k →
+  planned_alike : (s : State) (k : Memory) (events : List Event) (i : CodedInstruction)
+      (asked : Result (List Request) Failure) → AskOfTask asked → Ready s k →
       SameStep (planned s events i asked) (planned (with_memory s k) events i asked)
   planned_alike s k events i (Ok qs) of r = performed_alike s k events i qs of r
   planned_alike s k events i (Err why) of r = failed_alike s k events why r
 
   -- ---- the decoded instruction
 
-  meaningless_alike : (s : State) (k : Memory) (events : List Event)
-      (length : InstructionLength) (fault : UsageFault) → Ready s k →
-      SameStep (without_meaning s events length fault) (without_meaning (with_memory s k) events length fault)
+  meaningless_alike : (s : State) (k : Memory) (events : List Event) (length : InstructionLength) (fault : UsageFault) →
+      Ready s k → SameStep (without_meaning s events length fault)
+      (without_meaning (with_memory s k) events length fault)
   meaningless_alike s k events length fault r =
-      both (SameStep) (condition_passed s.registers.it_state s.registers.flags) _ _ _ _
+      both SameStep (condition_passed s.registers.it_state s.registers.flags) _ _ _ _
       (λ passed. failed_alike s k events (failure.Usage fault) r)
       (λ skipped. finished_alike s k events (moves_on length s.registers)
       (moves_on_kept writes_kept length s.registers r.thread) r)
 
-  executed_alike : (s : State) (k : Memory) (events : List Event)
-      (length : InstructionLength) (d : Decoded) → Ready s k →
-      SameStep (executed s events length d) (executed (with_memory s k) events length d)
+  executed_alike : (s : State) (k : Memory) (events : List Event) (length : InstructionLength) (d : Decoded) →
+      Ready s k → SameStep (executed s events length d) (executed (with_memory s k) events length d)
   executed_alike s k events length (decoded.Instr i) r =
-      planned_alike s k events i _ (wants_asked (traps s) i s.registers (unprivileged_is s.registers r.thread)) r
+      planned_alike s k events i _ (wants_asked s.registers (unprivileged_is s.registers r.thread) (traps s) i) r
   executed_alike s k events length decoded.Undefined r =
       meaningless_alike s k events length UndefinedInstruction r
   executed_alike s k events length decoded.NoCoprocessor r =
@@ -316,10 +255,9 @@ module _ (m : Mpu) (z : Bool) (old : Memory) where
 
   -- ---- the fetches
 
-  -- the rest of a step after an access
-  after_access : (s : State) (k : Memory) (q : Request)
-      (rest : State → AccessResult → Stepped) → IsOfTask q → Ready s k →
-      ((one : AccessResult) (new : Memory) → Ready (with_bus s one.bus) new →
+  -- an access, and the rest of the step after it
+  after_access : (s : State) (k : Memory) (q : Request) (rest : State → AccessResult → Stepped) → IsOfTask q →
+      Ready s k → ((one : AccessResult) (new : Memory) → Ready (with_bus s one.bus) new →
       SameStep (rest s one) (rest (with_memory s k) (result_with one new))) →
       SameStep (rest s (perform s.registers.exception s.bus q))
       (rest (with_memory s k) (perform s.registers.exception (with_memory_of s.bus k) q))
@@ -331,52 +269,51 @@ module _ (m : Mpu) (z : Bool) (old : Memory) where
       subst (λ (a : AccessResult). SameStep (rest s one) (rest (with_memory s k) a)) (sym both.rest)
       (others one two.bus.memory (with_new_bus s k two.bus.memory one.bus both.alike r))
 
-  second_alike : (s : State) (k : Memory) (events : List Event) (hw1 : ℕ)
-      (answer : Result ℕ Failure) → Ready s k →
+  second_alike : (s : State) (k : Memory) (events : List Event) (hw1 : ℕ) (answer : Result ℕ Failure) → Ready s k →
       SameStep (fetched_second s events hw1 answer) (fetched_second (with_memory s k) events hw1 answer)
   second_alike s k events hw1 (Ok hw2) r = executed_alike s k events Long _ r
   second_alike s k events hw1 (Err why) r = failed_alike s k events why r
 
-  with_second_alike : (s : State) (k : Memory) (events : List Event) (hw1 : ℕ) →
-      s.registers.pc % 2 ≡ 0 → Ready s k →
+  with_second_alike : (s : State) (k : Memory) (events : List Event) (hw1 : ℕ) → s.registers.pc % 2 ≡ 0 → Ready s k →
       SameStep (with_second s events hw1) (with_second (with_memory s k) events hw1)
   unfolding with_second
   with_second_alike s k events hw1 even r =
       let q = fetching s.registers (word_sum s.registers.pc 2) in
       let next : word_sum s.registers.pc 2 % 2 ≡ 0 = omega arith in
-      both (SameStep) (is_long hw1) _ _ _ _
-      (λ long. after_access s k q (rest_of_second events hw1 q) (fetch_of s.registers _ (unprivileged_is s.registers r.thread) next) r
+      both SameStep (is_long hw1) _ _ _ _
+      (λ long. after_access s k q (rest_of_second events hw1 q)
+      (fetch_of s.registers (unprivileged_is s.registers r.thread) _ next) r
       (λ one new ready. second_alike (with_bus s one.bus) new
       (events ++ access_lines s.bus.system.time.ticks q one.performed) hw1 (value_of q one.performed) ready))
       (λ short. executed_alike s k events Short _ r)
 
-  first_alike : (s : State) (k : Memory) (events : List Event)
-      (answer : Result ℕ Failure) → s.registers.pc % 2 ≡ 0 → Ready s k →
-      SameStep (fetched_first s events answer) (fetched_first (with_memory s k) events answer)
+  first_alike : (s : State) (k : Memory) (events : List Event) (answer : Result ℕ Failure) → s.registers.pc % 2 ≡ 0 →
+      Ready s k → SameStep (fetched_first s events answer) (fetched_first (with_memory s k) events answer)
   first_alike s k events (Ok hw1) even r = with_second_alike s k events hw1 even r
   first_alike s k events (Err why) even r = failed_alike s k events why r
 
-  instruction_alike : (s : State) (k : Memory) → s.registers.pc % 2 ≡ 0 →
-      Ready s k → SameStep (instruction s) (instruction (with_memory s k))
+  instruction_alike : (s : State) (k : Memory) → s.registers.pc % 2 ≡ 0 → Ready s k →
+      SameStep (instruction s) (instruction (with_memory s k))
   unfolding instruction
   instruction_alike s k even r =
       let q = fetching s.registers s.registers.pc in
-      both (SameStep) s.registers.thumb _ _ _ _
-      (λ thumb. after_access s k q (rest_of_first q) (fetch_of s.registers _ (unprivileged_is s.registers r.thread) even) r
+      both SameStep s.registers.thumb _ _ _ _
+      (λ thumb. after_access s k q (rest_of_first q)
+      (fetch_of s.registers (unprivileged_is s.registers r.thread) _ even) r
       (λ one new ready. first_alike (with_bus s one.bus) new
       ([] ++ access_lines s.bus.system.time.ticks q one.performed) (value_of q one.performed) even ready))
       (λ arm. failed_alike s k [] (failure.Usage InvalidState) r)
 
   -- ---- the step
 
-  awoken_ready : (s : State) (k : Memory) → Ready s k →
-      Ready (awoken s) k
-  unfolding awoken
+  -- the tick, and the wake-up
+  awoken_ready : (s : State) (k : Memory) → Ready s k → Ready (awoken s) k
   awoken_ready s k r =
       with_new_system s k (ticked s).bus.system (tick_decides m z s.bus.system r.alike.decides) r
 
-  pub step_alike : (s : State) (k : Memory) → s.registers.pc % 2 ≡ 0 →
-      IsInstruction s → Ready s k → SameStep (step s) (step (with_memory s k))
+  -- an Instruction step
+  pub step_alike : (s : State) (k : Memory) → s.registers.pc % 2 ≡ 0 → IsInstruction s → Ready s k →
+      SameStep (step s) (step (with_memory s k))
   step_alike s k even i r =
-      rw (step_is s i, step_is (with_memory s k) (instruction_there s k i), there_is s k)
-      (instruction_alike (awoken s) k (even_there s even) (awoken_ready s k r))
+      rw (step_is s i, step_is (with_memory s k) (instruction_there s k i))
+      (instruction_alike (awoken s) k even (awoken_ready s k r))

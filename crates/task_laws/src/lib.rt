@@ -9,7 +9,7 @@ ghost use Rattle.std.specs.Prelude.{ℕ};
 ghost use Rattle.reference.specs.declared.access.Request.{Request};
 ghost use Rattle.reference.specs.Registers.{Registers};
 ghost use Rattle.reference.specs.State.{State};
-ghost use Rattle.task_laws.specs.TaskLaw.{AccessLaw, EndsAlike, RequestsLaw, RunLaw, StepLaw};
+ghost use Rattle.task_laws.specs.TaskLaw.{AccessLaw, EndsAlike, RequestsLaw, RunLaw, StepLaw, UnprivilegedRunLaw};
 ghost use Rattle.task_laws.specs.declared.task.TaskEnd.{TaskEnd as End};
 
 pub use foresight::StepKind;
@@ -33,9 +33,11 @@ pub fn step_of_a_task()
 
 /// As long as each step of a task is an Instruction step, so is each step from any state that looks the
 /// same to it. The events are the same, and the states look the same after them. In each run no byte that
-/// the task may not store differs from before.
+/// the task may not store differs from before. Likewise for unprivileged code in Thread mode, outside the
+/// entry phase, whether or not the regions decide.
 pub fn tasks_are_kept_apart()
-    ensures { (s t : State) (n : ℕ) → RunLaw s t n }
+    ensures task { (s t : State) (n : ℕ) → RunLaw s t n }
+    ensures unprivileged { (s t : State) (n : ℕ) → UnprivilegedRunLaw s t n }
 {}
 
 /// A run of a task ends alike from two states that look the same to the task: after as many steps, for
