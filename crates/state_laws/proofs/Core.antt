@@ -37,8 +37,8 @@ use Rattle.state_laws.proofs.Effects.{result_kept}
 use Rattle.state_laws.proofs.Frames.{Has, LeavesGood, failed_kept, supervisor_kept, entry_kept, vector_step_kept}
 use Rattle.state_laws.proofs.Frames.{return_kept}
 use Rattle.state_laws.proofs.Nvic.{either}
-use Rattle.state_laws.proofs.Registers.{stack_pointer_is, code_address_is, zeros_are_words, Leaves, alike, with_flags}
-use Rattle.state_laws.proofs.Registers.{msp_kept, psp_kept, register_kept, moves_on_kept}
+use Rattle.state_laws.proofs.Registers.{zeros_are_words, alike, with_flags, msp_kept, psp_kept, writes_kept}
+use Rattle.state_laws.proofs.Effects.{Leaves, stack_pointer_is, code_address_is, register_kept, moves_on_kept}
 
 -- ---- the end of an instruction
 
@@ -69,7 +69,7 @@ write_special_kept r special value h =
 ended_kept : (s : State) (events : List Event) (end : Ending) → Has s → LeavesGood (ended s events end)
 ended_kept s events ending.Next h = h
 ended_kept s events (ending.ReadSpecial o) h =
-    register_kept s.registers o.destination (read_special s.registers s.bus.system.nvic.masks o.special) h
+    register_kept writes_kept s.registers o.destination (read_special s.registers s.bus.system.nvic.masks o.special) h
 ended_kept s events (ending.WriteSpecial special value) h = write_special_kept s.registers special value h
 ended_kept s events (ending.ChangeState o) h = h
 ended_kept s events ending.Sleep h = h
@@ -77,8 +77,9 @@ ended_kept s events (ending.SupervisorCall number) h = supervisor_kept s events 
 ended_kept s events (ending.Breakpoint number) h = h
 ended_kept s events (ending.ExceptionReturn value) h = return_kept s events value h
 
-finished_kept : (s : State) (events : List Event) (f : Finished) → Leaves f → LeavesGood (finished s events f)
-finished_kept s events f h = ended_kept (with_registers s f.registers) events f.ending h
+finished_kept : (s : State) (events : List Event) (f : Finished) → Leaves HasRegisters f →
+    LeavesGood (finished s events f)
+finished_kept s events f h = ended_kept (with_registers s f.registers) events f.ending h.kept
 
 -- ---- its accesses
 
@@ -86,7 +87,7 @@ end_kept : (s : State) (events : List Event) (i : CodedInstruction) (all : ListR
     (end : Option Failure) → Has s → LeavesGood (served s events i all end)
 end_kept s events i all None h =
     finished_kept (with_bus s all.bus) (events ++ all.events) (result_of i s.registers all.values)
-    (result_kept i s.registers all.values h)
+    (result_kept writes_kept i s.registers all.values h)
 end_kept s events i all (Some why) h = failed_kept (with_bus s all.bus) (events ++ all.events) why h
 
 performed_kept : (s : State) (events : List Event) (i : CodedInstruction)
@@ -108,7 +109,7 @@ meaningless_kept : (s : State) (events : List Event) (length : InstructionLength
 meaningless_kept s events length fault h =
     either LeavesGood (condition_passed s.registers.it_state s.registers.flags) _ _
     (λ passed. failed_kept s events (failure.Usage fault) h)
-    (λ skipped. finished_kept s events (moves_on length s.registers) (moves_on_kept length s.registers h))
+    (λ skipped. finished_kept s events (moves_on length s.registers) (moves_on_kept writes_kept length s.registers h))
 
 executed_kept : (s : State) (events : List Event) (length : InstructionLength) (d : Decoded) →
     Has s → LeavesGood (executed s events length d)

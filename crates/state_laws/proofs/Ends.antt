@@ -28,7 +28,8 @@ use Rattle.reference.specs.System.{System, reset_system}
 use Rattle.state_laws.specs.StateLaw.{IfGiven, TickKeeps, AccessKeeps, InstructionKeeps}
 use Rattle.state_laws.proofs.Accesses.{IsWholeBus, carried_whole, perform_whole, served_whole}
 use Rattle.state_laws.proofs.Core.{special_kept, step_kept, reset_has}
-use Rattle.state_laws.proofs.Registers.{register_kept}
+use Rattle.state_laws.proofs.Registers.{writes_kept}
+use Rattle.state_laws.proofs.Effects.{register_kept}
 use Rattle.state_laws.proofs.Effects.{result_kept}
 use Rattle.state_laws.proofs.Entries.{none, step_called}
 use Rattle.state_laws.proofs.Faults.{HasWhole}
@@ -100,7 +101,11 @@ register_placed lines bits s after (answer.Stop why) r out h = tt
 
 taken_placed : (lines bits : ℕ) (s : State) (p : Place) → IsGood lines bits s → IsPlaced lines bits (taken s p)
 taken_placed lines bits s (Reg number value) h =
-    record { registers = register_kept s.registers number value h.registers; entry = h.entry; system = h.system }
+    record {
+      registers = register_kept writes_kept s.registers number value h.registers;
+      entry = h.entry;
+      system = h.system;
+    }
 taken_placed lines bits s (Special number value) h = special_placed lines bits s (special_of number) value h
 taken_placed lines bits s (Word address value) h =
     let a = answered_by_bus s.registers.exception s.bus (store_of address value) in
@@ -205,5 +210,5 @@ access_keeps s q out h =
 pub instruction_keeps : (s : State) (i : CodedInstruction) (requests : List Request) → InstructionKeeps s i requests
 instruction_keeps s i requests out h =
     let all = perform_all s.registers.exception s.bus.system.time.ticks s.bus requests in
-    inside s _ _ out (result_kept i s.registers all.values h.registers)
+    inside s _ _ out (result_kept writes_kept i s.registers all.values h.registers).kept
     (served_whole _ _ s.registers.exception s.bus.system.time.ticks s.bus requests (whole_state s h))

@@ -30,7 +30,8 @@ use Rattle.reference.specs.Registers.{Registers, sp}
 use Rattle.reference.specs.State.{State, Stepped, with_bus, with_system}
 use Rattle.reference.specs.Words.{word_sum, is_bit}
 use Rattle.state_laws.proofs.Nvic.{either}
-use Rattle.state_laws.proofs.Registers.{AreWords, words_set, sp_kept, psp_kept, msp_kept, exchange_kept, moves_on_kept}
+use Rattle.state_laws.proofs.Registers.{AreWords, words_set, psp_kept, msp_kept, writes_kept}
+use Rattle.state_laws.proofs.Effects.{sp_kept, exchange_kept, moves_on_kept}
 
 -- the registers of a state, and those of what a step makes of one
 abbrev pub Has : State → Type 0
@@ -58,7 +59,7 @@ failed_kept s events (failure.Stop why) h = h
 
 called_kept : (s : State) (events : List Event) (e : Escalation) → Has s →
     LeavesGood (supervisor_called_by s events e)
-called_kept s events Itself h = moves_on_kept Short s.registers h
+called_kept s events Itself h = (moves_on_kept writes_kept Short s.registers h).kept
 called_kept s events HardFault h = h
 called_kept s events Lockup h = h
 
@@ -89,7 +90,7 @@ pub entry_kept : (s : State) → Has s → LeavesGood (begin_entry s)
 unfolding begin_entry
 entry_kept s h =
     let all = perform_all s.registers.exception s.bus.system.time.ticks s.bus (pushes s.registers) in
-    stacked_kept (entering s) all all.failure (sp_kept s.registers (frame_base (sp s.registers)) h)
+    stacked_kept (entering s) all all.failure (sp_kept writes_kept s.registers (frame_base (sp s.registers)) h)
 
 handler_kept : (r : Registers) (x e vector : ℕ) → x < EXCEPTIONS → HasRegisters r →
     HasRegisters (in_handler r x e vector)
@@ -100,7 +101,7 @@ handler_kept r x e vector small h = record {
   msp = h.msp;
   psp = h.psp;
   lr = omega arith;
-  pc = (exchange_kept r vector h).pc;
+  pc = (exchange_kept writes_kept r vector h).pc;
   it_state = omega arith;
   exception = omega arith;
 }

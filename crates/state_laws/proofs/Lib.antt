@@ -1,4 +1,4 @@
-mod Nvic
+pub mod Nvic
 mod Sets
 mod Ticks
 mod Systems
@@ -6,10 +6,10 @@ mod Memories
 mod Accesses
 mod Faults
 mod Steps
+pub mod Effects
 mod Registers
-mod Effects
 mod Frames
 mod Core
 mod Candidates
 mod Entries
-mod Ends
+pub mod Ends

@@ -1,28 +1,19 @@
 -- Writes to the core registers keep what holds of them.
 use Rattle.std.proofs.Common.{◌≡◌, ℕ, zero, suc, ◌%◌, ◌^◌, ◌<◌, not, ◌==◌, List, [], ◌∷◌, slice_index, slice_set}
-use Rattle.std.proofs.Common.{replicate, Option, refl, ◌∙◌, arith}
+use Rattle.std.proofs.Common.{replicate, refl, ◌∙◌, arith}
 use Rattle.std.proofs.lemmas.List.{length-set}
 use Rattle.reference.specs.declared.instruction.InstructionLength.TheVariants.{Short, Long}
 use Rattle.reference.specs.declared.instruction.InstructionLength.{InstructionLength}
 use Rattle.reference.specs.declared.registers.Flags.{Flags}
-use Rattle.reference.specs.declared.registers.Marked.{Marked}
 use Rattle.reference.specs.Arithmetic.{in_it_block, it_advance}
 use Rattle.reference.specs.Invariant.{IsStackPointer, IsCodeAddress, HasRegisters}
-use Rattle.reference.specs.ProgramCounter.{Finished, advanced, instruction_bytes, moves_on, branches, branches_by}
-use Rattle.reference.specs.ProgramCounter.{is_exception_return}
-use Rattle.reference.specs.ProgramCounter.{exchanges, loads_into}
-use Rattle.reference.specs.Registers.{Registers, register, uses_psp, stack_pointer, with_sp, code_address, with_pc}
-use Rattle.reference.specs.Registers.{with_exchange, with_register}
-use Rattle.reference.specs.Words.{low_word, word_sum}
+use Rattle.reference.specs.ProgramCounter.{advanced, instruction_bytes}
+use Rattle.reference.specs.Registers.{Registers}
+use Rattle.reference.specs.Words.{word_sum}
 use Rattle.state_laws.proofs.Nvic.{either}
+use Rattle.state_laws.proofs.Effects.{KeepsWrites}
 
 -- ---- values
-
-pub stack_pointer_is : (v : ℕ) → IsStackPointer (stack_pointer v)
-stack_pointer_is v = record { word = omega arith; aligned = omega arith }
-
-pub code_address_is : (v : ℕ) → IsCodeAddress (code_address v)
-code_address_is v = record { word = omega arith; even = omega arith }
 
 -- each number of a list is a word
 abbrev pub AreWords : List ℕ → Type 0
@@ -59,9 +50,6 @@ alike r u general msp psp lr pc it exception h = record {
 
 pub with_flags : (r : Registers) (f : Flags) → HasRegisters r → HasRegisters (record r { flags = f })
 with_flags r f h = alike r _ refl refl refl refl refl refl refl h
-
-pub with_monitor : (r : Registers) (m : Option Marked) → HasRegisters r → HasRegisters (record r { monitor = m })
-with_monitor r m h = alike r _ refl refl refl refl refl refl refl h
 
 -- one of R0 to R12 becomes a word
 pub general_kept : (r : Registers) (n v : ℕ) → v < 2 ^ 32 → HasRegisters r →
@@ -101,12 +89,6 @@ pc_kept r v is h = record {
   exception = h.exception;
 }
 
-pub branch_kept : (r : Registers) (v : ℕ) → HasRegisters r → HasRegisters (with_pc r v)
-branch_kept r v h = pc_kept r (code_address v) (code_address_is v) h
-
-pub exchange_kept : (r : Registers) (v : ℕ) → HasRegisters r → HasRegisters (with_exchange r v)
-exchange_kept r v h = alike (with_pc r v) _ refl refl refl refl refl refl refl (branch_kept r v h)
-
 pub psp_kept : (r : Registers) (v : ℕ) → IsStackPointer v → HasRegisters r → HasRegisters (record r { psp = v })
 psp_kept r v is h = record {
   all = h.all;
@@ -131,18 +113,6 @@ msp_kept r v is h = record {
   exception = h.exception;
 }
 
-pub sp_kept : (r : Registers) (v : ℕ) → HasRegisters r → HasRegisters (with_sp r v)
-sp_kept r v h =
-    either HasRegisters (uses_psp r) _ _ (λ e. psp_kept r (stack_pointer v) (stack_pointer_is v) h)
-    (λ e. msp_kept r (stack_pointer v) (stack_pointer_is v) h)
-
-pub register_kept : (r : Registers) (n v : ℕ) → HasRegisters r → HasRegisters (with_register r n v)
-register_kept r n v h =
-    let word : low_word v < 2 ^ 32 = omega arith in
-    either HasRegisters (n == 13) _ _ (λ e. sp_kept r v h)
-    (λ e. either HasRegisters (n == 14) _ _ (λ f. lr_kept r (low_word v) word h)
-    (λ f. either HasRegisters (n == 15) _ _ (λ g. branch_kept r v h) (λ g. general_kept r n (low_word v) word h)))
-
 -- ---- the end of an instruction
 
 pub with_it : (r : Registers) (it : ℕ) → it < 2 ^ 8 → HasRegisters r → HasRegisters (record r { it_state = it })
@@ -165,34 +135,28 @@ advance_small it small =
 pub advanced_kept : (r : Registers) → HasRegisters r → HasRegisters (advanced r)
 advanced_kept r h = with_it r (it_advance r.it_state) (advance_small r.it_state h.it_state) h
 
--- the registers that an instruction leaves
-abbrev pub Leaves : Finished → Type 0
-Leaves f = HasRegisters f.registers
-
 -- the address after an instruction
 pub next_address : (pc : ℕ) (length : InstructionLength) → IsCodeAddress pc →
     IsCodeAddress (word_sum pc (instruction_bytes length))
 next_address pc Short is = let even = is.even in record { word = omega arith; even = omega arith }
 next_address pc Long is = let even = is.even in record { word = omega arith; even = omega arith }
 
-pub moves_on_kept : (length : InstructionLength) (r : Registers) → HasRegisters r → Leaves (moves_on length r)
-moves_on_kept length r h =
-    pc_kept (advanced r) (word_sum r.pc (instruction_bytes length)) (next_address r.pc length h.pc) (advanced_kept r h)
+pub next_kept : (r : Registers) (length : InstructionLength) → HasRegisters r →
+    HasRegisters (record r { pc = word_sum r.pc (instruction_bytes length) })
+next_kept r length h = pc_kept r (word_sum r.pc (instruction_bytes length)) (next_address r.pc length h.pc) h
 
-pub branches_kept : (r : Registers) → HasRegisters r → Leaves (branches r)
-branches_kept r h = advanced_kept r h
-
-pub branches_by_kept : (offset : ℕ) (r : Registers) → HasRegisters r → Leaves (branches_by offset r)
-branches_by_kept offset r h =
-    branches_kept (with_pc r (word_sum (register r 15) offset)) (branch_kept r (word_sum (register r 15) offset) h)
-
-pub exchanges_kept : (v : ℕ) (r : Registers) → HasRegisters r → Leaves (exchanges v r)
-exchanges_kept v r h =
-    either Leaves (is_exception_return v r) _ _ (λ e. h)
-    (λ e. branches_kept (with_exchange r v) (exchange_kept r v h))
-
-pub loads_into_kept : (length : InstructionLength) (t value : ℕ) (r : Registers) → HasRegisters r →
-    Leaves (loads_into length t value r)
-loads_into_kept length t value r h =
-    either Leaves (t == 15) _ _ (λ e. exchanges_kept value r h)
-    (λ e. moves_on_kept length (with_register r t value) (register_kept r t value h))
+-- each write of a register keeps what the invariant says of them
+pub writes_kept : KeepsWrites HasRegisters
+writes_kept = record {
+  general = general_kept;
+  msp = msp_kept;
+  psp = psp_kept;
+  lr = lr_kept;
+  pc = pc_kept;
+  next = next_kept;
+  flags = with_flags;
+  it_state = with_it;
+  advanced = advanced_kept;
+  thumb = λ r on h. alike r _ refl refl refl refl refl refl refl h;
+  monitor = λ r m h. alike r _ refl refl refl refl refl refl refl h;
+}

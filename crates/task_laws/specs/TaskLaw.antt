@@ -17,7 +17,7 @@ use Rattle.reference.specs.Step.{fetching, step}
 use Rattle.task_laws.specs.declared.task.TaskEnd.{TaskEnd}
 use Rattle.task_laws.specs.Foresight.{is_instruction_next}
 use Rattle.task_laws.specs.Sight.{KeepsDenied, Same}
-use Rattle.task_laws.specs.Tasks.{AreInstructions, Ends, is_task}
+use Rattle.task_laws.specs.Tasks.{AreInstructions, Ends, is_task, runs_unprivileged}
 
 -- ---- one access
 
@@ -88,6 +88,10 @@ pub record RunAlike (n : ℕ) (s t : State) : Type 0 where
 
 abbrev pub RunLaw : State → State → ℕ → Type 0
 RunLaw s t n = Invariant s → is_task s ≡ true → Same s t → AreInstructions n s → RunAlike n s t
+
+-- likewise for all unprivileged code in Thread mode, outside the entry phase, whether or not the regions decide
+abbrev pub UnprivilegedRunLaw : State → State → ℕ → Type 0
+UnprivilegedRunLaw s t n = Invariant s → runs_unprivileged s ≡ true → Same s t → AreInstructions n s → RunAlike n s t
 
 -- ---- a run
 

@@ -1,7 +1,6 @@
 -- A task: code that runs in unprivileged Thread mode while the regions of the MPU decide its accesses (ARM DDI 0403,
 -- "Operating modes", "Privileged and unprivileged execution", "MPU_CTRL"), and how a run of it ends.
-use Rattle.std.specs.Prelude.{◌≡◌, ℕ, ◌<◌, Bool, true, false, not, ◌&&◌, is_some, if◌then◌else◌, Option, Some, None}
-use Rattle.reference.specs.declared.stop.Stop.{Stop}
+use Rattle.std.specs.Prelude.{◌≡◌, ℕ, ◌<◌, Bool, true, false, not, ◌&&◌, is_some, Some, None}
 use Rattle.reference.specs.Priorities.{is_below_zero}
 use Rattle.reference.specs.Regions.{is_on}
 use Rattle.reference.specs.Registers.{is_handler}
@@ -17,10 +16,13 @@ use Rattle.task_laws.specs.Foresight.{is_instruction_next}
 abbrev pub uses_regions : System → Bool
 uses_regions s = is_on s.mpu.control && not (is_off_below_zero s.mpu.control (is_below_zero s.nvic))
 
--- whether a task runs: in unprivileged Thread mode, outside the entry phase, while the regions decide
+-- whether code runs in unprivileged Thread mode, outside the entry phase
+abbrev pub runs_unprivileged : State → Bool
+runs_unprivileged s = not (is_handler s.registers) && s.registers.unprivileged && not (is_some s.entry)
+
+-- whether a task runs: unprivileged code in Thread mode, outside the entry phase, while the regions decide
 abbrev pub is_task : State → Bool
-is_task s =
-    not (is_handler s.registers) && s.registers.unprivileged && not (is_some s.entry) && uses_regions s.bus.system
+is_task s = runs_unprivileged s && uses_regions s.bus.system
 
 -- each of the next n steps is an Instruction step
 abbrev pub AreInstructions : ℕ → State → Type 0

@@ -1,0 +1,245 @@
+-- An access of unprivileged code, and a list of them, from two buses that differ only in memory, where the memories look
+-- the same to it. Each lemma says of what follows: it differs only in memory again, and `Alike` holds.
+use Rattle.std.proofs.Common.{◌≡◌, ◌⊎◌, inl, inr, ℕ, zero, suc, ◌+◌, ◌/◌, Bool, true, false, not, ◌||◌}
+use Rattle.std.proofs.Common.{List, [], ◌∷◌, length, Result, Ok, Err, refl, sym, ap, subst, ◌∙◌}
+use Rattle.reference.specs.declared.access.Answer.{Answer}
+use Rattle.reference.specs.declared.access.Decision.{Decision}
+use Rattle.reference.specs.declared.access.Kind.{Kind}
+use Rattle.reference.specs.declared.access.Kind.TheVariants.{Fetch, Load, Store, Probe}
+use Rattle.reference.specs.declared.access.Request.{Request}
+use Rattle.reference.specs.declared.event.Event.{Event}
+use Rattle.reference.specs.declared.failure.Failure.{Failure}
+use Rattle.reference.specs.Accesses.{BusAnswer, AccessResult, ListResult, answered_by_bus, answered_under, decided, decision}
+use Rattle.reference.specs.Accesses.{lifted}
+use Rattle.reference.specs.Accesses.{access_lines, perform, value_of, followed, perform_all}
+use Rattle.reference.specs.Kinds.{bytes_in, is_probe, is_write}
+use Rattle.reference.specs.Map.{is_in_ppb, is_in_window}
+use Rattle.reference.specs.Memory.{Memory, is_in_ram, bytes_of}
+use Rattle.reference.specs.Regions.{Mpu, IsSound}
+use Rattle.reference.specs.Space.{SpaceAnswer, number_read, written_to, space_access}
+use Rattle.reference.specs.State.{Bus}
+use Rattle.task_laws.specs.Sight.{may, sees, Agree}
+use Rattle.task_laws.specs.TaskLaw.{IsOfTask, AreOfTask}
+use Rattle.task_laws.proofs.Blocks.{decided_alike, one_block}
+use Rattle.task_laws.proofs.Memories.{AllIn, both, number_alike, written_alike, rest_kept, agree_then}
+use Rattle.task_laws.proofs.Priorities.{Decides, system_decides}
+
+-- ---- what a granted access may read and write
+
+-- whether the decision denies unprivileged code a store at an address
+abbrev pub denies : Mpu → Bool → ℕ → Bool
+denies m z a = not (may m z Store a)
+
+-- a kind of access is granted at each byte of a request
+abbrev Granted : Mpu → Bool → Kind → Request → Type 0
+Granted m z kind q = AllIn (may m z kind) q.access.address (bytes_in q.access.size)
+
+-- where it is granted at the address, it is granted at each byte
+granted_in : (m : Mpu) (z : Bool) (kind : Kind) (q : Request) → IsSound m → IsOfTask q →
+    may m z kind q.access.address ≡ true → Granted m z kind q
+granted_in m z kind q sound of granted k below =
+    ap (λ (d : Decision). d.granted)
+    (decided_alike m (q.access.address + k) q.access.address kind false z sound
+    (one_block q.access.address k q.access.size of.aligned below))
+    ∙ granted
+
+-- each byte that a request reads is seen, and each that it writes may be stored
+record IsOpen (m : Mpu) (z : Bool) (q : Request) : Type 0 where
+  reads : is_probe q.access.kind ≡ false → is_write q.access.kind ≡ false →
+      AllIn (sees m z) q.access.address (bytes_in q.access.size)
+  writes : is_write q.access.kind ≡ true → Granted m z Store q
+
+or_right : (p q : Bool) → q ≡ true → (p || q) ≡ true
+or_right true q e = refl
+or_right false q e = e
+
+-- a request that is granted is so
+is_open : (m : Mpu) (z : Bool) (q : Request) → IsSound m → IsOfTask q →
+    may m z q.access.kind q.access.address ≡ true → IsOpen m z q
+is_open m z q sound of granted = split of.kind
+  where
+    no_write : (kind : Kind) → q.access.kind ≡ kind → is_write kind ≡ false → is_write q.access.kind ≡ true →
+        Granted m z Store q
+    no_write kind e reads wrote = absurd (let w : false ≡ true = sym reads ∙ ap is_write (sym e) ∙ wrote in cc)
+
+    at : (kind : Kind) → q.access.kind ≡ kind → Granted m z kind q
+    at kind e = granted_in m z kind q sound of (ap (λ (k : Kind). may m z k q.access.address) (sym e) ∙ granted)
+
+    split : ((q.access.kind ≡ Fetch) ⊎ ((q.access.kind ≡ Load) ⊎ ((q.access.kind ≡ Store) ⊎ (q.access.kind ≡ Probe)))) →
+        IsOpen m z q
+    split (inl e) = record {
+      reads = λ unprobed read k below. or_right (may m z Load (q.access.address + k)) _ (at Fetch e k below);
+      writes = no_write Fetch e refl;
+    }
+    split (inr (inl e)) = record {
+      reads = λ unprobed read k below. rw (at Load e k below) refl;
+      writes = no_write Load e refl;
+    }
+    split (inr (inr (inl e))) = record {
+      reads = λ unprobed read. absurd (let w : true ≡ false = ap is_write (sym e) ∙ read in cc);
+      writes = λ wrote. at Store e;
+    }
+    split (inr (inr (inr e))) = record {
+      reads = λ unprobed. absurd (let w : true ≡ false = ap is_probe (sym e) ∙ unprobed in cc);
+      writes = no_write Probe e refl;
+    }
+
+length-bytes_of : (n v : ℕ) → length (bytes_of n v) ≡ n
+length-bytes_of zero v = refl
+length-bytes_of (suc n) v = ap suc (length-bytes_of n (v / 256))
+
+-- ---- two buses
+
+-- a bus with another memory
+abbrev pub with_memory_of : Bus → Memory → Bus
+with_memory_of b k = record b { memory = k }
+
+-- an answer of them with another memory
+abbrev space_with : SpaceAnswer → Memory → SpaceAnswer
+space_with a k = record a { memory = k }
+
+-- an answer of the bus with another memory
+abbrev answer_with : BusAnswer → Memory → BusAnswer
+answer_with a k = record a { bus = with_memory_of a.bus k }
+
+-- the result of an access with another memory
+abbrev pub result_with : AccessResult → Memory → AccessResult
+result_with a k = record a { bus = with_memory_of a.bus k }
+
+-- the result of a list with another memory
+abbrev pub list_with : ListResult → Memory → ListResult
+list_with all k = record all { bus = with_memory_of all.bus k }
+
+module _ (m : Mpu) (z : Bool) (old : Memory) where
+  -- the memory of a bus looks the same as k, each byte that may not be stored is as in `old`, and m and z are what the
+  -- decision depends on
+  pub record Alike (b : Bus) (k : Memory) : Type 0 where
+    pub looks : Agree (sees m z) b.memory k
+    pub kept : Agree (denies m z) old b.memory
+    pub decides : Decides m z b.system
+
+  -- ---- flash, RAM and the device window
+
+  -- two answers of them
+  record SameSpace (one two : SpaceAnswer) : Type 0 where
+    rest : two ≡ space_with one two.memory
+    looks : Agree (sees m z) one.memory two.memory
+    kept : Agree (denies m z) old one.memory
+
+  write_alike : (b : Bus) (k : Memory) (q : Request) → Alike b k →
+      Granted m z Store q → SameSpace (written_to b.memory q) (written_to k q)
+  write_alike b k q alike granted =
+      let bytes = bytes_of (bytes_in q.access.size) q.value in
+      let long = length-bytes_of (bytes_in q.access.size) q.value in
+      both (SameSpace) (is_in_window q.access.address) _ _ _ _
+      (λ e. record { rest = refl; looks = alike.looks; kept = alike.kept })
+      (λ e. rw alike.looks.ram.size
+      (both (SameSpace) (is_in_ram b.memory q.access.address (bytes_in q.access.size)) _ _ _ _
+      (λ there. record {
+        rest = refl;
+        looks = written_alike (sees m z) b.memory k q.access.address bytes (rw long there) alike.looks;
+        kept =
+            agree_then (denies m z) old b.memory _ alike.kept
+            (rest_kept (may m z Store) b.memory q.access.address bytes (rw long there) (rw long granted));
+      })
+      (λ f. record { rest = refl; looks = alike.looks; kept = alike.kept })))
+
+  space_alike : (b : Bus) (k : Memory) (ticks : ℕ) (q : Request) →
+      Alike b k → IsOpen m z q → is_probe q.access.kind ≡ false →
+      SameSpace (space_access b.memory ticks q) (space_access k ticks q)
+  unfolding space_access
+  space_alike b k ticks q alike opened unprobed =
+      both (SameSpace) (is_write q.access.kind) _ _ _ _ (λ e. write_alike b k q alike (opened.writes e))
+      (λ e. record {
+        rest =
+            ap (λ (a : Answer). record { memory = k; answer = a })
+            (both (λ (one two : Answer). two ≡ one) (is_in_window q.access.address) _ _ _ _ (λ f. refl)
+            (λ f. ap number_read
+            (number_alike (sees m z) b.memory k q.access.address (bytes_in q.access.size) alike.looks
+            (opened.reads unprobed e))));
+        looks = alike.looks;
+        kept = alike.kept;
+      })
+
+  -- ---- the bus
+
+  -- two answers of the bus
+  record SameAnswer (one two : BusAnswer) : Type 0 where
+    rest : two ≡ answer_with one two.bus.memory
+    alike : Alike one.bus two.bus.memory
+
+  carried_alike : (x : ℕ) (b : Bus) (k : Memory) (q : Request) → IsOfTask q →
+      Alike b k → IsOpen m z q →
+      SameAnswer (answered_by_bus x b q) (answered_by_bus x (with_memory_of b k) q)
+  unfolding answered_by_bus
+  carried_alike x b k q of alike opened =
+      both (SameAnswer) (is_probe q.access.kind) _ _ _ _ (λ e. record { rest = refl; alike = alike })
+      (λ e. both (SameAnswer) (is_in_ppb q.access.address) _ _ _ _
+      (λ f. record {
+        rest = refl;
+        alike = record {
+          looks = alike.looks;
+          kept = alike.kept;
+          decides = system_decides m z x b.system q of.unprivileged alike.decides;
+        };
+      })
+      (λ f. let here = space_alike b k b.system.time.ticks q alike opened e in
+      record {
+        rest = ap (lifted b) here.rest;
+        alike = record { looks = here.looks; kept = here.kept; decides = alike.decides };
+      }))
+
+  -- ---- one access
+
+  -- the results of two accesses
+  pub record SameResult (one two : AccessResult) : Type 0 where
+    pub rest : two ≡ result_with one two.bus.memory
+    pub alike : Alike one.bus two.bus.memory
+
+  by_decision : (x : ℕ) (b : Bus) (k : Memory) (q : Request) (d : Decision)
+      (granted : Bool) → d.granted ≡ granted → IsOfTask q → Alike b k → (d.granted ≡ true → IsOpen m z q) →
+      SameResult (decided x b q d) (decided x (with_memory_of b k) q d)
+  by_decision x b k q d true e of alike opened =
+      let here = carried_alike x b k q of alike (opened e) in
+      rw e (record { rest = ap (answered_under d.rule) here.rest; alike = here.alike })
+  by_decision x b k q d false e of alike opened = rw e (record { rest = refl; alike = alike })
+
+  -- an access of unprivileged code
+  pub perform_alike : (x : ℕ) (b : Bus) (k : Memory) (q : Request) → IsSound m →
+      IsOfTask q → Alike b k → SameResult (perform x b q) (perform x (with_memory_of b k) q)
+  unfolding perform
+  perform_alike x b k q sound of alike =
+      by_decision x b k q (decision b q) _ refl of alike
+      (λ granted. is_open m z q sound of (rw (alike.decides.mpu, alike.decides.below_zero, of.unprivileged) at granted))
+
+  -- ---- a list of accesses
+
+  -- the results of two lists
+  pub record SameList (one two : ListResult) : Type 0 where
+    pub rest : two ≡ list_with one two.bus.memory
+    pub alike : Alike one.bus two.bus.memory
+
+  followed_alike : (events : List Event) (b : Bus) (k : Memory)
+      (value : Result ℕ Failure) (first second : ListResult) → Alike b k → SameList first second →
+      SameList (followed events b value first) (followed events (with_memory_of b k) value second)
+  followed_alike events b k (Ok value) first second alike others =
+      record { rest = ap (followed events b (Ok value)) others.rest; alike = others.alike }
+  followed_alike events b k (Err why) first second alike others = record { rest = refl; alike = alike }
+
+  -- a list of accesses of unprivileged code
+  pub all_alike : (x tick : ℕ) (b : Bus) (k : Memory) (qs : List Request) →
+      IsSound m → AreOfTask qs → Alike b k →
+      SameList (perform_all x tick b qs) (perform_all x tick (with_memory_of b k) qs)
+  unfolding perform_all
+  all_alike x tick b k [] sound of alike = record { rest = refl; alike = alike }
+  all_alike x tick b k (q ∷ qs) sound of alike =
+      let one = perform x b q in
+      let two = perform x (with_memory_of b k) q in
+      let here : SameResult one two = perform_alike x b k q sound of.0 alike in
+      subst
+      (λ (a : AccessResult). SameList
+      (followed (access_lines tick q one.performed) one.bus (value_of q one.performed) (perform_all x tick one.bus qs))
+      (followed (access_lines tick q a.performed) a.bus (value_of q a.performed) (perform_all x tick a.bus qs)))
+      (sym here.rest)
+      (followed_alike _ one.bus two.bus.memory (value_of q one.performed) _ _ here.alike
+      (all_alike x tick one.bus two.bus.memory qs sound of.1 here.alike))
