@@ -8,10 +8,8 @@ use Rattle.debugger_commands.specs.Breakpoints.{breakpoint_text, has}
 use Rattle.debugger_commands.specs.Commands.{steps_of}
 use Rattle.debugger_commands.specs.Texts.{decision_text, end_text, fault_text, general_lines, memory_text, region_lines}
 use Rattle.debugger_commands.specs.Texts.{register_line}
-use Rattle.machine.specs.declared.foresight.StepKind.{StepKind}
-use Rattle.machine.specs.declared.foresight.StepKind.TheVariants as kind
 use Rattle.machine.specs.declared.readers.RegValues.{RegValues}
-use Rattle.machine.specs.Foresight.{next_kind_of}
+use Rattle.machine.specs.Foresight.{is_instruction_next}
 use Rattle.machine.specs.Values.{values_of}
 use Rattle.reference.specs.declared.mpu.TheConstants.{MOST_REGIONS}
 use Rattle.reference.specs.Priorities.{is_below_zero}
@@ -51,16 +49,9 @@ end_piece s = record { state = s; text = end_text s.registers.pc s.stop }
 abbrev pub step_piece : State → Piece
 step_piece s = record { state = (step s).state; text = lines (step s).events }
 
-abbrev pub is_instruction : Option StepKind → Bool
-is_instruction None = false
-is_instruction (Some kind.Vector) = false
-is_instruction (Some kind.Stack) = false
-is_instruction (Some kind.Sleep) = false
-is_instruction (Some kind.Instruction) = true
-
--- the next step is an instruction at a breakpoint
+-- the next step is an Instruction step at a breakpoint
 abbrev pub is_hit : List ℕ → State → Bool
-is_hit breakpoints s = has breakpoints s.registers.pc && is_instruction (next_kind_of s)
+is_hit breakpoints s = has breakpoints s.registers.pc && is_instruction_next s
 
 -- a run goes on after a step unless the machine has stopped or a breakpoint is hit
 abbrev pub ends_at : List ℕ → State → Bool

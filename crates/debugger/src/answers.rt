@@ -1,11 +1,13 @@
 //! What the debugger answers to a command: the steps of a run, or a text.
 
 ghost use Rattle.std.specs.Prelude.{◌≡◌, ◌-◌, [], ◌∷◌};
-ghost use Rattle.debugger.specs.Answers.{end_piece, ends_at, is_hit, is_instruction, run_on, run_pieces, step_piece};
+ghost use Rattle.debugger.specs.Answers.{end_piece, ends_at, is_hit, run_on, run_pieces, step_piece};
 ghost use Rattle.debugger.specs.Sessions.{Tells};
 
 use debugger_commands::{Breakpoints, end_text};
-use machine::{CodeLines, Decider, DueTicks, IoFault, Levels, LineRoom, Machine, Out, StepKind};
+use machine::{
+    CodeLines, Decider, DueTicks, IoFault, Levels, LineRoom, Machine, Out, is_instruction,
+};
 
 /// Makes a step and writes its lines.
 fn write_step<D: Decider, C: CodeLines, L: Levels, U: DueTicks, W: Out>(
@@ -19,13 +21,6 @@ fn write_step<D: Decider, C: CodeLines, L: Levels, U: DueTicks, W: Out>(
         Ok(()) => Ok(()),
         Err(fault) => Err(fault),
     }
-}
-
-/// Returns whether a step is an instruction.
-fn is_instruction(kind: Option<StepKind>) -> bool
-    ensures { result ≡ is_instruction kind }
-{
-    matches!(kind, Some(StepKind::Instruction))
 }
 
 /// Returns whether the next step is an instruction at a breakpoint.

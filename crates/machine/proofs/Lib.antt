@@ -4,3 +4,4 @@ mod Foreseen
 mod Loading
 pub mod Running
 mod Room
+mod Tasking

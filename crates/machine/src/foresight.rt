@@ -1,26 +1,22 @@
 //! What the next step will do, and what decides an access: known without a step.
 
 ghost use Rattle.std.specs.Prelude.{◌≡◌, ◌^◌, ◌<◌};
-ghost use Rattle.machine.specs.Foresight.{kind_after, next_kind_of};
 ghost use Rattle.reference.specs.Priorities.{candidate, is_below_zero};
 ghost use Rattle.reference.specs.Rules.{decision_of};
 ghost use Rattle.reference.specs.State.{ticked};
 ghost use Rattle.reference.specs.Step.{sleeps_on};
+ghost use Rattle.task_laws.specs.Foresight.{is_instruction, kind_after, next_kind_of};
 
 use crate::stepping::{CLOCK_END, Processor};
 use access::{CodeLines, Decider, DueTicks, Levels};
 use reference::access::{Decision, Kind};
+use task_laws::StepKind;
 
-/// What a step does after its tick.
-#[derive(Clone, Copy)]
-pub enum StepKind {
-    /// It takes the exception whose frame was pushed: it reads the vector.
-    Vector,
-    /// It begins the entry of an exception: it pushes the frame.
-    Stack,
-    /// The core sleeps on.
-    Sleep,
-    Instruction,
+/// Returns whether a step is an Instruction step.
+pub fn is_instruction(kind: Option<StepKind>) -> bool
+    ensures { result ≡ is_instruction kind }
+{
+    matches!(kind, Some(StepKind::Instruction))
 }
 
 impl<D: Decider, C: CodeLines, L: Levels, U: DueTicks> Processor<D, C, L, U> {

@@ -2,11 +2,13 @@
 #![tactic(auto)]
 
 pub mod foresight;
+pub mod laws;
 mod placing;
 pub mod readers;
 mod run;
 mod start;
 mod stepping;
+mod task;
 mod whole;
 
 pub use access::{
@@ -16,7 +18,7 @@ pub use access_table::{KeptDecisions, Table};
 pub use bit_levels::{BitLevels, KeptPriorities};
 pub use board::{Board, InterruptLine, ScriptedEvent, Signal};
 pub use code_lines::Lines;
-pub use foresight::StepKind;
+pub use foresight::is_instruction;
 pub use output::{In, IoFault, LineRoom, Out, Over, Paged};
 pub use readers::RegValues;
 pub use reference::access::{Decision, Kind, Rule};
@@ -26,6 +28,7 @@ pub use reference::fault::{PlaceFault, StartFault};
 pub use reference::mpu::RegionCount;
 pub use reference::place::Place;
 pub use reference::stop::Stop;
+pub use task_laws::{StepKind, TaskEnd};
 pub use trace::lines::{Text, event_line, stop_line};
 pub use trace::sink::Events;
 pub use whole::{Fast, Machine, RunFault, Slow};

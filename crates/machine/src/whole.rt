@@ -2,9 +2,9 @@
 
 ghost use Rattle.std.specs.Prelude.{◌≡◌, length, ◌↔◌, ◌≤◌, false, true, Ok, Err, IfOk, IfErr, OnOk};
 ghost use Rattle.board.specs.Seen.{described};
-ghost use Rattle.machine.specs.Foresight.{next_kind_of};
 ghost use Rattle.machine.specs.Runs.{Fails};
 ghost use Rattle.machine.specs.Starts.{Starts, Places};
+ghost use Rattle.machine.specs.Tasks.{CountsFaults, TaskEnds, TaskFails};
 ghost use Rattle.reference.specs.Memory.{byte_at};
 ghost use Rattle.reference.specs.Places.{place};
 ghost use Rattle.reference.specs.Priorities.{is_below_zero};
@@ -16,12 +16,13 @@ ghost use Rattle.output.specs.Output.{Put};
 ghost use Rattle.reference.specs.Step.{step};
 ghost use Rattle.reference.specs.Text.{lines};
 ghost use Rattle.std.specs.Io.KnownBytes.{Appends};
+ghost use Rattle.task_laws.specs.Foresight.{next_kind_of};
 
-use crate::foresight::StepKind;
 use crate::readers::RegValues;
 use crate::run::{run_core, write_step};
 use crate::start::start_core;
 use crate::stepping::Processor;
+use crate::task::run_task_core;
 use access::{Ahead, CodeLines, Counting, Decider, DueTicks, Levels, PlainLevels, Reread, Search};
 use access_table::{KeptDecisions, Table};
 use bit_levels::{BitLevels, KeptPriorities};
@@ -36,6 +37,7 @@ use reference::place::Place;
 use reference::stop::Stop;
 use std::alloc::Global;
 use std::marker::Model;
+use task_laws::{StepKind, TaskEnd};
 use trace::sink::Events;
 
 /// Why a run failed.
@@ -125,6 +127,48 @@ impl<D: Decider, C: CodeLines, L: Levels, U: DueTicks> Machine<D, C, L, U> {
         }
         match run_core(&mut self.core, limit, out) {
             Ok(stop) => Ok(stop),
+            Err(steps) => {
+                self.broken = true;
+                Err(RunFault::Write { steps })
+            }
+        }
+    }
+
+    /// Runs a task: makes at most `limit` steps, any number, as long as they are Instruction steps, and
+    /// writes their lines. It writes no line of a stop. Returns why the run ended, by the first of these
+    /// that applies:
+    ///
+    /// - `Stopped`: the machine has stopped, before the run or in a step of it.
+    /// - `NotTask`: the machine isn't in unprivileged Thread mode, or is in the entry phase, or the
+    ///   regions of the MPU don't decide. Then nothing was done.
+    /// - `Done`: all `limit` steps were made.
+    /// - `Other`: the next step wouldn't be an Instruction step, or would only stop the machine at the
+    ///   end of its clock. It wasn't made, nor its tick.
+    ///
+    /// Fails with `Write` where the writer fails, with a prefix of the lines of the last step written, and
+    /// the machine is broken from then on; and with `Broken` where it was broken before, and then
+    /// nothing was done.
+    pub fn run_task<W: Out>(&mut self, limit: u64, out: &mut W) -> Result<TaskEnd, RunFault>
+        // The lines of its steps went out, the machine is in the state after them, and that is why they ended.
+        ensures end { IfOk result (TaskEnds limit self.old self.new (W.written out.old) (W.written out.new)) }
+        ensures quiet { OnOk result (W.faults out.new ≡ W.faults out.old) }
+
+        // Otherwise the writer failed in this run, or in an earlier one.
+        ensures cut { IfErr result (TaskFails limit self.old self.new (W.written out.old) (W.written out.new)) }
+        ensures fault { IfErr result (CountsFaults (W.faults out.old) (W.faults out.new)) }
+        ensures broken { (result ≡ Err RunFault.Broken) ↔ (self.old.broken ≡ true) }
+    {
+        if self.broken {
+            return Err(RunFault::Broken);
+        }
+        if let Some(stop) = self.core.stop() {
+            return Ok(TaskEnd::Stopped(stop));
+        }
+        if !self.core.is_task() {
+            return Ok(TaskEnd::NotTask);
+        }
+        match run_task_core(&mut self.core, limit, out) {
+            Ok(end) => Ok(end),
             Err(steps) => {
                 self.broken = true;
                 Err(RunFault::Write { steps })

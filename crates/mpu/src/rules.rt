@@ -1,8 +1,8 @@
 //! The rules: what decides before the regions, what a region grants, and what follows the regions.
 
-ghost use Rattle.std.specs.Prelude.{◌≡◌};
+ghost use Rattle.std.specs.Prelude.{◌≡◌, ◌&&◌, not};
 ghost use Rattle.reference.specs.declared.access.Rule.TheVariants.{Region};
-ghost use Rattle.reference.specs.Regions.{permission, never_executes};
+ghost use Rattle.reference.specs.Regions.{is_on, permission, never_executes};
 ghost use Rattle.reference.specs.Rules.{default_map, is_executable, is_off_below_zero, before_regions, may_read, may_write, permission_grants, after_regions};
 
 use crate::regions::{is_bit, permission};
@@ -41,6 +41,14 @@ pub fn before_regions(control: u32, address: u32, kind: Kind, below_zero: bool) 
         return None;
     };
     Some(Decision { rule, granted })
+}
+
+/// Returns whether the regions decide, by MPU_CTRL: ENABLE is 1, and HFNMIENA is 1 or the execution
+/// priority isn't below 0. `below_zero` says whether it is.
+pub fn uses_regions(control: u32, below_zero: bool) -> bool
+    ensures { result ≡ (is_on control && not (is_off_below_zero control below_zero)) }
+{
+    is_bit(control, ENABLE) && !is_off_below_zero(control, below_zero)
 }
 
 /// Returns whether the MPU is off for code whose execution priority is below 0.

@@ -1,16 +1,16 @@
 //! The state of the System Control Space, accesses to it, and ticks.
 
-ghost use Rattle.std.specs.Prelude.{◌≡◌, ◌+◌, ◌^◌, ◌<◌, ◌≤◌, ◌⊎◌, ℕ, true, false, IfSome};
+ghost use Rattle.std.specs.Prelude.{◌≡◌, ◌+◌, ◌^◌, ◌<◌, ◌≤◌, ◌⊎◌, ◌&&◌, ℕ, true, false, not, IfSome};
 ghost use Rattle.clock.specs.Kept.{IsRight};
 ghost use Rattle.reference.specs.Answers.{IsNarrow, LeavesUnlessDone};
 ghost use Rattle.reference.specs.System.{reset_system, after_tick, deactivated, is_held as is_held_of, has_access as is_allowed_of, word_at as word_at_of, after_read, register_written, register_access, system_access, with_nvic, mpu_written, first_byte as first_byte_of};
 ghost use Rattle.reference.specs.Interrupts.{write_priorities as write_priorities_of};
 ghost use Rattle.reference.specs.declared.access.Kind.TheVariants.{Fetch};
 ghost use Rattle.reference.specs.Kinds.{bytes_in};
-ghost use Rattle.reference.specs.Regions.{shown, write as write_mpu_of};
+ghost use Rattle.reference.specs.Regions.{is_on, shown, write as write_mpu_of};
 ghost use Rattle.reference.specs.Priorities.{is_below_zero, with_pending, with_active, with_faultmask};
 ghost use Rattle.reference.specs.Registers.{is_privileged};
-ghost use Rattle.reference.specs.Rules.{decision_of};
+ghost use Rattle.reference.specs.Rules.{decision_of, is_off_below_zero};
 ghost use Rattle.reference.specs.SpecialRegisters.{read_special as read_special_of, write_special as write_special_of, write_mask as write_mask_of, change_state as change_state_of, with_special, with_mask};
 ghost use Rattle.reference.specs.Status.{with_fault_bits, with_mmfar, with_bfar};
 ghost use Rattle.scs.specs.Writes.{after_write, answered};
@@ -27,7 +27,7 @@ use crate::special;
 use crate::status::Status;
 use crate::systick::{read_systick, write_systick};
 use clock::{Clock, DueTicks, ScriptedEvent};
-use mpu::{Decider, MpuRegister, MpuRegs, stop_of};
+use mpu::{Decider, MpuRegister, MpuRegs, stop_of, uses_regions};
 use nvic::{Levels, Masks};
 use reference::access::{Access, Answer, Decision, Request};
 use reference::exception::FIRST_LINE;
@@ -189,6 +189,15 @@ impl<D: Decider, L: Levels, U: DueTicks> System<D, L, U> {
         ensures { result ≡ shown self.now.mpu number }
     {
         self.mpu.region(number)
+    }
+
+    /// Returns whether the regions of the MPU decide now: MPU_CTRL.ENABLE is 1, and HFNMIENA is 1 or
+    /// the execution priority isn't below 0.
+    pub fn uses_regions(&self) -> bool
+        ensures { result ≡ (is_on self.now.mpu.control
+            && not (is_off_below_zero self.now.mpu.control (is_below_zero self.now.nvic))) }
+    {
+        uses_regions(self.mpu.control(), self.levels.is_below_zero())
     }
 
     /// Reads a special register as MRS does.

@@ -1,0 +1,63 @@
+-- What a run of a task leaves. What a task is, and how a run of it ends, is in Tasks of the crate `task_laws`.
+use Rattle.std.specs.Prelude.{◌≡◌, ℕ, ◌+◌, ◌≤◌, Bool, true, false, if◌then◌else◌, List, Option, Some, None}
+use Rattle.std.specs.Io.KnownBytes.{Appends, Keeps}
+use Rattle.machine.specs.declared.whole.RunFault.{RunFault}
+use Rattle.machine.specs.declared.whole.RunFault.TheVariants.{Write, Broken}
+use Rattle.machine.specs.Runs.{CutInStep}
+use Rattle.machine.specs.Whole.{Whole}
+use Rattle.reference.specs.declared.stop.Stop.{Stop}
+use Rattle.reference.specs.Run.{after, events_of}
+use Rattle.reference.specs.State.{State}
+use Rattle.reference.specs.Text.{lines}
+use Rattle.task_laws.specs.declared.task.TaskEnd.{TaskEnd}
+use Rattle.task_laws.specs.declared.task.TaskEnd.TheVariants as task_end
+use Rattle.task_laws.specs.Tasks.{AreInstructions, Ends, is_task}
+
+-- a run of at most n steps from a state ended so: `steps` steps were made, each of them an Instruction step, their
+-- lines went out, and the machine is in the state after them
+pub record TaskRuns (n : ℕ) (s : State) (old new : Option (List ℕ)) (last : State) (end : TaskEnd) : Type 0 where
+  pub steps : ℕ
+  pub few : steps ≤ n
+  pub instructions : AreInstructions steps s
+  pub state : last ≡ after steps s
+  pub written : Appends old new (lines (events_of steps s))
+  pub ends : Ends n steps last end
+
+-- how a run of a machine ended: a machine that had stopped before made no step, since none of its steps is an
+-- Instruction step; no task ran, and nothing was done; or a task ran, and its run ended so
+abbrev pub TaskEnds : ℕ → Whole → Whole → Option (List ℕ) → Option (List ℕ) → TaskEnd → Type 0
+TaskEnds n old new written written' task_end.NotTask =
+    (old.state.stop ≡ None) × (is_task old.state ≡ false) × (new ≡ old) × Keeps written written'
+TaskEnds n old new written written' task_end.Done =
+    (is_task old.state ≡ true) × TaskRuns n old.state written written' new.state task_end.Done
+    × (new.broken ≡ old.broken)
+TaskEnds n old new written written' task_end.Other =
+    (is_task old.state ≡ true) × TaskRuns n old.state written written' new.state task_end.Other
+    × (new.broken ≡ old.broken)
+TaskEnds n old new written written' (task_end.Stopped why) =
+    (old.state.stop ≡ None → is_task old.state ≡ true)
+    × TaskRuns n old.state written written' new.state (task_end.Stopped why) × (new.broken ≡ old.broken)
+
+-- a run of at most n steps from a state was cut short by the writer: `steps` steps were made, each of them an
+-- Instruction step, the machine is in the state after them, and a proper prefix of the last one's lines went out
+pub record TaskIsCut (n : ℕ) (s : State) (old new : Option (List ℕ)) (last : State) (steps : ℕ) : Type 0 where
+  pub few : steps ≤ n
+  pub instructions : AreInstructions steps s
+  pub state : last ≡ after steps s
+  pub cut : CutInStep s steps old new
+
+-- a run that failed: a task ran, and its run was cut short; or the machine was broken before, and nothing was done
+abbrev pub TaskFails : ℕ → Whole → Whole → Option (List ℕ) → Option (List ℕ) → RunFault → Type 0
+TaskFails n old new written written' (Write steps) =
+    (is_task old.state ≡ true) × TaskIsCut n old.state written written' new.state steps × (new.broken ≡ true)
+TaskFails n old new written written' Broken = (new ≡ old) × Keeps written written'
+
+-- the writer failed once in a run that it cut short, and never in one that did nothing
+abbrev pub CountsFaults : ℕ → ℕ → RunFault → Type 0
+CountsFaults faults faults' (Write steps) = faults' ≡ faults + 1
+CountsFaults faults faults' Broken = faults' ≡ faults
+
+-- why a run ended, by the stop of the machine and by whether steps of the limit are left
+abbrev pub end_of : Option Stop → Bool → TaskEnd
+end_of (Some why) left = task_end.Stopped why
+end_of None left = if left then task_end.Other else task_end.Done

@@ -1,0 +1,64 @@
+//! Runs of a task: Instruction steps alone, in unprivileged Thread mode.
+
+ghost use Rattle.std.specs.Prelude.{◌≡◌, ◌+◌, IfOk, IfErr, OnOk};
+ghost use Rattle.machine.specs.Tasks.{TaskIsCut, TaskRuns, end_of as end_of_run};
+ghost use Rattle.task_laws.specs.Tasks.{is_task};
+
+use crate::foresight::is_instruction;
+use crate::run::write_step;
+use crate::stepping::Processor;
+use access::{CodeLines, Decider, DueTicks, Levels};
+use output::{LineRoom, Out};
+use reference::stop::Stop;
+use task_laws::TaskEnd;
+
+impl<D: Decider, C: CodeLines, L: Levels, U: DueTicks> Processor<D, C, L, U> {
+    /// Returns whether a task runs: in unprivileged Thread mode, outside the entry phase, while the
+    /// regions of the MPU decide.
+    pub fn is_task(&self) -> bool
+        ensures { result ≡ is_task self.now }
+    {
+        !self.registers().is_handler()
+            && self.registers().npriv()
+            && !self.is_in_entry()
+            && self.bus().system.uses_regions()
+    }
+}
+
+/// Makes at most `limit` steps, as long as they are Instruction steps, and writes their lines. Where the
+/// writer fails, returns how many steps were made.
+pub fn run_task_core<D: Decider, C: CodeLines, L: Levels, U: DueTicks, W: Out>(
+    core: &mut Processor<D, C, L, U>,
+    limit: u64,
+    out: &mut W,
+) -> Result<TaskEnd, u64>
+    ensures end { IfOk result (TaskRuns limit core.old (W.written out.old) (W.written out.new) core.new) }
+    ensures quiet { OnOk result (W.faults out.new ≡ W.faults out.old) }
+    ensures cut { IfErr result (TaskIsCut limit core.old (W.written out.old) (W.written out.new) core.new) }
+    ensures fault { IfErr result (λ steps. W.faults out.new ≡ W.faults out.old + 1) }
+{
+    let mut room = LineRoom::new();
+    let mut made = 0;
+    'steps: while made < limit {
+        if !is_instruction(core.next_kind()) {
+            break;
+        }
+        made += 1;
+        match write_step(core, out, &mut room) {
+            Ok(()) => {}
+            Err(_) => return Err(made),
+        }
+    }
+    Ok(end_of(core.stop(), made < limit))
+}
+
+/// Returns why a run has ended, by the stop of the machine and by whether steps of the limit are left.
+fn end_of(stop: Option<Stop>, left: bool) -> TaskEnd
+    ensures { result ≡ end_of_run stop left }
+{
+    match stop {
+        Some(stop) => TaskEnd::Stopped(stop),
+        None if left => TaskEnd::Other,
+        None => TaskEnd::Done,
+    }
+}
