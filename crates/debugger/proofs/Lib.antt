@@ -1,4 +1,5 @@
 mod Hearing
 mod Running
 mod Showing
+mod Tasking
 mod Telling

@@ -6,7 +6,7 @@ use Rattle.debugger.specs.Answers.{Piece, answer, end_piece, ends_at, reply, run
 use Rattle.debugger.specs.Sessions.{Sink, TellsAll, TellsPart}
 use Rattle.debugger_commands.specs.declared.commands.Command.{Command}
 use Rattle.debugger_commands.specs.declared.commands.LineFault.{LineFault}
-use Rattle.debugger_commands.specs.Commands.{steps_of}
+use Rattle.debugger_commands.specs.Commands.{steps_of, task_steps_of}
 use Rattle.debugger_commands.specs.Texts.{end_text}
 use Rattle.machine.specs.Whole.{Whole}
 use Rattle.reference.specs.declared.stop.Stop.{Stop}
@@ -31,25 +31,38 @@ unfolding run_on
 run_goes breakpoints zero s some goes = absurd (let wrong : 0 < 0 = some in omega arith)
 run_goes breakpoints (suc n) s some goes = let e : suc n - 1 ≡ n = omega arith in rw (goes, e) refl
 
+-- one step more, with the pieces after it by the state that it leaves
+pub step_more : (rest : State → List Piece) (all : List Piece) (old mid new : Whole) (a b c : Sink)
+    → Told all (step_piece mid.state ∷ rest (step mid.state).state) old mid a b
+    → TellsAll (step_piece mid.state ∷ []) mid new b c → Told all (rest new.state) old new a c
+step_more rest all old mid new a b c so_far then =
+    let now : (step mid.state).state ≡ new.state = sym (ap (λ (m : Whole). m.state) then.stands) in
+    subst (λ (s : State). Told all (rest s) old new a c) now
+    (one_more all (rest (step mid.state).state) (step_piece mid.state) old mid new a b c so_far then)
+
+-- a step that was cut, with the pieces after it
+pub step_cut : (rest all : List Piece) (old mid new : Whole) (a b c : Sink)
+    → Told all (step_piece mid.state ∷ rest) old mid a b
+    → TellsPart (step_piece mid.state ∷ []) mid new b c → TellsPart all old new a c
+step_cut rest all old mid new a b c so_far then =
+    rest_cut all (step_piece mid.state ∷ rest) old mid new a b c so_far
+    (cut_before (step_piece mid.state ∷ []) rest mid new b c then)
+
 -- one step more
 pub run_more : (breakpoints : List ℕ) (left : ℕ) (all : List Piece) (old mid new : Whole) (a b c : Sink) → 0 < left
     → ends_at breakpoints mid.state ≡ false → Told all (run_on breakpoints left mid.state) old mid a b
     → TellsAll (step_piece mid.state ∷ []) mid new b c → Told all (run_on breakpoints (left - 1) new.state) old new a c
 run_more breakpoints left all old mid new a b c some goes so_far then =
-    let now : (step mid.state).state ≡ new.state = sym (ap (λ (m : Whole). m.state) then.stands) in
-    subst (λ (s : State). Told all (run_on breakpoints (left - 1) s) old new a c) now
-    (one_more all (run_on breakpoints (left - 1) (step mid.state).state) (step_piece mid.state) old mid new a b c
-    (subst (λ (ps : List Piece). Told all ps old mid a b) (run_goes breakpoints left mid.state some goes) so_far) then)
+    step_more (run_on breakpoints (left - 1)) all old mid new a b c
+    (subst (λ (ps : List Piece). Told all ps old mid a b) (run_goes breakpoints left mid.state some goes) so_far) then
 
 -- a step that was cut
 pub run_cut : (breakpoints : List ℕ) (left : ℕ) (all : List Piece) (old mid new : Whole) (a b c : Sink) → 0 < left
     → ends_at breakpoints mid.state ≡ false → Told all (run_on breakpoints left mid.state) old mid a b
     → TellsPart (step_piece mid.state ∷ []) mid new b c → TellsPart all old new a c
 run_cut breakpoints left all old mid new a b c some goes so_far then =
-    let rest : List Piece = run_on breakpoints (left - 1) (step mid.state).state in
-    rest_cut all (step_piece mid.state ∷ rest) old mid new a b c
-    (subst (λ (ps : List Piece). Told all ps old mid a b) (run_goes breakpoints left mid.state some goes) so_far)
-    (cut_before (step_piece mid.state ∷ []) rest mid new b c then)
+    step_cut (run_on breakpoints (left - 1) (step mid.state).state) all old mid new a b c
+    (subst (λ (ps : List Piece). Told all ps old mid a b) (run_goes breakpoints left mid.state some goes) so_far) then
 
 -- the end is what is left
 pub run_ends : (breakpoints : List ℕ) (left : ℕ) (all : List Piece) (old mid : Whole) (a b : Sink)
@@ -84,6 +97,6 @@ later_cut breakpoints n left old mid new a b c goes same first part =
 
 -- a command that makes no step has its reply
 pub reply_cut : (breakpoints : List ℕ) (asked : Result Command LineFault) (old new : Whole) (a b : Sink)
-    → steps_of asked ≡ None → TellsPart (reply old.state breakpoints asked) old new a b
+    → steps_of asked ≡ None → task_steps_of asked ≡ None → TellsPart (reply old.state breakpoints asked) old new a b
     → TellsPart (answer old.state breakpoints asked) old new a b
-reply_cut breakpoints asked old new a b none part = rw none part
+reply_cut breakpoints asked old new a b none no_task part = rw (none, no_task) part

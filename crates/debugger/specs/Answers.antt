@@ -5,18 +5,22 @@ use Rattle.debugger_commands.specs.declared.commands.Command.{Command}
 use Rattle.debugger_commands.specs.declared.commands.Command.TheVariants as command
 use Rattle.debugger_commands.specs.declared.commands.LineFault.{LineFault}
 use Rattle.debugger_commands.specs.Breakpoints.{breakpoint_text, has}
-use Rattle.debugger_commands.specs.Commands.{steps_of}
+use Rattle.debugger_commands.specs.Commands.{steps_of, task_steps_of}
 use Rattle.debugger_commands.specs.Texts.{decision_text, end_text, fault_text, general_lines, memory_text, region_lines}
 use Rattle.debugger_commands.specs.Texts.{register_line}
 use Rattle.machine.specs.declared.readers.RegValues.{RegValues}
 use Rattle.machine.specs.Foresight.{is_instruction_next}
+use Rattle.machine.specs.Tasks.{end_of}
 use Rattle.machine.specs.Values.{values_of}
 use Rattle.reference.specs.declared.mpu.TheConstants.{MOST_REGIONS}
 use Rattle.reference.specs.Priorities.{is_below_zero}
 use Rattle.reference.specs.Rules.{decision_of}
 use Rattle.reference.specs.State.{State}
 use Rattle.reference.specs.Step.{step}
-use Rattle.reference.specs.Text.{lines}
+use Rattle.reference.specs.Text.{line_feed, lines, stop_line}
+use Rattle.task_laws.specs.declared.task.TaskEnd.{TaskEnd}
+use Rattle.task_laws.specs.declared.task.TaskEnd.TheVariants as task_end
+use Rattle.task_laws.specs.Tasks.{is_task}
 
 -- ---- regs: a line for each register
 
@@ -70,12 +74,37 @@ run_pieces breakpoints n s =
     if is_some s.stop then end_piece s ∷ []
     else step_piece s ∷ run_on breakpoints (n - 1) (step s).state
 
+-- ---- task n
+
+abbrev pub task_text : TaskEnd → List ℕ
+task_text task_end.Done = codes "task done" ++ line_feed
+task_text task_end.Other = codes "task other" ++ line_feed
+task_text task_end.NotTask = codes "task not" ++ line_feed
+task_text (task_end.Stopped why) = stop_line why
+
+abbrev pub task_piece : State → TaskEnd → Piece
+task_piece s end = record { state = s; text = task_text end }
+
+-- the pieces of at most n steps, as long as they are Instruction steps
+unfoldable pub task_on : ℕ → State → List Piece
+task_on zero s = task_piece s (end_of s.stop false) ∷ []
+task_on (suc n) s =
+    if is_instruction_next s then step_piece s ∷ task_on n (step s).state
+    else task_piece s (end_of s.stop true) ∷ []
+
+-- a run of a task of at most n steps: none is made where no task runs, and a stopped machine has its stop line alone
+abbrev pub task_pieces : ℕ → State → List Piece
+task_pieces n s =
+    if is_some s.stop || is_task s then task_on n s
+    else task_piece s task_end.NotTask ∷ []
+
 -- ---- all commands
 
 -- the text of an answer that makes no step; `quit` has none
 abbrev pub reply_text : State → List ℕ → Result Command LineFault → List ℕ
 reply_text s breakpoints (Err why) = fault_text why
 reply_text s breakpoints (Ok (command.Run n)) = []
+reply_text s breakpoints (Ok (command.Task n)) = []
 reply_text s breakpoints (Ok (command.Break a)) = breakpoint_text breakpoints a
 reply_text s breakpoints (Ok command.Regs) = registers_text (values_of s.registers s.bus.system.nvic.masks)
 reply_text s breakpoints (Ok (command.Memory a n)) = memory_text s.bus.memory a (n + 1)
@@ -87,10 +116,11 @@ reply_text s breakpoints (Ok command.Quit) = []
 abbrev pub reply : State → List ℕ → Result Command LineFault → List Piece
 reply s breakpoints asked = record { state = s; text = reply_text s breakpoints asked } ∷ []
 
-abbrev pub answer_by : State → List ℕ → Result Command LineFault → Option ℕ → List Piece
-answer_by s breakpoints asked None = reply s breakpoints asked
-answer_by s breakpoints asked (Some n) = run_pieces breakpoints n s
+abbrev pub answer_by : State → List ℕ → Result Command LineFault → Option ℕ → Option ℕ → List Piece
+answer_by s breakpoints asked (Some n) task = run_pieces breakpoints n s
+answer_by s breakpoints asked None (Some n) = task_pieces n s
+answer_by s breakpoints asked None None = reply s breakpoints asked
 
 -- the answer to a line
 abbrev pub answer : State → List ℕ → Result Command LineFault → List Piece
-answer s breakpoints asked = answer_by s breakpoints asked (steps_of asked)
+answer s breakpoints asked = answer_by s breakpoints asked (steps_of asked) (task_steps_of asked)

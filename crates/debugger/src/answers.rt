@@ -10,7 +10,7 @@ use machine::{
 };
 
 /// Makes a step and writes its lines.
-fn write_step<D: Decider, C: CodeLines, L: Levels, U: DueTicks, W: Out>(
+pub fn write_step<D: Decider, C: CodeLines, L: Levels, U: DueTicks, W: Out>(
     machine: &mut Machine<D, C, L, U>,
     room: &mut LineRoom,
     out: &mut W,

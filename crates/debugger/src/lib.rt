@@ -3,6 +3,7 @@
 
 mod answers;
 mod sessions;
+mod tasks;
 mod texts;
 
 pub use sessions::{SessionFault, session};

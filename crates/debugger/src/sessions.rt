@@ -6,10 +6,11 @@ ghost use Rattle.debugger.specs.Sessions.{after_line, GivesByte, GoesOn, line_sa
 ghost use Rattle.debugger_commands.specs.Breakpoints.{breakpoints_after};
 
 use crate::answers::run;
+use crate::tasks::run_task;
 use crate::texts::{memory_text, regions_text, registers_text};
 use debugger_commands::{
     Answer, Breakpoints, Command, LineFault, Listener, decision_text, fault_text, quits, read_line,
-    steps_of,
+    steps_of, task_steps_of,
 };
 use machine::{CodeLines, Decider, DueTicks, In, IoFault, Levels, Machine, Out};
 use std::marker::Model;
@@ -59,7 +60,7 @@ impl Debugger {
         ensures kept { self.new ≡ record self.old { breakpoints = breakpoints_after self.old.breakpoints asked } }
     {
         match asked {
-            Ok(Command::Run(_) | Command::Quit) => Answer::new(),
+            Ok(Command::Run(_) | Command::Task(_) | Command::Quit) => Answer::new(),
             Ok(Command::Break(address)) => self.breakpoints.set(address),
             Ok(Command::Regs) => registers_text(&machine.regs()),
             Ok(Command::Memory(address, last)) => memory_text(machine, address, last as u32 + 1),
@@ -83,6 +84,10 @@ impl Debugger {
     {
         match steps_of(asked) {
             Some(steps) => return run(machine, &self.breakpoints, steps, out),
+            None => {}
+        }
+        match task_steps_of(asked) {
+            Some(steps) => return run_task(machine, steps, out),
             None => {}
         }
         let page = self.reply(machine, asked);

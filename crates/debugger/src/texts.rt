@@ -1,12 +1,12 @@
 //! The texts of answers that show the machine: its registers, its memory and its regions.
 
 ghost use Rattle.std.specs.Prelude.{◌≡◌, ◌+◌, ◌≤◌, ◌++◌, length};
-ghost use Rattle.debugger.specs.Answers.{core_lines, mask_lines, registers_text};
+ghost use Rattle.debugger.specs.Answers.{core_lines, mask_lines, registers_text, task_text};
 ghost use Rattle.debugger_commands.specs.Texts.{bytes_text, memory_text, region_lines};
 ghost use Rattle.reference.specs.declared.mpu.TheConstants.{MOST_REGIONS};
 
 use debugger_commands::{Answer, byte_address, put_byte, put_generals, put_region, put_register};
-use machine::{CodeLines, Decider, DueTicks, Levels, Machine, RegValues};
+use machine::{CodeLines, Decider, DueTicks, Levels, Machine, RegValues, TaskEnd};
 use reference::mpu::MOST_REGIONS;
 
 /// Appends the lines of the stack pointers, LR, PC and XPSR.
@@ -91,6 +91,20 @@ pub fn regions_text<D: Decider, C: CodeLines, L: Levels, U: DueTicks>(
     let mut page = Answer::new();
     'numbers: for number in 0..MOST_REGIONS {
         put_region(&mut page, number, machine.region(number));
+    }
+    page
+}
+
+/// Returns the line of the end of a run of a task.
+pub fn task_text(end: TaskEnd) -> Answer
+    ensures { result ≡ task_text end }
+{
+    let mut page = Answer::new();
+    match end {
+        TaskEnd::Done => page.put(b"task done\n"),
+        TaskEnd::Other => page.put(b"task other\n"),
+        TaskEnd::NotTask => page.put(b"task not\n"),
+        TaskEnd::Stopped(stop) => page.put_stop(&stop),
     }
     page
 }

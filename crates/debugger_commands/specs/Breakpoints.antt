@@ -27,6 +27,7 @@ breakpoint_text breakpoints a =
 abbrev pub breakpoints_after : List ℕ → Result Command LineFault → List ℕ
 breakpoints_after breakpoints (Err why) = breakpoints
 breakpoints_after breakpoints (Ok (command.Run n)) = breakpoints
+breakpoints_after breakpoints (Ok (command.Task n)) = breakpoints
 breakpoints_after breakpoints (Ok (command.Break a)) = with_breakpoint breakpoints a
 breakpoints_after breakpoints (Ok command.Regs) = breakpoints
 breakpoints_after breakpoints (Ok (command.Memory a n)) = breakpoints

@@ -17,6 +17,7 @@ abbrev pub name_of : List ℕ → Option Name
 name_of text =
     if bytes_eq text (codes "step") then Some name.Step
     else if bytes_eq text (codes "run") then Some name.Run
+    else if bytes_eq text (codes "task") then Some name.Task
     else if bytes_eq text (codes "break") then Some name.Break
     else if bytes_eq text (codes "regs") then Some name.Regs
     else if bytes_eq text (codes "mem") then Some name.Mem
@@ -50,6 +51,10 @@ abbrev pub run_of : Option ℕ → Result Command LineFault
 run_of None = Err fault.Word
 run_of (Some n) = Ok (command.Run n)
 
+abbrev pub task_of : Option ℕ → Result Command LineFault
+task_of None = Err fault.Word
+task_of (Some n) = Ok (command.Task n)
+
 abbrev pub break_of : Option ℕ → Result Command LineFault
 break_of None = Err fault.Word
 break_of (Some a) = Ok (command.Break a)
@@ -69,6 +74,11 @@ explain_of None privileged kind = Err fault.Word
 abbrev pub read_run : Option (List ℕ) → Result Command LineFault
 read_run None = Err fault.Command
 read_run (Some word) = run_of (number_within 1 1000000 word)
+
+-- task n: from 1 to 1,000,000 steps
+abbrev pub read_task : Option (List ℕ) → Result Command LineFault
+read_task None = Err fault.Command
+read_task (Some word) = task_of (number_within 1 1000000 word)
 
 -- break a
 abbrev pub read_break : Option (List ℕ) → Result Command LineFault
@@ -91,6 +101,7 @@ abbrev pub command_of : Option Name → Option (List ℕ) → Result Command Lin
 command_of None more = Err fault.Command
 command_of (Some name.Step) more = alone (command.Run 1) more
 command_of (Some name.Run) more = read_run (one_word more)
+command_of (Some name.Task) more = read_task (one_word more)
 command_of (Some name.Break) more = read_break (one_word more)
 command_of (Some name.Regs) more = alone command.Regs more
 command_of (Some name.Mem) more = read_memory (two_words more)
@@ -103,10 +114,11 @@ unfoldable pub command_in : Option (List ℕ) → Result Command LineFault
 command_in None = Err fault.Command
 command_in (Some line) = command_of (name_of (first_word line)) (more_words line)
 
--- how many steps a command makes at most, where it makes any
+-- how many steps a run makes at most, where the command is `run` or `step`
 abbrev pub steps_of : Result Command LineFault → Option ℕ
 steps_of (Err why) = None
 steps_of (Ok (command.Run n)) = Some n
+steps_of (Ok (command.Task n)) = None
 steps_of (Ok (command.Break a)) = None
 steps_of (Ok command.Regs) = None
 steps_of (Ok (command.Memory a n)) = None
@@ -114,10 +126,23 @@ steps_of (Ok command.Regions) = None
 steps_of (Ok (command.Explain a privileged kind)) = None
 steps_of (Ok command.Quit) = None
 
+-- how many steps of a task are made at most, where the command is `task`
+abbrev pub task_steps_of : Result Command LineFault → Option ℕ
+task_steps_of (Err why) = None
+task_steps_of (Ok (command.Run n)) = None
+task_steps_of (Ok (command.Task n)) = Some n
+task_steps_of (Ok (command.Break a)) = None
+task_steps_of (Ok command.Regs) = None
+task_steps_of (Ok (command.Memory a n)) = None
+task_steps_of (Ok command.Regions) = None
+task_steps_of (Ok (command.Explain a privileged kind)) = None
+task_steps_of (Ok command.Quit) = None
+
 -- whether a command ends the session
 abbrev pub quits : Result Command LineFault → Bool
 quits (Err why) = false
 quits (Ok (command.Run n)) = false
+quits (Ok (command.Task n)) = false
 quits (Ok (command.Break a)) = false
 quits (Ok command.Regs) = false
 quits (Ok (command.Memory a n)) = false

@@ -1,7 +1,7 @@
 //! The commands of a session, and how a line is read.
 
 ghost use Rattle.std.specs.Prelude.{◌≡◌, bytes_eq, option_map};
-ghost use Rattle.debugger_commands.specs.Commands.{alone, command_in, command_of, kind_of, name_of, privilege_of, quits, read_break, read_explain, read_memory, read_run, steps_of};
+ghost use Rattle.debugger_commands.specs.Commands.{alone, command_in, command_of, kind_of, name_of, privilege_of, quits, read_break, read_explain, read_memory, read_run, read_task, steps_of, task_steps_of};
 ghost use Rattle.debugger_commands.specs.Seen.{seen_two, seen_three};
 
 use crate::numbers::{number, number_within};
@@ -18,6 +18,8 @@ const MOST_STEPS: u32 = 1_000_000;
 pub enum Command {
     /// Make at most this many steps: `run n`, and `step` for one.
     Run(u32),
+    /// Make at most this many steps of a task: `task n`.
+    Task(u32),
     /// Set a breakpoint at an address: `break a`.
     Break(u32),
     /// Show the core registers: `regs`.
@@ -46,6 +48,7 @@ pub enum LineFault {
 pub enum Name {
     Step,
     Run,
+    Task,
     Break,
     Regs,
     Mem,
@@ -69,6 +72,8 @@ fn name_of(text: &[u8]) -> Option<Name>
         Some(Name::Step)
     } else if is_same(text, b"run") {
         Some(Name::Run)
+    } else if is_same(text, b"task") {
+        Some(Name::Task)
     } else if is_same(text, b"break") {
         Some(Name::Break)
     } else if is_same(text, b"regs") {
@@ -136,6 +141,7 @@ fn read_command(name: Option<Name>, more: Option<&[u8]>) -> Result<Command, Line
     match name {
         Name::Step => alone(Command::Run(1), more),
         Name::Run => read_run(one_word(more)),
+        Name::Task => read_task(one_word(more)),
         Name::Break => read_break(one_word(more)),
         Name::Regs => alone(Command::Regs, more),
         Name::Mem => read_memory(two_words(more)),
@@ -164,6 +170,19 @@ fn read_run(word: Option<&[u8]>) -> Result<Command, LineFault>
     };
     match number_within(1, MOST_STEPS, word) {
         Some(steps) => Ok(Command::Run(steps)),
+        None => Err(LineFault::Word),
+    }
+}
+
+/// Reads the word after `task`.
+fn read_task(word: Option<&[u8]>) -> Result<Command, LineFault>
+    ensures { result ≡ read_task (option_map (λ w. w.now) word.entry) }
+{
+    let Some(word) = word else {
+        return Err(LineFault::Command);
+    };
+    match number_within(1, MOST_STEPS, word) {
+        Some(steps) => Ok(Command::Task(steps)),
         None => Err(LineFault::Word),
     }
 }
@@ -212,12 +231,22 @@ fn read_explain(words: Option<ThreeWords<'_>>) -> Result<Command, LineFault>
     }
 }
 
-/// Returns how many steps a command makes at most, where it makes any.
+/// Returns how many steps a run makes at most, where the command is `run` or `step`.
 pub fn steps_of(asked: Result<Command, LineFault>) -> Option<u32>
     ensures { result ≡ steps_of asked }
 {
     match asked {
         Ok(Command::Run(steps)) => Some(steps),
+        _ => None,
+    }
+}
+
+/// Returns how many steps of a task are made at most, where the command is `task`.
+pub fn task_steps_of(asked: Result<Command, LineFault>) -> Option<u32>
+    ensures { result ≡ task_steps_of asked }
+{
+    match asked {
+        Ok(Command::Task(steps)) => Some(steps),
         _ => None,
     }
 }

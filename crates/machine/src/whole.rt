@@ -17,6 +17,7 @@ ghost use Rattle.reference.specs.Step.{step};
 ghost use Rattle.reference.specs.Text.{lines};
 ghost use Rattle.std.specs.Io.KnownBytes.{Appends};
 ghost use Rattle.task_laws.specs.Foresight.{next_kind_of};
+ghost use Rattle.task_laws.specs.Tasks.{is_task};
 
 use crate::readers::RegValues;
 use crate::run::{run_core, write_step};
@@ -175,6 +176,14 @@ impl<D: Decider, C: CodeLines, L: Levels, U: DueTicks> Machine<D, C, L, U> {
                 Err(RunFault::Write { steps })
             }
         }
+    }
+
+    /// Returns whether a task runs: the machine is in unprivileged Thread mode, outside the entry phase,
+    /// while the regions of the MPU decide.
+    pub fn is_task(&self) -> bool
+        ensures { result ≡ is_task self.now.state }
+    {
+        self.core.is_task()
     }
 
     /// Returns whether a writer failed in an earlier run, so that the bytes that went out aren't a

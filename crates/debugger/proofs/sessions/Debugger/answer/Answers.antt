@@ -9,5 +9,6 @@ returns-in-Err-clause-told g c =
     let same = c.as_slice.ensures ∙ c.reply-page.ensures.text in
     let text = reply_text c.args.machine.now.state c.args.self.now.breakpoints c.args.asked in
     reply_cut c.args.self.now.breakpoints c.args.asked _ _ _ _ (sym c.steps_of.ensures ∙ c.in-None.is)
+    (sym c.task_steps_of.ensures ∙ c.in-None-task_steps_of.is)
     (one_cut (record { state = c.args.machine.now.state; text = text }) _ _ _ _ (rw (← same) c.in-Err.ensures.0) refl
     c.in-Err.ensures.1)

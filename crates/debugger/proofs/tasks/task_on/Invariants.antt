@@ -1,0 +1,13 @@
+use Rattle.debugger.proofs.Telling.{Told}
+use Rattle.debugger.specs.Answers.{task_on}
+use Rattle.debugger.proofs.tasks.task_on.Given as goal
+
+-- the pieces so far went out, and those of the steps that are left are still to come
+abbrev pub invariant-steps : goal.invariant-steps
+invariant-steps g l =
+    Told (task_on l.fn.steps l.fn.machine.state) (task_on l.left l.machine.state) l.fn.machine l.machine
+    (record { written = g.W.Out.written l.fn.out; faults = g.W.Out.faults l.fn.out })
+    (record { written = g.W.Out.written l.out; faults = g.W.Out.faults l.out })
+
+abbrev pub decreases-steps : goal.decreases-steps
+decreases-steps g l = l.left

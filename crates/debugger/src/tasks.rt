@@ -1,0 +1,82 @@
+//! What the debugger answers to `task n`: the steps of a task, and why they ended.
+
+ghost use Rattle.std.specs.Prelude.{◌≡◌, [], ◌∷◌};
+ghost use Rattle.debugger.specs.Answers.{task_on, task_piece, task_pieces};
+ghost use Rattle.debugger.specs.Sessions.{Tells};
+ghost use Rattle.machine.specs.Tasks.{end_of};
+
+use crate::answers::write_step;
+use crate::texts::task_text;
+use machine::{
+    CodeLines, Decider, DueTicks, IoFault, Levels, LineRoom, Machine, Out, Stop, TaskEnd,
+    is_instruction,
+};
+
+/// Returns why a run of a task ends, by the stop of the machine and by whether steps are left.
+fn end_of(stop: Option<Stop>, left: bool) -> TaskEnd
+    ensures { result ≡ end_of stop left }
+{
+    match stop {
+        Some(stop) => TaskEnd::Stopped(stop),
+        None if left => TaskEnd::Other,
+        None => TaskEnd::Done,
+    }
+}
+
+/// Writes why a run of a task ended.
+fn put_task_end<D: Decider, C: CodeLines, L: Levels, U: DueTicks, W: Out>(
+    machine: &Machine<D, C, L, U>,
+    end: TaskEnd,
+    out: &mut W,
+) -> Result<(), IoFault>
+    ensures { Tells (task_piece machine.now.state end ∷ []) machine.now machine.now (record { written = W.written out.old; faults = W.faults out.old }) (record { written = W.written out.new; faults = W.faults out.new }) result }
+{
+    let page = task_text(end);
+    match out.put_all(page.as_slice()) {
+        Ok(()) => Ok(()),
+        Err(fault) => Err(fault),
+    }
+}
+
+/// Makes at most `steps` steps, as long as they are Instruction steps, and writes their lines and why
+/// the run ended.
+fn task_on<D: Decider, C: CodeLines, L: Levels, U: DueTicks, W: Out>(
+    machine: &mut Machine<D, C, L, U>,
+    steps: u32,
+    out: &mut W,
+) -> Result<(), IoFault>
+    ensures { Tells (task_on steps machine.old.state) machine.old machine.new (record { written = W.written out.old; faults = W.faults out.old }) (record { written = W.written out.new; faults = W.faults out.new }) result }
+{
+    let mut room = LineRoom::new();
+    let mut left = steps;
+    'steps: while left > 0 {
+        if !is_instruction(machine.next_kind()) {
+            break;
+        }
+        match write_step(machine, &mut room, out) {
+            Ok(()) => {}
+            Err(fault) => return Err(fault),
+        }
+        left -= 1;
+    }
+    let end = end_of(machine.stop(), left > 0);
+    match put_task_end(machine, end, out) {
+        Ok(()) => Ok(()),
+        Err(fault) => Err(fault),
+    }
+}
+
+/// Makes at most `steps` steps of a task, and writes their lines and why the run ended. A machine that
+/// has stopped, or on which no task runs, makes none.
+pub fn run_task<D: Decider, C: CodeLines, L: Levels, U: DueTicks, W: Out>(
+    machine: &mut Machine<D, C, L, U>,
+    steps: u32,
+    out: &mut W,
+) -> Result<(), IoFault>
+    ensures { Tells (task_pieces steps machine.old.state) machine.old machine.new (record { written = W.written out.old; faults = W.faults out.old }) (record { written = W.written out.new; faults = W.faults out.new }) result }
+{
+    if machine.stop().is_none() && !machine.is_task() {
+        return put_task_end(machine, TaskEnd::NotTask, out);
+    }
+    task_on(machine, steps, out)
+}
