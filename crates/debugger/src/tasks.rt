@@ -3,25 +3,13 @@
 ghost use Rattle.std.specs.Prelude.{◌≡◌, [], ◌∷◌};
 ghost use Rattle.debugger.specs.Answers.{task_on, task_piece, task_pieces};
 ghost use Rattle.debugger.specs.Sessions.{Tells};
-ghost use Rattle.machine.specs.Tasks.{end_of};
 
 use crate::answers::write_step;
 use crate::texts::task_text;
 use machine::{
-    CodeLines, Decider, DueTicks, IoFault, Levels, LineRoom, Machine, Out, Stop, TaskEnd,
+    CodeLines, Decider, DueTicks, IoFault, Levels, LineRoom, Machine, Out, TaskEnd, end_of_task,
     is_instruction,
 };
-
-/// Returns why a run of a task ends, by the stop of the machine and by whether steps are left.
-fn end_of(stop: Option<Stop>, left: bool) -> TaskEnd
-    ensures { result ≡ end_of stop left }
-{
-    match stop {
-        Some(stop) => TaskEnd::Stopped(stop),
-        None if left => TaskEnd::Other,
-        None => TaskEnd::Done,
-    }
-}
 
 /// Writes why a run of a task ended.
 fn put_task_end<D: Decider, C: CodeLines, L: Levels, U: DueTicks, W: Out>(
@@ -59,7 +47,7 @@ fn task_on<D: Decider, C: CodeLines, L: Levels, U: DueTicks, W: Out>(
         }
         left -= 1;
     }
-    let end = end_of(machine.stop(), left > 0);
+    let end = end_of_task(machine.stop(), left > 0);
     match put_task_end(machine, end, out) {
         Ok(()) => Ok(()),
         Err(fault) => Err(fault),

@@ -1,7 +1,7 @@
 //! Runs of a task: Instruction steps alone, in unprivileged Thread mode.
 
 ghost use Rattle.std.specs.Prelude.{◌≡◌, ◌+◌, IfOk, IfErr, OnOk};
-ghost use Rattle.machine.specs.Tasks.{TaskIsCut, TaskRuns, end_of as end_of_run};
+ghost use Rattle.machine.specs.Tasks.{TaskIsCut, TaskRuns, end_of};
 ghost use Rattle.task_laws.specs.Tasks.{is_task};
 
 use crate::foresight::is_instruction;
@@ -49,12 +49,13 @@ pub fn run_task_core<D: Decider, C: CodeLines, L: Levels, U: DueTicks, W: Out>(
             Err(_) => return Err(made),
         }
     }
-    Ok(end_of(core.stop(), made < limit))
+    Ok(end_of_task(core.stop(), made < limit))
 }
 
-/// Returns why a run has ended, by the stop of the machine and by whether steps of the limit are left.
-fn end_of(stop: Option<Stop>, left: bool) -> TaskEnd
-    ensures { result ≡ end_of_run stop left }
+/// Returns why a run of a task has ended, by the stop of the machine and by whether steps of the limit are
+/// left.
+pub fn end_of_task(stop: Option<Stop>, left: bool) -> TaskEnd
+    ensures { result ≡ end_of stop left }
 {
     match stop {
         Some(stop) => TaskEnd::Stopped(stop),

@@ -31,8 +31,8 @@ returns-in-Ok-put_task_end g c =
           inr
           (ap is_instruction (sym w.next_kind.ensures) ∙ sym w.is_instruction.ensures ∙ w.if-not-is_instruction.true)
     ] in
-    let same : c.end_of-end.result ≡ end_of c.steps.machine.state.stop (nat_lt 0 c.steps.left) =
-    c.end_of-end.ensures ∙ ap (λ (o : Option Stop). end_of o (nat_lt 0 c.steps.left)) c.stop.ensures in
+    let same : c.end_of_task-end.result ≡ end_of c.steps.machine.state.stop (nat_lt 0 c.steps.left) =
+    c.end_of_task-end.ensures ∙ ap (λ (o : Option Stop). end_of o (nat_lt 0 c.steps.left)) c.stop.ensures in
     all_told _ _ _ _ _ _ _ _ (task_ends _ _ _ _ _ _ _ ends same c.steps.invariant) c.in-Ok-put_task_end.ensures
 
 pub returns-in-Err-put_task_end : goal.returns-in-Err-put_task_end
@@ -44,6 +44,6 @@ returns-in-Err-put_task_end g c =
           inr
           (ap is_instruction (sym w.next_kind.ensures) ∙ sym w.is_instruction.ensures ∙ w.if-not-is_instruction.true)
     ] in
-    let same : c.end_of-end.result ≡ end_of c.steps.machine.state.stop (nat_lt 0 c.steps.left) =
-    c.end_of-end.ensures ∙ ap (λ (o : Option Stop). end_of o (nat_lt 0 c.steps.left)) c.stop.ensures in
+    let same : c.end_of_task-end.result ≡ end_of c.steps.machine.state.stop (nat_lt 0 c.steps.left) =
+    c.end_of_task-end.ensures ∙ ap (λ (o : Option Stop). end_of o (nat_lt 0 c.steps.left)) c.stop.ensures in
     rest_cut _ _ _ _ _ _ _ _ (task_ends _ _ _ _ _ _ _ ends same c.steps.invariant) c.in-Err-put_task_end.ensures
