@@ -6,6 +6,7 @@
 # Usage: bench/parts.sh [COUNT] [ROUNDS]
 set -euo pipefail
 top=$(cd "$(dirname "${BASH_SOURCE[0]}")/.." && pwd)
+marm=$("$top/marm" --proved)
 folder=$(mktemp -d)
 trap 'rm -rf "$folder"' EXIT
 # The program that is timed stands in a repository of its own, on copies of the crates and of what was proved of them.
@@ -18,9 +19,8 @@ echo "rate: mpu decode" >>"$folder/top/crates.txt"
 cp "$top/bench/rate.rt.in" "$folder/top/crates/rate/src/main.rt"
 head -c 4 /dev/zero >"$folder/four"
 (cd "$folder/top/crates/rate" && rt run -- decode "$folder/four" 1) >"$folder/log" 2>&1 || { cat "$folder/log" >&2; exit 1; }
-"$top/marm" run --board "$top/examples/boards/small.toml" --steps 0 "$top/examples/first.elf" >"$folder/stop"
 clang --target=thumbv7m-none-eabi -mcpu=cortex-m3 -O2 -ffreestanding -c -o "$folder/mix.o" "$top/bench/mix.c" &&
     llvm-objdump -d "$folder/mix.o" >"$folder/listing" || : >"$folder/listing"
-python3 -B "$top/bench/parts.py" "$folder/top/crates/rate/out/rate" "$top/crates/marm/out/marm" \
+python3 -B "$top/bench/parts.py" "$folder/top/crates/rate/out/rate" "$marm" \
     "$top/examples/boards/small.toml" "$top/crates/test_firmware/data/board.toml" "$top/examples/firmware/crc32-loop.elf" \
     "$folder/listing" "$folder" "${1:-30000000}" "${2:-9}"

@@ -6,9 +6,9 @@
 # step decoding and deciding take. Appends the figures to bench/results.csv. Usage: bench/run.sh [STEPS] [ROUNDS]
 set -euo pipefail
 top=$(cd "$(dirname "${BASH_SOURCE[0]}")/.." && pwd)
+marm=$("$top/marm" --proved)
 folder=$(mktemp -d)
 trap 'rm -rf "$folder"' EXIT
-"$top/marm" run --board "$top/examples/boards/small.toml" --steps 0 "$top/examples/first.elf" >"$folder/stop"
 # The program that runs images without a trace.
 (cd "$top/crates/test_firmware" && rt run -- data/board.toml) >"$folder/log" 2>&1 || { cat "$folder/log" >&2; exit 1; }
 gcc -O2 -o "$folder/format" "$top/bench/format.c"
@@ -20,7 +20,7 @@ then
 else
     echo "without QEMU: qemu-system-arm or qemu-plugin.h isn't there"
 fi
-python3 -B "$top/bench/rounds.py" "$top/crates/marm/out/marm" "$top/crates/test_firmware/out/test_firmware" "$folder/format" \
+python3 -B "$top/bench/rounds.py" "$marm" "$top/crates/test_firmware/out/test_firmware" "$folder/format" \
     "$plugin" "$top/crates/test_firmware/data/board.toml" "$top/examples/firmware/crc32-loop.elf" \
     "$folder" "${1:-3000000}" "${2:-15}"
 "$top/bench/parts.sh" "$((10 * ${1:-3000000}))" "${2:-9}"

@@ -7,8 +7,8 @@
 set -euo pipefail
 command -v valgrind >/dev/null || { echo "crosscheck: valgrind isn't there" >&2; exit 1; }
 top=$(cd "$(dirname "${BASH_SOURCE[0]}")/.." && pwd)
+marm=$("$top/marm" --proved)
 folder=$(mktemp -d)
 trap 'rm -rf "$folder"' EXIT
-"$top/marm" run --board "$top/examples/boards/small.toml" --steps 0 "$top/examples/first.elf" >"$folder/stop"
-PYTHONPATH="$top/bench" python3 -B "$top/crosscheck/cost.py" "$top/crates/marm/out/marm" \
+PYTHONPATH="$top/bench" python3 -B "$top/crosscheck/cost.py" "$marm" \
     "$top/examples/firmware/crc32-loop.elf" "$folder" "${1:-200000}"

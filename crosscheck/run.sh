@@ -8,9 +8,9 @@ for name in qemu-system-arm clang ld.lld llvm-objcopy; do
     command -v "$name" >/dev/null || { echo "crosscheck: $name isn't there" >&2; exit 1; }
 done
 top=$(cd "$(dirname "${BASH_SOURCE[0]}")/.." && pwd)
+marm=$("$top/marm" --proved)
 folder=$(mktemp -d)
 trap 'rm -rf "$folder"' EXIT
-"$top/marm" run --board "$top/examples/boards/small.toml" --steps 0 "$top/examples/first.elf" >"$folder/stop"
 count=${1:-10000}
 different=0
 for name in instructions regions system; do
@@ -18,7 +18,7 @@ for name in instructions regions system; do
     clang --target=thumbv7m-none-eabi -mcpu=cortex-m3 -I "$top/crosscheck" -c -o "$folder/object" "$top/crosscheck/$name.s"
     ld.lld -Ttext=0 -e 0 -o "$folder/linked" "$folder/object"
     llvm-objcopy -O binary -j .text "$folder/linked" "$folder/harness"
-    PYTHONPATH="$top/bench" python3 -B "$top/crosscheck/compare_$name.py" "$top/crates/marm/out/marm" \
+    PYTHONPATH="$top/bench" python3 -B "$top/crosscheck/compare_$name.py" "$marm" \
         "$top/crosscheck/board.toml" "$folder/harness" "$folder" "$count" "${2:-2026}" || different=1
 done
 "$top/crosscheck/exceptions.sh" "${2:-2026}" "$count" || different=1

@@ -3,6 +3,7 @@
 # writes: of standard output for 0 and 4, and of standard error for 2, 3 and 5.
 set -euo pipefail
 top=$(cd "$(dirname "${BASH_SOURCE[0]}")/.." && pwd)
+marm=$("$top/marm" --proved)
 work=$(mktemp -d)
 trap 'rm -rf "$work"' EXIT
 failed=0
@@ -11,7 +12,7 @@ failed=0
 expect() {
     local status=$1 line=$2 got=0
     shift 2
-    "$top/marm" "$@" >"$work/out" 2>"$work/err" || got=$?
+    "$marm" "$@" >"$work/out" 2>"$work/err" || got=$?
     local first
     first=$(cat "$work/out" "$work/err" | head -n 1)
     if [ "$got" != "$status" ] || [ "$first" != "$line" ]; then

@@ -3,14 +3,15 @@
 # Usage: examples/kernels/check.sh [FOLDER], the folder that build.sh was given.
 set -euo pipefail
 here=$(cd "$(dirname "${BASH_SOURCE[0]}")" && pwd)
-top=$here/../..
+top=$(cd "$here/../.." && pwd)
+marm=$("$top/marm" --proved)
 folder=${1:-$top/crates/test_firmware/data}
 work=$(mktemp -d)
 trap 'rm -rf "$work"' EXIT
 failed=0
 for name in round_robin faults nested atomics; do
     status=0
-    "$top/marm" run --board "$here/$name.toml" --steps 20000 "$folder/$name.elf" >"$work/trace" || status=$?
+    "$marm" run --board "$here/$name.toml" --steps 20000 "$folder/$name.elf" >"$work/trace" || status=$?
     python3 -B "$top/examples/firmware/console.py" <"$work/trace" >"$work/text"
     last=$(tail -n 1 "$work/trace")
     steps=$(tail -n 2 "$work/trace" | head -n 1 | cut -d' ' -f1)
