@@ -1,4 +1,4 @@
-/* The system registers that the kernels write, with the manual's names (ARM DDI 0403, "System Control Space"). */
+/* The system registers that the kernels and the start kit write, with the manual's names (ARM DDI 0403, "System Control Space"). */
 #ifndef REGISTERS_H
 #define REGISTERS_H
 
@@ -38,6 +38,7 @@
 #define MMFAR REGISTER(0xE000ED34u)
 #define BFAR REGISTER(0xE000ED38u)
 #define HFSR_FORCED (1u << 30)
+#define CFSR_MSTKERR (1u << 4)
 #define CFSR_MMARVALID (1u << 7)
 #define CFSR_BFARVALID (1u << 15)
 
@@ -52,6 +53,7 @@
 #define RASR_ENABLE 0x1u
 #define RASR_SIZE(n) ((uint32_t)(n) << 1)
 #define RASR_NO_ACCESS (0u << 24)
+#define RASR_PRIVILEGED_ACCESS (1u << 24)
 #define RASR_ALL_ACCESS (3u << 24)
 #define RASR_READ_ONLY (6u << 24)
 #define RASR_XN (1u << 28)
