@@ -1,6 +1,7 @@
 /* A plugin of QEMU that writes, for each instruction, the lines that marm writes: its fetch, a halfword a line, and its
-   loads and stores, an unaligned one byte by byte. It knows nothing of the MPU, so it writes what they are where the MPU
-   is off. It ends QEMU at a BKPT, with marm's line of that stop, and after a number of steps: -plugin plugin.so,steps=N. */
+   loads and stores, an unaligned one byte by byte. It knows nothing of the MPU, so it writes what they are where the
+   MPU is off. It ends QEMU at a BKPT, with marm's line of that stop, and after a number of steps:
+   -plugin plugin.so,steps=N. */
 #include <qemu-plugin.h>
 #include <stdint.h>
 #include <stdio.h>
@@ -74,7 +75,7 @@ static int is_store_exclusive(unsigned first, unsigned second) {
     return (first & 0xFFF0) == 0xE840 || ((first & 0xFFF0) == 0xE8C0 && (second & 0xE0) == 0x40);
 }
 
-/* The size of an instruction is that of its first halfword: at the end of a page QEMU 7.2 counts what it looks at too. */
+/* The first halfword of an instruction says its size: at the end of a page QEMU 7.2 counts what it looks at too. */
 static void translated(qemu_plugin_id_t id, struct qemu_plugin_tb *block) {
     (void)id;
     for (size_t number = 0; number < qemu_plugin_tb_n_insns(block); number++) {
@@ -82,11 +83,12 @@ static void translated(qemu_plugin_id_t id, struct qemu_plugin_tb *block) {
         const uint8_t *bytes = qemu_plugin_insn_data(one);
         int is_long = bytes[1] >= 0xE8;
         uintptr_t what = qemu_plugin_insn_vaddr(one) | (uintptr_t)is_long;
-        int exclusive = is_long && is_store_exclusive(bytes[0] | bytes[1] << 8, bytes[2] | bytes[3] << 8);
+        void *exclusive =
+            is_long && is_store_exclusive(bytes[0] | bytes[1] << 8, bytes[2] | bytes[3] << 8) ? &left : NULL;
         qemu_plugin_register_vcpu_insn_exec_cb(one, fetched, QEMU_PLUGIN_CB_NO_REGS, (void *)what);
         if (bytes[1] == 0xBE)
             qemu_plugin_register_vcpu_insn_exec_cb(one, stopped, QEMU_PLUGIN_CB_NO_REGS, (void *)(uintptr_t)bytes[0]);
-        qemu_plugin_register_vcpu_mem_cb(one, accessed, QEMU_PLUGIN_CB_NO_REGS, QEMU_PLUGIN_MEM_RW, exclusive ? &left : NULL);
+        qemu_plugin_register_vcpu_mem_cb(one, accessed, QEMU_PLUGIN_CB_NO_REGS, QEMU_PLUGIN_MEM_RW, exclusive);
     }
 }
 

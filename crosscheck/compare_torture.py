@@ -1,5 +1,5 @@
-"""Builds gcc's execution tests at levels, runs each on marm and in QEMU, and compares the traces. It prints how many tests of a
-level were built, are the same and differ, and each that differs or isn't linked."""
+"""Builds gcc's execution tests at levels, runs each on marm and in QEMU, and compares the traces. It prints how many
+tests of a level were built, how they ended where the traces are the same, and each that differs or isn't linked."""
 
 import collections
 import os
@@ -16,7 +16,7 @@ MARM, TOP, FOLDER = sys.argv[1:4]
 JOBS, ONLY, LEVELS = int(sys.argv[4]), sys.argv[5], sys.argv[6:]
 
 # What one run has at most: steps, seconds, and bytes of its trace.
-STEPS, SECONDS, BYTES = 1_000_000, 60, 1 << 29
+STEPS, SECONDS, BYTES = 2_000_000, 120, 1 << 29
 
 BOARD = os.path.join(TOP, "crosscheck", "board.toml")
 QEMU = "qemu-system-arm -M mps2-an385 -display none -monitor none -serial none".split()
@@ -117,7 +117,8 @@ def run_level(kit, tests, level):
     counts = collections.Counter(word for word, _, _ in outcomes)
     lines = sum(count for _, count, _ in outcomes)
     same = sum(count for word, count in counts.items() if word.startswith("stop "))
-    print(f"{level}: {len(tests)} tests, {len(tests) - counts['refused'] - counts['not linked']} built, {same} the same, {lines} lines")
+    images = len(tests) - counts["refused"] - counts["not linked"]
+    print(f"{level}: {len(tests)} tests, {images} built, {same} the same, with {lines} lines")
     for word, count in sorted(counts.items()):
         print(f"    {count} {word}")
     for test, (word, _, text) in zip(tests, outcomes):
@@ -130,6 +131,8 @@ def run_level(kit, tests, level):
 def main():
     kit = Kit(os.path.join(TOP, "examples", "firmware", "kit"), FOLDER)
     tests = tests_of(FOLDER, ONLY)
+    if not tests:
+        sys.exit(f"crosscheck: there is no test {ONLY}")
     well = [run_level(kit, tests, level) for level in LEVELS]
     sys.exit(not all(well))
 

@@ -6,7 +6,6 @@ import re
 RAM_END, QEMU_RAM_END = 0x20100000, 0x20400000
 
 ABOVE_RAM = "it accesses an address above RAM, which QEMU's board has"
-SAME_AS_BEFORE = {}
 
 
 def is_above_ram(line):

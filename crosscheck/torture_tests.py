@@ -5,18 +5,22 @@ import os
 import re
 import subprocess
 
-# The folders of tests, and the options that their scripts (*.exp) give all tests there. A test of `builtins` has a second
-# file, and main.c is that of all.
+# The folders of tests, and the options that their scripts (*.exp) give all tests there. A test of `builtins` has a
+# second file, and main.c is that of all.
 FOLDERS = {
     "execute": "-w",
     "execute/ieee": "-w -fno-inline",
-    "execute/builtins": "-w -fno-tree-dse -fno-tree-loop-distribute-patterns -fno-tracer -fno-ipa-ra -fno-inline-functions "
-    "-Wl,--allow-multiple-definition",
+    "execute/builtins": "-w -fno-tree-dse -fno-tree-loop-distribute-patterns -fno-tracer -fno-ipa-ra "
+    "-fno-inline-functions -Wl,--allow-multiple-definition",
 }
 
 # An option that a test asks for, whatever the target: `{ dg-options "-fwrapv" }`. What .x files ask for of this target.
 ASKED = re.compile(r'\{\s*dg-(?:additional-)?options\s+\{?\s*"([^"]*)"\s*\}?\s*\}')
-ASKED_BESIDE = {"compare-fp-3": "-fno-trapping-math", "fp-cmp-7": "-fno-trapping-math", "pr38016": "-fno-ivopts -fno-gcse"}
+ASKED_BESIDE = {
+    "compare-fp-3": "-fno-trapping-math",
+    "fp-cmp-7": "-fno-trapping-math",
+    "pr38016": "-fno-ivopts -fno-gcse",
+}
 
 TARGET = ["arm-none-eabi-gcc", "-mthumb", "-mcpu=cortex-m3"]
 LIMIT = 120
@@ -76,9 +80,9 @@ def succeeds(command):
 
 
 def built(kit, test, level, image):
-    """Builds a test. Returns "built", or why there is no image: "refused" where GCC has none with its own start code and
-    linker script either, and otherwise "not linked"."""
+    """Builds a test. Returns "built", or why there is no image: "refused" where GCC makes none with its own start code
+    and linker script either, and otherwise "not linked"."""
     if succeeds(kit.command(test, level, image)):
         return "built"
-    elsewhere = [*TARGET, "-" + level.split("-")[-1], *test.options, *test.files, "--specs=rdimon.specs", "-lm", "-o", image]
-    return "not linked" if succeeds(elsewhere) else "refused"
+    elsewhere = [*TARGET, "-" + level.split("-")[-1], *test.options, *test.files, "--specs=rdimon.specs", "-lm"]
+    return "not linked" if succeeds([*elsewhere, "-o", image]) else "refused"

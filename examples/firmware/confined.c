@@ -1,5 +1,6 @@
-/* A library program without privilege, under the five regions of kit/regions.c: printf, malloc and qsort as ever, and six
-   things that it may not do. The handlers of its faults are privileged: they keep what was refused, and go on by longjmp. */
+/* A library program without privilege, under the five regions of kit/regions.c: printf, malloc and qsort as ever, and
+   six things that it may not do. The handlers of its faults are privileged: they keep what was refused, and go on by
+   longjmp. */
 #include <setjmp.h>
 #include <stdint.h>
 #include <stdio.h>

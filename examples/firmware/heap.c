@@ -1,4 +1,4 @@
-/* The C library by newlib or picolibc: malloc, realloc and free, qsort, strtol, and the printf of floating-point numbers. */
+/* The C library, newlib or picolibc: malloc, realloc and free, qsort, strtol, and printf of floating-point numbers. */
 #include <stdint.h>
 #include <stdio.h>
 #include <stdlib.h>

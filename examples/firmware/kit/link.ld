@@ -3,7 +3,7 @@
 
    FLASH_BASE, FLASH_SIZE, RAM_SIZE    those of the board; RAM begins at 0x20000000
    STACK_SIZE                          the stack, with ROOM_SIZE bytes above its first word that nothing else uses
-   GUARD_SIZE                          the block below the stack, aligned to its size, that regions.c lets no code access
+   GUARD_SIZE                          the block below the stack, aligned to its size, that regions.c makes a guard
 
    malloc has the RAM from the end of the variables up to the guard. PHDRS names the segments of the file; none of them
    says FILEHDR or PHDRS, so the headers of the file are in none. */
@@ -49,8 +49,8 @@ SECTIONS
         __fini_array_end = .;
     } > FLASH :code
 
-    /* How the frames of each function are left, and what catches an exception of C++. The linker keeps what belongs to a
-       function that it keeps. */
+    /* How the frames of each function are left, and what catches an exception of C++. The linker keeps what belongs to
+       a function that it keeps. */
     .ARM.extab : { *(.ARM.extab* .gnu.linkonce.armextab.*) } > FLASH :code
     .ARM.exidx : {
         __exidx_start = .;
@@ -58,8 +58,8 @@ SECTIONS
         __exidx_end = .;
     } > FLASH :code
 
-    /* Variables with a start value: used in RAM, loaded into flash after the code. The start code copies them. Those of a
-       thread, which picolibc has, follow. */
+    /* Variables with a start value: used in RAM, loaded into flash after the code. The start code copies them. Those of
+       a thread, which picolibc has, follow. */
     .data : ALIGN(8) {
         __data_begin = .;
         *(.data .data.* .gnu.linkonce.d.*)
@@ -73,7 +73,8 @@ SECTIONS
     __data_end = __tls_base + SIZEOF(.tdata);
     __data_load = LOADADDR(.data);
 
-    /* Variables that begin as 0: nothing of them is in the file. The start code clears them, those of a thread first. */
+    /* Variables that begin as 0: nothing of them is in the file. The start code clears them. Those of a thread come
+       first. */
     __bss_begin = __data_end;
     .tbss (NOLOAD) : ALIGN(8) { *(.tbss .tbss.* .tcommon) } > RAM :tls
     .bss (NOLOAD) : ALIGN(8) {

@@ -1,5 +1,4 @@
-/* What picolibc wants beside syscalls.c: the three streams, the names without an underscore, and where the variables of the
-   thread are. */
+/* What picolibc takes from a program beside syscalls.c: three streams, and where the variables of the thread are. */
 #include "device.h"
 #include <stdio.h>
 #include <sys/stat.h>

@@ -1,6 +1,6 @@
-@ The vector table, and what runs from reset to main and after it, for a program with a C library: .data is copied, .bss is
-@ cleared, the constructors run, and exit gets what main returned. A program defines the handlers that it has; the others
-@ are `unexpected`. A program without a C library is linked with --defsym=exit=_exit.
+@ The vector table, and what runs from reset to main and after it, for a program with a C library: .data is copied, .bss
+@ is cleared, the constructors run, and exit gets what main returned. A program defines the handlers that it has; the
+@ others are `unexpected`. A program without a C library is linked with --defsym=exit=_exit.
 
     .syntax unified
     .cpu cortex-m3

@@ -1,5 +1,6 @@
-/* What newlib or picolibc calls: a console for its output, memory for malloc between the variables and the stack, and a clock. There
-   are no files, and there is no input: a call for one returns -1 with its error number. start.s has _exit. */
+/* What newlib or picolibc calls: a console for its output, memory for malloc between the variables and the stack, and a
+   clock. There are no files, and there is no input: a call for one returns -1 with its error number. start.s has
+   _exit. */
 #include "device.h"
 #include <errno.h>
 #include <stddef.h>
@@ -8,7 +9,7 @@
 #include <sys/times.h>
 #include <time.h>
 
-/* How many steps are a second of the clock, a multiple of CLOCKS_PER_SEC. It begins at 0 and is less than 2^32 steps. */
+/* How many steps are a second of the clock, a multiple of CLOCKS_PER_SEC. After 2^32 steps the clock begins again. */
 #ifndef STEPS_PER_SECOND
 #define STEPS_PER_SECOND 1000000u
 #endif
