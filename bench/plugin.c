@@ -1,6 +1,7 @@
 /* A plugin of QEMU that writes, for each instruction, the lines that marm writes: its fetch, a halfword a line, and its
-   loads and stores. It knows nothing of the MPU, so it writes what they are where the MPU is off. It ends QEMU after a
-   number of steps: -plugin plugin.so,steps=N. */
+   loads and stores, an unaligned one byte by byte. It knows nothing of the MPU, so it writes what they are where the
+   MPU is off. It ends QEMU at a BKPT, with marm's line of that stop, and after a number of steps:
+   -plugin plugin.so,steps=N. */
 #include <qemu-plugin.h>
 #include <stdint.h>
 #include <stdio.h>
@@ -50,19 +51,44 @@ static void fetched(unsigned processor, void *what) {
     if ((uintptr_t)what & 1) line('F', address + 2, '2');
 }
 
-static void accessed(unsigned processor, qemu_plugin_meminfo_t how, uint64_t address, void *data) {
+/* A BKPT with this number, whose fetch is written. */
+static void stopped(unsigned processor, void *number) {
     (void)processor;
-    (void)data;
-    line(qemu_plugin_mem_is_store(how) ? 'S' : 'L', address, '0' + (1 << qemu_plugin_mem_size_shift(how)));
+    hand_on();
+    used = (size_t)sprintf(page, "stop breakpoint %u\n", (unsigned)(uintptr_t)number);
+    hand_on();
+    exit(0);
 }
 
+/* A store exclusive makes a load too in QEMU, which compares first; `exclusive` says that the access is of one. */
+static void accessed(unsigned processor, qemu_plugin_meminfo_t how, uint64_t address, void *exclusive) {
+    (void)processor;
+    char kind = qemu_plugin_mem_is_store(how) ? 'S' : 'L';
+    unsigned size = 1u << qemu_plugin_mem_size_shift(how);
+    if (exclusive != NULL && kind == 'L') return;
+    if ((address & (size - 1)) == 0) line(kind, address, '0' + size);
+    else for (unsigned byte = 0; byte < size; byte++) line(kind, address + byte, '1');
+}
+
+/* STREX, STREXB, STREXH by their two halfwords. */
+static int is_store_exclusive(unsigned first, unsigned second) {
+    return (first & 0xFFF0) == 0xE840 || ((first & 0xFFF0) == 0xE8C0 && (second & 0xE0) == 0x40);
+}
+
+/* The first halfword of an instruction says its size: at the end of a page QEMU 7.2 counts what it looks at too. */
 static void translated(qemu_plugin_id_t id, struct qemu_plugin_tb *block) {
     (void)id;
     for (size_t number = 0; number < qemu_plugin_tb_n_insns(block); number++) {
         struct qemu_plugin_insn *one = qemu_plugin_tb_get_insn(block, number);
-        uintptr_t what = qemu_plugin_insn_vaddr(one) | (qemu_plugin_insn_size(one) == 4);
+        const uint8_t *bytes = qemu_plugin_insn_data(one);
+        int is_long = bytes[1] >= 0xE8;
+        uintptr_t what = qemu_plugin_insn_vaddr(one) | (uintptr_t)is_long;
+        void *exclusive =
+            is_long && is_store_exclusive(bytes[0] | bytes[1] << 8, bytes[2] | bytes[3] << 8) ? &left : NULL;
         qemu_plugin_register_vcpu_insn_exec_cb(one, fetched, QEMU_PLUGIN_CB_NO_REGS, (void *)what);
-        qemu_plugin_register_vcpu_mem_cb(one, accessed, QEMU_PLUGIN_CB_NO_REGS, QEMU_PLUGIN_MEM_RW, NULL);
+        if (bytes[1] == 0xBE)
+            qemu_plugin_register_vcpu_insn_exec_cb(one, stopped, QEMU_PLUGIN_CB_NO_REGS, (void *)(uintptr_t)bytes[0]);
+        qemu_plugin_register_vcpu_mem_cb(one, accessed, QEMU_PLUGIN_CB_NO_REGS, QEMU_PLUGIN_MEM_RW, exclusive);
     }
 }
 

@@ -1,4 +1,6 @@
-"""Runs programs on marm, and compares what they print with expected/NAME.txt. Usage: check.py MARM NAME.."""
+"""Runs programs on marm, and compares what they print with expected/NAME.txt. Usage: check.py MARM NAME..
+
+A program of the start kit is named kit-NAME-LIBRARY. hello-plain is hello without a C library."""
 
 import os
 import subprocess
@@ -13,8 +15,17 @@ DATA = f"{HERE}/../../crates/test_firmware/data"
 
 
 def elf_of(name):
-    """The file of a program: CI's, but for the loop that is too long for it."""
-    return f"{HERE}/{name}.elf" if name == "crc32-loop" else f"{DATA}/{name}.elf"
+    """The file of a program: CI's, or one of this folder."""
+    path = f"{DATA}/{name}.elf"
+    return path if os.path.exists(path) else f"{HERE}/{name}.elf"
+
+
+def text_of(name):
+    """What a program must print."""
+    words = name.split("-")
+    stem = words[1] if words[0] == "kit" else words[0] if words[-1] == "plain" else name
+    with open(f"{HERE}/expected/{stem}.txt", "rb") as file:
+        return file.read()
 
 
 def run(name):
@@ -32,8 +43,7 @@ def run(name):
 wrong = 0
 for name in NAMES:
     text, steps, last = run(name)
-    with open(f"{HERE}/expected/{name}.txt", "rb") as file:
-        well = text == file.read() and last == "stop breakpoint 0"
+    well = text == text_of(name) and last == "stop breakpoint 0"
     wrong += not well
     print(f"{name}: {'as expected' if well else 'NOT AS EXPECTED'}, {steps} steps, {last}", flush=True)
 sys.exit(wrong != 0)

@@ -11,7 +11,7 @@ work=$(mktemp -d)
 trap 'rm -rf "$work"' EXIT
 
 flags=(-mthumb -mcpu=cortex-m3 -mfloat-abi=soft -Os -std=c11 -Wall -Wextra -ffreestanding -ffunction-sections
-    -fno-unwind-tables -fno-asynchronous-unwind-tables -fno-jump-tables -I "$here/runtime")
+    -fno-unwind-tables -fno-asynchronous-unwind-tables -fno-jump-tables -I "$here/runtime" -I "$here/../firmware/kit")
 case $compiler in
 *clang*) flags+=(--target=thumbv7m-none-eabi -fuse-ld=lld -Qunused-arguments) ;;
 *) flags+=(-fno-tree-loop-distribute-patterns) ;;
