@@ -60,7 +60,7 @@ take unwrap_or Prelude Type nat_le nat_lt is_some Invariants Answers Proof old n
 OUTSIDE = set("""e_ident EI_CLASS EI_DATA e_type e_machine e_phoff e_phentsize e_phnum e_entry e_version e_flags e_ehsize
 p_type p_offset p_paddr p_filesz p_vaddr p_memsz p_flags p_align MEMORY PHDRS FILEHDR FLASH RAM AT LOADADDR ORIGIN
 PROVIDE KEEP memcpy memmove memset strcmp strstr printf malloc _sbrk _write _exit _read _close _fstat _isatty _lseek
-mps2-an385 lm3s6965evb stm32vldiscovery -singlestep armv7m_nvic_complete_irq start.elf hello-newlib.elf hello-plain.elf arm-none-eabi-size .bss .data setpan setend hi.c /opt/rattle""".split())
+mps2-an385 lm3s6965evb stm32vldiscovery -singlestep armv7m_nvic_complete_irq start.elf hello-newlib.elf hello-plain.elf objects.cpp preinit_array init_array ARM.exidx ARM.extab arm-none-eabi-size .bss .data setpan setend hi.c /opt/rattle""".split())
 
 # instructions and registers of the manual, and words of a trace line
 MANUAL = re.compile(r"""^(R\d+|R\[n\]|[A-Z][A-Z0-9_]+(\.[A-Z0-9_]+)?   # registers, fields, instructions
@@ -76,7 +76,7 @@ name x i f b o z a c s n e mmm ddd .. steps""".split())
 EXAMPLE_PAGES = {f"docs/{name}.md" for name in "FIRMWARE KERNELS BUILDING PERFORMANCE CROSSCHECK QEMU AUDIT".split()}
 
 # what the kit and a shell print or take
-WHOLE = re.compile(r"^(rattle-kit-.*|Handles allowed: none\.|grep .*|N passed, 0 failed|old \+\+ bytes|List ℕ|WHAT|rattle|git .*|.*::Chapter::.*)$")
+WHOLE = re.compile(r"^(rattle-kit-.*|--specs=\w+\.specs|-Wl,--[\w=.]+|Handles allowed: none\.|grep .*|N passed, 0 failed|old \+\+ bytes|List ℕ|WHAT|rattle|git .*|.*::Chapter::.*)$")
 
 # a line of a trace, as an example
 TRACE_LINE = re.compile(r"^(\d+ [FLSKUVORX!] |stop [a-z]+)")
@@ -235,7 +235,7 @@ def missing(repo, span, page):
     if re.match(r"^[\"'\[(<>=.,;:!?*+&|{}#\\-]+$", span):
         return []
     words = span.split()
-    if words[0] in COMMANDS or words[0].startswith(("./", "crosscheck/", "bench/", "docs/")) and len(words) > 1:
+    if words[0] in COMMANDS or words[0].startswith(("./", "crosscheck/", "bench/", "docs/", "mutations/")) and len(words) > 1:
         lost = [w for w in words if "/" in w and w[0].isalpha() and not repo.has_path(w, page)]
         if words[0] == "rt" and len(words) > 1 and words[1] not in RT_WORDS:
             lost.append(span)
@@ -412,7 +412,7 @@ def manual_page():
 
 def pages():
     found = ["README.md", "CONTRIBUTING.md"]
-    for pattern in ("docs/*.md", "crates/*/README.md"):
+    for pattern in ("docs/*.md", "crates/*/README.md", "mutations/README.md"):
         found += sorted(os.path.relpath(path, TOP) for path in glob.glob(os.path.join(TOP, pattern)))
     return found
 
