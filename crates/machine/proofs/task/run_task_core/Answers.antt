@@ -48,6 +48,6 @@ returns-clause-end g c =
       state = c.steps.invariant.core;
       written = c.steps.invariant.written;
       ends =
-          rw (c.end_of.ensures, c.stop.ensures)
+          rw (c.end_of_task.ensures, c.stop.ensures)
           (ends_so c.args.limit c.steps.made c.steps.core c.steps.invariant.few ends);
     }
