@@ -33,12 +33,12 @@ use Rattle.reference.specs.Step.{ended, finished, served, performed_all, planned
 use Rattle.reference.specs.Step.{fetched_second, with_second, fetched_first, instruction, sleeps_on, phase, running}
 use Rattle.reference.specs.Step.{unless_stopped, step}
 use Rattle.reference.specs.Time.{last_tick}
+use Rattle.state_laws.proofs.Effects.{Leaves, stack_pointer_is, code_address_is, register_kept, moves_on_kept}
 use Rattle.state_laws.proofs.Effects.{result_kept}
 use Rattle.state_laws.proofs.Frames.{Has, LeavesGood, failed_kept, supervisor_kept, entry_kept, vector_step_kept}
 use Rattle.state_laws.proofs.Frames.{return_kept}
 use Rattle.state_laws.proofs.Nvic.{either}
 use Rattle.state_laws.proofs.Registers.{zeros_are_words, alike, with_flags, msp_kept, psp_kept, writes_kept}
-use Rattle.state_laws.proofs.Effects.{Leaves, stack_pointer_is, code_address_is, register_kept, moves_on_kept}
 
 -- ---- the end of an instruction
 

@@ -1,6 +1,6 @@
 -- What each write of a core register keeps, each instruction keeps.
-use Rattle.std.proofs.Common.{ℕ, Bool, List, [], ◌∷◌, drop, slice_index, arith, ◌≡◌, ◌^◌, ◌<◌, true}
-use Rattle.std.proofs.Common.{◌==◌, slice_set, Option}
+use Rattle.std.proofs.Common.{ℕ, Bool, List, [], ◌∷◌, drop, slice_index, arith, ◌≡◌, ◌^◌, ◌<◌, true, ◌==◌, slice_set}
+use Rattle.std.proofs.Common.{Option}
 use Rattle.std.proofs.lemmas.Bool.{and_parts}
 use Rattle.reference.specs.declared.instruction.Branch.{Branch}
 use Rattle.reference.specs.declared.instruction.Branch.TheVariants as branch

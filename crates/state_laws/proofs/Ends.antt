@@ -28,13 +28,12 @@ use Rattle.reference.specs.System.{System, reset_system}
 use Rattle.state_laws.specs.StateLaw.{IfGiven, TickKeeps, AccessKeeps, InstructionKeeps}
 use Rattle.state_laws.proofs.Accesses.{IsWholeBus, carried_whole, perform_whole, served_whole}
 use Rattle.state_laws.proofs.Core.{special_kept, step_kept, reset_has}
-use Rattle.state_laws.proofs.Registers.{writes_kept}
-use Rattle.state_laws.proofs.Effects.{register_kept}
-use Rattle.state_laws.proofs.Effects.{result_kept}
+use Rattle.state_laws.proofs.Effects.{register_kept, result_kept}
 use Rattle.state_laws.proofs.Entries.{none, step_called}
 use Rattle.state_laws.proofs.Faults.{HasWhole}
 use Rattle.state_laws.proofs.Memories.{overwritten_apart, start_apart}
 use Rattle.state_laws.proofs.Nvic.{either}
+use Rattle.state_laws.proofs.Registers.{writes_kept}
 use Rattle.state_laws.proofs.Sets.{sets_of_board, top_bits_of_board, board_of, board_at_reset}
 use Rattle.state_laws.proofs.Steps.{step_whole}
 use Rattle.state_laws.proofs.Systems.{IsWhole, placed_mask_whole, tick_whole}

@@ -10,8 +10,8 @@ use Rattle.reference.specs.Invariant.{IsStackPointer, IsCodeAddress, HasRegister
 use Rattle.reference.specs.ProgramCounter.{advanced, instruction_bytes}
 use Rattle.reference.specs.Registers.{Registers}
 use Rattle.reference.specs.Words.{word_sum}
-use Rattle.state_laws.proofs.Nvic.{either}
 use Rattle.state_laws.proofs.Effects.{KeepsWrites}
+use Rattle.state_laws.proofs.Nvic.{either}
 
 -- ---- values
 

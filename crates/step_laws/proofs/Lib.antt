@@ -5,7 +5,7 @@ mod Exceptions
 mod Steps
 mod Words
 mod Frames
-mod Stored
+pub mod Stored
 mod Pushed
 mod Stacks
 mod Returns

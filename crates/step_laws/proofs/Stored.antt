@@ -15,7 +15,8 @@ IsWord m a v = (k : ℕ) → k < 4 → byte_at m (a + k) ≡ Some (get_or (bytes
 
 -- ---- what was written
 
-written_in : (block bytes : List ℕ) (a k : ℕ) → a + length bytes ≤ length block → k < length bytes →
+-- a byte of a block at a place where bytes were written is the byte that was written there
+pub written_in : (block bytes : List ℕ) (a k : ℕ) → a + length bytes ≤ length block → k < length bytes →
     get_or (with_bytes block a bytes) (a + k) 0 ≡ get_or bytes k 0
 written_in block bytes a k fits below =
     let front = length-front block bytes a fits in

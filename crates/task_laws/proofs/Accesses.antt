@@ -1,7 +1,8 @@
--- An access of unprivileged code, and a list of them, from two buses that differ only in memory, where the memories look
--- the same to it. Each lemma says of what follows: it differs only in memory again, and `Alike` holds.
-use Rattle.std.proofs.Common.{◌≡◌, ◌⊎◌, inl, inr, ℕ, zero, suc, ◌+◌, ◌/◌, Bool, true, false, not, ◌||◌}
-use Rattle.std.proofs.Common.{List, [], ◌∷◌, length, Result, Ok, Err, refl, sym, ap, subst, ◌∙◌}
+-- An access of unprivileged code, and a list of them, from two buses that differ only in memory, where the memories
+-- look the same to it: what is left differs only in memory again, and `Alike` holds of it.
+use Rattle.std.proofs.Common.{◌≡◌, ◌⊎◌, inl, inr, ℕ, zero, suc, ◌+◌, ◌/◌, Bool, true, false, not, List, [], ◌∷◌}
+use Rattle.std.proofs.Common.{length, Result, Ok, Err, refl, sym, ap, subst, ◌∙◌}
+use Rattle.std.proofs.lemmas.Bool.{or_right}
 use Rattle.reference.specs.declared.access.Answer.{Answer}
 use Rattle.reference.specs.declared.access.Decision.{Decision}
 use Rattle.reference.specs.declared.access.Kind.{Kind}
@@ -9,9 +10,8 @@ use Rattle.reference.specs.declared.access.Kind.TheVariants.{Fetch, Load, Store,
 use Rattle.reference.specs.declared.access.Request.{Request}
 use Rattle.reference.specs.declared.event.Event.{Event}
 use Rattle.reference.specs.declared.failure.Failure.{Failure}
-use Rattle.reference.specs.Accesses.{BusAnswer, AccessResult, ListResult, answered_by_bus, answered_under, decided, decision}
-use Rattle.reference.specs.Accesses.{lifted}
-use Rattle.reference.specs.Accesses.{access_lines, perform, value_of, followed, perform_all}
+use Rattle.reference.specs.Accesses.{BusAnswer, AccessResult, ListResult, answered_by_bus, answered_under, decided}
+use Rattle.reference.specs.Accesses.{decision, lifted, access_lines, perform, value_of, followed, perform_all}
 use Rattle.reference.specs.Kinds.{bytes_in, is_probe, is_write}
 use Rattle.reference.specs.Map.{is_in_ppb, is_in_window}
 use Rattle.reference.specs.Memory.{Memory, is_in_ram, bytes_of}
@@ -30,11 +30,11 @@ use Rattle.task_laws.proofs.Priorities.{Decides, system_decides}
 abbrev pub denies : Mpu → Bool → ℕ → Bool
 denies m z a = not (may m z Store a)
 
--- a kind of access is granted at each byte of a request
+-- the decision grants a kind of access at each byte of a request
 abbrev Granted : Mpu → Bool → Kind → Request → Type 0
 Granted m z kind q = AllIn (may m z kind) q.access.address (bytes_in q.access.size)
 
--- where it is granted at the address, it is granted at each byte
+-- where it grants that kind at the address, it grants it at each byte
 granted_in : (m : Mpu) (z : Bool) (kind : Kind) (q : Request) → IsSound m → IsOfTask q →
     may m z kind q.access.address ≡ true → Granted m z kind q
 granted_in m z kind q sound of granted k below =
@@ -49,13 +49,9 @@ record IsOpen (m : Mpu) (z : Bool) (q : Request) : Type 0 where
       AllIn (sees m z) q.access.address (bytes_in q.access.size)
   writes : is_write q.access.kind ≡ true → Granted m z Store q
 
-or_right : (p q : Bool) → q ≡ true → (p || q) ≡ true
-or_right true q e = refl
-or_right false q e = e
-
--- a request that is granted is so
-is_open : (m : Mpu) (z : Bool) (q : Request) → IsSound m → IsOfTask q →
-    may m z q.access.kind q.access.address ≡ true → IsOpen m z q
+-- where the decision grants a request, it is so
+is_open : (m : Mpu) (z : Bool) (q : Request) → IsSound m → IsOfTask q → may m z q.access.kind q.access.address ≡ true →
+    IsOpen m z q
 is_open m z q sound of granted = split of.kind
   where
     no_write : (kind : Kind) → q.access.kind ≡ kind → is_write kind ≡ false → is_write q.access.kind ≡ true →
@@ -110,6 +106,7 @@ result_with a k = record a { bus = with_memory_of a.bus k }
 abbrev pub list_with : ListResult → Memory → ListResult
 list_with all k = record all { bus = with_memory_of all.bus k }
 
+-- m and z are what the decision depends on, and `old` is the memory before the accesses
 module _ (m : Mpu) (z : Bool) (old : Memory) where
   -- the memory of a bus looks the same as k, each byte that may not be stored is as in `old`, and m and z are what the
   -- decision depends on
@@ -120,21 +117,21 @@ module _ (m : Mpu) (z : Bool) (old : Memory) where
 
   -- ---- flash, RAM and the device window
 
-  -- two answers of them
+  -- two answers of them: they differ only in memory
   record SameSpace (one two : SpaceAnswer) : Type 0 where
     rest : two ≡ space_with one two.memory
     looks : Agree (sees m z) one.memory two.memory
     kept : Agree (denies m z) old one.memory
 
-  write_alike : (b : Bus) (k : Memory) (q : Request) → Alike b k →
-      Granted m z Store q → SameSpace (written_to b.memory q) (written_to k q)
+  write_alike : (b : Bus) (k : Memory) (q : Request) → Alike b k → Granted m z Store q →
+      SameSpace (written_to b.memory q) (written_to k q)
   write_alike b k q alike granted =
       let bytes = bytes_of (bytes_in q.access.size) q.value in
       let long = length-bytes_of (bytes_in q.access.size) q.value in
-      both (SameSpace) (is_in_window q.access.address) _ _ _ _
+      both SameSpace (is_in_window q.access.address) _ _ _ _
       (λ e. record { rest = refl; looks = alike.looks; kept = alike.kept })
       (λ e. rw alike.looks.ram.size
-      (both (SameSpace) (is_in_ram b.memory q.access.address (bytes_in q.access.size)) _ _ _ _
+      (both SameSpace (is_in_ram b.memory q.access.address (bytes_in q.access.size)) _ _ _ _
       (λ there. record {
         rest = refl;
         looks = written_alike (sees m z) b.memory k q.access.address bytes (rw long there) alike.looks;
@@ -144,12 +141,11 @@ module _ (m : Mpu) (z : Bool) (old : Memory) where
       })
       (λ f. record { rest = refl; looks = alike.looks; kept = alike.kept })))
 
-  space_alike : (b : Bus) (k : Memory) (ticks : ℕ) (q : Request) →
-      Alike b k → IsOpen m z q → is_probe q.access.kind ≡ false →
-      SameSpace (space_access b.memory ticks q) (space_access k ticks q)
+  space_alike : (b : Bus) (k : Memory) (ticks : ℕ) (q : Request) → Alike b k → IsOpen m z q →
+      is_probe q.access.kind ≡ false → SameSpace (space_access b.memory ticks q) (space_access k ticks q)
   unfolding space_access
   space_alike b k ticks q alike opened unprobed =
-      both (SameSpace) (is_write q.access.kind) _ _ _ _ (λ e. write_alike b k q alike (opened.writes e))
+      both SameSpace (is_write q.access.kind) _ _ _ _ (λ e. write_alike b k q alike (opened.writes e))
       (λ e. record {
         rest =
             ap (λ (a : Answer). record { memory = k; answer = a })
@@ -163,18 +159,17 @@ module _ (m : Mpu) (z : Bool) (old : Memory) where
 
   -- ---- the bus
 
-  -- two answers of the bus
+  -- two answers of the bus: they differ only in memory
   record SameAnswer (one two : BusAnswer) : Type 0 where
     rest : two ≡ answer_with one two.bus.memory
     alike : Alike one.bus two.bus.memory
 
-  carried_alike : (x : ℕ) (b : Bus) (k : Memory) (q : Request) → IsOfTask q →
-      Alike b k → IsOpen m z q →
+  carried_alike : (x : ℕ) (b : Bus) (k : Memory) (q : Request) → IsOfTask q → Alike b k → IsOpen m z q →
       SameAnswer (answered_by_bus x b q) (answered_by_bus x (with_memory_of b k) q)
   unfolding answered_by_bus
   carried_alike x b k q of alike opened =
-      both (SameAnswer) (is_probe q.access.kind) _ _ _ _ (λ e. record { rest = refl; alike = alike })
-      (λ e. both (SameAnswer) (is_in_ppb q.access.address) _ _ _ _
+      both SameAnswer (is_probe q.access.kind) _ _ _ _ (λ e. record { rest = refl; alike = alike })
+      (λ e. both SameAnswer (is_in_ppb q.access.address) _ _ _ _
       (λ f. record {
         rest = refl;
         alike = record {
@@ -191,13 +186,13 @@ module _ (m : Mpu) (z : Bool) (old : Memory) where
 
   -- ---- one access
 
-  -- the results of two accesses
+  -- the results of two accesses: they differ only in memory
   pub record SameResult (one two : AccessResult) : Type 0 where
     pub rest : two ≡ result_with one two.bus.memory
     pub alike : Alike one.bus two.bus.memory
 
-  by_decision : (x : ℕ) (b : Bus) (k : Memory) (q : Request) (d : Decision)
-      (granted : Bool) → d.granted ≡ granted → IsOfTask q → Alike b k → (d.granted ≡ true → IsOpen m z q) →
+  by_decision : (x : ℕ) (b : Bus) (k : Memory) (q : Request) (d : Decision) (granted : Bool) → d.granted ≡ granted →
+      IsOfTask q → Alike b k → (d.granted ≡ true → IsOpen m z q) →
       SameResult (decided x b q d) (decided x (with_memory_of b k) q d)
   by_decision x b k q d true e of alike opened =
       let here = carried_alike x b k q of alike (opened e) in
@@ -205,8 +200,8 @@ module _ (m : Mpu) (z : Bool) (old : Memory) where
   by_decision x b k q d false e of alike opened = rw e (record { rest = refl; alike = alike })
 
   -- an access of unprivileged code
-  pub perform_alike : (x : ℕ) (b : Bus) (k : Memory) (q : Request) → IsSound m →
-      IsOfTask q → Alike b k → SameResult (perform x b q) (perform x (with_memory_of b k) q)
+  pub perform_alike : (x : ℕ) (b : Bus) (k : Memory) (q : Request) → IsSound m → IsOfTask q → Alike b k →
+      SameResult (perform x b q) (perform x (with_memory_of b k) q)
   unfolding perform
   perform_alike x b k q sound of alike =
       by_decision x b k q (decision b q) _ refl of alike
@@ -214,21 +209,20 @@ module _ (m : Mpu) (z : Bool) (old : Memory) where
 
   -- ---- a list of accesses
 
-  -- the results of two lists
+  -- the results of two lists: they differ only in memory
   pub record SameList (one two : ListResult) : Type 0 where
     pub rest : two ≡ list_with one two.bus.memory
     pub alike : Alike one.bus two.bus.memory
 
-  followed_alike : (events : List Event) (b : Bus) (k : Memory)
-      (value : Result ℕ Failure) (first second : ListResult) → Alike b k → SameList first second →
+  followed_alike : (events : List Event) (b : Bus) (k : Memory) (value : Result ℕ Failure) (first second : ListResult) →
+      Alike b k → SameList first second →
       SameList (followed events b value first) (followed events (with_memory_of b k) value second)
   followed_alike events b k (Ok value) first second alike others =
       record { rest = ap (followed events b (Ok value)) others.rest; alike = others.alike }
   followed_alike events b k (Err why) first second alike others = record { rest = refl; alike = alike }
 
   -- a list of accesses of unprivileged code
-  pub all_alike : (x tick : ℕ) (b : Bus) (k : Memory) (qs : List Request) →
-      IsSound m → AreOfTask qs → Alike b k →
+  pub all_alike : (x tick : ℕ) (b : Bus) (k : Memory) (qs : List Request) → IsSound m → AreOfTask qs → Alike b k →
       SameList (perform_all x tick b qs) (perform_all x tick (with_memory_of b k) qs)
   unfolding perform_all
   all_alike x tick b k [] sound of alike = record { rest = refl; alike = alike }

@@ -1,5 +1,6 @@
 -- An Instruction step, by the parts of a state on which the kind of the next step depends.
-use Rattle.std.proofs.Common.{◌≡◌, ℕ, nat_le, Bool, true, false, if◌then◌else◌, [], Option, Some, None, refl, sym, ap, ◌∙◌}
+use Rattle.std.proofs.Common.{◌≡◌, ℕ, nat_le, Bool, true, false, if◌then◌else◌, [], Option, Some, None, refl, sym, ap}
+use Rattle.std.proofs.Common.{◌∙◌}
 use Rattle.reference.specs.declared.stop.LeftOut.TheVariants.{ClockEnd}
 use Rattle.reference.specs.declared.stop.Stop.{Stop}
 use Rattle.reference.specs.declared.stop.Stop.TheVariants as stop
@@ -12,8 +13,8 @@ use Rattle.task_laws.specs.declared.foresight.StepKind.TheVariants as kind
 use Rattle.task_laws.specs.Foresight.{kind_after, kind_of_running, kind_unless_stopped, next_kind_of, is_instruction}
 use Rattle.task_laws.specs.Foresight.{is_instruction_next}
 
--- the next step is an Instruction step: the machine hasn't stopped, the clock isn't at its end, the machine isn't in the
--- entry phase, and after the tick it has no candidate and doesn't sleep on
+-- the next step is an Instruction step: the machine hasn't stopped, the clock isn't at its end, it isn't in the entry
+-- phase, and after the tick it has no candidate and doesn't sleep on
 pub record IsInstruction (s : State) : Type 0 where
   pub running : s.stop ≡ None
   pub early : nat_le last_tick s.bus.system.time.ticks ≡ false
@@ -45,9 +46,9 @@ running_by : (s : State) (late : Bool) → nat_le last_tick s.bus.system.time.ti
 running_by s true e = rw e refl
 running_by s false e = rw e (after_by (ticked s) s.entry (candidate (ticked s).bus.system.nvic))
 
-unless_by : (s : State) (why : Option Stop) → kind_unless_stopped s why
-    ≡ kind_by why (nat_le last_tick s.bus.system.time.ticks) s.entry (candidate (ticked s).bus.system.nvic)
-    (sleeps_on (ticked s))
+unless_by : (s : State) (why : Option Stop) →
+    kind_unless_stopped s why ≡ kind_by why (nat_le last_tick s.bus.system.time.ticks) s.entry
+    (candidate (ticked s).bus.system.nvic) (sleeps_on (ticked s))
 unless_by s (Some why) = refl
 unless_by s None = running_by s _ refl
 

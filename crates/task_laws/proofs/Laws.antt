@@ -1,6 +1,6 @@
 -- The laws. Those of n steps follow from `step_alike` by induction, and that of one step is the case n = 1.
-use Rattle.std.proofs.Common.{◌≡◌, ◌⊎◌, inl, inr, ℕ, zero, suc, ◌<◌, Bool, true, List, ◌++◌, refl, sym, ap, subst, ◌∙◌, arith}
-use Rattle.std.proofs.Common.{le_of_suc-le-suc, eq-or-lt_of_le}
+use Rattle.std.proofs.Common.{◌≡◌, ◌⊎◌, inl, inr, ℕ, zero, suc, ◌<◌, Bool, true, List, ◌++◌, refl, sym, ap, subst, ◌∙◌}
+use Rattle.std.proofs.Common.{arith, le_of_suc-le-suc, eq-or-lt_of_le}
 use Rattle.std.proofs.lemmas.Bool.{and_from, and_parts}
 use Rattle.reference.specs.declared.access.Request.{Request}
 use Rattle.reference.specs.declared.event.Event.{Event}
@@ -215,6 +215,6 @@ end_law n s t steps end inv task same are ends =
     let all = run_law s t steps inv task same are in (
       all.instructions,
       subst (λ (u : State). Ends n steps u end) (sym all.same.rest)
-      (end_there n steps (after steps s) (after steps t).bus.memory end ends),
+          (end_there n steps (after steps s) (after steps t).bus.memory end ends),
       all.events,
     )

@@ -1,11 +1,12 @@
--- What makes an exception pending changes no decision, and neither does an access of unprivileged code.
-use Rattle.std.proofs.Common.{◌≡◌, ℕ, zero, suc, ◌+◌, ◌*◌, ◌/◌, ◌%◌, ◌^◌, Bool, true, false, not, ◌&&◌, ◌||◌, ◌==◌, ◌∙◌, refl, sym, ap}
-use Rattle.std.proofs.Common.{eqb-true}
+-- Neither a tick nor an access of unprivileged code changes what the decision depends on: they make exceptions pending.
+use Rattle.std.proofs.Common.{◌≡◌, ℕ, zero, suc, ◌+◌, ◌*◌, ◌/◌, ◌%◌, ◌^◌, Bool, true, false, not, ◌||◌, ◌==◌, ◌∙◌, refl}
+use Rattle.std.proofs.Common.{sym, ap, eqb-true}
+use Rattle.std.proofs.lemmas.Bool.{and_parts}
 use Rattle.nvic.proofs.BelowZero.{below_zero}
 use Rattle.reference.specs.declared.access.Request.{Request}
+use Rattle.reference.specs.declared.exception.TheConstants.{EXCEPTIONS, FIRST_LINE}
 use Rattle.reference.specs.declared.system.SystemRegister.{SystemRegister}
 use Rattle.reference.specs.declared.system.SystemRegister.TheVariants as register
-use Rattle.reference.specs.declared.exception.TheConstants.{EXCEPTIONS, FIRST_LINE}
 use Rattle.reference.specs.Control.{control_at}
 use Rattle.reference.specs.Handlers.{handler_priority_at}
 use Rattle.reference.specs.Interrupts.{interrupts_at, interrupt_priority_at, stir_address, triggered}
@@ -15,12 +16,12 @@ use Rattle.reference.specs.Regions.{Mpu}
 use Rattle.reference.specs.Status.{status_at, usersetmpend}
 use Rattle.reference.specs.SysTickRegisters.{systick_at}
 use Rattle.reference.specs.System.{System, SystemAnswer, single_at, register_at, has_access, has_width, after_read}
-use Rattle.reference.specs.System.{register_written}
-use Rattle.reference.specs.System.{register_access, system_access, with_pended_at, with_pended_below, with_pended, after_tick}
+use Rattle.reference.specs.System.{register_written, register_access, system_access, with_pended_at, with_pended_below}
+use Rattle.reference.specs.System.{with_pended, after_tick}
 use Rattle.reference.specs.Time.{tick_pends}
 use Rattle.state_laws.proofs.Nvic.{either}
 
--- what the decision on an access depends on
+-- the decision on an access depends on the registers m of the MPU, and on z: whether the execution priority is below 0
 pub record Decides (m : Mpu) (z : Bool) (s : System) : Type 0 where
   pub mpu : s.mpu ≡ m
   pub below_zero : is_below_zero s.nvic ≡ z
@@ -36,21 +37,16 @@ unfolding with_pended_at
 pended_at_alike n test x =
     either (λ (p : Nvic). is_below_zero p ≡ is_below_zero n) (test x) _ _ (λ e. pending_alike n x true) (λ e. refl)
 
-pended_below_alike : (n : Nvic) (test : ℕ → Bool) (x : ℕ) →
-    is_below_zero (with_pended_below n test x) ≡ is_below_zero n
+pended_below_alike : (n : Nvic) (test : ℕ → Bool) (x : ℕ) → is_below_zero (with_pended_below n test x) ≡ is_below_zero n
 unfolding with_pended_below
 pended_below_alike n test zero = refl
 pended_below_alike n test (suc x) =
     pended_at_alike (with_pended_below n test x) test x ∙ pended_below_alike n test x
 
+-- what a tick makes pending leaves it too
 pub pended_alike : (n : Nvic) (test : ℕ → Bool) → is_below_zero (with_pended n test) ≡ is_below_zero n
 unfolding with_pended
 pended_alike n test = pended_below_alike n test EXCEPTIONS
-
-pub tick_decides : (m : Mpu) (z : Bool) (s : System) → Decides m z s → Decides m z (after_tick s)
-unfolding after_tick
-tick_decides m z s d =
-    record { mpu = d.mpu; below_zero = pended_alike s.nvic (tick_pends s.time) ∙ d.below_zero }
 
 -- ---- the System Control Space
 
@@ -58,48 +54,48 @@ stir_is : register_at (stir_address / 4 * 4) ≡ register.Stir
 unfolding register_at single_at systick_at interrupts_at interrupt_priority_at control_at status_at handler_priority_at
 stir_is = refl
 
-stir_decides : (m : Mpu) (z : Bool) (x : ℕ) (s : System) (q : Request) → Decides m z s →
-    Decides m z (register_access x s q register.Stir).system
-unfolding register_access register_written has_width after_read triggered
-stir_decides m z x s q d =
-    either (λ (a : SystemAnswer). Decides m z a.system) (not (has_access s q)) _ _ (λ e. d)
-    (λ e. either (λ (a : SystemAnswer). Decides m z a.system) (not (is_word q.access.size)) _ _ (λ f. d)
-    (λ f. either (λ (a : SystemAnswer). Decides m z a.system) (is_store q.access.kind) _ _
-    (λ g. record { mpu = d.mpu; below_zero = pending_alike s.nvic (FIRST_LINE + q.value % 2 ^ 9) true ∙ d.below_zero })
-    (λ g. d)))
+-- unprivileged code has access to STIR alone
+only_stir : (s : System) (q : Request) → q.access.privileged ≡ false → has_access s q ≡ true →
+    register_at (q.access.address / 4 * 4) ≡ register.Stir
+only_stir s q unprivileged access =
+    let enabled = and_parts _ (usersetmpend s.status) (rw unprivileged at access) in
+    let there = and_parts _ (q.access.address == stir_address) enabled.0 in
+    ap (λ (a : ℕ). register_at (a / 4 * 4)) (eqb-true q.access.address stir_address there.1) ∙ stir_is
 
-first_of : (p q : Bool) → (p && q) ≡ true → p ≡ true
-first_of true q e = refl
-first_of false q e = absurd cc
+module _ (m : Mpu) (z : Bool) where
+  -- a tick
+  pub tick_decides : (s : System) → Decides m z s → Decides m z (after_tick s)
+  unfolding after_tick
+  tick_decides s d = record { mpu = d.mpu; below_zero = pended_alike s.nvic (tick_pends s.time) ∙ d.below_zero }
 
-access_of : (u w v : Bool) (a : ℕ) → (false || (u && w && (a == stir_address) && v)) ≡ true → a ≡ stir_address
-access_of true true v a e = eqb-true a stir_address (first_of (a == stir_address) v e)
-access_of true false v a e = absurd cc
-access_of false w v a e = absurd cc
+  stir_decides : (x : ℕ) (s : System) (q : Request) → Decides m z s →
+      Decides m z (register_access x s q register.Stir).system
+  unfolding register_access register_written has_width after_read triggered
+  stir_decides x s q d =
+      either (λ (a : SystemAnswer). Decides m z a.system) (not (has_access s q)) _ _ (λ e. d)
+      (λ e. either (λ (a : SystemAnswer). Decides m z a.system) (not (is_word q.access.size)) _ _ (λ f. d)
+      (λ f. either (λ (a : SystemAnswer). Decides m z a.system) (is_store q.access.kind) _ _
+      (λ g. record {
+        mpu = d.mpu;
+        below_zero = pending_alike s.nvic (FIRST_LINE + q.value % 2 ^ 9) true ∙ d.below_zero;
+      })
+      (λ g. d)))
 
-refused_decides : (m : Mpu) (z : Bool) (x : ℕ) (s : System) (q : Request) (which : SystemRegister) →
-    has_access s q ≡ false → Decides m z s → Decides m z (register_access x s q which).system
-unfolding register_access
-refused_decides m z x s q which refused d = rw refused d
+  refused_decides : (x : ℕ) (s : System) (q : Request) (which : SystemRegister) → has_access s q ≡ false →
+      Decides m z s → Decides m z (register_access x s q which).system
+  unfolding register_access
+  refused_decides x s q which refused d = rw refused d
 
-register_decides : (m : Mpu) (z : Bool) (x : ℕ) (s : System) (q : Request) → q.access.privileged ≡ false →
-    Decides m z s → Decides m z (register_access x s q (register_at (q.access.address / 4 * 4))).system
-register_decides m z x s q unprivileged d = split (has_access s q) refl
-  where
-    split : (access : Bool) → has_access s q ≡ access →
-        Decides m z (register_access x s q (register_at (q.access.address / 4 * 4))).system
-    split true h =
-        let e : q.access.address ≡ stir_address =
-        access_of (is_store q.access.kind) (is_word q.access.size) (usersetmpend s.status) q.access.address
-        (rw unprivileged at h) in
-        let w : register_at (q.access.address / 4 * 4) ≡ register.Stir =
-        ap (λ (a : ℕ). register_at (a / 4 * 4)) e ∙ stir_is in
-        rw w (stir_decides m z x s q d)
-    split false h = refused_decides m z x s q _ h d
+  register_decides : (x : ℕ) (s : System) (q : Request) (access : Bool) → has_access s q ≡ access →
+      q.access.privileged ≡ false → Decides m z s →
+      Decides m z (register_access x s q (register_at (q.access.address / 4 * 4))).system
+  register_decides x s q true e unprivileged d = rw (only_stir s q unprivileged e) (stir_decides x s q d)
+  register_decides x s q false e unprivileged d = refused_decides x s q _ e d
 
-pub system_decides : (m : Mpu) (z : Bool) (x : ℕ) (s : System) (q : Request) → q.access.privileged ≡ false →
-    Decides m z s → Decides m z (system_access x s q).system
-unfolding system_access
-system_decides m z x s q unprivileged d =
-    either (λ (a : SystemAnswer). Decides m z a.system) (is_load q.access.kind || is_store q.access.kind) _ _
-    (λ e. register_decides m z x s q unprivileged d) (λ e. d)
+  -- an access of unprivileged code
+  pub system_decides : (x : ℕ) (s : System) (q : Request) → q.access.privileged ≡ false → Decides m z s →
+      Decides m z (system_access x s q).system
+  unfolding system_access
+  system_decides x s q unprivileged d =
+      either (λ (a : SystemAnswer). Decides m z a.system) (is_load q.access.kind || is_store q.access.kind) _ _
+      (λ e. register_decides x s q _ refl unprivileged d) (λ e. d)

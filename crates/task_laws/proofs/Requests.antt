@@ -1,6 +1,6 @@
 -- The accesses of an instruction of unprivileged code.
-use Rattle.std.proofs.Common.{◌≡◌, inl, inr, ℕ, ◌%◌, Bool, true, false, not, ◌&&◌, ◌==◌, List, [], ◌∷◌}
-use Rattle.std.proofs.Common.{refl, arith, eqb-true}
+use Rattle.std.proofs.Common.{◌≡◌, inl, inr, ℕ, ◌%◌, Bool, true, false, not, ◌&&◌, ◌==◌, List, [], ◌∷◌, refl, arith}
+use Rattle.std.proofs.Common.{eqb-true}
 use Rattle.reference.specs.declared.access.Kind.{Kind}
 use Rattle.reference.specs.declared.access.Kind.TheVariants.{Load, Store, Probe}
 use Rattle.reference.specs.declared.access.Request.{Request}
@@ -32,14 +32,25 @@ use Rattle.reference.specs.Operations.{is_misplaced, is_carried_out, requests_of
 use Rattle.reference.specs.Registers.{Registers, register, is_privileged}
 use Rattle.reference.specs.Step.{fetching}
 use Rattle.reference.specs.Words.{word_sum}
-use Rattle.task_laws.specs.TaskLaw.{IsTaskKind, IsOfTask, AreOfTask, AskOfTask, RequestsLaw}
 use Rattle.state_laws.proofs.Nvic.{either}
+use Rattle.task_laws.specs.TaskLaw.{IsTaskKind, IsOfTask, AreOfTask, AskOfTask, RequestsLaw}
+
+-- ---- what an access is for
+
+loads : IsTaskKind Load
+loads = inr (inl refl)
+
+stores : IsTaskKind Store
+stores = inr (inr (inl refl))
+
+probes : IsTaskKind Probe
+probes = inr (inr (inr refl))
+
+-- ---- one request
 
 made_unprivileged : (u p : Bool) → p ≡ false → (p && not u) ≡ false
 made_unprivileged u true e = absurd cc
 made_unprivileged u false e = refl
-
--- ---- loads and stores
 
 bytes_asked : (kind : Kind) (p : Bool) (address : ℕ) (bytes : List ℕ) → p ≡ false → IsTaskKind kind →
     AreOfTask (byte_requests kind p address bytes)
@@ -64,47 +75,7 @@ load_asked : (traps : Traps) (form : LoadForm) (t : ℕ) (p : Bool) (address : �
 unfolding load
 load_asked traps form t p address e =
     either AskOfTask (t == 15 && not (is_aligned Word address)) _ _ (λ f. tt)
-    (λ f. transfer_asked traps Load p form.size address 0 e (inr (inl refl)))
-
-load_store_asked : (traps : Traps) (i : LoadStore) (r : Registers) → is_privileged r ≡ false →
-    AskOfTask (load_store_requests traps i r)
-unfolding load_store_requests
-load_store_asked traps (load_store.LoadImmediate o) r t =
-    load_asked traps o.form o.target _ _ (made_unprivileged o.unprivileged _ t)
-load_store_asked traps (load_store.LoadRegister o) r t = load_asked traps o.form o.target _ _ t
-load_store_asked traps (load_store.LoadLiteral o) r t = load_asked traps o.form o.target _ _ t
-load_store_asked traps (load_store.StoreImmediate o) r t =
-    transfer_asked traps Store _ o.size _ _ (made_unprivileged o.unprivileged _ t)
-    (inr (inr (inl refl)))
-load_store_asked traps (load_store.StoreRegister o) r t =
-    transfer_asked traps Store _ o.size _ _ t (inr (inr (inl refl)))
-
-words_asked : (kind : Kind) (address : ℕ) (ns : List ℕ) (r : Registers) → is_privileged r ≡ false → IsTaskKind kind →
-    address % 4 ≡ 0 → AreOfTask (word_requests kind address ns r)
-unfolding word_requests
-words_asked kind address [] r t k aligned = tt
-words_asked kind address (n ∷ ns) r t k aligned = (
-  record { unprivileged = t; kind = k; aligned = aligned },
-  words_asked kind (word_sum address 4) ns r t k (omega arith),
-)
-
-several_asked : (kind : Kind) (ns : List ℕ) (address : ℕ) (r : Registers) → is_privileged r ≡ false → IsTaskKind kind →
-    AskOfTask (several kind ns address r)
-unfolding several
-several_asked kind ns address r t k =
-    either AskOfTask (is_aligned Word address) _ _
-    (λ e. words_asked kind address ns r t k (eqb-true (address % 4) 0 e)) (λ e. tt)
-
-multiple_asked : (i : LoadStoreMultiple) (r : Registers) → is_privileged r ≡ false → AskOfTask (load_store_multiple_requests i r)
-unfolding load_store_multiple_requests
-multiple_asked (multiple.LoadDual o) r t = several_asked Load _ _ r t (inr (inl refl))
-multiple_asked (multiple.LoadDualLiteral o) r t =
-    either AskOfTask (is_aligned Word (register r 15)) _ _ (λ e. several_asked Load _ _ r t (inr (inl refl))) (λ e. tt)
-multiple_asked (multiple.StoreDual o) r t = several_asked Store _ _ r t (inr (inr (inl refl)))
-multiple_asked (multiple.LoadMultiple o) r t = several_asked Load _ _ r t (inr (inl refl))
-multiple_asked (multiple.StoreMultiple o) r t = several_asked Store _ _ r t (inr (inr (inl refl)))
-
--- ---- exclusives and branches
+    (λ f. transfer_asked traps Load p form.size address 0 e loads)
 
 not_not : (b : Bool) → not b ≡ false → b ≡ true
 not_not true e = refl
@@ -125,43 +96,83 @@ access_asked kind p size address value e k =
       tt,
     )))
 
-exclusive_asked : (i : Exclusive) (r : Registers) → is_privileged r ≡ false → AskOfTask (exclusive_requests i r)
-unfolding exclusive_requests
-exclusive_asked (exclusive.Load o) r t = access_asked Load _ o.size _ 0 t (inr (inl refl))
-exclusive_asked (exclusive.Store o) r t =
-    either AskOfTask (passes o r) _ _
-    (λ e. access_asked Store _ o.size _ _ t (inr (inr (inl refl))))
-    (λ e. access_asked Probe _ o.size _ 0 t (inr (inr (inr refl))))
-exclusive_asked exclusive.Clear r t = tt
+-- ---- the instructions
 
-branch_asked : (traps : Traps) (i : Branch) (r : Registers) → is_privileged r ≡ false → AskOfTask (branch_requests traps i r)
-unfolding branch_requests
-branch_asked traps (branch.Table o) r t = transfer_asked traps Load _ o.size _ 0 t (inr (inl refl))
-branch_asked traps i r t = tt
+module _ (r : Registers) (t : is_privileged r ≡ false) where
+  load_store_asked : (traps : Traps) (i : LoadStore) → AskOfTask (load_store_requests traps i r)
+  unfolding load_store_requests
+  load_store_asked traps (load_store.LoadImmediate o) =
+      load_asked traps o.form o.target _ _ (made_unprivileged o.unprivileged _ t)
+  load_store_asked traps (load_store.LoadRegister o) = load_asked traps o.form o.target _ _ t
+  load_store_asked traps (load_store.LoadLiteral o) = load_asked traps o.form o.target _ _ t
+  load_store_asked traps (load_store.StoreImmediate o) =
+      transfer_asked traps Store _ o.size _ _ (made_unprivileged o.unprivileged _ t)
+      stores
+  load_store_asked traps (load_store.StoreRegister o) =
+      transfer_asked traps Store _ o.size _ _ t stores
 
--- ---- an instruction
+  words_asked : (kind : Kind) (address : ℕ) (ns : List ℕ) → IsTaskKind kind → address % 4 ≡ 0 →
+      AreOfTask (word_requests kind address ns r)
+  unfolding word_requests
+  words_asked kind address [] k aligned = tt
+  words_asked kind address (n ∷ ns) k aligned = (
+    record { unprivileged = t; kind = k; aligned = aligned },
+    words_asked kind (word_sum address 4) ns k (omega arith),
+  )
 
-requests_asked : (traps : Traps) (i : Instruction) (r : Registers) → is_privileged r ≡ false → AskOfTask (requests_of traps i r)
-unfolding requests_of
-requests_asked traps (family.DataProcessing i) r t =
-    either AskOfTask (traps.divide_by_zero && divides_by_zero i r) _ _ (λ e. tt) (λ e. tt)
-requests_asked traps (family.LoadStore i) r t = load_store_asked traps i r t
-requests_asked traps (family.LoadStoreMultiple i) r t = multiple_asked i r t
-requests_asked traps (family.Exclusive i) r t = exclusive_asked i r t
-requests_asked traps (family.Branch i) r t = branch_asked traps i r t
-requests_asked traps (family.System i) r t = tt
+  several_asked : (kind : Kind) (ns : List ℕ) (address : ℕ) → IsTaskKind kind → AskOfTask (several kind ns address r)
+  unfolding several
+  several_asked kind ns address k =
+      either AskOfTask (is_aligned Word address) _ _
+      (λ e. words_asked kind address ns k (eqb-true (address % 4) 0 e)) (λ e. tt)
 
--- what an instruction of a task wants is as unprivileged code makes it
-pub wants_asked : (traps : Traps) (i : CodedInstruction) (r : Registers) → is_privileged r ≡ false → AskOfTask (wants traps i r)
-unfolding wants
-wants_asked traps i r t =
-    either AskOfTask (is_misplaced i.place r.it_state) _ _ (λ e. tt)
-    (λ e. either AskOfTask (is_carried_out i.instruction r) _ _ (λ f. requests_asked traps i.instruction r t) (λ f. tt))
+  multiple_asked : (i : LoadStoreMultiple) → AskOfTask (load_store_multiple_requests i r)
+  unfolding load_store_multiple_requests
+  multiple_asked (multiple.LoadDual o) = several_asked Load _ _ loads
+  multiple_asked (multiple.LoadDualLiteral o) =
+      either AskOfTask (is_aligned Word (register r 15)) _ _ (λ e. several_asked Load _ _ loads) (λ e. tt)
+  multiple_asked (multiple.StoreDual o) = several_asked Store _ _ stores
+  multiple_asked (multiple.LoadMultiple o) = several_asked Load _ _ loads
+  multiple_asked (multiple.StoreMultiple o) = several_asked Store _ _ stores
 
--- a fetch of unprivileged code
-pub fetch_of : (r : Registers) (address : ℕ) → is_privileged r ≡ false → address % 2 ≡ 0 →
-    IsOfTask (fetching r address)
-fetch_of r address t even = record { unprivileged = t; kind = inl refl; aligned = even }
+  -- ---- exclusives and branches
+
+  exclusive_asked : (i : Exclusive) → AskOfTask (exclusive_requests i r)
+  unfolding exclusive_requests
+  exclusive_asked (exclusive.Load o) = access_asked Load _ o.size _ 0 t loads
+  exclusive_asked (exclusive.Store o) =
+      either AskOfTask (passes o r) _ _
+      (λ e. access_asked Store _ o.size _ _ t stores)
+      (λ e. access_asked Probe _ o.size _ 0 t probes)
+  exclusive_asked exclusive.Clear = tt
+
+  branch_asked : (traps : Traps) (i : Branch) → AskOfTask (branch_requests traps i r)
+  unfolding branch_requests
+  branch_asked traps (branch.Table o) = transfer_asked traps Load _ o.size _ 0 t loads
+  branch_asked traps i = tt
+
+  -- ---- an instruction
+
+  requests_asked : (traps : Traps) (i : Instruction) → AskOfTask (requests_of traps i r)
+  unfolding requests_of
+  requests_asked traps (family.DataProcessing i) =
+      either AskOfTask (traps.divide_by_zero && divides_by_zero i r) _ _ (λ e. tt) (λ e. tt)
+  requests_asked traps (family.LoadStore i) = load_store_asked traps i
+  requests_asked traps (family.LoadStoreMultiple i) = multiple_asked i
+  requests_asked traps (family.Exclusive i) = exclusive_asked i
+  requests_asked traps (family.Branch i) = branch_asked traps i
+  requests_asked traps (family.System i) = tt
+
+  -- what an instruction of a task wants is as unprivileged code makes it
+  pub wants_asked : (traps : Traps) (i : CodedInstruction) → AskOfTask (wants traps i r)
+  unfolding wants
+  wants_asked traps i =
+      either AskOfTask (is_misplaced i.place r.it_state) _ _ (λ e. tt)
+      (λ e. either AskOfTask (is_carried_out i.instruction r) _ _ (λ f. requests_asked traps i.instruction) (λ f. tt))
+
+  -- a fetch of unprivileged code
+  pub fetch_of : (address : ℕ) → address % 2 ≡ 0 → IsOfTask (fetching r address)
+  fetch_of address even = record { unprivileged = t; kind = inl refl; aligned = even }
 
 pub requests_law : (r : Registers) → RequestsLaw r
-requests_law r t = (λ traps i. wants_asked traps i r t, λ address even. fetch_of r address t even)
+requests_law r t = (λ traps i. wants_asked r t traps i, λ address even. fetch_of r t address even)

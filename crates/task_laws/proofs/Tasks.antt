@@ -1,6 +1,6 @@
 -- A task, part by part.
-use Rattle.std.proofs.Common.{◌≡◌, ℕ, Bool, true, false, not, ◌&&◌, ◌==◌, is_some, Option, Some, None, refl, sym, ap, ◌∙◌}
-use Rattle.std.proofs.Common.{eqb-true}
+use Rattle.std.proofs.Common.{◌≡◌, ℕ, Bool, true, false, not, ◌&&◌, ◌==◌, is_some, Option, Some, None, refl, sym, ap}
+use Rattle.std.proofs.Common.{◌∙◌, eqb-true}
 use Rattle.std.proofs.lemmas.Bool.{and_parts}
 use Rattle.reference.specs.Priorities.{is_below_zero}
 use Rattle.reference.specs.Regions.{Mpu, is_on}

@@ -21,7 +21,7 @@ use Rattle.task_laws.specs.Tasks.{AreInstructions, Ends, is_task, runs_unprivile
 
 -- ---- one access
 
--- what an instruction's own accesses are for
+-- the kinds of access that an instruction makes
 abbrev pub IsTaskKind : Kind → Type 0
 IsTaskKind kind = (kind ≡ Fetch) ⊎ ((kind ≡ Load) ⊎ ((kind ≡ Store) ⊎ (kind ≡ Probe)))
 
@@ -35,18 +35,19 @@ abbrev pub AreOfTask : List Request → Type 0
 AreOfTask [] = Unit {0}
 AreOfTask (q ∷ qs) = IsOfTask q × AreOfTask qs
 
--- the accesses that an instruction asks for, if it asks for any
+-- the accesses that an instruction makes, if it makes any, are such requests
 abbrev pub AskOfTask : Result (List Request) Failure → Type 0
 AskOfTask (Ok requests) = AreOfTask requests
 AskOfTask (Err why) = Unit {0}
 
--- what an instruction of unprivileged code asks for is so, and the fetch of it from an even address
+-- in unprivileged code each access that an instruction makes is such a request, and so is a fetch from an even address
 abbrev pub RequestsLaw : Registers → Type 0
 RequestsLaw r =
     is_privileged r ≡ false →
     ((traps : Traps) (i : CodedInstruction) → AskOfTask (wants traps i r))
     × ((address : ℕ) → address % 2 ≡ 0 → IsOfTask (fetching r address))
 
+-- the state after an access
 abbrev pub performed_in : State → Request → State
 performed_in s q = with_bus s (perform s.registers.exception s.bus q).bus
 
