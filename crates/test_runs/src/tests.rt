@@ -18,5 +18,6 @@ mod starts;
 mod steps;
 mod stored_faults;
 mod stored_handlers;
+mod tasks;
 mod traces;
 mod writers;

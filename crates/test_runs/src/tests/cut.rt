@@ -3,7 +3,7 @@
 ghost use Rattle.std.specs.Prelude.{◌≡◌};
 
 use arrayvec::ArrayVec;
-use machine::{CodeLines, Decider, DueTicks, Levels, Machine, Over, RunFault, Stop};
+use machine::{CodeLines, Decider, DueTicks, Levels, Machine, Over, RunFault, Stop, TaskEnd};
 use std::io;
 use std::io::{Read, Write};
 use std::marker::Brand;
@@ -104,4 +104,27 @@ fn run_over<D: Decider, C: CodeLines, L: Levels, U: DueTicks, K: Ledger>(
 {
     let mut out: Over<&mut Cut, K> = Over::new(out, blank);
     machine.run(u64::from(steps), &mut out)
+}
+
+/// A run of a task, of at most this number of steps.
+pub(super) fn run_task<D: Decider, C: CodeLines, L: Levels, U: DueTicks>(
+    machine: &mut Machine<D, C, L, U>,
+    steps: u32,
+    out: &mut Cut,
+) -> Result<TaskEnd, RunFault> {
+    run_task_over::<D, C, L, U, Brand>(machine, steps, out, Blank::new(1))
+}
+
+fn run_task_over<D: Decider, C: CodeLines, L: Levels, U: DueTicks, K: Ledger>(
+    machine: &mut Machine<D, C, L, U>,
+    steps: u32,
+    out: &mut Cut,
+    blank: Blank,
+) -> Result<TaskEnd, RunFault>
+    requires name { blank.name ≡ K.name }
+    requires parts { blank.parts ≡ K.parts }
+    requires some { blank.parts ≡ 1 }
+{
+    let mut out: Over<&mut Cut, K> = Over::new(out, blank);
+    machine.run_task(u64::from(steps), &mut out)
 }

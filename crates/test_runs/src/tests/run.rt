@@ -10,16 +10,18 @@
 //! | `reg NUMBER VALUE`, `special NUMBER VALUE` | a register is placed, `special` as MSR numbers it |
 //! | `refused WHY` and a place | the place is refused so |
 //! | `steps COUNT` | the most steps that are made |
+//! | `task COUNT END` | the most steps of a run of a task, and how it ends: `done`, `other`, `not` or `stopped` |
 //! | `trace` and a line | a line of what all the steps write |
 //! | `after reg REGISTER VALUE` | what the register holds now: R0 to R12 by number, others by name |
 //! | `after byte ADDRESS VALUE` | the byte there now, or `none` |
 //! | `after region NUMBER RBAR RASR` | what the region holds now, or `none` |
 
-use super::cut::{Cut, Text, push_line, run};
+use super::cut::{Cut, Text, push_line, run, run_task};
 use super::machines::{event, place, place_vectors, scripted};
 use machine::{
     Ahead, BitLevels, CodeLines, Counting, Decider, DueTicks, KeptDecisions, KeptPriorities,
     Levels, Lines, Machine, PlaceFault, PlainLevels, RegValues, Reread, Search, Stop, Table,
+    TaskEnd,
 };
 use reference::stop::{LeftOut, UnpredictableCase};
 use std::alloc::Global;
@@ -28,12 +30,12 @@ use test_tables::{Rows, byte_at, check_between, number, number_at, word};
 
 /// A run as far as its lines were followed.
 #[derive(Drop)]
-struct Run<D: Decider, C: CodeLines, L: Levels, U: DueTicks> {
-    machine: Machine<D, C, L, U>,
+pub(super) struct Run<D: Decider, C: CodeLines, L: Levels, U: DueTicks> {
+    pub(super) machine: Machine<D, C, L, U>,
     /// What its steps wrote.
-    out: Cut,
+    pub(super) out: Cut,
     /// What they were to write.
-    wanted: Text,
+    pub(super) wanted: Text,
 }
 
 /// Runs, from machines with the scripts of their texts.
@@ -58,19 +60,15 @@ fn goes<D: Decider, C: CodeLines, L: Levels, U: DueTicks>(
     alloc: Global,
     text: &str,
 ) -> Option<bool> {
-    let mut run: Run<D, C, L, U> = Run {
-        machine: scripted(alloc, text)?,
-        out: Cut::whole(),
-        wanted: Text::new(),
-    };
+    let mut run: Run<D, C, L, U> = Run::of(alloc, text)?;
     let mut is_checked = false;
     'lines: for line in text.lines().skip(1) {
-        is_checked = is_checked || matches!(word(line, 0), "trace" | "after" | "refused");
+        is_checked = is_checked || matches!(word(line, 0), "trace" | "after" | "refused" | "task");
         if !run.follow(line)? {
             return Some(false);
         }
     }
-    Some(is_checked && run.out.text.as_slice() == run.wanted.as_slice())
+    Some(is_checked && run.wrote_all())
 }
 
 /// Fails with the first run of a table that doesn't go as its text says. The runs are written with a
@@ -80,12 +78,27 @@ pub(super) fn check_runs(alloc: Global, table: &str) -> Result<(), Fail> {
 }
 
 impl<D: Decider, C: CodeLines, L: Levels, U: DueTicks> Run<D, C, L, U> {
+    /// A run of a machine of the small board with the events of these lines.
+    pub(super) fn of(alloc: Global, text: &str) -> Option<Self> {
+        Some(Run {
+            machine: scripted(alloc, text)?,
+            out: Cut::whole(),
+            wanted: Text::new(),
+        })
+    }
+
+    /// Returns whether the steps wrote what they were to write.
+    pub(super) fn wrote_all(&self) -> bool {
+        self.out.text.as_slice() == self.wanted.as_slice()
+    }
+
     /// Returns whether a line holds, which is followed if it is a command.
-    fn follow(&mut self, line: &str) -> Option<bool> {
+    pub(super) fn follow(&mut self, line: &str) -> Option<bool> {
         let (name, rest) = line.split_once(' ')?;
         match name {
             "trace" => Some(push_line(&mut self.wanted, rest).is_some()),
             "steps" => Some(run(&mut self.machine, number_at(rest, 0)?, &mut self.out).is_ok()),
+            "task" => Some(self.task(rest)? == word(rest, 1)),
             "refused" => self.refuses(rest),
             "event" => Some(event(line).is_some()),
             "board" => Some(byte_at(line, 1).is_some() && byte_at(line, 2).is_some()),
@@ -95,6 +108,12 @@ impl<D: Decider, C: CodeLines, L: Levels, U: DueTicks> Run<D, C, L, U> {
         }
     }
 
+    /// Runs a task, and returns how that ended.
+    fn task(&mut self, limit: &str) -> Option<&'static str> {
+        let end = run_task(&mut self.machine, number_at(limit, 0)?, &mut self.out).ok()?;
+        Some(end_of(end))
+    }
+
     /// Returns whether a place is refused, for the reason before it.
     fn refuses(&mut self, refused: &str) -> Option<bool> {
         let (why, place_of) = refused.split_once(' ')?;
@@ -102,6 +121,16 @@ impl<D: Decider, C: CodeLines, L: Levels, U: DueTicks> Run<D, C, L, U> {
             Ok(()) => Some(false),
             Err(fault) => Some(name_of(fault) == why),
         }
+    }
+}
+
+/// The word for the end of a run of a task.
+fn end_of(end: TaskEnd) -> &'static str {
+    match end {
+        TaskEnd::Done => "done",
+        TaskEnd::Other => "other",
+        TaskEnd::NotTask => "not",
+        TaskEnd::Stopped(_) => "stopped",
     }
 }
 
