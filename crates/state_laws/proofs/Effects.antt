@@ -56,8 +56,8 @@ code_address_is v = record { word = omega arith; even = omega arith }
 
 -- ---- writes
 
--- each write of a register keeps a property: of any value that the register may have; of the next instruction's address
--- to the PC; and of the advanced ITSTATE
+-- each write of a register keeps a property: the write of any value that the register may have, of the next
+-- instruction's address to the PC, and of the advanced ITSTATE
 pub record KeepsWrites (P : Registers → Type 0) : Type 0 where
   pub general : (r : Registers) (n v : ℕ) → v < 2 ^ 32 → P r → P (record r { general = slice_set r.general n v })
   pub msp : (r : Registers) (v : ℕ) → IsStackPointer v → P r → P (record r { msp = v })
@@ -117,24 +117,24 @@ module _ {P : Registers → Type 0} (k : KeepsWrites P) where
   moves_on_kept length r p = record { kept = k.next (advanced r) length (k.advanced r p); ending = tt }
 
   -- the PC moves past the instruction, which ends with e
-  pub moves_on_and_kept : (e : Ending) (length : InstructionLength) (r : Registers) →
+  moves_on_and_kept : (e : Ending) (length : InstructionLength) (r : Registers) →
       IsEndIn (moves_on length r).registers e → P r → Leaves P (moves_on_and e length r)
   moves_on_and_kept e length r end p = record { kept = (moves_on_kept length r p).kept; ending = end }
 
-  pub branches_kept : (r : Registers) → P r → Leaves P (branches r)
+  branches_kept : (r : Registers) → P r → Leaves P (branches r)
   branches_kept r p = record { kept = k.advanced r p; ending = tt }
 
-  pub branches_by_kept : (offset : ℕ) (r : Registers) → P r → Leaves P (branches_by offset r)
+  branches_by_kept : (offset : ℕ) (r : Registers) → P r → Leaves P (branches_by offset r)
   branches_by_kept offset r p =
       branches_kept (with_pc r (word_sum (register r 15) offset))
       (pc_kept r (word_sum (register r 15) offset) p)
 
-  pub exchanges_kept : (v : ℕ) (r : Registers) → P r → Leaves P (exchanges v r)
+  exchanges_kept : (v : ℕ) (r : Registers) → P r → Leaves P (exchanges v r)
   exchanges_kept v r p =
       either (Leaves P) (is_exception_return v r) _ _ (λ e. record { kept = p; ending = (and_parts _ _ e).0 })
       (λ e. branches_kept (with_exchange r v) (exchange_kept r v p))
 
-  pub loads_into_kept : (length : InstructionLength) (t value : ℕ) (r : Registers) → P r →
+  loads_into_kept : (length : InstructionLength) (t value : ℕ) (r : Registers) → P r →
       Leaves P (loads_into length t value r)
   loads_into_kept length t value r p =
       either (Leaves P) (t == 15) _ _ (λ e. exchanges_kept value r p)

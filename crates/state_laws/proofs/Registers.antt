@@ -1,4 +1,4 @@
--- Writes to the core registers keep what holds of them.
+-- Each write of a core register keeps what the invariant says of them.
 use Rattle.std.proofs.Common.{◌≡◌, ℕ, zero, suc, ◌%◌, ◌^◌, ◌<◌, not, ◌==◌, List, [], ◌∷◌, slice_index, slice_set}
 use Rattle.std.proofs.Common.{replicate, refl, ◌∙◌, arith}
 use Rattle.std.proofs.lemmas.List.{length-set}
@@ -52,7 +52,7 @@ pub with_flags : (r : Registers) (f : Flags) → HasRegisters r → HasRegisters
 with_flags r f h = alike r _ refl refl refl refl refl refl refl h
 
 -- one of R0 to R12 becomes a word
-pub general_kept : (r : Registers) (n v : ℕ) → v < 2 ^ 32 → HasRegisters r →
+general_kept : (r : Registers) (n v : ℕ) → v < 2 ^ 32 → HasRegisters r →
     HasRegisters (record r { general = slice_set r.general n v })
 general_kept r n v small h = record {
   all = length-set r.general n v ∙ h.all;
@@ -65,7 +65,7 @@ general_kept r n v small h = record {
   exception = h.exception;
 }
 
-pub lr_kept : (r : Registers) (v : ℕ) → v < 2 ^ 32 → HasRegisters r → HasRegisters (record r { lr = v })
+lr_kept : (r : Registers) (v : ℕ) → v < 2 ^ 32 → HasRegisters r → HasRegisters (record r { lr = v })
 lr_kept r v small h = record {
   all = h.all;
   general = h.general;
@@ -77,7 +77,7 @@ lr_kept r v small h = record {
   exception = h.exception;
 }
 
-pub pc_kept : (r : Registers) (v : ℕ) → IsCodeAddress v → HasRegisters r → HasRegisters (record r { pc = v })
+pc_kept : (r : Registers) (v : ℕ) → IsCodeAddress v → HasRegisters r → HasRegisters (record r { pc = v })
 pc_kept r v is h = record {
   all = h.all;
   general = h.general;
@@ -115,7 +115,7 @@ msp_kept r v is h = record {
 
 -- ---- the end of an instruction
 
-pub with_it : (r : Registers) (it : ℕ) → it < 2 ^ 8 → HasRegisters r → HasRegisters (record r { it_state = it })
+with_it : (r : Registers) (it : ℕ) → it < 2 ^ 8 → HasRegisters r → HasRegisters (record r { it_state = it })
 with_it r it small h = record {
   all = h.all;
   general = h.general;
@@ -132,20 +132,20 @@ advance_small it small =
     either (λ x. x < 2 ^ 8) (not (in_it_block it)) _ _ (λ e. small)
     (λ e. either (λ x. x < 2 ^ 8) (it % 2 ^ 3 == 0) _ _ (λ f. omega arith) (λ f. omega arith))
 
-pub advanced_kept : (r : Registers) → HasRegisters r → HasRegisters (advanced r)
+advanced_kept : (r : Registers) → HasRegisters r → HasRegisters (advanced r)
 advanced_kept r h = with_it r (it_advance r.it_state) (advance_small r.it_state h.it_state) h
 
 -- the address after an instruction
-pub next_address : (pc : ℕ) (length : InstructionLength) → IsCodeAddress pc →
+next_address : (pc : ℕ) (length : InstructionLength) → IsCodeAddress pc →
     IsCodeAddress (word_sum pc (instruction_bytes length))
 next_address pc Short is = let even = is.even in record { word = omega arith; even = omega arith }
 next_address pc Long is = let even = is.even in record { word = omega arith; even = omega arith }
 
-pub next_kept : (r : Registers) (length : InstructionLength) → HasRegisters r →
+next_kept : (r : Registers) (length : InstructionLength) → HasRegisters r →
     HasRegisters (record r { pc = word_sum r.pc (instruction_bytes length) })
 next_kept r length h = pc_kept r (word_sum r.pc (instruction_bytes length)) (next_address r.pc length h.pc) h
 
--- each write of a register keeps what the invariant says of them
+-- all writes together
 pub writes_kept : KeepsWrites HasRegisters
 writes_kept = record {
   general = general_kept;

@@ -1,6 +1,6 @@
 -- The laws. Those of n steps follow from `step_alike` by induction, and that of one step is the case n = 1.
-use Rattle.std.proofs.Common.{◌≡◌, ◌⊎◌, inl, inr, ℕ, zero, suc, ◌<◌, Bool, true, List, ◌++◌, refl, sym, ap, subst, ◌∙◌}
-use Rattle.std.proofs.Common.{arith, le_of_suc-le-suc, eq-or-lt_of_le}
+use Rattle.std.proofs.Common.{◌≡◌, ℕ, zero, suc, Bool, true, List, ◌++◌, refl, sym, ap, subst, ◌∙◌}
+use Rattle.std.proofs.Common.{arith, add-one, below_more}
 use Rattle.std.proofs.lemmas.Bool.{and_from, and_parts}
 use Rattle.reference.specs.declared.access.Request.{Request}
 use Rattle.reference.specs.declared.event.Event.{Event}
@@ -67,14 +67,6 @@ unfolding after
 after_keeps zero s inv = inv
 after_keeps (suc n) s inv = step_keeps (after n s) (after_keeps n s inv)
 
-one_more : (n : ℕ) (t : State) → AreInstructions n t → is_instruction_next (after n t) ≡ true →
-    AreInstructions (suc n) t
-one_more n t before last k below = split (eq-or-lt_of_le (le_of_suc-le-suc below))
-  where
-    split : ((k ≡ n) ⊎ (k < n)) → is_instruction_next (after k t) ≡ true
-    split (inl e) = subst (λ (j : ℕ). is_instruction_next (after j t) ≡ true) (sym e) last
-    split (inr less) = before k less
-
 module _ (m : Mpu) (z : Bool) (old : Memory) where
   -- an Instruction step is one from t too, where t differs from s only in memory, and the steps end alike
   both_step : (s t : State) → t ≡ with_memory s t.bus.memory → Invariant s → is_instruction_next s ≡ true →
@@ -92,6 +84,7 @@ module _ (m : Mpu) (z : Bool) (old : Memory) where
     rest : after n t ≡ with_memory (after n s) (after n t).bus.memory
     ready : Ready m z old (after n s) (after n t).bus.memory
 
+  -- n Instruction steps from s are such steps from t too
   ran : (n : ℕ) (s t : State) → Invariant s → t ≡ with_memory s t.bus.memory → Ready m z old s t.bus.memory →
       AreInstructions n s → SameRun n s t
   unfolding after events_of
@@ -106,7 +99,7 @@ module _ (m : Mpu) (z : Bool) (old : Memory) where
       let last =
       both_step (after n s) (after n t) before.rest (after_keeps n s inv) (are n (omega arith)) before.ready in
       record {
-        instructions = one_more n t before.instructions last.0;
+        instructions = rw (← add-one) (below_more _ _ before.instructions last.0);
         events =
             ap (λ (es : List Event). es ++ (step (after n t)).events) before.events
             ∙ ap (λ (p : Stepped). events_of n s ++ p.events) last.1.rest;
@@ -149,6 +142,7 @@ run_keeps n s b are =
     ran _ _ s.bus.memory n s s b.invariant refl (starts_ready s s.bus.memory b (agree_self _ s.bus.memory)) are in
     all.ready.alike.kept
 
+-- the runs are alike, and what is ready after them
 record BothRun (n : ℕ) (s t : State) : Type 0 where
   run : RunAlike n s t
   ready : Ready s.bus.system.mpu (is_below_zero s.bus.system.nvic) s.bus.memory (after n s) (after n t).bus.memory
