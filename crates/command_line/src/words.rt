@@ -198,6 +198,9 @@ const AFTER_DEBUG: &str = "\
 Commands, one a line on standard input; numbers are decimal, or hexadecimal after 0x:
   step               makes a step: its trace lines, then `at <pc>` or the stop line
   run <n>            makes up to n steps, from 1 to 1000000, and ends at a breakpoint
+  task <n>           makes up to n steps of a task (unprivileged code in Thread mode under the regions of the
+                     MPU), from 1 to 1000000, through breakpoints; then `task done`, `task other` where the
+                     next step isn't an instruction, `task not` where no task runs, or the stop line
   break <a>          sets a breakpoint at an address, at most 16
                      an odd address is never hit, and no command removes a breakpoint
   regs               shows the core registers

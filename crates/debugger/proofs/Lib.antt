@@ -1,5 +1,6 @@
 mod Hearing
 mod Running
 mod Showing
+mod TaskRuns
 mod Tasking
 mod Telling

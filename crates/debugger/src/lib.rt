@@ -2,6 +2,7 @@
 #![tactic(auto)]
 
 mod answers;
+pub mod laws;
 mod sessions;
 mod tasks;
 mod texts;

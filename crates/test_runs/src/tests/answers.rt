@@ -144,6 +144,9 @@ out
 out Commands, one a line on standard input; numbers are decimal, or hexadecimal after 0x:
 out   step               makes a step: its trace lines, then `at <pc>` or the stop line
 out   run <n>            makes up to n steps, from 1 to 1000000, and ends at a breakpoint
+out   task <n>           makes up to n steps of a task (unprivileged code in Thread mode under the regions of the
+out                      MPU), from 1 to 1000000, through breakpoints; then `task done`, `task other` where the
+out                      next step isn't an instruction, `task not` where no task runs, or the stop line
 out   break <a>          sets a breakpoint at an address, at most 16
 out                      an odd address is never hit, and no command removes a breakpoint
 out   regs               shows the core registers
@@ -189,6 +192,9 @@ out
 out Commands, one a line on standard input; numbers are decimal, or hexadecimal after 0x:
 out   step               makes a step: its trace lines, then `at <pc>` or the stop line
 out   run <n>            makes up to n steps, from 1 to 1000000, and ends at a breakpoint
+out   task <n>           makes up to n steps of a task (unprivileged code in Thread mode under the regions of the
+out                      MPU), from 1 to 1000000, through breakpoints; then `task done`, `task other` where the
+out                      next step isn't an instruction, `task not` where no task runs, or the stop line
 out   break <a>          sets a breakpoint at an address, at most 16
 out                      an odd address is never hit, and no command removes a breakpoint
 out   regs               shows the core registers

@@ -145,6 +145,114 @@ out r12 ok
 out r12 mpu
 out none mpu
 
+a task that stops, with a breakpoint on its way; code sets its region and drops its privilege
+words debug --board board.toml image.elf
+vectors 85
+data 60 E000ED94 00000005 00000010 0300003F
+code 84 2760 CF0F 6082 60C3 6001 2401 F384 8814 2005 3001 BE00
+in task 7
+in run 7
+in break 0x96
+in task 1
+in task 0x3
+in task 1
+in step
+ends 0
+out task not
+out 1 F 00000084 2 p ok off
+out 2 F 00000086 2 p ok off
+out 2 L 00000060 4 p ok off
+out 2 L 00000064 4 p ok off
+out 2 L 00000068 4 p ok off
+out 2 L 0000006C 4 p ok off
+out 3 F 00000088 2 p ok off
+out 3 S E000ED9C 4 p ok ppb
+out 4 F 0000008A 2 p ok off
+out 4 S E000EDA0 4 p ok ppb
+out 5 F 0000008C 2 p ok off
+out 5 S E000ED94 4 p ok ppb
+out 6 F 0000008E 2 p ok r0
+out 7 F 00000090 2 p ok r0
+out 7 F 00000092 2 p ok r0
+out at 00000094
+out ok
+out 8 F 00000094 2 u ok r0
+out task done
+out 9 F 00000096 2 u ok r0
+out 10 F 00000098 2 u ok r0
+out stop breakpoint 0
+out stop breakpoint 0
+out stop breakpoint 0
+
+a task that stops in the last of its steps
+words debug --board board.toml image.elf
+vectors 85
+data 60 E000ED94 00000005 00000010 0300003F
+code 84 2760 CF0F 6082 60C3 6001 2401 F384 8814 BE00
+in run 7
+in task 1
+ends 0
+out 1 F 00000084 2 p ok off
+out 2 F 00000086 2 p ok off
+out 2 L 00000060 4 p ok off
+out 2 L 00000064 4 p ok off
+out 2 L 00000068 4 p ok off
+out 2 L 0000006C 4 p ok off
+out 3 F 00000088 2 p ok off
+out 3 S E000ED9C 4 p ok ppb
+out 4 F 0000008A 2 p ok off
+out 4 S E000EDA0 4 p ok ppb
+out 5 F 0000008C 2 p ok off
+out 5 S E000ED94 4 p ok ppb
+out 6 F 0000008E 2 p ok r0
+out 7 F 00000090 2 p ok r0
+out 7 F 00000092 2 p ok r0
+out at 00000094
+out 8 F 00000094 2 u ok r0
+out stop breakpoint 0
+
+a task that makes an SVC: the push of the frame is made by `step`, and then no task runs
+words debug --board board.toml image.elf
+vectors 85
+data 60 E000ED94 00000005 00000010 0300003F
+code 84 2760 CF0F 6082 60C3 6001 2401 F384 8814 2005 DF00
+in run 7
+in task 1000000
+in task 1
+in step
+in task 1
+ends 0
+out 1 F 00000084 2 p ok off
+out 2 F 00000086 2 p ok off
+out 2 L 00000060 4 p ok off
+out 2 L 00000064 4 p ok off
+out 2 L 00000068 4 p ok off
+out 2 L 0000006C 4 p ok off
+out 3 F 00000088 2 p ok off
+out 3 S E000ED9C 4 p ok ppb
+out 4 F 0000008A 2 p ok off
+out 4 S E000EDA0 4 p ok ppb
+out 5 F 0000008C 2 p ok off
+out 5 S E000ED94 4 p ok ppb
+out 6 F 0000008E 2 p ok r0
+out 7 F 00000090 2 p ok r0
+out 7 F 00000092 2 p ok r0
+out at 00000094
+out 8 F 00000094 2 u ok r0
+out 9 F 00000096 2 u ok r0
+out task other
+out task other
+out 10 K 20000FE0 4 u ok r0
+out 10 K 20000FE4 4 u ok r0
+out 10 K 20000FE8 4 u ok r0
+out 10 K 20000FEC 4 u ok r0
+out 10 K 20000FF0 4 u ok r0
+out 10 K 20000FF4 4 u ok r0
+out 10 K 20000FF8 4 u ok r0
+out 10 K 20000FFC 4 u ok r0
+out at 00000098
+out task not
+
 a breakpoint where the machine is
 words debug --board board.toml image.elf
 in break 8
@@ -215,6 +323,13 @@ in mem 00000000008 257
 in explain 0 P w
 in explain 0 p rw
 in task 1
+in task 1000000
+in task 0xF4240
+in task 0
+in task 1000001
+in task x
+in task
+in task 1 2
 in mem 0x000000000000000000000000000000000000000000000000000000000000000000000000 1
 in mem 0x0000000000000000000000000000000000000000000000000000000000000000000000000 1
 ends 0
@@ -231,6 +346,13 @@ out error 2
 out error 2
 out error 2
 out error 2
+out task not
+out task not
+out task not
+out error 2
+out error 2
+out error 2
+out error 1
 out error 1
 out 00000000: 00
 out error 1

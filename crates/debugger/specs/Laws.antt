@@ -1,0 +1,23 @@
+-- What the answer to `task n` says of a run of a task.
+use Rattle.std.specs.Prelude.{◌≡◌, ℕ, ◌≤◌, true, ◌||◌, is_some, List, ◌++◌}
+use Rattle.debugger.specs.Answers.{Piece, task_pieces, task_text}
+use Rattle.debugger.specs.Sessions.{last_state, texts}
+use Rattle.reference.specs.Run.{after, events_of}
+use Rattle.reference.specs.State.{State}
+use Rattle.reference.specs.Text.{lines}
+use Rattle.task_laws.specs.declared.task.TaskEnd.{TaskEnd}
+use Rattle.task_laws.specs.Tasks.{AreInstructions, Ends, is_task}
+
+-- the pieces are those of a run of at most n steps: `steps` steps were made, each of them an Instruction step; their lines
+-- come first and then why the run ended, and the machine is in the state after them
+pub record SaysHowItRan (n : ℕ) (s : State) (pieces : List Piece) : Type 0 where
+  pub steps : ℕ
+  pub end : TaskEnd
+  pub few : steps ≤ n
+  pub instructions : AreInstructions steps s
+  pub ends : Ends n steps (after steps s) end
+  pub state : last_state s pieces ≡ after steps s
+  pub text : texts pieces ≡ lines (events_of steps s) ++ task_text end
+
+abbrev pub TaskLaw : ℕ → State → Type 0
+TaskLaw n s = is_some s.stop || is_task s ≡ true → SaysHowItRan n s (task_pieces n s)
