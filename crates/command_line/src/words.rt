@@ -12,7 +12,7 @@ pub const MOST_STEPS: u64 = 0x1_0000_0000;
 const DEBUG: &str = "debug";
 
 /// The program's version.
-const VERSION: &str = "0.1.0";
+const VERSION: &str = "0.2.0";
 
 /// The arguments of `run`.
 #[derive(Clone, Copy)]

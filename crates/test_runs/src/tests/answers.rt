@@ -9,7 +9,7 @@ const ANSWERS: &str = "\
 the version
 words --version
 ends 0
-out marm 0.1.0
+out marm 0.2.0
 
 the help
 words --help
