@@ -10,6 +10,7 @@ mod files;
 mod handlers;
 mod instructions;
 mod machines;
+mod pairs;
 mod places;
 mod run;
 mod sessions;
