@@ -5,8 +5,8 @@
 
 Several crates are proved side by side, each as soon as those that it uses are done. `rt` locks a crate and all crates
 below it, so each is proved in a room of its own: a folder with hard links to the crate, and to what is proved of those
-below it. What a room has goes to crates/NAME/out once its crate is proved, and also where it was stopped: a run that was
-killed leaves its rooms to the next one. MARM_JOBS is the most crates that are proved side by side.
+below it. What a room has goes to crates/NAME/out once its crate is proved, and also where it was stopped: a run that
+was killed leaves its rooms to the next one. MARM_JOBS is the most crates that are proved side by side.
 """
 
 import fcntl
@@ -20,9 +20,8 @@ import time
 
 TOP = os.path.dirname(os.path.realpath(__file__))
 PROGRAM = "marm"
-# Proves, builds and runs the program, and builds a library.
-RUN = ["rt", "run", "--", "run", "--board", "data/small.toml", "--steps", "0", "data/first.elf"]
-BUILD = ["rt", "lib"]
+# What the program is run with, once it is built.
+RUN = ["--", "run", "--board", "data/small.toml", "--steps", "0", "data/first.elf"]
 # What a crate has to have where those above it are proved.
 PARTS = ["src", "specs", "proofs", "out/rlib"]
 
@@ -35,7 +34,7 @@ def say(text):
 
 
 def read_uses():
-    """Returns the crates that marm is built on, lowest first, and marm: each with the crates of the repository that it uses."""
+    """Returns the crates that marm is built on, lowest first, and marm: each with the crates that it uses."""
     listed, uses = {}, {}
     with open(f"{TOP}/crates.txt", encoding="utf-8") as file:
         for line in file:
@@ -169,7 +168,8 @@ class Work:
         # It kills what was started, however this process ends. Until then nobody else gets the lock.
         ends, self.held = os.pipe()
         words = ["sh", "-c", "read _; kill -9 0"]
-        self.guard = subprocess.Popen(words, stdin=ends, stderr=subprocess.DEVNULL, preexec_fn=os.setpgrp, pass_fds=[lock])
+        how = {"stdin": ends, "stdout": subprocess.DEVNULL, "stderr": subprocess.DEVNULL}
+        self.guard = subprocess.Popen(words, **how, preexec_fn=os.setpgrp, pass_fds=[lock])
         os.close(ends)
 
     def start(self, name, is_first, jobs):
@@ -177,13 +177,13 @@ class Work:
         room = f"{self.rooms}/{name}"
         self.started[name] = time.time()
         make_room(room, name, all_below(self.uses, name))
-        how = RUN[:2] + ["--jobs", str(jobs)] + RUN[2:] if name == PROGRAM else [*BUILD, "--jobs", str(jobs)]
-        words = how if is_first else ["nice", "-n", "5", *how]
-        join = lambda: os.setpgid(0, self.guard.pid)
+        is_program = name == PROGRAM
+        words = ["rt", "run" if is_program else "lib", "--jobs", str(jobs), *RUN * is_program]
+        words = words if is_first else ["nice", "-n", "5", *words]
+        how = {"cwd": f"{room}/crates/{name}", "preexec_fn": lambda: os.setpgid(0, self.guard.pid)}
         with open(f"{self.logs}/{name}", "wb") as log:
-            self.running[name] = subprocess.Popen(
-                words, cwd=f"{room}/crates/{name}", stdin=subprocess.DEVNULL, stdout=log, stderr=log, preexec_fn=join
-            )
+            how.update(stdin=subprocess.DEVNULL, stdout=log, stderr=log)
+            self.running[name] = subprocess.Popen(words, **how)
 
     def chain_of(self, name):
         """Returns about how many seconds of the longest chain from a crate on are left."""
@@ -191,8 +191,8 @@ class Work:
         return self.chains[name] - (time.time() - started)
 
     def start_ready(self):
-        """Starts the crates that can be proved now, those with the longest chain first. The one with the longest chain of all
-        that are left gets all processors, another one gets one."""
+        """Starts the crates that can be proved now, those with the longest chain first. The one with the longest chain
+        of all that are left gets all processors, each other one."""
         left = [it for it in self.uses if it not in self.done]
         ready = [it for it in left if it not in self.running and self.done.issuperset(self.uses[it])]
         ready.sort(key=lambda it: -self.chains[it])
@@ -217,7 +217,8 @@ class Work:
 
     def show(self):
         """Shows how far it is."""
-        text = f"marm: {len(self.done)} of {len(self.uses)} crates proved and built, now: {' '.join(sorted(self.running))}"
+        done, now = f"{len(self.done)} of {len(self.uses)}", " ".join(sorted(self.running))
+        text = f"marm: {done} crates proved and built, now: {now}"
         if sys.stderr.isatty():
             print(f"\r\033[K{text} ({self.time()})", end="", file=sys.stderr, flush=True)
         elif text != self.shown:
@@ -235,12 +236,17 @@ class Work:
                 return failed
         return None
 
+    def clear_rooms(self):
+        """Keeps what was proved in rooms that were left, by this run or by one that was killed."""
+        for name in os.listdir(self.rooms):
+            clear_room(self.rooms, name)
+
     def stop(self):
         """Ends what is under way, and keeps what it has proved."""
         os.killpg(self.guard.pid, signal.SIGKILL)
-        for name, process in self.running.items():
+        for process in self.running.values():
             process.wait()
-            clear_room(self.rooms, name)
+        self.clear_rooms()
         if sys.stderr.isatty():
             print("\r\033[K", end="", file=sys.stderr, flush=True)
 
@@ -266,8 +272,7 @@ def main(folder):
     work = Work(folder, lock_work(folder))
     for it in (work.rooms, work.logs):
         os.makedirs(it, exist_ok=True)
-    for it in os.listdir(work.rooms):      # (what a killed run left)
-        clear_room(work.rooms, it)
+    work.clear_rooms()
     say("proving and building the program; from nothing that takes some half an hour")
     try:
         failed = work.prove()

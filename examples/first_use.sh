@@ -1,8 +1,8 @@
 #!/usr/bin/env bash
-# Does what a newcomer does first, in a clone where nothing is proved, so that the build without proofs answers. Compares
-# status, standard output and standard error with what the pages and the files of the repository have, and says for each
-# case what it found, with its seconds. It ends with 1 where any differs, and where the first answer takes more than two
-# minutes; that is meant for 2 cores with nothing else beside.
+# Does what a newcomer does first, in a clone where nothing is proved, so that the build without proofs answers.
+# Compares status, standard output and standard error with what the pages and the files of the repository have, and says
+# for each case what it found, with its seconds. It ends with 1 where any differs, and where the first answer takes more
+# than two minutes; that is meant for 2 cores with nothing else beside.
 # Usage: examples/first_use.sh [CLONE], a folder where nothing is proved; without one it clones the repository.
 set -euo pipefail
 top=$(cd "$(dirname "${BASH_SOURCE[0]}")/.." && pwd)
@@ -28,11 +28,12 @@ unproved="this answer isn't proved"
 
 # Whether a file has all lines of another in their order.
 has_lines() {
-    awk 'NR == FNR { wanted[++count] = $0; next } $0 == wanted[at + 1] { at++ } END { exit !count || at < count }' "$2" "$1"
+    awk 'NR == FNR { wanted[++count] = $0; next } $0 == wanted[at + 1] { at++ }
+        END { exit !count || at < count }' "$2" "$1"
 }
 
-# expect CASE STATUS COMPARE WORDS..: marm, run with these words on $work/input, ends with the status, standard output is
-# $wanted as COMPARE finds, and standard error is $work/err.
+# expect CASE STATUS COMPARE WORDS..: marm, run with these words on $work/input, ends with the status, standard output
+# is $wanted as COMPARE finds, and standard error is $work/err.
 wanted=$trace
 expect() {
     local name=$1 status=$2 compare=$3 got=0 begun=${EPOCHREALTIME/[.,]/} found=
@@ -68,7 +69,7 @@ expect "files elsewhere, by relative paths" 0 cmp run --board="a board.toml" --s
 wanted=$work/nothing
 sed 's/^flash_size = .*/flash_size = 1000/' "$clone/examples/boards/small.toml" >"a small.toml"
 {
-    sed -n '/^    marm: board 4 OutOfRange/,/^$/ s/^    //p' "$clone/docs/FILES.md" | sed 's/^  small.toml/  a small.toml/'
+    sed -n '/^    marm: board 4 OutOfRange/,/^$/ s/^    //p' "$clone/docs/FILES.md" | sed 's/^  small/  a small/'
     note "$unproved"
 } >"$work/err"
 expect "a refused board" 3 cmp run --board "a small.toml" --steps 10 -- "-an image\\.elf"
@@ -103,7 +104,8 @@ expect "a debug script" 0 has_lines $words
 # A trace of 2 MB: 40,000 steps of a program that takes no fewer than 50 bytes for one.
 wanted=$work/nothing
 note "no answer without proofs, since the output has more than 1 MiB" >"$work/err"
-expect "a trace of 2 MB" 125 cmp run --board crates/test_firmware/data/board.toml --steps 40000 examples/firmware/crc32-loop.elf
+words="run --board crates/test_firmware/data/board.toml --steps 40000 examples/firmware/crc32-loop.elf"
+expect "a trace of 2 MB" 125 cmp $words
 
 [ "$failed" = 0 ] && echo "first_use: all as expected"
 exit "$failed"
