@@ -24,6 +24,7 @@ QEMU = "qemu-system-arm -M mps2-an385 -display none -monitor none -serial none".
 # The end of a line: privilege, outcome and rule, which QEMU's plugin doesn't know.
 DECISION = re.compile(rb" [pu] ok \w+$", re.M)
 BYTE = re.compile(rb"^\d+ O ..\n", re.M)
+REFUSED = re.compile(rb"^\d+ [FLSKUV] \S+ \d [pu] (mpu|bus) .*$", re.M)
 
 
 def trace_of(command, path):
@@ -77,24 +78,28 @@ def first_difference(trace, other):
     return f"line {number}: {line} on marm, {another} in QEMU"
 
 
-def refusal(trace):
-    """The first line of a refused access, or nothing."""
-    found = re.search(rb"^\d+ [FLSKUV] \S+ \d [pu] (mpu|bus) .*$", trace, re.M)
-    return found[0].decode() if found else ""
+def known(trace, other, confined):
+    """Why two traces differ, if that is known: they are the same up to marm's first access that is refused."""
+    found = REFUSED.search(trace)
+    if found is None:
+        return None
+    mine, theirs = compared(trace[: found.start()], other, confined)
+    return reason(found[0].decode()) if theirs.startswith(mine) else None
 
 
 def verdict(test, level, image):
-    """What became of a test: a word for the counts, how many steps it made, and what there is to say."""
+    """What became of a test: a word for the counts, the lines that are the same, and what there is to say."""
     trace = trace_of([MARM, "run", "--board", BOARD, "--steps", str(STEPS), image], image + ".marm")
     plugin = f"{FOLDER}/plugin.so,steps={STEPS}"
     other = trace_of([*QEMU, "-kernel", image, "-plugin", plugin], image + ".qemu")
     if trace is None or other is None:
-        return "took too long", 0, "on marm" if trace is None else "in QEMU"
-    mine, theirs = compared(trace, other, level.startswith("confined-"))
+        return "beyond a limit", 0, "on marm" if trace is None else "in QEMU"
+    confined = level.startswith("confined-")
+    mine, theirs = compared(trace, other, confined)
     end = trace.rstrip().rsplit(b"\n", 1)[-1].decode()
     if mine == theirs:
         return end, theirs.count(b"\n"), ""
-    why = reason(test.name, refusal(trace))
+    why = known(trace, other, confined)
     return ("differs as known" if why else "DIFFERS"), 0, why or first_difference(mine, theirs)
 
 
@@ -117,12 +122,12 @@ def run_level(kit, tests, level):
     counts = collections.Counter(word for word, _, _ in outcomes)
     lines = sum(count for _, count, _ in outcomes)
     same = sum(count for word, count in counts.items() if word.startswith("stop "))
-    images = len(tests) - counts["refused"] - counts["not linked"]
+    images = len(tests) - sum(counts[word] for word in ("refused", "larger than RAM", "not linked"))
     print(f"{level}: {len(tests)} tests, {images} built, {same} the same, with {lines} lines")
     for word, count in sorted(counts.items()):
         print(f"    {count} {word}")
     for test, (word, _, text) in zip(tests, outcomes):
-        if not word.startswith("stop breakpoint") and word != "refused":
+        if word != "stop breakpoint 0":
             print(f"    {test.name}: {word}{': ' * bool(text)}{text}")
     sys.stdout.flush()
     return not (counts["DIFFERS"] or counts["not linked"])

@@ -14,6 +14,6 @@ def is_above_ram(line):
     return found is not None and RAM_END <= int(found[1], 16) < QEMU_RAM_END
 
 
-def reason(name, refused):
-    """Why a test differs, by marm's first line that was refused there, or None."""
+def reason(refused):
+    """Why a test differs from its first access on that marm refuses, by the line of that access, or None."""
     return ABOVE_RAM if is_above_ram(refused) else None

@@ -70,19 +70,22 @@ class Kit:
         return [*words, *LINK, "-T", self.script, "-lm", "-o", image]
 
 
-def succeeds(command):
-    """Whether a command ends well in the time that it has."""
+def errors_of(command):
+    """What a command that fails says, or None where it ends well in the time that it has."""
     try:
         ended = subprocess.run(command, stdin=subprocess.DEVNULL, capture_output=True, timeout=LIMIT)
     except subprocess.TimeoutExpired:
-        return False
-    return ended.returncode == 0
+        return "too slow"
+    return ended.stderr.decode(errors="replace") if ended.returncode else None
 
 
 def built(kit, test, level, image):
-    """Builds a test. Returns "built", or why there is no image: "refused" where GCC makes none with its own start code
-    and linker script either, and otherwise "not linked"."""
-    if succeeds(kit.command(test, level, image)):
+    """Builds a test. Returns "built", or why there is no image: "larger than RAM"; "refused" where GCC makes none with its
+    own start code and linker script either; and otherwise "not linked"."""
+    errors = errors_of(kit.command(test, level, image))
+    if errors is None:
         return "built"
+    if "region `RAM' overflowed" in errors:
+        return "larger than RAM"
     elsewhere = [*TARGET, "-" + level.split("-")[-1], *test.options, *test.files, "--specs=rdimon.specs", "-lm"]
-    return "not linked" if succeeds([*elsewhere, "-o", image]) else "refused"
+    return "refused" if errors_of([*elsewhere, "-o", image]) else "not linked"

@@ -93,13 +93,13 @@ static void print_address(void)
     if (address >= (uint32_t)__heap_end && address < (uint32_t)__stack_bottom)
         printf(" in the guard");
     else
-        printf(" at %08x", (unsigned)address);
+        printf(" at %08X", (unsigned)address);
 }
 
 /* Whether the exception's frame had room above the guard depends on the compiler, so MSTKERR isn't printed. */
 static void print_fault(const char *name)
 {
-    printf("%s: %s, CFSR %04x", name, name_of(refused), (unsigned)(refused & ~CFSR_MSTKERR));
+    printf("%s: %s, CFSR %04X", name, name_of(refused), (unsigned)(refused & ~CFSR_MSTKERR));
     if ((refused & (CFSR_MMARVALID | CFSR_BFARVALID)) != 0)
         print_address();
     printf("\n");

@@ -53,10 +53,11 @@ static size_t print_sorted(const struct entry *list)
     return count;
 }
 
-/* More than the heap has, so malloc has to say no; and after that as before. */
+/* More than the heap has, so malloc has to say no; and after that as before. Without volatile a compiler may answer in
+   its place. */
 static int is_bounded(void)
 {
-    void *much = malloc(SIZE_MAX / 2), *little = malloc(100);
+    void *volatile much = malloc(SIZE_MAX / 2), *volatile little = malloc(100);
     int bounded = much == NULL && little != NULL;
     free(much);
     free(little);
