@@ -29,6 +29,8 @@ build() {
 }
 
 build round_robin round_robin.s round_robin.c task_a.c task_b.c task_c.c
+# the same with other bytes in task a's memory
+python3 -B "$here/fill.py" "$folder/round_robin.elf" "$folder/round_robin_filled.elf"
 build faults faults.s faults.c
 build nested nested.c
 build atomics atomics.c

@@ -1,8 +1,11 @@
 //! Runs images on a board, on `Slow` and on `Fast` step by step, and prints what each of them writes to its
 //! console, and why its run ended. CI runs it over the firmware and the kernels of `examples` and compares
-//! what it prints.
+//! what it prints. Before that it holds a debug session over two images, and prints which answers differ.
 #![tactic(auto)]
 
+mod alike;
+
+use alike::{Named, write_unlike};
 use board::{Board, read_board};
 use elf::{Image, load};
 use machine::{Event, Events, Fast, Slow, Stop, event_line, stop_line};
@@ -11,23 +14,38 @@ use std::alloc::Global;
 use std::io::Write;
 use std::{env, fs, io};
 
+/// What is printed for words that don't fit.
+const USAGE: &str = "usage: test_firmware [--fast | --alike COMMANDS IMAGE OTHER] BOARD IMAGE..";
+
 /// How many steps an image has at most.
 const MOST_STEPS: u32 = 20_000_000;
 
 fn main(rt: HostRuntime) -> io::Result<()> {
     let mut words = env::args(&rt)?;
     let (Some(_), Some(first)) = (words.next(), words.next()) else {
-        return rt.println("usage: test_firmware [--fast] BOARD IMAGE..");
+        return rt.println(USAGE);
     };
     let is_alone = first.as_str() == "--fast";
-    let path = if is_alone { words.next() } else { Some(first) };
+    let asked = if first.as_str() == "--alike" {
+        (words.next(), words.next(), words.next())
+    } else {
+        (None, None, None)
+    };
+    let path = if is_alone || asked.0.is_some() {
+        words.next()
+    } else {
+        Some(first)
+    };
     let Some(path) = path else {
-        return rt.println("usage: test_firmware [--fast] BOARD IMAGE..");
+        return rt.println(USAGE);
     };
     let text = fs::read_to_string(&rt, path.as_str())?;
     let Ok(board) = read_board(rt.alloc(), text.as_str()) else {
         return println!(rt; "{path} is refused");
     };
+    if let (Some(commands), Some(one), Some(other)) = &asked {
+        print_unlike(&rt, &board, commands.as_str(), one.as_str(), other.as_str())?;
+    }
     for path in words {
         println!(rt; "{path}:")?;
         let image = fs::read(&rt, path.as_str())?;
@@ -39,6 +57,35 @@ fn main(rt: HostRuntime) -> io::Result<()> {
         }
     }
     Ok(())
+}
+
+/// Holds the debug session of a file of commands over two images, and prints which answers differ, and how
+/// each run of a task ended.
+fn print_unlike(
+    rt: &HostRuntime,
+    board: &Board,
+    commands: &str,
+    one: &str,
+    other: &str,
+) -> io::Result<()> {
+    println!(rt; "{one} and {other}:")?;
+    let commands = fs::read(rt, commands)?;
+    let image = fs::read(rt, one)?;
+    let other_image = fs::read(rt, other)?;
+    write_unlike(
+        rt.alloc(),
+        board,
+        commands.as_slice(),
+        Named {
+            path: one,
+            image: image.as_slice(),
+        },
+        Named {
+            path: other,
+            image: other_image.as_slice(),
+        },
+        &mut io::writer(rt),
+    )
 }
 
 /// Runs an image on `Fast` alone, and writes its console bytes and the line of its stop.
