@@ -84,8 +84,10 @@ fn has_word<D: Decider, C: CodeLines, L: Levels, U: DueTicks>(
 struct Pair<D: Decider, C: CodeLines, L: Levels, U: DueTicks> {
     one: Run<D, C, L, U>,
     two: Run<D, C, L, U>,
-    /// The address, and both words, where they differ.
-    word: Option<[u32; 3]>,
+    /// The address of the word, where they differ.
+    place: Option<u32>,
+    /// Both words.
+    words: [u32; 2],
     is_visible: bool,
     /// Whether the first machine alone runs tasks.
     skips: bool,
@@ -100,7 +102,7 @@ impl<D: Decider, C: CodeLines, L: Levels, U: DueTicks> Pair<D, C, L, U> {
         match name {
             "hidden" | "visible" => {
                 self.is_visible = name == "visible";
-                self.place(numbers(rest)?)
+                self.place_words(numbers(rest)?)
             }
             "task" if self.skips => self.one.follow(line),
             "first" => Some(push_line(&mut self.one.wanted, rest).is_some()),
@@ -109,26 +111,30 @@ impl<D: Decider, C: CodeLines, L: Levels, U: DueTicks> Pair<D, C, L, U> {
         }
     }
 
-    /// Places both words.
-    fn place(&mut self, word: [u32; 3]) -> Option<bool> {
-        let [address, first, second] = word;
-        self.word = Some(word);
+    /// Places both words: an address, the word of the first machine, and that of the second.
+    fn place_words(&mut self, numbers: [u32; 3]) -> Option<bool> {
+        let [address, first, second] = numbers;
+        self.place = Some(address);
+        self.words = [first, second];
         self.one.machine.place(Place::Word(address, first)).ok()?;
         self.two.machine.place(Place::Word(address, second)).ok()?;
         Some(true)
     }
 
-    /// Returns whether the machines agree, but for the words, which are as they were placed.
-    fn agrees(&self) -> bool {
-        let (one, two) = (&self.one.machine, &self.two.machine);
-        match self.word {
-            Some([address, first, second]) => {
-                agree(one, two, Some(address))
-                    && has_word(one, address, first)
-                    && has_word(two, address, second)
+    /// Returns whether the words are as they were placed.
+    fn has_words(&self) -> bool {
+        match self.place {
+            Some(address) => {
+                has_word(&self.one.machine, address, self.words[0])
+                    && has_word(&self.two.machine, address, self.words[1])
             }
-            None => agree(one, two, None),
+            None => true,
         }
+    }
+
+    /// Returns whether the machines agree, but for the words.
+    fn agrees(&self) -> bool {
+        agree(&self.one.machine, &self.two.machine, self.place) && self.has_words()
     }
 
     /// Returns whether both wrote what they were to write: the same, and then the machines agree; or not the
@@ -149,7 +155,8 @@ fn pair_goes<D: Decider, C: CodeLines, L: Levels, U: DueTicks>(
     let mut pair: Pair<D, C, L, U> = Pair {
         one: Run::of(alloc, text)?,
         two: Run::of(alloc, text)?,
-        word: None,
+        place: None,
+        words: [0; 2],
         is_visible: false,
         skips,
     };

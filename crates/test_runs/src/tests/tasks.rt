@@ -644,19 +644,28 @@ reg F 100";
 static STORE_TRACE: [u8; 92] =
     *b"1 F 00000100 2 u ok r1\n1 S 20000000 4 u ok r0\n2 F 00000102 2 u ok r1\n3 F 00000102 2 u ok r1\n";
 
+/// Returns whether a writer got this number of bytes of the trace.
+fn got(out: &Cut, bytes: usize) -> bool {
+    out.text.len() == bytes && STORE_TRACE.starts_with(out.text.as_slice())
+}
+
+/// The step whose line a writer of this number of bytes cuts.
+fn cut_step(bytes: usize) -> u64 {
+    if bytes < 46 {
+        1
+    } else if bytes < 69 {
+        2
+    } else {
+        3
+    }
+}
+
 /// Returns whether a writer of this number of bytes breaks a machine, in the step whose line it cuts.
 fn breaks(machine: &mut Slow, left: usize, fails: bool) -> bool {
     let mut out = Cut::new(left, 512, fails);
-    let wanted = match left {
-        0..46 => 1,
-        46..69 => 2,
-        _ => 3,
-    };
     match run_task(machine, 3, &mut out) {
         Err(RunFault::Write { steps }) => {
-            let text = out.text.as_slice();
-            let is_prefix = text.len() == left && STORE_TRACE.starts_with(text);
-            is_prefix && steps == wanted && machine.broken()
+            steps == cut_step(left) && got(&out, left) && machine.broken()
         }
         _ => false,
     }
