@@ -192,13 +192,14 @@ class Work:
 
     def start_ready(self):
         """Starts the crates that can be proved now, those with the longest chain first. The one with the longest chain
-        of all that are left gets all processors, each other one."""
+        of all that are left gets the processors that no other crate can use, and two at least, each other crate one."""
         left = [it for it in self.uses if it not in self.done]
         ready = [it for it in left if it not in self.running and self.done.issuperset(self.uses[it])]
         ready.sort(key=lambda it: -self.chains[it])
+        spare = self.lanes - len(self.running) - len(ready) + 1
         for name in ready[: self.lanes - len(self.running)]:
             is_first = name == max(left, key=self.chain_of)
-            self.start(name, is_first, self.lanes if is_first else 1)
+            self.start(name, is_first, max(min(2, self.lanes), spare) if is_first else 1)
 
     def end_done(self):
         """Ends what is proved. Returns a crate that isn't, if there is one."""
