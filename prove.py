@@ -266,7 +266,7 @@ class Work:
 
 
 def lock_work(folder):
-    """Returns the lock that one run has at a time. Where another has it, waits until that ends, and then begins anew."""
+    """Returns the lock that one run has at a time. Where another has it, waits until that ends, and begins anew."""
     os.makedirs(folder, exist_ok=True)
     lock = os.open(f"{folder}/prove.lock", os.O_CREAT | os.O_RDWR)
     try:
