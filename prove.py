@@ -16,6 +16,7 @@ import shutil
 import signal
 import subprocess
 import sys
+import tempfile
 import time
 
 TOP = os.path.dirname(os.path.realpath(__file__))
@@ -24,6 +25,7 @@ PROGRAM = "marm"
 RUN = ["--", "run", "--board", "data/small.toml", "--steps", "0", "data/first.elf"]
 # What a crate has to have where those above it are proved.
 PARTS = ["src", "specs", "proofs", "out/rlib"]
+NOTHING = subprocess.DEVNULL
 
 
 def say(text):
@@ -136,9 +138,20 @@ def lock_crate(name):
     return held
 
 
-def clear_room(rooms, name):
+def remove(folder, name):
+    """Removes a room in the background: some file systems take ten seconds for it."""
+    removed = tempfile.mkdtemp(dir=f"{folder}/removed")
+    os.rename(f"{folder}/rooms/{name}", f"{removed}/{name}")
+    remove_all(removed)
+
+
+def remove_all(path):
+    subprocess.Popen(["rm", "-rf", path], start_new_session=True, stdin=NOTHING, stdout=NOTHING, stderr=NOTHING)
+
+
+def clear_room(folder, name):
     """Moves what was proved in a room to its crate, and removes the room."""
-    room, out = f"{rooms}/{name}", f"{TOP}/crates/{name}/out"
+    room, out = f"{folder}/rooms/{name}", f"{TOP}/crates/{name}/out"
     proved = f"{room}/crates/{name}/out"
     if os.path.exists(f"{room}/made") and os.path.isdir(proved):
         held = lock_crate(name)
@@ -146,7 +159,7 @@ def clear_room(rooms, name):
             os.rename(out, f"{room}/before")
         os.rename(proved, out)
         os.close(held)
-    shutil.rmtree(room)
+    remove(folder, name)
 
 
 # ---- the work --------------------------------------------------------------------------------------------------------
@@ -159,7 +172,7 @@ class Work:
         self.uses = read_uses()
         self.chains = chains_of(self.uses)
         self.lanes = most_lanes()
-        self.rooms, self.logs = f"{folder}/rooms", f"{folder}/logs"
+        self.folder = folder
         self.done = set()
         self.running = {}                  # the process of each crate that is being proved
         self.started = {}                  # and when it was started
@@ -168,21 +181,21 @@ class Work:
         # It kills what was started, however this process ends. Until then nobody else gets the lock.
         ends, self.held = os.pipe()
         words = ["sh", "-c", "read _; kill -9 0"]
-        how = {"stdin": ends, "stdout": subprocess.DEVNULL, "stderr": subprocess.DEVNULL}
+        how = {"stdin": ends, "stdout": NOTHING, "stderr": NOTHING}
         self.guard = subprocess.Popen(words, **how, preexec_fn=os.setpgrp, pass_fds=[lock])
         os.close(ends)
 
     def start(self, name, is_first, jobs):
         """Starts to prove a crate. Those that others wait for less give way."""
-        room = f"{self.rooms}/{name}"
+        room = f"{self.folder}/rooms/{name}"
         self.started[name] = time.time()
         make_room(room, name, all_below(self.uses, name))
         is_program = name == PROGRAM
         words = ["rt", "run" if is_program else "lib", "--jobs", str(jobs), *RUN * is_program]
         words = words if is_first else ["nice", "-n", "5", *words]
         how = {"cwd": f"{room}/crates/{name}", "preexec_fn": lambda: os.setpgid(0, self.guard.pid)}
-        with open(f"{self.logs}/{name}", "wb") as log:
-            how.update(stdin=subprocess.DEVNULL, stdout=log, stderr=log)
+        with open(f"{self.folder}/logs/{name}", "wb") as log:
+            how.update(stdin=NOTHING, stdout=log, stderr=log)
             self.running[name] = subprocess.Popen(words, **how)
 
     def chain_of(self, name):
@@ -192,20 +205,21 @@ class Work:
 
     def start_ready(self):
         """Starts the crates that can be proved now, those with the longest chain first. The one with the longest chain
-        of all that are left gets all processors, each other one."""
+        of all that are left gets the processors that no other crate can use, and two at least, each other crate one."""
         left = [it for it in self.uses if it not in self.done]
         ready = [it for it in left if it not in self.running and self.done.issuperset(self.uses[it])]
         ready.sort(key=lambda it: -self.chains[it])
+        spare = self.lanes - len(self.running) - len(ready) + 1
         for name in ready[: self.lanes - len(self.running)]:
             is_first = name == max(left, key=self.chain_of)
-            self.start(name, is_first, self.lanes if is_first else 1)
+            self.start(name, is_first, max(min(2, self.lanes), spare) if is_first else 1)
 
     def end_done(self):
         """Ends what is proved. Returns a crate that isn't, if there is one."""
         for name, process in list(self.running.items()):
             if process.poll() is not None:
                 del self.running[name]
-                clear_room(self.rooms, name)
+                clear_room(self.folder, name)
                 if process.returncode:
                     return name
                 self.done.add(name)
@@ -238,8 +252,8 @@ class Work:
 
     def clear_rooms(self):
         """Keeps what was proved in rooms that were left, by this run or by one that was killed."""
-        for name in os.listdir(self.rooms):
-            clear_room(self.rooms, name)
+        for name in os.listdir(f"{self.folder}/rooms"):
+            clear_room(self.folder, name)
 
     def stop(self):
         """Ends what is under way, and keeps what it has proved."""
@@ -252,7 +266,7 @@ class Work:
 
 
 def lock_work(folder):
-    """Waits until no other run is at work, and returns the lock."""
+    """Returns the lock that one run has at a time. Where another has it, waits until that ends, and begins anew."""
     os.makedirs(folder, exist_ok=True)
     lock = os.open(f"{folder}/prove.lock", os.O_CREAT | os.O_RDWR)
     try:
@@ -260,6 +274,7 @@ def lock_work(folder):
     except BlockingIOError:
         say("another run is proving the program: this one goes on once that has ended")
         fcntl.flock(lock, fcntl.LOCK_EX)
+        os.execv(f"{TOP}/marm", [f"{TOP}/marm", "--prove"])
     return lock
 
 
@@ -270,8 +285,10 @@ def main(folder):
         say("rt, the command of Rattle's kit, isn't installed, so nothing can be proved")
         return 1
     work = Work(folder, lock_work(folder))
-    for it in (work.rooms, work.logs):
-        os.makedirs(it, exist_ok=True)
+    for it in ("rooms", "logs", "removed"):
+        os.makedirs(f"{folder}/{it}", exist_ok=True)
+    for it in os.listdir(f"{folder}/removed"):
+        remove_all(f"{folder}/removed/{it}")
     work.clear_rooms()
     say("proving and building the program; from nothing that takes some half an hour")
     try:
@@ -279,7 +296,7 @@ def main(folder):
     finally:
         work.stop()
     if failed:
-        with open(f"{work.logs}/{failed}", encoding="utf-8", errors="replace") as log:
+        with open(f"{folder}/logs/{failed}", encoding="utf-8", errors="replace") as log:
             sys.stderr.write(log.read())
         say(f"the crate {failed} could not be proved or built")
         return 1
