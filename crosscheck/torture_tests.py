@@ -17,7 +17,9 @@ FOLDERS = {
 # An option that a test asks for, whatever the target: `{ dg-options "-fwrapv" }`. What .x files ask for of this target.
 ASKED = re.compile(r'\{\s*dg-(?:additional-)?options\s+\{?\s*"([^"]*)"\s*\}?\s*\}')
 ASKED_BESIDE = {
+    "abs-1": "-fno-builtin-abs",
     "compare-fp-3": "-fno-trapping-math",
+    "compare-fp-4": "-fno-trapping-math",
     "fp-cmp-7": "-fno-trapping-math",
     "pr38016": "-fno-ivopts -fno-gcse",
 }
