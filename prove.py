@@ -28,8 +28,12 @@ PARTS = ["src", "specs", "proofs", "out/rlib"]
 NOTHING = subprocess.DEVNULL
 
 
+# What takes back the line that `show` writes on a terminal.
+BACK = "\r\033[K" if sys.stderr.isatty() else ""
+
+
 def say(text):
-    print(f"marm: {text}", file=sys.stderr, flush=True)
+    print(f"{BACK}marm: {text}", file=sys.stderr, flush=True)
 
 
 # ---- the crates ------------------------------------------------------------------------------------------------------
@@ -233,8 +237,8 @@ class Work:
         """Shows how far it is."""
         done, now = f"{len(self.done)} of {len(self.uses)}", " ".join(sorted(self.running))
         text = f"marm: {done} crates proved and built, now: {now}"
-        if sys.stderr.isatty():
-            print(f"\r\033[K{text} ({self.time()})", end="", file=sys.stderr, flush=True)
+        if BACK:
+            print(f"{BACK}{text} ({self.time()})", end="", file=sys.stderr, flush=True)
         elif text != self.shown:
             print(f"{text} ({self.time()})", file=sys.stderr, flush=True)
             self.shown = text
@@ -261,8 +265,7 @@ class Work:
         for process in self.running.values():
             process.wait()
         self.clear_rooms()
-        if sys.stderr.isatty():
-            print("\r\033[K", end="", file=sys.stderr, flush=True)
+        print(BACK, end="", file=sys.stderr, flush=True)
 
 
 def lock_work(folder):
