@@ -47,8 +47,8 @@ expect() {
     printf '%4d.%03d s  %s: %s\n' $((took / 1000)) $((took % 1000)) "$name" "${found:-as expected, status $status}"
 }
 
-# The README's first command.
-words=$(grep -o -m1 '\./marm run --board [^ ]* --steps [^ ]* [^ ]*' README.md | head -n 1)
+# The first command of README's "Try it".
+words=$(grep -o '\./marm run --board [^ ]* --steps [^ ]* examples/first\.elf' README.md | head -n 1)
 note "$unproved" >"$work/err"
 expect "the README's first command" 0 cmp ${words#./marm }
 [ "$took" -le 120000 ] || { echo "the first answer took more than two minutes"; failed=1; }
@@ -93,9 +93,9 @@ expect "the help" 2 cmp --help
 
 # The session of docs/DEBUGGING.md: its commands on standard input, and the answers that the page shows.
 wanted=$work/answers
-sed -n '/^\$ .*round_robin.elf$/,/^```$/p' docs/DEBUGGING.md >"$work/session"
+sed -n '/^\$ .*round_robin.elf$/,/^```$/p; /^quit$/q' docs/DEBUGGING.md >"$work/session"
 words=$(sed -n 's/^\$ \.\/marm //p' "$work/session")
-commands='^\(step\|run\|break\|regs\|mem\|regions\|explain\|quit\)\( \|$\)'
+commands='^\(step\|run\|task\|break\|regs\|mem\|regions\|explain\|quit\)\( \|$\)'
 grep "$commands" "$work/session" >"$work/input"
 grep -v -e "$commands" -e '^\$' -e '^\.\.$' -e '^```$' "$work/session" >"$wanted"
 note "$unproved" >"$work/err"

@@ -1,6 +1,6 @@
 #!/usr/bin/env bash
 # Tries the mutations that CI leaves out: the prover has to refuse a crate with each edit of mutations/CRATE. They are
-# tried by `rt must-fail` in a copy of the sources, with links to what `rt check`, `rt lib` or ./marm left in
+# tried by `rt must-fail` in a copy of the sources, with links to what `rt check`, `rt lib` or ./marm --prove left in
 # crates/*/out, so that no library is proved again whose sources are as they were. Several runs can go side by side,
 # each with other crates. With --apply-only it proves nothing, and only checks that each edit still fits its source:
 # those of mutations/ and those of crates/*/must-fail. Ends with 1 where an edit isn't refused or doesn't fit.
