@@ -49,7 +49,7 @@ RT_WORDS = set("""check ci test try lib lemma fmt tidy plant must-fail version d
 --margin --fail-alloc --test --max --start --allow-holes""".split())
 
 # words of Rust, of antt, of std and of the kit's libraries that pages speak of
-LANGUAGE = set("""usize u8 u16 u32 u64 i32 i64 bool str String Vec Option Result Some None Ok Err true false self mut
+LANGUAGE = set("""crate usize u8 u16 u32 u64 i32 i64 bool str String Vec Option Result Some None Ok Err true false self mut
 fn pub impl struct enum trait match for in let if else use mod unsafe derive cold Default Clone Copy Drop Model Write
 Read Global panic unwrap refl rw let's suc zero omega is_err split_at abbrev unfoldable record data with where opaque ghost ensures
 requires using unfolding auto search simp loop items view invariant Value ArrayVec codes decimal find Appends Keeps
