@@ -13,10 +13,12 @@ QEMU_PLUGIN_EXPORT int qemu_plugin_version = QEMU_PLUGIN_VERSION;
 
 static char page[1 << 16];
 static size_t used;
-static char digits[24];
+/* The digits of the tick, from `first` to 23: at most 16. What is after them is copied too, and written over. */
+static char digits[40];
 static int first = 23;
 static long left = 1000000;
-static const char hex[] = "0123456789ABCDEF";
+/* The two digits of each byte, as they are in memory. */
+static uint16_t pairs[256];
 
 static void hand_on(void) {
     if (write(1, page, used) < 0) exit(1);
@@ -29,16 +31,16 @@ static void count(void) {
     if (at < first) { digits[at] = '1'; first = at; } else digits[at]++;
 }
 
-static void line(char kind, uint32_t address, char size) {
+static inline void line(char kind, uint32_t address, char size) {
     if (used > sizeof page - 64) hand_on();
     char *p = page + used;
-    memcpy(p, digits + first, 23 - first);
+    memcpy(p, digits + first, 16);
     p += 23 - first;
-    *p++ = ' '; *p++ = kind; *p++ = ' ';
-    for (int shift = 28; shift >= 0; shift -= 4) *p++ = hex[address >> shift & 15];
-    *p++ = ' '; *p++ = size;
-    memcpy(p, " p ok off\n", 10);
-    used = p + 10 - page;
+    p[0] = ' '; p[1] = kind; p[2] = ' ';
+    for (int byte = 0; byte < 4; byte++) memcpy(p + 3 + 2 * byte, &pairs[address >> (24 - 8 * byte) & 255], 2);
+    memcpy(p + 11, " 0 p ok off\n", 12);
+    p[12] = size;
+    used = p + 23 - page;
 }
 
 /* An instruction is about to be carried out; `what` has its address, and in bit 0 whether it has two halfwords. */
@@ -96,6 +98,11 @@ QEMU_PLUGIN_EXPORT int qemu_plugin_install(qemu_plugin_id_t id, const qemu_info_
     (void)info;
     for (int number = 0; number < words; number++)
         if (strncmp(word[number], "steps=", 6) == 0) left = atol(word[number] + 6);
+    for (int byte = 0; byte < 256; byte++) {
+        char text[3];
+        snprintf(text, sizeof text, "%02X", byte);
+        memcpy(&pairs[byte], text, 2);
+    }
     qemu_plugin_register_vcpu_tb_trans_cb(id, translated);
     return 0;
 }

@@ -1,7 +1,9 @@
 """Times the proved program and the plain C formatter in shuffled rounds, and prints the best of each and their ratio; a
 real program, with and without a trace; each with regions set up, with SysTick and with a script, beside a quiet board
-with the MPU off; and the loops with the trace to a file, and in QEMU with a plugin that writes the same lines."""
+with the MPU off; and the loops with the trace to a file, and in QEMU with a plugin that writes the same lines; so the
+real program and the images that are named, on the same number of steps."""
 
+import os
 import sys
 
 import results
@@ -13,6 +15,7 @@ from loops import (
 MARM, FIRMWARE, FORMAT, PLUGIN, LARGE, PROGRAM, FOLDER = sys.argv[1:8]
 STEPS = int(sys.argv[8])
 ROUNDS = int(sys.argv[9])
+IMAGES = sys.argv[10:]
 
 # More steps than the real program makes.
 ENOUGH = 10**9
@@ -52,6 +55,10 @@ runs["crc32-loop", "events"] = traced(MARM, busy, ENOUGH, PROGRAM)
 for count in COUNTS:
     path = written(FOLDER, f"crc32-loop{count}.elf", with_regions(flash, REGIONS[:count]))
     runs["crc32-loop", count] = traced(MARM, quiet, ENOUGH, path)
+for path in [PROGRAM, *IMAGES]:
+    runs[path, "marm"] = traced(MARM, LARGE, STEPS, path)
+    if PLUGIN:
+        runs[path, "qemu"] = in_qemu(path)
 steps, lines = counted(trace_of(runs["crc32-loop", "marm"]))
 
 best = best_of(runs, ROUNDS)
@@ -74,6 +81,17 @@ print(
     f"crc32-loop  marm {steps / marm / 1e6:6.1f} M steps/s {lines / marm / 1e6:6.1f} M lines/s   "
     f"untraced    {steps / untraced / 1e6:6.1f} M steps/s   formatting {1 - untraced / marm:.0%}   ({steps} steps)"
 )
+for path in [PROGRAM, *IMAGES]:
+    name, marm = os.path.splitext(os.path.basename(path))[0], best[path, "marm"]
+    made = min(STEPS, steps) if path == PROGRAM else STEPS
+    print(f"{name:<11} marm {made / marm / 1e6:6.1f} M steps/s, the first {made}", end="")
+    figures[f"bench {name}, M steps/s"] = f"{made / marm / 1e6:.1f}"
+    if PLUGIN:
+        plugin = best[path, "qemu"]
+        print(f"   QEMU {made / plugin / 1e6:6.1f} M steps/s   ratio {plugin / marm:.2f}", end="")
+        figures[f"bench {name}, of QEMU"] = f"{plugin / marm:.2f}"
+    print()
+marm = best["crc32-loop", "marm"]
 figures["bench crc32-loop, M lines/s"] = f"{lines / marm / 1e6:.1f}"
 # What each way takes, as a part of the steps a second of the quiet board with the MPU off.
 WAYS = [*((count, f"{count} regions") for count in COUNTS), ("timer", "SysTick"), ("events", "events"), ("file", "a file")]

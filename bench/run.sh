@@ -3,7 +3,8 @@
 # more than format such lines, with regions, SysTick and a script; and on a real program, beside the same machine without a
 # trace. Where qemu-system-arm and qemu-plugin.h are installed, a plugin of QEMU that writes the same lines runs too; set
 # QEMU_PLUGIN_HEADERS to the folder of the header where the compiler doesn't look. Then, by bench/parts.sh, what part of a
-# step decoding and deciding take. Appends the figures to bench/results.csv. Usage: bench/run.sh [STEPS] [ROUNDS]
+# step decoding and deciding take. An IMAGE is timed in marm and in QEMU too: one that makes at least so many steps, on the
+# board of test_firmware. Appends the figures to bench/results.csv. Usage: bench/run.sh [STEPS] [ROUNDS] [IMAGE..]
 set -euo pipefail
 top=$(cd "$(dirname "${BASH_SOURCE[0]}")/.." && pwd)
 marm=$("$top/marm" --proved)
@@ -22,5 +23,5 @@ else
 fi
 python3 -B "$top/bench/rounds.py" "$marm" "$top/crates/test_firmware/out/test_firmware" "$folder/format" \
     "$plugin" "$top/crates/test_firmware/data/board.toml" "$top/examples/firmware/crc32-loop.elf" \
-    "$folder" "${1:-3000000}" "${2:-15}"
+    "$folder" "${1:-3000000}" "${2:-15}" "${@:3}"
 "$top/bench/parts.sh" "$((10 * ${1:-3000000}))" "${2:-9}"
