@@ -293,7 +293,7 @@ def main(folder):
     for it in os.listdir(f"{folder}/removed"):
         remove_all(f"{folder}/removed/{it}")
     work.clear_rooms()
-    say("proving and building the program; from nothing that takes some half an hour")
+    say("proving and building the program; from nothing that takes some 20 minutes on 4 cores")
     try:
         failed = work.prove()
     finally:
