@@ -132,10 +132,10 @@ def written(folder, name, content):
 
 
 def seconds(words):
-    """What a command takes, its output to /dev/null."""
+    """What a command takes, its output to /dev/null. QEMU warns of a timer on standard error, which isn't shown."""
     begin = time.perf_counter()
     with open(os.devnull, "wb") as sink:
-        status = subprocess.run(words, stdout=sink).returncode
+        status = subprocess.run(words, stdout=sink, stderr=sink).returncode
     if status != 0:
         sys.exit(f"{words} ended with {status}")
     return time.perf_counter() - begin
