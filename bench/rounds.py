@@ -82,16 +82,15 @@ print(
     f"untraced    {steps / untraced / 1e6:6.1f} M steps/s   formatting {1 - untraced / marm:.0%}   ({steps} steps)"
 )
 for path in [PROGRAM, *IMAGES]:
-    name, marm = os.path.splitext(os.path.basename(path))[0], best[path, "marm"]
+    name, ours = os.path.splitext(os.path.basename(path))[0], best[path, "marm"]
     made = min(STEPS, steps) if path == PROGRAM else STEPS
-    print(f"{name:<11} marm {made / marm / 1e6:6.1f} M steps/s, the first {made}", end="")
-    figures[f"bench {name}, M steps/s"] = f"{made / marm / 1e6:.1f}"
+    print(f"{name:<11} marm {made / ours / 1e6:6.1f} M steps/s, the first {made}", end="")
+    figures[f"bench {name}, M steps/s"] = f"{made / ours / 1e6:.1f}"
     if PLUGIN:
         plugin = best[path, "qemu"]
-        print(f"   QEMU {made / plugin / 1e6:6.1f} M steps/s   ratio {plugin / marm:.2f}", end="")
-        figures[f"bench {name}, of QEMU"] = f"{plugin / marm:.2f}"
+        print(f"   QEMU {made / plugin / 1e6:6.1f} M steps/s   ratio {plugin / ours:.2f}", end="")
+        figures[f"bench {name}, of QEMU"] = f"{plugin / ours:.2f}"
     print()
-marm = best["crc32-loop", "marm"]
 figures["bench crc32-loop, M lines/s"] = f"{lines / marm / 1e6:.1f}"
 # What each way takes, as a part of the steps a second of the quiet board with the MPU off.
 WAYS = [*((count, f"{count} regions") for count in COUNTS), ("timer", "SysTick"), ("events", "events"), ("file", "a file")]
