@@ -1,7 +1,7 @@
 /* What afl-fuzz runs: it gives marm an input as its image, its board or its commands, and reports a crash where marm
-   ended by a signal, or where its status, its first line and its output don't go together (docs/marm.1). The program has
-   no instrumentation. So what counts as new is what it writes: a line of another form than those before, or after a line
-   after which it didn't come before. Each counts as a branch would, by the protocol of AFL's fork server.
+   ended by a signal, or where its status, its first line and its output don't go together (docs/marm.1). The program
+   has no instrumentation. So what counts as new is what it writes: a line of another form than those before, or after
+   a line that it didn't come after before. Each counts as a branch would, by the protocol of AFL's fork server.
    Usage: afl_target MARM image|board|session IMAGE BOARD INPUT, with the input in place of its file. */
 #include <fcntl.h>
 #include <signal.h>

@@ -2,8 +2,10 @@
 of each, the first lines of the answers, and each answer that isn't as rules.py wants it."""
 
 import collections
+import multiprocessing
 import os
 import random
+import shlex
 import sys
 import time
 
@@ -93,8 +95,10 @@ def keep(folder, case, number, wrong):
     os.makedirs(kept, exist_ok=True)
     for name, content in (("image.elf", case.image), ("board.toml", case.board), ("session", case.session)):
         written(kept, name, content)
-    words = " ".join(repr(word.replace(folder, kept)) for word in case.words)
-    written(kept, "command", f"{wrong}\n{MARM} {words} <{kept}/session\n".encode())
+    words = shlex.join([MARM] + [word.replace(folder, kept) for word in case.words])
+    slow = shlex.join([SLOW, f"{kept}/board.toml", str(case.steps), f"{kept}/image.elf"])
+    text = f"# {wrong}\n{words} <{kept}/session\n# on Slow: {slow}\n"
+    written(kept, "command", text.encode("utf-8", "surrogateescape"))
     print(f"case {number}: {wrong}: {kept}", flush=True)
 
 
@@ -114,10 +118,7 @@ def work(worker):
 
 
 END = time.monotonic() + SECONDS
-END_STATUS = 0
 if __name__ == "__main__":
-    import multiprocessing
-
     with multiprocessing.get_context("fork").Pool(JOBS) as pool:
         parts = pool.map(work, range(JOBS))
     total = sum((counts for counts, _ in parts), collections.Counter())

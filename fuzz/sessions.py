@@ -65,7 +65,8 @@ def arguments(source, image, board):
         words = ["debug", "--board", board, image]
     for _ in range(source.randrange(3)):
         at = source.randrange(len(words) + 1)
-        others = ["--help", "-h", "--version", "-V", "--", "-", "", "--steps", "--board", "--bord", "help", "run", "debug"]
-        others += [f"--steps={source.choice(STEPS)}", f"--board={board}", "--steps=", "\u200b", "/", "/nowhere/x", board]
+        others = ["--help", "-h", "--version", "-V", "--", "-", "", "--steps", "--board", "--bord", "help", "run"]
+        others += ["debug", f"--steps={source.choice(STEPS)}", f"--board={board}", "--steps=", "/", "/nowhere/x"]
+        others += [board, "\u200b", "\udcff"]  # (the last is the byte FF, which is no text in UTF-8)
         words[at : at + source.randrange(2)] = source.choice([[], [source.choice(others)]])
     return words
