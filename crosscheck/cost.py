@@ -1,11 +1,9 @@
 """Counts the host instructions that a step of marm takes, on boards with different scripts and with regions."""
 
-import re
-import subprocess
 import sys
-from concurrent.futures import ThreadPoolExecutor
 
 import results
+from callgrind import a_step
 from loops import EVENTS, LOOPS, REGIONS, SIZES, flash_of, image, script, timer_image, traced, with_regions, written
 
 MARM, PROGRAM, FOLDER = sys.argv[1:4]
@@ -25,20 +23,6 @@ def boards():
         "a pulse, then far off": lines + script([1, *far[1:]], ["pulse"]),
         "one each 64 ticks": lines + script(range(1, 1 + 64 * EVENTS, 64)),
     }
-
-
-def counted(board, steps, path):
-    """Returns how many instructions a run takes."""
-    words = ["valgrind", "--tool=callgrind", "--callgrind-out-file=/dev/null"] + traced(MARM, board, steps, path)
-    run = subprocess.run(words, stdout=subprocess.DEVNULL, stderr=subprocess.PIPE, text=True)
-    return int(re.search(r"Collected : (\d+)", run.stderr)[1])
-
-
-def a_step(board, path):
-    """Returns how many instructions a step takes."""
-    with ThreadPoolExecutor(2) as pool:
-        less, more = pool.map(lambda steps: counted(board, steps, path), [STEPS, 2 * STEPS])
-    return (more - less) / STEPS
 
 
 def programs(regions):
@@ -73,7 +57,7 @@ for number, (name, text, paths) in enumerate(rows()):
         print(f"{'':24}" + "".join(f"{name:>20}" for name in paths))
     line = f"{name:24}"
     for program, path in paths.items():
-        count = a_step(board, path)
+        count = a_step(lambda steps: traced(MARM, board, steps, path), STEPS)
         figures[f"cost {program}, {name}"] = f"{count:.1f}"
         line += f"{count:14.1f}{count / first.setdefault(program, count):6.3f}"
     print(line, flush=True)

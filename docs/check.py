@@ -72,8 +72,10 @@ MANUAL = re.compile(r"""^(R\d+|R\[n\]|[A-Z][A-Z0-9_]+(\.[A-Z0-9_]+)?   # registe
 PLACEHOLDERS = set("""N NAME FILE IMAGE BOARD STEPS COUNT SEED ROUNDS PAGE WORD WORDS HEAD F T U C D L K E W ROOM number
 name x i f b o z a c s n e mmm ddd .. steps""".split())
 
-# pages that speak of examples/, bench/ and crosscheck/ too
-EXAMPLE_PAGES = {f"docs/{name}.md" for name in "FIRMWARE KERNELS BUILDING PERFORMANCE CROSSCHECK QEMU AUDIT".split()}
+# pages that speak of examples/, bench/, crosscheck/ and fuzz/ too
+EXAMPLE_PAGES = {
+    f"docs/{name}.md" for name in "FIRMWARE KERNELS BUILDING PERFORMANCE CROSSCHECK QEMU AUDIT ROBUSTNESS".split()
+}
 
 # what the kit and a shell print or take
 WHOLE = re.compile(r"^(rattle-kit-.*|--specs=\w+\.specs|-Wl,--[\w=.]+|Handles allowed: none\.|grep .*|N passed, 0 failed|old \+\+ bytes|List ℕ|WHAT|rattle|git .*|.*::Chapter::.*)$")
@@ -123,7 +125,7 @@ class Repository:
                 name, uses = line.split(":")
                 self.below[name] = uses.split()
         self.names = set(self.crates).union(*self.below.values())      # every name
-        self.examples = set()              # every word of examples/, bench/ and crosscheck/
+        self.examples = set()              # every word of examples/, bench/, crosscheck/ and fuzz/
         self.texts = set()                 # every word that is written or read
         self.of_crate = {}                 # the names of a crate
         self.of_file = {}                  # the names of a file, by its stem: chapters and modules
@@ -235,7 +237,7 @@ def missing(repo, span, page):
     if re.match(r"^[\"'\[(<>=.,;:!?*+&|{}#\\-]+$", span):
         return []
     words = span.split()
-    if words[0] in COMMANDS or words[0].startswith(("./", "crosscheck/", "bench/", "docs/", "mutations/")) and len(words) > 1:
+    if words[0] in COMMANDS or words[0].startswith(("./", "crosscheck/", "bench/", "fuzz/", "docs/", "mutations/")) and len(words) > 1:
         lost = [w for w in words if "/" in w and w[0].isalpha() and not repo.has_path(w, page)]
         if words[0] == "rt" and len(words) > 1 and words[1] not in RT_WORDS:
             lost.append(span)

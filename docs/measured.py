@@ -40,6 +40,10 @@ BOARDS = {
 }
 
 
+# the KiB of the loops of bench/sizes.py
+KIB = (1, 4, 16, 64, 256, 1000)
+
+
 class Results:
     """The rows of bench/results.csv; a later one stands for an earlier one of its name."""
 
@@ -109,8 +113,17 @@ def cost_table(results):
     return [results.origin(first), "", *table(["Board", *PROGRAMS], [row for row in rows if any(row[1:])])]
 
 
+def sizes_table(results):
+    """Returns the table of host instructions of loops of different sizes."""
+    first = f"sizes {KIB[0]} KiB"
+    run = results.run_of(first)
+    rows = [["host instructions a step", *(run.get(f"sizes {kib} KiB", "") for kib in KIB)]]
+    return [results.origin(first), "", *table(["", *(f"{kib:,} KiB" for kib in KIB)], rows)]
+
+
 TABLES = {
     "bench rates": lambda results: bench_table(results, RATES),
     "bench ways": lambda results: bench_table(results, WAYS),
     "host instructions": cost_table,
+    "sizes": sizes_table,
 }

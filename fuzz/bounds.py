@@ -1,0 +1,22 @@
+"""What a run and a session need at most, as docs/ROBUSTNESS.md says: stack, address space, processor time."""
+
+# KiB of stack: without its board, for a byte of the board's file, and at most.
+STACK, STACK_OF_BOARD, MOST_STACK = 640, 0.25, 2048
+
+# KiB of address space: of the program with 2 MiB of flash and RAM, for a byte of the image's file, and of the board's.
+SPACE, SPACE_OF_IMAGE, SPACE_OF_BOARD = 16 * 1024, 4 / 1024, 1
+
+# Seconds of processor time: of a start, of a byte that is written, of a step, of a byte of the board or the commands.
+START, WRITTEN, STEP, READ = 0.5, 1e-6, 20e-6, 10e-6
+
+
+def limits(image, board):
+    """Returns the limits of a run or a session, as options of the shell's `ulimit`."""
+    stack = min(STACK + STACK_OF_BOARD * len(board), MOST_STACK)
+    space = SPACE + SPACE_OF_IMAGE * len(image) + SPACE_OF_BOARD * len(board)
+    return [f"-s {int(stack)}", f"-v {int(space)}"]
+
+
+def seconds(answer, board, session, steps):
+    """Returns the most seconds of processor time of a run or a session with that answer."""
+    return START + WRITTEN * len(answer.out) + STEP * steps + READ * (len(board) + len(session))

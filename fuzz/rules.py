@@ -1,0 +1,79 @@
+"""What each answer of marm has to be (docs/marm.1, docs/TRACE.md, docs/DEBUGGING.md), and what it may need
+(docs/ROBUSTNESS.md)."""
+
+import re
+
+REFUSALS = {
+    "load": "Truncated NotElf NotElf32Little NotExecutable NotArm HeaderSize SegmentOutsideFile SegmentOverlap"
+    " TooManySegments",
+    "board": "NotToml MissingKey WrongKind OutOfRange EventsOutOfOrder UnknownKey OutOfMemory",
+}
+NAMED = [f"{kind} {number} {name}" for kind, names in REFUSALS.items() for number, name in enumerate(names.split(), 1)]
+NAMED += ["start 10 SegmentOutsideMemory", "start 11 NoMemory", "size"]
+
+# The first line on standard error, by the status.
+FIRST = {2: ["usage"], 3: NAMED, 5: ["io"]}
+
+UNPREDICTABLE = "encoding it-block empty-list registers stored-base immediate bit-field special-register load-pc"
+UNPREDICTABLE += " literal-pc mpu-region mpu-ctrl icsr exc-return popped-pc"
+LEFT_OUT = "exclusive-device unaligned-device register-width active-bit bfhfnmign sleeponexit aircr clock-end"
+
+# The lines of a trace, of a stop, and of the other answers of a debug session.
+WORD = "[0-9A-F]{8}"
+RULE = "(?:xn|vec|ppb|off|neg|r1[0-5]|r[0-9]|bg|none)"
+ACCESS = f"[FLSKUVP] {WORD} [124] [pu] (?:ok|mpu|bus) {RULE}"
+LINE = f"[1-9][0-9]* (?:{ACCESS}|O [0-9A-F]{{2}}|R {WORD}|X [1-9][0-9]*|! [0-9]+ {WORD} {WORD})\n"
+QUIET = "stop (?:steps|breakpoint [0-9]+)\n"
+NAMES = [f"unpredictable {name}" for name in UNPREDICTABLE.split()]
+NAMES += [f"outofprofile {name}" for name in LEFT_OUT.split()]
+NAMED_STOP = f"stop (?:{'|'.join(['lockup', 'reset', *NAMES])})\n"
+REGISTER = f"(?:R[0-9]|R1[0-2]|MSP|PSP|LR|PC|XPSR|CONTROL|PRIMASK|FAULTMASK|BASEPRI) {WORD}\n"
+OTHER = f"at {WORD}\n|ok\n|error [123]\n|task (?:done|other|not)\n|{REGISTER}|r[0-9]+ {WORD} {WORD}\n"
+OTHER += f"|{RULE} (?:ok|mpu)\n|{WORD}:(?: (?:[0-9A-F]{{2}}|--))+\n"
+
+TRACE = {
+    0: re.compile(f"(?:{LINE})*{QUIET}".encode()),
+    4: re.compile(f"(?:{LINE})*{NAMED_STOP}".encode()),
+}
+ANSWERS = re.compile(f"(?:{LINE}|{QUIET}|{NAMED_STOP}|{OTHER})*".encode())
+
+
+def wrong_refusal(answer):
+    """Returns what is wrong with a refusal: its first line, or something on standard output."""
+    first = answer.err.partition(b"\n")[0].decode(errors="replace")
+    if first not in [f"marm: {text}" for text in FIRST[answer.status]]:
+        return f"status {answer.status} with the first line {first!r}"
+    if answer.out and answer.status == 3:
+        return "status 3 with a byte on standard output"
+    return None
+
+
+def wrong_run(answer):
+    """Returns what is wrong with the answer of a run, or None."""
+    if answer.status in FIRST:
+        return wrong_refusal(answer)
+    if answer.status not in TRACE:
+        return f"status {answer.status}"
+    if answer.err:
+        return f"status {answer.status} with a byte on standard error"
+    if not TRACE[answer.status].fullmatch(answer.out):
+        return f"status {answer.status} with a trace that doesn't have its form"
+    return None
+
+
+def wrong_session(answer):
+    """Returns what is wrong with the answer of a debug session, or None."""
+    if answer.status in FIRST:
+        return wrong_refusal(answer)
+    if answer.status != 0:
+        return f"status {answer.status}"
+    if answer.err:
+        return "status 0 with a byte on standard error"
+    return None if ANSWERS.fullmatch(answer.out) else "an answer that doesn't have its form"
+
+
+def wrong_words(answer):
+    """Returns what is wrong with the answer to arguments: that of a run or a session, or help or the version."""
+    if answer.status == 2 or answer.out.startswith(b"marm "):
+        return None if answer.status == 0 and not answer.err else wrong_refusal(answer)
+    return wrong_session(answer) if answer.status == 0 and wrong_run(answer) else wrong_run(answer)
