@@ -8,6 +8,7 @@ mod memory;
 mod priorities;
 mod region_registers;
 mod regions;
+mod reloads;
 mod settings;
 mod special_registers;
 mod system_registers;

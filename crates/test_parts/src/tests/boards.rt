@@ -432,7 +432,28 @@ nmi = true
 at = 4
 nmi = true
 [[event]]
-at = 0";
+at = 0
+---
+EventsOutOfOrder
+at = 5
+nmi = true
+[[event]]
+at = 5
+nmi = true
+[[event]]
+at = 4
+nmi = true
+---
+OutOfRange
+at = 5
+nmi = true
+[[event]]
+at = 5
+nmi = true
+[[event]]
+at = 4
+line = 8
+what = \"rise\"";
 
 #[test]
 fn boards_with_an_event(rt: HostRuntime) -> Result<(), Fail> {

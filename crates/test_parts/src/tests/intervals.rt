@@ -1,9 +1,9 @@
 //! The table of intervals and the kept decisions beside the search, and time kept ahead beside time that is counted.
 
 use super::settings::{registers_of, write_pairs};
-use super::words::rule_word;
+use super::words::{ALL_KINDS, rule_word};
 use access_table::{KeptDecisions, Table};
-use clock::{Ahead, Clock, Due};
+use clock::{Ahead, Clock, Due, ScriptedEvent, Signal};
 use mpu::{Decider, Decision, Kind, MpuRegs, Search};
 use std::test::*;
 use test_tables::{Rows, check, number_at, part};
@@ -11,28 +11,17 @@ use test_tables::{Rows, check, number_at, part};
 /// No exception.
 const NOTHING: Due = [0; 8];
 
-/// The kinds of accesses.
-const KINDS: [Kind; 7] = [
-    Kind::Fetch,
-    Kind::Load,
-    Kind::Store,
-    Kind::Push,
-    Kind::Pop,
-    Kind::Vector,
-    Kind::Probe,
-];
-
 /// Returns whether two decisions are the same.
 fn is_same(one: Decision, other: Decision) -> bool {
     rule_word(one.rule) == rule_word(other.rule) && one.granted == other.granted
 }
 
-/// Returns whether the table and the search decide each kind of access to an address alike.
-fn agree_at(table: &Table, search: &Search, address: u32) -> bool {
+/// Returns whether a decider and the search decide each kind of access to an address alike.
+pub(super) fn agree_at<D: Decider>(decider: &D, search: &Search, address: u32) -> bool {
     let mut agrees = true;
-    for kind in KINDS.iter() {
+    for kind in ALL_KINDS.iter() {
         for privileged in [false, true].iter() {
-            let decided = table.decide(address, *kind, *privileged, false);
+            let decided = decider.decide(address, *kind, *privileged, false);
             agrees &= is_same(decided, search.decide(address, *kind, *privileged, false));
         }
     }
@@ -54,7 +43,7 @@ fn agree(registers: &MpuRegs, table: &Table) -> bool {
 }
 
 /// Both ends of an interval, and the addresses beside them.
-fn edges(first: u32, last: u32) -> [u32; 6] {
+pub(super) fn edges(first: u32, last: u32) -> [u32; 6] {
     [
         first.saturating_sub(1),
         first,
@@ -69,7 +58,7 @@ fn edges(first: u32, last: u32) -> [u32; 6] {
 /// below priority 0 too.
 fn keep_at(kept: &mut KeptDecisions<Table>, search: &Search, address: u32) -> bool {
     let mut agrees = true;
-    for kind in KINDS.iter() {
+    for kind in ALL_KINDS.iter() {
         for bits in 0u32..4 {
             let privileged = bits & 1 == 1;
             let below_zero = bits & 2 == 2;
@@ -175,5 +164,22 @@ fn nothing_is_due_before_the_tick_that_is_kept(rt: HostRuntime) -> Result<(), Fa
         }
     }
     assert!(rt; clock.read_cvr() == 0);
+    Ok(())
+}
+
+/// The last tick of a clock, 2^48, and the one after it, which is kept where nothing more is due.
+const LAST: u64 = 1 << 48;
+
+#[test]
+fn an_event_in_the_last_tick_is_due_there(rt: HostRuntime) -> Result<(), Fail> {
+    let mut script = Vec::new(rt.alloc());
+    script.push(ScriptedEvent {
+        at: LAST,
+        what: Signal::Nmi,
+    })?;
+    let clock = Clock::<Ahead>::new(script);
+    assert!(rt; *clock.due() == LAST);
+    let clock = Clock::<Ahead>::new(Vec::new(rt.alloc()));
+    assert!(rt; *clock.due() == LAST + 1);
     Ok(())
 }

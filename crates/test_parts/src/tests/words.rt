@@ -3,6 +3,17 @@
 use reference::access::{Access, Kind, Request, Rule, Size};
 use test_tables::{byte_at, is_first, meaning, number, number_at, word};
 
+/// The kinds of accesses.
+pub(super) const ALL_KINDS: [Kind; 7] = [
+    Kind::Fetch,
+    Kind::Load,
+    Kind::Store,
+    Kind::Push,
+    Kind::Pop,
+    Kind::Vector,
+    Kind::Probe,
+];
+
 const KINDS: [(&str, Kind); 7] = [
     ("F", Kind::Fetch),
     ("L", Kind::Load),

@@ -71,6 +71,31 @@ after region 0 20000000 03008013
 after region 1 00000001 06000017
 after region 8 none
 
+STM to the registers of two regions, of which one forbids the next fetch
+vectors 201
+word 100 E7FEC01E
+special 8 20001000
+reg F 100
+word E000ED24 00010000
+word E000ED94 5
+reg 0 E000ED9C
+reg 1 00000011
+reg 2 16000017
+reg 3 20000010
+reg 4 03000013
+steps 2
+trace 1 F 00000100 2 p ok bg
+trace 1 S E000ED9C 4 p ok ppb
+trace 1 S E000EDA0 4 p ok ppb
+trace 1 S E000EDA4 4 p ok ppb
+trace 1 S E000EDA8 4 p ok ppb
+trace 2 F 00000102 2 p mpu r1
+trace 2 ! 4 00000001 00000000
+trace stop steps
+after region 0 20000000 03000013
+after region 1 00000001 16000017
+after reg 0 E000EDAC
+
 a region of 16 bytes stops at its register
 word 100 6001
 reg F 100

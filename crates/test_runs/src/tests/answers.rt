@@ -376,6 +376,12 @@ ends 5
 err marm: io
 err   missing.toml: No such file or directory (os error 2)
 
+an image and a board that aren't there: the image is named
+words run --board missing.toml --steps 10 missing.elf
+ends 5
+err marm: io
+err   missing.elf: No such file or directory (os error 2)
+
 a folder in place of the image
 words run --board board.toml --steps 10 .
 ends 5

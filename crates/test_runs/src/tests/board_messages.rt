@@ -10,6 +10,42 @@ use test_tables::check_between;
 
 /// Boards that are refused, and the messages.
 const BOARDS: &str = "\
+no TOML on the second line
+board flash_base = 0
+board ram_size =
+ends 3
+err marm: board 1 NotToml
+err   board.toml: line 2, column 11: invalid value, expected a string, number, boolean, date-time, array or inline table
+
+two events at one tick, and a third before them
+with [[event]]
+with at = 5
+with nmi = true
+with [[event]]
+with at = 5
+with nmi = true
+with [[event]]
+with at = 4
+with nmi = true
+ends 3
+err marm: board 5 EventsOutOfOrder
+err   board.toml: event 3: at is 4, and the event before it is at 5: events come in the order of at
+
+two events at one tick, and a third before them on a line that the board doesn't have: the line comes first
+with [[event]]
+with at = 5
+with nmi = true
+with [[event]]
+with at = 5
+with nmi = true
+with [[event]]
+with at = 4
+with line = 8
+with what = \"rise\"
+ends 3
+err marm: board 4 OutOfRange
+err   board.toml: event 3: line is 8: it takes an integer from 0 to 7 (lines is 8)
+
 a line that the board doesn't have
 with [[event]]
 with at = 1

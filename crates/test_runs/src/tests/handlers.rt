@@ -67,28 +67,35 @@ after reg 0 200003F8
 after byte 200003F8 44
 after byte 20000400 0
 
-a refused push ends the frame, and MemManage is taken in place of the line
+a refused push ends the frame; MemManage is taken in place of line 0, which is still pending: ISPR by its handler
 event 1 pulse 0
 vectors 201
 special 8 20001000
 reg F 100
+word 200 6801
 word E000ED9C 20000410
 word E000EDA0 03000013
+word E000ED9C 00000011
+word E000EDA0 06000017
 word E000ED24 00010000
 word E000E100 1
 word E000ED94 1
 special 9 20000408
 special 14 3
-steps 2
+reg 0 E000E200
+steps 3
 trace 1 K 200003E8 4 u mpu none
 trace 1 ! 4 00000010 00000000
 trace 2 V 00000010 4 p ok vec
 trace 2 X 4
+trace 3 F 00000200 2 p ok r1
+trace 3 L E000E200 4 p ok ppb
 trace stop steps
+after reg 1 1
 after reg psp 200003E8
 after reg lr FFFFFFFD
 after reg xpsr 01000004
-after reg pc 200
+after reg pc 202
 
 a frame on a stack that is no multiple of 8, and the return from it
 event 1 pulse 0
@@ -282,6 +289,44 @@ trace 5 U 20000FF8 4 p ok off
 trace 5 U 20000FFC 4 p ok off
 trace stop steps
 
+a handler that makes PRIGROUP smaller is preempted by a line that has waited
+event 1 pulse 1
+event 3 pulse 0
+vectors 201
+special 8 20001000
+reg F 100
+word 200 47706001
+word E000E400 00003020
+word E000ED0C 05FA0500
+word E000E100 3
+reg 0 E000ED0C
+reg 1 05FA0000
+steps 5
+trace 1 K 20000FE0 4 p ok off
+trace 1 K 20000FE4 4 p ok off
+trace 1 K 20000FE8 4 p ok off
+trace 1 K 20000FEC 4 p ok off
+trace 1 K 20000FF0 4 p ok off
+trace 1 K 20000FF4 4 p ok off
+trace 1 K 20000FF8 4 p ok off
+trace 1 K 20000FFC 4 p ok off
+trace 2 V 00000044 4 p ok vec
+trace 2 X 17
+trace 3 F 00000200 2 p ok off
+trace 3 S E000ED0C 4 p ok ppb
+trace 4 K 20000FC0 4 p ok off
+trace 4 K 20000FC4 4 p ok off
+trace 4 K 20000FC8 4 p ok off
+trace 4 K 20000FCC 4 p ok off
+trace 4 K 20000FD0 4 p ok off
+trace 4 K 20000FD4 4 p ok off
+trace 4 K 20000FD8 4 p ok off
+trace 4 K 20000FDC 4 p ok off
+trace 5 V 00000040 4 p ok vec
+trace 5 X 16
+trace stop steps
+after reg lr FFFFFFF1
+
 no region lets code stand at the system addresses, which is IACCVIOL
 vectors 201
 special 8 20001000
@@ -364,14 +409,15 @@ trace 4 U 20000FFC 4 p ok off
 trace stop steps
 after reg pc 102
 
-SysTick is taken, and pends itself again while it runs
+SysTick is taken at tick 3, and is pending again at tick 6: ICSR by its handler at ticks 5 and 6
 vectors 201
 special 8 20001000
 reg F 100
 word 100 E7FE
-word 200 E7FE
+word 200 68026801
 word E000E014 2
 word E000E010 3
+reg 0 E000ED04
 steps 6
 trace 1 F 00000100 2 p ok off
 trace 2 F 00000100 2 p ok off
@@ -386,19 +432,26 @@ trace 3 K 20000FFC 4 p ok off
 trace 4 V 0000003C 4 p ok vec
 trace 4 X 15
 trace 5 F 00000200 2 p ok off
-trace 6 F 00000200 2 p ok off
+trace 5 L E000ED04 4 p ok ppb
+trace 6 F 00000202 2 p ok off
+trace 6 L E000ED04 4 p ok ppb
 trace stop steps
+after reg 1 0000080F
+after reg 2 0400F80F
 
-a return with a low nibble that names no mode is INVPC, and begins an entry at once
+a return with a low nibble that names no mode is INVPC, begins an entry at once, and leaves exception 16 inactive: IABR
 event 1 pulse 0
 vectors 201
+word 18 241
 special 8 20001000
 reg F 100
-word 200 4700
+word 200 47006811
+word 240 6813
 word E000E100 1
 word E000ED24 00040000
 reg 0 FFFFFFF5
-steps 4
+reg 2 E000E300
+steps 6
 trace 1 K 20000FE0 4 p ok off
 trace 1 K 20000FE4 4 p ok off
 trace 1 K 20000FE8 4 p ok off
@@ -410,11 +463,17 @@ trace 1 K 20000FFC 4 p ok off
 trace 2 V 00000040 4 p ok vec
 trace 2 X 16
 trace 3 F 00000200 2 p ok off
-trace 3 R FFFFFFF5
-trace 3 ! 6 00040000 00000000
-trace 4 V 00000018 4 p ok vec
-trace 4 X 6
+trace 3 L E000E300 4 p ok ppb
+trace 4 F 00000202 2 p ok off
+trace 4 R FFFFFFF5
+trace 4 ! 6 00040000 00000000
+trace 5 V 00000018 4 p ok vec
+trace 5 X 6
+trace 6 F 00000240 2 p ok off
+trace 6 L E000E300 4 p ok ppb
 trace stop steps
+after reg 1 1
+after reg 3 0
 after reg lr FFFFFFF5
 after reg msp 20000FE0
 
@@ -671,7 +730,35 @@ trace 1 K 20000FF4 4 p ok off
 trace 1 K 20000FF8 4 p ok off
 trace 1 K 20000FFC 4 p ok off
 trace stop steps
-refused stopped reg 0 1";
+refused stopped reg 0 1
+
+no place is taken in Handler mode
+event 1 pulse 0
+vectors 201
+special 8 20001000
+reg F 100
+word 200 E7FE
+word E000E100 1
+steps 3
+trace 1 K 20000FE0 4 p ok off
+trace 1 K 20000FE4 4 p ok off
+trace 1 K 20000FE8 4 p ok off
+trace 1 K 20000FEC 4 p ok off
+trace 1 K 20000FF0 4 p ok off
+trace 1 K 20000FF4 4 p ok off
+trace 1 K 20000FF8 4 p ok off
+trace 1 K 20000FFC 4 p ok off
+trace 2 V 00000040 4 p ok vec
+trace 2 X 16
+trace 3 F 00000200 2 p ok off
+trace stop steps
+refused stopped reg 0 1
+refused stopped special 10 1
+refused stopped word 20000000 1
+refused stopped word E000ED94 5
+after reg 0 0
+after reg primask 0
+after byte 20000000 0";
 
 #[test]
 fn exceptions_are_taken_and_returned_from(rt: HostRuntime) -> Result<(), Fail> {

@@ -90,6 +90,36 @@ out r5 00000005 00000000
 out r6 00000006 00000000
 out r7 00000007 00000000
 
+two regions, which code sets by one STM
+words debug --board board.toml image.elf
+vectors 85
+data 60 E000ED9C 00000011 16000017 20000010 03000013
+code 84 2760 CF1F C01E
+in run 3
+in regions
+ends 0
+out 1 F 00000084 2 p ok off
+out 2 F 00000086 2 p ok off
+out 2 L 00000060 4 p ok off
+out 2 L 00000064 4 p ok off
+out 2 L 00000068 4 p ok off
+out 2 L 0000006C 4 p ok off
+out 2 L 00000070 4 p ok off
+out 3 F 00000088 2 p ok off
+out 3 S E000ED9C 4 p ok ppb
+out 3 S E000EDA0 4 p ok ppb
+out 3 S E000EDA4 4 p ok ppb
+out 3 S E000EDA8 4 p ok ppb
+out at 0000008A
+out r0 20000000 03000013
+out r1 00000001 16000017
+out r2 00000002 00000000
+out r3 00000003 00000000
+out r4 00000004 00000000
+out r5 00000005 00000000
+out r6 00000006 00000000
+out r7 00000007 00000000
+
 sixteen regions, of which code sets the ninth, the thirteenth and the last
 words debug --board board.toml image.elf
 with regions = 16

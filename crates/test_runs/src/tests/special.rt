@@ -173,6 +173,30 @@ trace 3 K 20000FF8 4 p ok off
 trace 3 K 20000FFC 4 p ok off
 trace stop steps
 
+a store to SYST_CVR begins the count anew, and the exception is pending a tick later
+vectors 201
+special 8 20001000
+word 100 E7FE6001
+reg F 100
+word E000E014 2
+word E000E010 3
+reg 0 E000E018
+reg 1 0
+steps 4
+trace 1 F 00000100 2 p ok off
+trace 1 S E000E018 4 p ok ppb
+trace 2 F 00000102 2 p ok off
+trace 3 F 00000102 2 p ok off
+trace 4 K 20000FE0 4 p ok off
+trace 4 K 20000FE4 4 p ok off
+trace 4 K 20000FE8 4 p ok off
+trace 4 K 20000FEC 4 p ok off
+trace 4 K 20000FF0 4 p ok off
+trace 4 K 20000FF4 4 p ok off
+trace 4 K 20000FF8 4 p ok off
+trace 4 K 20000FFC 4 p ok off
+trace stop steps
+
 WFI sleeps until a line that PRIMASK masks pends
 event 3 pulse 0
 word 100 BE00BF30

@@ -1,8 +1,8 @@
 //! Machines as they start.
 
-use super::machines::{NO_SEGMENTS, small_board};
+use super::machines::NO_SEGMENTS;
 use super::run::holds_byte;
-use elf::{Image, load};
+use elf::load;
 use machine::{Board, Layout, RegionCount, Slow};
 use std::alloc::Global;
 use std::test::*;
@@ -53,28 +53,4 @@ fn high_machine(alloc: Global) -> Option<Slow> {
 fn flash_and_ram_are_those_of_the_board(rt: HostRuntime) -> Result<(), Fail> {
     let machine = high_machine(rt.alloc()).ok_or("a machine")?;
     check(BYTES, &mut Bytes { machine })
-}
-
-/// Returns whether a board with an event is made, the second time at the latest.
-fn is_made(alloc: Global) -> bool {
-    small_board(alloc, "event 3 nmi").is_ok() || small_board(alloc, "event 3 nmi").is_ok()
-}
-
-/// Returns whether a machine with an event starts, the second time at the latest.
-fn starts(alloc: Global, image: &Image<'_>) -> bool {
-    match small_board(alloc, "event 3 nmi") {
-        Ok(board) => {
-            Slow::new(alloc, image, &board).is_ok() || Slow::new(alloc, image, &board).is_ok()
-        }
-        Err(_) => true,
-    }
-}
-
-/// Under `rt try --test --fail-alloc N` one growth is refused: the next call finds memory.
-#[test]
-fn a_refused_growth_is_told_and_leaves_nothing_behind(rt: HostRuntime) -> Result<(), Fail> {
-    let image = load(&NO_SEGMENTS).ok().ok_or("an image")?;
-    assert!(rt; is_made(rt.alloc()));
-    assert!(rt; starts(rt.alloc(), &image));
-    Ok(())
 }
