@@ -1,4 +1,5 @@
 mod Hearing
+mod Joining
 mod Running
 mod Showing
 mod TaskRuns

@@ -4,7 +4,9 @@
 mod answers;
 pub mod laws;
 mod sessions;
+mod state;
 mod tasks;
 mod texts;
 
 pub use sessions::{SessionFault, session};
+pub use state::write_state;

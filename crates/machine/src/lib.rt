@@ -27,6 +27,7 @@ pub use reference::fault::{PlaceFault, StartFault};
 pub use reference::mpu::RegionCount;
 pub use reference::place::Place;
 pub use reference::stop::Stop;
+pub use reference::system::StatusRegister;
 pub use task::end_of_task;
 pub use task_laws::{StepKind, TaskEnd};
 pub use trace::lines::{Text, event_line, stop_line};

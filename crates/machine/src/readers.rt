@@ -2,10 +2,13 @@
 
 ghost use Rattle.std.specs.Prelude.{◌≡◌};
 ghost use Rattle.reference.specs.Memory.{byte_at};
+ghost use Rattle.reference.specs.Priorities.{is_in};
 ghost use Rattle.reference.specs.Regions.{shown};
+ghost use Rattle.reference.specs.Status.{read_status};
 
 use crate::stepping::Processor;
 use access::{CodeLines, Decider, DueTicks, Levels};
+use reference::system::StatusRegister;
 
 /// The values of the core registers, each as a word.
 #[derive(Clone, Copy)]
@@ -59,5 +62,33 @@ impl<D: Decider, C: CodeLines, L: Levels, U: DueTicks> Processor<D, C, L, U> {
         ensures { result ≡ shown self.now.bus.system.mpu number }
     {
         self.bus().system.region(number)
+    }
+
+    /// How many ticks have gone by.
+    pub fn ticks(&self) -> u64
+        ensures { result ≡ self.now.bus.system.time.ticks }
+    {
+        self.bus().system.ticks()
+    }
+
+    /// VTOR, SCR, CCR or a register of faults, as it reads.
+    pub fn status_word(&self, register: StatusRegister) -> u32
+        ensures { result ≡ read_status self.now.bus.system.status register }
+    {
+        self.bus().system.status().read(register)
+    }
+
+    /// Whether an exception is pending.
+    pub fn is_pending(&self, number: u16) -> bool
+        ensures { result ≡ is_in self.now.bus.system.nvic.pending number }
+    {
+        self.bus().system.levels().is_pending(number)
+    }
+
+    /// Whether an exception is active.
+    pub fn is_active(&self, number: u16) -> bool
+        ensures { result ≡ is_in self.now.bus.system.nvic.active number }
+    {
+        self.bus().system.levels().is_active(number)
     }
 }

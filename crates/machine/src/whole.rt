@@ -7,11 +7,12 @@ ghost use Rattle.machine.specs.Starts.{Starts, Places};
 ghost use Rattle.machine.specs.Tasks.{CountsFaults, TaskEnds, TaskFails};
 ghost use Rattle.reference.specs.Memory.{byte_at};
 ghost use Rattle.reference.specs.Places.{place};
-ghost use Rattle.reference.specs.Priorities.{is_below_zero};
+ghost use Rattle.reference.specs.Priorities.{is_below_zero, is_in};
 ghost use Rattle.reference.specs.Regions.{shown};
 ghost use Rattle.reference.specs.Rules.{decision_of};
 ghost use Rattle.reference.specs.Run.{after, ending_of, trace};
 ghost use Rattle.reference.specs.Start.{start};
+ghost use Rattle.reference.specs.Status.{read_status};
 ghost use Rattle.output.specs.Output.{Put};
 ghost use Rattle.reference.specs.Step.{step};
 ghost use Rattle.reference.specs.Text.{lines};
@@ -37,6 +38,7 @@ use reference::event::MOST_EVENTS;
 use reference::fault::{PlaceFault, StartFault};
 use reference::place::Place;
 use reference::stop::Stop;
+use reference::system::StatusRegister;
 use std::alloc::Global;
 use std::marker::Model;
 use task_laws::{StepKind, TaskEnd};
@@ -244,5 +246,33 @@ impl<D: Decider, C: CodeLines, L: Levels, U: DueTicks> Machine<D, C, L, U> {
         ensures { result ≡ shown self.now.state.bus.system.mpu number }
     {
         self.core.region(number)
+    }
+
+    /// Returns how many ticks have gone by.
+    pub fn ticks(&self) -> u64
+        ensures { result ≡ self.now.state.bus.system.time.ticks }
+    {
+        self.core.ticks()
+    }
+
+    /// Returns VTOR, SCR, CCR or a register of faults, as it reads.
+    pub fn status_word(&self, register: StatusRegister) -> u32
+        ensures { result ≡ read_status self.now.state.bus.system.status register }
+    {
+        self.core.status_word(register)
+    }
+
+    /// Returns whether an exception is pending.
+    pub fn is_pending(&self, number: u16) -> bool
+        ensures { result ≡ is_in self.now.state.bus.system.nvic.pending number }
+    {
+        self.core.is_pending(number)
+    }
+
+    /// Returns whether an exception is active.
+    pub fn is_active(&self, number: u16) -> bool
+        ensures { result ≡ is_in self.now.state.bus.system.nvic.active number }
+    {
+        self.core.is_active(number)
     }
 }

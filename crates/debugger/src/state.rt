@@ -1,0 +1,128 @@
+//! The state of a machine as text.
+
+ghost use Rattle.std.specs.Prelude.{◌≡◌, ◌+◌, ◌≤◌, ◌++◌, codes, length};
+ghost use Rattle.debugger.specs.StateText.{clock_line, number_if, numbers_below, set_line, state_text, status_lines};
+ghost use Rattle.output.specs.Output.{Put};
+ghost use Rattle.reference.specs.declared.exception.TheConstants.{EXCEPTIONS};
+
+use crate::texts::{regions_text, registers_text};
+use debugger_commands::{Answer, put_register};
+use machine::{CodeLines, Decider, DueTicks, IoFault, Levels, Machine, Out, StatusRegister};
+use reference::exception::EXCEPTIONS;
+use trace::page::Page;
+
+/// Room for the text of a state.
+type StatePage = Page<0x4000>;
+
+/// Appends the line of the clock.
+#[tactic(auto, using(crate::proofs::Joining::in_three))]
+fn put_clock(page: &mut StatePage, ticks: u64)
+    requires { length page.old ≤ 1024 }
+    ensures text { page.new ≡ page.old ++ clock_line ticks }
+    ensures short { length page.new ≤ length page.old + 27 }
+{
+    page.put(b"CLOCK ");
+    page.put_decimal(ticks);
+    page.put(b"\n");
+}
+
+/// Returns the lines of the registers of faults, of VTOR and of CCR.
+#[tactic(auto, unfolding(crate::specs::StateText::status_lines, reference::specs::Status::read_status))]
+fn status_text<D: Decider, C: CodeLines, L: Levels, U: DueTicks>(
+    machine: &Machine<D, C, L, U>,
+) -> Answer
+    ensures { result ≡ status_lines machine.now.state.bus.system.status }
+{
+    let mut page = Answer::new();
+    put_register(
+        &mut page,
+        b"CFSR",
+        machine.status_word(StatusRegister::Cfsr),
+    );
+    put_register(
+        &mut page,
+        b"HFSR",
+        machine.status_word(StatusRegister::Hfsr),
+    );
+    put_register(
+        &mut page,
+        b"MMFAR",
+        machine.status_word(StatusRegister::Mmfar),
+    );
+    put_register(
+        &mut page,
+        b"BFAR",
+        machine.status_word(StatusRegister::Bfar),
+    );
+    put_register(
+        &mut page,
+        b"VTOR",
+        machine.status_word(StatusRegister::Vtor),
+    );
+    put_register(&mut page, b"CCR", machine.status_word(StatusRegister::Ccr));
+    page
+}
+
+/// Appends a number, where it's in a set.
+fn put_number_if(page: &mut StatePage, number: u16, there: bool)
+    requires { length page.old + 21 ≤ 0x4000 }
+    ensures text { page.new ≡ page.old ++ number_if number there }
+    ensures short { length page.new ≤ length page.old + 21 }
+{
+    if there {
+        page.put(b" ");
+        page.put_decimal(number as u64);
+    }
+}
+
+/// Appends the line of the pending exceptions.
+#[tactic(auto, unfolding(crate::specs::StateText::numbers_below))]
+fn put_pending<D: Decider, C: CodeLines, L: Levels, U: DueTicks>(
+    page: &mut StatePage,
+    machine: &Machine<D, C, L, U>,
+)
+    requires { length page.old ≤ 4096 }
+    ensures text { page.new ≡ page.old ++ set_line (codes "PENDING") machine.now.state.bus.system.nvic.pending }
+    ensures short { length page.new ≤ length page.old + 5384 }
+{
+    page.put(b"PENDING");
+    'numbers: for number in 0..EXCEPTIONS {
+        put_number_if(page, number, machine.is_pending(number));
+    }
+    page.put(b"\n");
+}
+
+/// Appends the line of the active exceptions.
+#[tactic(auto, unfolding(crate::specs::StateText::numbers_below))]
+fn put_active<D: Decider, C: CodeLines, L: Levels, U: DueTicks>(
+    page: &mut StatePage,
+    machine: &Machine<D, C, L, U>,
+)
+    requires { length page.old ≤ 10000 }
+    ensures { page.new ≡ page.old ++ set_line (codes "ACTIVE") machine.now.state.bus.system.nvic.active }
+{
+    page.put(b"ACTIVE");
+    'numbers: for number in 0..EXCEPTIONS {
+        put_number_if(page, number, machine.is_active(number));
+    }
+    page.put(b"\n");
+}
+
+/// Writes the state of a machine, a line for each value.
+#[tactic(auto, using(crate::proofs::Joining::in_six))]
+pub fn write_state<D: Decider, C: CodeLines, L: Levels, U: DueTicks, W: Out>(
+    machine: &Machine<D, C, L, U>,
+    out: &mut W,
+) -> Result<(), IoFault>
+    ensures { Put (W.written out.old) (W.written out.new) (W.faults out.old) (W.faults out.new)
+        (state_text machine.now.state) result }
+{
+    let mut page = StatePage::new();
+    page.put_slice(registers_text(&machine.regs()).as_slice());
+    put_clock(&mut page, machine.ticks());
+    page.put_slice(status_text(machine).as_slice());
+    page.put_slice(regions_text(machine).as_slice());
+    put_pending(&mut page, machine);
+    put_active(&mut page, machine);
+    out.put_all(page.as_slice())
+}
