@@ -7,8 +7,6 @@ mod number;
 mod places;
 mod symbol;
 mod table;
-#[cfg(test)]
-mod tests;
 
 pub use names::Symbols;
 pub use places::{MOST_SYMBOLS, Places, Search};
