@@ -1,0 +1,7 @@
+use Rattle.std.proofs.Common.{◌≡◌, drop}
+use Rattle.survey.specs.Surveys.{with_events}
+use Rattle.survey.proofs.whole.Survey.take_events.Given as goal
+
+abbrev pub invariant-loop-event : goal.invariant-loop-event
+invariant-loop-event l =
+    with_events l.moment l.self (drop l.event-index l.events) ≡ with_events l.fn.moment l.fn.self l.fn.events

@@ -1,0 +1,73 @@
+-- What a run did, counted: a fold over the events of the reference machine's steps.
+use Rattle.std.specs.Prelude.{ℕ, zero, suc, List, [], ◌∷◌, Option, Some, None}
+use Rattle.reference.specs.declared.access.DecidedAccess.{DecidedAccess}
+use Rattle.reference.specs.declared.event.Event.{Event}
+use Rattle.reference.specs.declared.event.EventKind.{EventKind}
+use Rattle.reference.specs.declared.event.EventKind.TheVariants.{Accessed, ConsoleByte, ReturnBegan, HandlerEntered}
+use Rattle.reference.specs.declared.event.EventKind.TheVariants.{FaultRecorded}
+use Rattle.reference.specs.declared.stop.Stop.{Stop}
+use Rattle.reference.specs.Regions.{Mpu, shown}
+use Rattle.reference.specs.Run.{after}
+use Rattle.reference.specs.State.{State}
+use Rattle.reference.specs.Step.{step}
+use Rattle.survey.specs.declared.moment.Moment.{Moment}
+use Rattle.survey.specs.declared.whole.Survey.{Survey}
+use Rattle.survey.specs.Cells.{with_touch}
+use Rattle.survey.specs.Counts.{with_access}
+use Rattle.survey.specs.Refusals.{with_decided, with_fault, with_end}
+use Rattle.survey.specs.Settings.{with_decision}
+
+-- RBAR and RASR of the 16 regions that an MPU can have, by their numbers: None for those that it doesn't have
+abbrev pub regions_of : Mpu → List (Option (ℕ × ℕ))
+regions_of m =
+    shown m 0 ∷ shown m 1 ∷ shown m 2 ∷ shown m 3 ∷ shown m 4 ∷ shown m 5 ∷ shown m 6 ∷ shown m 7 ∷ shown m 8
+    ∷ shown m 9 ∷ shown m 10 ∷ shown m 11 ∷ shown m 12 ∷ shown m 13 ∷ shown m 14 ∷ shown m 15 ∷ []
+
+-- what a survey takes from the state in which a step begins
+unfoldable pub moment_of : State → Moment
+moment_of s = record { pc = s.registers.pc; regions = regions_of s.bus.system.mpu }
+
+-- a survey after an access of a step that began at a moment
+abbrev pub with_accessed : Moment → Survey → ℕ → DecidedAccess → Survey
+with_accessed m v tick d = record v {
+  counts = with_access v.counts d;
+  settings = with_decision m.regions v.settings d;
+  refusals = with_decided m.pc v.refusals tick d;
+  flash = with_touch v.flash d;
+  ram = with_touch v.ram d;
+}
+
+-- a survey after an event of a step that began at a moment
+unfoldable pub with_event : Moment → Survey → ℕ → EventKind → Survey
+with_event m v tick (Accessed d) = with_accessed m v tick d
+with_event m v tick (ConsoleByte byte) = v
+with_event m v tick (ReturnBegan value) = v
+with_event m v tick (HandlerEntered exception) = v
+with_event m v tick (FaultRecorded fault) = record v { refusals = with_fault v.refusals fault }
+
+-- a survey after events of such a step, in their order
+abbrev pub with_events : Moment → Survey → List Event → Survey
+with_events m v [] = v
+with_events m v (e ∷ es) = with_events m (with_event m v e.tick e.what) es
+
+-- a survey at the end of a step
+abbrev pub with_step_end : Survey → Survey
+with_step_end v = record v { refusals = with_end v.refusals }
+
+-- a survey after the step of a machine that hasn't stopped
+abbrev pub with_made_step : State → Survey → Survey
+with_made_step s v = with_step_end (with_events (moment_of s) v (step s).events)
+
+-- a machine that has stopped makes no step
+abbrev pub unless_stopped : State → Survey → Option Stop → Survey
+unless_stopped s v None = with_made_step s v
+unless_stopped s v (Some why) = v
+
+-- a survey after one more step, from a state
+unfoldable pub with_step : State → Survey → Survey
+with_step s v = unless_stopped s v s.stop
+
+-- a survey after n steps from a state
+unfoldable pub surveyed : ℕ → State → Survey → Survey
+surveyed zero s v = v
+surveyed (suc n) s v = with_step (after n s) (surveyed n s v)

@@ -1,0 +1,15 @@
+//! What a survey takes from the state in which a step begins.
+
+use reference::mpu::MOST_REGIONS;
+
+/// RBAR, with VALID 0 and REGION its number, and RASR of each region that there is, by the regions' numbers.
+pub type Regions = [Option<(u32, u32)>; MOST_REGIONS as usize];
+
+/// What a survey takes from the state in which a step begins.
+#[derive(Clone, Copy)]
+pub struct Moment {
+    /// The address of the next instruction.
+    pub pc: u32,
+    /// The settings of the regions.
+    pub regions: Regions,
+}

@@ -1,0 +1,98 @@
+//! A survey, and what one event adds to it.
+
+ghost use Rattle.std.specs.Prelude.{◌≡◌, IfOk, None, false, replicate};
+ghost use Rattle.survey.specs.Cells.{width_of};
+ghost use Rattle.survey.specs.Surveys.{with_accessed, with_event, with_events, with_step_end};
+
+use crate::cells::{Cells, MARKS};
+use crate::counts::{COUNTERS, Counts};
+use crate::moment::Moment;
+use crate::refusals::Refusals;
+use crate::settings::Settings;
+use reference::access::DecidedAccess;
+use reference::board::Layout;
+use reference::event::{Event, EventKind};
+use reference::map::RAM_BASE;
+use std::alloc::{AllocError, Global};
+
+/// What the steps of a machine did so far, counted.
+#[derive(Drop)]
+pub struct Survey {
+    /// How many accesses there were of each rule, privilege, kind and outcome.
+    pub counts: Counts,
+    /// The settings under which regions decided accesses.
+    pub settings: Settings,
+    /// The accesses that were refused.
+    pub refusals: Refusals,
+    /// Which cells of flash were touched.
+    pub flash: Cells,
+    /// Which cells of RAM were touched.
+    pub ram: Cells,
+}
+
+impl Survey {
+    /// Returns the survey of no steps, for a machine of these sizes. It takes no more memory as it grows.
+    pub fn new(alloc: Global, layout: &Layout) -> Result<Self, AllocError>
+        ensures counts { IfOk result (λ survey. survey.counts ≡ replicate COUNTERS 0) }
+        ensures settings { IfOk result (λ survey. survey.settings.used ≡ 0) }
+        ensures refusals { IfOk result (λ survey. survey.refusals.used ≡ 0) }
+        ensures flash { IfOk result (λ survey. survey.flash.marks ≡ replicate MARKS false) }
+        ensures ram { IfOk result (λ survey. survey.ram.marks ≡ replicate MARKS false) }
+    {
+        let counts = Counts::new(alloc)?;
+        let settings = Settings::new(alloc)?;
+        let refusals = Refusals::new(alloc)?;
+        let flash = Cells::new(alloc, layout.flash_base, layout.flash_size)?;
+        let ram = Cells::new(alloc, RAM_BASE, layout.ram_size)?;
+        Ok(Survey {
+            counts,
+            settings,
+            refusals,
+            flash,
+            ram,
+        })
+    }
+
+    /// Counts the events of a step that began at a moment.
+    pub fn take_events(&mut self, moment: &Moment, events: &[Event])
+        ensures { self.new ≡ with_events moment.now self.old events.now }
+    {
+        for event in events {
+            self.take(moment, event.tick, &event.what);
+        }
+    }
+
+    /// Counts an event of a step that began at a moment.
+    #[inline]
+    #[tactic(auto, unfolding(crate::specs::Surveys::with_event))]
+    fn take(&mut self, moment: &Moment, tick: u64, what: &EventKind)
+        ensures { self.new ≡ with_event moment.now self.old tick what.now }
+    {
+        match what {
+            EventKind::Accessed(decided) => self.take_access(moment, tick, decided),
+            EventKind::ConsoleByte(_) => {}
+            EventKind::ReturnBegan(_) => {}
+            EventKind::HandlerEntered(_) => {}
+            EventKind::FaultRecorded(fault) => self.refusals.take_fault(fault),
+        }
+    }
+
+    /// Counts an access of a step that began at a moment.
+    #[inline]
+    fn take_access(&mut self, moment: &Moment, tick: u64, decided: &DecidedAccess)
+        ensures { self.new ≡ with_accessed moment.now self.old tick decided.now }
+    {
+        self.counts.count(decided);
+        self.settings.take_access(&moment.regions, decided);
+        self.refusals.take_access(moment.pc, tick, decided);
+        self.flash.take_access(decided);
+        self.ram.take_access(decided);
+    }
+
+    /// Ends a step.
+    pub fn end_step(&mut self)
+        ensures { self.new ≡ with_step_end self.old }
+    {
+        self.refusals.end_step();
+    }
+}

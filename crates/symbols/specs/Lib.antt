@@ -1,0 +1,4 @@
+pub mod Tables
+pub mod Found
+pub mod Lookup
+pub mod Named
