@@ -1,6 +1,7 @@
 //! The number in the texts of `--steps`, beside the constant that they repeat.
 
-use crate::words::{MOST_STEPS, STEPS_ADVICE, STEPS_HELP};
+use crate::commands::MOST_STEPS;
+use crate::texts::{STEPS_ADVICE, STEPS_HELP};
 use std::test::*;
 
 #[test]

@@ -1,0 +1,47 @@
+-- From a parse of `clap` to what the program makes of it.
+use Rattle.std.proofs.Common.{◌≡◌, ◌⊎◌, ◌∙◌, inl, inr, true, List, [], Option, Result, Ok, Err, ap, refl, subst, sym}
+use Rattle.clap.specs.Faults.{fault_of, is_simple_and_free}
+use Rattle.clap.specs.Kinds.{HasKind, IsAmong}
+use Rattle.clap.specs.Simple.{App, is_simple, subcommand_of}
+use Rattle.clap.specs.Values.{kind_of}
+use Rattle.clap.specs.Walk.{Row, Text}
+use Rattle.clap.specs.declared.error.Error.{Error}
+use Rattle.clap.specs.declared.error.kind.ErrorKind.{ErrorKind}
+use Rattle.clap.specs.declared.error.kind.ErrorKind.TheVariants as kind
+use Rattle.command_line.specs.Asked.{Reads, Refuses, Takes, answer_of, answer_to, asked_in, memory}
+use Rattle.command_line.specs.Commands.{marm}
+use Rattle.command_line.specs.declared.words.Words.{Words}
+use Rattle.command_line.specs.declared.words.WordsFault.{WordsFault}
+
+pub simple : is_simple marm ≡ true
+simple = refl
+
+pub simple_and_free : is_simple_and_free marm ≡ true
+simple_and_free = refl
+
+pub taken : (words : List Text) (rows : Option (Text × List Row)) (result : Result Words WordsFault)
+    → fault_of marm words ≡ [] → rows ≡ subcommand_of marm words → Reads (asked_in rows) result → Takes words result
+taken words rows (Ok asked) none same h = (none, ap asked_in (sym same) ∙ h)
+taken words rows (Err fault) none same h = inr (inr (ap asked_in (sym same) ∙ h.0, h.1))
+
+by_kind : (words : List Text) (k : ErrorKind) (fault : WordsFault) → IsAmong k (fault_of marm words) → Refuses k fault
+    → Takes words (Err fault)
+by_kind words k fault among (inl same) = inr (inl (k, among, same))
+by_kind words k fault among (inr wanting) = inl wanting
+
+by_memory : (words : List Text) (k : ErrorKind) (fault : WordsFault) → k ≡ kind.OutOfMemory → Refuses k fault
+    → Takes words (Err fault)
+by_memory words k fault e (inl same) = inl (same ∙ ap answer_to e)
+by_memory words k fault e (inr wanting) = inl wanting
+
+by_kinds : (words : List Text) (e : Error) (fault : WordsFault) → HasKind (fault_of marm words) e
+    → Refuses (kind_of e) fault → Takes words (Err fault)
+by_kinds words e fault (inl wanting) h = by_memory words (kind_of e) fault wanting h
+by_kinds words e fault (inr among) h = by_kind words (kind_of e) fault among h
+
+pub refused : (words : List Text) (app : App) (e : Error) (fault : WordsFault) → app ≡ marm
+    → (is_simple_and_free app ≡ true → HasKind (fault_of app words) e) → Refuses (kind_of e) fault
+    → Takes words (Err fault)
+refused words app e fault is fails h =
+    let failed : HasKind (fault_of app words) e = fails (ap is_simple_and_free is ∙ simple_and_free) in
+    by_kinds words e fault (subst (λ (a : App). HasKind (fault_of a words) e) is failed) h

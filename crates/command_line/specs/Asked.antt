@@ -1,0 +1,125 @@
+-- What the arguments ask for, as a function of the matches of `clap`.
+use Rattle.std.specs.Prelude.{◌≡◌, ◌⊎◌, if◌then◌else◌, List, [], Option, Some, None, Result, Ok, Err, codes}
+use Rattle.std.specs.Str.{bytes_eq}
+use Rattle.clap.specs.Faults.{fault_of}
+use Rattle.clap.specs.Kinds.{IsAmong}
+use Rattle.clap.specs.Simple.{subcommand_of}
+use Rattle.clap.specs.Walk.{Row, Text, first_of}
+use Rattle.clap.specs.declared.error.kind.ErrorKind.{ErrorKind}
+use Rattle.clap.specs.declared.error.kind.ErrorKind.TheVariants as kind
+use Rattle.command_line.specs.Commands.{marm}
+use Rattle.command_line.specs.declared.words.DebugWords.{DebugWords}
+use Rattle.command_line.specs.declared.words.RunWords.{RunWords}
+use Rattle.command_line.specs.declared.words.Words.{Words}
+use Rattle.command_line.specs.declared.words.Words.TheVariants as words
+use Rattle.command_line.specs.declared.words.WordsFault.{WordsFault}
+use Rattle.command_line.specs.declared.words.WordsFault.TheVariants.{Wrong, Help, Version, OutOfMemory}
+
+-- the arguments of a run
+pub record AskedRun : Type 0 where
+  pub board : Text
+  pub steps : Text
+  pub image : Text
+
+-- the arguments of a debug session
+pub record AskedDebug : Type 0 where
+  pub board : Text
+  pub image : Text
+
+pub data Asked : Type 0 where
+  run : AskedRun → Asked
+  debug : AskedDebug → Asked
+
+-- a run, where its three required arguments have values
+abbrev pub run_with : Option Text → Option Text → Option Text → Option Asked
+run_with (Some board) (Some steps) (Some image) =
+    Some (run (record { board = board; steps = steps; image = image }))
+run_with _ _ _ = None
+
+-- a session, where its two arguments have values
+abbrev pub debug_with : Option Text → Option Text → Option Asked
+debug_with (Some board) (Some image) = Some (debug (record { board = board; image = image }))
+debug_with _ _ = None
+
+-- what the matches of a command ask for
+abbrev pub asked_by : Text → List Row → Option Asked
+asked_by name rows =
+    if bytes_eq name (codes "run")
+    then run_with (first_of (codes "board") rows) (first_of (codes "steps") rows) (first_of (codes "image") rows)
+    else (if bytes_eq name (codes "debug")
+    then debug_with (first_of (codes "board") rows) (first_of (codes "image") rows)
+    else None)
+
+abbrev pub asked_in : Option (Text × List Row) → Option Asked
+asked_in None = None
+asked_in (Some met) = asked_by met.0 met.1
+
+-- what the program's arguments ask for, the program's name before them
+abbrev pub asked : List Text → Option Asked
+asked words = asked_in (subcommand_of marm words)
+
+-- what a value of `Words` says
+abbrev pub run_of : RunWords → AskedRun
+run_of r = record { board = r.board.now; steps = r.steps.now; image = r.image.now }
+
+abbrev pub asked_of : Words → Asked
+asked_of (words.Run r) = run (run_of r)
+asked_of (words.Debug d) = debug (record { board = d.board.now; image = d.image.now })
+
+-- how the program answers arguments that it doesn't take
+pub data Answer : Type 0 where
+  usage : Answer
+  help : Answer
+  version : Answer
+  memory : Answer
+
+-- the answer to each kind of error of `clap`
+abbrev pub answer_to : ErrorKind → Answer
+answer_to kind.InvalidValue = usage
+answer_to kind.UnknownArgument = usage
+answer_to kind.InvalidSubcommand = usage
+answer_to kind.NoEquals = usage
+answer_to kind.ValueValidation = usage
+answer_to kind.TooManyValues = usage
+answer_to kind.TooFewValues = usage
+answer_to kind.WrongNumberOfValues = usage
+answer_to kind.ArgumentConflict = usage
+answer_to kind.MissingRequiredArgument = usage
+answer_to kind.MissingSubcommand = usage
+answer_to kind.Io = usage
+answer_to kind.Format = usage
+answer_to kind.DisplayHelp = help
+answer_to kind.DisplayHelpOnMissingArgumentOrSubcommand = help
+answer_to kind.DisplayVersion = version
+answer_to kind.OutOfMemory = memory
+
+-- the answer that a fault leads to
+abbrev pub answer_of : WordsFault → Answer
+answer_of (Wrong text) = usage
+answer_of (Help text) = help
+answer_of (Version text) = version
+answer_of OutOfMemory = memory
+
+-- the answer to an error, or out of memory for its text
+abbrev pub Refuses : ErrorKind → WordsFault → Type 0
+Refuses k fault = (answer_of fault ≡ answer_to k) ⊎ (answer_of fault ≡ memory)
+
+-- the values of a subcommand's matches, or a usage fault where one that is needed has none
+abbrev pub Reads : Option Asked → Result Words WordsFault → Type 0
+Reads asks (Ok words) = asks ≡ Some (asked_of words)
+Reads asks (Err fault) = (asks ≡ None) × (answer_of fault ≡ usage)
+
+-- `clap` takes the arguments
+abbrev pub IsTaken : List Text → Type 0
+IsTaken words = fault_of marm words ≡ []
+
+-- the answer is that to one of the errors that `clap` finds in the arguments
+abbrev pub IsRefused : List Text → WordsFault → Type 0
+IsRefused words fault = (k : ErrorKind) × IsAmong k (fault_of marm words) × (answer_of fault ≡ answer_to k)
+
+-- arguments that `clap` takes are read as its matches say. Others are answered as one of the errors that `clap` finds
+-- says; and out of memory may come in place of all
+abbrev pub Takes : List Text → Result Words WordsFault → Type 0
+Takes words (Ok taken) = IsTaken words × (asked words ≡ Some (asked_of taken))
+Takes words (Err fault) =
+    (answer_of fault ≡ memory) ⊎ (IsRefused words fault ⊎ ((asked words ≡ None) × (answer_of fault ≡ usage)))

@@ -1,0 +1,43 @@
+-- The command line of the program: its commands, and the arguments that each takes.
+use Rattle.std.specs.Prelude.{Some, ◌^◌, codes, true}
+use Rattle.clap.specs.Simple.{App, Shape, new_app, new_rule, on_top, with_rule, with_subcommand}
+use Rattle.clap.specs.Walk.{Rule, Text}
+use Rattle.clap.specs.declared.builder.action.ArgAction.TheVariants.{Set}
+use Rattle.clap.specs.declared.builder.value_parser.ValueParser.TheVariants.{Unsigned}
+
+-- an argument by its place, with one value
+abbrev pub operand : Text → Rule
+operand id = record (new_rule id) { value_names = 1; action = Some Set }
+
+-- an argument by its name, as --board FILE, with one value
+abbrev pub option : Text → Rule
+option id = record (operand id) { long = Some id }
+
+abbrev pub board : Rule
+board = record (option (codes "board")) { required = true }
+
+-- a decimal number from 0 to 2^32
+abbrev pub steps : Rule
+steps = record (option (codes "steps")) { required = true; parser = Some (Unsigned 0 (2 ^ 32)) }
+
+abbrev pub image : Rule
+image = record (operand (codes "image")) { required = true }
+
+-- marm run --board FILE --steps N
+abbrev pub run_in_steps : App
+run_in_steps = with_rule (with_rule (new_app (codes "run")) board) steps
+
+-- marm run --board FILE --steps N IMAGE
+abbrev pub run : App
+run = with_rule run_in_steps image
+
+-- marm debug --board FILE IMAGE
+abbrev pub debug : App
+debug = with_rule (with_rule (new_app (codes "debug")) board) image
+
+-- marm has a version, and needs one of its two commands
+abbrev pub with_version : Shape → Shape
+with_version s = record s { has_version = true; subcommand_required = true }
+
+abbrev pub marm : App
+marm = with_subcommand (with_subcommand (on_top with_version (new_app (codes "marm"))) run.top) debug.top

@@ -1,0 +1,112 @@
+//! The commands of the program, as `clap` is to read them.
+
+ghost use Rattle.std.specs.Prelude.{◌≡◌, IfOk, false};
+ghost use Rattle.clap.specs.Words.{app_of, rule_of};
+ghost use Rattle.clap.specs.declared.builder.command.Command.TheViews.{out-Command};
+ghost use Rattle.command_line.specs.Commands as spec;
+
+use crate::texts::{AFTER_DEBUG, AFTER_MARM, AFTER_RUN, STEPS_HELP};
+use clap::builder::ValueParser;
+use clap::{Arg, ArgAction, Command};
+use std::alloc::{AllocError, Global};
+
+/// The most steps of a run.
+pub const MOST_STEPS: u64 = 0x1_0000_0000;
+
+/// The program's version.
+const VERSION: &str = "0.2.0";
+
+/// Returns the command `marm`, with its two subcommands.
+pub fn marm<'a>(alloc: Global) -> Result<Command<'a>, AllocError>
+    ensures { IfOk result (λ c. app_of c ≡ spec.marm) }
+{
+    let run = run(alloc)?;
+    let debug = debug(alloc)?;
+    let marm = Command::new(alloc, "marm")
+        .about("An ARMv7-M machine that writes a proved trace of its memory accesses")
+        .version(VERSION)
+        .after_help(AFTER_MARM)
+        .subcommand_required(true);
+    marm.subcommand(run)?.subcommand(debug)
+}
+
+/// Returns the subcommand `debug`, with its two arguments.
+fn debug<'a>(alloc: Global) -> Result<Command<'a>, AllocError>
+    ensures app { IfOk result (λ c. app_of c ≡ spec.debug) }
+    ensures local { IfOk result (λ c. (out-Command c).has_globals ≡ false) }
+{
+    let debug = Command::new(alloc, "debug")
+        .about("Reads commands from standard input and writes their answers to standard output")
+        .after_help(AFTER_DEBUG);
+    let debug = debug.arg(board(alloc))?;
+    debug.arg(image(alloc))
+}
+
+/// Returns the subcommand `run`, with its arguments.
+fn run<'a>(alloc: Global) -> Result<Command<'a>, AllocError>
+    ensures app { IfOk result (λ c. app_of c ≡ spec.run) }
+    ensures local { IfOk result (λ c. (out-Command c).has_globals ≡ false) }
+{
+    let run = run_in_steps(alloc)?;
+    run.arg(image(alloc))
+}
+
+/// Returns the subcommand `run`, with its board and its steps alone.
+fn run_in_steps<'a>(alloc: Global) -> Result<Command<'a>, AllocError>
+    ensures app { IfOk result (λ c. app_of c ≡ spec.run_in_steps) }
+    ensures local { IfOk result (λ c. (out-Command c).has_globals ≡ false) }
+{
+    let run = Command::new(alloc, "run")
+        .about("Runs an image on a board and writes the trace to standard output")
+        .after_help(AFTER_RUN);
+    let run = run.arg(board(alloc))?;
+    run.arg(steps(alloc))
+}
+
+/// Returns the option `--name VALUE`.
+fn option<'a>(alloc: Global, name: &'a str, value: &'a str, help: &'a str) -> Arg<'a>
+    ensures rule { rule_of result ≡ spec.option name.entry.now }
+    ensures local { result.global ≡ false }
+{
+    Arg::new(alloc, name)
+        .long(name)
+        .value_name(value)
+        .help(help)
+        .action(ArgAction::Set)
+}
+
+/// Returns `--board FILE`.
+fn board<'a>(alloc: Global) -> Arg<'a>
+    ensures rule { rule_of result ≡ spec.board }
+    ensures local { result.global ≡ false }
+{
+    option(
+        alloc,
+        "board",
+        "FILE",
+        "The board: a TOML file of at most 16 MiB with the memory sizes, the interrupt lines and the events",
+    )
+    .required(true)
+}
+
+/// Returns `--steps N`, from 0 to 4294967296.
+fn steps<'a>(alloc: Global) -> Arg<'a>
+    ensures rule { rule_of result ≡ spec.steps }
+    ensures local { result.global ≡ false }
+{
+    option(alloc, "steps", "N", STEPS_HELP)
+        .required(true)
+        .value_parser(ValueParser::unsigned(0, MOST_STEPS))
+}
+
+/// Returns the image's path.
+fn image<'a>(alloc: Global) -> Arg<'a>
+    ensures rule { rule_of result ≡ spec.image }
+    ensures local { result.global ≡ false }
+{
+    Arg::new(alloc, "image")
+        .value_name("IMAGE")
+        .help("The image: an ELF file for ARM of at most 16 MiB, linked to run")
+        .required(true)
+        .action(ArgAction::Set)
+}

@@ -1,0 +1,84 @@
+//! The texts of the help, and what to write in place of wrong arguments.
+
+/// What `clap` says of a word that begins with `-`.
+pub const DASH_TIP: &str = "tip: to pass ";
+
+/// What to write in place of a word that begins with `-`.
+pub const DASH_ADVICE: &str = "\
+Only the options of the usage are taken, and --steps takes no negative number.
+A file whose name begins with - is written with ./ before it.
+";
+
+/// What `--steps` takes: the one value that `clap` checks.
+pub const STEPS_ADVICE: &str = "--steps takes a decimal number from 0 to 4294967296.\n";
+
+/// What the help says of `--steps`.
+pub const STEPS_HELP: &str =
+    "The most steps (instructions, halves of exception entries, idle ticks) to make, from 0 to 4294967296";
+
+/// The commands of the program.
+pub const COMMANDS_ADVICE: &str = "The commands are run, debug and help.\n";
+
+/// What the program's help says of its statuses and messages.
+pub const AFTER_MARM: &str = "\
+Exit status:
+  0  all steps were made, a breakpoint was met, or a debug session ended; or the version was asked for
+  2  the arguments are wrong, or help was asked for (marm: usage)
+  3  the image or the board is refused, or memory ran out for the board or the machine
+     (marm: load, board, start, size)
+  4  the machine stopped otherwise: the trace's last line says why
+  5  reading or writing failed, or memory ran out for the arguments or a file (marm: io)
+
+Example:
+  marm run --board examples/boards/small.toml --steps 10 examples/first.elf";
+
+/// What the help of `run` says of the trace and of the statuses.
+pub const AFTER_RUN: &str = "\
+The trace has one line for each access: its tick, kind, address, size in bytes, privilege, outcome,
+and the rule or region that decided it. Its last line says why the run ended.
+
+Exit status:
+  0  all steps were made, or a breakpoint was met
+  2  the arguments are wrong, or help was asked for (marm: usage)
+  3  the image or the board is refused, or memory ran out for the board or the machine
+     (marm: load, board, start, size)
+  4  the machine stopped otherwise: the trace's last line says why
+  5  reading or writing failed, or memory ran out for the arguments or a file (marm: io)
+
+Example:
+  marm run --board examples/boards/small.toml --steps 10 examples/first.elf";
+
+/// What the help of `debug` says of the commands and of the statuses.
+pub const AFTER_DEBUG: &str = "\
+Commands, one a line on standard input; numbers are decimal, or hexadecimal after 0x:
+  step               makes a step: its trace lines, then `at <pc>` or the stop line
+  run <n>            makes up to n steps, from 1 to 1000000, and ends at a breakpoint
+  task <n>           makes up to n steps of a task (unprivileged code in Thread mode under the regions of the
+                     MPU), from 1 to 1000000, through breakpoints; then `task done`, `task other` where the
+                     next step isn't an instruction, `task not` where no task runs, or the stop line
+  break <a>          sets a breakpoint at an address, at most 16
+                     an odd address is never hit, and no command removes a breakpoint
+  regs               shows the core registers
+  mem <a> <n>        shows n bytes from an address on, from 1 to 256
+  regions            shows RBAR and RASR of each region of the MPU
+  explain <a> p|u r|w|x
+                     shows the rule that would decide an access by privileged (p) or unprivileged (u)
+                     code that reads, writes or executes, and whether the rule would grant it
+  quit               ends the session, as the end of the input does
+
+Words are separated by exactly one space. A line ends with a line feed, without a carriage return, and
+has at most 80 bytes before it. The last line needs no line feed.
+
+Answers `error 1` (no such command, a wrong number of words, or a line of more than 80 bytes), `error 2`
+(a word isn't allowed there) and `error 3` (16 breakpoints are set) change nothing.
+
+Exit status:
+  0  the session ended
+  2  the arguments are wrong, or help was asked for (marm: usage)
+  3  the image or the board is refused, or memory ran out for the board or the machine
+     (marm: load, board, start, size)
+  5  reading or writing failed, or memory ran out for the arguments or a file (marm: io)
+
+Example:
+  echo 'explain 0x20000000 u w' |
+  marm debug --board examples/boards/small.toml examples/first.elf";
