@@ -1,0 +1,27 @@
+//! The end of the clock, which no run can reach.
+
+use crate::{Ahead, Clock, Counting};
+use std::test::*;
+
+/// The tick at which a clock ends.
+const LAST: u64 = 1 << 48;
+
+#[test]
+fn counting_reaches_the_last_tick(rt: HostRuntime) -> Result<(), Fail> {
+    let mut clock: Clock<Counting> = Clock::new(Vec::new(rt.alloc()));
+    clock.ticks = LAST - 1;
+    let due = clock.tick();
+    assert_eq!(rt; clock.now(), LAST);
+    assert_eq!(rt; due, [0; 8]);
+    Ok(())
+}
+
+#[test]
+fn ahead_reaches_the_last_tick(rt: HostRuntime) -> Result<(), Fail> {
+    let mut clock: Clock<Ahead> = Clock::new(Vec::new(rt.alloc()));
+    clock.ticks = LAST - 1;
+    let due = clock.tick();
+    assert_eq!(rt; clock.now(), LAST);
+    assert_eq!(rt; due, [0; 8]);
+    Ok(())
+}
