@@ -5,6 +5,7 @@ pub mod fetches;
 mod hex;
 pub mod lines;
 pub mod page;
+pub mod selection;
 pub mod sink;
 pub mod tick;
 mod words;

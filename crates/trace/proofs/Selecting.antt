@@ -1,0 +1,146 @@
+-- The text of selected events: of one list after another, and of one event.
+use Rattle.std.proofs.Common.{◌≡◌, ℕ, Bool, true, false, List, [], ◌∷◌, ◌++◌, Option, Some, None, refl, sym, ap, ◌∙◌}
+use Rattle.std.proofs.Common.{append_assoc, cond, if◌then◌else◌}
+use Rattle.std.proofs.lemmas.List.{append-nil}
+use Rattle.std.proofs.lemmas.List.Elements.{filter-append, filter_map-append}
+use Rattle.std.specs.List.{cons_option, last_or}
+use Rattle.std.specs.Option.{option_or}
+use Rattle.reference.specs.declared.access.DecidedAccess.{DecidedAccess}
+use Rattle.reference.specs.declared.event.Event.{Event}
+use Rattle.reference.specs.declared.event.EventKind.{EventKind}
+use Rattle.reference.specs.declared.event.EventKind.TheVariants.{Accessed, ConsoleByte, ReturnBegan, HandlerEntered}
+use Rattle.reference.specs.declared.event.EventKind.TheVariants.{FaultRecorded}
+use Rattle.reference.specs.Run.{events_of, trace}
+use Rattle.reference.specs.State.{State}
+use Rattle.reference.specs.Text.{line, lines}
+use Rattle.trace.specs.declared.selection.TraceSelection.{TraceSelection}
+use Rattle.trace.specs.declared.selection.TraceSelection.TheVariants as which
+use Rattle.trace.specs.Selection.{byte_of, last_printed, printed, selected_events, selected_text, selected_trace, selects}
+use Rattle.trace.specs.Selection.{text_as, writes_bytes}
+
+-- the lines of more events follow those of the first
+pub lines-append : (xs ys : List Event) → lines (xs ++ ys) ≡ lines xs ++ lines ys
+unfolding lines
+lines-append [] ys = refl
+lines-append (x ∷ xs) ys = rw (lines-append xs ys, append_assoc) refl
+
+-- one event's line
+pub line_alone : (e : Event) → lines (e ∷ []) ≡ line e
+unfolding lines
+line_alone e = append-nil (line e)
+
+text_as-append : (selection : TraceSelection) (xs ys : List Event)
+    → text_as selection (xs ++ ys) ≡ text_as selection xs ++ text_as selection ys
+text_as-append which.All xs ys = lines-append xs ys
+text_as-append which.Refused xs ys = lines-append xs ys
+text_as-append which.Exceptions xs ys = lines-append xs ys
+text_as-append which.Console xs ys = filter_map-append (λ (e : Event). byte_of e.what) xs ys
+text_as-append which.Nothing xs ys = lines-append xs ys
+
+-- the text of more events follows that of the first
+pub selected-append : (selection : TraceSelection) (xs ys : List Event)
+    → selected_text selection (xs ++ ys) ≡ selected_text selection xs ++ selected_text selection ys
+selected-append selection xs ys =
+    ap (text_as selection) (filter-append (λ (e : Event). selects selection e.what) xs ys)
+    ∙ text_as-append selection (selected_events selection xs) (selected_events selection ys)
+
+-- of no events there is no text
+pub selected-nil : (selection : TraceSelection) → selected_text selection [] ≡ []
+unfolding lines
+selected-nil which.All = refl
+selected-nil which.Refused = refl
+selected-nil which.Exceptions = refl
+selected-nil which.Console = refl
+selected-nil which.Nothing = refl
+
+-- no events print no byte
+pub last-nil : (selection : TraceSelection) → None ≡ last_printed selection []
+last-nil which.All = refl
+last-nil which.Refused = refl
+last-nil which.Exceptions = refl
+last-nil which.Console = refl
+last-nil which.Nothing = refl
+
+-- the last item of one list after another
+last_or-append : (o : Option ℕ) (xs ys : List ℕ) → last_or o (xs ++ ys) ≡ last_or (last_or o xs) ys
+last_or-append o [] ys = refl
+last_or-append o (x ∷ xs) ys = last_or-append (Some x) xs ys
+
+is_there : (o : Option ℕ) (x : ℕ) (xs : List ℕ) → option_or (last_or (Some x) xs) o ≡ last_or (Some x) xs
+is_there o x [] = refl
+is_there o x (y ∷ ys) = is_there o y ys
+
+last_or-join : (o : Option ℕ) (xs : List ℕ) → last_or o xs ≡ option_or (last_or None xs) o
+last_or-join o [] = refl
+last_or-join o (x ∷ xs) = sym (is_there o x xs)
+
+-- the last byte that was printed by events and later ones
+pub last_joined : (events more : List Event) → last_printed which.Console (events ++ more)
+    ≡ option_or (last_printed which.Console more) (last_printed which.Console events)
+last_joined events more =
+    ap (last_or None) (selected-append which.Console events more)
+    ∙ last_or-append None (selected_text which.Console events) (selected_text which.Console more)
+    ∙ last_or-join (last_printed which.Console events) (selected_text which.Console more)
+
+last_at : (tick : ℕ) (what : EventKind)
+    → last_printed which.Console (record { tick = tick; what = what } ∷ []) ≡ byte_of what
+last_at tick (Accessed a) = refl
+last_at tick (ConsoleByte byte) = refl
+last_at tick (ReturnBegan exc_return) = refl
+last_at tick (HandlerEntered exception) = refl
+last_at tick (FaultRecorded f) = refl
+
+-- the last byte that was printed by events and one more
+pub last_on : (events : List Event) (e : Event) → last_printed which.Console (events ++ e ∷ [])
+    ≡ option_or (byte_of e.what) (last_printed which.Console events)
+last_on events e =
+    last_joined events (e ∷ [])
+    ∙ ap (λ (o : Option ℕ). option_or o (last_printed which.Console events)) (last_at e.tick e.what)
+
+-- all events are selected by `All`
+all_selected : (events : List Event) → selected_events which.All events ≡ events
+all_selected [] = refl
+all_selected (e ∷ es) = ap (λ (rest : List Event). e ∷ rest) (all_selected es)
+
+-- the text of all events is their lines
+pub all_lines : (events : List Event) → selected_text which.All events ≡ lines events
+all_lines events = ap lines (all_selected events)
+
+-- the text of a run with all events is its trace
+pub all_traced : (n : ℕ) (s : State) → selected_trace which.All n s ≡ trace n s
+unfolding selected_trace trace
+all_traced n s = rw (all_lines (events_of n s)) refl
+
+-- the text of one event that isn't selected
+pub not_selected : (selection : TraceSelection) (e : Event) → selects selection e.what ≡ false
+    → selected_text selection (e ∷ []) ≡ []
+not_selected selection e missing =
+    ap (λ (b : Bool). text_as selection (cond b (e ∷ []) [])) missing ∙ selected-nil selection
+
+-- the line of one event that is selected
+selected_alone : (selection : TraceSelection) (e : Event) → selects selection e.what ≡ true
+    → selected_text selection (e ∷ []) ≡ text_as selection (e ∷ [])
+selected_alone selection e chosen = ap (λ (b : Bool). text_as selection (cond b (e ∷ []) [])) chosen
+
+pub line_selected : (selection : TraceSelection) (e : Event) → selects selection e.what ≡ true
+    → writes_bytes selection ≡ false → selected_text selection (e ∷ []) ≡ line e
+line_selected selection e chosen lined =
+    selected_alone selection e chosen
+    ∙ ap (λ (b : Bool). if b then printed (e ∷ []) else lines (e ∷ [])) lined ∙ line_alone e
+
+-- the byte of one event, where bytes are written
+pub byte_selected : (selection : TraceSelection) (e : Event) (byte : Option ℕ) → selects selection e.what ≡ true
+    → writes_bytes selection ≡ true → byte_of e.what ≡ byte → selected_text selection (e ∷ []) ≡ cons_option byte []
+byte_selected selection e byte chosen bare is =
+    selected_alone selection e chosen
+    ∙ ap (λ (b : Bool). if b then printed (e ∷ []) else lines (e ∷ [])) bare
+    ∙ ap (λ (o : Option ℕ). cons_option o []) is
+
+-- a selection that has accesses writes lines
+pub accesses_lined : (selection : TraceSelection) (a : DecidedAccess) → selects selection (Accessed a) ≡ true
+    → writes_bytes selection ≡ false
+accesses_lined which.All a chosen = refl
+accesses_lined which.Refused a chosen = refl
+accesses_lined which.Exceptions a chosen = refl
+accesses_lined which.Console a chosen = absurd cc
+accesses_lined which.Nothing a chosen = refl
