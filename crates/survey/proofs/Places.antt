@@ -1,8 +1,6 @@
 -- The counters: which events they have counted, and that no two accesses that differ have one counter.
-use Rattle.std.proofs.Common.{◌≡◌, ℕ, zero, suc, ◌+◌, ◌-◌, ◌*◌, ◌^◌, ◌<◌, ◌≤◌, min, Bool, true, false, cond, ◌==◌, List, []}
-use Rattle.std.proofs.Common.{◌∷◌, ◌++◌, length, Option, Some, None, refl, sym, ap, ◌∙◌, arith, get_or}
-use Rattle.std.specs.Prelude.{slice_index, slice_set, count_by}
-use Rattle.std.proofs.lemmas.Grind.{common_steps}
+use Rattle.std.proofs.Common.{◌≡◌, ℕ, ◌+◌, ◌*◌, ◌<◌, Bool, true, false}
+use Rattle.std.proofs.Common.{Option, Some, None, refl, ap, arith}
 use Rattle.reference.specs.declared.access.Cause.{Cause}
 use Rattle.reference.specs.declared.access.Cause.TheVariants.{Mpu, Bus}
 use Rattle.reference.specs.declared.access.Kind.{Kind}
@@ -10,7 +8,7 @@ use Rattle.reference.specs.declared.access.Kind.TheVariants.{Fetch, Load, Store,
 use Rattle.reference.specs.declared.access.Rule.{Rule}
 use Rattle.reference.specs.declared.access.Rule.TheVariants.{NeverExecute, VectorRead, PrivatePeripheralBus, MpuOff}
 use Rattle.reference.specs.declared.access.Rule.TheVariants.{NegativePriority, Region, Background, NoRegion}
-use Rattle.survey.specs.Counts.{rule_number, privilege_number, kind_number, outcome_number, place_of}
+use Rattle.survey.specs.Counts.{rule_number, privilege_number, kind_number, outcome_number}
 use Rattle.survey.specs.CountLaw.{IsPlaceOfOne}
 
 -- the numbers are below their bounds
