@@ -256,7 +256,7 @@ err
 err Usage: marm run --board <FILE> --steps <N> <IMAGE>
 err
 err For more information, try '--help'.
-err Only the options of the usage are taken.
+err Only the options of the usage are taken, and --steps takes no negative number.
 err A file whose name begins with - is written with ./ before it.
 
 an option is missing
@@ -314,10 +314,15 @@ fewer than no steps
 words run --board board.toml --steps -1 image.elf
 ends 2
 err marm: usage
-err error: invalid value '-1' for '--steps <N>': invalid digit found in string
+err error: unexpected argument '-1' found
+err
+err   tip: to pass '-1' as a value, use '-- -1'
+err
+err Usage: marm run --board <FILE> --steps <N> <IMAGE>
 err
 err For more information, try '--help'.
-err --steps takes a decimal number from 0 to 4294967296.
+err Only the options of the usage are taken, and --steps takes no negative number.
+err A file whose name begins with - is written with ./ before it.
 
 a board whose name begins with a hyphen
 words run --board -x --steps 1 image.elf
@@ -330,7 +335,7 @@ err
 err Usage: marm run --board <FILE> --steps <N> <IMAGE>
 err
 err For more information, try '--help'.
-err Only the options of the usage are taken.
+err Only the options of the usage are taken, and --steps takes no negative number.
 err A file whose name begins with - is written with ./ before it.
 
 an image whose name begins with a hyphen
@@ -344,7 +349,7 @@ err
 err Usage: marm run --board <FILE> --steps <N> <IMAGE>
 err
 err For more information, try '--help'.
-err Only the options of the usage are taken.
+err Only the options of the usage are taken, and --steps takes no negative number.
 err A file whose name begins with - is written with ./ before it.
 
 files with their folder before their name
@@ -415,7 +420,7 @@ err
 err Usage: marm debug --board <FILE> <IMAGE>
 err
 err For more information, try '--help'.
-err Only the options of the usage are taken.
+err Only the options of the usage are taken, and --steps takes no negative number.
 err A file whose name begins with - is written with ./ before it.
 
 an option without its value
