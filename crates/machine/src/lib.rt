@@ -15,7 +15,7 @@ pub use access::{Ahead, CodeLines, Counting, Decider, DueTicks, Levels, PlainLev
 pub use access_table::{KeptDecisions, Table};
 pub use bit_levels::{BitLevels, KeptPriorities};
 pub use board::{Board, InterruptLine, ScriptedEvent, Signal};
-pub use code_lines::Lines;
+pub use code_lines::{BoardLines, Lines};
 pub use decode::Reread;
 pub use foresight::is_instruction;
 pub use output::{In, IoFault, LineRoom, Out, Over, Paged};

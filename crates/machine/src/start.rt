@@ -47,7 +47,8 @@ pub fn start_core<D: Decider, C: CodeLines, L: Levels, U: DueTicks>(
         board.layout.regions.number(),
         script,
     );
-    let Ok(memory) = CodeMemory::new(alloc, space) else {
+    let bytes = board.layout.flash_size as usize + board.layout.ram_size as usize;
+    let Ok(memory) = CodeMemory::new(alloc, space, bytes) else {
         return Err(StartFault::NoMemory);
     };
     Ok(Processor::new(regs, Bus::new(memory, system)))

@@ -29,7 +29,7 @@ use access::{Ahead, CodeLines, Counting, Decider, DueTicks, Levels, PlainLevels,
 use access_table::{KeptDecisions, Table};
 use bit_levels::{BitLevels, KeptPriorities};
 use board::Board;
-use code_lines::Lines;
+use code_lines::BoardLines;
 use decode::Reread;
 use elf::Image;
 use output::{IoFault, LineRoom, Out};
@@ -68,7 +68,7 @@ pub type Slow = Machine<Search, Reread, PlainLevels, Counting>;
 /// The machine that finds the deciding region in a table and keeps decisions, keeps decoded instructions by
 /// their addresses, keeps the exceptions in sets of bits with three values that each step reads, and knows
 /// the next tick at which something is due. Its steps are those of `Slow`, by the same contracts.
-pub type Fast = Machine<KeptDecisions<Table>, Lines, KeptPriorities<BitLevels>, Ahead>;
+pub type Fast = Machine<KeptDecisions<Table>, BoardLines, KeptPriorities<BitLevels>, Ahead>;
 
 impl<D: Decider, C: CodeLines, L: Levels, U: DueTicks> Model for Machine<D, C, L, U> {
     ghost use Rattle.machine.specs.Whole.{Whole};

@@ -49,8 +49,8 @@ pub trait Decider: Drop {
     /// Returns the fetch of a halfword from an address, by code of that privilege, if it is kept with its
     /// text: its rule grants it while the execution priority isn't below 0.
     #[inline(always)]
-    fn kept_fetch(&self, address: u32, privileged: bool) -> Option<&KeptFetch>
-        ensures { (m : Mpu) → stands_for self.now m → IfSome result (λ fetch. GrantsFetch m address privileged fetch.now) }
+    fn kept_fetch(&self, address: u32, privileged: bool) -> Option<KeptFetch>
+        ensures { (m : Mpu) → stands_for self.now m → IfSome result (λ fetch. GrantsFetch m address privileged fetch) }
     {
         let _unused = (address, privileged);
         None

@@ -166,9 +166,9 @@ impl<D: Decider, L: Levels, U: DueTicks> System<D, L, U> {
     /// Returns the fetch of a halfword from an address, by code of that privilege, if it is kept with its
     /// text: its rule grants it at the current execution priority.
     #[inline(always)]
-    pub fn kept_fetch(&self, address: u32, privileged: bool) -> Option<&KeptFetch>
-        ensures fetch { IfSome result (λ fetch. access_of fetch.now ≡ fetch_done address privileged fetch.now.rule) }
-        ensures granted { IfSome result (λ fetch. decision_of self.now.mpu address Fetch privileged (is_below_zero self.now.nvic) ≡ record { rule = fetch.now.rule; granted = true }) }
+    pub fn kept_fetch(&self, address: u32, privileged: bool) -> Option<KeptFetch>
+        ensures fetch { IfSome result (λ fetch. access_of fetch ≡ fetch_done address privileged fetch.rule) }
+        ensures granted { IfSome result (λ fetch. decision_of self.now.mpu address Fetch privileged (is_below_zero self.now.nvic) ≡ record { rule = fetch.rule; granted = true }) }
     {
         if self.levels.is_below_zero() {
             return None;

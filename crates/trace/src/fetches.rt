@@ -1,44 +1,44 @@
-//! The text of fetches, kept but for its tick: a loop fetches the same halfwords again and again.
+//! The end of the lines of fetches, kept: the rules that grant fetches change rarely.
 
 ghost use Rattle.std.specs.Prelude.{◌≡◌, ◌≤◌, take, true, IfSome};
 ghost use Rattle.reference.specs.declared.event.EventKind.TheVariants.{Accessed};
-ghost use Rattle.trace.specs.Tails.{fetch_done, tail};
+ghost use Rattle.trace.specs.Tails.{fetch_done, fetch_end};
 
 use crate::page::Page;
 use reference::access::{Access, DecidedAccess, Kind, Rule, Size};
 use reference::event::{Event, EventKind};
 
 /// The most bytes of text that are kept. A longer text isn't kept.
-pub(crate) const TAIL_BYTES: usize = 24;
+pub(crate) const END_BYTES: usize = 16;
 
-/// A fetch that a rule granted and that was done, and the text of its line but for the tick.
+/// A fetch that a rule granted and that was done, and the text of its line after the address.
 #[derive(Clone, Copy)]
 pub struct KeptFetch {
+    /// The text, in the first `length` bytes.
+    pub(crate) text: [u8; END_BYTES],
+    pub(crate) length: usize,
     pub address: u32,
     pub privileged: bool,
     pub rule: Rule,
-    /// The text, in the first `length` bytes.
-    pub(crate) text: [u8; TAIL_BYTES],
-    pub(crate) length: usize,
-    ghost right: { take length text ≡ tail (Accessed (fetch_done address privileged rule)) },
-    ghost short: { length ≤ 24 },
+    ghost right: { take length text ≡ fetch_end privileged rule },
+    ghost short: { length ≤ 16 },
 }
 
 impl KeptFetch {
     /// Returns a fetch from an address, by code of that privilege, that was granted by a rule and done; None
-    /// where its text is longer than 24 bytes.
+    /// where its text after the address is longer than 16 bytes.
     pub fn new(address: u32, privileged: bool, rule: Rule) -> Option<KeptFetch>
         ensures address { IfSome result (λ fetch. fetch.address ≡ address) }
         ensures privileged { IfSome result (λ fetch. fetch.privileged ≡ privileged) }
         ensures rule { IfSome result (λ fetch. fetch.rule ≡ rule) }
     {
         let mut line = Page::<64>::new();
-        line.put_access(&fetch_done(address, privileged, rule));
+        line.put_fetch_end(privileged, rule);
         let text = line.as_slice();
-        if text.len() > TAIL_BYTES {
+        if text.len() > END_BYTES {
             return None;
         }
-        let mut bytes = [0; TAIL_BYTES];
+        let mut bytes = [0; END_BYTES];
         bytes[..text.len()].copy_from_slice(text);
         Some(KeptFetch {
             text: bytes,
@@ -47,6 +47,22 @@ impl KeptFetch {
             privileged,
             rule,
         })
+    }
+
+    /// Returns the same fetch from another address.
+    #[inline(always)]
+    pub fn moved_to(&self, address: u32) -> KeptFetch
+        ensures address { result.address ≡ address }
+        ensures privileged { result.privileged ≡ self.now.privileged }
+        ensures rule { result.rule ≡ self.now.rule }
+    {
+        KeptFetch {
+            text: self.text,
+            length: self.length,
+            address,
+            privileged: self.privileged,
+            rule: self.rule,
+        }
     }
 
     /// Returns whether this is a fetch from an address, by code of that privilege.

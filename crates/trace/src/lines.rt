@@ -4,7 +4,7 @@ ghost use Rattle.std.specs.Prelude.{◌≡◌, ◌+◌, ◌≤◌, ◌++◌, len
 ghost use Rattle.reference.specs.declared.event.EventKind.TheVariants.{Accessed, ConsoleByte, ReturnBegan, HandlerEntered, FaultRecorded};
 ghost use Rattle.reference.specs.Text.{line, stop_line as line_of_stop, stop_text, outcome_text, rule_text, line_feed};
 ghost use Rattle.trace.specs.Fetches.{access_of};
-ghost use Rattle.trace.specs.Tails.{access_head, tail};
+ghost use Rattle.trace.specs.Tails.{access_head, fetch_end, fetch_head, tail};
 
 use crate::fetches::KeptFetch;
 use crate::hex;
@@ -77,14 +77,29 @@ impl<const ROOM: usize> Page<ROOM> {
         self.put_kept(fetch);
     }
 
-    /// Appends the line of a fetch whose text is kept, but for its tick.
+    /// Appends the line of a fetch, of which the text after the address is kept, but for its tick.
     #[inline(always)]
+    #[tactic(auto, using(crate::proofs::Parts::fetch_head_and_end))]
     fn put_kept(&mut self, fetch: &KeptFetch)
         requires { length self.old + TAIL_ROOM ≤ ROOM }
         ensures text { self.new ≡ self.old ++ tail (Accessed (access_of fetch.now)) }
         ensures short { length self.new ≤ length self.old + TAIL_ROOM }
     {
+        self.put(&fetch_head_of(fetch.address));
         self.put_some(&fetch.text, fetch.length);
+    }
+
+    /// Appends the text of a fetch that a rule granted and that was done, after the address.
+    #[tactic(auto, unfolding(crate::specs::Tails::fetch_end))]
+    pub(crate) fn put_fetch_end(&mut self, privileged: bool, rule: Rule)
+        requires { length self.old + TAIL_ROOM ≤ ROOM }
+        ensures text { self.new ≡ self.old ++ fetch_end privileged rule }
+        ensures short { length self.new ≤ length self.old + TAIL_ROOM }
+    {
+        let size = size_digit(Size::Halfword);
+        let privilege = privilege_letter(privileged);
+        self.put(&[b' ', size, b' ', privilege, b' ', b'o', b'k', b' ']);
+        self.put_rule(rule);
     }
 
     /// Appends the line of a stop.
@@ -300,6 +315,19 @@ impl<const ROOM: usize> Page<ROOM> {
         self.put(&hex::word(fault.hfsr));
         self.put(b"\n");
     }
+}
+
+/// Returns the line of a fetch from the space after the tick to the address.
+#[inline(always)]
+#[tactic(auto, unfolding(crate::specs::Tails::fetch_head))]
+fn fetch_head_of(address: u32) -> [u8; 11]
+    ensures { result ≡ fetch_head address }
+{
+    let kind = kind_letter(Kind::Fetch);
+    let a = hex::word(address);
+    [
+        b' ', kind, b' ', a[0], a[1], a[2], a[3], a[4], a[5], a[6], a[7],
+    ]
 }
 
 /// Returns the fixed-length part of the line of an access that was done: from the space after the

@@ -138,7 +138,7 @@ fn lengths() -> Result<(), Fail> {
 
 #[test]
 fn lines_are_read_again(rt: HostRuntime) -> Result<(), Fail> {
-    let mut lines = Reread::fresh(rt.alloc()).ok().ok_or("no memory")?;
+    let mut lines = Reread::fresh(rt.alloc(), 0x800).ok().ok_or("no memory")?;
     lines.wrote(0x100, 4);
     let decoded = lines.fetch(0x100, 0xDE00, 0);
     assert!(rt; matches!(decoded, Decoded::Undefined), "UDF");
@@ -158,7 +158,7 @@ fn constant_of(decoded: &Decoded) -> Option<u32> {
 
 #[test]
 fn a_line_is_kept_until_it_is_written(rt: HostRuntime) -> Result<(), Fail> {
-    let mut lines = Lines::fresh(rt.alloc()).ok().ok_or("no memory")?;
+    let mut lines = Lines::fresh(rt.alloc(), 0x800).ok().ok_or("no memory")?;
     assert!(rt;
         constant_of(&lines.fetch(0x100, 0x2005, 0)) == Some(5),
         "MOVS R0, #5"

@@ -51,7 +51,7 @@ S word E000ED98 00000008 p | - stop | a region number that isn't there";
 #[test]
 fn each_access_is_decided_in_the_state_before_it(rt: HostRuntime) -> Result<(), Fail> {
     let space = blank(rt.alloc()).ok_or("memory")?;
-    let memory = CodeMemory::new(rt.alloc(), space)?;
+    let memory = CodeMemory::new(rt.alloc(), space, 0x800)?;
     let bus = Bus::new(memory, System::reset(0, 8, 4, 8, Vec::new(rt.alloc())));
     let mut accesses = Accesses { bus };
     check(ACCESSES, &mut accesses)?;
