@@ -30,5 +30,6 @@ pub use reference::stop::Stop;
 pub use task::end_of_task;
 pub use task_laws::{StepKind, TaskEnd};
 pub use trace::lines::{Text, event_line, stop_line};
+pub use trace::selection::TraceSelection;
 pub use trace::sink::Events;
 pub use whole::{Fast, Machine, RunFault, Slow};

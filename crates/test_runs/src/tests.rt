@@ -13,6 +13,7 @@ mod machines;
 mod pairs;
 mod places;
 mod run;
+mod selections;
 mod sessions;
 mod special;
 mod starts;
