@@ -107,10 +107,6 @@ pub all_made : (limit n : ℕ) (s core : State) → n ≤ limit → core ≡ aft
 all_made limit n s core few now ends =
     let ends' : (n ≡ limit) ⊎ IsSome (after n s).stop = rw (← now) ends in now ∙ sym (over n limit s few ends').0
 
--- a page that was cleared holds just what was put on it
-pub alone : (text page cleared line : List ℕ) → text ≡ page → page ≡ cleared ++ line → cleared ≡ [] → text ≡ line
-alone text page cleared line t p e = t ∙ rw e at p
-
 -- the state behind one step more
 pub after_on : (n : ℕ) (s core : State) → core ≡ after n s → (step core).state ≡ after (n + 1) s
 after_on n s core now = rw (now, after_more n s) refl

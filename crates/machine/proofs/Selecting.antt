@@ -160,5 +160,5 @@ pub fails_all : (n : ℕ) (old new : Whole) (put put' : Option (List ℕ)) (faul
     → IfErr result (Fails n old new put put' faults faults')
 fails_all n old new put put' faults faults' (Ok stop) fails = fails
 fails_all n old new put put' faults faults' (Err (Write steps)) fails =
-    (leaves_all n old.state steps put put' new.state fails.0, fails.1)
+    (leaves_all n old.state steps put put' new.state fails.0, fails.1, fails.2)
 fails_all n old new put put' faults faults' (Err Broken) fails = fails

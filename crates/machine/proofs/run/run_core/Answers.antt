@@ -43,7 +43,7 @@ pub returns-in-Ok-put_all-clause-written : goal.returns-in-Ok-put_all-clause-wri
 returns-in-Ok-put_all-clause-written g c =
     let ends : (c.steps.made ≡ c.args.limit) ⊎ IsSome c.steps.core.stop =
     elim c.steps-test.branch [ else-steps-test w ↦ inl (omega arith) | then-steps-test+then-is_some w ↦ inr cc ] in
-    let text = c.as_slice.ensures ∙ c.end_of_run.ensures in
+    let text = c.as_slice.ensures ∙ c.end_of_run-page.ensures in
     all_shown g.V.View.SELECTION _ _ _ _ _ _ _ _ _ c.steps.invariant.few c.steps.invariant.core
     c.steps.invariant.shown c.steps.invariant.printed (cc) (rw text at c.in-Ok-put_all.ensures.0) ends
 
@@ -63,7 +63,7 @@ pub returns-in-Err-put_all-clause-cut : goal.returns-in-Err-put_all-clause-cut
 returns-in-Err-put_all-clause-cut g c =
     let ends : (c.steps.made ≡ c.args.limit) ⊎ IsSome c.steps.core.stop =
     elim c.steps-test.branch [ else-steps-test w ↦ inl (omega arith) | then-steps-test+then-is_some w ↦ inr cc ] in
-    let text = c.as_slice.ensures ∙ c.end_of_run.ensures in
+    let text = c.as_slice.ensures ∙ c.end_of_run-page.ensures in
     cut_in_end g.V.View.SELECTION _ _ _ _ _ _ _ _ _ c.steps.invariant.few c.steps.invariant.made
     c.steps.invariant.core c.steps.invariant.shown c.steps.invariant.printed (cc)
     (rw text at c.in-Err-put_all.ensures.0) ends
