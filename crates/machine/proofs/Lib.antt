@@ -4,4 +4,5 @@ mod Foreseen
 mod Loading
 pub mod Running
 mod Room
+pub mod Selecting
 mod Tasking

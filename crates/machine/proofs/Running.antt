@@ -101,53 +101,11 @@ cut_after old mid new before text went cut = record {
   went = Appends-trans old mid new before cut.front went cut.went;
 }
 
--- a step's lines were cut short
-pub cut_in_step : (old mid new : Option (List ℕ)) (limit n : ℕ) (s core last : State) (shown : List Event) → n < limit
-    → ((k : ℕ) → k < n + 1 → (after k s).stop ≡ None) → last ≡ after (n + 1) s → Appends old mid (lines (events_of n s))
-    → IsCutShort mid new (lines shown) → shown ≡ (step core).events → core ≡ after n s
-    → Leaves limit s (n + 1) old new last
-cut_in_step old mid new limit n s core last shown few made state told cut same now =
-    let back : n + 1 - 1 ≡ n = omega arith in
-    let whole : IsCutAfter old new (lines (events_of n s)) (lines (step (after n s)).events) =
-    rw (← now, ← same) (cut_after old mid new (lines (events_of n s)) (lines shown) told cut) in
-    record {
-      few = omega arith;
-      made = made;
-      state = state;
-      cut = inl (omega arith, rw back whole);
-    }
-
--- the line of the stop was cut short
-pub cut_in_stop : (old mid new : Option (List ℕ)) (limit n : ℕ) (s core : State) (shown : Stop) → n ≤ limit
-    → ((k : ℕ) → k < n → (after k s).stop ≡ None) → core ≡ after n s → Appends old mid (lines (events_of n s))
-    → IsCutShort mid new (stop_line shown) → shown ≡ unwrap_or core.stop StepLimit → (n ≡ limit) ⊎ IsSome core.stop
-    → Leaves limit s n old new core
-cut_in_stop old mid new limit n s core shown few made now told cut same ends =
-    let ends' : (n ≡ limit) ⊎ IsSome (after n s).stop = rw (← now) ends in
-    let done = over n limit s few ends' in
-    let whole : IsCutAfter old new (lines (events_of limit s)) (stop_line (ending_of limit s)) =
-    rw (done.1, done.0, ← now, ← same) (cut_after old mid new (lines (events_of n s)) (stop_line shown) told cut) in
-    record { few = few; made = made; state = now; cut = inr (ends', whole) }
-
--- the whole trace went out
-pub all_told : (old mid new : Option (List ℕ)) (limit n : ℕ) (s core : State) (shown : Stop) → n ≤ limit
-    → core ≡ after n s → Appends old mid (lines (events_of n s)) → Appends mid new (stop_line shown)
-    → shown ≡ unwrap_or core.stop StepLimit → (n ≡ limit) ⊎ IsSome core.stop → Appends old new (trace limit s)
-unfolding trace
-all_told old mid new limit n s core shown few now told more same ends =
-    let ends' : (n ≡ limit) ⊎ IsSome (after n s).stop = rw (← now) ends in
-    let done = over n limit s few ends' in
-    rw (done.1, done.0, ← now, ← same) (Appends-trans old mid new (lines (events_of n s)) (stop_line shown) told more)
-
 -- the machine stands behind all steps
 pub all_made : (limit n : ℕ) (s core : State) → n ≤ limit → core ≡ after n s → (n ≡ limit) ⊎ IsSome core.stop
     → core ≡ after limit s
 all_made limit n s core few now ends =
     let ends' : (n ≡ limit) ⊎ IsSome (after n s).stop = rw (← now) ends in now ∙ sym (over n limit s few ends').0
-
--- a page that was cleared holds just what was put on it
-pub alone : (text page cleared line : List ℕ) → text ≡ page → page ≡ cleared ++ line → cleared ≡ [] → text ≡ line
-alone text page cleared line t p e = t ∙ rw e at p
 
 -- the state behind one step more
 pub after_on : (n : ℕ) (s core : State) → core ≡ after n s → (step core).state ≡ after (n + 1) s
@@ -159,11 +117,11 @@ pub ends_so : (limit : ℕ) (s core : State) (shown : Stop) → shown ≡ unwrap
 ends_so limit s core shown same now = rw (← now) same
 
 -- the events of a run begin with those of its first steps
-record Continues (m k : ℕ) (s : State) : Type 0 where
-  others : List Event
-  whole : events_of (m + k) s ≡ events_of m s ++ others
+pub record Continues (m k : ℕ) (s : State) : Type 0 where
+  pub others : List Event
+  pub whole : events_of (m + k) s ≡ events_of m s ++ others
 
-continues : (m k : ℕ) (s : State) → Continues m k s
+pub continues : (m k : ℕ) (s : State) → Continues m k s
 continues m zero s = record { others = []; whole = rw (add-zero, append-nil) refl }
 continues m (suc k) s =
     let before = continues m k s in
@@ -184,7 +142,7 @@ lines_continue m n s few =
     (all.others, rw (whole, lines-append (events_of (m + 1) s) all.others, told_more m s, append_assoc) refl)
 
 -- what went out before a text that was cut short is a prefix of what begins so
-prefix_of : (old new : Option (List ℕ)) (before text behind all : List ℕ) → IsCutAfter old new before text
+pub prefix_of : (old new : Option (List ℕ)) (before text behind all : List ℕ) → IsCutAfter old new before text
     → all ≡ before ++ text ++ behind → GrowsByPrefix old new all
 prefix_of old new before text behind all cut e = record {
   front = before ++ cut.front;

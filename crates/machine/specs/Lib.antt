@@ -1,6 +1,8 @@
 pub use Rattle.task_laws.specs.Foresight
+pub use Rattle.trace.specs.Selection
 pub mod Room
 pub mod Runs
+pub mod Selected
 pub mod Starts
 pub mod Tasks
 pub mod Values

@@ -31,5 +31,6 @@ pub use reference::system::StatusRegister;
 pub use task::end_of_task;
 pub use task_laws::{StepKind, TaskEnd};
 pub use trace::lines::{Text, event_line, stop_line};
+pub use trace::selection::TraceSelection;
 pub use trace::sink::Events;
 pub use whole::{Fast, Machine, RunFault, Slow};

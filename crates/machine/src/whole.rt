@@ -3,6 +3,7 @@
 ghost use Rattle.std.specs.Prelude.{◌≡◌, length, ◌↔◌, ◌≤◌, false, true, Ok, Err, IfOk, IfErr, OnOk};
 ghost use Rattle.board.specs.Seen.{described};
 ghost use Rattle.machine.specs.Runs.{Fails};
+ghost use Rattle.machine.specs.Selected.{SelectedFails};
 ghost use Rattle.machine.specs.Starts.{Starts, Places};
 ghost use Rattle.machine.specs.Tasks.{CountsFaults, TaskEnds, TaskFails};
 ghost use Rattle.reference.specs.Memory.{byte_at};
@@ -19,6 +20,7 @@ ghost use Rattle.reference.specs.Text.{lines};
 ghost use Rattle.std.specs.Io.KnownBytes.{Appends};
 ghost use Rattle.task_laws.specs.Foresight.{next_kind_of};
 ghost use Rattle.task_laws.specs.Tasks.{is_task};
+ghost use Rattle.trace.specs.Selection.{selected_trace};
 
 use crate::readers::RegValues;
 use crate::run::{run_core, write_step};
@@ -32,7 +34,9 @@ use board::Board;
 use code_lines::BoardLines;
 use decode::Reread;
 use elf::Image;
-use output::{IoFault, LineRoom, Out};
+use output::{
+    AllEvents, ConsoleBytes, ExceptionEvents, IoFault, LineRoom, NoEvents, Out, RefusedEvents, View,
+};
 use reference::access::{Decision, Kind};
 use reference::event::MOST_EVENTS;
 use reference::fault::{PlaceFault, StartFault};
@@ -42,6 +46,7 @@ use reference::system::StatusRegister;
 use std::alloc::Global;
 use std::marker::Model;
 use task_laws::{StepKind, TaskEnd};
+use trace::selection::TraceSelection;
 use trace::sink::Events;
 
 /// Why a run failed.
@@ -126,10 +131,50 @@ impl<D: Decider, C: CodeLines, L: Levels, U: DueTicks> Machine<D, C, L, U> {
         ensures fault { IfErr result (Fails limit self.old self.new (W.written out.old) (W.written out.new) (W.faults out.old) (W.faults out.new)) }
         ensures broken { (result ≡ Err RunFault.Broken) ↔ (self.old.broken ≡ true) }
     {
+        self.run_view::<AllEvents, W>(limit, out)
+    }
+
+    /// Makes at most `limit` steps, up to the first stop, and writes those of their events that are selected, and
+    /// then the line of the stop. For `All` that is the trace that `run` writes.
+    pub fn run_selected<W: Out>(
+        &mut self,
+        selection: TraceSelection,
+        limit: u64,
+        out: &mut W,
+    ) -> Result<Stop, RunFault>
+        // The selected text of the reference machine's run went out, and the machine is in its state.
+        ensures written { OnOk result (Appends (W.written out.old) (W.written out.new) (selected_trace selection limit self.old.state)) }
+        ensures state { OnOk result (self.new ≡ record self.old { state = after limit self.old.state }) }
+        ensures stop { IfOk result (λ stop. stop ≡ ending_of limit self.old.state) }
+        ensures quiet { OnOk result (W.faults out.new ≡ W.faults out.old) }
+
+        // Otherwise the writer failed in this run, or in an earlier one.
+        ensures fault { IfErr result (SelectedFails selection limit self.old self.new (W.written out.old) (W.written out.new) (W.faults out.old) (W.faults out.new)) }
+        ensures broken { (result ≡ Err RunFault.Broken) ↔ (self.old.broken ≡ true) }
+    {
+        match selection {
+            TraceSelection::All => self.run_view::<AllEvents, W>(limit, out),
+            TraceSelection::Refused => self.run_view::<RefusedEvents, W>(limit, out),
+            TraceSelection::Exceptions => self.run_view::<ExceptionEvents, W>(limit, out),
+            TraceSelection::Console => self.run_view::<ConsoleBytes, W>(limit, out),
+            TraceSelection::Nothing => self.run_view::<NoEvents, W>(limit, out),
+        }
+    }
+
+    /// Makes at most `limit` steps, up to the first stop, and writes those of their events that the view has, and
+    /// then the line of the stop.
+    fn run_view<V: View, W: Out>(&mut self, limit: u64, out: &mut W) -> Result<Stop, RunFault>
+        ensures written { OnOk result (Appends (W.written out.old) (W.written out.new) (selected_trace V.SELECTION limit self.old.state)) }
+        ensures state { OnOk result (self.new ≡ record self.old { state = after limit self.old.state }) }
+        ensures stop { IfOk result (λ stop. stop ≡ ending_of limit self.old.state) }
+        ensures quiet { OnOk result (W.faults out.new ≡ W.faults out.old) }
+        ensures fault { IfErr result (SelectedFails V.SELECTION limit self.old self.new (W.written out.old) (W.written out.new) (W.faults out.old) (W.faults out.new)) }
+        ensures broken { (result ≡ Err RunFault.Broken) ↔ (self.old.broken ≡ true) }
+    {
         if self.broken {
             return Err(RunFault::Broken);
         }
-        match run_core(&mut self.core, limit, out) {
+        match run_core::<V, D, C, L, U, W>(&mut self.core, limit, out) {
             Ok(stop) => Ok(stop),
             Err(steps) => {
                 self.broken = true;

@@ -1,26 +1,22 @@
--- The lines of a step's events, put one by one.
+-- The text of a step's selected events, put event by event.
 use Rattle.std.proofs.Common.{◌≡◌, ℕ, ◌+◌, ◌-◌, ◌<◌, Bool, true, false, List, [], ◌∷◌, ◌++◌, length, take, drop, Option}
 use Rattle.std.proofs.Common.{Some, None, refl, sym, ap, ◌∙◌, append_assoc, length-append}
 use Rattle.std.proofs.Common.{length-drop, take_all, arith}
 use Rattle.std.proofs.KnownBytes.{Appends-nil, Appends-trans}
 use Rattle.std.proofs.Math.Logic.{∥∥₁_elim, ∥∥₁_map}
 use Rattle.std.proofs.Props.{props}
-use Rattle.std.proofs.lemmas.List.{append-nil, map-append, take-append-drop, take-append-le}
+use Rattle.std.proofs.lemmas.List.{map-append, take-append-drop, take-append-le}
 use Rattle.std.specs.Io.KnownBytes.{Appends}
 use Rattle.output.specs.Emitting.{PutsUnless, WritesSoFar, emission}
 use Rattle.output.specs.Output.{IsCutShort}
 use Rattle.reference.specs.declared.event.Event.{Event}
-use Rattle.reference.specs.Text.{line, lines}
+use Rattle.trace.proofs.Selecting.{selected-append, selected-nil}
+use Rattle.trace.specs.declared.selection.TraceSelection.{TraceSelection}
 use Rattle.trace.specs.Emission.{Emission}
-
--- the lines of one event more
-lines_more : (events : List Event) (e : Event) → lines (events ++ e ∷ []) ≡ lines events ++ line e
-unfolding lines
-lines_more [] e = append-nil (line e)
-lines_more (event ∷ events) e = rw (lines_more events e, append_assoc) refl
+use Rattle.trace.specs.Selection.{last_printed, selected_text}
 
 -- one event more
-one_more : {O : Type 0} (written : O → Option (List ℕ)) (faults : O → ℕ) (name : ℕ) (old new : O)
+pub one_more : {O : Type 0} (written : O → Option (List ℕ)) (faults : O → ℕ) (name : ℕ) (old new : O)
     (items : List (O × Event)) (e : Event)
     → emission written faults name new (items ++ (old, e) ∷ [])
     ≡ record (emission written faults name old items) {
@@ -58,31 +54,31 @@ cut_behind old mid new text more went cut = record {
   went = Appends-trans old mid new text cut.front went cut.went;
 }
 
--- the line of one event more
-line_more : (e : Emission) (event : Event) (mid new : Option (List ℕ)) (before now : ℕ) (failed after : Bool)
-    → WritesSoFar e mid before failed → PutsUnless failed mid new before now (line event) after
-    → WritesSoFar (record e { events = e.events ++ event ∷ [] }) new now after
-line_more e event mid new before now true true so_far put =
+-- the text of one event more
+text_more : (selection : TraceSelection) (e : Emission) (event : Event) (mid new : Option (List ℕ)) (before now : ℕ)
+    (failed after : Bool) → WritesSoFar selection e mid before failed
+    → PutsUnless failed mid new before now (selected_text selection (event ∷ [])) after
+    → WritesSoFar selection (record e { events = e.events ++ event ∷ [] }) new now after
+text_more selection e event mid new before now true true so_far put =
     rw (put.0, put.1) (
-      rw (lines_more e.events event) (cut_before e.written mid (lines e.events) (line event) so_far.0),
+      rw (selected-append selection e.events (event ∷ [])) (cut_before e.written mid _ _ so_far.0),
       so_far.1,
     )
-line_more e event mid new before now true false so_far put = absurd put
-line_more e event mid new before now false false so_far put = (
-  rw (lines_more e.events event) (Appends-trans e.written mid new (lines e.events) (line event) so_far.0 put.0),
+text_more selection e event mid new before now true false so_far put = absurd put
+text_more selection e event mid new before now false false so_far put = (
+  rw (selected-append selection e.events (event ∷ [])) (Appends-trans e.written mid new _ _ so_far.0 put.0),
   put.1 ∙ so_far.1,
 )
-line_more e event mid new before now false true so_far put = (
-  rw (lines_more e.events event) (cut_behind e.written mid new (lines e.events) (line event) so_far.0 put.0),
+text_more selection e event mid new before now false true so_far put = (
+  rw (selected-append selection e.events (event ∷ [])) (cut_behind e.written mid new _ _ so_far.0 put.0),
   put.1
       ∙ ap (λ (n : ℕ). n + 1) so_far.1,
 )
 
 -- before the first event
-pub none_yet : {O : Type 0} (written : O → Option (List ℕ)) (faults : O → ℕ) (name : ℕ) (now : O)
-    → WritesSoFar (emission written faults name now []) (written now) (faults now) false
-unfolding lines
-none_yet written faults name now = (Appends-nil (written now), refl)
+pub none_yet : {O : Type 0} (selection : TraceSelection) (written : O → Option (List ℕ)) (faults : O → ℕ) (name : ℕ)
+    (now : O) → WritesSoFar selection (emission written faults name now []) (written now) (faults now) false
+none_yet selection written faults name now = (rw (selected-nil selection) (Appends-nil (written now)), refl)
 
 -- What a struct keeps of such facts is only that they hold. What was put can be found again: it is what the known bytes
 -- have grown by.
@@ -137,25 +133,39 @@ cut_found (Some xs) (Some ys) text cut =
     cut_at xs ys text (drop (length ys - length xs) text) (length ys - length xs)
     (∥∥₁_elim cut (search props) (grew_by xs ys text)) refl (∥∥₁_elim cut (search props) (is_left xs ys text))
 
-pub found : (e : Emission) (now : Option (List ℕ)) (faults : ℕ) (failed : Bool) → ∥ WritesSoFar e now faults failed ∥₁
-    → WritesSoFar e now faults failed
-found e now faults false so_far =
-    (went_found e.written now (lines e.events) (∥∥₁_map so_far (λ w. w.0)), ∥∥₁_elim so_far (search props) (λ w. w.1))
-found e now faults true so_far =
-    (cut_found e.written now (lines e.events) (∥∥₁_map so_far (λ w. w.0)), ∥∥₁_elim so_far (search props) (λ w. w.1))
+pub found : (selection : TraceSelection) (e : Emission) (now : Option (List ℕ)) (faults : ℕ) (failed : Bool)
+    → ∥ WritesSoFar selection e now faults failed ∥₁ → WritesSoFar selection e now faults failed
+found selection e now faults false so_far = (
+  went_found e.written now (selected_text selection e.events) (∥∥₁_map so_far (λ w. w.0)),
+  ∥∥₁_elim so_far (search props) (λ w. w.1),
+)
+found selection e now faults true so_far = (
+  cut_found e.written now (selected_text selection e.events) (∥∥₁_map so_far (λ w. w.0)),
+  ∥∥₁_elim so_far (search props) (λ w. w.1),
+)
 
 -- what a sink has put so far
-abbrev Puts : {O : Type 0} → (O → Option (List ℕ)) → (O → ℕ) → ℕ → O → List (O × Event) → Bool → Type 0
-Puts written faults name now items failed =
-    ∥ WritesSoFar (emission written faults name now items) (written now) (faults now) failed ∥₁
+abbrev Puts : {O : Type 0} → TraceSelection → (O → Option (List ℕ)) → (O → ℕ) → ℕ → O → List (O × Event) → Bool
+    → Type 0
+Puts selection written faults name now items failed =
+    ∥ WritesSoFar selection (emission written faults name now items) (written now) (faults now) failed ∥₁
 
--- one event more, whose line was put unless an earlier one failed
-pub one_line_more : {O : Type 0} (written : O → Option (List ℕ)) (faults : O → ℕ) (name : ℕ) (old new : O)
-    (items later : List (O × Event)) (e : Event) (failed after : Bool) → later ≡ items ++ (old, e) ∷ []
-    → Puts written faults name old items failed
-    → PutsUnless failed (written old) (written new) (faults old) (faults new) (line e) after
-    → Puts written faults name new later after
-one_line_more written faults name old new items later e failed after is so_far put =
+-- one event more, whose text was put unless an earlier one failed
+pub one_text_more : {O : Type 0} (selection : TraceSelection) (written : O → Option (List ℕ)) (faults : O → ℕ)
+    (name : ℕ) (old new : O) (items later : List (O × Event)) (e : Event) (failed after : Bool)
+    → later ≡ items ++ (old, e) ∷ [] → Puts selection written faults name old items failed
+    → PutsUnless failed (written old) (written new) (faults old) (faults new) (selected_text selection (e ∷ [])) after
+    → Puts selection written faults name new later after
+one_text_more selection written faults name old new items later e failed after is so_far put =
     rw (is, one_more written faults name old new items e)
     (let before = emission written faults name old items in
-    ∣ line_more before e _ _ _ _ _ _ (found before _ _ _ so_far) put ∣₁)
+    ∣ text_more selection before e _ _ _ _ _ _ (found selection before _ _ _ so_far) put ∣₁)
+
+-- the last byte that was printed, after one event more
+pub one_byte_more : {O : Type 0} (selection : TraceSelection) (written : O → Option (List ℕ)) (faults : O → ℕ)
+    (name : ℕ) (old new : O) (items later : List (O × Event)) (e : Event) (last : Option ℕ)
+    → later ≡ items ++ (old, e) ∷ []
+    → last ≡ last_printed selection ((emission written faults name old items).events ++ e ∷ [])
+    → last ≡ last_printed selection (emission written faults name new later).events
+one_byte_more selection written faults name old new items later e last is ends =
+    rw (is, one_more written faults name old new items e) ends

@@ -52,3 +52,7 @@ some_line e = simp length-append (omega arith)
 -- none of a line was taken
 pub no_line_taken : (old new : Option (List ℕ)) (e : Event) → Keeps old new → IsCutShort old new (line e)
 no_line_taken old new e kept = some_bytes old new (line e) (some_line e) kept
+
+-- a byte was not taken
+pub no_byte_taken : (old new : Option (List ℕ)) (byte : ℕ) → Keeps old new → IsCutShort old new (byte ∷ [])
+no_byte_taken old new byte kept = some_bytes old new (byte ∷ []) (omega arith) kept

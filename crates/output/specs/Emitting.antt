@@ -1,10 +1,11 @@
--- What a contract sees of a writer to which the lines of a step's events go one by one.
+-- What a contract sees of a writer to which the text of a step's events goes, event by event.
 use Rattle.std.specs.Prelude.{◌≡◌, ℕ, ◌+◌, Bool, true, false, List, [], ◌∷◌, Option, Result, map}
 use Rattle.std.specs.Io.KnownBytes.{Appends}
 use Rattle.output.specs.Output.{IsCutShort, Put}
 use Rattle.reference.specs.declared.event.Event.{Event}
-use Rattle.reference.specs.Text.{lines}
+use Rattle.trace.specs.declared.selection.TraceSelection.{TraceSelection}
 use Rattle.trace.specs.Emission.{Emission}
+use Rattle.trace.specs.Selection.{selected_text}
 
 -- from pairs of an event and the writer before it: the writer before the first event, and the events
 abbrev pub emission : {O : Type 0} → (O → Option (List ℕ)) → (O → ℕ) → ℕ → O → List (O × Event) → Emission
@@ -23,16 +24,18 @@ BeforeStep written faults name now items =
     emission written faults name now items
     ≡ record { writer = name; written = written now; faults = faults now; events = [] }
 
--- the lines of the events so far: they went out and no call failed, or a prefix of them did and one call failed
-abbrev pub WritesSoFar : Emission → Option (List ℕ) → ℕ → Bool → Type 0
-WritesSoFar e now faults false = Appends e.written now (lines e.events) × (faults ≡ e.faults)
-WritesSoFar e now faults true = IsCutShort e.written now (lines e.events) × (faults ≡ e.faults + 1)
+-- the text of the selected events so far: it went out and no call failed, or a prefix of it did and one call failed
+abbrev pub WritesSoFar : TraceSelection → Emission → Option (List ℕ) → ℕ → Bool → Type 0
+WritesSoFar selection e now faults false =
+    Appends e.written now (selected_text selection e.events) × (faults ≡ e.faults)
+WritesSoFar selection e now faults true =
+    IsCutShort e.written now (selected_text selection e.events) × (faults ≡ e.faults + 1)
 
--- all lines of a step's events were put
-abbrev pub PutsLines : {E : Type 0} → Emission → Option (List ℕ) → ℕ → Result (Unit {0}) E → Type 0
-PutsLines e now faults result = Put e.written now e.faults faults (lines e.events) result
+-- the text of a step's selected events was put
+abbrev pub PutsText : {E : Type 0} → TraceSelection → Emission → Option (List ℕ) → ℕ → Result (Unit {0}) E → Type 0
+PutsText selection e now faults result = Put e.written now e.faults faults (selected_text selection e.events) result
 
--- a line after others: it isn't begun where one of those failed; otherwise it went out, or it failed and a prefix of it
+-- a text after others: it isn't begun where one of those failed; otherwise it went out, or it failed and a prefix of it
 -- did
 abbrev pub PutsUnless : Bool → Option (List ℕ) → Option (List ℕ) → ℕ → ℕ → List ℕ → Bool → Type 0
 PutsUnless true old new before now text true = (new ≡ old) × (now ≡ before)

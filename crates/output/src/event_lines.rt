@@ -1,33 +1,41 @@
-//! A sink that writes the line of each event at once.
+//! A sink that writes the text of each event at once.
 
-ghost use Rattle.std.specs.Prelude.{◌≡◌, [], Option};
-ghost use Rattle.output.specs.Emitting.{BeforeStep, PutsLines, PutsUnless, WritesSoFar, emission};
+ghost use Rattle.std.specs.Prelude.{◌≡◌, [], ◌∷◌, Option};
+ghost use Rattle.output.specs.Emitting.{BeforeStep, PutsText, PutsUnless, WritesSoFar, emission};
+ghost use Rattle.output.specs.Output.{Put};
 ghost use Rattle.reference.specs.declared.event.EventKind.TheVariants.{Accessed};
-ghost use Rattle.reference.specs.Text.{line};
 ghost use Rattle.trace.specs.Fetches.{access_of};
+ghost use Rattle.trace.specs.Selection.{last_printed, selected_text};
 
 use crate::history::History;
+use crate::view::View;
 use crate::writer::{IoFault, LineRoom, Out};
 use reference::event::Event;
+use std::marker::PhantomData;
 use trace::fetches::KeptFetch;
+use trace::selection::{TraceSelection, byte_of};
 use trace::sink::Sink;
 
-/// Writes the lines of one step's events, each as it comes. After a line that didn't go out whole, no
-/// further one is begun.
+/// Writes the text of one step's events as far as a view has them, of each as it comes. After a text that
+/// didn't go out whole, no further one is begun.
 #[derive(Drop)]
-pub struct EventLines<'a, O: Out> {
+pub struct EventLines<'a, O: Out, V: View> {
     out: &'a mut O,
     room: &'a mut LineRoom,
     failed: bool,
+    // The last byte that these events printed, where the view writes the bytes themselves.
+    last: Option<u8>,
+    view: PhantomData<V>,
     // The writer before each event, and the event.
     history: History<O, Event>,
-    ghost writes: { ∥ WritesSoFar (emission O.written O.faults out.ghost_name out.now history.items) (O.written out.now) (O.faults out.now) failed ∥₁ },
+    ghost writes: { ∥ WritesSoFar V.SELECTION (emission O.written O.faults out.ghost_name out.now history.items) (O.written out.now) (O.faults out.now) failed ∥₁ },
+    ghost ends: { last ≡ last_printed V.SELECTION (emission O.written O.faults out.ghost_name out.now history.items).events },
 }
 
-impl<'a, O: Out> EventLines<'a, O> {
+impl<'a, O: Out, V: View> EventLines<'a, O, V> {
     /// Makes a sink over a writer, before the first event of a step.
     #[inline(always)]
-    pub fn new(out: &'a mut O, room: &'a mut LineRoom) -> EventLines<'a, O>
+    pub fn new(out: &'a mut O, room: &'a mut LineRoom) -> EventLines<'a, O, V>
         ensures same_writer { result.out.ghost_name ≡ out.entry.ghost_name }
         ensures now { result.out.now ≡ out.old }
         ensures empty { BeforeStep O.written O.faults result.out.ghost_name result.out.now result.history.items }
@@ -36,55 +44,116 @@ impl<'a, O: Out> EventLines<'a, O> {
             out,
             room,
             failed: false,
+            last: None,
+            view: PhantomData,
             history: History::new(),
         }
     }
 
-    /// Returns whether the lines of all events went out.
+    /// Returns whether the text of all events went out.
     #[inline(always)]
     pub fn end(&self) -> Result<(), IoFault>
-        ensures { PutsLines (emission O.written O.faults self.now.out.ghost_name self.now.out.now self.now.history.items) (O.written self.now.out.now) (O.faults self.now.out.now) result }
+        ensures { PutsText V.SELECTION (emission O.written O.faults self.now.out.ghost_name self.now.out.now self.now.history.items) (O.written self.now.out.now) (O.faults self.now.out.now) result }
     {
         if self.failed { Err(IoFault) } else { Ok(()) }
     }
+
+    /// Returns the last byte that the events printed, where the view writes the bytes themselves.
+    #[inline(always)]
+    pub fn last(&self) -> Option<u8>
+        ensures { result ≡ last_printed V.SELECTION (emission O.written O.faults self.now.out.ghost_name self.now.out.now self.now.history.items).events }
+    {
+        self.last
+    }
 }
 
-impl<'a, O: Out> Sink for EventLines<'a, O> {
+impl<'a, O: Out, V: View> Sink for EventLines<'a, O, V> {
     ghost emitted = { λ l. emission O.written O.faults l.out.ghost_name l.out.now l.history.items };
 
     #[inline(always)]
     fn emit(&mut self, event: Event) {
         let history = self.history.and(self.out, &event);
-        self.failed = put_unless(self.failed, self.out, self.room, &event);
+        self.failed = put_unless(V::SELECTION, self.failed, self.out, self.room, &event);
+        self.last = V::SELECTION.last_after(self.last, &event);
         self.history = history;
     }
 
     #[inline(always)]
     fn emit_fetch(&mut self, tick: u64, fetch: &KeptFetch) {
-        let history = self.history.and(self.out, &fetch.event(tick));
-        self.failed = put_fetch_unless(self.failed, self.out, self.room, tick, fetch);
+        let event = fetch.event(tick);
+        let history = self.history.and(self.out, &event);
+        self.failed = put_fetch_unless(V::SELECTION, self.failed, self.out, self.room, tick, fetch);
+        self.last = V::SELECTION.last_after(self.last, &event);
         self.history = history;
     }
 }
 
-/// Puts the line of an event, unless an earlier line failed. Returns whether either failed.
+/// Puts the text of an event if it is selected, unless an earlier text failed. Returns whether either failed.
 #[inline(always)]
-fn put_unless<O: Out>(failed: bool, out: &mut O, room: &mut LineRoom, event: &Event) -> bool
-    ensures { PutsUnless failed (O.written out.old) (O.written out.new) (O.faults out.old) (O.faults out.new) (line event.now) result }
+fn put_unless<O: Out>(
+    selection: TraceSelection,
+    failed: bool,
+    out: &mut O,
+    room: &mut LineRoom,
+    event: &Event,
+) -> bool
+    ensures { PutsUnless failed (O.written out.old) (O.written out.new) (O.faults out.old) (O.faults out.new) (selected_text selection (event.now ∷ [])) result }
 {
-    failed || out.put_line(room, event).is_err()
+    failed || put_selected(selection, out, room, event).is_err()
 }
 
-/// Puts the line of a fetch at a tick, unless an earlier line failed. Returns whether either failed.
+/// Puts the text of an event if it is selected.
+#[inline(always)]
+fn put_selected<O: Out>(
+    selection: TraceSelection,
+    out: &mut O,
+    room: &mut LineRoom,
+    event: &Event,
+) -> Result<(), IoFault>
+    ensures { Put (O.written out.old) (O.written out.new) (O.faults out.old) (O.faults out.new) (selected_text selection (event.now ∷ [])) result }
+{
+    if !selection.selects(&event.what) {
+        return Ok(());
+    }
+    if !selection.writes_bytes() {
+        return out.put_line(room, event);
+    }
+    match byte_of(&event.what) {
+        Some(byte) => out.put_byte(byte),
+        None => Ok(()),
+    }
+}
+
+/// Puts the line of a fetch at a tick if it is selected, unless an earlier text failed. Returns whether either
+/// failed.
 #[inline(always)]
 fn put_fetch_unless<O: Out>(
+    selection: TraceSelection,
     failed: bool,
     out: &mut O,
     room: &mut LineRoom,
     tick: u64,
     fetch: &KeptFetch,
 ) -> bool
-    ensures { PutsUnless failed (O.written out.old) (O.written out.new) (O.faults out.old) (O.faults out.new) (line (record { tick = tick; what = Accessed (access_of fetch.now) })) result }
+    ensures { PutsUnless failed (O.written out.old) (O.written out.new) (O.faults out.old) (O.faults out.new) (selected_text selection (record { tick = tick; what = Accessed (access_of fetch.now) } ∷ [])) result }
 {
-    failed || out.put_fetch(room, tick, fetch).is_err()
+    failed || put_selected_fetch(selection, out, room, tick, fetch).is_err()
+}
+
+/// Puts the line of a fetch at a tick if it is selected.
+#[inline(always)]
+fn put_selected_fetch<O: Out>(
+    selection: TraceSelection,
+    out: &mut O,
+    room: &mut LineRoom,
+    tick: u64,
+    fetch: &KeptFetch,
+) -> Result<(), IoFault>
+    ensures { Put (O.written out.old) (O.written out.new) (O.faults out.old) (O.faults out.new) (selected_text selection (record { tick = tick; what = Accessed (access_of fetch.now) } ∷ [])) result }
+{
+    if selection.selects(&fetch.event(tick).what) {
+        out.put_fetch(room, tick, fetch)
+    } else {
+        Ok(())
+    }
 }

@@ -5,8 +5,10 @@
 mod event_lines;
 mod history;
 mod paged;
+mod view;
 mod writer;
 
 pub use event_lines::EventLines;
 pub use paged::Paged;
+pub use view::{AllEvents, ConsoleBytes, ExceptionEvents, NoEvents, RefusedEvents, View};
 pub use writer::{In, IoFault, LinePage, LineRoom, Out, Over};

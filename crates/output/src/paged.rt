@@ -104,6 +104,17 @@ impl<O: Out + Drop> Out for Paged<O> {
     }
 
     #[inline(always)]
+    fn put_byte(&mut self, byte: u8) -> Result<(), IoFault> {
+        match self.make_room() {
+            Ok(()) => {
+                self.page.put(&[byte]);
+                Ok(())
+            }
+            Err(fault) => Err(fault),
+        }
+    }
+
+    #[inline(always)]
     fn put_line(&mut self, room: &mut LineRoom, event: &Event) -> Result<(), IoFault> {
         match self.make_room() {
             Ok(()) => {

@@ -1,6 +1,6 @@
 //! Writers that report what they took, and readers that report what they returned.
 
-ghost use Rattle.std.specs.Prelude.{◌≡◌, ℕ, ◌+◌, ◌<◌, ◌≤◌, List, length, Option};
+ghost use Rattle.std.specs.Prelude.{◌≡◌, ℕ, ◌+◌, ◌<◌, ◌≤◌, List, [], ◌∷◌, length, Option};
 ghost use Rattle.output.specs.Input.{Received};
 ghost use Rattle.output.specs.Output.{Took, Put};
 ghost use Rattle.reference.specs.declared.event.EventKind.TheVariants.{Accessed};
@@ -68,6 +68,13 @@ pub trait Out {
             }
         }
         Ok(())
+    }
+
+    /// Puts a byte.
+    fn put_byte(&mut self, byte: u8) -> Result<(), IoFault>
+        ensures { Put (written self.old) (written self.new) (faults self.old) (faults self.new) (byte ∷ []) result }
+    {
+        self.put_all(&[byte])
     }
 
     /// Puts the line of an event. `room` is room for its text.

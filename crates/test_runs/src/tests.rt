@@ -16,6 +16,7 @@ mod pairs;
 mod places;
 mod run;
 mod segments;
+mod selections;
 mod sessions;
 mod special;
 mod starts;

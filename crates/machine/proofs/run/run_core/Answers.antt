@@ -1,7 +1,7 @@
 use Rattle.std.proofs.Common.{◌≡◌, ◌⊎◌, inl, inr, ◌∙◌, sym, refl, arith, IsSome, is_some, false}
 use Rattle.std.proofs.KnownBytes.{Appends-nil}
-use Rattle.machine.proofs.Running.{none_made, none_told, after_on, told_on, made_on, not_some, cut_in_step, cut_in_stop}
-use Rattle.machine.proofs.Running.{all_told, all_made, ends_so, alone}
+use Rattle.machine.proofs.Running.{none_made, after_on, made_on, not_some, all_made, ends_so}
+use Rattle.machine.proofs.Selecting.{all_shown, cut_in_end, cut_in_step, none_printed, none_shown, printed_on, shown_on}
 use Rattle.machine.proofs.run.run_core.Goals as goal
 use Rattle.machine.proofs.run.run_core.Goals.{else-steps-test, then-steps-test+then-is_some}
 
@@ -10,7 +10,8 @@ steps-init g c = record {
   few = omega arith;
   core = sym (none_made c.args.core.now);
   made = λ k below. absurd (omega arith);
-  told = rw (none_told c.args.core.now) (Appends-nil _);
+  shown = rw (none_shown g.V.View.SELECTION c.args.core.now) (Appends-nil _);
+  printed = none_printed g.V.View.SELECTION c.args.core.now;
   same = refl;
 }
 
@@ -19,27 +20,32 @@ steps-preserved g c =
     let going : is_some c.steps.core.stop ≡ false = cc in
     record {
       few = omega arith;
-      core = c.write_step.ensures.state ∙ after_on _ _ _ c.steps.invariant.core;
+      core = c.write_selected.ensures.state ∙ after_on _ _ _ c.steps.invariant.core;
       made = made_on _ _ _ c.steps.invariant.made c.steps.invariant.core (not_some _ going);
-      told = told_on _ _ _ _ _ _ _ c.steps.invariant.told c.in-Ok.ensures.put.0 refl c.steps.invariant.core;
+      shown =
+          shown_on g.V.View.SELECTION _ _ _ _ _ _ c.steps.invariant.shown c.in-Ok.ensures.put.0
+          c.steps.invariant.core;
+      printed =
+          printed_on g.V.View.SELECTION _ _ _ _ _ c.write_selected.ensures.last c.steps.invariant.printed
+          c.steps.invariant.core;
       same = c.in-Ok.ensures.put.1 ∙ c.steps.invariant.same;
     }
 
 pub returns-in-Err-clause-cut : goal.returns-in-Err-clause-cut
 returns-in-Err-clause-cut g c =
     let going : is_some c.steps.core.stop ≡ false = cc in
-    cut_in_step _ _ _ _ _ _ _ _ _ (omega arith)
+    cut_in_step g.V.View.SELECTION _ _ _ _ _ _ _ _ (omega arith)
     (made_on _ _ _ c.steps.invariant.made c.steps.invariant.core (not_some _ going))
-    (c.write_step.ensures.state ∙ after_on _ _ _ c.steps.invariant.core) c.steps.invariant.told c.in-Err.ensures.put.0
-    refl c.steps.invariant.core
+    (c.write_selected.ensures.state ∙ after_on _ _ _ c.steps.invariant.core) c.steps.invariant.shown
+    c.in-Err.ensures.put.0 c.steps.invariant.core
 
 pub returns-in-Ok-put_all-clause-written : goal.returns-in-Ok-put_all-clause-written
 returns-in-Ok-put_all-clause-written g c =
     let ends : (c.steps.made ≡ c.args.limit) ⊎ IsSome c.steps.core.stop =
     elim c.steps-test.branch [ else-steps-test w ↦ inl (omega arith) | then-steps-test+then-is_some w ↦ inr cc ] in
-    let text = alone _ _ _ _ c.as_slice.ensures c.put_stop.ensures.text c.new-page.ensures in
-    all_told _ _ _ _ _ _ _ _ c.steps.invariant.few c.steps.invariant.core c.steps.invariant.told
-    (rw text at c.in-Ok-put_all.ensures.0) (cc) ends
+    let text = c.as_slice.ensures ∙ c.end_of_run-page.ensures in
+    all_shown g.V.View.SELECTION _ _ _ _ _ _ _ _ _ c.steps.invariant.few c.steps.invariant.core
+    c.steps.invariant.shown c.steps.invariant.printed (cc) (rw text at c.in-Ok-put_all.ensures.0) ends
 
 pub returns-in-Ok-put_all-clause-state : goal.returns-in-Ok-put_all-clause-state
 returns-in-Ok-put_all-clause-state g c =
@@ -57,6 +63,7 @@ pub returns-in-Err-put_all-clause-cut : goal.returns-in-Err-put_all-clause-cut
 returns-in-Err-put_all-clause-cut g c =
     let ends : (c.steps.made ≡ c.args.limit) ⊎ IsSome c.steps.core.stop =
     elim c.steps-test.branch [ else-steps-test w ↦ inl (omega arith) | then-steps-test+then-is_some w ↦ inr cc ] in
-    let text = alone _ _ _ _ c.as_slice.ensures c.put_stop.ensures.text c.new-page.ensures in
-    cut_in_stop _ _ _ _ _ _ _ _ c.steps.invariant.few c.steps.invariant.made c.steps.invariant.core
-    c.steps.invariant.told (rw text at c.in-Err-put_all.ensures.0) (cc) ends
+    let text = c.as_slice.ensures ∙ c.end_of_run-page.ensures in
+    cut_in_end g.V.View.SELECTION _ _ _ _ _ _ _ _ _ c.steps.invariant.few c.steps.invariant.made
+    c.steps.invariant.core c.steps.invariant.shown c.steps.invariant.printed (cc)
+    (rw text at c.in-Err-put_all.ensures.0) ends

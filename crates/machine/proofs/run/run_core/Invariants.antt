@@ -1,7 +1,7 @@
 use Rattle.std.proofs.Common.{◌≡◌, ℕ, ◌-◌, ◌<◌, ◌≤◌, None}
 use Rattle.std.specs.Io.KnownBytes.{Appends}
 use Rattle.reference.specs.Run.{after, events_of}
-use Rattle.reference.specs.Text.{lines}
+use Rattle.trace.specs.Selection.{last_printed, selected_text}
 use Rattle.machine.proofs.run.run_core.Given as goal
 
 abbrev pub invariant-steps : goal.invariant-steps
@@ -9,8 +9,9 @@ invariant-steps g l = record {
   few : l.made ≤ l.limit;
   core : l.core ≡ after l.made l.fn.core;
   made : (k : ℕ) → k < l.made → (after k l.fn.core).stop ≡ None;
-  told : Appends (g.W.Out.written l.fn.out) (g.W.Out.written l.out)
-      (lines (events_of l.made l.fn.core));
+  shown : Appends (g.W.Out.written l.fn.out) (g.W.Out.written l.out)
+      (selected_text g.V.View.SELECTION (events_of l.made l.fn.core));
+  printed : l.last ≡ last_printed g.V.View.SELECTION (events_of l.made l.fn.core);
   same : g.W.Out.faults l.out ≡ g.W.Out.faults l.fn.out;
 }
 

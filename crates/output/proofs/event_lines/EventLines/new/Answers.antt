@@ -1,7 +1,12 @@
 use Rattle.output.proofs.Emitting.{none_yet}
+use Rattle.trace.proofs.Selecting.{last-nil}
 use Rattle.output.proofs.event_lines.EventLines.new.Goals as goal
 
 pub invariant_of-result : goal.invariant_of-result
 invariant_of-result g c = record {
-  writes = rw c.new.ensures (∣ (none_yet g.O.Out.written g.O.Out.faults c.args.out.ghost_name c.args.out.now) ∣₁);
+  writes =
+      rw c.new.ensures (∣
+      (none_yet g.V.View.SELECTION g.O.Out.written g.O.Out.faults c.args.out.ghost_name c.args.out.now)
+      ∣₁);
+  ends = rw c.new.ensures (last-nil g.V.View.SELECTION);
 }

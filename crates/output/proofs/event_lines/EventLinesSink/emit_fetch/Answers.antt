@@ -1,9 +1,19 @@
-use Rattle.output.proofs.Emitting.{one_line_more}
+use Rattle.output.proofs.Emitting.{one_byte_more, one_more, one_text_more}
 use Rattle.output.proofs.event_lines.EventLinesSink.emit_fetch.Goals as goal
 
 pub invariant_of-self : goal.invariant_of-self
 invariant_of-self g c = record {
   writes =
-      one_line_more g.O.Out.written g.O.Out.faults c.args.self.now.out.ghost_name _ _ _ _ _ _ _
-      (rw c.event.ensures at c.and-history.ensures) c.args.self.now.writes c.put_fetch_unless-self.ensures;
+      one_text_more g.V.View.SELECTION g.O.Out.written g.O.Out.faults c.args.self.now.out.ghost_name _ _ _ _ _ _ _
+      (rw c.event-event.ensures at c.and-history.ensures) c.args.self.now.writes
+      (rw c.SELECTION.ensures at c.put_fetch_unless-self.ensures);
+  ends =
+      one_byte_more g.V.View.SELECTION g.O.Out.written g.O.Out.faults c.args.self.now.out.ghost_name _ _ _ _ _ _
+      (rw c.event-event.ensures at c.and-history.ensures)
+      ((rw (c.SELECTION-2.ensures, c.event-event.ensures) at c.last_after-self.ensures) _ c.args.self.now.ends);
 }
+
+pub returns : goal.returns
+returns g c =
+    rw (c.and-history.ensures, c.event-event.ensures) (one_more g.O.Out.written g.O.Out.faults c.args.self.now.out.ghost_name _ _
+    c.args.self.now.history.items _)

@@ -1,0 +1,164 @@
+-- Runs that write a selection of their events: one step more, their end, and a writer that cuts them short.
+use Rattle.std.proofs.Common.{◌≡◌, ◌⊎◌, inl, inr, ℕ, ◌+◌, ◌-◌, ◌<◌, ◌≤◌, List, [], ◌++◌, Option, None, IsSome}
+use Rattle.std.proofs.Common.{refl, append_assoc, arith, unwrap_or, Result, Ok, Err, IfErr}
+use Rattle.std.proofs.lemmas.List.{append-nil}
+use Rattle.std.specs.Io.KnownBytes.{Appends}
+use Rattle.std.proofs.KnownBytes.{Appends-trans}
+use Rattle.machine.proofs.Running.{continues, cut_after, events_more, over, prefix_of}
+use Rattle.machine.specs.declared.whole.RunFault.{RunFault}
+use Rattle.machine.specs.declared.whole.RunFault.TheVariants.{Write, Broken}
+use Rattle.machine.specs.Runs.{Fails, Leaves}
+use Rattle.machine.specs.Selected.{SelectedFails, SelectedLeaves}
+use Rattle.machine.specs.Whole.{Whole}
+use Rattle.output.specs.Gathered.{GrowsByPrefix}
+use Rattle.output.specs.Output.{IsCutAfter, IsCutShort}
+use Rattle.reference.specs.declared.event.Event.{Event}
+use Rattle.reference.specs.declared.stop.Stop.{Stop}
+use Rattle.reference.specs.declared.stop.Stop.TheVariants.{StepLimit}
+use Rattle.reference.specs.Run.{after, events_of, ending_of}
+use Rattle.reference.specs.State.{State}
+use Rattle.reference.specs.Step.{step}
+use Rattle.reference.specs.Text.{stop_line}
+use Rattle.trace.proofs.Selecting.{all_lines, last-nil, selected-append, selected-nil}
+use Rattle.trace.specs.declared.selection.TraceSelection.{TraceSelection}
+use Rattle.trace.specs.declared.selection.TraceSelection.TheVariants as which
+use Rattle.trace.specs.Selection.{last_printed, new_line_after, selected_end, selected_text, selected_trace}
+
+-- before the first step
+pub none_shown : (selection : TraceSelection) (s : State) → selected_text selection (events_of 0 s) ≡ []
+unfolding events_of
+none_shown selection s = selected-nil selection
+
+pub none_printed : (selection : TraceSelection) (s : State) → None ≡ last_printed selection (events_of 0 s)
+unfolding events_of
+none_printed selection s = last-nil selection
+
+-- the text of one step more went out
+shown_more : (selection : TraceSelection) (n : ℕ) (s : State)
+    → selected_text selection (events_of (n + 1) s)
+    ≡ selected_text selection (events_of n s) ++ selected_text selection (step (after n s)).events
+shown_more selection n s = rw (events_more n s)
+    (selected-append selection (events_of n s) (step (after n s)).events)
+
+pub shown_on : (selection : TraceSelection) (old mid new : Option (List ℕ)) (n : ℕ) (s core : State)
+    → Appends old mid (selected_text selection (events_of n s))
+    → Appends mid new (selected_text selection (step core).events) → core ≡ after n s
+    → Appends old new (selected_text selection (events_of (n + 1) s))
+shown_on selection old mid new n s core shown more now =
+    rw (shown_more selection n s, ← now) (Appends-trans old mid new _ _ shown more)
+
+-- the last byte that was printed, after one step more
+pub printed_on : (selection : TraceSelection) (last later : Option ℕ) (n : ℕ) (s core : State)
+    → ((events : List Event) → last ≡ last_printed selection events
+    → later ≡ last_printed selection (events ++ (step core).events))
+    → last ≡ last_printed selection (events_of n s) → core ≡ after n s
+    → later ≡ last_printed selection (events_of (n + 1) s)
+printed_on selection last later n s core more printed now =
+    rw (events_more n s, ← now) (more (events_of n s) printed)
+
+-- a step's text was cut short
+pub cut_in_step : (selection : TraceSelection) (old mid new : Option (List ℕ)) (limit n : ℕ) (s core last : State)
+    → n < limit → ((k : ℕ) → k < n + 1 → (after k s).stop ≡ None) → last ≡ after (n + 1) s
+    → Appends old mid (selected_text selection (events_of n s))
+    → IsCutShort mid new (selected_text selection (step core).events) → core ≡ after n s
+    → SelectedLeaves selection limit s (n + 1) old new last
+cut_in_step selection old mid new limit n s core last few made state shown cut now =
+    let back : n + 1 - 1 ≡ n = omega arith in
+    let whole :
+    IsCutAfter old new (selected_text selection (events_of n s))
+    (selected_text selection (step (after n s)).events) =
+    rw (← now) (cut_after old mid new _ _ shown cut) in
+    record {
+      few = omega arith;
+      made = made;
+      state = state;
+      cut = inl (omega arith, rw back whole);
+    }
+
+-- the text that a run ends with
+end_is : (selection : TraceSelection) (limit n : ℕ) (s core : State) (last : Option ℕ) (stop : Stop) → n ≤ limit
+    → core ≡ after n s → last ≡ last_printed selection (events_of n s) → stop ≡ unwrap_or core.stop StepLimit
+    → (n ≡ limit) ⊎ IsSome (after n s).stop
+    → (events_of limit s ≡ events_of n s)
+    × (new_line_after last ++ stop_line stop ≡ selected_end selection (events_of n s) (ending_of limit s))
+end_is selection limit n s core last stop few now printed same ends =
+    let done = over n limit s few ends in (done.1, rw (printed, same, now, done.0) refl)
+
+-- the end was cut short
+pub cut_in_end : (selection : TraceSelection) (old mid new : Option (List ℕ)) (limit n : ℕ) (s core : State)
+    (last : Option ℕ) (stop : Stop) → n ≤ limit → ((k : ℕ) → k < n → (after k s).stop ≡ None) → core ≡ after n s
+    → Appends old mid (selected_text selection (events_of n s)) → last ≡ last_printed selection (events_of n s)
+    → stop ≡ unwrap_or core.stop StepLimit → IsCutShort mid new (new_line_after last ++ stop_line stop)
+    → (n ≡ limit) ⊎ IsSome core.stop → SelectedLeaves selection limit s n old new core
+cut_in_end selection old mid new limit n s core last stop few made now shown printed same cut ends =
+    let ends' : (n ≡ limit) ⊎ IsSome (after n s).stop = rw (← now) ends in
+    let e = end_is selection limit n s core last stop few now printed same ends' in
+    let whole :
+    IsCutAfter old new (selected_text selection (events_of limit s))
+    (selected_end selection (events_of limit s) (ending_of limit s)) =
+    rw (e.0, ← e.1) (cut_after old mid new _ _ shown cut) in
+    record { few = few; made = made; state = now; cut = inr (ends', whole) }
+
+-- the whole selected trace went out
+pub all_shown : (selection : TraceSelection) (old mid new : Option (List ℕ)) (limit n : ℕ) (s core : State)
+    (last : Option ℕ) (stop : Stop) → n ≤ limit → core ≡ after n s
+    → Appends old mid (selected_text selection (events_of n s)) → last ≡ last_printed selection (events_of n s)
+    → stop ≡ unwrap_or core.stop StepLimit → Appends mid new (new_line_after last ++ stop_line stop)
+    → (n ≡ limit) ⊎ IsSome core.stop → Appends old new (selected_trace selection limit s)
+unfolding selected_trace
+all_shown selection old mid new limit n s core last stop few now shown printed same more ends =
+    let ends' : (n ≡ limit) ⊎ IsSome (after n s).stop = rw (← now) ends in
+    let e = end_is selection limit n s core last stop few now printed same ends' in
+    rw (e.0, ← e.1) (Appends-trans old mid new _ _ shown more)
+
+-- the text of a run begins with that of its first steps
+text_continues : (selection : TraceSelection) (m n : ℕ) (s : State) → m + 1 ≤ n
+    → (others : List Event) × (selected_text selection (events_of n s)
+    ≡ selected_text selection (events_of m s) ++ selected_text selection (step (after m s)).events
+    ++ selected_text selection others)
+text_continues selection m n s few =
+    let e : (m + 1) + (n - (m + 1)) ≡ n = omega arith in
+    let all = continues (m + 1) (n - (m + 1)) s in
+    let whole : events_of n s ≡ events_of (m + 1) s ++ all.others = rw e at all.whole in (
+      all.others,
+      rw (whole, selected-append selection (events_of (m + 1) s) all.others, shown_more selection m s, append_assoc)
+          refl,
+    )
+
+-- what a run that was cut short put is a prefix of the selected trace
+pub selected_left_prefix : (selection : TraceSelection) (n : ℕ) (s : State) (steps : ℕ) (old new : Option (List ℕ))
+    (last : State) → SelectedLeaves selection n s steps old new last
+    → GrowsByPrefix old new (selected_trace selection n s)
+unfolding selected_trace
+selected_left_prefix selection n s steps old new last left = elim left.cut [
+  | inl in_step ↦
+      let few : steps - 1 + 1 ≤ n = omega (arith, in_step.0, left.few) in
+      let all = text_continues selection (steps - 1) n s few in
+      let end = selected_end selection (events_of n s) (ending_of n s) in
+      prefix_of old new _ _ (selected_text selection all.0 ++ end) _ in_step.1 (rw (all.1, append_assoc) refl)
+  | inr in_end ↦ prefix_of old new _ _ [] _ in_end.1 (rw append-nil refl)
+]
+
+-- with all events it is a run that writes its whole trace
+leaves_all : (n : ℕ) (s : State) (steps : ℕ) (old new : Option (List ℕ)) (last : State)
+    → SelectedLeaves which.All n s steps old new last → Leaves n s steps old new last
+leaves_all n s steps old new last left = record {
+  few = left.few;
+  made = left.made;
+  state = left.state;
+  cut = elim left.cut [
+    | inl in_step ↦ inl (
+      in_step.0,
+      rw (all_lines (events_of (steps - 1) s), all_lines (step (after (steps - 1) s)).events) at in_step.1,
+    )
+    | inr in_end ↦ inr (in_end.0, rw (all_lines (events_of n s)) at in_end.1)
+  ];
+}
+
+pub fails_all : (n : ℕ) (old new : Whole) (put put' : Option (List ℕ)) (faults faults' : ℕ)
+    (result : Result Stop RunFault) → IfErr result (SelectedFails which.All n old new put put' faults faults')
+    → IfErr result (Fails n old new put put' faults faults')
+fails_all n old new put put' faults faults' (Ok stop) fails = fails
+fails_all n old new put put' faults faults' (Err (Write steps)) fails =
+    (leaves_all n old.state steps put put' new.state fails.0, fails.1, fails.2)
+fails_all n old new put put' faults faults' (Err Broken) fails = fails

@@ -1,0 +1,28 @@
+use Rattle.std.proofs.Common.{◌≡◌, true, false, Some, None, refl, sym, ◌∙◌}
+use Rattle.std.proofs.KnownBytes.{Appends-nil}
+use Rattle.trace.proofs.Selecting.{byte_selected, line_selected, not_selected}
+use Rattle.trace.specs.Selection.{byte_of, selects, writes_bytes}
+use Rattle.output.proofs.event_lines.put_selected.Goals as goal
+
+pub returns-then-not-selects : goal.returns-then-not-selects
+returns-then-not-selects g c = rw (not_selected c.args.selection c.args.event.now cc) (Appends-nil _, refl)
+
+pub returns-then-not-writes_bytes : goal.returns-then-not-writes_bytes
+returns-then-not-writes_bytes g c =
+    let chosen : selects c.args.selection c.args.event.now.what ≡ true = cc in
+    let lined : writes_bytes c.args.selection ≡ false = cc in
+    rw (line_selected c.args.selection c.args.event.now chosen lined) c.put_line.ensures
+
+pub returns-in-Some : goal.returns-in-Some
+returns-in-Some g c =
+    let chosen : selects c.args.selection c.args.event.now.what ≡ true = cc in
+    let bare : writes_bytes c.args.selection ≡ true = cc in
+    let is : byte_of c.args.event.now.what ≡ Some c.in-Some.byte = sym c.byte_of.ensures ∙ c.in-Some.is in
+    rw (byte_selected c.args.selection c.args.event.now (Some c.in-Some.byte) chosen bare is) c.put_byte.ensures
+
+pub returns-in-None : goal.returns-in-None
+returns-in-None g c =
+    let chosen : selects c.args.selection c.args.event.now.what ≡ true = cc in
+    let bare : writes_bytes c.args.selection ≡ true = cc in
+    let is : byte_of c.args.event.now.what ≡ None = sym c.byte_of.ensures ∙ c.in-None.is in
+    rw (byte_selected c.args.selection c.args.event.now None chosen bare is) (Appends-nil _, refl)
