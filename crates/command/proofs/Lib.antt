@@ -1,2 +1,4 @@
+mod Asking
 mod Ends
+mod Performing
 mod Talks

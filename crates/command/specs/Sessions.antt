@@ -64,3 +64,12 @@ pub record DebugsTo (image : Result (List Segment) LoadFault) (board : Result De
   pub result : Result (Unit {0}) Fault
   pub debugged : Debugs image board before after out out' result
   pub is : status ≡ session_status result
+
+-- the status is that of a session of the image on the board
+pub record SessionTo (image : Result (List Segment) LoadFault) (board : Result Described BoardFault) (status : ℕ)
+    : Type 0 where
+  pub before : Source
+  pub after : Source
+  pub out : Sink
+  pub out' : Sink
+  pub debugs : DebugsTo image board before after out out' status

@@ -1,11 +1,14 @@
 -- The exit statuses of the program, and what it writes.
-use Rattle.std.specs.Prelude.{◌≡◌, ◌⊎◌, ℕ, if◌then◌else◌, List, Result, Ok, Err}
+use Rattle.std.specs.Prelude.{◌≡◌, ◌⊎◌, ◌*◌, ◌^◌, ℕ, if◌then◌else◌, List, Result, Ok, Err}
 use Rattle.std.specs.Str.{is_utf8}
 use Rattle.board.specs.declared.whole.Board.{Board as TheBoard}
 use Rattle.board.specs.Seen.{described}
 use Rattle.board.specs.Texts.{board_of}
 use Rattle.command.specs.declared.fault.Fault.{Fault}
 use Rattle.command.specs.declared.fault.Fault.TheVariants.{Usage, Load, Board, Start, Size, Io}
+use Rattle.command.specs.declared.files.FileFault.{FileFault}
+use Rattle.command.specs.declared.files.FileFault.TheVariants as file
+use Rattle.command_line.specs.Asked.{Answer, usage, help, version, memory}
 use Rattle.reference.specs.declared.fault.BoardFault.{BoardFault}
 use Rattle.reference.specs.declared.fault.BoardFault.TheVariants.{NotToml, OutOfMemory}
 use Rattle.reference.specs.declared.fault.LoadFault.{LoadFault}
@@ -81,3 +84,26 @@ pub record GoesTo (image : Result (List Segment) LoadFault) (board : Result Desc
   pub result : Result Stop Fault
   pub executed : Executes image board steps old new result
   pub is : status ≡ status_of result
+
+-- the status is that of a run of the image on the board
+pub record RunsTo (image : Result (List Segment) LoadFault) (board : Result Described BoardFault) (steps : ℕ)
+    (status : ℕ) : Type 0 where
+  pub old : Gathered
+  pub new : Gathered
+  pub goes : GoesTo image board steps old new status
+
+-- the status of arguments that ask for no run and no session: the version is written, or can't be
+abbrev pub AnsweredBy : Answer → ℕ → Type 0
+AnsweredBy usage status = status ≡ 2
+AnsweredBy help status = status ≡ 2
+AnsweredBy version status = (status ≡ 0) ⊎ (status ≡ 5)
+AnsweredBy memory status = status ≡ 5
+
+-- the status of a file that isn't read
+abbrev pub file_status : FileFault → ℕ
+file_status file.Size = 3
+file_status (file.Read error) = 5
+
+-- the most bytes of a file: 16 MiB
+abbrev pub most_bytes : ℕ
+most_bytes = 16 * 2 ^ 20

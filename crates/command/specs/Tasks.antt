@@ -1,9 +1,60 @@
 -- What the arguments ask for.
-use Rattle.std.specs.Prelude.{ℕ, ◌^◌, ◌≤◌}
+use Rattle.std.specs.Prelude.{◌≡◌, ◌⊎◌, ℕ, ◌^◌, ◌≤◌, List, Option, Some, None, Result, Ok, Err}
+use Rattle.std.specs.Str.Parse.{IsNumeral, digits_value, without_leading_plus}
+use Rattle.command.specs.declared.request.Request.{Request}
 use Rattle.command.specs.declared.request.Task.{Task}
 use Rattle.command.specs.declared.request.Task.TheVariants.{Run, Debug}
+use Rattle.command_line.specs.Asked.{Asked, AskedDebug, AskedRun, IsRefused, IsTaken, answer_of, asked, memory, usage}
+use Rattle.command_line.specs.Asked as asks
+use Rattle.command_line.specs.declared.words.WordsFault.{WordsFault}
+use Rattle.command.specs.Sessions.{SessionTo}
+use Rattle.command.specs.Statuses.{RunsTo}
+use Rattle.reference.specs.declared.fault.BoardFault.{BoardFault}
+use Rattle.reference.specs.declared.fault.LoadFault.{LoadFault}
+use Rattle.reference.specs.Boards.{Described}
+use Rattle.reference.specs.Images.{Segment}
 
--- a run has at most 2^32 steps
-abbrev pub IsBounded : Task → Type 0
-IsBounded (Run steps) = steps ≤ 2 ^ 32
-IsBounded Debug = Unit {0}
+-- the number in digits, before which a plus may stand
+abbrev pub number_in : List ℕ → ℕ
+number_in text = digits_value 10 (without_leading_plus text)
+
+-- a number of steps: from 0 to 2^32
+abbrev pub IsSteps : List ℕ → Type 0
+IsSteps text = IsNumeral 10 (without_leading_plus text) × (number_in text ≤ 2 ^ 32)
+
+-- the task is the run that is asked for
+abbrev pub IsRun : AskedRun → Task → Type 0
+IsRun a (Run steps) = (steps ≡ number_in a.steps) × (steps ≤ 2 ^ 32)
+IsRun a Debug = ⊥
+
+-- the request is the run that is asked for, or the number isn't one of steps
+abbrev pub AsksRun : AskedRun → Result Request WordsFault → Type 0
+AsksRun a (Ok request) = (request.board.now ≡ a.board) × (request.image.now ≡ a.image) × IsRun a request.task
+AsksRun a (Err fault) = (answer_of fault ≡ usage) × (¬ IsSteps a.steps)
+
+abbrev pub AsksDebug : AskedDebug → Result Request WordsFault → Type 0
+AsksDebug a (Ok request) = (request.board.now ≡ a.board) × (request.image.now ≡ a.image) × (request.task ≡ Debug)
+AsksDebug a (Err fault) = ⊥
+
+abbrev pub Asks : Asked → Result Request WordsFault → Type 0
+Asks (asks.run a) result = AsksRun a result
+Asks (asks.debug a) result = AsksDebug a result
+
+-- no command was found, or a run without a number of steps
+abbrev pub MayRefuse : Option Asked → Type 0
+MayRefuse None = Unit {0}
+MayRefuse (Some (asks.run a)) = ¬ IsSteps a.steps
+MayRefuse (Some (asks.debug a)) = ⊥
+
+-- arguments that `clap` takes ask for the request, or have a wrong value. Others are answered as one of the errors
+-- that `clap` finds says; and out of memory may come in place of all
+abbrev pub Requests : List (List ℕ) → Result Request WordsFault → Type 0
+Requests words (Ok request) = IsTaken words × ((a : Asked) × (asked words ≡ Some a) × Asks a (Ok request))
+Requests words (Err fault) =
+    (answer_of fault ≡ memory)
+    ⊎ (IsRefused words fault ⊎ ((answer_of fault ≡ usage) × MayRefuse (asked words)))
+
+-- the status is that of what is asked for: the run for its steps, or the session
+abbrev pub Performs : Result (List Segment) LoadFault → Result Described BoardFault → Task → ℕ → Type 0
+Performs image board (Run steps) status = RunsTo image board steps status
+Performs image board Debug status = SessionTo image board status

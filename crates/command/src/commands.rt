@@ -1,6 +1,13 @@
 //! The whole command: from the arguments to the exit status.
 
-ghost use Rattle.std.specs.Prelude.{◌≡◌, ◌⊎◌};
+ghost use Rattle.std.specs.Prelude.{◌≡◌, ◌≢◌};
+ghost use Rattle.command.specs.Sessions.{SessionTo};
+ghost use Rattle.command.specs.Statuses.{AnsweredBy, RunsTo, board_in_file, file_status};
+ghost use Rattle.command.specs.Tasks.{Performs};
+ghost use Rattle.command_line.specs.Asked.{answer_of};
+ghost use Rattle.reference.specs.Images.{image_of};
+ghost use Rattle.std.specs.IoError.{error_kind};
+ghost use Rattle.std.specs.declared.io.ErrorKind.TheVariants as kind;
 
 use crate::debugging::debug;
 use crate::engine::go;
@@ -36,7 +43,7 @@ pub fn program<R: Files + AllocGlobal, I: Read + Drop, W: Write + Drop, E: Write
 /// Writes the answer to arguments that name no run and no session. Returns 2; 0 for the version; 5
 /// where the version can't be written or memory ran out.
 pub fn answer<W: Write + Drop, E: Write>(fault: WordsFault, mut out: W, err: &mut E) -> u8
-    ensures { (result ≡ 2) ⊎ ((result ≡ 0) ⊎ (result ≡ 5)) }
+    ensures { AnsweredBy (answer_of fault) result }
 {
     match fault {
         WordsFault::Wrong(text) => {
@@ -45,8 +52,12 @@ pub fn answer<W: Write + Drop, E: Write>(fault: WordsFault, mut out: W, err: &mu
             status
         }
         WordsFault::Help(text) => {
-            let _ = out.write_all(text.as_bytes());
-            tell(Fault::Usage, err)
+            let written = out.write_all(text.as_bytes());
+            let status = tell(Fault::Usage, err);
+            if let Err(error) = written {
+                let _ = writeln!(err, "  standard output: {error}");
+            }
+            status
         }
         WordsFault::Version(text) => match out.write_all(text.as_bytes()) {
             Ok(()) => 0,
@@ -84,9 +95,24 @@ fn carry_out<R: Files + AllocGlobal, I: Read + Drop, W: Write + Drop, E: Write>(
         path: request.board,
         bytes: board.as_slice(),
     };
-    match request.task {
-        Task::Run(steps) => run(rt.alloc(), image, board, steps, out, err),
-        Task::Debug => debug_by(rt.alloc(), image, board, input, out, err),
+    perform(rt.alloc(), request.task, image, board, input, out, err)
+}
+
+/// Runs or debugs an image on a board, as the task says.
+fn perform<I: Read + Drop, W: Write + Drop, E: Write>(
+    alloc: Global,
+    task: Task,
+    image: InputFile<'_>,
+    board: InputFile<'_>,
+    input: I,
+    out: W,
+    err: &mut E,
+) -> u8
+    ensures { Performs (image_of image.entry.bytes.now) (board_in_file board.entry.bytes.now) task result }
+{
+    match task {
+        Task::Run(steps) => run(alloc, image, board, steps, out, err),
+        Task::Debug => debug_by(alloc, image, board, input, out, err),
     }
 }
 
@@ -98,7 +124,9 @@ fn run<W: Write + Drop, E: Write>(
     steps: u64,
     out: W,
     err: &mut E,
-) -> u8 {
+) -> u8
+    ensures { RunsTo (image_of image.entry.bytes.now) (board_in_file board.entry.bytes.now) steps result }
+{
     run_files::<W, E, Brand>(alloc, image, board, steps, out, err, Blank::new(1))
 }
 
@@ -110,7 +138,9 @@ fn debug_by<I: Read + Drop, W: Write + Drop, E: Write>(
     input: I,
     out: W,
     err: &mut E,
-) -> u8 {
+) -> u8
+    ensures { SessionTo (image_of image.entry.bytes.now) (board_in_file board.entry.bytes.now) result }
+{
     debug_from::<I, W, E, Brand>(alloc, image, board, input, out, err, Blank::new(1))
 }
 
@@ -128,6 +158,7 @@ fn debug_from<I: Read + Drop, W: Write + Drop, E: Write, K: Ledger>(
     requires name { blank.name ≡ K.name }
     requires parts { blank.parts ≡ K.parts }
     requires some { blank.parts ≡ 1 }
+    ensures { SessionTo (image_of image.entry.bytes.now) (board_in_file board.entry.bytes.now) result }
 {
     let mut input: Over<LastError<I>, K> = Over::new(LastError::new(input), blank);
     let status = debug_to::<Over<LastError<I>, K>, W, E, Brand>(
@@ -147,6 +178,7 @@ fn debug_from<I: Read + Drop, W: Write + Drop, E: Write, K: Ledger>(
 
 /// Debugs an image on a board: makes an `Out` of `out`, and writes why it failed. `blank` counts the
 /// calls of `out` that fail.
+#[tactic(auto, using(crate::proofs::Performing::session_to))]
 fn debug_to<I: In, W: Write + Drop, E: Write, K: Ledger>(
     alloc: Global,
     image: InputFile<'_>,
@@ -159,6 +191,7 @@ fn debug_to<I: In, W: Write + Drop, E: Write, K: Ledger>(
     requires name { blank.name ≡ K.name }
     requires parts { blank.parts ≡ K.parts }
     requires some { blank.parts ≡ 1 }
+    ensures { SessionTo (image_of image.entry.bytes.now) (board_in_file board.entry.bytes.now) result }
 {
     let mut out: Over<LastError<W>, K> = Over::new(LastError::new(out), blank);
     let status = debug(alloc, image, board, input, &mut out, err);
@@ -169,6 +202,7 @@ fn debug_to<I: In, W: Write + Drop, E: Write, K: Ledger>(
 }
 
 /// Runs an image on a board. `blank` counts the calls of `out` that fail.
+#[tactic(auto, using(crate::proofs::Performing::runs_to))]
 fn run_files<W: Write + Drop, E: Write, K: Ledger>(
     alloc: Global,
     image: InputFile<'_>,
@@ -181,6 +215,7 @@ fn run_files<W: Write + Drop, E: Write, K: Ledger>(
     requires name { blank.name ≡ K.name }
     requires parts { blank.parts ≡ K.parts }
     requires some { blank.parts ≡ 1 }
+    ensures { RunsTo (image_of image.entry.bytes.now) (board_in_file board.entry.bytes.now) steps result }
 {
     let mut out: Paged<Over<LastError<W>, K>> = Paged::new(Over::new(LastError::new(out), blank));
     let status = go(alloc, image, board, steps, &mut out, err);
@@ -192,7 +227,7 @@ fn run_files<W: Write + Drop, E: Write, K: Ledger>(
 
 /// Writes why the file of an argument isn't read, and returns the status.
 fn tell_file<E: Write>(argument: &str, path: &str, fault: &FileFault, err: &mut E) -> u8
-    ensures { (result ≡ 3) ⊎ (result ≡ 5) }
+    ensures { result ≡ file_status fault.now }
 {
     match fault {
         FileFault::Size => {
@@ -217,16 +252,19 @@ fn tell_empty<E: Write>(argument: &str, err: &mut E) -> u8
     status
 }
 
-/// Writes why the arguments can't be read, and returns the status.
+/// Writes why the arguments can't be read, and returns the status: 2 where one isn't a text in UTF-8, else 5.
 pub fn refuse_words<E: Write>(error: &io::Error, err: &mut E) -> u8
-    ensures { result ≡ 5 }
+    ensures text { error_kind error.now ≡ kind.InvalidData → result ≡ 2 }
+    ensures other { error_kind error.now ≢ kind.InvalidData → result ≡ 5 }
 {
-    if matches!(error.kind(), io::ErrorKind::InvalidData) {
-        let status = tell(Fault::Io, err);
-        let _ = writeln!(err, "  {error}");
-        return status;
+    match error.kind() {
+        io::ErrorKind::InvalidData => {
+            let status = tell(Fault::Usage, err);
+            let _ = writeln!(err, "  {error}");
+            status
+        }
+        _ => tell_io("the arguments", error, err),
     }
-    tell_io("the arguments", error, err)
 }
 
 /// Writes what the system says of a file or a stream, and returns the status.

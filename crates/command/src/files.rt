@@ -1,6 +1,7 @@
 //! The arguments, and the files that they name.
 
 ghost use Rattle.std.specs.Prelude.{◌≤◌, IfOk, vec_len};
+ghost use Rattle.command.specs.Statuses.{most_bytes};
 
 use std::io::Read;
 use std::rt::{Env, Files};
@@ -80,7 +81,7 @@ pub enum FileFault {
 
 /// Returns the bytes of a file, at most 16 MiB.
 pub fn read_file<R: Files + AllocGlobal>(rt: &R, path: &str) -> Result<Vec<u8>, FileFault>
-    ensures { IfOk result (λ bytes. vec_len bytes ≤ 0x100_0000) }
+    ensures { IfOk result (λ bytes. vec_len bytes ≤ most_bytes) }
 {
     let mut bytes = Vec::new(rt.alloc());
     let file = match fs::open(rt, path) {

@@ -28,7 +28,12 @@ impl<W: Write + Drop> Write for LastError<W> {
 
     fn write(&mut self, buf: &[u8]) -> io::Result<usize> {
         match self.inner.write(buf) {
-            Ok(taken) => Ok(taken),
+            Ok(taken) => {
+                if taken == 0 && !buf.is_empty() {
+                    self.error = Some(io::Error::from(io::ErrorKind::WriteZero));
+                }
+                Ok(taken)
+            }
             Err(error) => {
                 let kind = error.kind();
                 self.error = Some(error);

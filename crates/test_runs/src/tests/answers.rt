@@ -1,6 +1,6 @@
 //! The command's answers to arguments that name no run: help, the version, and what is wrong.
 
-use super::files::Ends;
+use super::files::{Ended, Ends, FIRST, NO_INPUT, SMALL};
 use std::test::*;
 use test_tables::check_between;
 
@@ -444,4 +444,11 @@ err For more information, try '--help'.";
 #[test]
 fn words_are_answered(rt: HostRuntime) -> Result<(), Fail> {
     check_between(ANSWERS, "\n\n", &mut Ends { rt: &rt })
+}
+
+#[test]
+fn a_help_that_cannot_be_written_is_usage_and_is_named(rt: HostRuntime) -> Result<(), Fail> {
+    let ended = Ended::of(&rt, "--help", &FIRST, SMALL.as_bytes(), NO_INPUT, 0)?;
+    assert!(rt; ended.is(2, b"", b"marm: usage\n  standard output: broken pipe\n"));
+    Ok(())
 }

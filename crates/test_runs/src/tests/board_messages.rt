@@ -380,9 +380,10 @@ fn a_word_that_is_no_text_is_numbered(rt: HostRuntime) -> Result<(), Fail> {
         Ok(_) => 0,
         Err(error) => refuse_words(&error, &mut err),
     };
-    let text = b"marm: io\n  argument 2 isn't a text in UTF-8 (the program's name is argument 0)\n";
+    let text =
+        b"marm: usage\n  argument 2 isn't a text in UTF-8 (the program's name is argument 0)\n";
     holds(
-        status == 5 && err.text.as_slice() == text.as_slice(),
+        status == 2 && err.text.as_slice() == text.as_slice(),
         "word 2",
     )
 }

@@ -1,0 +1,31 @@
+-- From the words of the arguments to the request.
+use Rattle.std.proofs.Common.{◌≡◌, ◌⊎◌, ◌<◌, ◌≤◌, ◌^◌, arith, inl, inr, List, ℕ, Option, Some, None, Result, Ok, Err, ap, refl, sym, subst}
+use Rattle.std.specs.Str.Parse.{IsNumeral, without_leading_plus}
+use Rattle.command.specs.declared.request.Request.{Request}
+use Rattle.command.specs.Tasks.{Asks, AsksDebug, AsksRun, IsSteps, MayRefuse, Requests, number_in}
+use Rattle.command_line.specs.Asked.{Asked, AskedDebug, AskedRun, IsTaken, Takes, asked}
+use Rattle.command_line.specs.Asked as asks
+use Rattle.command_line.specs.declared.words.WordsFault.{WordsFault}
+
+pub run_asked : (words : List (List ℕ)) (a : AskedRun) (result : Result Request WordsFault)
+    → IsTaken words × (asked words ≡ Some (asks.run a)) → AsksRun a result → Requests words result
+run_asked words a (Ok request) taken h = (taken.0, (asks.run a, taken.1, h))
+run_asked words a (Err fault) taken h = inr (inr (h.0, subst MayRefuse (sym taken.1) h.1))
+
+pub debug_asked : (words : List (List ℕ)) (a : AskedDebug) (request : Request)
+    → IsTaken words × (asked words ≡ Some (asks.debug a)) → AsksDebug a (Ok request) → Requests words (Ok request)
+debug_asked words a request taken h = (taken.0, (asks.debug a, taken.1, h))
+
+pub not_taken : (words : List (List ℕ)) (fault : WordsFault) → Takes words (Err fault) → Requests words (Err fault)
+not_taken words fault (inl wanting) = inl wanting
+not_taken words fault (inr (inl refused)) = inr (inl refused)
+not_taken words fault (inr (inr nothing)) = inr (inr (nothing.1, subst MayRefuse (sym nothing.0) tt))
+
+-- a text that is no number of 64 bits is no number of steps
+pub no_steps : (text : List ℕ) → ¬ (IsNumeral 10 (without_leading_plus text) × (number_in text < 2 ^ 64))
+    → ¬ IsSteps text
+no_steps text outside steps = let few : number_in text ≤ 2 ^ 32 = steps.1 in outside (steps.0, omega arith)
+
+-- nor is a number above the most steps
+pub too_many_steps : (text : List ℕ) (n : ℕ) → n ≡ number_in text → 2 ^ 32 < n → ¬ IsSteps text
+too_many_steps text n is more steps = let few : number_in text ≤ 2 ^ 32 = steps.1 in absurd (omega arith)
