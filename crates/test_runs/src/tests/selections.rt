@@ -42,8 +42,8 @@ reg F 100";
 /// The steps of that code up to the second entry of its handler.
 const STEPS: u32 = 12;
 
-/// For each selection, the byte in R0, the most steps and what is written. The fourth and twelfth step enter
-/// the handler, the eighth returns from it, and the tenth fetches from the device window.
+/// For each selection, the byte in R0, the most steps and what is written, with `--` between two. The fourth
+/// and twelfth step enter the handler, the eighth returns from it, and the tenth fetches from the device window.
 const SELECTED: &str = "\
 refused 41 C
 2 S 00000100 4 p bus off
@@ -51,7 +51,7 @@ refused 41 C
 10 F 40000000 2 p mpu off
 10 ! 3 00008201 40000000
 stop steps
-
+--
 exceptions 41 C
 2 S 00000100 4 p bus off
 2 ! 3 00008200 40000000
@@ -61,21 +61,21 @@ exceptions 41 C
 10 ! 3 00008201 40000000
 12 X 3
 stop steps
-
+--
 console 41 C
 A
 stop steps
-
+--
 console A C
 
 stop steps
-
+--
 console 41 0
 stop steps
-
+--
 nothing 41 C
 stop steps
-
+--
 all 41 2
 1 F 00000100 2 p ok off
 1 S 40000000 4 p ok off
@@ -187,7 +187,7 @@ fn writes<D: Decider, C: CodeLines, L: Levels, U: DueTicks>(
 
 #[test]
 fn each_selection_writes_its_events(rt: HostRuntime) -> Result<(), Fail> {
-    check_between(SELECTED, "\n\n", &mut Selected { alloc: rt.alloc() })
+    check_between(SELECTED, "\n--\n", &mut Selected { alloc: rt.alloc() })
 }
 
 /// Returns whether a writer of this number of bytes breaks a machine: it takes as many bytes of the text, and
