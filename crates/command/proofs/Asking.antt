@@ -10,7 +10,9 @@ use Rattle.command_line.specs.declared.words.WordsFault.{WordsFault}
 pub run_asked : (words : List (List ℕ)) (a : AskedRun) (result : Result Request WordsFault)
     → IsTaken words × (asked words ≡ Some (asks.run a)) → AsksRun a result → Requests words result
 run_asked words a (Ok request) taken h = (taken.0, (asks.run a, taken.1, h))
-run_asked words a (Err fault) taken h = inr (inr (h.0, subst MayRefuse (sym taken.1) h.1))
+run_asked words a (Err fault) taken (inl wrong) =
+    inr (inr (wrong.0, subst MayRefuse (sym taken.1) wrong.1))
+run_asked words a (Err fault) taken (inr wanting) = inl wanting
 
 pub debug_asked : (words : List (List ℕ)) (a : AskedDebug) (request : Request)
     → IsTaken words × (asked words ≡ Some (asks.debug a)) → AsksDebug a (Ok request) → Requests words (Ok request)

@@ -2,3 +2,4 @@ mod Asking
 mod Ends
 mod Performing
 mod Talks
+mod Worded

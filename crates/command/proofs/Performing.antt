@@ -1,5 +1,5 @@
 -- A status is that of a run or of a session.
-use Rattle.std.proofs.Common.{ℕ, List, Result}
+use Rattle.std.proofs.Common.{ℕ, List, Option, Result}
 use Rattle.command.specs.Sessions.{DebugsTo, SessionTo}
 use Rattle.command.specs.Statuses.{GoesTo, RunsTo}
 use Rattle.debugger.specs.Sessions.{Sink, Source}
@@ -10,8 +10,9 @@ use Rattle.reference.specs.Boards.{Described}
 use Rattle.reference.specs.Images.{Segment}
 
 pub runs_to : (image : Result (List Segment) LoadFault) (board : Result Described BoardFault) (steps : ℕ)
-    (old new : Gathered) (status : ℕ) → GoesTo image board steps old new status → RunsTo image board steps status
-runs_to image board steps old new status goes = record { old = old; new = new; goes = goes }
+    (expected : Option (List ℕ)) (old new : Gathered) (status : ℕ) → GoesTo image board steps expected old new status
+    → RunsTo image board steps expected status
+runs_to image board steps expected old new status goes = record { old = old; new = new; goes = goes }
 
 pub session_to : (image : Result (List Segment) LoadFault) (board : Result Described BoardFault) (before after : Source)
     (out out' : Sink) (status : ℕ) → DebugsTo image board before after out out' status → SessionTo image board status

@@ -1,6 +1,6 @@
 -- The exit statuses of the program, and what it writes.
-use Rattle.std.specs.Prelude.{◌≡◌, ◌⊎◌, ◌*◌, ◌^◌, ℕ, if◌then◌else◌, List, Result, Ok, Err}
-use Rattle.std.specs.Str.{is_utf8}
+use Rattle.std.specs.Prelude.{◌≡◌, ◌⊎◌, ◌*◌, ◌^◌, ℕ, if◌then◌else◌, List, Option, Some, None, Result, Ok, Err}
+use Rattle.std.specs.Str.{bytes_eq, is_utf8}
 use Rattle.board.specs.declared.whole.Board.{Board as TheBoard}
 use Rattle.board.specs.Seen.{described}
 use Rattle.board.specs.Texts.{board_of}
@@ -22,6 +22,7 @@ use Rattle.output.specs.Gathered.{Gathered, IsCut, SendsAll}
 use Rattle.reference.specs.Run.{ending_of, trace}
 use Rattle.reference.specs.Start.{start}
 use Rattle.reference.specs.State.{State}
+use Rattle.reference.specs.Text.{stop_text}
 
 abbrev pub fault_status : Fault → ℕ
 fault_status Usage = 2
@@ -73,24 +74,33 @@ Executes (Ok image) (Err refusal) steps old new result =
     Refuses (Board refusal) old new result ⊎ Refuses (Board OutOfMemory) old new result
 Executes (Err refusal) board steps old new result = Refuses (Load refusal) old new result
 
+-- 0 where the stop has the words that are expected, else 1; without an expectation the status of the stop
+abbrev pub ending_status : Option (List ℕ) → Stop → ℕ
+ending_status None why = stop_status why
+ending_status (Some words) why = if bytes_eq (stop_text why) words then 0 else 1
+
 -- the status of a stop or of a fault
-abbrev pub status_of : Result Stop Fault → ℕ
-status_of (Ok why) = stop_status why
-status_of (Err fault) = fault_status fault
+abbrev pub status_of : Option (List ℕ) → Result Stop Fault → ℕ
+status_of expected (Ok why) = ending_status expected why
+status_of expected (Err fault) = fault_status fault
 
 -- an image is run on a board, and the status is that of its end
 pub record GoesTo (image : Result (List Segment) LoadFault) (board : Result Described BoardFault) (steps : ℕ)
-    (old new : Gathered) (status : ℕ) : Type 0 where
+    (expected : Option (List ℕ)) (old new : Gathered) (status : ℕ) : Type 0 where
   pub result : Result Stop Fault
   pub executed : Executes image board steps old new result
-  pub is : status ≡ status_of result
+  pub is : status ≡ status_of expected result
 
 -- the status is that of a run of the image on the board
 pub record RunsTo (image : Result (List Segment) LoadFault) (board : Result Described BoardFault) (steps : ℕ)
-    (status : ℕ) : Type 0 where
+    (expected : Option (List ℕ)) (status : ℕ) : Type 0 where
   pub old : Gathered
   pub new : Gathered
-  pub goes : GoesTo image board steps old new status
+  pub goes : GoesTo image board steps expected old new status
+
+-- a text is the words of a stop
+abbrev pub IsStopText : List ℕ → Type 0
+IsStopText words = (why : Stop) × (stop_text why ≡ words)
 
 -- the status of arguments that ask for no run and no session: the version is written, or can't be
 abbrev pub AnsweredBy : Answer → ℕ → Type 0

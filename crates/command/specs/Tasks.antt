@@ -1,10 +1,11 @@
 -- What the arguments ask for.
-use Rattle.std.specs.Prelude.{◌≡◌, ◌⊎◌, ℕ, ◌^◌, ◌≤◌, List, Option, Some, None, Result, Ok, Err}
+use Rattle.std.specs.Prelude.{◌≡◌, ◌⊎◌, ℕ, ◌^◌, ◌≤◌, IsSome, List, Option, Some, None, Result, Ok, Err}
 use Rattle.std.specs.Str.Parse.{IsNumeral, digits_value, without_leading_plus}
 use Rattle.command.specs.declared.request.Request.{Request}
+use Rattle.command.specs.declared.request.RunRequest.{RunRequest}
 use Rattle.command.specs.declared.request.Task.{Task}
 use Rattle.command.specs.declared.request.Task.TheVariants.{Run, Debug}
-use Rattle.command_line.specs.Asked.{Asked, AskedDebug, AskedRun, IsRefused, IsTaken, answer_of, asked, memory, usage}
+use Rattle.command_line.specs.Asked.{Asked, AskedDebug, AskedRun, IsRefused, IsTaken, answer_of, asked, memory, text_of, usage}
 use Rattle.command_line.specs.Asked as asks
 use Rattle.command_line.specs.declared.words.WordsFault.{WordsFault}
 use Rattle.command.specs.Sessions.{SessionTo}
@@ -24,13 +25,17 @@ IsSteps text = IsNumeral 10 (without_leading_plus text) × (number_in text ≤ 2
 
 -- the task is the run that is asked for
 abbrev pub IsRun : AskedRun → Task → Type 0
-IsRun a (Run steps) = (steps ≡ number_in a.steps) × (steps ≤ 2 ^ 32)
+IsRun a (Run run) = (run.steps ≡ number_in a.steps) × (run.steps ≤ 2 ^ 32) × (text_of run.expect ≡ a.expect)
 IsRun a Debug = ⊥
 
--- the request is the run that is asked for, or the number isn't one of steps
+-- no number of steps, or an expectation: what may be wrong in a run
+abbrev pub MayBeWrong : AskedRun → Type 0
+MayBeWrong a = (¬ IsSteps a.steps) ⊎ IsSome a.expect
+
+-- the request is the run that is asked for, or a value in it is wrong, or memory ran out for the message
 abbrev pub AsksRun : AskedRun → Result Request WordsFault → Type 0
 AsksRun a (Ok request) = (request.board.now ≡ a.board) × (request.image.now ≡ a.image) × IsRun a request.task
-AsksRun a (Err fault) = (answer_of fault ≡ usage) × (¬ IsSteps a.steps)
+AsksRun a (Err fault) = ((answer_of fault ≡ usage) × MayBeWrong a) ⊎ (answer_of fault ≡ memory)
 
 abbrev pub AsksDebug : AskedDebug → Result Request WordsFault → Type 0
 AsksDebug a (Ok request) = (request.board.now ≡ a.board) × (request.image.now ≡ a.image) × (request.task ≡ Debug)
@@ -40,10 +45,10 @@ abbrev pub Asks : Asked → Result Request WordsFault → Type 0
 Asks (asks.run a) result = AsksRun a result
 Asks (asks.debug a) result = AsksDebug a result
 
--- no command was found, or a run without a number of steps
+-- no command was found, or a run whose values may be wrong
 abbrev pub MayRefuse : Option Asked → Type 0
 MayRefuse None = Unit {0}
-MayRefuse (Some (asks.run a)) = ¬ IsSteps a.steps
+MayRefuse (Some (asks.run a)) = MayBeWrong a
 MayRefuse (Some (asks.debug a)) = ⊥
 
 -- arguments that `clap` takes ask for the request, or have a wrong value. Others are answered as one of the errors
@@ -54,7 +59,7 @@ Requests words (Err fault) =
     (answer_of fault ≡ memory)
     ⊎ (IsRefused words fault ⊎ ((answer_of fault ≡ usage) × MayRefuse (asked words)))
 
--- the status is that of what is asked for: the run for its steps, or the session
+-- the status is that of what is asked for: the run, with its steps and its expectation, or the session
 abbrev pub Performs : Result (List Segment) LoadFault → Result Described BoardFault → Task → ℕ → Type 0
-Performs image board (Run steps) status = RunsTo image board steps status
+Performs image board (Run run) status = RunsTo image board run.steps (text_of run.expect) status
 Performs image board Debug status = SessionTo image board status

@@ -4,7 +4,7 @@ ghost use Rattle.std.specs.Prelude.{◌≡◌, ◌≢◌};
 ghost use Rattle.command.specs.Sessions.{SessionTo};
 ghost use Rattle.command.specs.Statuses.{AnsweredBy, RunsTo, board_in_file, file_status};
 ghost use Rattle.command.specs.Tasks.{Performs};
-ghost use Rattle.command_line.specs.Asked.{answer_of};
+ghost use Rattle.command_line.specs.Asked.{answer_of, text_of};
 ghost use Rattle.reference.specs.Images.{image_of};
 ghost use Rattle.std.specs.IoError.{error_kind};
 ghost use Rattle.std.specs.declared.io.ErrorKind.TheVariants as kind;
@@ -14,7 +14,7 @@ use crate::engine::go;
 use crate::fault::{Fault, tell};
 use crate::files::{FileFault, InputFile, read_file};
 use crate::last_error::LastError;
-use crate::request::{Request, Task, read_words};
+use crate::request::{Request, RunRequest, Task, read_words};
 use command_line::WordsFault;
 use machine::{In, Over, Paged};
 use std::alloc::Global;
@@ -101,17 +101,17 @@ fn carry_out<R: Files + AllocGlobal, I: Read + Drop, W: Write + Drop, E: Write>(
 /// Runs or debugs an image on a board, as the task says.
 fn perform<I: Read + Drop, W: Write + Drop, E: Write>(
     alloc: Global,
-    task: Task,
+    task: Task<'_>,
     image: InputFile<'_>,
     board: InputFile<'_>,
     input: I,
     out: W,
     err: &mut E,
 ) -> u8
-    ensures { Performs (image_of image.entry.bytes.now) (board_in_file board.entry.bytes.now) task result }
+    ensures { Performs (image_of image.entry.bytes.now) (board_in_file board.entry.bytes.now) task.entry result }
 {
     match task {
-        Task::Run(steps) => run(alloc, image, board, steps, out, err),
+        Task::Run(asked) => run(alloc, image, board, asked, out, err),
         Task::Debug => debug_by(alloc, image, board, input, out, err),
     }
 }
@@ -121,13 +121,13 @@ fn run<W: Write + Drop, E: Write>(
     alloc: Global,
     image: InputFile<'_>,
     board: InputFile<'_>,
-    steps: u64,
+    asked: RunRequest<'_>,
     out: W,
     err: &mut E,
 ) -> u8
-    ensures { RunsTo (image_of image.entry.bytes.now) (board_in_file board.entry.bytes.now) steps result }
+    ensures { RunsTo (image_of image.entry.bytes.now) (board_in_file board.entry.bytes.now) asked.entry.steps (text_of asked.entry.expect) result }
 {
-    run_files::<W, E, Brand>(alloc, image, board, steps, out, err, Blank::new(1))
+    run_files::<W, E, Brand>(alloc, image, board, asked, out, err, Blank::new(1))
 }
 
 /// Debugs an image on a board by the commands of a reader: makes the blank of its ledger.
@@ -207,7 +207,7 @@ fn run_files<W: Write + Drop, E: Write, K: Ledger>(
     alloc: Global,
     image: InputFile<'_>,
     board: InputFile<'_>,
-    steps: u64,
+    asked: RunRequest<'_>,
     out: W,
     err: &mut E,
     blank: Blank,
@@ -215,10 +215,10 @@ fn run_files<W: Write + Drop, E: Write, K: Ledger>(
     requires name { blank.name ≡ K.name }
     requires parts { blank.parts ≡ K.parts }
     requires some { blank.parts ≡ 1 }
-    ensures { RunsTo (image_of image.entry.bytes.now) (board_in_file board.entry.bytes.now) steps result }
+    ensures { RunsTo (image_of image.entry.bytes.now) (board_in_file board.entry.bytes.now) asked.entry.steps (text_of asked.entry.expect) result }
 {
     let mut out: Paged<Over<LastError<W>, K>> = Paged::new(Over::new(LastError::new(out), blank));
-    let status = go(alloc, image, board, steps, &mut out, err);
+    let status = go(alloc, image, board, asked, &mut out, err);
     if let Some(error) = out.into_inner().into_inner().error() {
         let _ = writeln!(err, "  standard output: {error}");
     }

@@ -1,43 +1,73 @@
 //! A run from the bytes of an image and of a board to the bytes of a trace.
 
 ghost use Rattle.std.specs.Prelude.{◌≡◌, ◌⊎◌, false};
-ghost use Rattle.command.specs.Statuses.{GoesTo, Executes, Reads, Runs, board_in_file};
+ghost use Rattle.command.specs.Statuses.{GoesTo, Executes, Reads, Runs, board_in_file, ending_status};
+ghost use Rattle.command_line.specs.Asked.{text_of};
 ghost use Rattle.output.specs.Gathered.{gathered};
 ghost use Rattle.reference.specs.Images.{image_of};
 
+use crate::expectation::{is_worded, words_in};
 use crate::explanations::explain;
 use crate::fault::{Fault, stop_status, tell};
 use crate::files::InputFile;
+use crate::request::RunRequest;
 use board::{Board, BoardFault, read_board};
 use elf::load;
 use machine::{Fast, Out, Paged, Stop};
 use std::alloc::Global;
 use std::io::Write;
-use std::str;
+use std::{io, str};
+use trace::lines::stop_line;
 
-/// Runs an image on a board for at most `steps` steps and writes its trace to `out`, or the refusal
+/// Runs an image on a board for at most `run.steps` steps and writes its trace to `out`, or the refusal
 /// to `err`, the fault first and then its reason. Returns the exit status: 0 after all steps or at
 /// a breakpoint, 3 for a refused image, board or start, or where memory runs out for the board or
-/// the machine, 4 at another stop, 5 where `out` failed.
+/// the machine, 4 at another stop, 5 where `out` failed. With an expectation the status is 0 at the stop
+/// that is expected, and 1 at another.
 pub fn go<O: Out + Drop, E: Write>(
     alloc: Global,
     image: InputFile<'_>,
     board: InputFile<'_>,
-    steps: u64,
+    run: RunRequest<'_>,
     out: &mut Paged<O>,
     err: &mut E,
 ) -> u8
-    ensures goes { GoesTo (image_of image.entry.bytes.now) (board_in_file board.entry.bytes.now) steps (gathered out.old) (gathered out.new) result }
+    ensures goes { GoesTo (image_of image.entry.bytes.now) (board_in_file board.entry.bytes.now) run.entry.steps (text_of run.entry.expect) (gathered out.old) (gathered out.new) result }
     ensures quiet { (result ≡ 0) ⊎ (result ≡ 4) → err.new ≡ err.old }
 {
-    match execute(alloc, image.bytes, board.bytes, steps, out) {
-        Ok(stop) => stop_status(stop),
+    match execute(alloc, image.bytes, board.bytes, run.steps, out) {
+        Ok(stop) => end(stop, run.expect, err),
         Err(fault) => {
             let status = tell(fault, err);
             let _ = explain(alloc, fault, image, board, err);
             status
         }
     }
+}
+
+/// Returns the status of a stop. Writes what was expected where it is another stop.
+fn end<E: Write>(stop: Stop, expected: Option<&str>, err: &mut E) -> u8
+    ensures status { result ≡ ending_status (text_of expected.entry) stop }
+    ensures quiet { (result ≡ 0) ⊎ (result ≡ 4) → err.new ≡ err.old }
+{
+    match expected {
+        None => stop_status(stop),
+        Some(words) => {
+            if is_worded(&stop, words) {
+                0
+            } else {
+                let _ = write_other_end(&stop, words, err);
+                1
+            }
+        }
+    }
+}
+
+/// Writes the words of the stop that was expected and of the one that came.
+fn write_other_end<E: Write>(stop: &Stop, expected: &str, err: &mut E) -> io::Result<()> {
+    let line = stop_line(stop);
+    let ended = str::from_utf8(words_in(line.as_slice())).unwrap_or("otherwise");
+    writeln!(err, "marm: expected {expected}, ended {ended}")
 }
 
 /// Runs an image on a board and writes its trace.

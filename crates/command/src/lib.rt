@@ -5,6 +5,7 @@
 mod commands;
 mod debugging;
 mod engine;
+mod expectation;
 mod explanations;
 mod fault;
 mod files;
@@ -18,4 +19,4 @@ pub use engine::go;
 pub use explanations::explain;
 pub use fault::{Fault, tell};
 pub use files::{FileFault, InputFile, read_file, words};
-pub use request::{Request, Task, read_words};
+pub use request::{Request, RunRequest, Task, read_words};

@@ -1,9 +1,10 @@
 //! What the arguments of the program ask for.
 
-ghost use Rattle.std.specs.Prelude.{◌≡◌, ◌≤◌, ◌^◌, IfSome, None, map, string_bytes};
+ghost use Rattle.std.specs.Prelude.{◌≡◌, ◌≤◌, ◌^◌, ◌⊎◌, IfSome, None, map, string_bytes};
 ghost use Rattle.command.specs.Tasks.{AsksRun, IsSteps, Requests, number_in};
-ghost use Rattle.command_line.specs.Asked.{run_of};
+ghost use Rattle.command_line.specs.Asked.{answer_of, memory, run_of, usage};
 
+use crate::expectation::is_stop;
 use command_line::{MOST_STEPS, RunWords, Words, WordsFault, words_of};
 use std::alloc::Global;
 
@@ -14,16 +15,25 @@ pub struct Request<'a> {
     pub board: &'a str,
     /// The path of the image file.
     pub image: &'a str,
-    pub task: Task,
+    pub task: Task<'a>,
 }
 
 /// What is to be done with the image.
 #[derive(Clone, Copy)]
-pub enum Task {
-    /// Run it for at most this many steps.
-    Run(u64),
+pub enum Task<'a> {
+    /// Run it.
+    Run(RunRequest<'a>),
     /// Debug it by the commands on standard input.
     Debug,
+}
+
+/// How an image is run.
+#[derive(Clone, Copy)]
+pub struct RunRequest<'a> {
+    /// The most steps to make.
+    pub steps: u64,
+    /// The words of the stop line that is expected, after `stop `.
+    pub expect: Option<&'a str>,
 }
 
 /// Reads the arguments; the first one is the program's name.
@@ -42,18 +52,26 @@ pub fn read_words<'a>(alloc: Global, words: &'a [String]) -> Result<Request<'a>,
     }
 }
 
-/// Reads the number of steps of a run.
+/// Reads the values of a run.
 fn run_request<'a>(alloc: Global, run: RunWords<'a>) -> Result<Request<'a>, WordsFault>
     ensures { AsksRun (run_of run.entry) result }
 {
-    match steps_in(run.steps) {
-        Some(steps) => Ok(Request {
-            board: run.board,
-            image: run.image,
-            task: Task::Run(steps),
-        }),
-        None => Err(WordsFault::Wrong(String::new(alloc))),
+    let Some(steps) = steps_in(run.steps) else {
+        return Err(wrong_value(alloc, run.steps, "--steps <N>", STEPS_ADVICE));
+    };
+    if let Some(words) = run.expect {
+        if !is_stop(words) {
+            return Err(wrong_value(alloc, words, "--expect <STOP>", STOPS_ADVICE));
+        }
     }
+    Ok(Request {
+        board: run.board,
+        image: run.image,
+        task: Task::Run(RunRequest {
+            steps,
+            expect: run.expect,
+        }),
+    })
 }
 
 /// Returns the number of steps in a text.
@@ -65,5 +83,23 @@ fn steps_in(text: &str) -> Option<u64>
     match text.parse::<u64>() {
         Ok(steps) if steps <= MOST_STEPS => Some(steps),
         _ => None,
+    }
+}
+
+/// What `--steps` takes.
+const STEPS_ADVICE: &str = "--steps takes a decimal number from 0 to 4294967296.";
+
+/// What `--expect` takes.
+const STOPS_ADVICE: &str = "\
+--expect takes the words of a stop line after `stop`: steps, breakpoint N (N from 0 to 255), reset, lockup,
+or unpredictable or outofprofile and a name.";
+
+/// Returns the fault of an option's value that isn't allowed, with what is.
+fn wrong_value(alloc: Global, value: &str, option: &str, advice: &str) -> WordsFault
+    ensures { (answer_of result ≡ usage) ⊎ (answer_of result ≡ memory) }
+{
+    match format!(in alloc; "error: invalid value '{value}' for '{option}'\n{advice}\n") {
+        Ok(text) => WordsFault::Wrong(text),
+        Err(_) => WordsFault::OutOfMemory,
     }
 }

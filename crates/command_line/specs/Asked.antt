@@ -1,5 +1,6 @@
 -- What the arguments ask for, as a function of the matches of `clap`.
-use Rattle.std.specs.Prelude.{◌≡◌, ◌⊎◌, if◌then◌else◌, List, [], Option, Some, None, Result, Ok, Err, codes}
+use Rattle.std.specs.Prelude.{◌≡◌, ◌⊎◌, if◌then◌else◌, List, [], Option, Some, None, Result, Ok, Err, codes, option_map}
+use Rattle.std.specs.Borrow.{Bor}
 use Rattle.std.specs.Str.{bytes_eq}
 use Rattle.clap.specs.Faults.{fault_of}
 use Rattle.clap.specs.Kinds.{IsAmong}
@@ -20,6 +21,7 @@ pub record AskedRun : Type 0 where
   pub board : Text
   pub steps : Text
   pub image : Text
+  pub expect : Option Text
 
 -- the arguments of a debug session
 pub record AskedDebug : Type 0 where
@@ -31,10 +33,14 @@ pub data Asked : Type 0 where
   debug : AskedDebug → Asked
 
 -- a run, where its three required arguments have values
-abbrev pub run_with : Option Text → Option Text → Option Text → Option Asked
-run_with (Some board) (Some steps) (Some image) =
-    Some (run (record { board = board; steps = steps; image = image }))
-run_with _ _ _ = None
+abbrev pub run_with : Option Text → Option Text → Option Text → List Row → Option Asked
+run_with (Some board) (Some steps) (Some image) rows = Some (run (record {
+  board = board;
+  steps = steps;
+  image = image;
+  expect = first_of (codes "expect") rows;
+}))
+run_with _ _ _ rows = None
 
 -- a session, where its two arguments have values
 abbrev pub debug_with : Option Text → Option Text → Option Asked
@@ -45,7 +51,7 @@ debug_with _ _ = None
 abbrev pub asked_by : Text → List Row → Option Asked
 asked_by name rows =
     if bytes_eq name (codes "run")
-    then run_with (first_of (codes "board") rows) (first_of (codes "steps") rows) (first_of (codes "image") rows)
+    then run_with (first_of (codes "board") rows) (first_of (codes "steps") rows) (first_of (codes "image") rows) rows
     else (if bytes_eq name (codes "debug")
     then debug_with (first_of (codes "board") rows) (first_of (codes "image") rows)
     else None)
@@ -58,9 +64,14 @@ asked_in (Some met) = asked_by met.0 met.1
 abbrev pub asked : List Text → Option Asked
 asked words = asked_in (subcommand_of marm words)
 
+-- the texts of an option that may be left out
+abbrev pub text_of : Option (Bor Text) → Option Text
+text_of = option_map (λ s. s.now)
+
 -- what a value of `Words` says
 abbrev pub run_of : RunWords → AskedRun
-run_of r = record { board = r.board.now; steps = r.steps.now; image = r.image.now }
+run_of r =
+    record { board = r.board.now; steps = r.steps.now; image = r.image.now; expect = text_of r.expect }
 
 abbrev pub asked_of : Words → Asked
 asked_of (words.Run r) = run (run_of r)

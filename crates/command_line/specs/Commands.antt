@@ -27,9 +27,9 @@ image = record (operand (codes "image")) { required = true }
 abbrev pub run_in_steps : App
 run_in_steps = with_rule (with_rule (new_app (codes "run")) board) steps
 
--- marm run --board FILE --steps N IMAGE
+-- and then [--expect STOP] IMAGE
 abbrev pub run : App
-run = with_rule run_in_steps image
+run = with_rule (with_rule run_in_steps (option (codes "expect"))) image
 
 -- marm debug --board FILE IMAGE
 abbrev pub debug : App

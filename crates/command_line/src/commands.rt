@@ -5,7 +5,7 @@ ghost use Rattle.clap.specs.Words.{app_of, rule_of};
 ghost use Rattle.clap.specs.declared.builder.command.Command.TheViews.{out-Command};
 ghost use Rattle.command_line.specs.Commands as spec;
 
-use crate::texts::{AFTER_DEBUG, AFTER_MARM, AFTER_RUN, STEPS_HELP};
+use crate::texts::{AFTER_DEBUG, AFTER_MARM, AFTER_RUN, EXPECT_HELP, STEPS_HELP};
 use clap::builder::ValueParser;
 use clap::{Arg, ArgAction, Command};
 use std::alloc::{AllocError, Global};
@@ -48,6 +48,7 @@ fn run<'a>(alloc: Global) -> Result<Command<'a>, AllocError>
     ensures local { IfOk result (λ c. (out-Command c).has_globals ≡ false) }
 {
     let run = run_in_steps(alloc)?;
+    let run = run.arg(option(alloc, "expect", "STOP", EXPECT_HELP))?;
     run.arg(image(alloc))
 }
 
@@ -63,7 +64,7 @@ fn run_in_steps<'a>(alloc: Global) -> Result<Command<'a>, AllocError>
     run.arg(steps(alloc))
 }
 
-/// Returns the option `--name VALUE`.
+/// Returns the option `--name VALUE`, which may be left out.
 fn option<'a>(alloc: Global, name: &'a str, value: &'a str, help: &'a str) -> Arg<'a>
     ensures rule { rule_of result ≡ spec.option name.entry.now }
     ensures local { result.global ≡ false }

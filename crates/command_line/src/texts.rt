@@ -16,17 +16,23 @@ pub const STEPS_ADVICE: &str = "--steps takes a decimal number from 0 to 4294967
 pub const STEPS_HELP: &str =
     "The most steps (instructions, halves of exception entries, idle ticks) to make, from 0 to 4294967296";
 
+/// What the help says of `--expect`.
+pub const EXPECT_HELP: &str =
+    "The words of the last line after `stop`, as \"breakpoint 0\": status 0 if the run ends so, and 1 if it doesn't";
+
 /// The commands of the program.
 pub const COMMANDS_ADVICE: &str = "The commands are run, debug and help.\n";
 
 /// What the program's help says of its statuses and messages.
 pub const AFTER_MARM: &str = "\
 Exit status:
-  0  all steps were made, a breakpoint was met, or a debug session ended; or the version was asked for
+  0  all steps were made, a breakpoint was met, the run ended as expected (--expect), or a debug session
+     ended; or the version was asked for
+  1  the run ended otherwise than expected (--expect)
   2  the arguments are wrong, or help was asked for (marm: usage)
   3  the image or the board is refused, or memory ran out for the board or the machine
      (marm: load, board, start, size)
-  4  the machine stopped otherwise: the trace's last line says why
+  4  the machine stopped otherwise, without --expect: the trace's last line says why
   5  reading or writing failed, or memory ran out for the arguments or a file (marm: io)
 
 Example:
@@ -38,11 +44,12 @@ The trace has one line for each access: its tick, kind, address, size in bytes, 
 and the rule or region that decided it. Its last line says why the run ended.
 
 Exit status:
-  0  all steps were made, or a breakpoint was met
+  0  all steps were made, or a breakpoint was met; with --expect, the run ended as expected
+  1  the run ended otherwise than expected (--expect)
   2  the arguments are wrong, or help was asked for (marm: usage)
   3  the image or the board is refused, or memory ran out for the board or the machine
      (marm: load, board, start, size)
-  4  the machine stopped otherwise: the trace's last line says why
+  4  the machine stopped otherwise, without --expect: the trace's last line says why
   5  reading or writing failed, or memory ran out for the arguments or a file (marm: io)
 
 Example:

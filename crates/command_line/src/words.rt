@@ -18,6 +18,8 @@ pub struct RunWords<'a> {
     pub steps: &'a str,
     /// The path of the image file.
     pub image: &'a str,
+    /// The words of the stop line that is expected.
+    pub expect: Option<&'a str>,
 }
 
 /// The arguments of `debug`.
@@ -93,7 +95,7 @@ fn debug_words<'a>(alloc: Global, debug: &ArgMatches<'a>) -> Result<Words<'a>, W
 
 /// Returns the values of the arguments of `run`. `clap` has found those that a run needs.
 fn run_words<'a>(alloc: Global, run: &ArgMatches<'a>) -> Result<Words<'a>, WordsFault>
-    ensures { Reads (run_with (first_of (codes "board") (rows_of (found_of run.now))) (first_of (codes "steps") (rows_of (found_of run.now))) (first_of (codes "image") (rows_of (found_of run.now)))) result }
+    ensures { Reads (run_with (first_of (codes "board") (rows_of (found_of run.now))) (first_of (codes "steps") (rows_of (found_of run.now))) (first_of (codes "image") (rows_of (found_of run.now))) (rows_of (found_of run.now))) result }
 {
     match (
         value_of(run, "board"),
@@ -104,6 +106,7 @@ fn run_words<'a>(alloc: Global, run: &ArgMatches<'a>) -> Result<Words<'a>, Words
             board,
             steps,
             image,
+            expect: value_of(run, "expect"),
         })),
         _ => Err(WordsFault::Wrong(String::new(alloc))),
     }

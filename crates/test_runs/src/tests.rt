@@ -12,6 +12,7 @@ mod handlers;
 mod instructions;
 mod machines;
 mod named_stops;
+mod options;
 mod pairs;
 mod places;
 mod run;

@@ -28,11 +28,13 @@ out   -h, --help     Print help
 out   -V, --version  Print version
 out
 out Exit status:
-out   0  all steps were made, a breakpoint was met, or a debug session ended; or the version was asked for
+out   0  all steps were made, a breakpoint was met, the run ended as expected (--expect), or a debug session
+out      ended; or the version was asked for
+out   1  the run ended otherwise than expected (--expect)
 out   2  the arguments are wrong, or help was asked for (marm: usage)
 out   3  the image or the board is refused, or memory ran out for the board or the machine
 out      (marm: load, board, start, size)
-out   4  the machine stopped otherwise: the trace's last line says why
+out   4  the machine stopped otherwise, without --expect: the trace's last line says why
 out   5  reading or writing failed, or memory ran out for the arguments or a file (marm: io)
 out
 out Example:
@@ -44,25 +46,27 @@ words run --help
 ends 2
 out Runs an image on a board and writes the trace to standard output
 out
-out Usage: marm run --board <FILE> --steps <N> <IMAGE>
+out Usage: marm run [OPTIONS] --board <FILE> --steps <N> <IMAGE>
 out
 out Arguments:
 out   <IMAGE>  The image: an ELF file for ARM of at most 16 MiB, linked to run
 out
 out Options:
-out       --board <FILE>  The board: a TOML file of at most 16 MiB with the memory sizes, the interrupt lines and the events
-out       --steps <N>     The most steps (instructions, halves of exception entries, idle ticks) to make, from 0 to 4294967296
-out   -h, --help          Print help
+out       --board <FILE>   The board: a TOML file of at most 16 MiB with the memory sizes, the interrupt lines and the events
+out       --steps <N>      The most steps (instructions, halves of exception entries, idle ticks) to make, from 0 to 4294967296
+out       --expect <STOP>  The words of the last line after `stop`, as \"breakpoint 0\": status 0 if the run ends so, and 1 if it doesn't
+out   -h, --help           Print help
 out
 out The trace has one line for each access: its tick, kind, address, size in bytes, privilege, outcome,
 out and the rule or region that decided it. Its last line says why the run ended.
 out
 out Exit status:
-out   0  all steps were made, or a breakpoint was met
+out   0  all steps were made, or a breakpoint was met; with --expect, the run ended as expected
+out   1  the run ended otherwise than expected (--expect)
 out   2  the arguments are wrong, or help was asked for (marm: usage)
 out   3  the image or the board is refused, or memory ran out for the board or the machine
 out      (marm: load, board, start, size)
-out   4  the machine stopped otherwise: the trace's last line says why
+out   4  the machine stopped otherwise, without --expect: the trace's last line says why
 out   5  reading or writing failed, or memory ran out for the arguments or a file (marm: io)
 out
 out Example:
@@ -86,11 +90,13 @@ out   -h, --help     Print help
 out   -V, --version  Print version
 out
 out Exit status:
-out   0  all steps were made, a breakpoint was met, or a debug session ended; or the version was asked for
+out   0  all steps were made, a breakpoint was met, the run ended as expected (--expect), or a debug session
+out      ended; or the version was asked for
+out   1  the run ended otherwise than expected (--expect)
 out   2  the arguments are wrong, or help was asked for (marm: usage)
 out   3  the image or the board is refused, or memory ran out for the board or the machine
 out      (marm: load, board, start, size)
-out   4  the machine stopped otherwise: the trace's last line says why
+out   4  the machine stopped otherwise, without --expect: the trace's last line says why
 out   5  reading or writing failed, or memory ran out for the arguments or a file (marm: io)
 out
 out Example:
@@ -102,25 +108,27 @@ words help run
 ends 2
 out Runs an image on a board and writes the trace to standard output
 out
-out Usage: marm run --board <FILE> --steps <N> <IMAGE>
+out Usage: marm run [OPTIONS] --board <FILE> --steps <N> <IMAGE>
 out
 out Arguments:
 out   <IMAGE>  The image: an ELF file for ARM of at most 16 MiB, linked to run
 out
 out Options:
-out       --board <FILE>  The board: a TOML file of at most 16 MiB with the memory sizes, the interrupt lines and the events
-out       --steps <N>     The most steps (instructions, halves of exception entries, idle ticks) to make, from 0 to 4294967296
-out   -h, --help          Print help
+out       --board <FILE>   The board: a TOML file of at most 16 MiB with the memory sizes, the interrupt lines and the events
+out       --steps <N>      The most steps (instructions, halves of exception entries, idle ticks) to make, from 0 to 4294967296
+out       --expect <STOP>  The words of the last line after `stop`, as \"breakpoint 0\": status 0 if the run ends so, and 1 if it doesn't
+out   -h, --help           Print help
 out
 out The trace has one line for each access: its tick, kind, address, size in bytes, privilege, outcome,
 out and the rule or region that decided it. Its last line says why the run ended.
 out
 out Exit status:
-out   0  all steps were made, or a breakpoint was met
+out   0  all steps were made, or a breakpoint was met; with --expect, the run ended as expected
+out   1  the run ended otherwise than expected (--expect)
 out   2  the arguments are wrong, or help was asked for (marm: usage)
 out   3  the image or the board is refused, or memory ran out for the board or the machine
 out      (marm: load, board, start, size)
-out   4  the machine stopped otherwise: the trace's last line says why
+out   4  the machine stopped otherwise, without --expect: the trace's last line says why
 out   5  reading or writing failed, or memory ran out for the arguments or a file (marm: io)
 out
 out Example:
@@ -253,7 +261,7 @@ err error: unexpected argument '--frob' found
 err
 err   tip: to pass '--frob' as a value, use '-- --frob'
 err
-err Usage: marm run --board <FILE> --steps <N> <IMAGE>
+err Usage: marm run [OPTIONS] --board <FILE> --steps <N> <IMAGE>
 err
 err For more information, try '--help'.
 err Only the options of the usage are taken, and --steps takes no negative number.
@@ -266,7 +274,7 @@ err marm: usage
 err error: the following required arguments were not provided:
 err   --steps <N>
 err
-err Usage: marm run --board <FILE> --steps <N> <IMAGE>
+err Usage: marm run [OPTIONS] --board <FILE> --steps <N> <IMAGE>
 err
 err For more information, try '--help'.
 
@@ -318,7 +326,7 @@ err error: unexpected argument '-1' found
 err
 err   tip: to pass '-1' as a value, use '-- -1'
 err
-err Usage: marm run --board <FILE> --steps <N> <IMAGE>
+err Usage: marm run [OPTIONS] --board <FILE> --steps <N> <IMAGE>
 err
 err For more information, try '--help'.
 err Only the options of the usage are taken, and --steps takes no negative number.
@@ -332,7 +340,7 @@ err error: unexpected argument '-x' found
 err
 err   tip: to pass '-x' as a value, use '-- -x'
 err
-err Usage: marm run --board <FILE> --steps <N> <IMAGE>
+err Usage: marm run [OPTIONS] --board <FILE> --steps <N> <IMAGE>
 err
 err For more information, try '--help'.
 err Only the options of the usage are taken, and --steps takes no negative number.
@@ -346,7 +354,7 @@ err error: unexpected argument '-1' found
 err
 err   tip: to pass '-1' as a value, use '-- -1'
 err
-err Usage: marm run --board <FILE> --steps <N> <IMAGE>
+err Usage: marm run [OPTIONS] --board <FILE> --steps <N> <IMAGE>
 err
 err For more information, try '--help'.
 err Only the options of the usage are taken, and --steps takes no negative number.
@@ -405,7 +413,7 @@ ends 2
 err marm: usage
 err error: unexpected argument 'other.elf' found
 err
-err Usage: marm run --board <FILE> --steps <N> <IMAGE>
+err Usage: marm run [OPTIONS] --board <FILE> --steps <N> <IMAGE>
 err
 err For more information, try '--help'.
 
@@ -437,7 +445,7 @@ ends 2
 err marm: usage
 err error: the argument '--board <FILE>' cannot be used multiple times
 err
-err Usage: marm run --board <FILE> --steps <N> <IMAGE>
+err Usage: marm run [OPTIONS] --board <FILE> --steps <N> <IMAGE>
 err
 err For more information, try '--help'.";
 

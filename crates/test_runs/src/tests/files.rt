@@ -745,7 +745,7 @@ fn steps_of(alloc: Global, line: &str) -> Option<u64> {
     }
     let request = read_words(alloc, words.as_slice()).ok()?;
     match request.task {
-        Task::Run(steps) => Some(steps),
+        Task::Run(run) => Some(run.steps),
         Task::Debug => None,
     }
 }

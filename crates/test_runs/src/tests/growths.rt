@@ -314,7 +314,11 @@ fn ready_words(alloc: Global, words: &[&str]) -> Result<Vec<String>, AllocError>
 fn reading_words(alloc: Global, words: &[String]) -> Answer {
     match read_words(alloc, words) {
         Ok(request) => match request.task {
-            Task::Run(2) if request.board == BOARD_PATH && request.image == IMAGE_PATH => {
+            Task::Run(run)
+                if run.steps == 2
+                    && request.board == BOARD_PATH
+                    && request.image == IMAGE_PATH =>
+            {
                 Answer::Whole
             }
             _ => Answer::Wrong,

@@ -1,0 +1,30 @@
+-- The words in the line of a stop.
+use Rattle.std.proofs.Common.{◌≡◌, ◌∙◌, ℕ, ◌+◌, ◌-◌, ◌<◌, zero, suc, List, [], ◌∷◌, ◌++◌, arith, ap, codes, drop, length, refl, sym, take, true}
+use Rattle.std.proofs.lemmas.List.{length-append}
+use Rattle.std.proofs.lemmas.Slice.Eq.{bytes_eq-Decides}
+use Rattle.std.specs.Str.{bytes_eq}
+use Rattle.command.specs.Statuses.{IsStopText}
+use Rattle.reference.specs.declared.stop.Stop.{Stop}
+use Rattle.reference.specs.Text.{line_feed, stop_text}
+
+-- a text that equals the words of a stop
+pub has_text : (why : Stop) (words : List ℕ) → bytes_eq (stop_text why) words ≡ true → IsStopText words
+has_text why words e = (why, (bytes_eq-Decides (stop_text why) words).0 e)
+
+front : (words : List ℕ) → take (length words) (words ++ line_feed) ≡ words
+front [] = refl
+front (w ∷ rest) = ap (λ (l : List ℕ). w ∷ l) (front rest)
+
+-- a line without its line feed
+pub all_but_last : (words : List ℕ) → take (length (words ++ line_feed) - 1) (words ++ line_feed) ≡ words
+all_but_last words =
+    let short : length (words ++ line_feed) - 1 ≡ length words =
+    rw (length-append words line_feed) (omega arith) in
+    rw short (front words)
+
+pub worded : (line words : List ℕ) → line ≡ (codes "stop " ++ words) ++ line_feed
+    → take (length (drop 5 line) - 1) (drop 5 line) ≡ words
+worded line words e = rw e (all_but_last words)
+
+pub long_enough : (line words : List ℕ) → line ≡ (codes "stop " ++ words) ++ line_feed → 5 < length line
+long_enough line words e = rw (e, length-append (codes "stop " ++ words) line_feed) (omega arith)
