@@ -7,24 +7,26 @@ use Rattle.board.specs.declared.whole.Board.{Board as TheBoard}
 use Rattle.board.specs.Seen.{Answers, described}
 use Rattle.board.specs.Texts.{board_of}
 use Rattle.command.specs.Statuses.{Reads, board_in_file}
-use Rattle.machine.proofs.Running.{left_prefix}
+use Rattle.machine.proofs.Selecting.{selected_left_prefix}
 use Rattle.machine.specs.declared.whole.RunFault.{RunFault}
 use Rattle.machine.specs.declared.whole.RunFault.TheVariants.{Write, Broken}
-use Rattle.machine.specs.Runs.{Fails}
+use Rattle.machine.specs.Selected.{SelectedFails}
 use Rattle.machine.specs.Whole.{Whole}
 use Rattle.output.specs.Gathered.{GrowsByPrefix}
 use Rattle.reference.specs.declared.fault.BoardFault.{BoardFault}
 use Rattle.reference.specs.declared.fault.BoardFault.TheVariants.{NotToml, OutOfMemory}
 use Rattle.reference.specs.Boards.{Described}
-use Rattle.reference.specs.Run.{trace}
+use Rattle.trace.specs.declared.selection.TraceSelection.{TraceSelection}
+use Rattle.trace.specs.Selection.{selected_trace}
 
--- a run that failed in a machine whose writers hadn't failed before put a prefix of the trace
-pub failed_cut : (n : ℕ) (old new : Whole) (put put' : Option (List ℕ)) (faults faults' : ℕ) (fault : RunFault)
-    → Fails n old new put put' faults faults' fault → (fault ≡ Broken → old.broken ≡ true) → old.broken ≡ false
-    → GrowsByPrefix put put' (trace n old.state) × (faults' ≡ faults + 1)
-failed_cut n old new put put' faults faults' (Write steps) fails broken whole =
-    (left_prefix n old.state steps put put' new.state fails.0, fails.2)
-failed_cut n old new put put' faults faults' Broken fails broken whole =
+-- a run that failed in a machine whose writers hadn't failed before put a prefix of its text
+pub failed_cut : (selection : TraceSelection) (n : ℕ) (old new : Whole) (put put' : Option (List ℕ))
+    (faults faults' : ℕ) (fault : RunFault) → SelectedFails selection n old new put put' faults faults' fault
+    → (fault ≡ Broken → old.broken ≡ true) → old.broken ≡ false
+    → GrowsByPrefix put put' (selected_trace selection n old.state) × (faults' ≡ faults + 1)
+failed_cut selection n old new put put' faults faults' (Write steps) fails broken whole =
+    (selected_left_prefix selection n old.state steps put put' new.state fails.0, fails.2)
+failed_cut selection n old new put put' faults faults' Broken fails broken whole =
     absurd (let wrong : true ≡ false = sym (broken refl) ∙ whole in cc)
 
 -- what the reader of boards answers is what is read here

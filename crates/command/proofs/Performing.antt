@@ -8,11 +8,12 @@ use Rattle.reference.specs.declared.fault.BoardFault.{BoardFault}
 use Rattle.reference.specs.declared.fault.LoadFault.{LoadFault}
 use Rattle.reference.specs.Boards.{Described}
 use Rattle.reference.specs.Images.{Segment}
+use Rattle.trace.specs.declared.selection.TraceSelection.{TraceSelection}
 
-pub runs_to : (image : Result (List Segment) LoadFault) (board : Result Described BoardFault) (steps : ℕ)
-    (expected : Option (List ℕ)) (old new : Gathered) (status : ℕ) → GoesTo image board steps expected old new status
-    → RunsTo image board steps expected status
-runs_to image board steps expected old new status goes = record { old = old; new = new; goes = goes }
+pub runs_to : (image : Result (List Segment) LoadFault) (board : Result Described BoardFault)
+    (selection : TraceSelection) (steps : ℕ) (expected : Option (List ℕ)) (old new : Gathered) (status : ℕ)
+    → GoesTo image board selection steps expected old new status → RunsTo image board selection steps expected status
+runs_to image board selection steps expected old new status goes = record { old = old; new = new; goes = goes }
 
 pub session_to : (image : Result (List Segment) LoadFault) (board : Result Described BoardFault) (before after : Source)
     (out out' : Sink) (status : ℕ) → DebugsTo image board before after out out' status → SessionTo image board status

@@ -19,10 +19,12 @@ use Rattle.reference.specs.declared.stop.Stop.TheVariants as stop
 use Rattle.reference.specs.Boards.{Described}
 use Rattle.reference.specs.Images.{Segment}
 use Rattle.output.specs.Gathered.{Gathered, IsCut, SendsAll}
-use Rattle.reference.specs.Run.{ending_of, trace}
+use Rattle.reference.specs.Run.{ending_of}
 use Rattle.reference.specs.Start.{start}
 use Rattle.reference.specs.State.{State}
 use Rattle.reference.specs.Text.{stop_text}
+use Rattle.trace.specs.declared.selection.TraceSelection.{TraceSelection}
+use Rattle.trace.specs.Selection.{selected_trace}
 
 abbrev pub fault_status : Fault → ℕ
 fault_status Usage = 2
@@ -49,30 +51,32 @@ abbrev pub Reads : Result Described BoardFault → Result TheBoard BoardFault �
 Reads read (Ok board) = read ≡ Ok (described board)
 Reads read (Err fault) = (read ≡ Err fault) ⊎ (fault ≡ OutOfMemory)
 
--- a run from a state ends with the reference machine's stop, and its whole trace went out; or a call of the writer
--- failed, and what was put is a prefix of the trace
-abbrev pub Runs : ℕ → State → Gathered → Gathered → Result Stop Fault → Type 0
-Runs steps s old new (Ok why) = (why ≡ ending_of steps s) × SendsAll (trace steps s) old new
-Runs steps s old new (Err fault) = (fault ≡ Io) × IsCut (trace steps s) old new
+-- a run from a state ends with the reference machine's stop, and the whole text of the selected events went out; or a
+-- call of the writer failed, and what was put is a prefix of that text
+abbrev pub Runs : TraceSelection → ℕ → State → Gathered → Gathered → Result Stop Fault → Type 0
+Runs selection steps s old new (Ok why) =
+    (why ≡ ending_of steps s) × SendsAll (selected_trace selection steps s) old new
+Runs selection steps s old new (Err fault) = (fault ≡ Io) × IsCut (selected_trace selection steps s) old new
 
 -- a refusal, with which nothing is put
 abbrev pub Refuses : Fault → Gathered → Gathered → Result Stop Fault → Type 0
 Refuses fault old new result = (result ≡ Err fault) × (new ≡ old)
 
 -- a run from a start state, or out of memory for it, or the refusal of the start
-abbrev pub Starts : ℕ → Result State StartFault → Gathered → Gathered → Result Stop Fault → Type 0
-Starts steps (Ok s) old new result = Runs steps s old new result ⊎ Refuses (Start NoMemory) old new result
-Starts steps (Err refusal) old new result = Refuses (Start refusal) old new result
+abbrev pub Starts : TraceSelection → ℕ → Result State StartFault → Gathered → Gathered → Result Stop Fault → Type 0
+Starts selection steps (Ok s) old new result =
+    Runs selection steps s old new result ⊎ Refuses (Start NoMemory) old new result
+Starts selection steps (Err refusal) old new result = Refuses (Start refusal) old new result
 
 -- an image or a board that is refused is refused as the definition refuses it, the image first; out of memory for
 -- the board may take the place of every later refusal
-abbrev pub Executes : Result (List Segment) LoadFault → Result Described BoardFault → ℕ → Gathered → Gathered
-    → Result Stop Fault → Type 0
-Executes (Ok image) (Ok board) steps old new result =
-    Starts steps (start board image) old new result ⊎ Refuses (Board OutOfMemory) old new result
-Executes (Ok image) (Err refusal) steps old new result =
+abbrev pub Executes : Result (List Segment) LoadFault → Result Described BoardFault → TraceSelection → ℕ → Gathered
+    → Gathered → Result Stop Fault → Type 0
+Executes (Ok image) (Ok board) selection steps old new result =
+    Starts selection steps (start board image) old new result ⊎ Refuses (Board OutOfMemory) old new result
+Executes (Ok image) (Err refusal) selection steps old new result =
     Refuses (Board refusal) old new result ⊎ Refuses (Board OutOfMemory) old new result
-Executes (Err refusal) board steps old new result = Refuses (Load refusal) old new result
+Executes (Err refusal) board selection steps old new result = Refuses (Load refusal) old new result
 
 -- 0 where the stop has the words that are expected, else 1; without an expectation the status of the stop
 abbrev pub ending_status : Option (List ℕ) → Stop → ℕ
@@ -85,18 +89,19 @@ status_of expected (Ok why) = ending_status expected why
 status_of expected (Err fault) = fault_status fault
 
 -- an image is run on a board, and the status is that of its end
-pub record GoesTo (image : Result (List Segment) LoadFault) (board : Result Described BoardFault) (steps : ℕ)
-    (expected : Option (List ℕ)) (old new : Gathered) (status : ℕ) : Type 0 where
+pub record GoesTo (image : Result (List Segment) LoadFault) (board : Result Described BoardFault)
+    (selection : TraceSelection) (steps : ℕ) (expected : Option (List ℕ)) (old new : Gathered) (status : ℕ)
+    : Type 0 where
   pub result : Result Stop Fault
-  pub executed : Executes image board steps old new result
+  pub executed : Executes image board selection steps old new result
   pub is : status ≡ status_of expected result
 
 -- the status is that of a run of the image on the board
-pub record RunsTo (image : Result (List Segment) LoadFault) (board : Result Described BoardFault) (steps : ℕ)
-    (expected : Option (List ℕ)) (status : ℕ) : Type 0 where
+pub record RunsTo (image : Result (List Segment) LoadFault) (board : Result Described BoardFault)
+    (selection : TraceSelection) (steps : ℕ) (expected : Option (List ℕ)) (status : ℕ) : Type 0 where
   pub old : Gathered
   pub new : Gathered
-  pub goes : GoesTo image board steps expected old new status
+  pub goes : GoesTo image board selection steps expected old new status
 
 -- a text is the words of a stop
 abbrev pub IsStopText : List ℕ → Type 0

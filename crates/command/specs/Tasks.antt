@@ -1,5 +1,7 @@
 -- What the arguments ask for.
-use Rattle.std.specs.Prelude.{◌≡◌, ◌⊎◌, ℕ, ◌^◌, ◌≤◌, IsSome, List, Option, Some, None, Result, Ok, Err}
+use Rattle.std.specs.Prelude.{◌≡◌, ◌⊎◌, ℕ, ◌^◌, ◌≤◌, if◌then◌else◌, IsSome, List, Option, Some, None, Result, Ok, Err}
+use Rattle.std.specs.Prelude.{codes}
+use Rattle.std.specs.Str.{bytes_eq}
 use Rattle.std.specs.Str.Parse.{IsNumeral, digits_value, without_leading_plus}
 use Rattle.command.specs.declared.request.Request.{Request}
 use Rattle.command.specs.declared.request.RunRequest.{RunRequest}
@@ -14,6 +16,8 @@ use Rattle.reference.specs.declared.fault.BoardFault.{BoardFault}
 use Rattle.reference.specs.declared.fault.LoadFault.{LoadFault}
 use Rattle.reference.specs.Boards.{Described}
 use Rattle.reference.specs.Images.{Segment}
+use Rattle.trace.specs.declared.selection.TraceSelection.{TraceSelection}
+use Rattle.trace.specs.declared.selection.TraceSelection.TheVariants as which
 
 -- the number in digits, before which a plus may stand
 abbrev pub number_in : List ℕ → ℕ
@@ -23,14 +27,35 @@ number_in text = digits_value 10 (without_leading_plus text)
 abbrev pub IsSteps : List ℕ → Type 0
 IsSteps text = IsNumeral 10 (without_leading_plus text) × (number_in text ≤ 2 ^ 32)
 
+-- the selection of a word
+abbrev pub selection_named : List ℕ → Option TraceSelection
+selection_named text =
+    if bytes_eq text (codes "all") then Some which.All
+    else (if bytes_eq text (codes "refused") then Some which.Refused
+    else (if bytes_eq text (codes "exceptions") then Some which.Exceptions
+    else (if bytes_eq text (codes "console") then Some which.Console
+    else (if bytes_eq text (codes "none") then Some which.Nothing
+    else None))))
+
+-- the selection that is asked for: all events where none is named
+abbrev pub selection_asked : Option (List ℕ) → Option TraceSelection
+selection_asked None = Some which.All
+selection_asked (Some text) = selection_named text
+
 -- the task is the run that is asked for
+pub record IsTheRun (a : AskedRun) (run : RunRequest) : Type 0 where
+  pub steps : run.steps ≡ number_in a.steps
+  pub bounded : run.steps ≤ 2 ^ 32
+  pub trace : selection_asked a.trace ≡ Some run.trace
+  pub expect : text_of run.expect ≡ a.expect
+
 abbrev pub IsRun : AskedRun → Task → Type 0
-IsRun a (Run run) = (run.steps ≡ number_in a.steps) × (run.steps ≤ 2 ^ 32) × (text_of run.expect ≡ a.expect)
+IsRun a (Run run) = IsTheRun a run
 IsRun a Debug = ⊥
 
--- no number of steps, or an expectation: what may be wrong in a run
+-- no number of steps, no name of a selection, or an expectation: what may be wrong in a run
 abbrev pub MayBeWrong : AskedRun → Type 0
-MayBeWrong a = (¬ IsSteps a.steps) ⊎ IsSome a.expect
+MayBeWrong a = (¬ IsSteps a.steps) ⊎ ((selection_asked a.trace ≡ None) ⊎ IsSome a.expect)
 
 -- the request is the run that is asked for, or a value in it is wrong, or memory ran out for the message
 abbrev pub AsksRun : AskedRun → Result Request WordsFault → Type 0
@@ -59,7 +84,7 @@ Requests words (Err fault) =
     (answer_of fault ≡ memory)
     ⊎ (IsRefused words fault ⊎ ((answer_of fault ≡ usage) × MayRefuse (asked words)))
 
--- the status is that of what is asked for: the run, with its steps and its expectation, or the session
+-- the status is that of what is asked for: the run, with its selection, steps and expectation, or the session
 abbrev pub Performs : Result (List Segment) LoadFault → Result Described BoardFault → Task → ℕ → Type 0
-Performs image board (Run run) status = RunsTo image board run.steps (text_of run.expect) status
+Performs image board (Run run) status = RunsTo image board run.trace run.steps (text_of run.expect) status
 Performs image board Debug status = SessionTo image board status

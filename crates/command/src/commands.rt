@@ -125,7 +125,7 @@ fn run<W: Write + Drop, E: Write>(
     out: W,
     err: &mut E,
 ) -> u8
-    ensures { RunsTo (image_of image.entry.bytes.now) (board_in_file board.entry.bytes.now) asked.entry.steps (text_of asked.entry.expect) result }
+    ensures { RunsTo (image_of image.entry.bytes.now) (board_in_file board.entry.bytes.now) asked.entry.trace asked.entry.steps (text_of asked.entry.expect) result }
 {
     run_files::<W, E, Brand>(alloc, image, board, asked, out, err, Blank::new(1))
 }
@@ -215,7 +215,7 @@ fn run_files<W: Write + Drop, E: Write, K: Ledger>(
     requires name { blank.name ≡ K.name }
     requires parts { blank.parts ≡ K.parts }
     requires some { blank.parts ≡ 1 }
-    ensures { RunsTo (image_of image.entry.bytes.now) (board_in_file board.entry.bytes.now) asked.entry.steps (text_of asked.entry.expect) result }
+    ensures { RunsTo (image_of image.entry.bytes.now) (board_in_file board.entry.bytes.now) asked.entry.trace asked.entry.steps (text_of asked.entry.expect) result }
 {
     let mut out: Paged<Over<LastError<W>, K>> = Paged::new(Over::new(LastError::new(out), blank));
     let status = go(alloc, image, board, asked, &mut out, err);

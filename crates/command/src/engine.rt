@@ -13,13 +13,14 @@ use crate::files::InputFile;
 use crate::request::RunRequest;
 use board::{Board, BoardFault, read_board};
 use elf::load;
-use machine::{Fast, Out, Paged, Stop};
+use machine::{Fast, Out, Paged, Stop, TraceSelection};
 use std::alloc::Global;
 use std::io::Write;
 use std::{io, str};
 use trace::lines::stop_line;
 
-/// Runs an image on a board for at most `run.steps` steps and writes its trace to `out`, or the refusal
+/// Runs an image on a board for at most `run.steps` steps and writes its trace, as far as
+/// `run.trace` selects it, to `out`, or the refusal
 /// to `err`, the fault first and then its reason. Returns the exit status: 0 after all steps or at
 /// a breakpoint, 3 for a refused image, board or start, or where memory runs out for the board or
 /// the machine, 4 at another stop, 5 where `out` failed. With an expectation the status is 0 at the stop
@@ -32,10 +33,10 @@ pub fn go<O: Out + Drop, E: Write>(
     out: &mut Paged<O>,
     err: &mut E,
 ) -> u8
-    ensures goes { GoesTo (image_of image.entry.bytes.now) (board_in_file board.entry.bytes.now) run.entry.steps (text_of run.entry.expect) (gathered out.old) (gathered out.new) result }
+    ensures goes { GoesTo (image_of image.entry.bytes.now) (board_in_file board.entry.bytes.now) run.entry.trace run.entry.steps (text_of run.entry.expect) (gathered out.old) (gathered out.new) result }
     ensures quiet { (result ≡ 0) ⊎ (result ≡ 4) → err.new ≡ err.old }
 {
-    match execute(alloc, image.bytes, board.bytes, run.steps, out) {
+    match execute(alloc, image.bytes, board.bytes, run.trace, run.steps, out) {
         Ok(stop) => end(stop, run.expect, err),
         Err(fault) => {
             let status = tell(fault, err);
@@ -70,32 +71,34 @@ fn write_other_end<E: Write>(stop: &Stop, expected: &str, err: &mut E) -> io::Re
     writeln!(err, "marm: expected {expected}, ended {ended}")
 }
 
-/// Runs an image on a board and writes its trace.
+/// Runs an image on a board and writes those of its events that are selected.
 fn execute<O: Out + Drop>(
     alloc: Global,
     image: &[u8],
     board: &[u8],
+    selection: TraceSelection,
     steps: u64,
     out: &mut Paged<O>,
 ) -> Result<Stop, Fault>
-    ensures { Executes (image_of image.now) (board_in_file board.now) steps (gathered out.old) (gathered out.new) result }
+    ensures { Executes (image_of image.now) (board_in_file board.now) selection steps (gathered out.old) (gathered out.new) result }
 {
     let image = load(image).map_err(Fault::Load)?;
     let board = board_of_file(alloc, board).map_err(Fault::Board)?;
     let mut machine = Fast::new(alloc, &image, &board).map_err(Fault::Start)?;
-    run_through(&mut machine, steps, out)
+    run_through(&mut machine, selection, steps, out)
 }
 
-/// Runs a machine, and flushes its whole trace.
+/// Runs a machine, and flushes the whole text of its selected events.
 fn run_through<O: Out + Drop>(
     machine: &mut Fast,
+    selection: TraceSelection,
     steps: u64,
     out: &mut Paged<O>,
 ) -> Result<Stop, Fault>
     requires { machine.old.broken ≡ false }
-    ensures { Runs steps machine.old.state (gathered out.old) (gathered out.new) result }
+    ensures { Runs selection steps machine.old.state (gathered out.old) (gathered out.new) result }
 {
-    match machine.run(steps, out) {
+    match machine.run_selected(selection, steps, out) {
         Ok(stop) => match out.flush() {
             Ok(()) => Ok(stop),
             Err(_) => Err(Fault::Io),

@@ -1,11 +1,12 @@
 //! What the arguments of the program ask for.
 
 ghost use Rattle.std.specs.Prelude.{◌≡◌, ◌≤◌, ◌^◌, ◌⊎◌, IfSome, None, map, string_bytes};
-ghost use Rattle.command.specs.Tasks.{AsksRun, IsSteps, Requests, number_in};
-ghost use Rattle.command_line.specs.Asked.{answer_of, memory, run_of, usage};
+ghost use Rattle.command.specs.Tasks.{AsksRun, IsSteps, Requests, number_in, selection_asked, selection_named};
+ghost use Rattle.command_line.specs.Asked.{answer_of, memory, run_of, text_of, usage};
 
 use crate::expectation::is_stop;
 use command_line::{MOST_STEPS, RunWords, Words, WordsFault, words_of};
+use machine::TraceSelection;
 use std::alloc::Global;
 
 /// A run or a session, as the arguments ask for it.
@@ -30,6 +31,8 @@ pub enum Task<'a> {
 /// How an image is run.
 #[derive(Clone, Copy)]
 pub struct RunRequest<'a> {
+    /// Which events are written.
+    pub trace: TraceSelection,
     /// The most steps to make.
     pub steps: u64,
     /// The words of the stop line that is expected, after `stop `.
@@ -59,6 +62,14 @@ fn run_request<'a>(alloc: Global, run: RunWords<'a>) -> Result<Request<'a>, Word
     let Some(steps) = steps_in(run.steps) else {
         return Err(wrong_value(alloc, run.steps, "--steps <N>", STEPS_ADVICE));
     };
+    let Some(trace) = selection_in(run.trace) else {
+        return Err(wrong_value(
+            alloc,
+            run.trace.unwrap_or(""),
+            "--trace <WHICH>",
+            SELECTIONS_ADVICE,
+        ));
+    };
     if let Some(words) = run.expect {
         if !is_stop(words) {
             return Err(wrong_value(alloc, words, "--expect <STOP>", STOPS_ADVICE));
@@ -68,6 +79,7 @@ fn run_request<'a>(alloc: Global, run: RunWords<'a>) -> Result<Request<'a>, Word
         board: run.board,
         image: run.image,
         task: Task::Run(RunRequest {
+            trace,
             steps,
             expect: run.expect,
         }),
@@ -85,6 +97,38 @@ fn steps_in(text: &str) -> Option<u64>
         _ => None,
     }
 }
+
+/// Returns the selection that is asked for: all events where none is named.
+fn selection_in(name: Option<&str>) -> Option<TraceSelection>
+    ensures { result ≡ selection_asked (text_of name.entry) }
+{
+    match name {
+        None => Some(TraceSelection::All),
+        Some(name) => selection_named(name),
+    }
+}
+
+/// Returns the selection of a name.
+fn selection_named(name: &str) -> Option<TraceSelection>
+    ensures { result ≡ selection_named name.entry.now }
+{
+    if name == "all" {
+        Some(TraceSelection::All)
+    } else if name == "refused" {
+        Some(TraceSelection::Refused)
+    } else if name == "exceptions" {
+        Some(TraceSelection::Exceptions)
+    } else if name == "console" {
+        Some(TraceSelection::Console)
+    } else if name == "none" {
+        Some(TraceSelection::Nothing)
+    } else {
+        None
+    }
+}
+
+/// What `--trace` takes.
+const SELECTIONS_ADVICE: &str = "--trace takes all, refused, exceptions, console or none.";
 
 /// What `--steps` takes.
 const STEPS_ADVICE: &str = "--steps takes a decimal number from 0 to 4294967296.";

@@ -21,6 +21,7 @@ pub record AskedRun : Type 0 where
   pub board : Text
   pub steps : Text
   pub image : Text
+  pub trace : Option Text
   pub expect : Option Text
 
 -- the arguments of a debug session
@@ -38,6 +39,7 @@ run_with (Some board) (Some steps) (Some image) rows = Some (run (record {
   board = board;
   steps = steps;
   image = image;
+  trace = first_of (codes "trace") rows;
   expect = first_of (codes "expect") rows;
 }))
 run_with _ _ _ rows = None
@@ -70,8 +72,13 @@ text_of = option_map (λ s. s.now)
 
 -- what a value of `Words` says
 abbrev pub run_of : RunWords → AskedRun
-run_of r =
-    record { board = r.board.now; steps = r.steps.now; image = r.image.now; expect = text_of r.expect }
+run_of r = record {
+  board = r.board.now;
+  steps = r.steps.now;
+  image = r.image.now;
+  trace = text_of r.trace;
+  expect = text_of r.expect;
+}
 
 abbrev pub asked_of : Words → Asked
 asked_of (words.Run r) = run (run_of r)

@@ -27,9 +27,13 @@ image = record (operand (codes "image")) { required = true }
 abbrev pub run_in_steps : App
 run_in_steps = with_rule (with_rule (new_app (codes "run")) board) steps
 
--- and then [--expect STOP] IMAGE
+-- and then [--trace WHICH] [--expect STOP]
+abbrev pub run_with_options : App
+run_with_options = with_rule (with_rule run_in_steps (option (codes "trace"))) (option (codes "expect"))
+
+-- and then IMAGE
 abbrev pub run : App
-run = with_rule (with_rule run_in_steps (option (codes "expect"))) image
+run = with_rule run_with_options image
 
 -- marm debug --board FILE IMAGE
 abbrev pub debug : App

@@ -5,7 +5,7 @@ ghost use Rattle.clap.specs.Words.{app_of, rule_of};
 ghost use Rattle.clap.specs.declared.builder.command.Command.TheViews.{out-Command};
 ghost use Rattle.command_line.specs.Commands as spec;
 
-use crate::texts::{AFTER_DEBUG, AFTER_MARM, AFTER_RUN, EXPECT_HELP, STEPS_HELP};
+use crate::texts::{AFTER_DEBUG, AFTER_MARM, AFTER_RUN, EXPECT_HELP, STEPS_HELP, TRACE_HELP};
 use clap::builder::ValueParser;
 use clap::{Arg, ArgAction, Command};
 use std::alloc::{AllocError, Global};
@@ -47,9 +47,18 @@ fn run<'a>(alloc: Global) -> Result<Command<'a>, AllocError>
     ensures app { IfOk result (λ c. app_of c ≡ spec.run) }
     ensures local { IfOk result (λ c. (out-Command c).has_globals ≡ false) }
 {
-    let run = run_in_steps(alloc)?;
-    let run = run.arg(option(alloc, "expect", "STOP", EXPECT_HELP))?;
+    let run = run_with_options(alloc)?;
     run.arg(image(alloc))
+}
+
+/// Returns the subcommand `run`, with its options alone.
+fn run_with_options<'a>(alloc: Global) -> Result<Command<'a>, AllocError>
+    ensures app { IfOk result (λ c. app_of c ≡ spec.run_with_options) }
+    ensures local { IfOk result (λ c. (out-Command c).has_globals ≡ false) }
+{
+    let run = run_in_steps(alloc)?;
+    let run = run.arg(option(alloc, "trace", "WHICH", TRACE_HELP))?;
+    run.arg(option(alloc, "expect", "STOP", EXPECT_HELP))
 }
 
 /// Returns the subcommand `run`, with its board and its steps alone.

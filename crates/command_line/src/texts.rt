@@ -16,6 +16,10 @@ pub const STEPS_ADVICE: &str = "--steps takes a decimal number from 0 to 4294967
 pub const STEPS_HELP: &str =
     "The most steps (instructions, halves of exception entries, idle ticks) to make, from 0 to 4294967296";
 
+/// What the help says of `--trace`.
+pub const TRACE_HELP: &str =
+    "Which lines are written, before the line of the stop: all (the default), refused, exceptions, console or none";
+
 /// What the help says of `--expect`.
 pub const EXPECT_HELP: &str =
     "The words of the last line after `stop`, as \"breakpoint 0\": status 0 if the run ends so, and 1 if it doesn't";
@@ -41,7 +45,10 @@ Example:
 /// What the help of `run` says of the trace and of the statuses.
 pub const AFTER_RUN: &str = "\
 The trace has one line for each access: its tick, kind, address, size in bytes, privilege, outcome,
-and the rule or region that decided it. Its last line says why the run ended.
+and the rule or region that decided it. Its last line says why the run ended. With --trace refused it
+has the refused accesses and the faults alone; with exceptions those, and the entries and returns of
+handlers; with console the bytes that the firmware printed, in place of lines; with none no more than
+the last line.
 
 Exit status:
   0  all steps were made, or a breakpoint was met; with --expect, the run ended as expected

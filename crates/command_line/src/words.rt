@@ -18,6 +18,8 @@ pub struct RunWords<'a> {
     pub steps: &'a str,
     /// The path of the image file.
     pub image: &'a str,
+    /// Which lines are written.
+    pub trace: Option<&'a str>,
     /// The words of the stop line that is expected.
     pub expect: Option<&'a str>,
 }
@@ -106,6 +108,7 @@ fn run_words<'a>(alloc: Global, run: &ArgMatches<'a>) -> Result<Words<'a>, Words
             board,
             steps,
             image,
+            trace: value_of(run, "trace"),
             expect: value_of(run, "expect"),
         })),
         _ => Err(WordsFault::Wrong(String::new(alloc))),

@@ -54,11 +54,15 @@ out
 out Options:
 out       --board <FILE>   The board: a TOML file of at most 16 MiB with the memory sizes, the interrupt lines and the events
 out       --steps <N>      The most steps (instructions, halves of exception entries, idle ticks) to make, from 0 to 4294967296
+out       --trace <WHICH>  Which lines are written, before the line of the stop: all (the default), refused, exceptions, console or none
 out       --expect <STOP>  The words of the last line after `stop`, as \"breakpoint 0\": status 0 if the run ends so, and 1 if it doesn't
 out   -h, --help           Print help
 out
 out The trace has one line for each access: its tick, kind, address, size in bytes, privilege, outcome,
-out and the rule or region that decided it. Its last line says why the run ended.
+out and the rule or region that decided it. Its last line says why the run ended. With --trace refused it
+out has the refused accesses and the faults alone; with exceptions those, and the entries and returns of
+out handlers; with console the bytes that the firmware printed, in place of lines; with none no more than
+out the last line.
 out
 out Exit status:
 out   0  all steps were made, or a breakpoint was met; with --expect, the run ended as expected
@@ -116,11 +120,15 @@ out
 out Options:
 out       --board <FILE>   The board: a TOML file of at most 16 MiB with the memory sizes, the interrupt lines and the events
 out       --steps <N>      The most steps (instructions, halves of exception entries, idle ticks) to make, from 0 to 4294967296
+out       --trace <WHICH>  Which lines are written, before the line of the stop: all (the default), refused, exceptions, console or none
 out       --expect <STOP>  The words of the last line after `stop`, as \"breakpoint 0\": status 0 if the run ends so, and 1 if it doesn't
 out   -h, --help           Print help
 out
 out The trace has one line for each access: its tick, kind, address, size in bytes, privilege, outcome,
-out and the rule or region that decided it. Its last line says why the run ended.
+out and the rule or region that decided it. Its last line says why the run ended. With --trace refused it
+out has the refused accesses and the faults alone; with exceptions those, and the entries and returns of
+out handlers; with console the bytes that the firmware printed, in place of lines; with none no more than
+out the last line.
 out
 out Exit status:
 out   0  all steps were made, or a breakpoint was met; with --expect, the run ended as expected
@@ -274,7 +282,7 @@ err marm: usage
 err error: the following required arguments were not provided:
 err   --steps <N>
 err
-err Usage: marm run [OPTIONS] --board <FILE> --steps <N> <IMAGE>
+err Usage: marm run --board <FILE> --steps <N> <IMAGE>
 err
 err For more information, try '--help'.
 

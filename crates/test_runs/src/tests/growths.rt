@@ -315,10 +315,7 @@ fn reading_words(alloc: Global, words: &[String]) -> Answer {
     match read_words(alloc, words) {
         Ok(request) => match request.task {
             Task::Run(run)
-                if run.steps == 2
-                    && request.board == BOARD_PATH
-                    && request.image == IMAGE_PATH =>
-            {
+                if run.steps == 2 && request.board == BOARD_PATH && request.image == IMAGE_PATH => {
                 Answer::Whole
             }
             _ => Answer::Wrong,

@@ -14,19 +14,31 @@ const BOARD: &str = "options.toml";
 /// The place of the number of the breakpoint in the first image.
 const NUMBER_AT: usize = 94;
 
-/// How the program ended: its status, and what it wrote to standard error.
+/// How the program ended: its status, and what it wrote to standard output and to standard error.
 #[derive(Drop)]
 struct Ended {
     status: u8,
+    out: Cut,
     err: Cut,
 }
 
 impl Ended {
     /// Runs an image with an expectation.
     fn of(rt: &HostRuntime, image: &[u8], steps: &str, expected: &str) -> io::Result<Self> {
+        Ended::with(rt, image, steps, "--expect", expected)
+    }
+
+    /// Runs an image with an option.
+    fn with(
+        rt: &HostRuntime,
+        image: &[u8],
+        steps: &str,
+        option: &str,
+        value: &str,
+    ) -> io::Result<Self> {
         let mut words = Vec::new(rt.alloc());
         let given = [
-            "marm", "run", "--board", BOARD, "--steps", steps, "--expect", expected, IMAGE,
+            "marm", "run", "--board", BOARD, "--steps", steps, option, value, IMAGE,
         ];
         'words: for word in given.iter() {
             words.push(word.to_string(rt.alloc())?)?;
@@ -38,7 +50,7 @@ impl Ended {
         let status = program(rt, words.as_slice(), NO_INPUT, &mut out, &mut err);
         fs::remove_file(rt, IMAGE)?;
         fs::remove_file(rt, BOARD)?;
-        Ok(Ended { status, err })
+        Ok(Ended { status, out, err })
     }
 
     /// Returns whether it ended with this status, and with this on standard error.
@@ -46,6 +58,21 @@ impl Ended {
         self.status == status && self.err.text.as_slice() == err.as_bytes()
     }
 }
+
+/// For each selection of lines, what a run of the first image writes.
+const TRACES: [(&str, &str); 5] = [
+    (
+        "all",
+        "1 F 00000008 2 p ok off\n2 F 0000000A 2 p ok off\nstop breakpoint 0\n",
+    ),
+    ("refused", "stop breakpoint 0\n"),
+    ("exceptions", "stop breakpoint 0\n"),
+    ("console", "stop breakpoint 0\n"),
+    ("none", "stop breakpoint 0\n"),
+];
+
+/// Words that select no lines.
+const NO_TRACES: [&str; 4] = ["", "All", "nothing", "refused,exceptions"];
 
 /// The words of each stop but the breakpoints, as docs/STOPS.md has them.
 const STOPS: [&str; 26] = [
@@ -141,5 +168,26 @@ fn a_fault_keeps_its_status(rt: HostRuntime) -> Result<(), Fail> {
     let err =
         "marm: load 1 Truncated\n  options.elf: the file has 0 bytes, and an ELF header has 52\n";
     assert!(rt; Ended::of(&rt, &[], "10", "steps")?.is(3, err));
+    Ok(())
+}
+
+#[test]
+fn a_trace_has_the_lines_that_are_asked_for(rt: HostRuntime) -> Result<(), Fail> {
+    'traces: for (which, text) in TRACES.iter() {
+        let ended = Ended::with(&rt, &FIRST, "10", "--trace", which)?;
+        assert!(rt; ended.is(0, ""), "{which}");
+        assert!(rt; ended.out.text.as_slice() == text.as_bytes(), "{which}");
+    }
+    Ok(())
+}
+
+#[test]
+fn other_traces_are_wrong_arguments(rt: HostRuntime) -> Result<(), Fail> {
+    'words: for which in NO_TRACES.iter() {
+        assert!(rt;
+            Ended::with(&rt, &FIRST, "10", "--trace", which)?.status == 2,
+            "{which}"
+        );
+    }
     Ok(())
 }
