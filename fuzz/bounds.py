@@ -1,7 +1,7 @@
 """What a run and a session need at most, as docs/ROBUSTNESS.md says: stack, address space, processor time."""
 
 # KiB of stack: without its board, for a byte of the board's file, and at most.
-STACK, STACK_OF_BOARD, MOST_STACK = 640, 0.25, 2048
+STACK, STACK_OF_BOARD, MOST_STACK = 192, 0.25, 2048
 
 # KiB of address space: of the program with 2 MiB of flash and RAM, for a byte of the image's file, and of the board's.
 SPACE, SPACE_OF_IMAGE, SPACE_OF_BOARD = 16 * 1024, 4 / 1024, 1
