@@ -17,7 +17,6 @@ mod pairs;
 mod places;
 mod run;
 mod segments;
-mod selections;
 mod sessions;
 mod special;
 mod starts;
