@@ -14,7 +14,7 @@ use mpu::MpuRegs;
 /// Intervals of addresses, in order.
 pub type Intervals = ArrayVec<Interval, CAPACITY>;
 
-/// Returns the intervals of all addresses, of which neighbours have different owners.
+/// Returns the intervals of all addresses: each has one owner.
 pub fn intervals_of(registers: &MpuRegs) -> Intervals
     ensures tiles { Tiles result.items 0 (2 ^ 32) }
     ensures names { All (NamesOwner registers.now) result.items }

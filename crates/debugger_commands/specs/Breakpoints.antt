@@ -2,11 +2,14 @@
 use Rattle.std.specs.Prelude.{ℕ, nat_lt, Bool, ◌||◌, ◌==◌, if◌then◌else◌, List, [], ◌∷◌, ◌++◌, length, codes, Result}
 use Rattle.std.specs.Prelude.{Ok, Err}
 use Rattle.std.specs.List.{list_any}
-use Rattle.debugger_commands.specs.declared.breakpoints.TheConstants.{MOST_BREAKPOINTS}
 use Rattle.debugger_commands.specs.declared.commands.Command.{Command}
 use Rattle.debugger_commands.specs.declared.commands.Command.TheVariants as command
 use Rattle.debugger_commands.specs.declared.commands.LineFault.{LineFault}
 use Rattle.reference.specs.Text.{line_feed}
+
+-- how many breakpoints can be set at most
+abbrev pub most_breakpoints : ℕ
+most_breakpoints = 16
 
 abbrev pub has : List ℕ → ℕ → Bool
 has breakpoints a = list_any (λ b. b == a) breakpoints
@@ -15,12 +18,12 @@ has breakpoints a = list_any (λ b. b == a) breakpoints
 abbrev pub with_breakpoint : List ℕ → ℕ → List ℕ
 with_breakpoint breakpoints a =
     if has breakpoints a then breakpoints
-    else if nat_lt (length breakpoints) MOST_BREAKPOINTS then breakpoints ++ a ∷ []
+    else if nat_lt (length breakpoints) most_breakpoints then breakpoints ++ a ∷ []
     else breakpoints
 
 abbrev pub breakpoint_text : List ℕ → ℕ → List ℕ
 breakpoint_text breakpoints a =
-    if has breakpoints a || nat_lt (length breakpoints) MOST_BREAKPOINTS then codes "ok" ++ line_feed
+    if has breakpoints a || nat_lt (length breakpoints) most_breakpoints then codes "ok" ++ line_feed
     else codes "error 3" ++ line_feed
 
 -- the breakpoints after a command

@@ -1,13 +1,16 @@
 -- The lines of a session, and the words and numbers in them (profile).
 use Rattle.std.specs.Prelude.{ℕ, ◌+◌, ◌-◌, ◌*◌, ◌^◌, nat_lt, nat_le, Bool, true, false, ◌&&◌, ◌==◌, if◌then◌else◌, List}
 use Rattle.std.specs.Prelude.{[], ◌∷◌, ◌++◌, length, take, drop, position, codes, bytes_eq, Option, Some, None}
-use Rattle.debugger_commands.specs.declared.listener.TheConstants.{MOST_BYTES}
 
 -- ---- a line that is being read, None where it's too long
 
+-- the most bytes of a line, its line feed not counted
+abbrev pub most_bytes : ℕ
+most_bytes = 80
+
 abbrev pub with_byte : Option (List ℕ) → ℕ → Option (List ℕ)
 with_byte None byte = None
-with_byte (Some line) byte = if nat_lt (length line) MOST_BYTES then Some (line ++ byte ∷ []) else None
+with_byte (Some line) byte = if nat_lt (length line) most_bytes then Some (line ++ byte ∷ []) else None
 
 -- whether no byte was read
 abbrev pub is_empty : Option (List ℕ) → Bool

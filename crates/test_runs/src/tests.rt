@@ -17,6 +17,7 @@ mod pairs;
 mod places;
 mod run;
 mod segments;
+mod selections;
 mod sessions;
 mod special;
 mod starts;

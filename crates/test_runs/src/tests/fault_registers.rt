@@ -4,8 +4,8 @@
 use super::cut::{Cut, run};
 use super::machines::{event, place, place_vectors, scripted};
 use machine::{
-    Ahead, BitLevels, CodeLines, Counting, Decider, DueTicks, KeptDecisions, KeptPriorities,
-    Levels, Lines, Machine, PlainLevels, Reread, Search, Stop, Table,
+    Ahead, BitLevels, BoardLines, CodeLines, Counting, Decider, DueTicks, KeptDecisions,
+    KeptPriorities, Levels, Machine, PlainLevels, Reread, Search, Stop, Table,
 };
 use std::alloc::Global;
 use std::test::*;
@@ -92,7 +92,7 @@ impl Rows for Faults {
         let wanted = numbers::<5>(wanted)?;
         Some(
             reported::<Search, Reread, PlainLevels, Counting>(self.alloc, row)? == wanted
-                && reported::<KeptDecisions<Table>, Lines, KeptPriorities<BitLevels>, Ahead>(
+                && reported::<KeptDecisions<Table>, BoardLines, KeptPriorities<BitLevels>, Ahead>(
                     self.alloc, row,
                 )? == wanted,
         )

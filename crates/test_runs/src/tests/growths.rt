@@ -8,8 +8,8 @@ use board::{BoardFault, read_board};
 use command::{FileFault, Task, WordsFault, program, read_file, read_words, words};
 use elf::{Image, load};
 use machine::{
-    Ahead, BitLevels, Board, CodeLines, Counting, Decider, DueTicks, KeptDecisions, KeptPriorities,
-    Levels, Lines, Machine, PlainLevels, RegionCount, Reread, ScriptedEvent, Search, Signal,
+    Ahead, BitLevels, Board, BoardLines, CodeLines, Counting, Decider, DueTicks, KeptDecisions,
+    KeptPriorities, Levels, Machine, PlainLevels, RegionCount, Reread, ScriptedEvent, Search, Signal,
     StartFault, Table,
 };
 use std::alloc::{AllocError, Global};
@@ -152,7 +152,7 @@ fn growths_of_a_slow_machine(rt: HostRuntime) -> Result<(), Fail> {
 
 /// How a machine of the types of `Fast` starts.
 fn start_fast(alloc: Global, image: &Image<'_>, board: &Board) -> Answer {
-    start::<KeptDecisions<Table>, Lines, KeptPriorities<BitLevels>, Ahead>(alloc, image, board)
+    start::<KeptDecisions<Table>, BoardLines, KeptPriorities<BitLevels>, Ahead>(alloc, image, board)
 }
 
 #[test]
@@ -185,7 +185,7 @@ fn growths_come_after_the_segments(rt: HostRuntime) -> Result<(), Fail> {
     bytes[0x42] = 0x30;
     let image = load(&bytes).ok().ok_or("an image")?;
     let slow = is_outside::<Search, Reread, PlainLevels, Counting>(rt.alloc(), &image, &board);
-    let fast = is_outside::<KeptDecisions<Table>, Lines, KeptPriorities<BitLevels>, Ahead>(
+    let fast = is_outside::<KeptDecisions<Table>, BoardLines, KeptPriorities<BitLevels>, Ahead>(
         rt.alloc(),
         &image,
         &board,

@@ -4,8 +4,8 @@
 use super::cut::{Cut, Text, push_line, run};
 use super::run::Run;
 use machine::{
-    Ahead, BitLevels, CodeLines, Counting, Decider, DueTicks, Events, KeptDecisions,
-    KeptPriorities, Levels, Lines, Machine, Place, PlaceFault, PlainLevels, Reread, Search, Table,
+    Ahead, BitLevels, BoardLines, CodeLines, Counting, Decider, DueTicks, Events, KeptDecisions,
+    KeptPriorities, Levels, Machine, Place, PlaceFault, PlainLevels, Reread, Search, Table,
     stop_line,
 };
 use std::alloc::Global;
@@ -22,7 +22,7 @@ impl Rows for Stops {
     fn holds(&mut self, text: &str) -> Option<bool> {
         Some(
             does_stop::<Search, Reread, PlainLevels, Counting>(self.alloc, text)?
-                && does_stop::<KeptDecisions<Table>, Lines, KeptPriorities<BitLevels>, Ahead>(
+                && does_stop::<KeptDecisions<Table>, BoardLines, KeptPriorities<BitLevels>, Ahead>(
                     self.alloc, text,
                 )?,
         )

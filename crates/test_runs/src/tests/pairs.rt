@@ -4,8 +4,8 @@
 use super::cut::push_line;
 use super::run::Run;
 use machine::{
-    Ahead, BitLevels, CodeLines, Counting, Decider, DueTicks, KeptDecisions, KeptPriorities,
-    Levels, Lines, Machine, Place, PlainLevels, RegValues, Reread, Search, Table,
+    Ahead, BitLevels, BoardLines, CodeLines, Counting, Decider, DueTicks, KeptDecisions,
+    KeptPriorities, Levels, Machine, Place, PlainLevels, RegValues, Reread, Search, Table,
 };
 use std::alloc::Global;
 use test_tables::{Rows, numbers};
@@ -181,7 +181,7 @@ impl Rows for Pairs {
         let (alloc, skips) = (self.alloc, self.skips);
         Some(
             pair_goes::<Search, Reread, PlainLevels, Counting>(alloc, text, skips)?
-                && pair_goes::<KeptDecisions<Table>, Lines, KeptPriorities<BitLevels>, Ahead>(
+                && pair_goes::<KeptDecisions<Table>, BoardLines, KeptPriorities<BitLevels>, Ahead>(
                     alloc, text, skips,
                 )?,
         )

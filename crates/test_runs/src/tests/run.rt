@@ -19,9 +19,9 @@
 use super::cut::{Cut, Text, push_line, run, run_task};
 use super::machines::{event, place, place_vectors, scripted};
 use machine::{
-    Ahead, BitLevels, CodeLines, Counting, Decider, DueTicks, KeptDecisions, KeptPriorities,
-    Levels, Lines, Machine, PlaceFault, PlainLevels, RegValues, Reread, Search, Stop, Table,
-    TaskEnd,
+    Ahead, BitLevels, BoardLines, CodeLines, Counting, Decider, DueTicks, KeptDecisions,
+    KeptPriorities, Levels, Machine, PlaceFault, PlainLevels, RegValues, Reread, Search, Stop,
+    Table, TaskEnd,
 };
 use reference::stop::{LeftOut, UnpredictableCase};
 use std::alloc::Global;
@@ -48,7 +48,7 @@ impl Rows for Runs {
     fn holds(&mut self, text: &str) -> Option<bool> {
         Some(
             goes::<Search, Reread, PlainLevels, Counting>(self.alloc, text)?
-                && goes::<KeptDecisions<Table>, Lines, KeptPriorities<BitLevels>, Ahead>(
+                && goes::<KeptDecisions<Table>, BoardLines, KeptPriorities<BitLevels>, Ahead>(
                     self.alloc, text,
                 )?,
         )
