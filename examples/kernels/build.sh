@@ -17,15 +17,18 @@ case $compiler in
 *) flags+=(-fno-tree-loop-distribute-patterns) ;;
 esac
 
-# build NAME SOURCE..: a kernel of these sources and the runtime, without symbols.
+# The start code of the kit, for a program without a C library.
+"$compiler" "${flags[@]}" -Wa,-defsym,PLAIN=1 -c "$here/../firmware/kit/start.s" -o "$work/start.o"
+
+# build NAME SOURCE..: a kernel of these sources, the start code and the runtime, without symbols.
 build() {
-    local name=$1 source objects=()
+    local name=$1 source objects=("$work/start.o")
     shift
-    for source in "$@" runtime/start.s runtime/console.c; do
+    for source in "$@" runtime/console.c; do
         "$compiler" "${flags[@]}" -c "$here/$source" -o "$work/$(basename "${source%.*}").$name.${source##*.}.o"
         objects+=("$work/$(basename "${source%.*}").$name.${source##*.}.o")
     done
-    "$compiler" "${flags[@]}" "${objects[@]}" -nostdlib -static -T "$here/link.ld" -Wl,-n -Wl,-s -o "$folder/$name.elf"
+    "$compiler" "${flags[@]}" "${objects[@]}" -nostdlib -static -T "$here/link.ld" -Wl,-n -o "$folder/$name.elf"
 }
 
 build round_robin round_robin.s round_robin.c task_a.c task_b.c task_c.c
