@@ -8,9 +8,7 @@ use survey::{Cells, MOST_CELLS, Touch};
 pub const CELLS_OF_ROW: usize = 64;
 
 /// Returns how many cells a memory has.
-pub fn cells_in(cells: &Cells) -> usize
-    ensures { result ≤ MOST_CELLS }
-{
+pub fn cells_in(cells: &Cells) -> usize {
     let (_, size) = cells.span();
     let count = size.checked_div(cells.cell_bytes()).unwrap_or(0);
     (count as usize).min(MOST_CELLS)

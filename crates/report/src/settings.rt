@@ -17,22 +17,25 @@ impl RegionWords {
         self.attributes % 2 == 1
     }
 
-    /// Returns how many bytes the region has: 2^(SIZE + 1).
-    pub fn bytes(&self) -> u64 {
+    /// Returns the bits of an address that differ within the region: SIZE + 1 of them.
+    fn inner_bits(&self) -> u32 {
         let size = self.attributes / 2 % 32;
-        2 << size
+        u32::MAX >> (31 - size)
     }
 
-    /// Returns the address of the first byte: ADDR, without the bits below the region's size.
+    /// Returns how many bytes the region has: 2^(SIZE + 1).
+    pub fn bytes(&self) -> u64 {
+        u64::from(self.inner_bits()) + 1
+    }
+
+    /// Returns the address of the first byte: ADDR, without the bits that differ within the region.
     pub fn first(&self) -> u32 {
-        let below = (self.bytes() - 1) as u32;
-        self.base & !below & !31
+        self.base & !self.inner_bits() & !31
     }
 
     /// Returns the address of the last byte.
     pub fn last(&self) -> u32 {
-        let below = (self.bytes() - 1) as u32;
-        self.first() | below
+        self.first() | self.inner_bits()
     }
 
     /// Returns what code of a privilege may do in the region.
