@@ -1,0 +1,122 @@
+//! The page of a run of two steps.
+
+use crate::{Report, write_page};
+use elf::load;
+use machine::{Board, Events, Fast, SMALL_BOARD, Stop};
+use std::io::Write;
+use std::test::*;
+use std::{io, str};
+use survey::{Moment, Survey};
+use symbols::Symbols;
+
+/// MOV R0, #5 and BKPT 0 at address 8: `examples/first.elf`.
+const IMAGE: [u8; 96] = [
+    0x7F, b'E', b'L', b'F', 1, 1, 1, 0, 0, 0, 0, 0, 0, 0, 0, 0, 2, 0, 40, 0, 1, 0, 0, 0, 0, 0, 0,
+    0, 52, 0, 0, 0, 0, 0, 0, 0, 0, 0, 0, 5, 52, 0, 32, 0, 1, 0, 0, 0, 0, 0, 0, 0, 1, 0, 0, 0, 84,
+    0, 0, 0, 0, 0, 0, 0, 0, 0, 0, 0, 12, 0, 0, 0, 12, 0, 0, 0, 5, 0, 0, 0, 4, 0, 0, 0, 0, 0x10, 0,
+    0x20, 9, 0, 0, 0, 0x05, 0x20, 0x00, 0xBE,
+];
+
+/// A writer that takes a number of bytes, and then fails.
+#[derive(Drop)]
+struct Room {
+    bytes: Vec<u8>,
+    left: usize,
+}
+
+impl Write for Room {
+    fn write(&mut self, buf: &[u8]) -> io::Result<usize> {
+        if buf.len() > self.left {
+            return Err(io::Error::from(io::ErrorKind::StorageFull));
+        }
+        self.left -= buf.len();
+        self.bytes.write(buf)
+    }
+
+    fn flush(&mut self) -> io::Result<()> {
+        Ok(())
+    }
+}
+
+/// Makes a step of a machine, and adds it to a survey.
+fn survey_step(machine: &mut Fast, survey: &mut Survey) -> Option<Stop> {
+    let mut events = Events::new();
+    let moment = Moment {
+        pc: machine.regs().pc,
+        exception: 0,
+        privileged: true,
+        asleep: false,
+        regions: [None; 16],
+    };
+    survey.begin_step(&moment);
+    let stop = machine.step(&mut events);
+    survey.take_events(&moment, events.as_slice());
+    survey.end_step();
+    stop
+}
+
+/// Writes the page of two steps of the image into a writer. Returns whether all of it was written.
+fn write_to(rt: &HostRuntime, room: &mut Room) -> Result<bool, Fail> {
+    let alloc = rt.alloc();
+    let board = Board {
+        layout: SMALL_BOARD,
+        events: Vec::new(alloc),
+    };
+    let image = load(&IMAGE)?;
+    let mut machine = Fast::new(alloc, &image, &board)?;
+    let mut survey = Survey::new(alloc, &SMALL_BOARD)?;
+    let symbols = Symbols::read(alloc, &IMAGE)?;
+    let _ = survey_step(&mut machine, &mut survey);
+    let stop = survey_step(&mut machine, &mut survey);
+    let report = Report {
+        image: "<first>.elf",
+        board: "small.toml",
+        limit: 10,
+        stop: stop.unwrap_or(Stop::StepLimit),
+        survey: &survey,
+        machine: &machine,
+        symbols: &symbols,
+    };
+    Ok(write_page(room, &report).is_ok())
+}
+
+/// Texts that the page of the run has: its names, its end, and its numbers.
+const PARTS: [&str; 8] = [
+    "<title>&lt;first&gt;.elf on small.toml</title>",
+    "<strong id='stop' class='ended'>stop breakpoint 0</strong>",
+    "<dd id='steps' data-number='2'>2</dd>",
+    "<dd id='accesses' data-number='2'>2</dd>",
+    "<dd id='refused' data-number='0'>0</dd>",
+    "<span id='off-p-fetch-granted' data-number='2'>2</span>",
+    "<dd id='R0'><code>00000005</code></dd>",
+    "data-first='00000000' data-last='0000001F' data-u='' data-p='x' data-may='rwx'>",
+];
+
+#[test]
+fn a_run_has_a_page(rt: HostRuntime) -> Result<(), Fail> {
+    let mut room = Room {
+        bytes: Vec::new(rt.alloc()),
+        left: 0x20_0000,
+    };
+    assert!(rt; write_to(&rt, &mut room)?);
+    let text = str::from_utf8(room.bytes.as_slice())?;
+    assert!(rt; text.starts_with("<!DOCTYPE html>\n"));
+    assert!(rt; text.ends_with("</html>\n"));
+    'parts: for part in &PARTS {
+        assert!(rt; text.contains(part), "{part}");
+    }
+    Ok(())
+}
+
+#[test]
+fn a_writer_that_fails_is_an_error(rt: HostRuntime) -> Result<(), Fail> {
+    'rooms: for left in [0usize, 1, 100, 5000, 10_000, 15_000] {
+        let mut room = Room {
+            bytes: Vec::new(rt.alloc()),
+            left,
+        };
+        assert!(rt; !write_to(&rt, &mut room)?, "{left} bytes");
+        assert!(rt; room.bytes.len() <= left);
+    }
+    Ok(())
+}
