@@ -17,6 +17,7 @@ use crate::last_error::LastError;
 use crate::request::{Request, RunRequest, Task, read_words};
 use command_line::WordsFault;
 use machine::{In, Over, Paged};
+use messages::{Escaped, Messages};
 use std::alloc::Global;
 use std::io;
 use std::io::{Read, Write};
@@ -26,7 +27,7 @@ use std::sync::ledger::{Blank, Ledger};
 
 /// Does what the arguments ask for; the first one is the program's name. Reads the image, then the
 /// board, and writes the trace to `out`, or the answers to the commands of `input`, or the refusal to
-/// `err`. Returns the exit status. Help and the version go to `out`.
+/// `err`, in short lines (`Messages`). Returns the exit status. Help and the version go to `out`.
 pub fn program<R: Files + AllocGlobal, I: Read + Drop, W: Write + Drop, E: Write>(
     rt: &R,
     words: &[String],
@@ -34,10 +35,13 @@ pub fn program<R: Files + AllocGlobal, I: Read + Drop, W: Write + Drop, E: Write
     out: W,
     err: &mut E,
 ) -> u8 {
-    match read_words(rt.alloc(), words) {
-        Ok(request) => carry_out(rt, request, input, out, err),
-        Err(fault) => answer(fault, out, err),
-    }
+    let mut err = Messages::new(err);
+    let status = match read_words(rt.alloc(), words) {
+        Ok(request) => carry_out(rt, request, input, out, &mut err),
+        Err(fault) => answer(fault, out, &mut err),
+    };
+    let _ = err.flush();
+    status
 }
 
 /// Writes the answer to arguments that name no run and no session. Returns 2; 0 for the version; 5
@@ -232,6 +236,7 @@ fn tell_file<E: Write>(argument: &str, path: &str, fault: &FileFault, err: &mut 
     match fault {
         FileFault::Size => {
             let status = tell(Fault::Size, err);
+            let path = Escaped(path);
             let _ = writeln!(
                 err,
                 "  {path}: the file has more than 16777216 bytes (16 MiB)"
@@ -257,13 +262,14 @@ pub fn refuse_words<E: Write>(error: &io::Error, err: &mut E) -> u8
     ensures text { error_kind error.now ≡ kind.InvalidData → result ≡ 2 }
     ensures other { error_kind error.now ≢ kind.InvalidData → result ≡ 5 }
 {
+    let mut err = Messages::new(err);
     match error.kind() {
         io::ErrorKind::InvalidData => {
-            let status = tell(Fault::Usage, err);
+            let status = tell(Fault::Usage, &mut err);
             let _ = writeln!(err, "  {error}");
             status
         }
-        _ => tell_io("the arguments", error, err),
+        _ => tell_io("the arguments", error, &mut err),
     }
 }
 
@@ -272,6 +278,6 @@ fn tell_io<E: Write>(path: &str, error: &io::Error, err: &mut E) -> u8
     ensures { result ≡ 5 }
 {
     let status = tell(Fault::Io, err);
-    let _ = writeln!(err, "  {path}: {error}");
+    let _ = writeln!(err, "  {}: {error}", Escaped(path));
     status
 }

@@ -7,6 +7,7 @@ ghost use Rattle.command_line.specs.Asked.{answer_of, memory, run_of, text_of, u
 use crate::expectation::is_stop;
 use command_line::{MOST_STEPS, RunWords, Words, WordsFault, words_of};
 use machine::TraceSelection;
+use messages::Escaped;
 use std::alloc::Global;
 
 /// A run or a session, as the arguments ask for it.
@@ -142,6 +143,7 @@ or unpredictable or outofprofile and a name.";
 fn wrong_value(alloc: Global, value: &str, option: &str, advice: &str) -> WordsFault
     ensures { (answer_of result ≡ usage) ⊎ (answer_of result ≡ memory) }
 {
+    let value = Escaped(value);
     match format!(in alloc; "error: invalid value '{value}' for '{option}'\n{advice}\n") {
         Ok(text) => WordsFault::Wrong(text),
         Err(_) => WordsFault::OutOfMemory,

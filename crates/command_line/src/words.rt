@@ -63,7 +63,7 @@ pub fn words_of<'a>(alloc: Global, words: &'a [String]) -> Result<Words<'a>, Wor
     };
     match command.try_get_matches_from(words) {
         Ok(matches) => words_in(alloc, &matches),
-        Err(error) => Err(fault_of(alloc, &error)),
+        Err(error) => Err(fault_of(alloc, &error, words)),
     }
 }
 
