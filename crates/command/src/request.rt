@@ -38,6 +38,8 @@ pub struct RunRequest<'a> {
     pub steps: u64,
     /// The words of the stop line that is expected, after `stop `.
     pub expect: Option<&'a str>,
+    /// The path of the file for the state after the run.
+    pub state: Option<&'a str>,
 }
 
 /// Reads the arguments; the first one is the program's name.
@@ -83,6 +85,7 @@ fn run_request<'a>(alloc: Global, run: RunWords<'a>) -> Result<Request<'a>, Word
             trace,
             steps,
             expect: run.expect,
+            state: run.state,
         }),
     })
 }

@@ -22,6 +22,8 @@ pub struct RunWords<'a> {
     pub trace: Option<&'a str>,
     /// The words of the stop line that is expected.
     pub expect: Option<&'a str>,
+    /// The path of the file for the state after the run.
+    pub state: Option<&'a str>,
 }
 
 /// The arguments of `debug`.
@@ -110,6 +112,7 @@ fn run_words<'a>(alloc: Global, run: &ArgMatches<'a>) -> Result<Words<'a>, Words
             image,
             trace: value_of(run, "trace"),
             expect: value_of(run, "expect"),
+            state: value_of(run, "state"),
         })),
         _ => Err(WordsFault::Wrong(String::new(alloc))),
     }

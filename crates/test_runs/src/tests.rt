@@ -18,6 +18,7 @@ mod places;
 mod run;
 mod segments;
 mod sessions;
+mod short_messages;
 mod special;
 mod starts;
 mod steps;
