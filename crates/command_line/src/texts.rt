@@ -26,7 +26,7 @@ pub const EXPECT_HELP: &str =
 
 /// What the help says of `--state`.
 pub const STATE_HELP: &str =
-    "A file for the state after the run: registers, clock, faults, regions and exceptions, a line `<name> <value>` each";
+    "A file for the state after the run: registers, clock, faults, regions and exceptions, a line for each value";
 
 /// The commands of the program.
 pub const COMMANDS_ADVICE: &str = "The commands are run, debug and help.\n";

@@ -89,7 +89,8 @@ fn words_in<'a>(alloc: Global, matches: &ArgMatches<'a>) -> Result<Words<'a>, Wo
 
 /// Returns the values of the arguments of `debug`. `clap` has found both.
 fn debug_words<'a>(alloc: Global, debug: &ArgMatches<'a>) -> Result<Words<'a>, WordsFault>
-    ensures { Reads (debug_with (first_of (codes "board") (rows_of (found_of debug.now))) (first_of (codes "image") (rows_of (found_of debug.now)))) result }
+    ensures { Reads (debug_with (first_of (codes "board") (rows_of (found_of debug.now)))
+        (first_of (codes "image") (rows_of (found_of debug.now)))) result }
 {
     match (value_of(debug, "board"), value_of(debug, "image")) {
         (Some(board), Some(image)) => Ok(Words::Debug(DebugWords { board, image })),
@@ -99,7 +100,9 @@ fn debug_words<'a>(alloc: Global, debug: &ArgMatches<'a>) -> Result<Words<'a>, W
 
 /// Returns the values of the arguments of `run`. `clap` has found those that a run needs.
 fn run_words<'a>(alloc: Global, run: &ArgMatches<'a>) -> Result<Words<'a>, WordsFault>
-    ensures { Reads (run_with (first_of (codes "board") (rows_of (found_of run.now))) (first_of (codes "steps") (rows_of (found_of run.now))) (first_of (codes "image") (rows_of (found_of run.now))) (rows_of (found_of run.now))) result }
+    ensures { Reads (run_with (first_of (codes "board") (rows_of (found_of run.now)))
+        (first_of (codes "steps") (rows_of (found_of run.now)))
+        (first_of (codes "image") (rows_of (found_of run.now))) (rows_of (found_of run.now))) result }
 {
     match (
         value_of(run, "board"),

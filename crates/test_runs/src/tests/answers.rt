@@ -56,7 +56,7 @@ out       --board <FILE>   The board: a TOML file of at most 16 MiB with the mem
 out       --steps <N>      The most steps (instructions, halves of exception entries, idle ticks) to make, from 0 to 4294967296
 out       --trace <WHICH>  Which lines are written, before the line of the stop: all (the default), refused, exceptions, console or none
 out       --expect <STOP>  The words of the last line after `stop`, as \"breakpoint 0\": status 0 if the run ends so, and 1 if it doesn't
-out       --state <FILE>   A file for the state after the run: registers, clock, faults, regions and exceptions, a line `<name> <value>` each
+out       --state <FILE>   A file for the state after the run: registers, clock, faults, regions and exceptions, a line for each value
 out   -h, --help           Print help
 out
 out The trace has one line for each access: its tick, kind, address, size in bytes, privilege, outcome,
@@ -126,7 +126,7 @@ out       --board <FILE>   The board: a TOML file of at most 16 MiB with the mem
 out       --steps <N>      The most steps (instructions, halves of exception entries, idle ticks) to make, from 0 to 4294967296
 out       --trace <WHICH>  Which lines are written, before the line of the stop: all (the default), refused, exceptions, console or none
 out       --expect <STOP>  The words of the last line after `stop`, as \"breakpoint 0\": status 0 if the run ends so, and 1 if it doesn't
-out       --state <FILE>   A file for the state after the run: registers, clock, faults, regions and exceptions, a line `<name> <value>` each
+out       --state <FILE>   A file for the state after the run: registers, clock, faults, regions and exceptions, a line for each value
 out   -h, --help           Print help
 out
 out The trace has one line for each access: its tick, kind, address, size in bytes, privilege, outcome,

@@ -171,9 +171,15 @@ ACTIVE
 
 /// For each path whose file can't be created or written, why, as a message has it.
 const NO_FILES: [(&str, &str); 4] = [
-    ("missing/state.txt", "missing/state.txt: No such file or directory (os error 2)"),
+    (
+        "missing/state.txt",
+        "missing/state.txt: No such file or directory (os error 2)",
+    ),
     (".", ".: Is a directory (os error 21)"),
-    ("/dev/full", "/dev/full: No space left on device (os error 28)"),
+    (
+        "/dev/full",
+        "/dev/full: No space left on device (os error 28)",
+    ),
     ("", "--state: the path is empty"),
 ];
 
@@ -291,7 +297,10 @@ fn a_file_that_cannot_be_written_is_status_5(rt: HostRuntime) -> Result<(), Fail
         let ended = Ended::with(&rt, &FIRST, "10", "--state", path)?;
         let err = format!(in rt.alloc(); "marm: io\n  {why}\n")?;
         assert!(rt; ended.is(5, err.as_str()), "{path}");
-        assert!(rt; ended.out.text.as_slice() == TRACES[0].1.as_bytes(), "{path}");
+        assert!(rt;
+            ended.out.text.as_slice() == TRACES[0].1.as_bytes(),
+            "{path}"
+        );
     }
     Ok(())
 }
