@@ -45,9 +45,20 @@ pub fn fault_of(alloc: Global, error: &Error, words: &[String]) -> WordsFault
 /// it is the text of the same error in these.
 fn text_of(alloc: Global, error: &Error, words: &[String]) -> Result<String, AllocError> {
     let shown = shown(alloc, words)?;
-    match marm(alloc)?.try_get_matches_from(shown.as_slice()) {
-        Err(other) if other.kind() == error.kind() => other.to_string(alloc),
-        Err(_) | Ok(_) => error.to_string(alloc),
+    match error_in(alloc, shown.as_slice()) {
+        Some(other) if other.kind() == error.kind() => other.to_string(alloc),
+        Some(_) | None => error.to_string(alloc),
+    }
+}
+
+/// Returns the error that `clap` finds in arguments, or None where it finds none.
+fn error_in(alloc: Global, words: &[String]) -> Option<Error> {
+    let Ok(command) = marm(alloc) else {
+        return None;
+    };
+    match command.try_get_matches_from(words) {
+        Ok(_) => None,
+        Err(error) => Some(error),
     }
 }
 
