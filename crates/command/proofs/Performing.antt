@@ -1,5 +1,6 @@
 -- A status is that of a run or of a session.
-use Rattle.std.proofs.Common.{ℕ, List, Option, Result}
+use Rattle.std.proofs.Common.{ℕ, List, Result}
+use Rattle.command.specs.declared.request.RunRequest.{RunRequest}
 use Rattle.command.specs.Sessions.{DebugsTo, SessionTo}
 use Rattle.command.specs.Statuses.{GoesTo, RunsTo}
 use Rattle.debugger.specs.Sessions.{Sink, Source}
@@ -8,12 +9,12 @@ use Rattle.reference.specs.declared.fault.BoardFault.{BoardFault}
 use Rattle.reference.specs.declared.fault.LoadFault.{LoadFault}
 use Rattle.reference.specs.Boards.{Described}
 use Rattle.reference.specs.Images.{Segment}
-use Rattle.trace.specs.declared.selection.TraceSelection.{TraceSelection}
 
-pub runs_to : (image : Result (List Segment) LoadFault) (board : Result Described BoardFault)
-    (selection : TraceSelection) (steps : ℕ) (expected : Option (List ℕ)) (old new : Gathered) (status : ℕ)
-    → GoesTo image board selection steps expected old new status → RunsTo image board selection steps expected status
-runs_to image board selection steps expected old new status goes = record { old = old; new = new; goes = goes }
+pub runs_to : (image : Result (List Segment) LoadFault) (board : Result Described BoardFault) (run : RunRequest)
+    (old new : Gathered) (file file' : Sink) (status : ℕ) → GoesTo image board run old new file file' status
+    → RunsTo image board run status
+runs_to image board run old new file file' status goes =
+    record { old = old; new = new; file = file; file' = file'; goes = goes }
 
 pub session_to : (image : Result (List Segment) LoadFault) (board : Result Described BoardFault) (before after : Source)
     (out out' : Sink) (status : ℕ) → DebugsTo image board before after out out' status → SessionTo image board status

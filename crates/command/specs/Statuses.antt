@@ -8,7 +8,10 @@ use Rattle.command.specs.declared.fault.Fault.{Fault}
 use Rattle.command.specs.declared.fault.Fault.TheVariants.{Usage, Load, Board, Start, Size, Io}
 use Rattle.command.specs.declared.files.FileFault.{FileFault}
 use Rattle.command.specs.declared.files.FileFault.TheVariants as file
-use Rattle.command_line.specs.Asked.{Answer, usage, help, version, memory}
+use Rattle.command.specs.declared.request.RunRequest.{RunRequest}
+use Rattle.command.specs.Saving.{FailsToSave, Saves}
+use Rattle.command_line.specs.Asked.{Answer, usage, help, version, memory, text_of}
+use Rattle.debugger.specs.Sessions.{Sink}
 use Rattle.reference.specs.declared.fault.BoardFault.{BoardFault}
 use Rattle.reference.specs.declared.fault.BoardFault.TheVariants.{NotToml, OutOfMemory}
 use Rattle.reference.specs.declared.fault.LoadFault.{LoadFault}
@@ -19,7 +22,7 @@ use Rattle.reference.specs.declared.stop.Stop.TheVariants as stop
 use Rattle.reference.specs.Boards.{Described}
 use Rattle.reference.specs.Images.{Segment}
 use Rattle.output.specs.Gathered.{Gathered, IsCut, SendsAll}
-use Rattle.reference.specs.Run.{ending_of}
+use Rattle.reference.specs.Run.{after, ending_of}
 use Rattle.reference.specs.Start.{start}
 use Rattle.reference.specs.State.{State}
 use Rattle.reference.specs.Text.{stop_text}
@@ -53,30 +56,40 @@ Reads read (Err fault) = (read ≡ Err fault) ⊎ (fault ≡ OutOfMemory)
 
 -- a run from a state ends with the reference machine's stop, and the whole text of the selected events went out; or a
 -- call of the writer failed, and what was put is a prefix of that text
-abbrev pub Runs : TraceSelection → ℕ → State → Gathered → Gathered → Result Stop Fault → Type 0
-Runs selection steps s old new (Ok why) =
+abbrev pub Traces : TraceSelection → ℕ → State → Gathered → Gathered → Result Stop Fault → Type 0
+Traces selection steps s old new (Ok why) =
     (why ≡ ending_of steps s) × SendsAll (selected_trace selection steps s) old new
-Runs selection steps s old new (Err fault) = (fault ≡ Io) × IsCut (selected_trace selection steps s) old new
+Traces selection steps s old new (Err fault) = (fault ≡ Io) × IsCut (selected_trace selection steps s) old new
+
+-- the same, and after the whole text the last state goes to its file; or a call of the file's writer failed
+abbrev pub Runs : RunRequest → State → Gathered → Gathered → Sink → Sink → Result Stop Fault → Type 0
+Runs run s old new file file' (Ok why) =
+    Traces run.trace run.steps s old new (Ok why) × Saves (text_of run.state) (after run.steps s) file file'
+Runs run s old new file file' (Err fault) =
+    (Traces run.trace run.steps s old new (Err fault) × (file' ≡ file))
+    ⊎ ((fault ≡ Io) × SendsAll (selected_trace run.trace run.steps s) old new
+    × FailsToSave (text_of run.state) (after run.steps s) file file')
 
 -- a refusal, with which nothing is put
-abbrev pub Refuses : Fault → Gathered → Gathered → Result Stop Fault → Type 0
-Refuses fault old new result = (result ≡ Err fault) × (new ≡ old)
+abbrev pub Refuses : Fault → Gathered → Gathered → Sink → Sink → Result Stop Fault → Type 0
+Refuses fault old new file file' result = (result ≡ Err fault) × (new ≡ old) × (file' ≡ file)
 
 -- a run from a start state, or out of memory for it, or the refusal of the start
-abbrev pub Starts : TraceSelection → ℕ → Result State StartFault → Gathered → Gathered → Result Stop Fault → Type 0
-Starts selection steps (Ok s) old new result =
-    Runs selection steps s old new result ⊎ Refuses (Start NoMemory) old new result
-Starts selection steps (Err refusal) old new result = Refuses (Start refusal) old new result
+abbrev pub Starts : RunRequest → Result State StartFault → Gathered → Gathered → Sink → Sink → Result Stop Fault
+    → Type 0
+Starts run (Ok s) old new file file' result =
+    Runs run s old new file file' result ⊎ Refuses (Start NoMemory) old new file file' result
+Starts run (Err refusal) old new file file' result = Refuses (Start refusal) old new file file' result
 
 -- an image or a board that is refused is refused as the definition refuses it, the image first; out of memory for
 -- the board may take the place of every later refusal
-abbrev pub Executes : Result (List Segment) LoadFault → Result Described BoardFault → TraceSelection → ℕ → Gathered
-    → Gathered → Result Stop Fault → Type 0
-Executes (Ok image) (Ok board) selection steps old new result =
-    Starts selection steps (start board image) old new result ⊎ Refuses (Board OutOfMemory) old new result
-Executes (Ok image) (Err refusal) selection steps old new result =
-    Refuses (Board refusal) old new result ⊎ Refuses (Board OutOfMemory) old new result
-Executes (Err refusal) board selection steps old new result = Refuses (Load refusal) old new result
+abbrev pub Executes : Result (List Segment) LoadFault → Result Described BoardFault → RunRequest → Gathered → Gathered
+    → Sink → Sink → Result Stop Fault → Type 0
+Executes (Ok image) (Ok board) run old new file file' result =
+    Starts run (start board image) old new file file' result ⊎ Refuses (Board OutOfMemory) old new file file' result
+Executes (Ok image) (Err refusal) run old new file file' result =
+    Refuses (Board refusal) old new file file' result ⊎ Refuses (Board OutOfMemory) old new file file' result
+Executes (Err refusal) board run old new file file' result = Refuses (Load refusal) old new file file' result
 
 -- 0 where the stop has the words that are expected, else 1; without an expectation the status of the stop
 abbrev pub ending_status : Option (List ℕ) → Stop → ℕ
@@ -88,20 +101,21 @@ abbrev pub status_of : Option (List ℕ) → Result Stop Fault → ℕ
 status_of expected (Ok why) = ending_status expected why
 status_of expected (Err fault) = fault_status fault
 
--- an image is run on a board, and the status is that of its end
-pub record GoesTo (image : Result (List Segment) LoadFault) (board : Result Described BoardFault)
-    (selection : TraceSelection) (steps : ℕ) (expected : Option (List ℕ)) (old new : Gathered) (status : ℕ)
-    : Type 0 where
+-- an image is run on a board, its last state goes to its file, and the status is that of the end
+pub record GoesTo (image : Result (List Segment) LoadFault) (board : Result Described BoardFault) (run : RunRequest)
+    (old new : Gathered) (file file' : Sink) (status : ℕ) : Type 0 where
   pub result : Result Stop Fault
-  pub executed : Executes image board selection steps old new result
-  pub is : status ≡ status_of expected result
+  pub executed : Executes image board run old new file file' result
+  pub is : status ≡ status_of (text_of run.expect) result
 
 -- the status is that of a run of the image on the board
-pub record RunsTo (image : Result (List Segment) LoadFault) (board : Result Described BoardFault)
-    (selection : TraceSelection) (steps : ℕ) (expected : Option (List ℕ)) (status : ℕ) : Type 0 where
+pub record RunsTo (image : Result (List Segment) LoadFault) (board : Result Described BoardFault) (run : RunRequest)
+    (status : ℕ) : Type 0 where
   pub old : Gathered
   pub new : Gathered
-  pub goes : GoesTo image board selection steps expected old new status
+  pub file : Sink
+  pub file' : Sink
+  pub goes : GoesTo image board run old new file file' status
 
 -- a text is the words of a stop
 abbrev pub IsStopText : List ℕ → Type 0

@@ -7,7 +7,8 @@ use Rattle.command.specs.declared.request.Request.{Request}
 use Rattle.command.specs.declared.request.RunRequest.{RunRequest}
 use Rattle.command.specs.declared.request.Task.{Task}
 use Rattle.command.specs.declared.request.Task.TheVariants.{Run, Debug}
-use Rattle.command_line.specs.Asked.{Asked, AskedDebug, AskedRun, IsRefused, IsTaken, answer_of, asked, memory, text_of, usage}
+use Rattle.command_line.specs.Asked.{Asked, AskedDebug, AskedRun, IsRefused, IsTaken, answer_of, asked, memory}
+use Rattle.command_line.specs.Asked.{text_of, usage}
 use Rattle.command_line.specs.Asked as asks
 use Rattle.command_line.specs.declared.words.WordsFault.{WordsFault}
 use Rattle.command.specs.Sessions.{SessionTo}
@@ -48,6 +49,7 @@ pub record IsTheRun (a : AskedRun) (run : RunRequest) : Type 0 where
   pub bounded : run.steps ≤ 2 ^ 32
   pub trace : selection_asked a.trace ≡ Some run.trace
   pub expect : text_of run.expect ≡ a.expect
+  pub state : text_of run.state ≡ a.state
 
 abbrev pub IsRun : AskedRun → Task → Type 0
 IsRun a (Run run) = IsTheRun a run
@@ -84,7 +86,7 @@ Requests words (Err fault) =
     (answer_of fault ≡ memory)
     ⊎ (IsRefused words fault ⊎ ((answer_of fault ≡ usage) × MayRefuse (asked words)))
 
--- the status is that of what is asked for: the run, with its selection, steps and expectation, or the session
+-- the status is that of what is asked for: the run, as it is asked for, or the session
 abbrev pub Performs : Result (List Segment) LoadFault → Result Described BoardFault → Task → ℕ → Type 0
-Performs image board (Run run) status = RunsTo image board run.trace run.steps (text_of run.expect) status
+Performs image board (Run run) status = RunsTo image board run status
 Performs image board Debug status = SessionTo image board status

@@ -4,7 +4,7 @@ ghost use Rattle.std.specs.Prelude.{◌≡◌, ◌≢◌};
 ghost use Rattle.command.specs.Sessions.{SessionTo};
 ghost use Rattle.command.specs.Statuses.{AnsweredBy, RunsTo, board_in_file, file_status};
 ghost use Rattle.command.specs.Tasks.{Performs};
-ghost use Rattle.command_line.specs.Asked.{answer_of, text_of};
+ghost use Rattle.command_line.specs.Asked.{answer_of};
 ghost use Rattle.reference.specs.Images.{image_of};
 ghost use Rattle.std.specs.IoError.{error_kind};
 ghost use Rattle.std.specs.declared.io.ErrorKind.TheVariants as kind;
@@ -15,8 +15,10 @@ use crate::fault::{Fault, tell};
 use crate::files::{FileFault, InputFile, read_file};
 use crate::last_error::LastError;
 use crate::request::{Request, RunRequest, Task, read_words};
+use crate::state_file::StateFile;
 use command_line::WordsFault;
-use machine::{In, Over, Paged};
+use machine::{In, Out, Over, Paged};
+use messages::{Escaped, Messages};
 use std::alloc::Global;
 use std::io;
 use std::io::{Read, Write};
@@ -26,7 +28,7 @@ use std::sync::ledger::{Blank, Ledger};
 
 /// Does what the arguments ask for; the first one is the program's name. Reads the image, then the
 /// board, and writes the trace to `out`, or the answers to the commands of `input`, or the refusal to
-/// `err`. Returns the exit status. Help and the version go to `out`.
+/// `err`, in short lines (`Messages`). Returns the exit status. Help and the version go to `out`.
 pub fn program<R: Files + AllocGlobal, I: Read + Drop, W: Write + Drop, E: Write>(
     rt: &R,
     words: &[String],
@@ -34,10 +36,13 @@ pub fn program<R: Files + AllocGlobal, I: Read + Drop, W: Write + Drop, E: Write
     out: W,
     err: &mut E,
 ) -> u8 {
-    match read_words(rt.alloc(), words) {
-        Ok(request) => carry_out(rt, request, input, out, err),
-        Err(fault) => answer(fault, out, err),
-    }
+    let mut err = Messages::new(err);
+    let status = match read_words(rt.alloc(), words) {
+        Ok(request) => carry_out(rt, request, input, out, &mut err),
+        Err(fault) => answer(fault, out, &mut err),
+    };
+    let _ = err.flush();
+    status
 }
 
 /// Writes the answer to arguments that name no run and no session. Returns 2; 0 for the version; 5
@@ -95,12 +100,12 @@ fn carry_out<R: Files + AllocGlobal, I: Read + Drop, W: Write + Drop, E: Write>(
         path: request.board,
         bytes: board.as_slice(),
     };
-    perform(rt.alloc(), request.task, image, board, input, out, err)
+    perform(rt, request.task, image, board, input, out, err)
 }
 
 /// Runs or debugs an image on a board, as the task says.
-fn perform<I: Read + Drop, W: Write + Drop, E: Write>(
-    alloc: Global,
+fn perform<R: Files + AllocGlobal, I: Read + Drop, W: Write + Drop, E: Write>(
+    rt: &R,
     task: Task<'_>,
     image: InputFile<'_>,
     board: InputFile<'_>,
@@ -111,23 +116,23 @@ fn perform<I: Read + Drop, W: Write + Drop, E: Write>(
     ensures { Performs (image_of image.entry.bytes.now) (board_in_file board.entry.bytes.now) task.entry result }
 {
     match task {
-        Task::Run(asked) => run(alloc, image, board, asked, out, err),
-        Task::Debug => debug_by(alloc, image, board, input, out, err),
+        Task::Run(asked) => run(rt, image, board, asked, out, err),
+        Task::Debug => debug_by(rt.alloc(), image, board, input, out, err),
     }
 }
 
-/// Runs an image on a board.
-fn run<W: Write + Drop, E: Write>(
-    alloc: Global,
+/// Runs an image on a board: makes the blank of the ledger of `out`.
+fn run<R: Files + AllocGlobal, W: Write + Drop, E: Write>(
+    rt: &R,
     image: InputFile<'_>,
     board: InputFile<'_>,
     asked: RunRequest<'_>,
     out: W,
     err: &mut E,
 ) -> u8
-    ensures { RunsTo (image_of image.entry.bytes.now) (board_in_file board.entry.bytes.now) asked.entry.trace asked.entry.steps (text_of asked.entry.expect) result }
+    ensures { RunsTo (image_of image.entry.bytes.now) (board_in_file board.entry.bytes.now) asked.entry result }
 {
-    run_files::<W, E, Brand>(alloc, image, board, asked, out, err, Blank::new(1))
+    run_files::<R, W, E, Brand>(rt, image, board, asked, out, err, Blank::new(1))
 }
 
 /// Debugs an image on a board by the commands of a reader: makes the blank of its ledger.
@@ -201,10 +206,10 @@ fn debug_to<I: In, W: Write + Drop, E: Write, K: Ledger>(
     status
 }
 
-/// Runs an image on a board. `blank` counts the calls of `out` that fail.
-#[tactic(auto, using(crate::proofs::Performing::runs_to))]
-fn run_files<W: Write + Drop, E: Write, K: Ledger>(
-    alloc: Global,
+/// Runs an image on a board: gathers what goes to `out`, and writes why it failed. `blank` counts the calls
+/// of `out` that fail.
+fn run_files<R: Files + AllocGlobal, W: Write + Drop, E: Write, K: Ledger>(
+    rt: &R,
     image: InputFile<'_>,
     board: InputFile<'_>,
     asked: RunRequest<'_>,
@@ -215,12 +220,47 @@ fn run_files<W: Write + Drop, E: Write, K: Ledger>(
     requires name { blank.name ≡ K.name }
     requires parts { blank.parts ≡ K.parts }
     requires some { blank.parts ≡ 1 }
-    ensures { RunsTo (image_of image.entry.bytes.now) (board_in_file board.entry.bytes.now) asked.entry.trace asked.entry.steps (text_of asked.entry.expect) result }
+    ensures { RunsTo (image_of image.entry.bytes.now) (board_in_file board.entry.bytes.now) asked.entry result }
 {
     let mut out: Paged<Over<LastError<W>, K>> = Paged::new(Over::new(LastError::new(out), blank));
-    let status = go(alloc, image, board, asked, &mut out, err);
+    let status = run_saving::<R, Over<LastError<W>, K>, E, Brand>(
+        rt,
+        image,
+        board,
+        asked,
+        &mut out,
+        err,
+        Blank::new(1),
+    );
     if let Some(error) = out.into_inner().into_inner().error() {
         let _ = writeln!(err, "  standard output: {error}");
+    }
+    status
+}
+
+/// Runs an image on a board: makes an `Out` of the file for the state, and writes why it failed. `blank`
+/// counts the calls of the file that fail.
+#[tactic(auto, using(crate::proofs::Performing::runs_to))]
+fn run_saving<R: Files + AllocGlobal, O: Out + Drop, E: Write, K: Ledger>(
+    rt: &R,
+    image: InputFile<'_>,
+    board: InputFile<'_>,
+    asked: RunRequest<'_>,
+    out: &mut Paged<O>,
+    err: &mut E,
+    blank: Blank,
+) -> u8
+    requires name { blank.name ≡ K.name }
+    requires parts { blank.parts ≡ K.parts }
+    requires some { blank.parts ≡ 1 }
+    ensures { RunsTo (image_of image.entry.bytes.now) (board_in_file board.entry.bytes.now) asked.entry result }
+{
+    let path = asked.state.unwrap_or("");
+    let file = LastError::new(StateFile::new(rt, path));
+    let mut state: Over<LastError<StateFile<'_, R>>, K> = Over::new(file, blank);
+    let status = go(rt.alloc(), image, board, asked, out, &mut state, err);
+    if let Some(error) = state.into_inner().error() {
+        write_reason("--state", path, &error, err);
     }
     status
 }
@@ -232,24 +272,28 @@ fn tell_file<E: Write>(argument: &str, path: &str, fault: &FileFault, err: &mut 
     match fault {
         FileFault::Size => {
             let status = tell(Fault::Size, err);
+            let path = Escaped(path);
             let _ = writeln!(
                 err,
                 "  {path}: the file has more than 16777216 bytes (16 MiB)"
             );
             status
         }
-        FileFault::Read(_) if path.is_empty() => tell_empty(argument, err),
-        FileFault::Read(error) => tell_io(path, error, err),
+        FileFault::Read(error) => {
+            let status = tell(Fault::Io, err);
+            write_reason(argument, path, error, err);
+            status
+        }
     }
 }
 
-/// Writes that the path of an argument is empty, and returns the status.
-fn tell_empty<E: Write>(argument: &str, err: &mut E) -> u8
-    ensures { result ≡ 5 }
-{
-    let status = tell(Fault::Io, err);
-    let _ = writeln!(err, "  {argument}: the path is empty");
-    status
+/// Writes what the system says of the file of an argument, or that its path is empty.
+fn write_reason<E: Write>(argument: &str, path: &str, error: &io::Error, err: &mut E) {
+    let _ = if path.is_empty() {
+        writeln!(err, "  {argument}: the path is empty")
+    } else {
+        writeln!(err, "  {}: {error}", Escaped(path))
+    };
 }
 
 /// Writes why the arguments can't be read, and returns the status: 2 where one isn't a text in UTF-8, else 5.
@@ -257,21 +301,22 @@ pub fn refuse_words<E: Write>(error: &io::Error, err: &mut E) -> u8
     ensures text { error_kind error.now ≡ kind.InvalidData → result ≡ 2 }
     ensures other { error_kind error.now ≢ kind.InvalidData → result ≡ 5 }
 {
+    let mut err = Messages::new(err);
     match error.kind() {
         io::ErrorKind::InvalidData => {
-            let status = tell(Fault::Usage, err);
+            let status = tell(Fault::Usage, &mut err);
             let _ = writeln!(err, "  {error}");
             status
         }
-        _ => tell_io("the arguments", error, err),
+        _ => tell_io("the arguments", error, &mut err),
     }
 }
 
-/// Writes what the system says of a file or a stream, and returns the status.
-fn tell_io<E: Write>(path: &str, error: &io::Error, err: &mut E) -> u8
+/// Writes what the system says of a stream or of the arguments, and returns the status.
+fn tell_io<E: Write>(name: &str, error: &io::Error, err: &mut E) -> u8
     ensures { result ≡ 5 }
 {
     let status = tell(Fault::Io, err);
-    let _ = writeln!(err, "  {path}: {error}");
+    let _ = writeln!(err, "  {name}: {error}");
     status
 }

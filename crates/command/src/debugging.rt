@@ -26,7 +26,11 @@ pub fn debug<I: In, O: Out, E: Write>(
     out: &mut O,
     err: &mut E,
 ) -> u8
-    ensures debugs { DebugsTo (image_of image.entry.bytes.now) (board_in_file board.entry.bytes.now) (record { left = I.left input.old; misses = I.misses input.old }) (record { left = I.left input.new; misses = I.misses input.new }) (record { written = O.written out.old; faults = O.faults out.old }) (record { written = O.written out.new; faults = O.faults out.new }) result }
+    ensures debugs { DebugsTo (image_of image.entry.bytes.now) (board_in_file board.entry.bytes.now)
+        (record { left = I.left input.old; misses = I.misses input.old })
+        (record { left = I.left input.new; misses = I.misses input.new })
+        (record { written = O.written out.old; faults = O.faults out.old })
+        (record { written = O.written out.new; faults = O.faults out.new }) result }
     ensures quiet { result ≡ 0 → err.new ≡ err.old }
 {
     match hold_session(alloc, image.bytes, board.bytes, input, out) {
@@ -47,7 +51,11 @@ fn hold_session<I: In, O: Out>(
     input: &mut I,
     out: &mut O,
 ) -> Result<(), Fault>
-    ensures { Debugs (image_of image.now) (board_in_file board.now) (record { left = I.left input.old; misses = I.misses input.old }) (record { left = I.left input.new; misses = I.misses input.new }) (record { written = O.written out.old; faults = O.faults out.old }) (record { written = O.written out.new; faults = O.faults out.new }) result }
+    ensures { Debugs (image_of image.now) (board_in_file board.now)
+        (record { left = I.left input.old; misses = I.misses input.old })
+        (record { left = I.left input.new; misses = I.misses input.new })
+        (record { written = O.written out.old; faults = O.faults out.old })
+        (record { written = O.written out.new; faults = O.faults out.new }) result }
 {
     let image = load(image).map_err(Fault::Load)?;
     let board = board_of_file(alloc, board).map_err(Fault::Board)?;
@@ -58,7 +66,11 @@ fn hold_session<I: In, O: Out>(
 /// Holds a session of a machine.
 fn talk_with<I: In, O: Out>(machine: Fast, input: &mut I, out: &mut O) -> Result<(), Fault>
     requires { machine.broken ≡ false }
-    ensures { Talked machine.state (record { left = I.left input.old; misses = I.misses input.old }) (record { left = I.left input.new; misses = I.misses input.new }) (record { written = O.written out.old; faults = O.faults out.old }) (record { written = O.written out.new; faults = O.faults out.new }) result }
+    ensures { Talked machine.state
+        (record { left = I.left input.old; misses = I.misses input.old })
+        (record { left = I.left input.new; misses = I.misses input.new })
+        (record { written = O.written out.old; faults = O.faults out.old })
+        (record { written = O.written out.new; faults = O.faults out.new }) result }
 {
     let mut machine = machine;
     match session(&mut machine, input, out) {

@@ -1,10 +1,12 @@
 //! A run from the bytes of an image and of a board to the bytes of a trace.
 
-ghost use Rattle.std.specs.Prelude.{◌≡◌, ◌⊎◌, false};
-ghost use Rattle.command.specs.Statuses.{GoesTo, Executes, Reads, Runs, board_in_file, ending_status};
+ghost use Rattle.std.specs.Prelude.{◌≡◌, ◌⊎◌, false, OnOk};
+ghost use Rattle.command.specs.Saving.{Saved};
+ghost use Rattle.command.specs.Statuses.{GoesTo, Executes, Reads, Runs, Traces, board_in_file, ending_status};
 ghost use Rattle.command_line.specs.Asked.{text_of};
 ghost use Rattle.output.specs.Gathered.{gathered};
 ghost use Rattle.reference.specs.Images.{image_of};
+ghost use Rattle.reference.specs.Run.{after};
 
 use crate::expectation::{is_worded, words_in};
 use crate::explanations::explain;
@@ -12,6 +14,7 @@ use crate::fault::{Fault, stop_status, tell};
 use crate::files::InputFile;
 use crate::request::RunRequest;
 use board::{Board, BoardFault, read_board};
+use debugger::write_state;
 use elf::load;
 use machine::{Fast, Out, Paged, Stop, TraceSelection};
 use std::alloc::Global;
@@ -20,23 +23,27 @@ use std::{io, str};
 use trace::lines::stop_line;
 
 /// Runs an image on a board for at most `run.steps` steps and writes its trace, as far as
-/// `run.trace` selects it, to `out`, or the refusal
-/// to `err`, the fault first and then its reason. Returns the exit status: 0 after all steps or at
-/// a breakpoint, 3 for a refused image, board or start, or where memory runs out for the board or
-/// the machine, 4 at another stop, 5 where `out` failed. With an expectation the status is 0 at the stop
-/// that is expected, and 1 at another.
-pub fn go<O: Out + Drop, E: Write>(
+/// `run.trace` selects it, to `out`, and then, where `run.state` names a file, the state of the machine to
+/// `state`; or the refusal to `err`, the fault first and then its reason. Returns the exit status: 0 after
+/// all steps or at a breakpoint, 3 for a refused image, board or start, or where memory runs out for the
+/// board or the machine, 4 at another stop, 5 where `out` or `state` failed. With an expectation the status
+/// is 0 at the stop that is expected, and 1 at another.
+pub fn go<O: Out + Drop, S: Out, E: Write>(
     alloc: Global,
     image: InputFile<'_>,
     board: InputFile<'_>,
     run: RunRequest<'_>,
     out: &mut Paged<O>,
+    state: &mut S,
     err: &mut E,
 ) -> u8
-    ensures goes { GoesTo (image_of image.entry.bytes.now) (board_in_file board.entry.bytes.now) run.entry.trace run.entry.steps (text_of run.entry.expect) (gathered out.old) (gathered out.new) result }
+    ensures goes { GoesTo (image_of image.entry.bytes.now) (board_in_file board.entry.bytes.now) run.entry
+        (gathered out.old) (gathered out.new)
+        (record { written = S.written state.old; faults = S.faults state.old })
+        (record { written = S.written state.new; faults = S.faults state.new }) result }
     ensures quiet { (result ≡ 0) ⊎ (result ≡ 4) → err.new ≡ err.old }
 {
-    match execute(alloc, image.bytes, board.bytes, run.trace, run.steps, out) {
+    match execute(alloc, image.bytes, board.bytes, run, out, state) {
         Ok(stop) => end(stop, run.expect, err),
         Err(fault) => {
             let status = tell(fault, err);
@@ -71,21 +78,57 @@ fn write_other_end<E: Write>(stop: &Stop, expected: &str, err: &mut E) -> io::Re
     writeln!(err, "marm: expected {expected}, ended {ended}")
 }
 
-/// Runs an image on a board and writes those of its events that are selected.
-fn execute<O: Out + Drop>(
+/// Runs an image on a board and writes those of its events that are selected, and then its state, where a
+/// file is named for it.
+fn execute<O: Out + Drop, S: Out>(
     alloc: Global,
     image: &[u8],
     board: &[u8],
-    selection: TraceSelection,
-    steps: u64,
+    run: RunRequest<'_>,
     out: &mut Paged<O>,
+    state: &mut S,
 ) -> Result<Stop, Fault>
-    ensures { Executes (image_of image.now) (board_in_file board.now) selection steps (gathered out.old) (gathered out.new) result }
+    ensures { Executes (image_of image.now) (board_in_file board.now) run.entry
+        (gathered out.old) (gathered out.new)
+        (record { written = S.written state.old; faults = S.faults state.old })
+        (record { written = S.written state.new; faults = S.faults state.new }) result }
 {
     let image = load(image).map_err(Fault::Load)?;
     let board = board_of_file(alloc, board).map_err(Fault::Board)?;
     let mut machine = Fast::new(alloc, &image, &board).map_err(Fault::Start)?;
-    run_through(&mut machine, selection, steps, out)
+    run_and_save(&mut machine, run, out, state)
+}
+
+/// Runs a machine, and then writes its state, where a file is named for it.
+fn run_and_save<O: Out + Drop, S: Out>(
+    machine: &mut Fast,
+    run: RunRequest<'_>,
+    out: &mut Paged<O>,
+    state: &mut S,
+) -> Result<Stop, Fault>
+    requires { machine.old.broken ≡ false }
+    ensures { Runs run.entry machine.old.state (gathered out.old) (gathered out.new)
+        (record { written = S.written state.old; faults = S.faults state.old })
+        (record { written = S.written state.new; faults = S.faults state.new }) result }
+{
+    let stop = run_through(machine, run.trace, run.steps, out)?;
+    save(machine, run.state, state)?;
+    Ok(stop)
+}
+
+/// Writes the state of a machine, where a file is named for it.
+fn save<S: Out>(machine: &Fast, path: Option<&str>, out: &mut S) -> Result<(), Fault>
+    ensures { Saved (text_of path.entry) machine.now.state
+        (record { written = S.written out.old; faults = S.faults out.old })
+        (record { written = S.written out.new; faults = S.faults out.new }) result }
+{
+    match path {
+        None => Ok(()),
+        Some(_) => match write_state(machine, out) {
+            Ok(()) => Ok(()),
+            Err(_) => Err(Fault::Io),
+        },
+    }
 }
 
 /// Runs a machine, and flushes the whole text of its selected events.
@@ -96,7 +139,8 @@ fn run_through<O: Out + Drop>(
     out: &mut Paged<O>,
 ) -> Result<Stop, Fault>
     requires { machine.old.broken ≡ false }
-    ensures { Runs selection steps machine.old.state (gathered out.old) (gathered out.new) result }
+    ensures traces { Traces selection steps machine.old.state (gathered out.old) (gathered out.new) result }
+    ensures state { OnOk result (machine.new.state ≡ after steps machine.old.state) }
 {
     match machine.run_selected(selection, steps, out) {
         Ok(stop) => match out.flush() {

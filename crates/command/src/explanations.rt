@@ -3,6 +3,7 @@
 use crate::engine::board_of_file;
 use crate::fault::Fault;
 use crate::files::InputFile;
+use messages::Escaped;
 use reasons::{write_board_reason, write_image_reason, write_start_reason};
 use reference::fault::StartFault;
 use std::alloc::Global;
@@ -51,5 +52,5 @@ fn explain_start<E: Write>(
 
 /// Writes the path that a reason begins with.
 fn write_path<E: Write>(path: &str, err: &mut E) -> io::Result<()> {
-    write!(err, "  {path}: ")
+    write!(err, "  {}: ", Escaped(path))
 }

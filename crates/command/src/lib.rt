@@ -11,6 +11,7 @@ mod fault;
 mod files;
 mod last_error;
 mod request;
+mod state_file;
 
 pub use command_line::WordsFault;
 pub use commands::{answer, program, refuse_words};

@@ -7,6 +7,7 @@ ghost use Rattle.command_line.specs.Asked.{answer_of, memory, run_of, text_of, u
 use crate::expectation::is_stop;
 use command_line::{MOST_STEPS, RunWords, Words, WordsFault, words_of};
 use machine::TraceSelection;
+use messages::Escaped;
 use std::alloc::Global;
 
 /// A run or a session, as the arguments ask for it.
@@ -37,6 +38,8 @@ pub struct RunRequest<'a> {
     pub steps: u64,
     /// The words of the stop line that is expected, after `stop `.
     pub expect: Option<&'a str>,
+    /// The path of the file for the state after the run.
+    pub state: Option<&'a str>,
 }
 
 /// Reads the arguments; the first one is the program's name.
@@ -82,6 +85,7 @@ fn run_request<'a>(alloc: Global, run: RunWords<'a>) -> Result<Request<'a>, Word
             trace,
             steps,
             expect: run.expect,
+            state: run.state,
         }),
     })
 }
@@ -142,6 +146,7 @@ or unpredictable or outofprofile and a name.";
 fn wrong_value(alloc: Global, value: &str, option: &str, advice: &str) -> WordsFault
     ensures { (answer_of result ≡ usage) ⊎ (answer_of result ≡ memory) }
 {
+    let value = Escaped(value);
     match format!(in alloc; "error: invalid value '{value}' for '{option}'\n{advice}\n") {
         Ok(text) => WordsFault::Wrong(text),
         Err(_) => WordsFault::OutOfMemory,

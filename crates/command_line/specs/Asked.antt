@@ -23,6 +23,7 @@ pub record AskedRun : Type 0 where
   pub image : Text
   pub trace : Option Text
   pub expect : Option Text
+  pub state : Option Text
 
 -- the arguments of a debug session
 pub record AskedDebug : Type 0 where
@@ -41,6 +42,7 @@ run_with (Some board) (Some steps) (Some image) rows = Some (run (record {
   image = image;
   trace = first_of (codes "trace") rows;
   expect = first_of (codes "expect") rows;
+  state = first_of (codes "state") rows;
 }))
 run_with _ _ _ rows = None
 
@@ -78,6 +80,7 @@ run_of r = record {
   image = r.image.now;
   trace = text_of r.trace;
   expect = text_of r.expect;
+  state = text_of r.state;
 }
 
 abbrev pub asked_of : Words → Asked

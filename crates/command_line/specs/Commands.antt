@@ -27,9 +27,11 @@ image = record (operand (codes "image")) { required = true }
 abbrev pub run_in_steps : App
 run_in_steps = with_rule (with_rule (new_app (codes "run")) board) steps
 
--- and then [--trace WHICH] [--expect STOP]
+-- and then [--trace WHICH] [--expect STOP] [--state FILE]
 abbrev pub run_with_options : App
-run_with_options = with_rule (with_rule run_in_steps (option (codes "trace"))) (option (codes "expect"))
+run_with_options =
+    with_rule (with_rule (with_rule run_in_steps (option (codes "trace"))) (option (codes "expect"))) (option
+    (codes "state"))
 
 -- and then IMAGE
 abbrev pub run : App

@@ -5,7 +5,9 @@ ghost use Rattle.clap.specs.Words.{app_of, rule_of};
 ghost use Rattle.clap.specs.declared.builder.command.Command.TheViews.{out-Command};
 ghost use Rattle.command_line.specs.Commands as spec;
 
-use crate::texts::{AFTER_DEBUG, AFTER_MARM, AFTER_RUN, EXPECT_HELP, STEPS_HELP, TRACE_HELP};
+use crate::texts::{
+    AFTER_DEBUG, AFTER_MARM, AFTER_RUN, EXPECT_HELP, STATE_HELP, STEPS_HELP, TRACE_HELP,
+};
 use clap::builder::ValueParser;
 use clap::{Arg, ArgAction, Command};
 use std::alloc::{AllocError, Global};
@@ -58,7 +60,8 @@ fn run_with_options<'a>(alloc: Global) -> Result<Command<'a>, AllocError>
 {
     let run = run_in_steps(alloc)?;
     let run = run.arg(option(alloc, "trace", "WHICH", TRACE_HELP))?;
-    run.arg(option(alloc, "expect", "STOP", EXPECT_HELP))
+    let run = run.arg(option(alloc, "expect", "STOP", EXPECT_HELP))?;
+    run.arg(option(alloc, "state", "FILE", STATE_HELP))
 }
 
 /// Returns the subcommand `run`, with its board and its steps alone.

@@ -4,17 +4,19 @@ ghost use Rattle.std.specs.Prelude.{◌≡◌, ◌⊎◌};
 ghost use Rattle.clap.specs.Values.{kind_of};
 ghost use Rattle.command_line.specs.Asked.{Refuses, answer_of, memory, usage};
 
+use crate::commands::marm;
 use crate::texts::{COMMANDS_ADVICE, DASH_ADVICE, DASH_TIP, STEPS_ADVICE};
 use crate::words::WordsFault;
 use clap::Error;
 use clap::error::ErrorKind;
-use std::alloc::Global;
+use messages::Escaped;
+use std::alloc::{AllocError, Global};
 
-/// Returns the fault of an error of `clap`, with its text.
-pub fn fault_of(alloc: Global, error: &Error) -> WordsFault
+/// Returns the fault of an error that `clap` finds in arguments, with its text.
+pub fn fault_of(alloc: Global, error: &Error, words: &[String]) -> WordsFault
     ensures { Refuses (kind_of error.now) result }
 {
-    let Ok(text) = error.to_string(alloc) else {
+    let Ok(text) = text_of(alloc, error, words) else {
         return WordsFault::OutOfMemory;
     };
     match error.kind() {
@@ -37,6 +39,25 @@ pub fn fault_of(alloc: Global, error: &Error) -> WordsFault
         | ErrorKind::Io
         | ErrorKind::Format => WordsFault::Wrong(text),
     }
+}
+
+/// Returns the text of an error that `clap` finds in arguments. It has the arguments as a message has them:
+/// it is the text of the same error in these.
+fn text_of(alloc: Global, error: &Error, words: &[String]) -> Result<String, AllocError> {
+    let shown = shown(alloc, words)?;
+    match marm(alloc)?.try_get_matches_from(shown.as_slice()) {
+        Err(other) if other.kind() == error.kind() => other.to_string(alloc),
+        Err(_) | Ok(_) => error.to_string(alloc),
+    }
+}
+
+/// Returns arguments as a message has them: escaped, and cut where they are long.
+fn shown(alloc: Global, words: &[String]) -> Result<Vec<String>, AllocError> {
+    let mut shown = Vec::new(alloc);
+    'words: for word in words {
+        shown.push(Escaped(word.as_str()).to_string(alloc)?)?;
+    }
+    Ok(shown)
 }
 
 /// Returns the fault of an error whose text doesn't say what to write instead.

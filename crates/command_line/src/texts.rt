@@ -24,6 +24,10 @@ pub const TRACE_HELP: &str =
 pub const EXPECT_HELP: &str =
     "The words of the last line after `stop`, as \"breakpoint 0\": status 0 if the run ends so, and 1 if it doesn't";
 
+/// What the help says of `--state`.
+pub const STATE_HELP: &str =
+    "A file for the state after the run: registers, clock, faults, regions and exceptions, a line for each value";
+
 /// The commands of the program.
 pub const COMMANDS_ADVICE: &str = "The commands are run, debug and help.\n";
 
@@ -49,6 +53,9 @@ and the rule or region that decided it. Its last line says why the run ended. Wi
 has the refused accesses and the faults alone; with exceptions those, and the entries and returns of
 handlers; with console the bytes that the firmware printed, in place of lines; with none no more than
 the last line.
+
+The file of --state is created, or replaced, after the run, however it ended; not where the image or
+the board is refused or the trace can't be written.
 
 Exit status:
   0  all steps were made, or a breakpoint was met; with --expect, the run ended as expected

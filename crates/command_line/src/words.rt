@@ -22,6 +22,8 @@ pub struct RunWords<'a> {
     pub trace: Option<&'a str>,
     /// The words of the stop line that is expected.
     pub expect: Option<&'a str>,
+    /// The path of the file for the state after the run.
+    pub state: Option<&'a str>,
 }
 
 /// The arguments of `debug`.
@@ -63,7 +65,7 @@ pub fn words_of<'a>(alloc: Global, words: &'a [String]) -> Result<Words<'a>, Wor
     };
     match command.try_get_matches_from(words) {
         Ok(matches) => words_in(alloc, &matches),
-        Err(error) => Err(fault_of(alloc, &error)),
+        Err(error) => Err(fault_of(alloc, &error, words)),
     }
 }
 
@@ -87,7 +89,8 @@ fn words_in<'a>(alloc: Global, matches: &ArgMatches<'a>) -> Result<Words<'a>, Wo
 
 /// Returns the values of the arguments of `debug`. `clap` has found both.
 fn debug_words<'a>(alloc: Global, debug: &ArgMatches<'a>) -> Result<Words<'a>, WordsFault>
-    ensures { Reads (debug_with (first_of (codes "board") (rows_of (found_of debug.now))) (first_of (codes "image") (rows_of (found_of debug.now)))) result }
+    ensures { Reads (debug_with (first_of (codes "board") (rows_of (found_of debug.now)))
+        (first_of (codes "image") (rows_of (found_of debug.now)))) result }
 {
     match (value_of(debug, "board"), value_of(debug, "image")) {
         (Some(board), Some(image)) => Ok(Words::Debug(DebugWords { board, image })),
@@ -97,7 +100,9 @@ fn debug_words<'a>(alloc: Global, debug: &ArgMatches<'a>) -> Result<Words<'a>, W
 
 /// Returns the values of the arguments of `run`. `clap` has found those that a run needs.
 fn run_words<'a>(alloc: Global, run: &ArgMatches<'a>) -> Result<Words<'a>, WordsFault>
-    ensures { Reads (run_with (first_of (codes "board") (rows_of (found_of run.now))) (first_of (codes "steps") (rows_of (found_of run.now))) (first_of (codes "image") (rows_of (found_of run.now))) (rows_of (found_of run.now))) result }
+    ensures { Reads (run_with (first_of (codes "board") (rows_of (found_of run.now)))
+        (first_of (codes "steps") (rows_of (found_of run.now)))
+        (first_of (codes "image") (rows_of (found_of run.now))) (rows_of (found_of run.now))) result }
 {
     match (
         value_of(run, "board"),
@@ -110,6 +115,7 @@ fn run_words<'a>(alloc: Global, run: &ArgMatches<'a>) -> Result<Words<'a>, Words
             image,
             trace: value_of(run, "trace"),
             expect: value_of(run, "expect"),
+            state: value_of(run, "state"),
         })),
         _ => Err(WordsFault::Wrong(String::new(alloc))),
     }

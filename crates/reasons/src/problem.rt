@@ -1,7 +1,8 @@
 //! What is wrong with a key, in the words of a message.
 
 use crate::keys::{EVENT, Key};
-use crate::text::{write_key, write_quoted};
+use crate::text::write_key;
+use messages::Quoted;
 use std::io;
 use std::io::Write;
 use toml::Value;
@@ -144,10 +145,10 @@ fn write_typed<W: Write>(out: &mut W, value: &Value) -> io::Result<()> {
     write!(out, ", {kind}")
 }
 
-/// Writes a value. In a string, control characters are escaped.
+/// Writes a value. In a string, what a display hides is escaped, and a long one is cut.
 fn write_value<W: Write>(out: &mut W, value: &Value) -> io::Result<()> {
     match value.as_str() {
-        Some(text) => write_quoted(out, text),
+        Some(text) => write!(out, "{}", Quoted(text)),
         None => write!(out, "{value}"),
     }
 }

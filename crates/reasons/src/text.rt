@@ -1,14 +1,15 @@
-//! Texts of a file, written so that no control character reaches a terminal.
+//! Keys of a file, as a message has them.
 
+use messages::{Escaped, Quoted};
 use std::io;
 use std::io::Write;
 
-/// Writes a key as TOML has it: in quotes where it isn't a bare key.
+/// Writes a key as TOML has it: in quotes where it isn't a bare key. A long one is cut.
 pub fn write_key<W: Write>(out: &mut W, key: &str) -> io::Result<()> {
     if is_bare(key) {
-        write!(out, "{key}")
+        write!(out, "{}", Escaped(key))
     } else {
-        write_quoted(out, key)
+        write!(out, "{}", Quoted(key))
     }
 }
 
@@ -20,25 +21,4 @@ fn is_bare(key: &str) -> bool {
 /// Returns whether a bare key can have a byte.
 fn is_bare_byte(byte: u8) -> bool {
     byte.is_ascii_alphanumeric() || byte == b'-' || byte == b'_'
-}
-
-/// Writes a text as a basic string of TOML.
-pub fn write_quoted<W: Write>(out: &mut W, text: &str) -> io::Result<()> {
-    write!(out, "\"")?;
-    'characters: for character in text.chars() {
-        write_character(out, character)?;
-    }
-    write!(out, "\"")
-}
-
-/// Writes a character of a basic string: quotes, backslashes and control characters are escaped.
-fn write_character<W: Write>(out: &mut W, character: char) -> io::Result<()> {
-    match character {
-        '"' | '\\' => write!(out, "\\{character}"),
-        '\0'..='\u{1F}' | '\u{7F}'..='\u{9F}' => {
-            let code = u32::from(character);
-            write!(out, "\\u{code:04X}")
-        }
-        _ => write!(out, "{character}"),
-    }
 }

@@ -19,6 +19,7 @@ mod run;
 mod segments;
 mod selections;
 mod sessions;
+mod short_messages;
 mod special;
 mod starts;
 mod steps;

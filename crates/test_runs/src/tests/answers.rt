@@ -56,6 +56,7 @@ out       --board <FILE>   The board: a TOML file of at most 16 MiB with the mem
 out       --steps <N>      The most steps (instructions, halves of exception entries, idle ticks) to make, from 0 to 4294967296
 out       --trace <WHICH>  Which lines are written, before the line of the stop: all (the default), refused, exceptions, console or none
 out       --expect <STOP>  The words of the last line after `stop`, as \"breakpoint 0\": status 0 if the run ends so, and 1 if it doesn't
+out       --state <FILE>   A file for the state after the run: registers, clock, faults, regions and exceptions, a line for each value
 out   -h, --help           Print help
 out
 out The trace has one line for each access: its tick, kind, address, size in bytes, privilege, outcome,
@@ -63,6 +64,9 @@ out and the rule or region that decided it. Its last line says why the run ended
 out has the refused accesses and the faults alone; with exceptions those, and the entries and returns of
 out handlers; with console the bytes that the firmware printed, in place of lines; with none no more than
 out the last line.
+out
+out The file of --state is created, or replaced, after the run, however it ended; not where the image or
+out the board is refused or the trace can't be written.
 out
 out Exit status:
 out   0  all steps were made, or a breakpoint was met; with --expect, the run ended as expected
@@ -122,6 +126,7 @@ out       --board <FILE>   The board: a TOML file of at most 16 MiB with the mem
 out       --steps <N>      The most steps (instructions, halves of exception entries, idle ticks) to make, from 0 to 4294967296
 out       --trace <WHICH>  Which lines are written, before the line of the stop: all (the default), refused, exceptions, console or none
 out       --expect <STOP>  The words of the last line after `stop`, as \"breakpoint 0\": status 0 if the run ends so, and 1 if it doesn't
+out       --state <FILE>   A file for the state after the run: registers, clock, faults, regions and exceptions, a line for each value
 out   -h, --help           Print help
 out
 out The trace has one line for each access: its tick, kind, address, size in bytes, privilege, outcome,
@@ -129,6 +134,9 @@ out and the rule or region that decided it. Its last line says why the run ended
 out has the refused accesses and the faults alone; with exceptions those, and the entries and returns of
 out handlers; with console the bytes that the firmware printed, in place of lines; with none no more than
 out the last line.
+out
+out The file of --state is created, or replaced, after the run, however it ended; not where the image or
+out the board is refused or the trace can't be written.
 out
 out Exit status:
 out   0  all steps were made, or a breakpoint was met; with --expect, the run ended as expected

@@ -4,15 +4,20 @@ use super::cut::Cut;
 use super::files::{FIRST, NO_INPUT, SMALL};
 use command::program;
 use std::test::*;
-use std::{fs, io};
+use std::{fs, io, str};
 
 /// The paths of the files of these runs.
 const IMAGE: &str = "options.elf";
 
 const BOARD: &str = "options.toml";
 
+const STATE: &str = "options.txt";
+
 /// The place of the number of the breakpoint in the first image.
 const NUMBER_AT: usize = 94;
+
+/// The place of the number of program headers.
+const HEADERS_AT: usize = 44;
 
 /// How the program ended: its status, and what it wrote to standard output and to standard error.
 #[derive(Drop)]
@@ -120,6 +125,71 @@ const NO_STOPS: [&str; 12] = [
     "unpredictable",
 ];
 
+/// The state after the first image's run: R0 is 5, PC is at the BKPT, and two ticks have gone by. The other values
+/// are those of a reset (B1.5.5, B3.2), with the first word of the image as MSP.
+const LAST_STATE: &str = "\
+R0 00000005
+R1 00000000
+R2 00000000
+R3 00000000
+R4 00000000
+R5 00000000
+R6 00000000
+R7 00000000
+R8 00000000
+R9 00000000
+R10 00000000
+R11 00000000
+R12 00000000
+MSP 20001000
+PSP 00000000
+LR FFFFFFFF
+PC 0000000A
+XPSR 01000000
+CONTROL 00000000
+PRIMASK 00000000
+FAULTMASK 00000000
+BASEPRI 00000000
+CLOCK 2
+CFSR 00000000
+HFSR 00000000
+MMFAR 00000000
+BFAR 00000000
+VTOR 00000000
+CCR 00000200
+r0 00000000 00000000
+r1 00000001 00000000
+r2 00000002 00000000
+r3 00000003 00000000
+r4 00000004 00000000
+r5 00000005 00000000
+r6 00000006 00000000
+r7 00000007 00000000
+PENDING
+ACTIVE
+";
+
+/// For each path whose file can't be created or written, why, as a message has it.
+const NO_FILES: [(&str, &str); 4] = [
+    (
+        "missing/state.txt",
+        "missing/state.txt: No such file or directory (os error 2)",
+    ),
+    (".", ".: Is a directory (os error 21)"),
+    (
+        "/dev/full",
+        "/dev/full: No space left on device (os error 28)",
+    ),
+    ("", "--state: the path is empty"),
+];
+
+/// Returns what the file for the state has, and removes the file.
+fn last_state(rt: &HostRuntime) -> io::Result<Vec<u8>> {
+    let bytes = fs::read(rt, STATE)?;
+    fs::remove_file(rt, STATE)?;
+    Ok(bytes)
+}
+
 #[test]
 fn the_expected_stop_is_status_0(rt: HostRuntime) -> Result<(), Fail> {
     assert!(rt; Ended::of(&rt, &FIRST, "10", "breakpoint 0")?.is(0, ""));
@@ -189,5 +259,55 @@ fn other_traces_are_wrong_arguments(rt: HostRuntime) -> Result<(), Fail> {
             "{which}"
         );
     }
+    Ok(())
+}
+
+#[test]
+fn the_state_goes_to_its_file(rt: HostRuntime) -> Result<(), Fail> {
+    let ended = Ended::with(&rt, &FIRST, "10", "--state", STATE)?;
+    assert!(rt; ended.is(0, ""));
+    assert!(rt; ended.out.text.as_slice() == TRACES[0].1.as_bytes());
+    assert!(rt; last_state(&rt)?.as_slice() == LAST_STATE.as_bytes());
+    Ok(())
+}
+
+#[test]
+fn a_file_for_the_state_is_replaced(rt: HostRuntime) -> Result<(), Fail> {
+    fs::write(&rt, STATE, [b'x'; 4000].as_slice())?;
+    assert!(rt; Ended::with(&rt, &FIRST, "10", "--state", STATE)?.is(0, ""));
+    assert!(rt; last_state(&rt)?.as_slice() == LAST_STATE.as_bytes());
+    Ok(())
+}
+
+#[test]
+fn a_stop_of_status_4_leaves_its_state(rt: HostRuntime) -> Result<(), Fail> {
+    let mut image = FIRST;
+    image[HEADERS_AT] = 0;
+    assert!(rt; Ended::with(&rt, &image, "10", "--state", STATE)?.is(4, ""));
+    let state = last_state(&rt)?;
+    let text = str::from_utf8(state.as_slice()).unwrap_or("");
+    assert!(rt; text.contains("\nCFSR 00001001\nHFSR 40000000\n"));
+    assert!(rt; text.ends_with("\nPENDING\nACTIVE 3\n"));
+    Ok(())
+}
+
+#[test]
+fn a_file_that_cannot_be_written_is_status_5(rt: HostRuntime) -> Result<(), Fail> {
+    'files: for (path, why) in NO_FILES.iter() {
+        let ended = Ended::with(&rt, &FIRST, "10", "--state", path)?;
+        let err = format!(in rt.alloc(); "marm: io\n  {why}\n")?;
+        assert!(rt; ended.is(5, err.as_str()), "{path}");
+        assert!(rt;
+            ended.out.text.as_slice() == TRACES[0].1.as_bytes(),
+            "{path}"
+        );
+    }
+    Ok(())
+}
+
+#[test]
+fn a_refused_image_leaves_no_state(rt: HostRuntime) -> Result<(), Fail> {
+    assert!(rt; Ended::with(&rt, &[], "10", "--state", STATE)?.status == 3);
+    assert!(rt; !fs::exists(&rt, STATE)?);
     Ok(())
 }
