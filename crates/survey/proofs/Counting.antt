@@ -19,7 +19,7 @@ use Rattle.survey.specs.declared.moment.Moment.{Moment}
 use Rattle.survey.specs.declared.whole.Survey.{Survey}
 use Rattle.survey.specs.Counts.{counted_at, one_more, place_of, place_of_access}
 use Rattle.survey.specs.CountLaw.{CountsEvents, is_counted_at, events_at}
-use Rattle.survey.specs.Surveys.{moment_of, surveyed, unless_stopped, with_event, with_events, with_step}
+use Rattle.survey.specs.Surveys.{moment_of, surveyed, unless_stopped, with_event, with_events, with_step, with_step_begun}
 
 -- the highest value of a counter
 abbrev pub cap : ℕ
@@ -100,7 +100,7 @@ step_by : (s : State) (v : Survey) (place : ℕ) (o : Option Stop) → s.stop �
     → get_or v.counts place 0 ≤ cap → AllCounted place v (unless_stopped s v o) (step s).events
 unfolding step
 step_by s v place None e below small =
-    let all = events_counted (moment_of s) v place (step s).events below small in
+    let all = events_counted (moment_of s) (with_step_begun (moment_of s) v) place (step s).events below small in
     record { number = all.number; long = all.long }
 step_by s v place (Some why) e below small =
     let none : (step s).events ≡ [] = ap (λ (o : Option Stop). (steps.unless_stopped s o).events) e in

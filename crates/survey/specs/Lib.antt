@@ -2,5 +2,9 @@ pub mod Counts
 pub mod Settings
 pub mod Refusals
 pub mod Cells
+pub mod Timeline
+pub mod Console
 pub mod Surveys
 pub mod CountLaw
+pub mod SumLaw
+pub mod TimeLaw

@@ -7,15 +7,18 @@ use Rattle.reference.specs.declared.event.EventKind.TheVariants.{Accessed, Conso
 use Rattle.reference.specs.declared.event.EventKind.TheVariants.{FaultRecorded}
 use Rattle.reference.specs.declared.stop.Stop.{Stop}
 use Rattle.reference.specs.Regions.{Mpu, shown}
+use Rattle.reference.specs.Registers.{is_privileged}
 use Rattle.reference.specs.Run.{after}
 use Rattle.reference.specs.State.{State}
 use Rattle.reference.specs.Step.{step}
 use Rattle.survey.specs.declared.moment.Moment.{Moment}
 use Rattle.survey.specs.declared.whole.Survey.{Survey}
 use Rattle.survey.specs.Cells.{with_touch}
-use Rattle.survey.specs.Counts.{with_access}
+use Rattle.survey.specs.Console.{with_byte}
+use Rattle.survey.specs.Counts.{one_more, with_access}
 use Rattle.survey.specs.Refusals.{with_decided, with_fault, with_end}
 use Rattle.survey.specs.Settings.{with_decision}
+use Rattle.survey.specs.Timeline.{with_accessed_mark, with_tick}
 
 -- RBAR and RASR of the 16 regions that an MPU can have, by their numbers: None for those that it doesn't have
 abbrev pub regions_of : Mpu → List (Option (ℕ × ℕ))
@@ -25,7 +28,13 @@ regions_of m =
 
 -- what a survey takes from the state in which a step begins
 unfoldable pub moment_of : State → Moment
-moment_of s = record { pc = s.registers.pc; regions = regions_of s.bus.system.mpu }
+moment_of s = record {
+  pc = s.registers.pc;
+  exception = s.registers.exception;
+  privileged = is_privileged s.registers;
+  asleep = s.asleep;
+  regions = regions_of s.bus.system.mpu;
+}
 
 -- a survey after an access of a step that began at a moment
 abbrev pub with_accessed : Moment → Survey → ℕ → DecidedAccess → Survey
@@ -35,12 +44,13 @@ with_accessed m v tick d = record v {
   refusals = with_decided m.pc v.refusals tick d;
   flash = with_touch v.flash d;
   ram = with_touch v.ram d;
+  timeline = with_accessed_mark v.timeline d;
 }
 
 -- a survey after an event of a step that began at a moment
 unfoldable pub with_event : Moment → Survey → ℕ → EventKind → Survey
 with_event m v tick (Accessed d) = with_accessed m v tick d
-with_event m v tick (ConsoleByte byte) = v
+with_event m v tick (ConsoleByte byte) = record v { console = with_byte v.console byte }
 with_event m v tick (ReturnBegan value) = v
 with_event m v tick (HandlerEntered exception) = v
 with_event m v tick (FaultRecorded fault) = record v { refusals = with_fault v.refusals fault }
@@ -50,13 +60,17 @@ abbrev pub with_events : Moment → Survey → List Event → Survey
 with_events m v [] = v
 with_events m v (e ∷ es) = with_events m (with_event m v e.tick e.what) es
 
+-- a survey when a step begins at a moment
+abbrev pub with_step_begun : Moment → Survey → Survey
+with_step_begun m v = record v { timeline = with_tick v.timeline m; steps = one_more v.steps }
+
 -- a survey at the end of a step
 abbrev pub with_step_end : Survey → Survey
 with_step_end v = record v { refusals = with_end v.refusals }
 
 -- a survey after the step of a machine that hasn't stopped
 abbrev pub with_made_step : State → Survey → Survey
-with_made_step s v = with_step_end (with_events (moment_of s) v (step s).events)
+with_made_step s v = with_step_end (with_events (moment_of s) (with_step_begun (moment_of s) v) (step s).events)
 
 -- a machine that has stopped makes no step
 abbrev pub unless_stopped : State → Survey → Option Stop → Survey

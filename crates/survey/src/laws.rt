@@ -1,10 +1,24 @@
 //! What holds of surveys: each law is the contract of a function that does nothing.
 
 ghost use Rattle.survey.specs.CountLaw.{CountersCount, CountersDiffer};
+ghost use Rattle.survey.specs.SumLaw.{OutcomesAddUp, SumsCount};
+ghost use Rattle.survey.specs.TimeLaw.{TimelinesShow};
 
 /// A counter has counted the events of the steps that are accesses of its rule, privilege, kind and outcome,
 /// up to its highest value, 2^64 - 1; and no two of these have one counter.
 pub fn counters_count_events()
     ensures events { CountersCount }
     ensures apart { CountersDiffer }
+{}
+
+/// The sum of any counters is the number of the accesses that they count; so the granted and the refused ones
+/// together are the number of all accesses.
+pub fn counters_add_up()
+    ensures sums { SumsCount }
+    ensures outcomes { OutcomesAddUp }
+{}
+
+/// A column of the timeline has a mark exactly where a step made it whose tick is one of the column's.
+pub fn columns_show_their_ticks()
+    ensures { TimelinesShow }
 {}

@@ -1,24 +1,30 @@
 //! What a run did, counted: which accesses there were, by which rule and of which outcome; under which
-//! settings regions decided; what was refused; and which memory was touched.
+//! settings regions decided; what was refused; which memory was touched; what ran when; and what was printed.
 #![tactic(auto)]
 
 mod cells;
+mod console;
 mod counts;
 pub mod laws;
+mod mark;
 mod moment;
 mod refusal;
 mod refusals;
 mod setting;
 mod settings;
+mod timeline;
 mod touch;
 mod whole;
 
 pub use cells::{Cells, MARKS, MOST_CELLS};
+pub use console::{Console, MOST_BYTES};
 pub use counts::{COUNTERS, Counts, WAYS};
+pub use mark::{MOST_LANES, Mark};
 pub use moment::{Moment, Regions};
 pub use refusal::Refusal;
 pub use refusals::{MOST_ROWS, Refusals};
 pub use setting::{RegionSetting, Setting};
 pub use settings::{MOST_SETTINGS, Settings};
+pub use timeline::{MOST_COLUMNS, Timeline};
 pub use touch::Touch;
 pub use whole::Survey;

@@ -10,6 +10,12 @@ pub type Regions = [Option<(u32, u32)>; MOST_REGIONS as usize];
 pub struct Moment {
     /// The address of the next instruction.
     pub pc: u32,
+    /// The exception whose handler runs, 0 in Thread mode: IPSR.
+    pub exception: u16,
+    /// Whether privileged code runs.
+    pub privileged: bool,
+    /// Whether WFI has put the core to sleep.
+    pub asleep: bool,
     /// The settings of the regions.
     pub regions: Regions,
 }

@@ -1,14 +1,16 @@
 //! A survey, and what one event adds to it.
 
-ghost use Rattle.std.specs.Prelude.{◌≡◌, IfOk, None, false, replicate};
+ghost use Rattle.std.specs.Prelude.{◌≡◌, IfOk, false, replicate};
 ghost use Rattle.survey.specs.Cells.{width_of};
-ghost use Rattle.survey.specs.Surveys.{with_accessed, with_event, with_events, with_step_end};
+ghost use Rattle.survey.specs.Surveys.{with_accessed, with_event, with_events, with_step_begun, with_step_end};
 
 use crate::cells::{Cells, MARKS};
+use crate::console::Console;
 use crate::counts::{COUNTERS, Counts};
 use crate::moment::Moment;
 use crate::refusals::Refusals;
 use crate::settings::Settings;
+use crate::timeline::Timeline;
 use reference::access::DecidedAccess;
 use reference::board::Layout;
 use reference::event::{Event, EventKind};
@@ -28,6 +30,12 @@ pub struct Survey {
     pub flash: Cells,
     /// Which cells of RAM were touched.
     pub ram: Cells,
+    /// What ran when.
+    pub timeline: Timeline,
+    /// What the firmware printed.
+    pub console: Console,
+    /// How many steps were made. It stays at its highest value, 2^64 - 1.
+    pub steps: u64,
 }
 
 impl Survey {
@@ -38,19 +46,36 @@ impl Survey {
         ensures refusals { IfOk result (λ survey. survey.refusals.used ≡ 0) }
         ensures flash { IfOk result (λ survey. survey.flash.marks ≡ replicate MARKS false) }
         ensures ram { IfOk result (λ survey. survey.ram.marks ≡ replicate MARKS false) }
+        ensures timeline { IfOk result (λ survey. survey.timeline.used ≡ 0) }
+        ensures console { IfOk result (λ survey. survey.console.number ≡ 0) }
+        ensures steps { IfOk result (λ survey. survey.steps ≡ 0) }
     {
         let counts = Counts::new(alloc)?;
         let settings = Settings::new(alloc)?;
         let refusals = Refusals::new(alloc)?;
         let flash = Cells::new(alloc, layout.flash_base, layout.flash_size)?;
         let ram = Cells::new(alloc, RAM_BASE, layout.ram_size)?;
+        let timeline = Timeline::new(alloc)?;
+        let console = Console::new(alloc)?;
         Ok(Survey {
             counts,
             settings,
             refusals,
             flash,
             ram,
+            timeline,
+            console,
+            steps: 0,
         })
+    }
+
+    /// Begins a step at a moment, and counts it.
+    #[inline]
+    pub fn begin_step(&mut self, moment: &Moment)
+        ensures { self.new ≡ with_step_begun moment.now self.old }
+    {
+        self.timeline.take_tick(moment);
+        self.steps = self.steps.saturating_add(1);
     }
 
     /// Counts the events of a step that began at a moment.
@@ -65,12 +90,12 @@ impl Survey {
     /// Counts an event of a step that began at a moment.
     #[inline]
     #[tactic(auto, unfolding(crate::specs::Surveys::with_event))]
-    fn take(&mut self, moment: &Moment, tick: u64, what: &EventKind)
+    pub fn take(&mut self, moment: &Moment, tick: u64, what: &EventKind)
         ensures { self.new ≡ with_event moment.now self.old tick what.now }
     {
         match what {
             EventKind::Accessed(decided) => self.take_access(moment, tick, decided),
-            EventKind::ConsoleByte(_) => {}
+            EventKind::ConsoleByte(byte) => self.console.take_byte(*byte),
             EventKind::ReturnBegan(_) => {}
             EventKind::HandlerEntered(_) => {}
             EventKind::FaultRecorded(fault) => self.refusals.take_fault(fault),
@@ -87,6 +112,7 @@ impl Survey {
         self.refusals.take_access(moment.pc, tick, decided);
         self.flash.take_access(decided);
         self.ram.take_access(decided);
+        self.timeline.take_access(decided);
     }
 
     /// Ends a step.

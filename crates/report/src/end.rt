@@ -1,0 +1,298 @@
+//! At the end: the registers, the regions, the fault status, and the exceptions of the machine.
+
+use crate::faults::{CFSR_BITS, FaultBit, HFSR_BITS};
+use crate::names::Place;
+use crate::numbers::Thousands;
+use crate::page::{Report, write_part};
+use crate::regions::write_words;
+use crate::settings::RegionWords;
+use crate::words::{ExceptionName, RuleWord};
+use machine::{Fast, Kind, RegValues, Rule, StatusRegister};
+use reference::exception::EXCEPTIONS;
+use reference::mpu::MOST_REGIONS;
+use std::io::Write;
+use std::{fmt, io};
+use symbols::Symbols;
+
+const CAPTION: &str =
+    "The state in which the run ended: registers and addresses in hexadecimal, the regions of \
+the MPU and the bits of the fault status registers in words.";
+
+/// Writes the part.
+pub fn write_end<W: Write>(out: &mut W, report: &Report<'_>) -> io::Result<()> {
+    write_part(out, "end", "At the end", CAPTION)?;
+    write_registers(out, &report.machine.regs(), report.symbols)?;
+    write_regions(out, report.machine)?;
+    write_faults(out, report)?;
+    write_exceptions(out, report.machine)?;
+    writeln!(out, "</section>")
+}
+
+/// Writes the core registers.
+fn write_registers<W: Write>(
+    out: &mut W,
+    values: &RegValues,
+    symbols: &Symbols<'_>,
+) -> io::Result<()> {
+    writeln!(out, "<h3>Registers</h3>\n<dl class='registers'>")?;
+    'general: for (number, value) in values.general.iter().enumerate() {
+        writeln!(
+            out,
+            "<div><dt>R{number}</dt><dd id='R{number}'><code>{value:08X}</code></dd></div>"
+        )?;
+    }
+    write_address(out, "MSP", values.msp, symbols)?;
+    write_address(out, "PSP", values.psp, symbols)?;
+    write_address(out, "LR", values.lr, symbols)?;
+    write_address(out, "PC", values.pc, symbols)?;
+    write_status(out, values.xpsr)?;
+    write_control(out, values.control)?;
+    write_value(out, "PRIMASK", values.primask)?;
+    write_value(out, "FAULTMASK", values.faultmask)?;
+    write_value(out, "BASEPRI", values.basepri)?;
+    writeln!(out, "</dl>")
+}
+
+/// Writes a register that has an address.
+fn write_address<W: Write>(
+    out: &mut W,
+    name: &str,
+    address: u32,
+    symbols: &Symbols<'_>,
+) -> io::Result<()> {
+    let place = Place { address, symbols };
+    writeln!(
+        out,
+        "<div><dt>{name}</dt><dd id='{name}'>{place}</dd></div>"
+    )
+}
+
+/// Writes a register.
+fn write_value<W: Write>(out: &mut W, name: &str, value: u32) -> io::Result<()> {
+    writeln!(
+        out,
+        "<div><dt>{name}</dt><dd id='{name}'><code>{value:08X}</code></dd></div>"
+    )
+}
+
+/// Writes xPSR: its flags and its mode in words.
+fn write_status<W: Write>(out: &mut W, value: u32) -> io::Result<()> {
+    let negative = flag(value, 31, "N");
+    let zero = flag(value, 30, "Z");
+    let carry = flag(value, 29, "C");
+    let overflow = flag(value, 28, "V");
+    let saturated = flag(value, 27, "Q");
+    let exception = (value % 512) as u16;
+    write!(
+        out,
+        "<div><dt>XPSR</dt><dd id='XPSR'><code>{value:08X}</code> \
+         <small>{negative}{zero}{carry}{overflow}{saturated} "
+    )?;
+    if exception == 0 {
+        writeln!(out, "Thread mode</small></dd></div>")
+    } else {
+        let name = ExceptionName(exception);
+        writeln!(out, "handler of {name}</small></dd></div>")
+    }
+}
+
+/// Returns the letter of a flag where its bit is set, and a dash where it isn't.
+fn flag(value: u32, bit: u32, letter: &'static str) -> &'static str {
+    if value.checked_shr(bit).unwrap_or(0) % 2 == 1 {
+        letter
+    } else {
+        "-"
+    }
+}
+
+/// Writes CONTROL: the privilege of Thread mode and its stack in words.
+fn write_control<W: Write>(out: &mut W, value: u32) -> io::Result<()> {
+    let privilege = if value % 2 == 1 {
+        "Thread unprivileged"
+    } else {
+        "Thread privileged"
+    };
+    let stack = if value / 2 % 2 == 1 {
+        "process stack"
+    } else {
+        "main stack"
+    };
+    writeln!(
+        out,
+        "<div><dt>CONTROL</dt><dd id='CONTROL'><code>{value:08X}</code> \
+         <small>{privilege}, {stack}</small></dd></div>"
+    )
+}
+
+/// Writes the regions of the MPU.
+fn write_regions<W: Write>(out: &mut W, machine: &Fast) -> io::Result<()> {
+    writeln!(out, "<h3>Regions of the MPU</h3>")?;
+    match machine.explain(0, false, Kind::Load).rule {
+        Rule::MpuOff => writeln!(
+            out,
+            "<p id='mpu-off'>The MPU is off: the default map decides, whatever the regions say.</p>"
+        )?,
+        Rule::NegativePriority => writeln!(
+            out,
+            "<p id='mpu-negative'>The execution priority is below 0: the default map decides, also for \
+             the faint strips above.</p>"
+        )?,
+        Rule::NeverExecute
+        | Rule::VectorRead
+        | Rule::PrivatePeripheralBus
+        | Rule::Region(_)
+        | Rule::Background
+        | Rule::NoRegion => {}
+    }
+    writeln!(
+        out,
+        "<table class='cards'><thead><tr><th scope='col'>region</th><th scope='col'>addresses</th>\
+         <th scope='col'>size</th><th class='u' scope='col'>unprivileged may</th>\
+         <th class='p' scope='col'>privileged may</th><th scope='col'>fetches</th>\
+         <th scope='col'>subregions off</th></tr></thead>\n<tbody>"
+    )?;
+    'regions: for number in 0..MOST_REGIONS {
+        write_region(out, number, machine.region(number))?;
+    }
+    write!(out, "</tbody></table>\n<p id='regions-off'>Off: ")?;
+    write_off(out, machine)?;
+    writeln!(out, ".</p>")
+}
+
+/// Writes the row of a region, if there is one and it is enabled.
+fn write_region<W: Write>(out: &mut W, number: u8, region: Option<(u32, u32)>) -> io::Result<()> {
+    let Some((base, attributes)) = region else {
+        return Ok(());
+    };
+    let words = RegionWords { base, attributes };
+    if !words.is_enabled() {
+        return Ok(());
+    }
+    write!(
+        out,
+        "<tr id='region-{number}' data-rbar='{base:08X}' data-rasr='{attributes:08X}'>\
+         <th scope='row'><code>r{number}</code></th>"
+    )?;
+    write_words(out, words)?;
+    writeln!(out, "</tr>")
+}
+
+/// Writes the names of the regions that are off.
+fn write_off<W: Write>(out: &mut W, machine: &Fast) -> io::Result<()> {
+    let mut names = Names::new();
+    'regions: for number in 0..MOST_REGIONS {
+        if let Some((base, attributes)) = machine.region(number) {
+            let words = RegionWords { base, attributes };
+            names.write_if(out, !words.is_enabled(), RuleWord(Rule::Region(number)))?;
+        }
+    }
+    names.end(out)
+}
+
+/// Writes the fault status registers.
+fn write_faults<W: Write>(out: &mut W, report: &Report<'_>) -> io::Result<()> {
+    let machine = report.machine;
+    let cfsr = machine.status_word(StatusRegister::Cfsr);
+    let hfsr = machine.status_word(StatusRegister::Hfsr);
+    writeln!(out, "<h3>Fault status</h3>\n<dl class='registers wide'>")?;
+    write_bits(out, "CFSR", cfsr, &CFSR_BITS)?;
+    write_bits(out, "HFSR", hfsr, &HFSR_BITS)?;
+    if cfsr / 0x80 % 2 == 1 {
+        let address = machine.status_word(StatusRegister::Mmfar);
+        write_address(out, "MMFAR", address, report.symbols)?;
+    }
+    if cfsr / 0x8000 % 2 == 1 {
+        let address = machine.status_word(StatusRegister::Bfar);
+        write_address(out, "BFAR", address, report.symbols)?;
+    }
+    writeln!(out, "</dl>")
+}
+
+/// Writes a fault status register: its value, and the bits that are set.
+fn write_bits<W: Write>(out: &mut W, name: &str, value: u32, bits: &[FaultBit]) -> io::Result<()> {
+    write!(
+        out,
+        "<div><dt>{name}</dt><dd id='{name}'><code>{value:08X}</code>"
+    )?;
+    'bits: for bit in bits {
+        if bit.is_set(value) {
+            let bit_name = bit.name;
+            let meaning = bit.meaning;
+            write!(out, " <b>{bit_name}</b> <small>{meaning}</small>")?;
+        }
+    }
+    writeln!(out, "</dd></div>")
+}
+
+/// Writes which exceptions are pending and active, and the clock.
+fn write_exceptions<W: Write>(out: &mut W, machine: &Fast) -> io::Result<()> {
+    let ticks = machine.ticks();
+    let shown = Thousands(ticks);
+    writeln!(
+        out,
+        "<h3>Exceptions and clock</h3>\n<dl class='registers wide'>"
+    )?;
+    write!(out, "<div><dt>pending</dt><dd id='pending'>")?;
+    write_pending(out, machine)?;
+    write!(out, "</dd></div>\n<div><dt>active</dt><dd id='active'>")?;
+    write_active(out, machine)?;
+    writeln!(
+        out,
+        "</dd></div>\n<div><dt>clock</dt><dd id='clock' data-number='{ticks}'>{shown} ticks</dd></div>\n</dl>"
+    )
+}
+
+/// Writes the names of the pending exceptions.
+fn write_pending<W: Write>(out: &mut W, machine: &Fast) -> io::Result<()> {
+    let mut names = Names::new();
+    'exceptions: for number in 0..EXCEPTIONS {
+        names.write_if(out, machine.is_pending(number), ExceptionName(number))?;
+    }
+    names.end(out)
+}
+
+/// Writes the names of the active exceptions.
+fn write_active<W: Write>(out: &mut W, machine: &Fast) -> io::Result<()> {
+    let mut names = Names::new();
+    'exceptions: for number in 0..EXCEPTIONS {
+        names.write_if(out, machine.is_active(number), ExceptionName(number))?;
+    }
+    names.end(out)
+}
+
+/// A list of names with commas between them, `none` where it is empty.
+#[derive(Clone, Copy)]
+struct Names {
+    is_empty: bool,
+}
+
+impl Names {
+    /// Returns an empty list.
+    fn new() -> Self {
+        Names { is_empty: true }
+    }
+
+    /// Writes a name of the list, if it is in it.
+    fn write_if<W: Write, N: fmt::Display + Copy>(
+        &mut self,
+        out: &mut W,
+        is_in: bool,
+        name: N,
+    ) -> io::Result<()> {
+        if !is_in {
+            return Ok(());
+        }
+        let separator = if self.is_empty { "" } else { ", " };
+        self.is_empty = false;
+        write!(out, "{separator}{name}")
+    }
+
+    /// Ends the list.
+    fn end<W: Write>(&self, out: &mut W) -> io::Result<()> {
+        if self.is_empty {
+            write!(out, "none")
+        } else {
+            Ok(())
+        }
+    }
+}

@@ -1,0 +1,26 @@
+//! The report of a run: one HTML page that shows what the run did.
+#![tactic(auto)]
+
+mod cells;
+mod console;
+mod end;
+mod escape;
+mod faults;
+mod grid;
+mod memory;
+mod names;
+mod numbers;
+mod page;
+mod permissions;
+mod refusals;
+mod regions;
+mod rules;
+mod settings;
+mod style;
+mod timeline;
+mod words;
+
+pub use page::{Report, write_page};
+
+#[cfg(test)]
+mod tests;

@@ -1,0 +1,142 @@
+//! The settings of regions: what each says, and what it decided.
+
+use crate::numbers::{ByteCount, Thousands};
+use crate::page::{Report, write_part};
+use crate::rules::write_outcome;
+use crate::settings::{RegionWords, SubregionsOff};
+use crate::words::{KINDS, kind_word, privilege_letter};
+use machine::Kind;
+use reference::access::Cause;
+use std::io;
+use std::io::Write;
+use survey::{Setting, Settings};
+
+const CAPTION: &str =
+    "Each row is one setting of a region (RBAR and RASR) under which the region decided \
+accesses, in the order in which they first decided, and how many of each kind. A region that was set anew has \
+a row for each setting.";
+
+/// Writes the part.
+pub fn write_regions<W: Write>(out: &mut W, report: &Report<'_>) -> io::Result<()> {
+    let settings = &report.survey.settings;
+    write_part(out, "settings", "Settings of regions", CAPTION)?;
+    if settings.rows().is_empty() {
+        writeln!(out, "<p id='no-settings'>No region decided an access.</p>")?;
+    } else {
+        write_table(out, settings)?;
+    }
+    writeln!(out, "</section>")
+}
+
+/// Writes the table of the settings, and how many accesses are in no row.
+fn write_table<W: Write>(out: &mut W, settings: &Settings) -> io::Result<()> {
+    writeln!(
+        out,
+        "<table class='cards'><thead><tr><th scope='col'>region</th><th scope='col'>addresses</th>\
+         <th scope='col'>size</th><th class='u' scope='col'>unprivileged may</th>\
+         <th class='p' scope='col'>privileged may</th><th scope='col'>fetches</th>\
+         <th scope='col'>subregions off</th>\
+         <th class='u' scope='col'>unprivileged did</th><th class='p' scope='col'>privileged did</th>\
+         </tr></thead>\n<tbody>"
+    )?;
+    'settings: for (place, setting) in settings.rows().iter().enumerate() {
+        write_setting(out, place, setting)?;
+    }
+    writeln!(out, "</tbody></table>")?;
+    let others = settings.others();
+    if others > 0 {
+        let shown = Thousands(others);
+        writeln!(
+            out,
+            "<p id='other-settings' data-number='{others}'>{shown} accesses were decided by further \
+             settings.</p>"
+        )?;
+    }
+    Ok(())
+}
+
+/// Writes the row of a setting.
+fn write_setting<W: Write>(out: &mut W, place: usize, setting: &Setting) -> io::Result<()> {
+    let number = setting.region.number;
+    let base = setting.region.base;
+    let attributes = setting.region.attributes;
+    write!(
+        out,
+        "<tr id='setting-{place}' data-region='{number}' data-rbar='{base:08X}' data-rasr='{attributes:08X}'>\
+         <th scope='row'><code>r{number}</code> \
+         <small>RBAR {base:08X} RASR {attributes:08X}</small></th>"
+    )?;
+    write_words(out, RegionWords { base, attributes })?;
+    write_ways(out, place, setting, false)?;
+    write_ways(out, place, setting, true)?;
+    writeln!(out, "</tr>")
+}
+
+/// Writes a setting in words: the cells for its addresses, its size, what it grants, whether instructions are
+/// fetched from it, and its subregions.
+pub fn write_words<W: Write>(out: &mut W, words: RegionWords) -> io::Result<()> {
+    let first = words.first();
+    let last = words.last();
+    let size = ByteCount(words.bytes());
+    let unprivileged = words.permission(false);
+    let privileged = words.permission(true);
+    let executed = if words.is_never_executed() {
+        "never executed"
+    } else {
+        "where it may be read"
+    };
+    let off = SubregionsOff(words);
+    write!(
+        out,
+        "<td data-label='addresses'><code>{first:08X}</code> to <code>{last:08X}</code></td>\
+         <td class='n' data-label='size'>{size}</td>\
+         <td class='u' data-label='unprivileged may'>{unprivileged}</td>\
+         <td class='p' data-label='privileged may'>{privileged}</td>\
+         <td data-label='fetches'>{executed}</td>\
+         <td data-label='subregions off'>{off}</td>"
+    )
+}
+
+/// Writes the cell of what a setting decided for code of a privilege.
+fn write_ways<W: Write>(
+    out: &mut W,
+    place: usize,
+    setting: &Setting,
+    privileged: bool,
+) -> io::Result<()> {
+    let letter = privilege_letter(privileged);
+    let label = if privileged {
+        "privileged did"
+    } else {
+        "unprivileged did"
+    };
+    write!(out, "<td class='{letter}' data-label='{label}'>")?;
+    'kinds: for kind in KINDS {
+        write_way(out, place, setting, privileged, kind)?;
+    }
+    write!(out, "</td>")
+}
+
+/// Writes how many accesses of a privilege and kind a setting decided, if there are any.
+fn write_way<W: Write>(
+    out: &mut W,
+    place: usize,
+    setting: &Setting,
+    privileged: bool,
+    kind: Kind,
+) -> io::Result<()> {
+    let letter = privilege_letter(privileged);
+    let word = kind_word(kind);
+    'outcomes: for refused in [None, Some(Cause::Mpu), Some(Cause::Bus)] {
+        let number = setting.number(privileged, kind, refused);
+        if number > 0 {
+            write!(
+                out,
+                "<span class='way'>{word} <span id='setting-{place}-{letter}-{word}-"
+            )?;
+            write_outcome(out, refused, number)?;
+            write!(out, "</span> ")?;
+        }
+    }
+    Ok(())
+}

@@ -1,0 +1,246 @@
+//! Time: what ran when, a lane for each thing that ran.
+
+use crate::grid::{Area, write_area};
+use crate::numbers::Thousands;
+use crate::page::{Report, write_part};
+use crate::words::ExceptionName;
+use std::io::Write;
+use std::{fmt, io};
+use survey::{Mark, Timeline};
+
+const CAPTION: &str =
+    "A lane is marked where its code ran, from the first tick at the left to the last at the \
+right. <span class='u'>Unprivileged</span> code and <span class='p'>privileged</span> code have lanes of their \
+own; a handler is always privileged. <span class='refused'>✕ Refused accesses</span> go as a line through all \
+lanes, and <span class='mpu'>▲ writes to the MPU</span> have a lane.";
+
+/// How high a lane is, in units of its drawing.
+const LANE_HEIGHT: usize = 10;
+
+/// A lane of the drawing.
+#[derive(Clone, Copy)]
+enum Lane {
+    Unprivileged,
+    Privileged,
+    Handler(u16),
+    OtherHandlers,
+    Sleep,
+    Refused,
+    MpuWritten,
+}
+
+impl Lane {
+    /// Returns the class of the lane: its colour.
+    fn class(self) -> &'static str {
+        match self {
+            Lane::Unprivileged => "u",
+            Lane::Privileged => "p",
+            Lane::Handler(_) => "p",
+            Lane::OtherHandlers => "p",
+            Lane::Sleep => "sleep",
+            Lane::Refused => "refused",
+            Lane::MpuWritten => "mpu",
+        }
+    }
+}
+
+impl fmt::Display for Lane {
+    /// Writes what the lane is called.
+    fn fmt<W: fmt::Write>(&self, f: &mut fmt::Formatter<W>) -> fmt::Result {
+        match *self {
+            Lane::Unprivileged => write!(f, "Thread, unprivileged"),
+            Lane::Privileged => write!(f, "Thread, privileged"),
+            Lane::Handler(exception) => {
+                let name = ExceptionName(exception);
+                write!(f, "{name}")
+            }
+            Lane::OtherHandlers => write!(f, "other handlers"),
+            Lane::Sleep => write!(f, "asleep"),
+            Lane::Refused => write!(f, "✕ access refused"),
+            Lane::MpuWritten => write!(f, "▲ MPU written"),
+        }
+    }
+}
+
+/// The id of a lane.
+#[derive(Clone, Copy)]
+struct LaneId(Lane);
+
+impl fmt::Display for LaneId {
+    fn fmt<W: fmt::Write>(&self, f: &mut fmt::Formatter<W>) -> fmt::Result {
+        match self.0 {
+            Lane::Unprivileged => write!(f, "lane-unprivileged"),
+            Lane::Privileged => write!(f, "lane-privileged"),
+            Lane::Handler(exception) => write!(f, "lane-exception-{exception}"),
+            Lane::OtherHandlers => write!(f, "lane-other-handlers"),
+            Lane::Sleep => write!(f, "lane-sleep"),
+            Lane::Refused => write!(f, "lane-refused"),
+            Lane::MpuWritten => write!(f, "lane-mpu"),
+        }
+    }
+}
+
+/// Writes the part.
+pub fn write_timeline<W: Write>(out: &mut W, report: &Report<'_>) -> io::Result<()> {
+    let timeline = &report.survey.timeline;
+    write_part(out, "time", "Time", CAPTION)?;
+    if timeline.used() == 0 {
+        return writeln!(out, "<p id='no-steps'>No step was made.</p>\n</section>");
+    }
+    let ticks = timeline.column_ticks();
+    let used = timeline.used();
+    writeln!(
+        out,
+        "<div class='lanes' data-columns='{used}' data-column-ticks='{ticks}'>"
+    )?;
+    write_lane(out, timeline, Lane::Unprivileged, Mark::Unprivileged)?;
+    write_lane(out, timeline, Lane::Privileged, Mark::Privileged)?;
+    write_handlers(out, timeline)?;
+    write_used_lane(out, timeline, Lane::OtherHandlers, Mark::OtherHandler)?;
+    write_used_lane(out, timeline, Lane::Sleep, Mark::Sleep)?;
+    write_used_lane(out, timeline, Lane::Refused, Mark::Refused)?;
+    write_used_lane(out, timeline, Lane::MpuWritten, Mark::MpuWritten)?;
+    write_axis(out, timeline, report.survey.steps)?;
+    writeln!(out, "</div>\n</section>")
+}
+
+/// Writes the lanes of the handlers that ran.
+fn write_handlers<W: Write>(out: &mut W, timeline: &Timeline) -> io::Result<()> {
+    'handlers: for (place, exception) in timeline.handlers().iter().enumerate() {
+        if let Ok(number) = u8::try_from(place) {
+            write_lane(
+                out,
+                timeline,
+                Lane::Handler(*exception),
+                Mark::Handler(number),
+            )?;
+        }
+    }
+    Ok(())
+}
+
+/// Writes a lane, if a column has its mark.
+fn write_used_lane<W: Write>(
+    out: &mut W,
+    timeline: &Timeline,
+    lane: Lane,
+    mark: Mark,
+) -> io::Result<()> {
+    if columns_marked(timeline, mark) > 0 {
+        write_lane(out, timeline, lane, mark)
+    } else {
+        Ok(())
+    }
+}
+
+/// Returns how many columns have a mark.
+fn columns_marked(timeline: &Timeline, mark: Mark) -> u64 {
+    let mut count = 0u64;
+    'columns: for column in 0..timeline.used() {
+        if timeline.is_marked(column, mark) {
+            count = count.saturating_add(1);
+        }
+    }
+    count
+}
+
+/// Writes a lane.
+fn write_lane<W: Write>(
+    out: &mut W,
+    timeline: &Timeline,
+    lane: Lane,
+    mark: Mark,
+) -> io::Result<()> {
+    let id = LaneId(lane);
+    let class = lane.class();
+    let count = columns_marked(timeline, mark);
+    let used = timeline.used();
+    write!(
+        out,
+        "<div class='lane' id='{id}' data-columns='{count}'><span class='label'>{lane}</span>\
+         <svg class='{class}' viewBox='0 0 {used} {LANE_HEIGHT}' preserveAspectRatio='none' role='img'>\
+         <title>{lane}</title><path d='"
+    )?;
+    write_columns(out, timeline, mark)?;
+    write!(out, "'/>")?;
+    match lane {
+        Lane::Unprivileged
+        | Lane::Privileged
+        | Lane::Handler(_)
+        | Lane::OtherHandlers
+        | Lane::Sleep => write_refused_lines(out, timeline)?,
+        Lane::Refused | Lane::MpuWritten => {}
+    }
+    writeln!(out, "</svg></div>")
+}
+
+/// Writes the path of the columns that have a mark: a box for each run of them.
+fn write_columns<W: Write>(out: &mut W, timeline: &Timeline, mark: Mark) -> io::Result<()> {
+    let used = timeline.used();
+    let mut begin = None;
+    'columns: for column in 0..used {
+        if timeline.is_marked(column, mark) {
+            begin = begin.or(Some(column));
+        } else if let Some(first) = begin {
+            write_run(out, first, column)?;
+            begin = None;
+        }
+    }
+    match begin {
+        Some(first) => write_run(out, first, used),
+        None => Ok(()),
+    }
+}
+
+/// Writes the box of the columns from the first up to one behind the last.
+fn write_run<W: Write>(out: &mut W, first: usize, end: usize) -> io::Result<()> {
+    write_area(
+        out,
+        Area {
+            left: first,
+            top: 0,
+            width: end.saturating_sub(first),
+            height: LANE_HEIGHT,
+        },
+    )
+}
+
+/// Writes the lines of refused accesses through a lane.
+fn write_refused_lines<W: Write>(out: &mut W, timeline: &Timeline) -> io::Result<()> {
+    write!(out, "<path class='through' d='")?;
+    'columns: for column in 0..timeline.used() {
+        if timeline.is_marked(column, Mark::Refused) {
+            write!(out, "M{column}.5 0v{LANE_HEIGHT}")?;
+        }
+    }
+    write!(out, "'/>")
+}
+
+/// Writes the ticks below the lanes.
+fn write_axis<W: Write>(out: &mut W, timeline: &Timeline, last: u64) -> io::Result<()> {
+    let ticks = timeline.column_ticks();
+    let all = (timeline.used() as u64).saturating_mul(ticks);
+    write!(
+        out,
+        "<div class='lane'><span class='label'>tick</span><div class='axis'><span>1</span>"
+    )?;
+    'quarters: for quarter in 1..4u64 {
+        let tick = Thousands(all / 4 * quarter);
+        write!(out, "<span>{tick}</span>")?;
+    }
+    let last = Thousands(last);
+    writeln!(out, "<span>{last}</span></div></div>")?;
+    if ticks == 1 {
+        writeln!(
+            out,
+            "<p class='scale'>A column of the drawing is a tick.</p>"
+        )
+    } else {
+        let ticks = Thousands(ticks);
+        writeln!(
+            out,
+            "<p class='scale'>A column of the drawing is {ticks} ticks, and is marked in each lane of \
+             which one of them was.</p>"
+        )
+    }
+}

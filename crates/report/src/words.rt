@@ -1,0 +1,176 @@
+//! The words for what the trace writes as letters.
+
+use machine::{Kind, Rule};
+use reference::access::{Access, Cause, DecidedAccess};
+use std::fmt;
+
+/// The kinds of access, in the order of the columns.
+pub const KINDS: [Kind; 7] = [
+    Kind::Fetch,
+    Kind::Load,
+    Kind::Store,
+    Kind::Push,
+    Kind::Pop,
+    Kind::Vector,
+    Kind::Probe,
+];
+
+/// The rules that are no region, in the order of the rows.
+pub const RULES: [Rule; 7] = [
+    Rule::Background,
+    Rule::NoRegion,
+    Rule::MpuOff,
+    Rule::NegativePriority,
+    Rule::PrivatePeripheralBus,
+    Rule::VectorRead,
+    Rule::NeverExecute,
+];
+
+/// Returns the word for a kind of access.
+pub fn kind_word(kind: Kind) -> &'static str {
+    match kind {
+        Kind::Fetch => "fetch",
+        Kind::Load => "load",
+        Kind::Store => "store",
+        Kind::Push => "push",
+        Kind::Pop => "pop",
+        Kind::Vector => "vector",
+        Kind::Probe => "probe",
+    }
+}
+
+/// Returns the word for a privilege.
+pub fn privilege_word(privileged: bool) -> &'static str {
+    if privileged {
+        "privileged"
+    } else {
+        "unprivileged"
+    }
+}
+
+/// Returns the letter of a privilege in the trace and in ids.
+pub fn privilege_letter(privileged: bool) -> &'static str {
+    if privileged { "p" } else { "u" }
+}
+
+/// Returns the word for what refused an access, as the trace has it.
+pub fn cause_word(cause: Cause) -> &'static str {
+    match cause {
+        Cause::Mpu => "mpu",
+        Cause::Bus => "bus",
+    }
+}
+
+/// The word of a rule in the trace.
+#[derive(Clone, Copy)]
+pub struct RuleWord(pub Rule);
+
+impl fmt::Display for RuleWord {
+    fn fmt<W: fmt::Write>(&self, f: &mut fmt::Formatter<W>) -> fmt::Result {
+        match self.0 {
+            Rule::NeverExecute => write!(f, "xn"),
+            Rule::VectorRead => write!(f, "vec"),
+            Rule::PrivatePeripheralBus => write!(f, "ppb"),
+            Rule::MpuOff => write!(f, "off"),
+            Rule::NegativePriority => write!(f, "neg"),
+            Rule::Region(number) => write!(f, "r{number}"),
+            Rule::Background => write!(f, "bg"),
+            Rule::NoRegion => write!(f, "none"),
+        }
+    }
+}
+
+/// What a rule says, in words.
+#[derive(Clone, Copy)]
+pub struct RuleMeaning(pub Rule);
+
+impl fmt::Display for RuleMeaning {
+    fn fmt<W: fmt::Write>(&self, f: &mut fmt::Formatter<W>) -> fmt::Result {
+        match self.0 {
+            Rule::NeverExecute => write!(f, "fetch at or above E0000000"),
+            Rule::VectorRead => write!(f, "vector read"),
+            Rule::PrivatePeripheralBus => write!(f, "Private Peripheral Bus"),
+            Rule::MpuOff => write!(f, "MPU off: default map"),
+            Rule::NegativePriority => write!(f, "priority below 0: default map"),
+            Rule::Region(number) => write!(f, "region {number}"),
+            Rule::Background => write!(f, "no region: default map"),
+            Rule::NoRegion => write!(f, "no region: refused"),
+        }
+    }
+}
+
+/// An access in words, with its address.
+#[derive(Clone, Copy)]
+pub struct AccessWords(pub Access);
+
+impl fmt::Display for AccessWords {
+    fn fmt<W: fmt::Write>(&self, f: &mut fmt::Formatter<W>) -> fmt::Result {
+        let bytes = self.0.size.bytes();
+        let plural = if bytes == 1 { "" } else { "s" };
+        let (name, joint) = match self.0.kind {
+            Kind::Fetch => ("fetch", "from"),
+            Kind::Load => ("load", "from"),
+            Kind::Store => ("store", "to"),
+            Kind::Push => ("push of exception entry,", "to"),
+            Kind::Pop => ("pop of exception return,", "from"),
+            Kind::Vector => ("vector read", "from"),
+            Kind::Probe => ("probe of a store", "to"),
+        };
+        let privilege = privilege_word(self.0.privileged);
+        let of = match self.0.kind {
+            Kind::Push | Kind::Pop => "",
+            Kind::Fetch | Kind::Load | Kind::Store | Kind::Vector | Kind::Probe => "of ",
+        };
+        write!(f, "{privilege} {name} {of}{bytes} byte{plural} {joint}")
+    }
+}
+
+/// What refused an access, in words.
+#[derive(Clone, Copy)]
+pub struct RefusedBy<'a>(pub &'a DecidedAccess);
+
+impl fmt::Display for RefusedBy<'_> {
+    fn fmt<W: fmt::Write>(&self, f: &mut fmt::Formatter<W>) -> fmt::Result {
+        let rule = RuleMeaning(self.0.rule);
+        match self.0.refused {
+            None => write!(f, "{rule}"),
+            Some(Cause::Mpu) => match self.0.rule {
+                Rule::NoRegion => write!(f, "no region matches"),
+                Rule::NeverExecute
+                | Rule::VectorRead
+                | Rule::PrivatePeripheralBus
+                | Rule::MpuOff
+                | Rule::NegativePriority
+                | Rule::Region(_)
+                | Rule::Background => write!(f, "{rule}"),
+            },
+            Some(Cause::Bus) => write!(f, "granted by {rule}"),
+        }
+    }
+}
+
+/// The name of the exception of a number.
+#[derive(Clone, Copy)]
+pub struct ExceptionName(pub u16);
+
+impl fmt::Display for ExceptionName {
+    fn fmt<W: fmt::Write>(&self, f: &mut fmt::Formatter<W>) -> fmt::Result {
+        match self.0 {
+            1 => write!(f, "Reset"),
+            2 => write!(f, "NMI"),
+            3 => write!(f, "HardFault"),
+            4 => write!(f, "MemManage"),
+            5 => write!(f, "BusFault"),
+            6 => write!(f, "UsageFault"),
+            11 => write!(f, "SVCall"),
+            12 => write!(f, "DebugMonitor"),
+            14 => write!(f, "PendSV"),
+            15 => write!(f, "SysTick"),
+            number if number >= 16 => {
+                let line = number - 16;
+                write!(f, "IRQ {line}")
+            }
+            number => write!(f, "exception {number}"),
+        }
+    }
+}
