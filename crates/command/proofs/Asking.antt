@@ -2,8 +2,8 @@
 use Rattle.std.proofs.Common.{◌≡◌, ◌⊎◌, ◌<◌, ◌≤◌, ◌^◌, arith, inl, inr, List, ℕ, Option, Some, None, Result, Ok, Err, ap, refl, sym, subst}
 use Rattle.std.specs.Str.Parse.{IsNumeral, without_leading_plus}
 use Rattle.command.specs.declared.request.Request.{Request}
-use Rattle.command.specs.Tasks.{Asks, AsksDebug, AsksRun, IsSteps, MayRefuse, Requests, number_in}
-use Rattle.command_line.specs.Asked.{Asked, AskedDebug, AskedRun, IsTaken, Takes, asked}
+use Rattle.command.specs.Tasks.{Asks, AsksDebug, AsksReport, AsksRun, IsSteps, MayRefuse, Requests, number_in}
+use Rattle.command_line.specs.Asked.{Asked, AskedDebug, AskedReport, AskedRun, IsTaken, Takes, asked}
 use Rattle.command_line.specs.Asked as asks
 use Rattle.command_line.specs.declared.words.WordsFault.{WordsFault}
 
@@ -13,6 +13,13 @@ run_asked words a (Ok request) taken h = (taken.0, (asks.run a, taken.1, h))
 run_asked words a (Err fault) taken (inl wrong) =
     inr (inr (wrong.0, subst MayRefuse (sym taken.1) wrong.1))
 run_asked words a (Err fault) taken (inr wanting) = inl wanting
+
+pub report_asked : (words : List (List ℕ)) (a : AskedReport) (result : Result Request WordsFault)
+    → IsTaken words × (asked words ≡ Some (asks.report a)) → AsksReport a result → Requests words result
+report_asked words a (Ok request) taken h = (taken.0, (asks.report a, taken.1, h))
+report_asked words a (Err fault) taken (inl wrong) =
+    inr (inr (wrong.0, subst MayRefuse (sym taken.1) wrong.1))
+report_asked words a (Err fault) taken (inr wanting) = inl wanting
 
 pub debug_asked : (words : List (List ℕ)) (a : AskedDebug) (request : Request)
     → IsTaken words × (asked words ≡ Some (asks.debug a)) → AsksDebug a (Ok request) → Requests words (Ok request)

@@ -1,3 +1,4 @@
+pub mod Reports
 pub mod Saving
 pub mod Sessions
 pub mod Statuses

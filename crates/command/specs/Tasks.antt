@@ -6,11 +6,12 @@ use Rattle.std.specs.Str.Parse.{IsNumeral, digits_value, without_leading_plus}
 use Rattle.command.specs.declared.request.Request.{Request}
 use Rattle.command.specs.declared.request.RunRequest.{RunRequest}
 use Rattle.command.specs.declared.request.Task.{Task}
-use Rattle.command.specs.declared.request.Task.TheVariants.{Run, Debug}
-use Rattle.command_line.specs.Asked.{Asked, AskedDebug, AskedRun, IsRefused, IsTaken, answer_of, asked, memory}
+use Rattle.command.specs.declared.request.Task.TheVariants.{Run, Report, Debug}
+use Rattle.command_line.specs.Asked.{Asked, AskedDebug, AskedReport, AskedRun, IsRefused, IsTaken, answer_of, asked, memory}
 use Rattle.command_line.specs.Asked.{text_of, usage}
 use Rattle.command_line.specs.Asked as asks
 use Rattle.command_line.specs.declared.words.WordsFault.{WordsFault}
+use Rattle.command.specs.Reports.{ReportsTo}
 use Rattle.command.specs.Sessions.{SessionTo}
 use Rattle.command.specs.Statuses.{RunsTo}
 use Rattle.reference.specs.declared.fault.BoardFault.{BoardFault}
@@ -53,7 +54,14 @@ pub record IsTheRun (a : AskedRun) (run : RunRequest) : Type 0 where
 
 abbrev pub IsRun : AskedRun → Task → Type 0
 IsRun a (Run run) = IsTheRun a run
+IsRun a (Report steps) = ⊥
 IsRun a Debug = ⊥
+
+-- the task is the report that is asked for
+abbrev pub IsReport : AskedReport → Task → Type 0
+IsReport a (Run run) = ⊥
+IsReport a (Report steps) = (steps ≡ number_in a.steps) × (steps ≤ 2 ^ 32)
+IsReport a Debug = ⊥
 
 -- no number of steps, no name of a selection, or an expectation: what may be wrong in a run
 abbrev pub MayBeWrong : AskedRun → Type 0
@@ -64,18 +72,25 @@ abbrev pub AsksRun : AskedRun → Result Request WordsFault → Type 0
 AsksRun a (Ok request) = (request.board.now ≡ a.board) × (request.image.now ≡ a.image) × IsRun a request.task
 AsksRun a (Err fault) = ((answer_of fault ≡ usage) × MayBeWrong a) ⊎ (answer_of fault ≡ memory)
 
+-- the request is the report that is asked for, or its steps are no number of steps, or memory ran out for the message
+abbrev pub AsksReport : AskedReport → Result Request WordsFault → Type 0
+AsksReport a (Ok request) = (request.board.now ≡ a.board) × (request.image.now ≡ a.image) × IsReport a request.task
+AsksReport a (Err fault) = ((answer_of fault ≡ usage) × (¬ IsSteps a.steps)) ⊎ (answer_of fault ≡ memory)
+
 abbrev pub AsksDebug : AskedDebug → Result Request WordsFault → Type 0
 AsksDebug a (Ok request) = (request.board.now ≡ a.board) × (request.image.now ≡ a.image) × (request.task ≡ Debug)
 AsksDebug a (Err fault) = ⊥
 
 abbrev pub Asks : Asked → Result Request WordsFault → Type 0
 Asks (asks.run a) result = AsksRun a result
+Asks (asks.report a) result = AsksReport a result
 Asks (asks.debug a) result = AsksDebug a result
 
--- no command was found, or a run whose values may be wrong
+-- no command was found, or a run or a report whose values may be wrong
 abbrev pub MayRefuse : Option Asked → Type 0
 MayRefuse None = Unit {0}
 MayRefuse (Some (asks.run a)) = MayBeWrong a
+MayRefuse (Some (asks.report a)) = ¬ IsSteps a.steps
 MayRefuse (Some (asks.debug a)) = ⊥
 
 -- arguments that `clap` takes ask for the request, or have a wrong value. Others are answered as one of the errors
@@ -86,7 +101,8 @@ Requests words (Err fault) =
     (answer_of fault ≡ memory)
     ⊎ (IsRefused words fault ⊎ ((answer_of fault ≡ usage) × MayRefuse (asked words)))
 
--- the status is that of what is asked for: the run, as it is asked for, or the session
+-- the status is that of what is asked for: the run, as it is asked for, the report or the session
 abbrev pub Performs : Result (List Segment) LoadFault → Result Described BoardFault → Task → ℕ → Type 0
 Performs image board (Run run) status = RunsTo image board run status
+Performs image board (Report steps) status = ReportsTo image board steps status
 Performs image board Debug status = SessionTo image board status

@@ -1,6 +1,7 @@
 //! The whole command: from the arguments to the exit status.
 
 ghost use Rattle.std.specs.Prelude.{◌≡◌, ◌≢◌};
+ghost use Rattle.command.specs.Reports.{ReportsTo};
 ghost use Rattle.command.specs.Sessions.{SessionTo};
 ghost use Rattle.command.specs.Statuses.{AnsweredBy, RunsTo, board_in_file, file_status};
 ghost use Rattle.command.specs.Tasks.{Performs};
@@ -14,6 +15,7 @@ use crate::engine::go;
 use crate::fault::{Fault, tell};
 use crate::files::{FileFault, InputFile, read_file};
 use crate::last_error::LastError;
+use crate::reporting::report;
 use crate::request::{Request, RunRequest, Task, read_words};
 use crate::state_file::StateFile;
 use command_line::WordsFault;
@@ -76,7 +78,7 @@ pub fn answer<W: Write + Drop, E: Write>(fault: WordsFault, mut out: W, err: &mu
     }
 }
 
-/// Reads the image, then the board, and runs or debugs the image.
+/// Reads the image, then the board, and runs, reports or debugs the image.
 fn carry_out<R: Files + AllocGlobal, I: Read + Drop, W: Write + Drop, E: Write>(
     rt: &R,
     request: Request<'_>,
@@ -103,7 +105,7 @@ fn carry_out<R: Files + AllocGlobal, I: Read + Drop, W: Write + Drop, E: Write>(
     perform(rt, request.task, image, board, input, out, err)
 }
 
-/// Runs or debugs an image on a board, as the task says.
+/// Runs, reports or debugs an image on a board, as the task says.
 fn perform<R: Files + AllocGlobal, I: Read + Drop, W: Write + Drop, E: Write>(
     rt: &R,
     task: Task<'_>,
@@ -117,6 +119,7 @@ fn perform<R: Files + AllocGlobal, I: Read + Drop, W: Write + Drop, E: Write>(
 {
     match task {
         Task::Run(asked) => run(rt, image, board, asked, out, err),
+        Task::Report(steps) => report_by(rt.alloc(), image, board, steps, out, err),
         Task::Debug => debug_by(rt.alloc(), image, board, input, out, err),
     }
 }
@@ -133,6 +136,25 @@ fn run<R: Files + AllocGlobal, W: Write + Drop, E: Write>(
     ensures { RunsTo (image_of image.entry.bytes.now) (board_in_file board.entry.bytes.now) asked.entry result }
 {
     run_files::<R, W, E, Brand>(rt, image, board, asked, out, err, Blank::new(1))
+}
+
+/// Writes a page about a run of an image on a board, and why `out` failed.
+fn report_by<W: Write + Drop, E: Write>(
+    alloc: Global,
+    image: InputFile<'_>,
+    board: InputFile<'_>,
+    steps: u64,
+    out: W,
+    err: &mut E,
+) -> u8
+    ensures { ReportsTo (image_of image.entry.bytes.now) (board_in_file board.entry.bytes.now) steps result }
+{
+    let mut out = LastError::new(out);
+    let status = report(alloc, image, board, steps, &mut out, err);
+    if let Some(error) = out.error() {
+        let _ = writeln!(err, "  standard output: {error}");
+    }
+    status
 }
 
 /// Debugs an image on a board by the commands of a reader: makes the blank of its ledger.

@@ -10,6 +10,7 @@ mod explanations;
 mod fault;
 mod files;
 mod last_error;
+mod reporting;
 mod request;
 mod state_file;
 
@@ -20,4 +21,5 @@ pub use engine::go;
 pub use explanations::explain;
 pub use fault::{Fault, tell};
 pub use files::{FileFault, InputFile, read_file, words};
+pub use reporting::report;
 pub use request::{Request, RunRequest, Task, read_words};

@@ -1,11 +1,11 @@
 //! What the arguments of the program ask for.
 
 ghost use Rattle.std.specs.Prelude.{◌≡◌, ◌≤◌, ◌^◌, ◌⊎◌, IfSome, None, map, string_bytes};
-ghost use Rattle.command.specs.Tasks.{AsksRun, IsSteps, Requests, number_in, selection_asked, selection_named};
-ghost use Rattle.command_line.specs.Asked.{answer_of, memory, run_of, text_of, usage};
+ghost use Rattle.command.specs.Tasks.{AsksReport, AsksRun, IsSteps, Requests, number_in, selection_asked, selection_named};
+ghost use Rattle.command_line.specs.Asked.{answer_of, memory, report_of, run_of, text_of, usage};
 
 use crate::expectation::is_stop;
-use command_line::{MOST_STEPS, RunWords, Words, WordsFault, words_of};
+use command_line::{MOST_STEPS, ReportWords, RunWords, Words, WordsFault, words_of};
 use machine::TraceSelection;
 use messages::Escaped;
 use std::alloc::Global;
@@ -25,6 +25,8 @@ pub struct Request<'a> {
 pub enum Task<'a> {
     /// Run it.
     Run(RunRequest<'a>),
+    /// Write a page about a run of at most this number of steps.
+    Report(u64),
     /// Debug it by the commands on standard input.
     Debug,
 }
@@ -43,12 +45,13 @@ pub struct RunRequest<'a> {
 }
 
 /// Reads the arguments; the first one is the program's name.
-#[tactic(auto, using(crate::proofs::Asking::run_asked, crate::proofs::Asking::debug_asked, crate::proofs::Asking::not_taken))]
+#[tactic(auto, using(crate::proofs::Asking::run_asked, crate::proofs::Asking::report_asked, crate::proofs::Asking::debug_asked, crate::proofs::Asking::not_taken))]
 pub fn read_words<'a>(alloc: Global, words: &'a [String]) -> Result<Request<'a>, WordsFault>
     ensures { Requests (map string_bytes words.entry.now) result }
 {
     match words_of(alloc, words) {
         Ok(Words::Run(run)) => run_request(alloc, run),
+        Ok(Words::Report(report)) => report_request(alloc, report),
         Ok(Words::Debug(debug)) => Ok(Request {
             board: debug.board,
             image: debug.image,
@@ -87,6 +90,20 @@ fn run_request<'a>(alloc: Global, run: RunWords<'a>) -> Result<Request<'a>, Word
             expect: run.expect,
             state: run.state,
         }),
+    })
+}
+
+/// Reads the values of a report.
+fn report_request<'a>(alloc: Global, report: ReportWords<'a>) -> Result<Request<'a>, WordsFault>
+    ensures { AsksReport (report_of report.entry) result }
+{
+    let Some(steps) = steps_in(report.steps) else {
+        return Err(wrong_value(alloc, report.steps, "--steps <N>", STEPS_ADVICE));
+    };
+    Ok(Request {
+        board: report.board,
+        image: report.image,
+        task: Task::Report(steps),
     })
 }
 

@@ -10,6 +10,7 @@ use Rattle.clap.specs.declared.error.kind.ErrorKind.{ErrorKind}
 use Rattle.clap.specs.declared.error.kind.ErrorKind.TheVariants as kind
 use Rattle.command_line.specs.Commands.{marm}
 use Rattle.command_line.specs.declared.words.DebugWords.{DebugWords}
+use Rattle.command_line.specs.declared.words.ReportWords.{ReportWords}
 use Rattle.command_line.specs.declared.words.RunWords.{RunWords}
 use Rattle.command_line.specs.declared.words.Words.{Words}
 use Rattle.command_line.specs.declared.words.Words.TheVariants as words
@@ -25,6 +26,12 @@ pub record AskedRun : Type 0 where
   pub expect : Option Text
   pub state : Option Text
 
+-- the arguments of a report
+pub record AskedReport : Type 0 where
+  pub board : Text
+  pub steps : Text
+  pub image : Text
+
 -- the arguments of a debug session
 pub record AskedDebug : Type 0 where
   pub board : Text
@@ -32,6 +39,7 @@ pub record AskedDebug : Type 0 where
 
 pub data Asked : Type 0 where
   run : AskedRun → Asked
+  report : AskedReport → Asked
   debug : AskedDebug → Asked
 
 -- a run, where its three required arguments have values
@@ -46,6 +54,12 @@ run_with (Some board) (Some steps) (Some image) rows = Some (run (record {
 }))
 run_with _ _ _ rows = None
 
+-- a report, where its three arguments have values
+abbrev pub report_with : Option Text → Option Text → Option Text → Option Asked
+report_with (Some board) (Some steps) (Some image) =
+    Some (report (record { board = board; steps = steps; image = image }))
+report_with _ _ _ = None
+
 -- a session, where its two arguments have values
 abbrev pub debug_with : Option Text → Option Text → Option Asked
 debug_with (Some board) (Some image) = Some (debug (record { board = board; image = image }))
@@ -56,9 +70,11 @@ abbrev pub asked_by : Text → List Row → Option Asked
 asked_by name rows =
     if bytes_eq name (codes "run")
     then run_with (first_of (codes "board") rows) (first_of (codes "steps") rows) (first_of (codes "image") rows) rows
+    else (if bytes_eq name (codes "report")
+    then report_with (first_of (codes "board") rows) (first_of (codes "steps") rows) (first_of (codes "image") rows)
     else (if bytes_eq name (codes "debug")
     then debug_with (first_of (codes "board") rows) (first_of (codes "image") rows)
-    else None)
+    else None))
 
 abbrev pub asked_in : Option (Text × List Row) → Option Asked
 asked_in None = None
@@ -83,8 +99,12 @@ run_of r = record {
   state = text_of r.state;
 }
 
+abbrev pub report_of : ReportWords → AskedReport
+report_of r = record { board = r.board.now; steps = r.steps.now; image = r.image.now }
+
 abbrev pub asked_of : Words → Asked
 asked_of (words.Run r) = run (run_of r)
+asked_of (words.Report r) = report (report_of r)
 asked_of (words.Debug d) = debug (record { board = d.board.now; image = d.image.now })
 
 -- how the program answers arguments that it doesn't take

@@ -37,13 +37,21 @@ run_with_options =
 abbrev pub run : App
 run = with_rule run_with_options image
 
+-- marm report --board FILE --steps N IMAGE
+abbrev pub report : App
+report = with_rule (with_rule (with_rule (new_app (codes "report")) board) steps) image
+
 -- marm debug --board FILE IMAGE
 abbrev pub debug : App
 debug = with_rule (with_rule (new_app (codes "debug")) board) image
 
--- marm has a version, and needs one of its two commands
+-- marm has a version, and needs one of its three commands
 abbrev pub with_version : Shape → Shape
 with_version s = record s { has_version = true; subcommand_required = true }
 
+abbrev pub marm_of_runs : App
+marm_of_runs =
+    with_subcommand (with_subcommand (on_top with_version (new_app (codes "marm"))) run.top) report.top
+
 abbrev pub marm : App
-marm = with_subcommand (with_subcommand (on_top with_version (new_app (codes "marm"))) run.top) debug.top
+marm = with_subcommand marm_of_runs debug.top

@@ -6,7 +6,7 @@ ghost use Rattle.clap.specs.declared.builder.command.Command.TheViews.{out-Comma
 ghost use Rattle.command_line.specs.Commands as spec;
 
 use crate::texts::{
-    AFTER_DEBUG, AFTER_MARM, AFTER_RUN, EXPECT_HELP, STATE_HELP, STEPS_HELP, TRACE_HELP,
+    AFTER_DEBUG, AFTER_MARM, AFTER_REPORT, AFTER_RUN, EXPECT_HELP, STATE_HELP, STEPS_HELP, TRACE_HELP,
 };
 use clap::builder::ValueParser;
 use clap::{Arg, ArgAction, Command};
@@ -18,18 +18,27 @@ pub const MOST_STEPS: u64 = 0x1_0000_0000;
 /// The program's version.
 const VERSION: &str = "0.2.0";
 
-/// Returns the command `marm`, with its two subcommands.
+/// Returns the command `marm`, with its three subcommands.
 pub fn marm<'a>(alloc: Global) -> Result<Command<'a>, AllocError>
     ensures { IfOk result (λ c. app_of c ≡ spec.marm) }
 {
-    let run = run(alloc)?;
     let debug = debug(alloc)?;
+    let marm = marm_of_runs(alloc)?;
+    marm.subcommand(debug)
+}
+
+/// Returns the command `marm`, with the subcommands that make a run.
+fn marm_of_runs<'a>(alloc: Global) -> Result<Command<'a>, AllocError>
+    ensures { IfOk result (λ c. app_of c ≡ spec.marm_of_runs) }
+{
+    let run = run(alloc)?;
+    let report = report(alloc)?;
     let marm = Command::new(alloc, "marm")
         .about("An ARMv7-M machine that writes a proved trace of its memory accesses")
         .version(VERSION)
         .after_help(AFTER_MARM)
         .subcommand_required(true);
-    marm.subcommand(run)?.subcommand(debug)
+    marm.subcommand(run)?.subcommand(report)
 }
 
 /// Returns the subcommand `debug`, with its two arguments.
@@ -42,6 +51,19 @@ fn debug<'a>(alloc: Global) -> Result<Command<'a>, AllocError>
         .after_help(AFTER_DEBUG);
     let debug = debug.arg(board(alloc))?;
     debug.arg(image(alloc))
+}
+
+/// Returns the subcommand `report`, with its three arguments.
+fn report<'a>(alloc: Global) -> Result<Command<'a>, AllocError>
+    ensures app { IfOk result (λ c. app_of c ≡ spec.report) }
+    ensures local { IfOk result (λ c. (out-Command c).has_globals ≡ false) }
+{
+    let report = Command::new(alloc, "report")
+        .about("Runs an image on a board and writes a page about the run, in HTML, to standard output")
+        .after_help(AFTER_REPORT);
+    let report = report.arg(board(alloc))?;
+    let report = report.arg(steps(alloc))?;
+    report.arg(image(alloc))
 }
 
 /// Returns the subcommand `run`, with its arguments.

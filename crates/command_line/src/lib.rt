@@ -1,4 +1,5 @@
-//! The command line: `marm run --board FILE --steps N IMAGE`, `marm debug --board FILE IMAGE`.
+//! The command line: `marm run --board FILE --steps N IMAGE`, `marm report --board FILE --steps N IMAGE` and
+//! `marm debug --board FILE IMAGE`.
 #![tactic(auto)]
 
 mod commands;
@@ -9,4 +10,4 @@ mod texts;
 mod words;
 
 pub use commands::MOST_STEPS;
-pub use words::{DebugWords, RunWords, Words, WordsFault, words_of};
+pub use words::{DebugWords, ReportWords, RunWords, Words, WordsFault, words_of};

@@ -29,7 +29,7 @@ pub const STATE_HELP: &str =
     "A file for the state after the run: registers, clock, faults, regions and exceptions, a line for each value";
 
 /// The commands of the program.
-pub const COMMANDS_ADVICE: &str = "The commands are run, debug and help.\n";
+pub const COMMANDS_ADVICE: &str = "The commands are run, report, debug and help.\n";
 
 /// What the program's help says of its statuses and messages.
 pub const AFTER_MARM: &str = "\
@@ -68,6 +68,23 @@ Exit status:
 
 Example:
   marm run --board examples/boards/small.toml --steps 10 examples/first.elf";
+
+/// What the help of `report` says of the page and of the statuses.
+pub const AFTER_REPORT: &str = "\
+The page says which memory the code touched, by which rule or region, what was refused and by which
+instruction, what ran when, and what the machine was like at the end. It is one HTML file that needs no
+other: open it in a browser.
+
+Exit status:
+  0  all steps were made, or a breakpoint was met
+  2  the arguments are wrong, or help was asked for (marm: usage)
+  3  the image or the board is refused, or memory ran out for the board or the machine
+     (marm: load, board, start, size)
+  4  the machine stopped otherwise: the page's first line says why
+  5  reading or writing failed, or memory ran out for the arguments or a file (marm: io)
+
+Example:
+  marm report --board examples/boards/small.toml --steps 10 examples/first.elf >first.html";
 
 /// What the help of `debug` says of the commands and of the statuses.
 pub const AFTER_DEBUG: &str = "\

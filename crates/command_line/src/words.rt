@@ -2,7 +2,7 @@
 
 ghost use Rattle.std.specs.Prelude.{◌≡◌, codes, map, option_map, string_bytes};
 ghost use Rattle.clap.specs.Words.{first_of, found_of, rows_of, subcommand_rows_of};
-ghost use Rattle.command_line.specs.Asked.{Reads, Takes, asked_in, debug_with, run_with};
+ghost use Rattle.command_line.specs.Asked.{Reads, Takes, asked_in, debug_with, report_with, run_with};
 
 use crate::commands::marm;
 use crate::refusals::fault_of;
@@ -26,6 +26,17 @@ pub struct RunWords<'a> {
     pub state: Option<&'a str>,
 }
 
+/// The arguments of `report`.
+#[derive(Clone, Copy)]
+pub struct ReportWords<'a> {
+    /// The path of the board file.
+    pub board: &'a str,
+    /// How many steps, in digits.
+    pub steps: &'a str,
+    /// The path of the image file.
+    pub image: &'a str,
+}
+
 /// The arguments of `debug`.
 #[derive(Clone, Copy)]
 pub struct DebugWords<'a> {
@@ -35,14 +46,15 @@ pub struct DebugWords<'a> {
     pub image: &'a str,
 }
 
-/// A run or a session, as the arguments name it.
+/// A run, a report of one, or a session, as the arguments name it.
 #[derive(Clone, Copy)]
 pub enum Words<'a> {
     Run(RunWords<'a>),
+    Report(ReportWords<'a>),
     Debug(DebugWords<'a>),
 }
 
-/// Why the arguments name neither a run nor a session.
+/// Why the arguments name nothing of these.
 #[derive(Drop)]
 pub enum WordsFault {
     /// They are wrong: why, and the usage.
@@ -77,6 +89,8 @@ fn words_in<'a>(alloc: Global, matches: &ArgMatches<'a>) -> Result<Words<'a>, Wo
         Some((name, matches)) => {
             if name == "run" {
                 run_words(alloc, matches)
+            } else if name == "report" {
+                report_words(alloc, matches)
             } else if name == "debug" {
                 debug_words(alloc, matches)
             } else {
@@ -84,6 +98,26 @@ fn words_in<'a>(alloc: Global, matches: &ArgMatches<'a>) -> Result<Words<'a>, Wo
             }
         }
         None => Err(WordsFault::Wrong(String::new(alloc))),
+    }
+}
+
+/// Returns the values of the arguments of `report`. `clap` has found all of them.
+fn report_words<'a>(alloc: Global, report: &ArgMatches<'a>) -> Result<Words<'a>, WordsFault>
+    ensures { Reads (report_with (first_of (codes "board") (rows_of (found_of report.now)))
+        (first_of (codes "steps") (rows_of (found_of report.now)))
+        (first_of (codes "image") (rows_of (found_of report.now)))) result }
+{
+    match (
+        value_of(report, "board"),
+        value_of(report, "steps"),
+        value_of(report, "image"),
+    ) {
+        (Some(board), Some(steps), Some(image)) => Ok(Words::Report(ReportWords {
+            board,
+            steps,
+            image,
+        })),
+        _ => Err(WordsFault::Wrong(String::new(alloc))),
     }
 }
 
