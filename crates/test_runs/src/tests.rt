@@ -15,6 +15,7 @@ mod named_stops;
 mod options;
 mod pairs;
 mod places;
+mod returns;
 mod run;
 mod segments;
 mod selections;
