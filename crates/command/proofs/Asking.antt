@@ -1,8 +1,8 @@
 -- From the words of the arguments to the request.
-use Rattle.std.proofs.Common.{◌≡◌, ◌⊎◌, ◌<◌, ◌≤◌, ◌^◌, arith, inl, inr, List, ℕ, Option, Some, None, Result, Ok, Err, ap, refl, sym, subst}
+use Rattle.std.proofs.Common.{◌≡◌, ◌<◌, ◌≤◌, ◌^◌, arith, inl, inr, List, ℕ, Some, Result, Ok, Err, sym, subst}
 use Rattle.std.specs.Str.Parse.{IsNumeral, without_leading_plus}
 use Rattle.command.specs.declared.request.Request.{Request}
-use Rattle.command.specs.Tasks.{Asks, AsksDebug, AsksReport, AsksRun, IsSteps, MayRefuse, Requests, number_in}
+use Rattle.command.specs.Tasks.{AsksDebug, AsksReport, AsksRun, IsSteps, MayRefuse, Requests, number_in}
 use Rattle.command_line.specs.Asked.{Asked, AskedDebug, AskedReport, AskedRun, IsTaken, Takes, asked}
 use Rattle.command_line.specs.Asked as asks
 use Rattle.command_line.specs.declared.words.WordsFault.{WordsFault}

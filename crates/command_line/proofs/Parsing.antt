@@ -1,5 +1,5 @@
 -- From a parse of `clap` to what the program makes of it.
-use Rattle.std.proofs.Common.{◌≡◌, ◌⊎◌, ◌∙◌, inl, inr, true, List, [], Option, Result, Ok, Err, ap, refl, subst, sym}
+use Rattle.std.proofs.Common.{◌≡◌, ◌∙◌, inl, inr, true, List, [], Option, Result, Ok, Err, ap, refl, subst, sym}
 use Rattle.clap.specs.Faults.{fault_of, is_simple_and_free}
 use Rattle.clap.specs.Kinds.{HasKind, IsAmong}
 use Rattle.clap.specs.Simple.{App, is_simple, subcommand_of}
@@ -8,7 +8,7 @@ use Rattle.clap.specs.Walk.{Row, Text}
 use Rattle.clap.specs.declared.error.Error.{Error}
 use Rattle.clap.specs.declared.error.kind.ErrorKind.{ErrorKind}
 use Rattle.clap.specs.declared.error.kind.ErrorKind.TheVariants as kind
-use Rattle.command_line.specs.Asked.{Reads, Refuses, Takes, answer_of, answer_to, asked_in, memory}
+use Rattle.command_line.specs.Asked.{Reads, Refuses, Takes, answer_to, asked_in}
 use Rattle.command_line.specs.Commands.{marm}
 use Rattle.command_line.specs.declared.words.Words.{Words}
 use Rattle.command_line.specs.declared.words.WordsFault.{WordsFault}

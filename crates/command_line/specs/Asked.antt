@@ -9,7 +9,6 @@ use Rattle.clap.specs.Walk.{Row, Text, first_of}
 use Rattle.clap.specs.declared.error.kind.ErrorKind.{ErrorKind}
 use Rattle.clap.specs.declared.error.kind.ErrorKind.TheVariants as kind
 use Rattle.command_line.specs.Commands.{marm}
-use Rattle.command_line.specs.declared.words.DebugWords.{DebugWords}
 use Rattle.command_line.specs.declared.words.ReportWords.{ReportWords}
 use Rattle.command_line.specs.declared.words.RunWords.{RunWords}
 use Rattle.command_line.specs.declared.words.Words.{Words}
