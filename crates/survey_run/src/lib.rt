@@ -20,21 +20,23 @@ pub fn survey_run<D: Decider, C: CodeLines, L: Levels, U: DueTicks>(
     ensures survey { survey.new ≡ surveyed limit machine.old.state survey.old }
     ensures stop { result ≡ ending_of limit machine.old.state }
 {
+    let mut events = Events::new();
     let mut made = 0;
     'steps: while made < limit {
         if machine.stop().is_some() {
             break;
         }
         made += 1;
-        survey_step(machine, survey);
+        survey_step(machine, &mut events, survey);
     }
     machine.stop().unwrap_or(Stop::StepLimit)
 }
 
-/// Makes a step of a machine that hasn't stopped, and counts it.
-#[inline]
+/// Makes a step, and counts it. `events` becomes its events.
+#[inline(always)]
 fn survey_step<D: Decider, C: CodeLines, L: Levels, U: DueTicks>(
     machine: &mut Machine<D, C, L, U>,
+    events: &mut Events,
     survey: &mut Survey,
 )
     ensures state { machine.new ≡ record machine.old { state = (step machine.old.state).state } }
@@ -42,8 +44,7 @@ fn survey_step<D: Decider, C: CodeLines, L: Levels, U: DueTicks>(
 {
     let moment = moment_of(machine);
     survey.begin_step(&moment);
-    let mut events = Events::new();
-    let _ = machine.step(&mut events);
+    let _ = machine.step(events);
     survey.take_events(&moment, events.as_slice());
     survey.end_step();
 }
