@@ -1,15 +1,18 @@
 -- The bytes of a session, one after another.
 use Rattle.std.proofs.Common.{◌≡◌, inl, inr, ℕ, ◌+◌, ◌-◌, ◌^◌, ◌<◌, ◌≤◌, zero, suc, Bool, true, false, List, [], ◌∷◌}
-use Rattle.std.proofs.Common.{◌++◌, length, take, slice_index, Some, refl, sym, ◌∙◌, ap, subst, append_assoc}
+use Rattle.std.proofs.Common.{◌++◌, length, take, slice_index, Result, Ok, Err, Some, refl, sym, ◌∙◌, ap, subst, append_assoc}
 use Rattle.std.proofs.Common.{length-append, arith}
 use Rattle.std.proofs.lemmas.List.{append-nil}
 use Rattle.std.specs.Io.KnownBytes.{IsAtEnd, Keeps}
-use Rattle.std.proofs.KnownBytes.{Consumes-nil, Consumes-trans, Consumes-kept}
+use Rattle.std.proofs.KnownBytes.{Appends-kept, Consumes-nil, Consumes-trans, Consumes-kept}
 use Rattle.debugger.proofs.Telling.{none_told, told_on, cut_on, cut_before}
 use Rattle.debugger.specs.Answers.{Piece}
-use Rattle.debugger.specs.Sessions.{FailsToRead, FailsToWrite, Hears, Holds, Kept, Sink, Source, Talk, TellsAll}
-use Rattle.debugger.specs.Sessions.{TellsPart, after_bytes, all_answers, answers, is_line_feed, last_state, next}
-use Rattle.debugger.specs.Sessions.{opened, said, said_at_end, talk}
+use Rattle.debugger.specs.declared.sessions.SessionFault.{SessionFault}
+use Rattle.debugger.specs.declared.sessions.SessionFault.TheVariants.{Read, Write}
+use Rattle.debugger.specs.Sessions.{AreSoFar, Ends, FailsOnce, FailsToRead, FailsToWrite, Hears, Holds, Kept, KeepsPut}
+use Rattle.debugger.specs.Sessions.{NothingWaits, SendsRest, Sessions, Sink, Source, TakesNext, Talk, TellsAll}
+use Rattle.debugger.specs.Sessions.{TellsAllThenFails, TellsPart, after_bytes, all_answers, answers, is_line_feed}
+use Rattle.debugger.specs.Sessions.{last_state, next, opened, said, said_at_end, talk, texts}
 use Rattle.machine.specs.Whole.{Whole}
 use Rattle.reference.specs.State.{State}
 
@@ -162,10 +165,11 @@ pub cut_at : (n : ℕ) (k : Kept) (old mid new : Whole) (i j l : Source) (a b c 
 cut_at n k old mid new i j l a b c byte h gave part = record {
   given = h.given ++ byte ∷ [];
   heard = heard_more h.given (byte ∷ []) i j l h.hears gave;
-  told = cut_before (answers (opened old.state) (h.given ++ byte ∷ []))
+  told = inl
+      (cut_before (answers (opened old.state) (h.given ++ byte ∷ []))
       (said_at_end (after_bytes (opened old.state) (h.given ++ byte ∷ []))) old new a c
       (subst (λ (ps : List Piece). TellsPart ps old new a c) (sym (said_now n k old mid i j a b byte h))
-      (cut_on (answers (opened old.state) h.given) (said (talk mid.state k) byte) old mid new a b c h.told part));
+      (cut_on (answers (opened old.state) h.given) (said (talk mid.state k) byte) old mid new a b c h.told part)));
 }
 
 nothing_more : (given : List ℕ) (i j l : Source) → Hears given i j → Hears [] j l → Hears given i l
@@ -190,9 +194,10 @@ pub cut_at_end : (n : ℕ) (k : Kept) (old mid new : Whole) (i j l : Source) (a 
 cut_at_end n k old mid new i j l a b c h gave part = record {
   given = h.given;
   heard = nothing_more h.given i j l h.hears gave;
-  told = cut_on (answers (opened old.state) h.given) (said_at_end (after_bytes (opened old.state) h.given)) old mid new
+  told = inl
+      (cut_on (answers (opened old.state) h.given) (said_at_end (after_bytes (opened old.state) h.given)) old mid new
       a b c h.told
-      (subst (λ (t : Talk). TellsPart (said_at_end t) mid new b c) (sym h.now) part);
+      (subst (λ (t : Talk). TellsPart (said_at_end t) mid new b c) (sym h.now) part));
 }
 
 -- the reader failed
@@ -215,6 +220,89 @@ spent n k old new i j a b h all = record {
   ends = inr (inr (h.count ∙ all, refl));
   told = h.told;
 }
+
+-- ---- what waits is sent
+
+told_kept : (ps : List Piece) (old new : Whole) (a b c : Sink) → TellsAll ps old new a b → KeepsPut b c
+    → TellsAll ps old new a c
+told_kept ps old new a b c told kept = record {
+  went = Appends-kept a.written b.written c.written (texts ps) told.went kept.0;
+  stands = told.stands;
+  quiet = kept.1 ∙ told.quiet;
+}
+
+-- the session after n bytes, once what waits was sent
+pub heard_kept : (n : ℕ) (k : Kept) (old new : Whole) (i j : Source) (a b c : Sink) → Heard n k old new i j a b
+    → KeepsPut b c → Heard n k old new i j a c
+heard_kept n k old new i j a b c h kept = record {
+  given = h.given;
+  count = h.count;
+  hears = h.hears;
+  now = h.now;
+  told = told_kept (answers (opened old.state) h.given) old new a b c h.told kept;
+}
+
+then_failed : (ps : List Piece) (old new : Whole) (a b c : Sink) → TellsAll ps old new a b → FailsOnce b c
+    → TellsAllThenFails ps old new a c
+then_failed ps old new a b c told failed = record {
+  put = Appends-kept a.written b.written c.written (texts ps) told.went failed.0;
+  stands = told.stands;
+  failed = failed.1 ∙ ap (λ x. x + 1) told.quiet;
+}
+
+so_far_of_end : (s : State) (given : List ℕ) (l : Source) (ps : List Piece) → Ends s given l ps → AreSoFar s given l ps
+so_far_of_end s given l ps (inl (end, all)) = inr (end, all)
+so_far_of_end s given l ps (inr (inl (shut, so_far))) = inl so_far
+so_far_of_end s given l ps (inr (inr (count, so_far))) = inl so_far
+
+-- a session that has ended sends what waits
+pub ended : (old new : Whole) (i l : Source) (a b c : Sink) (waits : List ℕ) (result : Result (Unit {0}) SessionFault)
+    → Holds old new i l a b → SendsRest b c waits result
+    → Sessions old new i l a c result × NothingWaits waits result
+ended old new i l a b c waits (Ok done) h sends = (
+  record {
+    given = h.given;
+    heard = h.heard;
+    pieces = h.pieces;
+    ends = h.ends;
+    told = told_kept h.pieces old new a b c h.told sends.0;
+  },
+  sends.1,
+)
+ended old new i l a b c waits (Err Read) h sends = absurd sends
+ended old new i l a b c waits (Err Write) h sends = (
+  record {
+    given = h.given;
+    heard = h.heard;
+    told = inr (record {
+      pieces = h.pieces;
+      so_far = so_far_of_end old.state h.given l h.pieces h.ends;
+      told = then_failed h.pieces old new a b c h.told sends;
+    });
+  },
+  tt,
+)
+
+-- the reader failed, or what waits couldn't be sent before it was called
+pub not_taken : (n : ℕ) (k : Kept) (old new : Whole) (i j l : Source) (a b c : Sink) (waits : List ℕ)
+    (fault : SessionFault) → Heard n k old new i j a b → TakesNext j l b c waits (Err fault)
+    → Sessions old new i l a c (Err fault) × NothingWaits waits (Err fault)
+not_taken n k old new i j l a b c waits Read h takes = (
+  missed n k old new i j l a c (heard_kept n k old new i j a b c h takes.2) takes.0 takes.1,
+  takes.3,
+)
+not_taken n k old new i j l a b c waits Write h takes = (
+  record {
+    given = h.given;
+    heard = subst (λ (s : Source). Hears h.given i s) (sym takes.0) h.hears;
+    told = inr (record {
+      pieces = answers (opened old.state) h.given;
+      so_far = inl refl;
+      told = then_failed (answers (opened old.state) h.given) old new a b c h.told takes.1;
+    });
+  },
+  tt,
+)
 
 -- ---- one byte
 

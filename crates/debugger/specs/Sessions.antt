@@ -117,6 +117,12 @@ pub record TellsPart (pieces : List Piece) (old new : Whole) (before after : Sin
   pub cut : IsCutAfter before.written after.written (texts done) piece.text
   pub failed : after.faults ≡ before.faults + 1
 
+-- all pieces were put, and a call failed after them; the machine is in the state of the last one
+pub record TellsAllThenFails (pieces : List Piece) (old new : Whole) (before after : Sink) : Type 0 where
+  pub put : Appends before.written after.written (texts pieces)
+  pub stands : new ≡ record old { state = last_state old.state pieces }
+  pub failed : after.faults ≡ before.faults + 1
+
 abbrev pub Tells : {A E : Type 0} → List Piece → Whole → Whole → Sink → Sink → Result A E → Type 0
 Tells pieces old new before after (Ok done) = TellsAll pieces old new before after
 Tells pieces old new before after (Err fault) = TellsPart pieces old new before after
@@ -133,11 +139,46 @@ pub record Hears (given : List ℕ) (before after : Source) : Type 0 where
   pub gave : Consumes before.left after.left given
   pub quiet : after.misses ≡ before.misses
 
--- one byte, or the end of the input, or a call that failed
+-- one byte, or the end of the input; or a call that failed
+abbrev pub GivesNext : Source → Source → Option ℕ → Type 0
+GivesNext before after (Some byte) = Hears (byte ∷ []) before after
+GivesNext before after None = Hears [] before after × IsAtEnd after.left
+
 abbrev pub GivesByte : {E : Type 0} → Source → Source → Result (Option ℕ) E → Type 0
-GivesByte before after (Ok (Some byte)) = Hears (byte ∷ []) before after
-GivesByte before after (Ok None) = Hears [] before after × IsAtEnd after.left
+GivesByte before after (Ok next) = GivesNext before after next
 GivesByte before after (Err fault) = Keeps before.left after.left × (after.misses ≡ before.misses + 1)
+
+-- what was put stays the same, and no call of the writer failed; or one did
+abbrev pub KeepsPut : Sink → Sink → Type 0
+KeepsPut before after = Keeps before.written after.written × (after.faults ≡ before.faults)
+
+abbrev pub FailsOnce : Sink → Sink → Type 0
+FailsOnce before after = Keeps before.written after.written × (after.faults ≡ before.faults + 1)
+
+-- what waits is sent before a call of the reader that may wait
+abbrev pub SendsBefore : {E : Type 0} → Bool → Sink → Sink → List ℕ → Result (Unit {0}) E → Type 0
+SendsBefore may_wait out out' waits (Ok done) = KeepsPut out out' × (may_wait ≡ true → waits ≡ [])
+SendsBefore may_wait out out' waits (Err fault) = FailsOnce out out'
+
+-- One byte, or the end of the input. What waits to be sent is sent before a call of the reader that may wait, so that
+-- nothing waits where that call fails; where it can't be sent, the reader isn't called.
+abbrev pub TakesNext : Source → Source → Sink → Sink → List ℕ → Result (Option ℕ) SessionFault → Type 0
+TakesNext before after out out' waits (Ok next) = GivesNext before after next × KeepsPut out out'
+TakesNext before after out out' waits (Err Read) =
+    Keeps before.left after.left × (after.misses ≡ before.misses + 1) × KeepsPut out out' × (waits ≡ [])
+TakesNext before after out out' waits (Err Write) = (after ≡ before) × FailsOnce out out'
+
+-- what waits is sent before a session ends
+abbrev pub SendsRest : Sink → Sink → List ℕ → Result (Unit {0}) SessionFault → Type 0
+SendsRest out out' waits (Ok done) = KeepsPut out out' × (waits ≡ [])
+SendsRest out out' waits (Err Read) = ⊥
+SendsRest out out' waits (Err Write) = FailsOnce out out'
+
+-- nothing waits to be sent after a session, unless its writer failed
+abbrev pub NothingWaits : List ℕ → Result (Unit {0}) SessionFault → Type 0
+NothingWaits waits (Ok done) = waits ≡ []
+NothingWaits waits (Err Read) = waits ≡ []
+NothingWaits waits (Err Write) = Unit {0}
 
 -- why a session ends with no fault: the input is at its end, and then a last line counts; `quit`; or 2^64 - 1 bytes
 abbrev pub Ends : State → List ℕ → Source → List Piece → Type 0
@@ -161,11 +202,22 @@ pub record FailsToRead (old new : Whole) (before after : Source) (out out' : Sin
   pub missed : after.misses ≡ before.misses + 1
   pub told : TellsAll (answers (opened old.state) given) old new out out'
 
--- the writer failed in the answers to what was read
+-- the pieces so far: the answers to what was read, at the end of the input that to a last line too
+abbrev pub AreSoFar : State → List ℕ → Source → List Piece → Type 0
+AreSoFar s given after pieces =
+    (pieces ≡ answers (opened s) given) ⊎ (IsAtEnd after.left × (pieces ≡ all_answers s given))
+
+-- the answers to what was read were put, and the call failed that was to send those that wait
+pub record FailsToHandOn (given : List ℕ) (old new : Whole) (after : Source) (out out' : Sink) : Type 0 where
+  pub pieces : List Piece
+  pub so_far : AreSoFar old.state given after pieces
+  pub told : TellsAllThenFails pieces old new out out'
+
+-- the writer failed in the answers to what was read, or behind all of them
 pub record FailsToWrite (old new : Whole) (before after : Source) (out out' : Sink) : Type 0 where
   pub given : List ℕ
   pub heard : Hears given before after
-  pub told : TellsPart (all_answers old.state given) old new out out'
+  pub told : TellsPart (all_answers old.state given) old new out out' ⊎ FailsToHandOn given old new after out out'
 
 abbrev pub Sessions : Whole → Whole → Source → Source → Sink → Sink → Result (Unit {0}) SessionFault → Type 0
 Sessions old new before after out out' (Ok done) = Holds old new before after out out'

@@ -1,8 +1,8 @@
-//! A session: lines are read byte by byte, and each is answered.
+//! A session: lines are read byte by byte, and each is answered before the reader may wait for the next one.
 
-ghost use Rattle.std.specs.Prelude.{◌≡◌, [], Some, Ok, IfOk};
+ghost use Rattle.std.specs.Prelude.{◌≡◌, [], true, Some, OnErr};
 ghost use Rattle.debugger.specs.Answers.{answer, reply_text};
-ghost use Rattle.debugger.specs.Sessions.{after_line, GivesByte, GoesOn, line_said, next, said, said_at_end, Sessions, talk, Tells};
+ghost use Rattle.debugger.specs.Sessions.{after_line, GivesByte, GoesOn, line_said, next, NothingWaits, said, said_at_end, SendsBefore, SendsRest, Sessions, TakesNext, talk, Tells};
 ghost use Rattle.debugger_commands.specs.Breakpoints.{breakpoints_after};
 
 use crate::answers::run;
@@ -153,40 +153,77 @@ impl Debugger {
     }
 }
 
-/// Reads commands, one a line, and writes their answers, up to `quit` or the end of the input. Where
-/// the reader or the writer fails, the machine is in its state after the steps that were made.
+/// Reads commands, one a line, and writes their answers, up to `quit` or the end of the input. What waits to be
+/// sent is sent before a call of the reader that may wait, and at the end. Where the reader or the writer fails,
+/// the machine is in its state after the steps that were made.
 pub fn session<D: Decider, C: CodeLines, L: Levels, U: DueTicks, I: In, W: Out>(
     machine: &mut Machine<D, C, L, U>,
     reader: &mut I,
     out: &mut W,
 ) -> Result<(), SessionFault>
-    ensures { Sessions machine.old machine.new (record { left = I.left reader.old; misses = I.misses reader.old }) (record { left = I.left reader.new; misses = I.misses reader.new }) (record { written = W.written out.old; faults = W.faults out.old }) (record { written = W.written out.new; faults = W.faults out.new }) result }
+    ensures talked { Sessions machine.old machine.new (record { left = I.left reader.old; misses = I.misses reader.old }) (record { left = I.left reader.new; misses = I.misses reader.new }) (record { written = W.written out.old; faults = W.faults out.old }) (record { written = W.written out.new; faults = W.faults out.new }) result }
+    ensures sent { NothingWaits (W.waits out.new) result }
 {
     let mut debugger = Debugger::new();
     'calls: for call in 0..u64::MAX {
         let _ = call;
-        let byte = match take_byte(reader) {
+        let byte = match take_next(reader, out) {
             Ok(Some(byte)) => byte,
             Ok(None) => {
                 return match debugger.finish(machine, out) {
-                    Ok(()) => Ok(()),
+                    Ok(()) => send_rest(out),
                     Err(_) => Err(SessionFault::Write),
                 };
             }
-            Err(_) => return Err(SessionFault::Read),
+            Err(fault) => return Err(fault),
         };
         match debugger.hear(machine, byte, out) {
             Ok(true) => {}
-            Ok(false) => return Ok(()),
+            Ok(false) => return send_rest(out),
             Err(_) => return Err(SessionFault::Write),
         }
+    }
+    send_rest(out)
+}
+
+/// Sends what waits, before a session ends.
+fn send_rest<W: Out>(out: &mut W) -> Result<(), SessionFault>
+    ensures { SendsRest (record { written = W.written out.old; faults = W.faults out.old }) (record { written = W.written out.new; faults = W.faults out.new }) (W.waits out.new) result }
+{
+    match out.hand_on() {
+        Ok(()) => Ok(()),
+        Err(_) => Err(SessionFault::Write),
+    }
+}
+
+/// Sends what waits, if the next call of the reader may wait.
+fn send_before<I: In, W: Out>(reader: &I, out: &mut W) -> Result<(), IoFault>
+    ensures { SendsBefore (I.may_wait reader.now) (record { written = W.written out.old; faults = W.faults out.old }) (record { written = W.written out.new; faults = W.faults out.new }) (W.waits out.new) result }
+{
+    if reader.may_wait() {
+        return out.hand_on();
     }
     Ok(())
 }
 
+/// Returns the next byte of the input, None at its end. Sends what waits before a call of the reader that may wait.
+fn take_next<I: In, W: Out>(reader: &mut I, out: &mut W) -> Result<Option<u8>, SessionFault>
+    ensures { TakesNext (record { left = I.left reader.old; misses = I.misses reader.old }) (record { left = I.left reader.new; misses = I.misses reader.new }) (record { written = W.written out.old; faults = W.faults out.old }) (record { written = W.written out.new; faults = W.faults out.new }) (W.waits out.new) result }
+{
+    match send_before(reader, out) {
+        Ok(()) => {}
+        Err(_) => return Err(SessionFault::Write),
+    }
+    match take_byte(reader) {
+        Ok(byte) => Ok(byte),
+        Err(_) => Err(SessionFault::Read),
+    }
+}
+
 /// Returns the next byte of the input, None at its end.
 fn take_byte<I: In>(reader: &mut I) -> Result<Option<u8>, IoFault>
-    ensures { GivesByte (record { left = I.left reader.old; misses = I.misses reader.old }) (record { left = I.left reader.new; misses = I.misses reader.new }) result }
+    ensures given { GivesByte (record { left = I.left reader.old; misses = I.misses reader.old }) (record { left = I.left reader.new; misses = I.misses reader.new }) result }
+    ensures failed { OnErr result (I.may_wait reader.old ≡ true) }
 {
     let mut room = [0; 1];
     match reader.take(&mut room) {

@@ -18,7 +18,7 @@ pub use board::{Board, InterruptLine, ScriptedEvent, Signal};
 pub use code_lines::{BoardLines, Lines};
 pub use decode::Reread;
 pub use foresight::is_instruction;
-pub use output::{In, IoFault, LineRoom, Out, Over, Paged};
+pub use output::{Buffered, Cut, In, IoFault, LineRoom, Out, Over, Paged};
 pub use readers::RegValues;
 pub use reference::access::{Decision, Kind, Rule};
 pub use reference::board::{Layout, SMALL_BOARD};

@@ -1,4 +1,6 @@
+mod Cutting
 mod Emitting
 mod Gathering
+mod Reading
 mod Sending
 mod Walks

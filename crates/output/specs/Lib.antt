@@ -1,3 +1,4 @@
+pub mod Cuts
 pub mod Emitting
 pub mod Gathered
 pub mod Input

@@ -1,13 +1,18 @@
 //! Where a trace goes: writers that report what they took, and one that gathers the lines of many
-//! steps. Where commands come from: readers that report what they returned.
+//! steps. Where commands come from: readers that report what they returned, and one that reads ahead.
+//! `Cut` is a writer or a reader that fails after a number of bytes.
 #![tactic(auto)]
 
+mod buffered;
+mod cut;
 mod event_lines;
 mod history;
 mod paged;
 mod view;
 mod writer;
 
+pub use buffered::Buffered;
+pub use cut::Cut;
 pub use event_lines::EventLines;
 pub use paged::Paged;
 pub use view::{AllEvents, ConsoleBytes, ExceptionEvents, NoEvents, RefusedEvents, View};

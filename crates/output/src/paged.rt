@@ -1,6 +1,6 @@
 //! A writer that gathers the lines of many steps, so that the writer below is called seldom.
 
-ghost use Rattle.std.specs.Prelude.{◌≡◌, ◌+◌, ◌≤◌, [], length, drop, OnOk, OnErr};
+ghost use Rattle.std.specs.Prelude.{◌≡◌, ◌+◌, ◌≤◌, [], ◌++◌, length, drop, OnOk, OnErr};
 ghost use Rattle.reference.specs.Text.{line};
 ghost use Rattle.std.specs.Io.KnownBytes.{append_known, Keeps};
 
@@ -16,7 +16,8 @@ const ROOM: usize = 0x4000;
 const FULL: usize = ROOM - 64;
 
 /// A writer that gathers lines on a page. Bytes on the page count as taken: `flush` sends them at
-/// the end. Where the writer below fails, the line being put isn't taken.
+/// the end, and `hand_on` wherever a caller wants it. Where the writer below fails, the line being put
+/// isn't taken.
 #[derive(Drop)]
 pub struct Paged<O: Out + Drop> {
     inner: O,
@@ -96,7 +97,13 @@ impl<O: Out + Drop> Out for Paged<O> {
 
     ghost faults = { λ p. O.faults p.inner };
 
+    ghost waits = { λ p. O.waits p.inner ++ drop p.at p.page };
+
     fn put(&mut self, bytes: &[u8]) -> Result<usize, IoFault> {
+        if bytes.len() <= ROOM - self.page.len() {
+            self.page.put_slice(bytes);
+            return Ok(bytes.len());
+        }
         match self.flush() {
             Ok(()) => self.inner.put(bytes),
             Err(fault) => Err(fault),
@@ -137,6 +144,13 @@ impl<O: Out + Drop> Out for Paged<O> {
                 self.page.put_fetch(&mut room.digits, tick, fetch);
                 Ok(())
             }
+            Err(fault) => Err(fault),
+        }
+    }
+
+    fn hand_on(&mut self) -> Result<(), IoFault> {
+        match self.flush() {
+            Ok(()) => self.inner.hand_on(),
             Err(fault) => Err(fault),
         }
     }

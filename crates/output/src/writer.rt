@@ -1,8 +1,8 @@
 //! Writers that report what they took, and readers that report what they returned.
 
-ghost use Rattle.std.specs.Prelude.{◌≡◌, ℕ, ◌+◌, ◌<◌, ◌≤◌, List, [], ◌∷◌, length, Option};
+ghost use Rattle.std.specs.Prelude.{◌≡◌, ℕ, ◌+◌, ◌<◌, ◌≤◌, Bool, true, List, [], ◌∷◌, length, Option, OnErr};
 ghost use Rattle.output.specs.Input.{Received};
-ghost use Rattle.output.specs.Output.{Took, Put};
+ghost use Rattle.output.specs.Output.{HandsOn, Put, Took};
 ghost use Rattle.reference.specs.declared.event.EventKind.TheVariants.{Accessed};
 ghost use Rattle.reference.specs.Text.{line};
 ghost use Rattle.trace.specs.Fetches.{access_of};
@@ -42,11 +42,14 @@ impl LineRoom {
 pub struct IoFault;
 
 /// A writer that reports how many of the bytes it took. A contract sees the bytes that it has
-/// taken, where they are known, and how many calls failed or took 0 bytes of a nonempty piece.
+/// taken, where they are known, how many calls failed or took 0 bytes of a nonempty piece, and
+/// which of the bytes wait to be sent.
 pub trait Out {
     ghost written: { Self → Option (List ℕ) };
 
     ghost faults: { Self → ℕ };
+
+    ghost waits: { Self → List ℕ };
 
     /// Takes a prefix of the bytes, and returns its length.
     fn put(&mut self, bytes: &[u8]) -> Result<usize, IoFault>
@@ -100,19 +103,33 @@ pub trait Out {
         room.page.put_fetch(&mut room.digits, tick, fetch);
         self.put_all(room.page.as_slice())
     }
+
+    /// Sends the bytes that wait. On an error some of them may still wait.
+    fn hand_on(&mut self) -> Result<(), IoFault>
+        ensures { HandsOn (written self.old) (written self.new) (faults self.old) (faults self.new) (waits self.new) result };
 }
 
 /// A reader that reports how many bytes it returned. A contract sees the bytes that it has left,
-/// where they are known, and how many calls failed.
+/// where they are known, how many calls failed, and whether the next call may wait for input or fail.
 pub trait In {
     ghost left: { Self → Option (List ℕ) };
 
     ghost misses: { Self → ℕ };
 
+    ghost may_wait: { Self → Bool } = { λ _. true };
+
     /// Puts bytes at the front of the room, and returns how many: 0 at the end of the input, or
     /// where there is no room.
     fn take(&mut self, room: &mut [u8]) -> Result<usize, IoFault>
-        ensures { Received (left self.old) (left self.new) (misses self.old) (misses self.new) room.new result };
+        ensures received { Received (left self.old) (left self.new) (misses self.old) (misses self.new) room.new result }
+        ensures failed { OnErr result (may_wait self.old ≡ true) };
+
+    /// Returns false only where the next call of `take` neither waits for input nor fails.
+    fn may_wait(&self) -> bool
+        ensures { may_wait self.now ≡ true → result ≡ true }
+    {
+        true
+    }
 }
 
 /// A writer or a reader of the standard library, whose failed calls are counted in contracts alone.
@@ -155,6 +172,8 @@ impl<W: Write + Drop, K: Ledger> Out for Over<W, K> {
 
     ghost faults = { λ o. o.book.total };
 
+    ghost waits = { λ _. [] };
+
     fn put(&mut self, bytes: &[u8]) -> Result<usize, IoFault> {
         match self.inner.write(bytes) {
             Ok(0) if !bytes.is_empty() => {
@@ -167,6 +186,10 @@ impl<W: Write + Drop, K: Ledger> Out for Over<W, K> {
                 Err(IoFault)
             }
         }
+    }
+
+    fn hand_on(&mut self) -> Result<(), IoFault> {
+        Ok(())
     }
 }
 

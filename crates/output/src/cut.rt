@@ -1,0 +1,179 @@
+//! A writer or a reader that is cut after a number of bytes, for tests of what a failure leaves.
+
+ghost use Rattle.std.specs.Prelude.{◌≡◌, ℕ, ◌+◌, ◌-◌, ◌^◌, ◌<◌, length};
+ghost use Rattle.output.specs.Cuts.{EndsAtCut, Passes, left_of};
+ghost use Rattle.output.specs.Input.{Received};
+ghost use Rattle.output.specs.Output.{Took};
+ghost use Rattle.output.specs.declared.cut.AtCut.TheVariants.{Fails, TakesNone};
+
+use crate::writer::{In, IoFault, Out};
+
+/// What a call does after the last byte.
+#[derive(Clone, Copy)]
+pub(crate) enum AtCut {
+    /// It fails.
+    Fails,
+    /// It takes none of the bytes, or returns none.
+    TakesNone,
+}
+
+/// A writer or a reader over another that passes a number of bytes on. After them each call fails, or
+/// takes none of a nonempty piece, up to 2^64 - 1 such calls; a reader that returns none is at its end.
+#[derive(Drop)]
+pub struct Cut<T: Drop> {
+    inner: T,
+    // How many bytes are still passed on.
+    left: usize,
+    at_cut: AtCut,
+    // How many calls failed since the last byte.
+    failed: u64,
+}
+
+impl<T: Drop> Cut<T> {
+    /// Over a writer or a reader: passes `count` bytes on, and then fails.
+    pub fn failing(inner: T, count: usize) -> Self
+        ensures { result ≡ record { inner = inner; left = count; at_cut = Fails; failed = 0 } }
+    {
+        Cut {
+            inner,
+            left: count,
+            at_cut: AtCut::Fails,
+            failed: 0,
+        }
+    }
+
+    /// Over a writer or a reader: passes `count` bytes on, and then takes or returns none.
+    pub fn taking_none(inner: T, count: usize) -> Self
+        ensures { result ≡ record { inner = inner; left = count; at_cut = TakesNone; failed = 0 } }
+    {
+        Cut {
+            inner,
+            left: count,
+            at_cut: AtCut::TakesNone,
+            failed: 0,
+        }
+    }
+
+    /// Returns the writer or the reader below.
+    pub fn into_inner(self) -> T
+        ensures { result ≡ self.inner }
+    {
+        let Cut {
+            inner,
+            left: _,
+            at_cut: _,
+            failed: _,
+        } = self;
+        inner
+    }
+}
+
+impl<O: Out + Drop> Cut<O> {
+    /// Passes on as many of the bytes as are left to pass on.
+    fn put_front(&mut self, bytes: &[u8]) -> Result<usize, IoFault>
+        requires { 0 < self.old.left }
+        ensures took { Took (O.written self.old.inner) (O.written self.new.inner) (O.faults self.old.inner) (O.faults self.new.inner) bytes.now result }
+        ensures passes { Passes self.old.left self.new.left result }
+        ensures same { (self.new.at_cut ≡ self.old.at_cut) × (self.new.failed ≡ self.old.failed) }
+    {
+        let (front, _) = bytes.split_at(bytes.len().min(self.left));
+        match self.inner.put(front) {
+            Ok(taken) => {
+                self.left -= taken;
+                Ok(taken)
+            }
+            Err(fault) => Err(fault),
+        }
+    }
+}
+
+impl<O: Out + Drop> Out for Cut<O> {
+    ghost written = { λ c. O.written c.inner };
+
+    ghost faults = { λ c. O.faults c.inner + c.failed };
+
+    ghost waits = { λ c. O.waits c.inner };
+
+    fn put(&mut self, bytes: &[u8]) -> Result<usize, IoFault>
+        ensures took { Took (O.written self.old.inner) (O.written self.new.inner) (O.faults self.old.inner + self.old.failed) (O.faults self.new.inner + self.new.failed) bytes.now result }
+        ensures passes { self.old.failed < 2 ^ 64 - 1 → Passes self.old.left self.new.left result }
+        ensures ends { self.old.failed < 2 ^ 64 - 1 → self.old.left ≡ 0 → 0 < length bytes.now → EndsAtCut self.old.at_cut result }
+        ensures same { self.new.at_cut ≡ self.old.at_cut }
+    {
+        if self.left > 0 {
+            return self.put_front(bytes);
+        }
+        if bytes.is_empty() {
+            return Ok(0);
+        }
+        if self.failed == u64::MAX {
+            return self.inner.put(bytes);
+        }
+        self.failed += 1;
+        match self.at_cut {
+            AtCut::Fails => Err(IoFault),
+            AtCut::TakesNone => Ok(0),
+        }
+    }
+
+    fn hand_on(&mut self) -> Result<(), IoFault> {
+        self.inner.hand_on()
+    }
+}
+
+impl<I: In + Drop> Cut<I> {
+    /// Takes as many bytes from the reader below as are left to pass on, and as there is room for.
+    fn take_front(&mut self, room: &mut [u8]) -> Result<usize, IoFault>
+        requires { 0 < self.old.left }
+        ensures received { Received (I.left self.old.inner) (I.left self.new.inner) (I.misses self.old.inner) (I.misses self.new.inner) room.new result }
+        ensures passes { Passes self.old.left self.new.left result }
+        ensures same { (self.new.at_cut ≡ self.old.at_cut) × (self.new.failed ≡ self.old.failed) }
+    {
+        let most = room.len().min(self.left);
+        let (front, _) = room.split_at_mut(most);
+        match self.inner.take(front) {
+            Ok(given) => {
+                self.left -= given;
+                Ok(given)
+            }
+            Err(fault) => Err(fault),
+        }
+    }
+
+    /// Fails, unless so many calls have failed that no more can be counted.
+    fn fail(&mut self, room: &mut [u8]) -> Result<usize, IoFault>
+        ensures received { Received (I.left self.old.inner) (I.left self.new.inner) (I.misses self.old.inner + self.old.failed) (I.misses self.new.inner + self.new.failed) room.new result }
+        ensures ends { self.old.failed < 2 ^ 64 - 1 → EndsAtCut Fails result }
+        ensures same { (self.new.left ≡ self.old.left) × (self.new.at_cut ≡ self.old.at_cut) }
+    {
+        if self.failed == u64::MAX {
+            return self.inner.take(room);
+        }
+        self.failed += 1;
+        Err(IoFault)
+    }
+}
+
+impl<I: In + Drop> In for Cut<I> {
+    ghost left = { λ c. left_of c.at_cut c.left (I.left c.inner) };
+
+    ghost misses = { λ c. I.misses c.inner + c.failed };
+
+    fn take(&mut self, room: &mut [u8]) -> Result<usize, IoFault>
+        ensures received { Received (left_of self.old.at_cut self.old.left (I.left self.old.inner)) (left_of self.new.at_cut self.new.left (I.left self.new.inner)) (I.misses self.old.inner + self.old.failed) (I.misses self.new.inner + self.new.failed) room.new result }
+        ensures passes { self.old.failed < 2 ^ 64 - 1 → Passes self.old.left self.new.left result }
+        ensures ends { self.old.failed < 2 ^ 64 - 1 → self.old.left ≡ 0 → 0 < length room.new → EndsAtCut self.old.at_cut result }
+        ensures same { self.new.at_cut ≡ self.old.at_cut }
+    {
+        if self.left > 0 {
+            return self.take_front(room);
+        }
+        if room.is_empty() {
+            return Ok(0);
+        }
+        match self.at_cut {
+            AtCut::Fails => self.fail(room),
+            AtCut::TakesNone => Ok(0),
+        }
+    }
+}
