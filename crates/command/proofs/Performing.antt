@@ -1,7 +1,7 @@
 -- A status is that of a run or of a session.
 use Rattle.std.proofs.Common.{ℕ, List, Result}
 use Rattle.command.specs.declared.request.RunRequest.{RunRequest}
-use Rattle.command.specs.Sessions.{DebugsTo, SessionTo}
+use Rattle.command.specs.Sessions.{DebugsTo, SessionTo, Writer}
 use Rattle.command.specs.Statuses.{GoesTo, RunsTo}
 use Rattle.debugger.specs.Sessions.{Sink, Source}
 use Rattle.output.specs.Gathered.{Gathered}
@@ -17,6 +17,6 @@ runs_to image board run old new file file' status goes =
     record { old = old; new = new; file = file; file' = file'; goes = goes }
 
 pub session_to : (image : Result (List Segment) LoadFault) (board : Result Described BoardFault) (before after : Source)
-    (out out' : Sink) (status : ℕ) → DebugsTo image board before after out out' status → SessionTo image board status
+    (out out' : Writer) (status : ℕ) → DebugsTo image board before after out out' status → SessionTo image board status
 session_to image board before after out out' status debugs =
     record { before = before; after = after; out = out; out' = out'; debugs = debugs }

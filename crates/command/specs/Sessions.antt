@@ -1,5 +1,5 @@
 -- A debug session of the program.
-use Rattle.std.specs.Prelude.{◌≡◌, ◌⊎◌, ℕ, false, List, Result, Ok, Err}
+use Rattle.std.specs.Prelude.{◌≡◌, ◌⊎◌, ℕ, false, List, [], Result, Ok, Err}
 use Rattle.command.specs.declared.fault.Fault.{Fault}
 use Rattle.command.specs.declared.fault.Fault.TheVariants.{Load, Board, Start, Io}
 use Rattle.command.specs.Statuses.{fault_status}
@@ -19,33 +19,41 @@ use Rattle.reference.specs.State.{State}
 abbrev pub whole_of : State → Whole
 whole_of s = record { state = s; broken = false }
 
--- a session of a machine, with the machine as it is at the end: it ends, or its reader or its writer fails
-abbrev pub Talks : State → Whole → Source → Source → Sink → Sink → Result (Unit {0}) Fault → Type 0
-Talks s last before after out out' (Ok done) = Holds (whole_of s) last before after out out'
+-- a writer, and the bytes that were put and wait to be sent
+pub record Writer : Type 0 where
+  pub sink : Sink
+  pub waits : List ℕ
+
+-- a session of a machine, with the machine as it is at the end: it ends, or its reader or its writer fails. Nothing
+-- waits unless the writer failed
+abbrev pub Talks : State → Whole → Source → Source → Writer → Writer → Result (Unit {0}) Fault → Type 0
+Talks s last before after out out' (Ok done) =
+    Holds (whole_of s) last before after out.sink out'.sink × (out'.waits ≡ [])
 Talks s last before after out out' (Err fault) =
-    (fault ≡ Io) × (FailsToRead (whole_of s) last before after out out' ⊎ FailsToWrite (whole_of s) last before after
-    out out')
+    (fault ≡ Io)
+    × ((FailsToRead (whole_of s) last before after out.sink out'.sink × (out'.waits ≡ []))
+    ⊎ FailsToWrite (whole_of s) last before after out.sink out'.sink)
 
 -- a session of a machine, whatever the machine is at its end
-pub record Talked (s : State) (before after : Source) (out out' : Sink) (result : Result (Unit {0}) Fault) : Type 0
+pub record Talked (s : State) (before after : Source) (out out' : Writer) (result : Result (Unit {0}) Fault) : Type 0
   where
     pub last : Whole
     pub talks : Talks s last before after out out' result
 
 -- a refusal, with which nothing is read and nothing is written
-abbrev pub Refuses : Fault → Source → Source → Sink → Sink → Result (Unit {0}) Fault → Type 0
+abbrev pub Refuses : Fault → Source → Source → Writer → Writer → Result (Unit {0}) Fault → Type 0
 Refuses fault before after out out' result = (result ≡ Err fault) × (after ≡ before) × (out' ≡ out)
 
 -- a session from a start state, or out of memory for it, or the refusal of the start
-abbrev pub TalksFrom : Result State StartFault → Source → Source → Sink → Sink → Result (Unit {0}) Fault → Type 0
+abbrev pub TalksFrom : Result State StartFault → Source → Source → Writer → Writer → Result (Unit {0}) Fault → Type 0
 TalksFrom (Ok s) before after out out' result =
     Talked s before after out out' result ⊎ Refuses (Start NoMemory) before after out out' result
 TalksFrom (Err refusal) before after out out' result = Refuses (Start refusal) before after out out' result
 
 -- an image or a board that is refused is refused as the definition refuses it, the image first; out of memory for
 -- the board may take the place of every later refusal
-abbrev pub Debugs : Result (List Segment) LoadFault → Result Described BoardFault → Source → Source → Sink → Sink
-    → Result (Unit {0}) Fault → Type 0
+abbrev pub Debugs : Result (List Segment) LoadFault → Result Described BoardFault → Source → Source → Writer
+    → Writer → Result (Unit {0}) Fault → Type 0
 Debugs (Ok image) (Ok board) before after out out' result =
     TalksFrom (start board image) before after out out' result ⊎ Refuses (Board OutOfMemory) before after out out'
     result
@@ -60,7 +68,7 @@ session_status (Err fault) = fault_status fault
 
 -- an image is debugged on a board, and the status is that of its end
 pub record DebugsTo (image : Result (List Segment) LoadFault) (board : Result Described BoardFault)
-    (before after : Source) (out out' : Sink) (status : ℕ) : Type 0 where
+    (before after : Source) (out out' : Writer) (status : ℕ) : Type 0 where
   pub result : Result (Unit {0}) Fault
   pub debugged : Debugs image board before after out out' result
   pub is : status ≡ session_status result
@@ -70,6 +78,6 @@ pub record SessionTo (image : Result (List Segment) LoadFault) (board : Result D
     : Type 0 where
   pub before : Source
   pub after : Source
-  pub out : Sink
-  pub out' : Sink
+  pub out : Writer
+  pub out' : Writer
   pub debugs : DebugsTo image board before after out out' status

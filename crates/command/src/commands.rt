@@ -19,7 +19,7 @@ use crate::reporting::report;
 use crate::request::{Request, RunRequest, Task, read_words};
 use crate::state_file::StateFile;
 use command_line::WordsFault;
-use machine::{In, Out, Over, Paged};
+use machine::{Buffered, In, Out, Over, Paged};
 use messages::{Escaped, Messages};
 use std::alloc::Global;
 use std::io;
@@ -171,7 +171,7 @@ fn debug_by<I: Read + Drop, W: Write + Drop, E: Write>(
     debug_from::<I, W, E, Brand>(alloc, image, board, input, out, err, Blank::new(1))
 }
 
-/// Debugs an image on a board: makes an `In` of `input`, and writes why it failed. `blank` counts the
+/// Debugs an image on a board: reads ahead in `input`, and writes why it failed. `blank` counts the
 /// calls of `input` that fail.
 fn debug_from<I: Read + Drop, W: Write + Drop, E: Write, K: Ledger>(
     alloc: Global,
@@ -187,8 +187,9 @@ fn debug_from<I: Read + Drop, W: Write + Drop, E: Write, K: Ledger>(
     requires some { blank.parts ≡ 1 }
     ensures { SessionTo (image_of image.entry.bytes.now) (board_in_file board.entry.bytes.now) result }
 {
-    let mut input: Over<LastError<I>, K> = Over::new(LastError::new(input), blank);
-    let status = debug_to::<Over<LastError<I>, K>, W, E, Brand>(
+    let input = Over::new(LastError::new(input), blank);
+    let mut input: Buffered<Over<LastError<I>, K>> = Buffered::new(input);
+    let status = debug_to::<Buffered<Over<LastError<I>, K>>, W, E, Brand>(
         alloc,
         image,
         board,
@@ -197,13 +198,13 @@ fn debug_from<I: Read + Drop, W: Write + Drop, E: Write, K: Ledger>(
         err,
         Blank::new(1),
     );
-    if let Some(error) = input.into_inner().error() {
+    if let Some(error) = input.into_inner().into_inner().error() {
         let _ = writeln!(err, "  standard input: {error}");
     }
     status
 }
 
-/// Debugs an image on a board: makes an `Out` of `out`, and writes why it failed. `blank` counts the
+/// Debugs an image on a board: gathers what goes to `out`, and writes why it failed. `blank` counts the
 /// calls of `out` that fail.
 #[tactic(auto, using(crate::proofs::Performing::session_to))]
 fn debug_to<I: In, W: Write + Drop, E: Write, K: Ledger>(
@@ -220,9 +221,9 @@ fn debug_to<I: In, W: Write + Drop, E: Write, K: Ledger>(
     requires some { blank.parts ≡ 1 }
     ensures { SessionTo (image_of image.entry.bytes.now) (board_in_file board.entry.bytes.now) result }
 {
-    let mut out: Over<LastError<W>, K> = Over::new(LastError::new(out), blank);
+    let mut out: Paged<Over<LastError<W>, K>> = Paged::new(Over::new(LastError::new(out), blank));
     let status = debug(alloc, image, board, input, &mut out, err);
-    if let Some(error) = out.into_inner().error() {
+    if let Some(error) = out.into_inner().into_inner().error() {
         let _ = writeln!(err, "  standard output: {error}");
     }
     status

@@ -17,7 +17,8 @@ use std::io::Write;
 
 /// Debugs an image on a board by the commands of `input`, and writes their answers to `out`, or the
 /// refusal to `err`. Returns the exit status: 0 where the session ended, 3 for a refused image, board or
-/// start or where memory runs out, 5 where `input` or `out` failed.
+/// start or where memory runs out, 5 where `input` or `out` failed. No answer waits to be sent at the end,
+/// unless `out` failed.
 pub fn debug<I: In, O: Out, E: Write>(
     alloc: Global,
     image: InputFile<'_>,
@@ -29,8 +30,9 @@ pub fn debug<I: In, O: Out, E: Write>(
     ensures debugs { DebugsTo (image_of image.entry.bytes.now) (board_in_file board.entry.bytes.now)
         (record { left = I.left input.old; misses = I.misses input.old })
         (record { left = I.left input.new; misses = I.misses input.new })
-        (record { written = O.written out.old; faults = O.faults out.old })
-        (record { written = O.written out.new; faults = O.faults out.new }) result }
+        (record { sink = record { written = O.written out.old; faults = O.faults out.old }; waits = O.waits out.old })
+        (record { sink = record { written = O.written out.new; faults = O.faults out.new }; waits = O.waits out.new })
+        result }
     ensures quiet { result ≡ 0 → err.new ≡ err.old }
 {
     match hold_session(alloc, image.bytes, board.bytes, input, out) {
@@ -54,8 +56,9 @@ fn hold_session<I: In, O: Out>(
     ensures { Debugs (image_of image.now) (board_in_file board.now)
         (record { left = I.left input.old; misses = I.misses input.old })
         (record { left = I.left input.new; misses = I.misses input.new })
-        (record { written = O.written out.old; faults = O.faults out.old })
-        (record { written = O.written out.new; faults = O.faults out.new }) result }
+        (record { sink = record { written = O.written out.old; faults = O.faults out.old }; waits = O.waits out.old })
+        (record { sink = record { written = O.written out.new; faults = O.faults out.new }; waits = O.waits out.new })
+        result }
 {
     let image = load(image).map_err(Fault::Load)?;
     let board = board_of_file(alloc, board).map_err(Fault::Board)?;
@@ -69,8 +72,9 @@ fn talk_with<I: In, O: Out>(machine: Fast, input: &mut I, out: &mut O) -> Result
     ensures { Talked machine.state
         (record { left = I.left input.old; misses = I.misses input.old })
         (record { left = I.left input.new; misses = I.misses input.new })
-        (record { written = O.written out.old; faults = O.faults out.old })
-        (record { written = O.written out.new; faults = O.faults out.new }) result }
+        (record { sink = record { written = O.written out.old; faults = O.faults out.old }; waits = O.waits out.old })
+        (record { sink = record { written = O.written out.new; faults = O.faults out.new }; waits = O.waits out.new })
+        result }
 {
     let mut machine = machine;
     match session(&mut machine, input, out) {

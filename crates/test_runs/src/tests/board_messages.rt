@@ -289,19 +289,19 @@ err marm: board 6 UnknownKey
 err   board.toml: \"a\\u001B[31m\\u007F\\u009B \\\"\\\\é\" is no key here: the keys are flash_base, flash_size, ram_size, priority_bits, lines, regions and event
 
 a key with what a display hides: an override of direction, a separator, a soft hyphen, a mark of bytes
-with \"a\u202Eb\u2028c\u00ADd\uFEFFe\" = 1
+with \"a\\u202Eb\\u2028c\\u00ADd\\uFEFFe\" = 1
 ends 3
 err marm: board 6 UnknownKey
-err   board.toml: \"a\u202Eb\u2028c\u00ADd\uFEFFe\" is no key here: the keys are flash_base, flash_size, ram_size, priority_bits, lines, regions and event
+err   board.toml: \"a\\u202Eb\\u2028c\\u00ADd\\uFEFFe\" is no key here: the keys are flash_base, flash_size, ram_size, priority_bits, lines, regions and event
 
 a string with an override of direction
 with [[event]]
 with at = 1
 with line = 0
-with what = \"\u202Epu\"
+with what = \"\\u202Epu\"
 ends 3
 err marm: board 4 OutOfRange
-err   board.toml: event 1: what is \"\u202Epu\": it takes \"rise\", \"fall\" or \"pulse\"
+err   board.toml: event 1: what is \"\\u202Epu\": it takes \"rise\", \"fall\" or \"pulse\"
 
 an empty key
 with \"\" = 1
