@@ -2,4 +2,5 @@ pub mod Counting
 pub mod Places
 pub mod Sums
 pub mod Columns
+pub mod CountedLines
 pub mod Times

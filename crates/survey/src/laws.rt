@@ -1,6 +1,7 @@
 //! What holds of surveys: each law is the contract of a function that does nothing.
 
 ghost use Rattle.survey.specs.CountLaw.{CountersCount, CountersDiffer};
+ghost use Rattle.survey.specs.LineLaw.{CountedHaveLines, EachHasOneLine};
 ghost use Rattle.survey.specs.SumLaw.{OutcomesAddUp, SumsCount};
 ghost use Rattle.survey.specs.TimeLaw.{TimelinesShow};
 
@@ -9,6 +10,13 @@ ghost use Rattle.survey.specs.TimeLaw.{TimelinesShow};
 pub fn counters_count_events()
     ensures events { CountersCount }
     ensures apart { CountersDiffer }
+{}
+
+/// The line of an event that a counter counts is that of an access of its rule, privilege, kind and outcome; and each
+/// event has one line.
+pub fn counted_events_have_lines()
+    ensures counted { CountedHaveLines }
+    ensures each { EachHasOneLine }
 {}
 
 /// The sum of any counters is the number of the accesses that they count; so the granted and the refused ones
