@@ -4,3 +4,4 @@ pub mod Sums
 pub mod Columns
 pub mod CountedLines
 pub mod Times
+pub mod Lanes

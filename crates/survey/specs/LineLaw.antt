@@ -28,7 +28,8 @@ access_line tick address size rule privileged kind refused =
     )
 
 -- a text is the line of an access of a rule, privilege, kind and outcome
-pub record IsLineOf (rule : Rule) (privileged : Bool) (kind : Kind) (refused : Option Cause) (text : List ℕ) : Type 0 where
+pub record IsLineOf (rule : Rule) (privileged : Bool) (kind : Kind) (refused : Option Cause) (text : List ℕ)
+    : Type 0 where
   pub tick : ℕ
   pub address : ℕ
   pub size : Size
