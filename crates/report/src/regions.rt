@@ -62,7 +62,7 @@ fn write_setting<W: Write>(out: &mut W, place: usize, setting: &Setting) -> io::
     let attributes = setting.region.attributes;
     write!(
         out,
-        "<tr id='setting-{place}' data-region='{number}' data-rbar='{base:08X}' data-rasr='{attributes:08X}'>\
+        "<tr id='s{place}' data-region='{number}' data-rbar='{base:08X}' data-rasr='{attributes:08X}'>\
          <th scope='row'><code>r{number}</code> \
          <small>RBAR {base:08X} RASR {attributes:08X}</small></th>"
     )?;
@@ -132,10 +132,10 @@ fn write_way<W: Write>(
         if number > 0 {
             write!(
                 out,
-                "<span class='way'>{word} <span id='setting-{place}-{letter}-{word}-"
+                "<div>{word} <span id='s{place}-{letter}-{word}-"
             )?;
             write_outcome(out, refused, number)?;
-            write!(out, "</span> ")?;
+            write!(out, "</div>")?;
         }
     }
     Ok(())

@@ -54,7 +54,7 @@ thead th.p{color:var(--p)}
 .numbers td span{display:block}
 tbody th small{display:block;font-weight:400}
 .zero{color:var(--soft)}
-.way{display:block;white-space:nowrap}
+td div{white-space:nowrap}
 td.n{white-space:nowrap}
 .off{color:var(--soft)}
 .lanes{display:block}
@@ -111,7 +111,7 @@ main{padding:14px 12px 32px}
 .cards th,.cards td{display:block;border:0;padding:2px 0;text-align:left;white-space:normal}
 .cards td{text-align:right;overflow:hidden}
 .cards td::before{content:attr(data-label);color:var(--soft);float:left;margin-right:1rem}
-.numbers td span,.way{display:inline;margin-left:.8rem}
+.numbers td span,.cards td div{display:inline;margin-left:.8rem}
 h1{font-size:1.25rem}
 .cards td.zero{display:none}
 .cards td.u,.cards td.p,.cards th.u{background:none}

@@ -168,8 +168,9 @@ fn write_lane<W: Write>(
         | Lane::Privileged
         | Lane::Handler(_)
         | Lane::OtherHandlers
-        | Lane::Sleep => write_refused_lines(out, timeline)?,
-        Lane::Refused | Lane::MpuWritten => {}
+        | Lane::Sleep => write!(out, "<use href='#refused-lines'/>")?,
+        Lane::Refused => write_refused_lines(out, timeline)?,
+        Lane::MpuWritten => {}
     }
     writeln!(out, "</svg></div>")
 }
@@ -205,15 +206,15 @@ fn write_run<W: Write>(out: &mut W, first: usize, end: usize) -> io::Result<()> 
     )
 }
 
-/// Writes the lines of refused accesses through a lane.
+/// Writes the lines of refused accesses, which the other lanes use.
 fn write_refused_lines<W: Write>(out: &mut W, timeline: &Timeline) -> io::Result<()> {
-    write!(out, "<path class='through' d='")?;
+    write!(out, "<defs><path id='refused-lines' class='through' d='")?;
     'columns: for column in 0..timeline.used() {
         if timeline.is_marked(column, Mark::Refused) {
             write!(out, "M{column}.5 0v{LANE_HEIGHT}")?;
         }
     }
-    write!(out, "'/>")
+    write!(out, "'/></defs>")
 }
 
 /// Writes the ticks below the lanes.

@@ -89,7 +89,7 @@ const PARTS: [&str; 8] = [
     "<dd id='refused' data-number='0'>0</dd>",
     "<span id='off-p-fetch-granted' data-number='2'>2</span>",
     "<dd id='R0'><code>00000005</code></dd>",
-    "data-first='00000000' data-last='0000001F' data-u='' data-p='x' data-may='rwx'>",
+    "data-first='00000000' data-u='-' data-p='x' data-may='rwx'>",
 ];
 
 #[test]
