@@ -1,7 +1,9 @@
--- The values of the registers, as a debugger shows them.
+-- The values of the registers, as a debugger shows them, and what the core runs.
+use Rattle.machine.specs.declared.readers.Execution.{Execution}
 use Rattle.machine.specs.declared.readers.RegValues.{RegValues}
 use Rattle.reference.specs.declared.exception.Masks.{Masks}
-use Rattle.reference.specs.Registers.{Registers, xpsr, control, weighed}
+use Rattle.reference.specs.Registers.{Registers, xpsr, control, weighed, is_privileged}
+use Rattle.reference.specs.State.{State}
 
 abbrev pub values_of : Registers → Masks → RegValues
 values_of r m = record {
@@ -15,4 +17,13 @@ values_of r m = record {
   primask = weighed m.primask 1;
   faultmask = weighed m.faultmask 1;
   basepri = m.basepri;
+}
+
+-- what the core runs
+abbrev pub execution_of : State → Execution
+execution_of s = record {
+  pc = s.registers.pc;
+  exception = s.registers.exception;
+  privileged = is_privileged s.registers;
+  asleep = s.asleep;
 }

@@ -19,7 +19,7 @@ pub use code_lines::{BoardLines, Lines};
 pub use decode::Reread;
 pub use foresight::is_instruction;
 pub use output::{In, IoFault, LineRoom, Out, Over, Paged};
-pub use readers::RegValues;
+pub use readers::{Execution, RegValues};
 pub use reference::access::{Decision, Kind, Rule};
 pub use reference::board::{Layout, SMALL_BOARD};
 pub use reference::event::{Event, MOST_EVENTS};

@@ -27,8 +27,35 @@ pub struct RegValues {
     pub basepri: u32,
 }
 
+/// What the core runs.
+#[derive(Clone, Copy)]
+pub struct Execution {
+    /// The address of the next instruction.
+    pub pc: u32,
+    /// The exception whose handler runs, 0 in Thread mode: IPSR.
+    pub exception: u16,
+    /// Whether privileged code runs.
+    pub privileged: bool,
+    /// Whether WFI has put the core to sleep.
+    pub asleep: bool,
+}
+
 impl<D: Decider, C: CodeLines, L: Levels, U: DueTicks> Processor<D, C, L, U> {
-    ghost use Rattle.machine.specs.Values.{values_of};
+    ghost use Rattle.machine.specs.Values.{execution_of, values_of};
+
+    /// What the core runs.
+    #[inline]
+    pub fn execution(&self) -> Execution
+        ensures { result ≡ execution_of self.now }
+    {
+        let regs = self.registers();
+        Execution {
+            pc: regs.pc(),
+            exception: regs.exception(),
+            privileged: regs.is_privileged(),
+            asleep: self.is_asleep(),
+        }
+    }
 
     /// The values of the core registers.
     pub fn regs(&self) -> RegValues

@@ -33,8 +33,9 @@ pub fn write_refusals<W: Write>(out: &mut W, report: &Report<'_>) -> io::Result<
         out,
         "<div class='scroll'><table class='cards'><thead><tr>\
          <th class='n' scope='col'>tick</th>\
-         <th scope='col'>access</th><th scope='col'>instruction</th><th scope='col'>refused by</th><th scope='col'>fault</th>\
-         <th scope='col'>taken as</th><th class='n' scope='col'>times</th></tr></thead>\n<tbody>"
+         <th scope='col'>access</th><th scope='col'>instruction</th><th scope='col'>refused by</th>\
+         <th scope='col'>fault</th><th scope='col'>taken as</th>\
+         <th class='n' scope='col'>times</th></tr></thead>\n<tbody>"
     )?;
     let mut shown = 0u64;
     'rows: for (place, refusal) in refusals.rows().iter().enumerate() {

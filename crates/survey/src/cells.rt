@@ -1,7 +1,7 @@
 //! Which cells of a memory were touched, by whom and how.
 
 ghost use Rattle.std.specs.Prelude.{◌≡◌, ◌<◌, ◌≤◌, ◌+◌, ◌*◌, ◌^◌, IfOk, replicate, false};
-ghost use Rattle.survey.specs.Cells.{is_marked, mark_of, touched, touched_at, width_of, with_touch};
+ghost use Rattle.survey.specs.Cells.{is_marked, mark_of, touched, touched_at, width_of};
 
 use crate::counts::privilege_number;
 use crate::touch::Touch;
@@ -57,15 +57,9 @@ impl Cells {
         })
     }
 
-    /// Marks what an access touches.
-    pub fn take_access(&mut self, decided: &DecidedAccess)
-        ensures { self.new ≡ with_touch self.old decided.now }
-    {
-        self.mark(decided, Touch::of(decided.access.kind, decided.refused));
-    }
-
     /// Marks the cells of an access that touches memory in a way, if it touches any.
-    fn mark(&mut self, decided: &DecidedAccess, touch: Option<Touch>)
+    #[inline(always)]
+    pub fn take_touch(&mut self, decided: &DecidedAccess, touch: Option<Touch>)
         ensures { self.new ≡ touched self.old decided.now touch }
     {
         match touch {

@@ -70,11 +70,6 @@ impl Settings {
     pub fn take_access(&mut self, regions: &Regions, decided: &DecidedAccess)
         ensures { self.new ≡ with_decision regions.now self.old decided.now }
     {
-        let way = way(
-            decided.access.privileged,
-            decided.access.kind,
-            decided.refused,
-        );
         match decided.rule {
             Rule::NeverExecute => {}
             Rule::VectorRead => {}
@@ -85,6 +80,8 @@ impl Settings {
             Rule::NoRegion => {}
             Rule::Region(number) => {
                 if let Some(region) = setting_of(regions, number) {
+                    let access = &decided.access;
+                    let way = way(access.privileged, access.kind, decided.refused);
                     self.count(&region, way);
                 }
             }

@@ -11,6 +11,7 @@ use crate::moment::Moment;
 use crate::refusals::Refusals;
 use crate::settings::Settings;
 use crate::timeline::Timeline;
+use crate::touch::Touch;
 use reference::access::DecidedAccess;
 use reference::board::Layout;
 use reference::event::{Event, EventKind};
@@ -110,8 +111,9 @@ impl Survey {
         self.counts.count(decided);
         self.settings.take_access(&moment.regions, decided);
         self.refusals.take_access(moment.pc, tick, decided);
-        self.flash.take_access(decided);
-        self.ram.take_access(decided);
+        let touch = Touch::of(decided.access.kind, decided.refused);
+        self.flash.take_touch(decided, touch);
+        self.ram.take_touch(decided, touch);
         self.timeline.take_access(decided);
     }
 

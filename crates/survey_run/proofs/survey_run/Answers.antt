@@ -1,0 +1,45 @@
+use Rattle.std.proofs.Common.{◌≡◌, ◌⊎◌, inl, inr, ◌∙◌, sym, refl, ap, arith, IsSome, is_some, false}
+use Rattle.machine.proofs.Running.{ends_so, not_some}
+use Rattle.machine.specs.Whole.{Whole}
+use Rattle.survey_run.proofs.Counted.{all_surveyed, machine_on, none_made, none_surveyed, surveyed_on, whole_made}
+use Rattle.survey_run.proofs.survey_run.Goals as goal
+use Rattle.survey_run.proofs.survey_run.Goals.{else-steps-test, then-steps-test+then-is_some}
+
+pub steps-init : goal.steps-init
+steps-init g c = record {
+  few = omega arith;
+  machine = none_made c.args.machine.now;
+  counted = sym (none_surveyed c.args.machine.now.state c.args.survey.now);
+}
+
+pub steps-preserved : goal.steps-preserved
+steps-preserved g c =
+    let going : is_some c.steps.machine.state.stop ≡ false = cc in
+    let now = ap (λ (m : Whole). m.state) c.steps.invariant.machine in
+    record {
+      few = omega arith;
+      machine = machine_on _ _ _ _ c.steps.invariant.machine c.survey_step.ensures.state;
+      counted =
+          c.survey_step.ensures.survey
+          ∙ surveyed_on _ _ _ _ _ now (not_some _ going) c.steps.invariant.counted;
+    }
+
+pub returns-clause-state : goal.returns-clause-state
+returns-clause-state g c =
+    let ends : (c.steps.made ≡ c.args.limit) ⊎ IsSome c.steps.machine.state.stop =
+    elim c.steps-test.branch [ else-steps-test w ↦ inl (omega arith) | then-steps-test+then-is_some w ↦ inr cc ] in
+    whole_made _ _ _ _ c.steps.invariant.few c.steps.invariant.machine ends
+
+pub returns-clause-survey : goal.returns-clause-survey
+returns-clause-survey g c =
+    let ends : (c.steps.made ≡ c.args.limit) ⊎ IsSome c.steps.machine.state.stop =
+    elim c.steps-test.branch [ else-steps-test w ↦ inl (omega arith) | then-steps-test+then-is_some w ↦ inr cc ] in
+    let now = ap (λ (m : Whole). m.state) c.steps.invariant.machine in
+    all_surveyed _ _ _ _ _ _ c.steps.invariant.few now c.steps.invariant.counted ends
+
+pub returns-clause-stop : goal.returns-clause-stop
+returns-clause-stop g c =
+    let ends : (c.steps.made ≡ c.args.limit) ⊎ IsSome c.steps.machine.state.stop =
+    elim c.steps-test.branch [ else-steps-test w ↦ inl (omega arith) | then-steps-test+then-is_some w ↦ inr cc ] in
+    let whole = whole_made _ _ _ _ c.steps.invariant.few c.steps.invariant.machine ends in
+    ends_so _ _ _ _ (cc) (ap (λ (m : Whole). m.state) whole)

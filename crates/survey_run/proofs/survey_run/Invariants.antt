@@ -1,0 +1,14 @@
+use Rattle.std.proofs.Common.{◌≡◌, ℕ, ◌-◌, ◌<◌, ◌≤◌, None}
+use Rattle.reference.specs.Run.{after}
+use Rattle.survey.specs.Surveys.{surveyed}
+use Rattle.survey_run.proofs.survey_run.Given as goal
+
+abbrev pub invariant-steps : goal.invariant-steps
+invariant-steps g l = record {
+  few : l.made ≤ l.limit;
+  machine : l.machine ≡ record l.fn.machine { state = after l.made l.fn.machine.state };
+  counted : l.survey ≡ surveyed l.made l.fn.machine.state l.fn.survey;
+}
+
+abbrev pub decreases-steps : goal.decreases-steps
+decreases-steps g l = l.limit - l.made

@@ -1,0 +1,5 @@
+mod consoles;
+mod counters;
+mod rows;
+mod timelines;
+mod words;

@@ -1,0 +1,106 @@
+//! The rows of settings and of refusals.
+
+use super::words::{moment, take_step};
+use reference::access::Kind;
+use reference::board::SMALL_BOARD;
+use std::alloc::Global;
+use std::test::*;
+use survey::{Moment, Survey};
+use test_tables::{Rows, check, long_at, number_at, part};
+
+/// A moment at which region 0 has this RBAR.
+fn region_at(base: u32) -> Moment {
+    let mut moment = moment('u', 0, 0x100);
+    moment.regions[0] = Some((base, 0x0300_0009));
+    moment
+}
+
+/// Surveys of steps whose settings differ, and of steps with the first setting after them.
+#[derive(Drop)]
+struct Settings {
+    alloc: Global,
+}
+
+impl Rows for Settings {
+    fn holds(&mut self, row: &str) -> Option<bool> {
+        let mut survey = Survey::new(self.alloc, &SMALL_BOARD).ok()?;
+        'settings: for setting in 0..number_at(part(row, 0), 0)? {
+            let moment = region_at(setting.wrapping_mul(32));
+            take_step(&mut survey, &moment, "L 20000000 4 u ok r0")?;
+        }
+        take_step(&mut survey, &region_at(0), part(row, 1))?;
+        let (mut first, rows) = (0, survey.settings.rows());
+        if let Some(setting) = rows.first() {
+            first = setting.number(false, Kind::Load, None);
+        }
+        let is_used = rows.len() as u64 == long_at(part(row, 2), 0)?;
+        let is_first = first == long_at(part(row, 3), 0)?;
+        Some(is_used && is_first && survey.settings.others() == long_at(part(row, 4), 0)?)
+    }
+}
+
+/// How many settings decide a load each; the events of a step with the first setting after that; how many rows there are;
+/// how many granted loads the first row has; how many accesses have no row; what the row is.
+const SETTINGS: &str = "\
+0 | | 0 | 0 | 0 | no region has decided
+1 | | 1 | 1 | 0 | one setting
+1 | L 20000000 4 u ok r0 | 1 | 2 | 0 | the same setting
+1 | L 20000000 4 u mpu r0 | 1 | 1 | 0 | a refused load is another way
+1 | L 20000000 4 u ok off | 1 | 1 | 0 | another rule
+1 | L 20000000 4 u ok r7 | 1 | 1 | 0 | a region that isn't there
+2 | L 20000000 4 u ok r0 | 2 | 2 | 0 | the setting before the last
+40 | | 40 | 1 | 0 | 64 settings
+41 | | 40 | 1 | 1 | the 65th setting has no row
+41 | L 20000000 4 u ok r0 | 40 | 2 | 1 | the first setting still has its row";
+
+#[test]
+fn settings_have_rows(rt: HostRuntime) -> Result<(), Fail> {
+    check(SETTINGS, &mut Settings { alloc: rt.alloc() })
+}
+
+/// Surveys of refusals at PCs that differ, and of one step at the first PC after them.
+#[derive(Drop)]
+struct Refusals {
+    alloc: Global,
+}
+
+impl Rows for Refusals {
+    fn holds(&mut self, row: &str) -> Option<bool> {
+        let mut survey = Survey::new(self.alloc, &SMALL_BOARD).ok()?;
+        'refusals: for step in 0..number_at(part(row, 0), 0)? {
+            take_step(
+                &mut survey,
+                &moment('u', 0, step),
+                "L 20000000 4 u mpu none, ! 4 82 0",
+            )?;
+        }
+        take_step(&mut survey, &moment('u', 0, 0), part(row, 1))?;
+        let (mut times, rows) = (0, survey.refusals.rows());
+        if let Some(refusal) = rows.last() {
+            times = refusal.times;
+        }
+        let is_used = rows.len() as u64 == long_at(part(row, 2), 0)?;
+        let is_last = times == long_at(part(row, 3), 0)?;
+        Some(is_used && is_last && survey.refusals.number() == long_at(part(row, 4), 0)?)
+    }
+}
+
+/// How many PCs have a refused load each; the events of a step at the first PC after that; how many rows there are; how
+/// often the last one came; how many accesses were refused; what the row is.
+const REFUSALS: &str = "\
+0 | L 20000000 4 u ok off | 0 | 0 | 0 | nothing is refused
+1 | | 1 | 1 | 1 | one refusal
+1 | L 20000000 4 u mpu none, ! 4 82 0 | 1 | 2 | 2 | the same refusal
+1 | L 20000000 4 u mpu none, ! 4 80 0 | 2 | 1 | 2 | another fault
+1 | L 20000000 4 u mpu none | 2 | 1 | 2 | no fault
+1 | L 20000004 4 u mpu none, ! 4 82 0 | 2 | 1 | 2 | another address
+1 | L 20000000 2 u mpu none, ! 4 82 0 | 2 | 1 | 2 | another size
+1 | S 20000000 4 u mpu none, ! 4 82 0 | 2 | 1 | 2 | another kind
+2 | L 20000000 4 u mpu none, ! 4 82 0 | 3 | 1 | 3 | it doesn't follow the same refusal
+40 | | 40 | 1 | 40 | 64 refusals
+41 | | 40 | 1 | 41 | the 65th has no row";
+
+#[test]
+fn refusals_have_rows(rt: HostRuntime) -> Result<(), Fail> {
+    check(REFUSALS, &mut Refusals { alloc: rt.alloc() })
+}
