@@ -64,7 +64,7 @@ fn write_setting<W: Write>(out: &mut W, place: usize, setting: &Setting) -> io::
         out,
         "<tr id='s{place}' data-region='{number}' data-rbar='{base:08X}' data-rasr='{attributes:08X}'>\
          <th scope='row'><code>r{number}</code> \
-         <small>RBAR {base:08X} RASR {attributes:08X}</small></th>"
+         <small>RBAR {base:08X}<br>RASR {attributes:08X}</small></th>"
     )?;
     write_words(out, RegionWords { base, attributes })?;
     write_ways(out, place, setting, false)?;

@@ -55,7 +55,7 @@ thead th.p{color:var(--p)}
 .numbers td span{display:block}
 tbody th small{display:block;font-weight:400}
 .zero{color:var(--soft)}
-td div{white-space:nowrap}
+td div{white-space:nowrap;display:flex;justify-content:space-between;gap:.7rem}
 td.n{white-space:nowrap}
 .off{color:var(--soft)}
 .lanes{display:block}
@@ -97,7 +97,7 @@ font-variant-numeric:tabular-nums}
 .legend ol{list-style:none;margin:0;padding:0;font-size:.82rem;min-width:0}
 .legend li{height:16px;line-height:16px;white-space:nowrap}
 .legend li:nth-child(4){margin-top:8px}
-.registers{display:grid;grid-template-columns:repeat(auto-fill,minmax(15rem,1fr));gap:2px 20px;margin:0}
+.registers{display:grid;grid-template-columns:repeat(auto-fill,minmax(17rem,1fr));gap:2px 20px;margin:0}
 .registers.wide{grid-template-columns:1fr}
 .registers div{display:flex;gap:10px;border-bottom:1px solid var(--line);padding:3px 0}
 .registers dt{flex:0 0 6.2rem;color:var(--soft)}

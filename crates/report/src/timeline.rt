@@ -168,7 +168,7 @@ fn write_lane<W: Write>(
         | Lane::Privileged
         | Lane::Handler(_)
         | Lane::OtherHandlers
-        | Lane::Sleep => write!(out, "<use href='#refused-lines'/>")?,
+        | Lane::Sleep => write_use(out, timeline)?,
         Lane::Refused => write_refused_lines(out, timeline)?,
         Lane::MpuWritten => {}
     }
@@ -204,6 +204,15 @@ fn write_run<W: Write>(out: &mut W, first: usize, end: usize) -> io::Result<()> 
             height: LANE_HEIGHT,
         },
     )
+}
+
+/// Writes the lines of refused accesses through a lane, if there are any.
+fn write_use<W: Write>(out: &mut W, timeline: &Timeline) -> io::Result<()> {
+    if columns_marked(timeline, Mark::Refused) > 0 {
+        write!(out, "<use href='#refused-lines'/>")
+    } else {
+        Ok(())
+    }
 }
 
 /// Writes the lines of refused accesses, which the other lanes use.
