@@ -119,6 +119,13 @@ struct Touched {
     refused: bool,
 }
 
+impl Touched {
+    /// Returns whether nothing touched the cell.
+    fn is_blank(&self) -> bool {
+        !self.read && !self.written && !self.executed && !self.refused
+    }
+}
+
 /// Returns how code of a privilege touched a cell.
 fn touched_by(cells: &Cells, privileged: bool, cell: usize) -> Touched {
     Touched {
@@ -130,13 +137,14 @@ fn touched_by(cells: &Cells, privileged: bool, cell: usize) -> Touched {
 }
 
 impl fmt::Display for Touched {
-    /// Writes a letter for each way: `r`, `w`, `x`, and `!` for a refused access.
+    /// Writes a letter for each way: `r`, `w`, `x`, and `!` for a refused access; `-` where there is none.
     fn fmt<W: fmt::Write>(&self, f: &mut fmt::Formatter<W>) -> fmt::Result {
         let read = if self.read { "r" } else { "" };
         let written = if self.written { "w" } else { "" };
         let executed = if self.executed { "x" } else { "" };
         let refused = if self.refused { "!" } else { "" };
-        write!(f, "{read}{written}{executed}{refused}")
+        let nothing = if self.is_blank() { "-" } else { "" };
+        write!(f, "{read}{written}{executed}{refused}{nothing}")
     }
 }
 
@@ -149,8 +157,9 @@ impl fmt::Display for TouchedWords {
         let read = if self.0.read { " read" } else { "" };
         let written = if self.0.written { " wrote" } else { "" };
         let executed = if self.0.executed { " executed" } else { "" };
-        let refused = if self.0.refused { " was refused" } else { "" };
-        write!(f, "{read}{written}{executed}{refused}")
+        let refused = if self.0.refused { " refused" } else { "" };
+        let nothing = if self.0.is_blank() { " nothing" } else { "" };
+        write!(f, "{read}{written}{executed}{refused}{nothing}")
     }
 }
 
@@ -201,18 +210,30 @@ pub fn state_of(cells: &Cells, machine: &Fast, cell: usize, address: u32) -> Cel
 }
 
 impl fmt::Display for CellState {
-    /// Writes the rest of the element of a cell: its attributes and its title.
+    /// Writes the rest of the attributes of a cell, and the end of its tag.
     fn fmt<W: fmt::Write>(&self, f: &mut fmt::Formatter<W>) -> fmt::Result {
         let unprivileged = self.unprivileged;
         let privileged = self.privileged;
         let granted = self.granted;
-        let unprivileged_words = TouchedWords(unprivileged);
-        let privileged_words = TouchedWords(privileged);
         write!(
             f,
-            " data-u='{unprivileged}' data-p='{privileged}' data-may='{granted}'><title>\
-             unprivileged:{unprivileged_words}; privileged:{privileged_words}; \
-             unprivileged may: {granted}</title>"
+            " data-u='{unprivileged}' data-p='{privileged}' data-may='{granted}'>"
+        )
+    }
+}
+
+/// The state of a cell in words.
+#[derive(Clone, Copy)]
+pub struct CellWords(pub CellState);
+
+impl fmt::Display for CellWords {
+    fn fmt<W: fmt::Write>(&self, f: &mut fmt::Formatter<W>) -> fmt::Result {
+        let unprivileged = TouchedWords(self.0.unprivileged);
+        let privileged = TouchedWords(self.0.privileged);
+        let granted = self.0.granted;
+        write!(
+            f,
+            "unprivileged{unprivileged}; privileged{privileged}; unprivileged may {granted}"
         )
     }
 }

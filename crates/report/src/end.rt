@@ -146,7 +146,7 @@ fn write_regions<W: Write>(out: &mut W, machine: &Fast) -> io::Result<()> {
     }
     writeln!(
         out,
-        "<table class='cards'><thead><tr><th scope='col'>region</th><th scope='col'>addresses</th>\
+        "<div class='scroll'><table class='cards'><thead><tr><th scope='col'>region</th><th scope='col'>addresses</th>\
          <th scope='col'>size</th><th class='u' scope='col'>unprivileged may</th>\
          <th class='p' scope='col'>privileged may</th><th scope='col'>fetches</th>\
          <th scope='col'>subregions off</th></tr></thead>\n<tbody>"
@@ -154,7 +154,7 @@ fn write_regions<W: Write>(out: &mut W, machine: &Fast) -> io::Result<()> {
     'regions: for number in 0..MOST_REGIONS {
         write_region(out, number, machine.region(number))?;
     }
-    write!(out, "</tbody></table>\n<p id='regions-off'>Off: ")?;
+    write!(out, "</tbody></table></div>\n<p id='regions-off'>Off: ")?;
     write_off(out, machine)?;
     writeln!(out, ".</p>")
 }

@@ -28,7 +28,7 @@ fn write_character<W: fmt::Write>(f: &mut fmt::Formatter<W>, character: char) ->
         '<' => write!(f, "&lt;"),
         '>' => write!(f, "&gt;"),
         '&' => write!(f, "&amp;"),
-        '"' => write!(f, "&quot;"),
+        '"' => write!(f, "&#34;"),
         '\'' => write!(f, "&#39;"),
         '\0'..='\u{1F}'
         | '\u{7F}'..='\u{9F}'

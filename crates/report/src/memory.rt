@@ -1,6 +1,6 @@
 //! Memory: which parts of flash and RAM were touched, by whom and how, and what the regions grant at the end.
 
-use crate::cells::{CELLS_OF_ROW, CellState, Strip, cells_in, is_refused, state_of};
+use crate::cells::{CELLS_OF_ROW, CellState, CellWords, Strip, cells_in, is_refused, state_of};
 use crate::grid::{Area, write_area};
 use crate::numbers::ByteCount;
 use crate::page::{Report, write_part};
@@ -246,9 +246,10 @@ fn write_state<W: Write>(
     let left = begin % CELLS_OF_ROW;
     let top = (begin / CELLS_OF_ROW).saturating_mul(ROW_HEIGHT);
     let width = end - begin;
+    let words = CellWords(state);
     writeln!(
         out,
-        "<rect x='{left}' y='{top}' width='{width}' height='{STRIPS_HEIGHT}' data-first='{first:08X}' \
-         data-last='{last:08X}'{state}</rect>"
+        "<rect x='{left}' y='{top}' width='{width}' height='{STRIPS_HEIGHT}' data-first='{first:08X}'\
+         {state}<title>{first:08X} to {last:08X}: {words}</title></rect>"
     )
 }

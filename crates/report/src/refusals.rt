@@ -31,16 +31,18 @@ pub fn write_refusals<W: Write>(out: &mut W, report: &Report<'_>) -> io::Result<
     }
     writeln!(
         out,
-        "<table class='cards'><thead><tr><th class='n' scope='col'>tick</th><th scope='col'>access</th>\
-         <th scope='col'>instruction</th><th scope='col'>refused by</th><th scope='col'>fault</th>\
-         <th scope='col'>taken as</th><th class='n' scope='col'>times</th></tr></thead>\n<tbody>"
+        "<div class='scroll'><table class='cards'><thead><tr>\
+         <th class='n' scope='col'>tick</th>\
+         <th scope='col'>access</th><th scope='col'>instruction</th><th scope='col'>refused by</th>\
+         <th scope='col'>fault</th><th scope='col'>taken as</th>\
+         <th class='n' scope='col'>times</th></tr></thead>\n<tbody>"
     )?;
     let mut shown = 0u64;
     'rows: for (place, refusal) in refusals.rows().iter().enumerate() {
         write_row(out, place, refusal, report.symbols)?;
         shown = shown.saturating_add(refusal.times);
     }
-    writeln!(out, "</tbody></table>")?;
+    writeln!(out, "</tbody></table></div>")?;
     write_number(out, number, number.saturating_sub(shown))?;
     writeln!(out, "</section>")
 }

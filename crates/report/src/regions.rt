@@ -32,7 +32,7 @@ pub fn write_regions<W: Write>(out: &mut W, report: &Report<'_>) -> io::Result<(
 fn write_table<W: Write>(out: &mut W, settings: &Settings) -> io::Result<()> {
     writeln!(
         out,
-        "<table class='cards'><thead><tr><th scope='col'>region</th><th scope='col'>addresses</th>\
+        "<div class='scroll'><table class='cards'><thead><tr><th scope='col'>region</th><th scope='col'>addresses</th>\
          <th scope='col'>size</th><th class='u' scope='col'>unprivileged may</th>\
          <th class='p' scope='col'>privileged may</th><th scope='col'>fetches</th>\
          <th scope='col'>subregions off</th>\
@@ -42,7 +42,7 @@ fn write_table<W: Write>(out: &mut W, settings: &Settings) -> io::Result<()> {
     'settings: for (place, setting) in settings.rows().iter().enumerate() {
         write_setting(out, place, setting)?;
     }
-    writeln!(out, "</tbody></table>")?;
+    writeln!(out, "</tbody></table></div>")?;
     let others = settings.others();
     if others > 0 {
         let shown = Thousands(others);
@@ -62,9 +62,9 @@ fn write_setting<W: Write>(out: &mut W, place: usize, setting: &Setting) -> io::
     let attributes = setting.region.attributes;
     write!(
         out,
-        "<tr id='setting-{place}' data-region='{number}' data-rbar='{base:08X}' data-rasr='{attributes:08X}'>\
+        "<tr id='s{place}' data-region='{number}' data-rbar='{base:08X}' data-rasr='{attributes:08X}'>\
          <th scope='row'><code>r{number}</code> \
-         <small>RBAR {base:08X} RASR {attributes:08X}</small></th>"
+         <small>RBAR {base:08X}<br>RASR {attributes:08X}</small></th>"
     )?;
     write_words(out, RegionWords { base, attributes })?;
     write_ways(out, place, setting, false)?;
@@ -130,12 +130,9 @@ fn write_way<W: Write>(
     'outcomes: for refused in [None, Some(Cause::Mpu), Some(Cause::Bus)] {
         let number = setting.number(privileged, kind, refused);
         if number > 0 {
-            write!(
-                out,
-                "<span class='way'>{word} <span id='setting-{place}-{letter}-{word}-"
-            )?;
+            write!(out, "<div>{word} <span id='s{place}-{letter}-{word}-")?;
             write_outcome(out, refused, number)?;
-            write!(out, "</span> ")?;
+            write!(out, "</div>")?;
         }
     }
     Ok(())

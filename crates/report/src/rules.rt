@@ -81,7 +81,7 @@ fn of_rule(counts: &Counts, rule: Rule) -> u64 {
 pub fn write_rules<W: Write>(out: &mut W, report: &Report<'_>) -> io::Result<()> {
     let counts = &report.survey.counts;
     write_part(out, "rules", "Who touched what", CAPTION)?;
-    writeln!(out, "<table class='cards numbers'>")?;
+    writeln!(out, "<div class='scroll'><table class='cards numbers'>")?;
     write_heading(out, counts)?;
     writeln!(out, "<tbody>")?;
     'regions: for number in 0..MOST_REGIONS {
@@ -90,7 +90,7 @@ pub fn write_rules<W: Write>(out: &mut W, report: &Report<'_>) -> io::Result<()>
     'rules: for rule in RULES {
         write_row(out, counts, rule)?;
     }
-    writeln!(out, "</tbody>\n</table>\n</section>")
+    writeln!(out, "</tbody>\n</table></div>\n</section>")
 }
 
 /// Writes the two rows of the heading.

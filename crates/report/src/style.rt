@@ -14,15 +14,15 @@ pub const STYLE: &str = "\
 --pt:#fbf1e2;--refused:#c01622;--bus:#8226a8;--mpu:#0b7a5b;--sleep:#8b949e}}
 *{box-sizing:border-box}
 html{-webkit-text-size-adjust:100%}
-body{margin:0;background:var(--ground);color:var(--text);font:15px/1.45 system-ui,sans-serif;
+body{margin:0;background:var(--ground);color:var(--text);font:.94rem/1.45 system-ui,sans-serif;
 -webkit-print-color-adjust:exact;print-color-adjust:exact}
-main{max-width:1180px;margin:0 auto;padding:20px 24px 48px}
+main{max-width:1340px;margin:0 auto;padding:20px 24px 48px}
 h1{font-size:1.6rem;margin:0 0 .3rem;overflow-wrap:anywhere;line-height:1.25}
 h2{font-size:1.2rem;margin:0 0 .2rem}
 h3{font-size:.95rem;margin:1.2rem 0 .4rem}
 section{margin-top:2.2rem;border-top:1px solid var(--line);padding-top:1.2rem}
 code,pre{font-family:ui-monospace,'DejaVu Sans Mono',Menlo,Consolas,monospace;font-size:.9em}
-small,.caption,.scale{color:var(--soft);font-size:.86rem}
+small,.caption,.scale{color:var(--soft);font-size:.86em}
 .caption{margin:0 0 .8rem;max-width:62rem}
 .ending{margin:.2rem 0 .8rem}
 .stopped{color:var(--refused)}
@@ -40,8 +40,9 @@ nav a{color:var(--u)}
 .mpu{color:var(--mpu)}
 span.u,li.u{color:var(--u)}
 span.p,li.p{color:var(--p)}
+.scroll{overflow-x:auto}
 table{border-collapse:collapse;font-variant-numeric:tabular-nums}
-th,td{padding:4px 9px;text-align:left;vertical-align:top;border-bottom:1px solid var(--line)}
+th,td{padding:4px 7px;text-align:left;vertical-align:top;border-bottom:1px solid var(--line)}
 th{font-weight:600}
 thead th{color:var(--soft);font-size:.86rem;vertical-align:bottom}
 thead th.u{color:var(--u)}
@@ -54,7 +55,7 @@ thead th.p{color:var(--p)}
 .numbers td span{display:block}
 tbody th small{display:block;font-weight:400}
 .zero{color:var(--soft)}
-.way{display:block;white-space:nowrap}
+td div{white-space:nowrap;display:flex;justify-content:space-between;gap:.7rem}
 td.n{white-space:nowrap}
 .off{color:var(--soft)}
 .lanes{display:block}
@@ -67,7 +68,7 @@ td.n{white-space:nowrap}
 .lane svg.sleep{color:var(--sleep)}
 .lane svg.refused{color:var(--refused)}
 .lane svg.mpu{color:var(--mpu)}
-.lane path.through{fill:none;stroke:var(--refused);stroke-width:1.5px}
+.through{fill:none;stroke:var(--refused);stroke-width:1.5px;vector-effect:non-scaling-stroke}
 .axis{flex:1 1 0;min-width:0;height:1.2rem;position:relative;font-size:.8rem;color:var(--soft);
 font-variant-numeric:tabular-nums}
 .axis span{position:absolute;transform:translateX(-50%)}
@@ -96,7 +97,7 @@ font-variant-numeric:tabular-nums}
 .legend ol{list-style:none;margin:0;padding:0;font-size:.82rem;min-width:0}
 .legend li{height:16px;line-height:16px;white-space:nowrap}
 .legend li:nth-child(4){margin-top:8px}
-.registers{display:grid;grid-template-columns:repeat(auto-fill,minmax(15rem,1fr));gap:2px 20px;margin:0}
+.registers{display:grid;grid-template-columns:repeat(auto-fill,minmax(17rem,1fr));gap:2px 20px;margin:0}
 .registers.wide{grid-template-columns:1fr}
 .registers div{display:flex;gap:10px;border-bottom:1px solid var(--line);padding:3px 0}
 .registers dt{flex:0 0 6.2rem;color:var(--soft)}
@@ -111,7 +112,7 @@ main{padding:14px 12px 32px}
 .cards th,.cards td{display:block;border:0;padding:2px 0;text-align:left;white-space:normal}
 .cards td{text-align:right;overflow:hidden}
 .cards td::before{content:attr(data-label);color:var(--soft);float:left;margin-right:1rem}
-.numbers td span,.way{display:inline;margin-left:.8rem}
+.numbers td span,.cards td div{display:inline;margin-left:.8rem}
 h1{font-size:1.25rem}
 .cards td.zero{display:none}
 .cards td.u,.cards td.p,.cards th.u{background:none}
@@ -121,6 +122,6 @@ h1{font-size:1.25rem}
 .axis span:nth-child(even){display:none}
 .addresses code{font-size:.7rem}
 }
-@media print{main{max-width:none;padding:0}nav{display:none}tr,.lane,.figures,.cells{break-inside:avoid}
-body{font-size:11px}h2,h3,.caption{break-after:avoid}}
+@media print{main{max-width:none;padding:0}nav{display:none}.scroll{overflow:visible}th,td{padding:2px 4px}
+tr,.lane,.figures,.cells{break-inside:avoid}html{font-size:11px}h2,h3,.caption{break-after:avoid}}
 ";

@@ -168,8 +168,9 @@ fn write_lane<W: Write>(
         | Lane::Privileged
         | Lane::Handler(_)
         | Lane::OtherHandlers
-        | Lane::Sleep => write_refused_lines(out, timeline)?,
-        Lane::Refused | Lane::MpuWritten => {}
+        | Lane::Sleep => write_use(out, timeline)?,
+        Lane::Refused => write_refused_lines(out, timeline)?,
+        Lane::MpuWritten => {}
     }
     writeln!(out, "</svg></div>")
 }
@@ -205,15 +206,24 @@ fn write_run<W: Write>(out: &mut W, first: usize, end: usize) -> io::Result<()> 
     )
 }
 
-/// Writes the lines of refused accesses through a lane.
+/// Writes the lines of refused accesses through a lane, if there are any.
+fn write_use<W: Write>(out: &mut W, timeline: &Timeline) -> io::Result<()> {
+    if columns_marked(timeline, Mark::Refused) > 0 {
+        write!(out, "<use href='#refused-lines'/>")
+    } else {
+        Ok(())
+    }
+}
+
+/// Writes the lines of refused accesses, which the other lanes use.
 fn write_refused_lines<W: Write>(out: &mut W, timeline: &Timeline) -> io::Result<()> {
-    write!(out, "<path class='through' d='")?;
+    write!(out, "<defs><path id='refused-lines' class='through' d='")?;
     'columns: for column in 0..timeline.used() {
         if timeline.is_marked(column, Mark::Refused) {
             write!(out, "M{column}.5 0v{LANE_HEIGHT}")?;
         }
     }
-    write!(out, "'/>")
+    write!(out, "'/></defs>")
 }
 
 /// Writes the ticks below the lanes.

@@ -131,21 +131,37 @@ pub struct RefusedBy<'a>(pub &'a DecidedAccess);
 
 impl fmt::Display for RefusedBy<'_> {
     fn fmt<W: fmt::Write>(&self, f: &mut fmt::Formatter<W>) -> fmt::Result {
-        let rule = RuleMeaning(self.0.rule);
         match self.0.refused {
-            None => write!(f, "{rule}"),
-            Some(Cause::Mpu) => match self.0.rule {
-                Rule::NoRegion => write!(f, "no region matches"),
-                Rule::NeverExecute
-                | Rule::VectorRead
-                | Rule::PrivatePeripheralBus
-                | Rule::MpuOff
-                | Rule::NegativePriority
-                | Rule::Region(_)
-                | Rule::Background => write!(f, "{rule}"),
-            },
-            Some(Cause::Bus) => write!(f, "granted by {rule}"),
+            None => write!(f, "not refused"),
+            Some(Cause::Mpu) => write_refusing(f, self.0.rule),
+            Some(Cause::Bus) => write_granting(f, self.0.rule),
         }
+    }
+}
+
+/// Writes why a rule refused an access.
+fn write_refusing<W: fmt::Write>(f: &mut fmt::Formatter<W>, rule: Rule) -> fmt::Result {
+    match rule {
+        Rule::NeverExecute => write!(f, "never executed from here"),
+        Rule::VectorRead => write!(f, "vector read"),
+        Rule::PrivatePeripheralBus => write!(f, "Private Peripheral Bus"),
+        Rule::MpuOff | Rule::NegativePriority | Rule::Background => {
+            write!(f, "the default map doesn't grant it")
+        }
+        Rule::Region(number) => write!(f, "region {number} doesn't grant it"),
+        Rule::NoRegion => write!(f, "no region matches"),
+    }
+}
+
+/// Writes which rule granted an access that the bus refused.
+fn write_granting<W: fmt::Write>(f: &mut fmt::Formatter<W>, rule: Rule) -> fmt::Result {
+    match rule {
+        Rule::VectorRead | Rule::PrivatePeripheralBus => write!(f, "no rule of the MPU refused it"),
+        Rule::MpuOff | Rule::NegativePriority | Rule::Background => {
+            write!(f, "the default map had granted it")
+        }
+        Rule::Region(number) => write!(f, "region {number} had granted it"),
+        Rule::NeverExecute | Rule::NoRegion => write!(f, "refused by the rule too"),
     }
 }
 

@@ -7,7 +7,7 @@ use std::io::Write;
 use std::test::*;
 use std::{io, str};
 use survey::{Moment, Survey};
-use symbols::Symbols;
+use symbols::{Symbol, Symbols};
 
 /// MOV R0, #5 and BKPT 0 at address 8: `examples/first.elf`.
 const IMAGE: [u8; 96] = [
@@ -56,7 +56,7 @@ fn survey_step(machine: &mut Fast, survey: &mut Survey) -> Option<Stop> {
 }
 
 /// Writes the page of two steps of the image into a writer. Returns whether all of it was written.
-fn write_to(rt: &HostRuntime, room: &mut Room) -> Result<bool, Fail> {
+fn write_to(rt: &HostRuntime, room: &mut Room, symbols: &Symbols<'_>) -> Result<bool, Fail> {
     let alloc = rt.alloc();
     let board = Board {
         layout: SMALL_BOARD,
@@ -65,7 +65,6 @@ fn write_to(rt: &HostRuntime, room: &mut Room) -> Result<bool, Fail> {
     let image = load(&IMAGE)?;
     let mut machine = Fast::new(alloc, &image, &board)?;
     let mut survey = Survey::new(alloc, &SMALL_BOARD)?;
-    let symbols = Symbols::read(alloc, &IMAGE)?;
     let _ = survey_step(&mut machine, &mut survey);
     let stop = survey_step(&mut machine, &mut survey);
     let report = Report {
@@ -75,13 +74,37 @@ fn write_to(rt: &HostRuntime, room: &mut Room) -> Result<bool, Fail> {
         stop: stop.unwrap_or(Stop::StepLimit),
         survey: &survey,
         machine: &machine,
-        symbols: &symbols,
+        symbols,
     };
     Ok(write_page(room, &report).is_ok())
 }
 
-/// Texts that the page of the run has: its names, its end, and its numbers.
-const PARTS: [&str; 8] = [
+/// Returns a writer with room for a number of bytes.
+fn room_for(rt: &HostRuntime, left: usize) -> Room {
+    Room {
+        bytes: Vec::new(rt.alloc()),
+        left,
+    }
+}
+
+/// Returns the symbols of a table in which `start` is at 8, of 4 bytes.
+fn start_symbol(rt: &HostRuntime) -> Result<Symbols<'static>, Fail> {
+    let mut list = Vec::new(rt.alloc());
+    list.push(Symbol {
+        address: 8,
+        size: 4,
+        name: 1,
+    })?;
+    Ok(Symbols {
+        strings: b"\0start\0",
+        list,
+        damaged: false,
+    })
+}
+
+/// Texts that the page of the run has: its names, its end, and its numbers. A breakpoint leaves the PC at its
+/// own address.
+const PARTS: [&str; 9] = [
     "<title>&lt;first&gt;.elf on small.toml</title>",
     "<strong id='stop' class='ended'>stop breakpoint 0</strong>",
     "<dd id='steps' data-number='2'>2</dd>",
@@ -89,19 +112,19 @@ const PARTS: [&str; 8] = [
     "<dd id='refused' data-number='0'>0</dd>",
     "<span id='off-p-fetch-granted' data-number='2'>2</span>",
     "<dd id='R0'><code>00000005</code></dd>",
-    "data-first='00000000' data-last='0000001F' data-u='' data-p='x' data-may='rwx'>",
+    "<dd id='PC'><code>0000000A</code> <span class='name'>start + 2</span></dd>",
+    "data-first='00000000' data-u='-' data-p='x' data-may='rwx'>",
 ];
 
 #[test]
 fn a_run_has_a_page(rt: HostRuntime) -> Result<(), Fail> {
-    let mut room = Room {
-        bytes: Vec::new(rt.alloc()),
-        left: 0x20_0000,
-    };
-    assert!(rt; write_to(&rt, &mut room)?);
+    let mut room = room_for(&rt, 0x20_0000);
+    let symbols = start_symbol(&rt)?;
+    assert!(rt; write_to(&rt, &mut room, &symbols)?);
     let text = str::from_utf8(room.bytes.as_slice())?;
     assert!(rt; text.starts_with("<!DOCTYPE html>\n"));
     assert!(rt; text.ends_with("</html>\n"));
+    assert!(rt; !text.contains("id='damaged'"));
     'parts: for part in &PARTS {
         assert!(rt; text.contains(part), "{part}");
     }
@@ -109,13 +132,22 @@ fn a_run_has_a_page(rt: HostRuntime) -> Result<(), Fail> {
 }
 
 #[test]
+fn a_damaged_symbol_table_has_a_line(rt: HostRuntime) -> Result<(), Fail> {
+    let mut room = room_for(&rt, 0x20_0000);
+    let symbols = Symbols::read(rt.alloc(), b"no ELF file")?;
+    assert!(rt; write_to(&rt, &mut room, &symbols)?);
+    let text = str::from_utf8(room.bytes.as_slice())?;
+    assert!(rt; text.contains("<p id='damaged'>The symbol table of the image is damaged"));
+    assert!(rt; text.contains("<dd id='PC'><code>0000000A</code></dd>"));
+    Ok(())
+}
+
+#[test]
 fn a_writer_that_fails_is_an_error(rt: HostRuntime) -> Result<(), Fail> {
+    let symbols = start_symbol(&rt)?;
     'rooms: for left in [0usize, 1, 100, 5000, 10_000, 15_000] {
-        let mut room = Room {
-            bytes: Vec::new(rt.alloc()),
-            left,
-        };
-        assert!(rt; !write_to(&rt, &mut room)?, "{left} bytes");
+        let mut room = room_for(&rt, left);
+        assert!(rt; !write_to(&rt, &mut room, &symbols)?, "{left} bytes");
         assert!(rt; room.bytes.len() <= left);
     }
     Ok(())

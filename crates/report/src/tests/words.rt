@@ -53,7 +53,7 @@ const TEXTS: [(&str, &str, &str); 9] = [
     ("a path", "a/b c.elf", "a/b c.elf"),
     ("an element", "<b>", "&lt;b&gt;"),
     ("a reference", "a&amp;b", "a&amp;amp;b"),
-    ("quotes", "\"'", "&quot;&#39;"),
+    ("quotes", "\"'", "&#34;&#39;"),
     ("a line feed", "a\nb", "a\\u{A}b"),
     ("delete", "\u{7F}", "\\u{7F}"),
     ("an override of direction", "\u{202E}", "\\u{202E}"),
