@@ -1,6 +1,7 @@
 #!/usr/bin/env bash
 # Runs the program itself at least once for each exit status, and compares the status and the first line that it
-# writes: of standard output for 0 and 4, and of standard error for 2, 3 and 5.
+# writes: of standard output for 0 and 4, and of standard error for 2, 3 and 5. Compares lines of the file of --state
+# too.
 set -euo pipefail
 top=$(cd "$(dirname "${BASH_SOURCE[0]}")/.." && pwd)
 marm=$("$top/marm" --proved)
@@ -48,5 +49,11 @@ has "a list of at most 65536 tables, each written as [[event]]"
 expect 3 "marm: start 10 SegmentOutsideMemory" run --board "${board%small.toml}large.toml" --steps 10 "$top/examples/first.elf"
 expect 4 "1 F FFFFFFFE 2 p mpu xn" run --board "$board" --steps 10 "$work/empty.elf"
 expect 5 "marm: io" run --board "$board" --steps 10 "$work/missing.elf"
+expect 0 "1 F 00000008 2 p ok off" run --board "$board" --steps 10 --state "$work/state" "$top/examples/first.elf"
+for line in "R0 00000005" "PC 0000000A" "CLOCK 2"; do
+    grep -qx -- "$line" "$work/state" || { echo "the state has no line '$line'"; failed=1; }
+done
+expect 5 "1 F 00000008 2 p ok off" run --board "$board" --steps 10 --state "$work/no/state" "$top/examples/first.elf"
+has "$work/no/state: No such file or directory"
 [ "$failed" = 0 ] && echo "each status is as it is to be"
 exit "$failed"

@@ -43,8 +43,8 @@ const HIDDEN: [(&str, u8, &str, &[&str]); 5] = [
     (
         "a command with a line feed and an override of direction",
         2,
-        "marm: usage\nerror: unrecognized subcommand 'run\\u000Amarm: size\\u202E'\n\nUsage: marm <COMMAND>\n\nFor more information, try '--help'.\nThe commands are run, debug and help.\n",
-        &["run\nmarm: size\u{202E}"],
+        "marm: usage\nerror: unrecognized subcommand 'frob\\u000Amarm: size\\u202E'\n\nUsage: marm <COMMAND>\n\nFor more information, try '--help'.\nThe commands are run, debug and help.\n",
+        &["frob\nmarm: size\u{202E}"],
     ),
     (
         "a number with a line feed",
@@ -86,16 +86,21 @@ fn what_a_display_hides_is_escaped(rt: HostRuntime) -> Result<(), Fail> {
     Ok(())
 }
 
-/// How many bytes a long word has: 16 MiB.
-const LONG: usize = 0x100_0000;
+/// How many bytes the longest word has: 16 MiB.
+const LONGEST: usize = 0x100_0000;
+
+/// How many bytes of a word Linux passes at most: 128 KiB.
+const LONG: usize = 0x2_0000;
 
 /// How many bytes of a string from outside a message has at most, and what it has after them.
 const SHOWN: usize = 198;
 
-/// A name, the status, the words before the long one, and what standard error has before it and after it.
-const CUT: [(&str, u8, &[&str], &str, &str); 3] = [
+/// A name, how many bytes the long word has, the status, the words before it, and what standard error has before it and
+/// after it.
+const CUT: [(&str, usize, u8, &[&str], &str, &str); 3] = [
     (
         "a command",
+        LONGEST,
         2,
         &[],
         "marm: usage\nerror: unrecognized subcommand '",
@@ -103,6 +108,7 @@ const CUT: [(&str, u8, &[&str], &str, &str); 3] = [
     ),
     (
         "a path",
+        LONG,
         5,
         &["debug", "--board", "board.toml"],
         "marm: io\n  ",
@@ -110,6 +116,7 @@ const CUT: [(&str, u8, &[&str], &str, &str); 3] = [
     ),
     (
         "a second image",
+        LONG,
         2,
         &["debug", "--board", "board.toml", "image.elf"],
         "marm: usage\nerror: unexpected argument '",
@@ -118,10 +125,10 @@ const CUT: [(&str, u8, &[&str], &str, &str); 3] = [
 ];
 
 #[test]
-fn a_word_of_16_mebibytes_is_cut(rt: HostRuntime) -> Result<(), Fail> {
-    let word = "a".repeat(rt.alloc(), LONG)?;
+fn a_long_word_is_cut(rt: HostRuntime) -> Result<(), Fail> {
     let shown = "a".repeat(rt.alloc(), SHOWN)?;
-    'rows: for (name, status, before, front, end) in CUT.iter() {
+    'rows: for (name, length, status, before, front, end) in CUT.iter() {
+        let word = "a".repeat(rt.alloc(), *length)?;
         let mut words = Vec::new(rt.alloc());
         words.extend_from_slice(before)?;
         words.push(word.as_str())?;
