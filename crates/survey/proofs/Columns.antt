@@ -1,6 +1,7 @@
 -- The columns of a timeline, tick by tick: a bit of a column is what some tick made that the column stands for.
 use Rattle.std.proofs.Common.{◌≡◌, inl, inr, ℕ, zero, suc, ◌+◌, ◌-◌, ◌*◌, ◌^◌, ◌<◌, ◌≤◌, min, max, Bool, true, false}
-use Rattle.std.proofs.Common.{cond, ◌||◌, ◌==◌, nat_lt, List, length, bit_or, refl, sym, ap, ◌∙◌, arith, get_or, set, add-zero, add-one}
+use Rattle.std.proofs.Common.{cond, ◌||◌, ◌==◌, nat_lt, List, length, bit_or, refl, sym, ap, ◌∙◌, arith, get_or}
+use Rattle.std.proofs.Common.{set, add-zero, add-one}
 use Rattle.std.proofs.lemmas.Bool.{cases_eq, eq-eqb, ne_eqb, eqb-true, eqb-false, ltb-true, ltb-false}
 use Rattle.std.proofs.lemmas.Grind.{common_steps}
 use Rattle.std.proofs.lemmas.List.{length-set}
@@ -10,7 +11,8 @@ use Rattle.std.proofs.Math.Nat.{add-suc}
 use Rattle.reference.specs.Words.{bit_at, is_bit}
 use Rattle.survey.specs.declared.mark.Mark.{Mark}
 use Rattle.survey.specs.TimeLaw.{some_makes}
-use Rattle.survey.specs.Timeline.{Timeline, appended, begun, join_at, joined, joined_to, mark_number, marked, with_column}
+use Rattle.survey.specs.Timeline.{Timeline, appended, begun, join_at, joined, joined_to, with_bit, mark_number, marked}
+use Rattle.survey.specs.Timeline.{with_column}
 
 -- Bits
 
@@ -77,7 +79,11 @@ join_once n xs ys zs room before is =
 
 all_joined : (n : ℕ) (xs : List ℕ) → 2 * n ≤ length xs → Joined n xs (joined_to n xs)
 unfolding joined_to
-all_joined zero xs room = record { long = refl; done = λ k below. absurd (omega (arith, below)); left = λ k above. refl }
+all_joined zero xs room = record {
+  long = refl;
+  done = λ k below. absurd (omega (arith, below));
+  left = λ k above. refl;
+}
 all_joined (suc n) xs room =
     let before = all_joined n xs (omega (arith, room)) in
     rw (← add-one) (join_once n xs (joined_to n xs) _ (omega (arith, room)) before refl)
@@ -100,7 +106,8 @@ some-append f first m zero = rw add-zero (sym (or-false (some_makes f first m)))
 some-append f first m (suc n) =
     let e : m + suc n ≡ suc (m + n) = add-suc m n in
     let at : first + (m + n) ≡ first + m + n = omega arith in
-    rw (e, at, some-append f first m n) (or_assoc (some_makes f first m) (some_makes f (first + m) n) (f (first + m + n)))
+    rw (e, at, some-append f first m n)
+    (or_assoc (some_makes f first m) (some_makes f (first + m) n) (f (first + m + n)))
 
 -- The columns of a timeline stand for n ticks. A bit k of them is what some tick made, by f. The last column stands for
 -- `last` of these, and has `more` besides.
@@ -174,7 +181,8 @@ halves f k c ticks x y one other =
     let both : ticks * 2 ≡ ticks + ticks = omega arith in
     let all = some-append f (c * (ticks * 2)) ticks ticks in
     let one' : is_bit x k ≡ some_makes f (c * (ticks * 2)) ticks = one ∙ ap (λ i. some_makes f i ticks) first in
-    let other' : is_bit y k ≡ some_makes f (c * (ticks * 2) + ticks) ticks = other ∙ ap (λ i. some_makes f i ticks) second in
+    let other' : is_bit y k ≡ some_makes f (c * (ticks * 2) + ticks) ticks =
+    other ∙ ap (λ i. some_makes f i ticks) second in
     or_bit x y k ∙ ap (λ b. b || is_bit y k) one' ∙ ap (λ b. some_makes f (c * (ticks * 2)) ticks || b) other'
     ∙ sym all ∙ ap (λ i. some_makes f (c * (ticks * 2)) i) (sym both)
 
@@ -193,7 +201,8 @@ joined_full f k n t long some total small whole =
       whole = λ c below.
           let less : c < 512 = below in
           rw (ticks, pairs.done c less) (halves f k c t.column_ticks (get_or t.columns (2 * c) 0)
-          (get_or t.columns (2 * c + 1) 0) (whole (2 * c) (omega (arith, less))) (whole (2 * c + 1) (omega (arith, less))));
+          (get_or t.columns (2 * c + 1) 0) (whole (2 * c) (omega (arith, less)))
+          (whole (2 * c + 1) (omega (arith, less))));
     }
 
 -- where the last column has all its ticks, all have
@@ -260,7 +269,7 @@ begun_fits f k n t stands small = tick_begun f k n t (nat_lt t.filled t.column_t
 marked_at : (f : ℕ → Bool) (k n last : ℕ) (more : Bool) (t : Timeline) (mark : Mark) (is : Bool)
     → nat_lt 0 t.used ≡ is → 0 < t.used → Fits f k n last more t
     → Fits f k n last (more || (mark_number mark == k))
-    (cond is (record t { columns = set t.columns (t.used - 1) (bit_or (get_or t.columns (t.used - 1) 0) (2 ^ mark_number mark)) }) t)
+    (cond is (record t { columns = with_bit t.columns (t.used - 1) (mark_number mark) }) t)
 marked_at f k n last more t mark false is any fits = absurd (let h = ltb-false 0 t.used is in omega (arith, h, any))
 marked_at f k n last more t mark true is any fits = record {
   long = length-set t.columns (t.used - 1) _ ∙ fits.long;
@@ -274,7 +283,8 @@ marked_at f k n last more t mark true is any fits = record {
   final = λ c is.
       let same : t.used - 1 ≡ c = omega (arith, is) in
       let here : c < length t.columns = omega (arith, is, fits.long, fits.few) in
-      rw same (ap (λ x. is_bit x k) (set_same t.columns c _ here) ∙ marked_bit (get_or t.columns c 0) (mark_number mark) k
+      rw same (ap (λ x. is_bit x k) (set_same t.columns c _ here)
+      ∙ marked_bit (get_or t.columns c 0) (mark_number mark) k
       ∙ ap (λ b. b || (mark_number mark == k)) (fits.final c is)
       ∙ or_assoc (some_makes f (c * t.column_ticks) last) more (mark_number mark == k));
 }

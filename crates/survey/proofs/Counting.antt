@@ -1,5 +1,6 @@
 -- The counters have counted the events of the steps.
-use Rattle.std.proofs.Common.{◌≡◌, ℕ, zero, suc, ◌+◌, ◌-◌, ◌^◌, ◌<◌, ◌≤◌, min, Bool, true, false, cond, ◌==◌, List, [], ◌∷◌}
+use Rattle.std.proofs.Common.{◌≡◌, ℕ, zero, suc, ◌+◌, ◌-◌, ◌^◌, ◌<◌, ◌≤◌, min, Bool, true, false, cond, ◌==◌, List}
+use Rattle.std.proofs.Common.{[], ◌∷◌}
 use Rattle.std.proofs.Common.{◌++◌, length, Option, Some, None, refl, ap, ◌∙◌, arith, get_or}
 use Rattle.std.proofs.lemmas.Bool.Decides.{nat_tests}
 use Rattle.std.proofs.lemmas.Grind.{common_steps}
@@ -19,7 +20,8 @@ use Rattle.survey.specs.declared.moment.Moment.{Moment}
 use Rattle.survey.specs.declared.whole.Survey.{Survey}
 use Rattle.survey.specs.Counts.{counted_at, one_more, place_of, place_of_access}
 use Rattle.survey.specs.CountLaw.{CountsEvents, is_counted_at, events_at}
-use Rattle.survey.specs.Surveys.{moment_of, surveyed, unless_stopped, with_event, with_events, with_step, with_step_begun}
+use Rattle.survey.specs.Surveys.{moment_of, surveyed, unless_stopped, with_event, with_events, with_step}
+use Rattle.survey.specs.Surveys.{with_step_begun}
 
 -- the highest value of a counter
 abbrev pub cap : ℕ

@@ -1,6 +1,6 @@
--- The counters: which events they have counted, and that no two accesses that differ have one counter.
-use Rattle.std.proofs.Common.{◌≡◌, ℕ, ◌+◌, ◌*◌, ◌<◌, Bool, true, false}
-use Rattle.std.proofs.Common.{Option, Some, None, refl, ap, arith}
+-- No two accesses that differ in rule, privilege, kind or outcome have one counter.
+use Rattle.std.proofs.Common.{◌≡◌, ℕ, zero, suc, ◌+◌, ◌*◌, ◌<◌, Bool, true, false}
+use Rattle.std.proofs.Common.{Option, Some, None, refl, sym, ap, ◌∙◌, arith}
 use Rattle.reference.specs.declared.access.Cause.{Cause}
 use Rattle.reference.specs.declared.access.Cause.TheVariants.{Mpu, Bus}
 use Rattle.reference.specs.declared.access.Kind.{Kind}
@@ -36,140 +36,69 @@ radix : (r p k o r' p' k' o' : ℕ) → p < 2 → k < 7 → o < 3 → p' < 2 →
     → (r ≡ r') × (p ≡ p') × (k ≡ k') × (o ≡ o')
 radix r p k o r' p' k' o' bp bk bo bp' bk' bo' e = (omega arith, omega arith, omega arith, omega arith)
 
--- a number is that of one privilege, kind, outcome and rule
-privilege_of : (a b : Bool) → privilege_number a ≡ privilege_number b → a ≡ b
-privilege_of false false e = refl
-privilege_of false true e = absurd (omega arith)
-privilege_of true false e = absurd (omega arith)
-privilege_of true true e = refl
+-- a number is that of one privilege, kind, outcome and rule, which it gives back
 
-outcome_of : (a b : Option Cause) → outcome_number a ≡ outcome_number b → a ≡ b
-outcome_of None None e = refl
-outcome_of None (Some Mpu) e = absurd (omega arith)
-outcome_of None (Some Bus) e = absurd (omega arith)
-outcome_of (Some Mpu) None e = absurd (omega arith)
-outcome_of (Some Mpu) (Some Mpu) e = refl
-outcome_of (Some Mpu) (Some Bus) e = absurd (omega arith)
-outcome_of (Some Bus) None e = absurd (omega arith)
-outcome_of (Some Bus) (Some Mpu) e = absurd (omega arith)
-outcome_of (Some Bus) (Some Bus) e = refl
+abbrev privilege_at : ℕ → Bool
+privilege_at zero = false
+privilege_at (suc other) = true
 
-kind_of : (a b : Kind) → kind_number a ≡ kind_number b → a ≡ b
-kind_of Fetch Fetch e = refl
-kind_of Fetch Load e = absurd (omega arith)
-kind_of Fetch Store e = absurd (omega arith)
-kind_of Fetch Push e = absurd (omega arith)
-kind_of Fetch Pop e = absurd (omega arith)
-kind_of Fetch Vector e = absurd (omega arith)
-kind_of Fetch Probe e = absurd (omega arith)
-kind_of Load Fetch e = absurd (omega arith)
-kind_of Load Load e = refl
-kind_of Load Store e = absurd (omega arith)
-kind_of Load Push e = absurd (omega arith)
-kind_of Load Pop e = absurd (omega arith)
-kind_of Load Vector e = absurd (omega arith)
-kind_of Load Probe e = absurd (omega arith)
-kind_of Store Fetch e = absurd (omega arith)
-kind_of Store Load e = absurd (omega arith)
-kind_of Store Store e = refl
-kind_of Store Push e = absurd (omega arith)
-kind_of Store Pop e = absurd (omega arith)
-kind_of Store Vector e = absurd (omega arith)
-kind_of Store Probe e = absurd (omega arith)
-kind_of Push Fetch e = absurd (omega arith)
-kind_of Push Load e = absurd (omega arith)
-kind_of Push Store e = absurd (omega arith)
-kind_of Push Push e = refl
-kind_of Push Pop e = absurd (omega arith)
-kind_of Push Vector e = absurd (omega arith)
-kind_of Push Probe e = absurd (omega arith)
-kind_of Pop Fetch e = absurd (omega arith)
-kind_of Pop Load e = absurd (omega arith)
-kind_of Pop Store e = absurd (omega arith)
-kind_of Pop Push e = absurd (omega arith)
-kind_of Pop Pop e = refl
-kind_of Pop Vector e = absurd (omega arith)
-kind_of Pop Probe e = absurd (omega arith)
-kind_of Vector Fetch e = absurd (omega arith)
-kind_of Vector Load e = absurd (omega arith)
-kind_of Vector Store e = absurd (omega arith)
-kind_of Vector Push e = absurd (omega arith)
-kind_of Vector Pop e = absurd (omega arith)
-kind_of Vector Vector e = refl
-kind_of Vector Probe e = absurd (omega arith)
-kind_of Probe Fetch e = absurd (omega arith)
-kind_of Probe Load e = absurd (omega arith)
-kind_of Probe Store e = absurd (omega arith)
-kind_of Probe Push e = absurd (omega arith)
-kind_of Probe Pop e = absurd (omega arith)
-kind_of Probe Vector e = absurd (omega arith)
-kind_of Probe Probe e = refl
+privilege_back : (b : Bool) → privilege_at (privilege_number b) ≡ b
+privilege_back false = refl
+privilege_back true = refl
 
-rule_of : (a b : Rule) → rule_number a ≡ rule_number b → a ≡ b
-rule_of NeverExecute NeverExecute e = refl
-rule_of NeverExecute VectorRead e = absurd (omega arith)
-rule_of NeverExecute PrivatePeripheralBus e = absurd (omega arith)
-rule_of NeverExecute MpuOff e = absurd (omega arith)
-rule_of NeverExecute NegativePriority e = absurd (omega arith)
-rule_of NeverExecute Background e = absurd (omega arith)
-rule_of NeverExecute NoRegion e = absurd (omega arith)
-rule_of NeverExecute (Region other) e = absurd (omega arith)
-rule_of VectorRead NeverExecute e = absurd (omega arith)
-rule_of VectorRead VectorRead e = refl
-rule_of VectorRead PrivatePeripheralBus e = absurd (omega arith)
-rule_of VectorRead MpuOff e = absurd (omega arith)
-rule_of VectorRead NegativePriority e = absurd (omega arith)
-rule_of VectorRead Background e = absurd (omega arith)
-rule_of VectorRead NoRegion e = absurd (omega arith)
-rule_of VectorRead (Region other) e = absurd (omega arith)
-rule_of PrivatePeripheralBus NeverExecute e = absurd (omega arith)
-rule_of PrivatePeripheralBus VectorRead e = absurd (omega arith)
-rule_of PrivatePeripheralBus PrivatePeripheralBus e = refl
-rule_of PrivatePeripheralBus MpuOff e = absurd (omega arith)
-rule_of PrivatePeripheralBus NegativePriority e = absurd (omega arith)
-rule_of PrivatePeripheralBus Background e = absurd (omega arith)
-rule_of PrivatePeripheralBus NoRegion e = absurd (omega arith)
-rule_of PrivatePeripheralBus (Region other) e = absurd (omega arith)
-rule_of MpuOff NeverExecute e = absurd (omega arith)
-rule_of MpuOff VectorRead e = absurd (omega arith)
-rule_of MpuOff PrivatePeripheralBus e = absurd (omega arith)
-rule_of MpuOff MpuOff e = refl
-rule_of MpuOff NegativePriority e = absurd (omega arith)
-rule_of MpuOff Background e = absurd (omega arith)
-rule_of MpuOff NoRegion e = absurd (omega arith)
-rule_of MpuOff (Region other) e = absurd (omega arith)
-rule_of NegativePriority NeverExecute e = absurd (omega arith)
-rule_of NegativePriority VectorRead e = absurd (omega arith)
-rule_of NegativePriority PrivatePeripheralBus e = absurd (omega arith)
-rule_of NegativePriority MpuOff e = absurd (omega arith)
-rule_of NegativePriority NegativePriority e = refl
-rule_of NegativePriority Background e = absurd (omega arith)
-rule_of NegativePriority NoRegion e = absurd (omega arith)
-rule_of NegativePriority (Region other) e = absurd (omega arith)
-rule_of Background NeverExecute e = absurd (omega arith)
-rule_of Background VectorRead e = absurd (omega arith)
-rule_of Background PrivatePeripheralBus e = absurd (omega arith)
-rule_of Background MpuOff e = absurd (omega arith)
-rule_of Background NegativePriority e = absurd (omega arith)
-rule_of Background Background e = refl
-rule_of Background NoRegion e = absurd (omega arith)
-rule_of Background (Region other) e = absurd (omega arith)
-rule_of NoRegion NeverExecute e = absurd (omega arith)
-rule_of NoRegion VectorRead e = absurd (omega arith)
-rule_of NoRegion PrivatePeripheralBus e = absurd (omega arith)
-rule_of NoRegion MpuOff e = absurd (omega arith)
-rule_of NoRegion NegativePriority e = absurd (omega arith)
-rule_of NoRegion Background e = absurd (omega arith)
-rule_of NoRegion NoRegion e = refl
-rule_of NoRegion (Region other) e = absurd (omega arith)
-rule_of (Region number) NeverExecute e = absurd (omega arith)
-rule_of (Region number) VectorRead e = absurd (omega arith)
-rule_of (Region number) PrivatePeripheralBus e = absurd (omega arith)
-rule_of (Region number) MpuOff e = absurd (omega arith)
-rule_of (Region number) NegativePriority e = absurd (omega arith)
-rule_of (Region number) Background e = absurd (omega arith)
-rule_of (Region number) NoRegion e = absurd (omega arith)
-rule_of (Region number) (Region other) e = let same : number ≡ other = omega arith in ap Region same
+abbrev outcome_at : ℕ → Option Cause
+outcome_at zero = None
+outcome_at (suc zero) = Some Mpu
+outcome_at (suc (suc other)) = Some Bus
+
+outcome_back : (o : Option Cause) → outcome_at (outcome_number o) ≡ o
+outcome_back None = refl
+outcome_back (Some Mpu) = refl
+outcome_back (Some Bus) = refl
+
+abbrev kind_at : ℕ → Kind
+kind_at zero = Fetch
+kind_at (suc zero) = Load
+kind_at (suc (suc zero)) = Store
+kind_at (suc (suc (suc zero))) = Push
+kind_at (suc (suc (suc (suc zero)))) = Pop
+kind_at (suc (suc (suc (suc (suc zero))))) = Vector
+kind_at (suc (suc (suc (suc (suc (suc other)))))) = Probe
+
+kind_back : (k : Kind) → kind_at (kind_number k) ≡ k
+kind_back Fetch = refl
+kind_back Load = refl
+kind_back Store = refl
+kind_back Push = refl
+kind_back Pop = refl
+kind_back Vector = refl
+kind_back Probe = refl
+
+abbrev rule_at : ℕ → Rule
+rule_at zero = NeverExecute
+rule_at (suc zero) = VectorRead
+rule_at (suc (suc zero)) = PrivatePeripheralBus
+rule_at (suc (suc (suc zero))) = MpuOff
+rule_at (suc (suc (suc (suc zero)))) = NegativePriority
+rule_at (suc (suc (suc (suc (suc zero))))) = Background
+rule_at (suc (suc (suc (suc (suc (suc zero)))))) = NoRegion
+rule_at (suc (suc (suc (suc (suc (suc (suc number))))))) = Region number
+
+rule_back : (r : Rule) → rule_at (rule_number r) ≡ r
+rule_back NeverExecute = refl
+rule_back VectorRead = refl
+rule_back PrivatePeripheralBus = refl
+rule_back MpuOff = refl
+rule_back NegativePriority = refl
+rule_back Background = refl
+rule_back NoRegion = refl
+rule_back (Region number) =
+    let e : 7 + number ≡ suc (suc (suc (suc (suc (suc (suc number)))))) = omega arith in ap rule_at e
+
+-- what gives itself back is determined by its number
+determined : {X : Type 0} (number : X → ℕ) (at : ℕ → X) → ((x : X) → at (number x) ≡ x) → (x y : X)
+    → number x ≡ number y → x ≡ y
+determined number at back x y e = sym (back x) ∙ ap at e ∙ back y
 
 pub places_apart : (rule : Rule) (privileged : Bool) (kind : Kind) (refused : Option Cause) (rule' : Rule)
     (privileged' : Bool) (kind' : Kind) (refused' : Option Cause)
@@ -179,8 +108,8 @@ places_apart rule privileged kind refused rule' privileged' kind' refused' e =
     (rule_number rule') (privilege_number privileged') (kind_number kind') (outcome_number refused')
     (privilege_below privileged) (kind_below kind) (outcome_below refused) (privilege_below privileged')
     (kind_below kind') (outcome_below refused') e in (
-      rule_of rule rule' same.0,
-      privilege_of privileged privileged' same.1,
-      kind_of kind kind' same.2,
-      outcome_of refused refused' same.3,
+      determined rule_number rule_at rule_back rule rule' same.0,
+      determined privilege_number privilege_at privilege_back privileged privileged' same.1,
+      determined kind_number kind_at kind_back kind kind' same.2,
+      determined outcome_number outcome_at outcome_back refused refused' same.3,
     )

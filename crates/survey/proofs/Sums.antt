@@ -1,6 +1,7 @@
 -- Sums of counters have counted the events of the steps.
 use Rattle.std.proofs.Common.{◌≡◌, ℕ, zero, suc, ◌+◌, ◌-◌, ◌^◌, ◌<◌, ◌≤◌, Bool, true, false, not, cond, ◌&&◌}
-use Rattle.std.proofs.Common.{nat_lt, List, [], ◌∷◌, ◌++◌, length, Option, Some, None, refl, sym, ap, ◌∙◌, arith, get_or, set, add-zero}
+use Rattle.std.proofs.Common.{nat_lt, List, [], ◌∷◌, ◌++◌, length, Option, Some, None, refl, sym, ap, ◌∙◌, arith}
+use Rattle.std.proofs.Common.{get_or, set, add-zero}
 use Rattle.std.proofs.lemmas.Bool.{ltb-true, ltb-false}
 use Rattle.std.proofs.lemmas.List.{set_past}
 use Rattle.std.proofs.lemmas.Grind.{common_steps}
@@ -16,9 +17,11 @@ use Rattle.reference.specs.Step as steps
 use Rattle.survey.specs.declared.moment.Moment.{Moment}
 use Rattle.survey.specs.declared.whole.Survey.{Survey}
 use Rattle.survey.specs.Counts.{counted_at, one_more, place_of_access}
-use Rattle.survey.specs.SumLaw.{OutcomesAddUp, SumCounts, any_access, chosen_in, counters, is_chosen, is_granted, is_refused}
+use Rattle.survey.specs.SumLaw.{OutcomesAddUp, SumCounts, any_access, chosen_in, counters, is_chosen, is_granted}
+use Rattle.survey.specs.SumLaw.{is_refused}
 use Rattle.survey.specs.SumLaw.{sum_from, sum_of}
-use Rattle.survey.specs.Surveys.{moment_of, surveyed, unless_stopped, with_event, with_events, with_step, with_step_begun}
+use Rattle.survey.specs.Surveys.{moment_of, surveyed, unless_stopped, with_event, with_events, with_step}
+use Rattle.survey.specs.Surveys.{with_step_begun}
 
 -- the highest value of a counter
 abbrev cap : ℕ
@@ -62,7 +65,8 @@ one_by chosen xs at true e long small =
     let below : at < length xs = let h = ltb-true at counters e in omega (arith, h, long) in
     let from : 0 + at ≡ at = omega arith in
     one_sum (chosen at) (sum_of chosen xs) (sum_of chosen (counted_at xs at)) (get_or xs at 0)
-    (rw from at (sum_set chosen 0 at (one_more (get_or xs at 0)) xs below)) (rw from at (part_of chosen 0 at xs below)) small
+    (rw from at (sum_set chosen 0 at (one_more (get_or xs at 0)) xs below))
+    (rw from at (part_of chosen 0 at xs below)) small
 one_by chosen xs at false e long small =
     let past : length xs ≤ at = let h = ltb-false at counters e in omega (arith, h, long) in
     ap (sum_of chosen) (set_past xs at (one_more (get_or xs at 0)) past) ∙ sym (add-zero _)

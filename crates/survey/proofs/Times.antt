@@ -1,5 +1,6 @@
 -- The timeline of a survey shows the steps that were made.
-use Rattle.std.proofs.Common.{◌≡◌, ℕ, zero, suc, ◌+◌, ◌*◌, ◌^◌, ◌<◌, Bool, true, false, cond, ◌||◌, ◌==◌, nat_lt, List, []}
+use Rattle.std.proofs.Common.{◌≡◌, ℕ, zero, suc, ◌+◌, ◌*◌, ◌^◌, ◌<◌, Bool, true, false, cond, ◌||◌, ◌==◌, nat_lt}
+use Rattle.std.proofs.Common.{List, []}
 use Rattle.std.proofs.Common.{◌∷◌, Option, Some, None, refl, ap, ◌∙◌, arith, get_or, add-one, inl, inr}
 use Rattle.std.proofs.lemmas.Bool.{lt-ltb, eq-eqb, ne_eqb, cases_eq}
 use Rattle.std.proofs.Math.Bool.{or_assoc, or-false}
@@ -15,9 +16,12 @@ use Rattle.reference.specs.Words.{is_bit}
 use Rattle.survey.specs.declared.mark.Mark.{Mark}
 use Rattle.survey.specs.declared.moment.Moment.{Moment}
 use Rattle.survey.specs.declared.whole.Survey.{Survey}
-use Rattle.survey.specs.Surveys.{moment_of, surveyed, unless_stopped, with_event, with_events, with_step, with_step_begun}
-use Rattle.survey.specs.TimeLaw.{IsBlank, TimelineShows, event_makes, events_make, is_mark, makes, some_makes, step_makes, ticks_in}
-use Rattle.survey.specs.Timeline.{Timeline, appended, begun, has_mark, joined, lanes_after, mark_number, mark_of_access, marked, marked_by}
+use Rattle.survey.specs.Surveys.{moment_of, surveyed, unless_stopped, with_event, with_events, with_step}
+use Rattle.survey.specs.Surveys.{with_step_begun}
+use Rattle.survey.specs.TimeLaw.{IsBlank, TimelineShows, event_makes, events_make, is_mark, makes, some_makes}
+use Rattle.survey.specs.TimeLaw.{step_makes, ticks_in}
+use Rattle.survey.specs.Timeline.{Timeline, appended, begun, has_mark, joined, lanes_after, mark_number}
+use Rattle.survey.specs.Timeline.{mark_of_access, marked, marked_by}
 use Rattle.survey.specs.Timeline.{running_mark, with_tick}
 use Rattle.survey.proofs.Columns.{Fits, Stands, begun_fits, marked_fits, tick_done}
 
@@ -32,14 +36,14 @@ record SameTicks (t u : Timeline) : Type 0 where
   used : u.used ≡ t.used
   filled : u.filled ≡ t.filled
 
-same_ticks : (t : Timeline) (mark : Mark) (b : Bool) (columns : List ℕ) → SameTicks t (cond b (record t { columns = columns }) t)
-same_ticks t mark true columns = record { used = refl; filled = refl }
-same_ticks t mark false columns = record { used = refl; filled = refl }
+same_ticks : (t : Timeline) (b : Bool) (columns : List ℕ) → SameTicks t (cond b (record t { columns = columns }) t)
+same_ticks t true columns = record { used = refl; filled = refl }
+same_ticks t false columns = record { used = refl; filled = refl }
 
 one_mark : (f : ℕ → Bool) (k n last : ℕ) (more : Bool) (t : Timeline) (mark : Mark) → Marking f k n last more t
     → Marking f k n last (more || (mark_number mark == k)) (marked t mark)
 one_mark f k n last more t mark before =
-    let same = same_ticks t mark (nat_lt 0 t.used) _ in
+    let same = same_ticks t (nat_lt 0 t.used) _ in
     record {
       any = rw same.used before.any;
       next = same.filled ∙ before.next;
@@ -79,7 +83,7 @@ lanes_by t true joins = refl
 lanes_by t false true = refl
 lanes_by t false false = refl
 
-begun_lanes : (t : Timeline) → (begun t).handlers ≡ t.handlers
+pub begun_lanes : (t : Timeline) → (begun t).handlers ≡ t.handlers
 begun_lanes t = lanes_by t (nat_lt t.filled t.column_ticks) (t.used == 1024)
 
 -- other lanes are no other columns
@@ -100,7 +104,8 @@ record Ran (f : ℕ → Bool) (k n : ℕ) (more : Bool) (t : Timeline) : Type 0 
   last : ℕ
   marking : Marking f k (n + 1) last more t
 
-ran_so : (f : ℕ → Bool) (k n : ℕ) (more other : Bool) (t : Timeline) → more ≡ other → Ran f k n more t → Ran f k n other t
+ran_so : (f : ℕ → Bool) (k n : ℕ) (more other : Bool) (t : Timeline) → more ≡ other → Ran f k n more t
+    → Ran f k n other t
 ran_so f k n more other t e ran = rw (← e) ran
 
 tick_ran : (f : ℕ → Bool) (k n : ℕ) (t : Timeline) (m : Moment) → Stands f k n t → n < 2 ^ 64
@@ -118,7 +123,8 @@ tick_ran f k n t m stands small =
     ran_so f k n (mark_number (running_mark u.handlers m) == k) (mark_number (running_mark t.handlers m) == k) _
     (ap (λ handlers. mark_number (running_mark handlers m) == k) (begun_lanes t)) (record {
       last = first.last;
-      marking = one_mark f k (n + 1) first.last false (record u { handlers = lanes }) (running_mark u.handlers m) before;
+      marking =
+          one_mark f k (n + 1) first.last false (record u { handlers = lanes }) (running_mark u.handlers m) before;
     })
 
 -- a step was made

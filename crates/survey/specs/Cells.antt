@@ -1,5 +1,6 @@
 -- Which cells of a memory were touched, by whom and how. A cell is a block of 32, 64, .. 1,024 bytes.
-use Rattle.std.specs.Prelude.{ℕ, ◌+◌, ◌-◌, ◌*◌, ◌/◌, ◌^◌, Bool, true, ◌&&◌, nat_le, nat_lt, if◌then◌else◌, List, Option}
+use Rattle.std.specs.Prelude.{ℕ, ◌+◌, ◌-◌, ◌*◌, ◌/◌, ◌^◌, Bool, true, ◌&&◌, nat_le, nat_lt, if◌then◌else◌, List}
+use Rattle.std.specs.Prelude.{Option}
 use Rattle.std.specs.Prelude.{Some, None, slice_set, slice_index_or, false}
 use Rattle.reference.specs.declared.access.Cause.{Cause}
 use Rattle.reference.specs.declared.access.DecidedAccess.{DecidedAccess}

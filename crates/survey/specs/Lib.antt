@@ -6,5 +6,6 @@ pub mod Timeline
 pub mod Console
 pub mod Surveys
 pub mod CountLaw
+pub mod LineLaw
 pub mod SumLaw
 pub mod TimeLaw

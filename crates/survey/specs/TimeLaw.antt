@@ -1,5 +1,6 @@
 -- What the marks of a timeline are: what was made by the steps whose ticks a column stands for.
-use Rattle.std.specs.Prelude.{◌≡◌, ℕ, zero, suc, ◌+◌, ◌*◌, ◌^◌, ◌<◌, Bool, false, ◌||◌, ◌==◌, List, [], ◌∷◌, length}
+use Rattle.std.specs.Prelude.{◌≡◌, ℕ, zero, suc, ◌+◌, ◌*◌, ◌^◌, ◌<◌, Bool, false, ◌||◌, ◌==◌, List, [], ◌∷◌, ◌++◌}
+use Rattle.std.specs.Prelude.{length}
 use Rattle.std.specs.Prelude.{if◌then◌else◌, Option, Some, None}
 use Rattle.reference.specs.declared.event.Event.{Event}
 use Rattle.reference.specs.declared.event.EventKind.{EventKind}
@@ -72,3 +73,14 @@ TimelineShows n s v =
 
 abbrev pub TimelinesShow : Type 0
 TimelinesShow = (n : ℕ) (s : State) (v : Survey) → TimelineShows n s v
+
+-- a list begins with another
+pub record BeginsWith (first whole : List ℕ) : Type 0 where
+  pub rest : List ℕ
+  pub is : whole ≡ first ++ rest
+
+-- an exception that has a lane keeps it: the lanes after more steps begin with those before
+abbrev pub LanesStay : Type 0
+LanesStay =
+    (n k : ℕ) (s : State) (v : Survey)
+    → BeginsWith (surveyed n s v).timeline.handlers (surveyed (n + k) s v).timeline.handlers

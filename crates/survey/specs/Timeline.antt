@@ -117,6 +117,10 @@ lanes_after handlers m =
     else if m.exception == 0 then handlers
     else with_lane handlers m.exception (lane_in m.exception handlers)
 
+-- the timeline after the handler of an exception ran, which has a lane then, if there is room for it
+abbrev pub with_handler : Timeline → ℕ → Timeline
+with_handler t exception = record t { handlers = with_lane t.handlers exception (lane_in exception t.handlers) }
+
 -- the last tick is that of a step that begins at a moment
 abbrev pub ran : Timeline → Moment → Timeline
 ran t m = marked (record t { handlers = lanes_after t.handlers m }) (running_mark t.handlers m)

@@ -2,7 +2,7 @@
 
 ghost use Rattle.std.specs.Prelude.{◌≡◌, ◌<◌, ◌≤◌, ◌+◌, ◌^◌, [], length, IfOk, replicate};
 ghost use Rattle.reference.specs.Words.{is_bit};
-ghost use Rattle.survey.specs.Timeline.{begun, has_mark, joined, joined_to, lane_in, lanes_after, mark_number, marked, running_mark, with_accessed_mark, with_column, with_lane, with_tick};
+ghost use Rattle.survey.specs.Timeline.{begun, has_mark, joined, joined_to, lane_in, lanes_after, mark_number, marked, running_mark, with_accessed_mark, with_column, with_handler, with_tick};
 
 use crate::mark::{MOST_LANES, Mark};
 use crate::moment::Moment;
@@ -174,7 +174,7 @@ impl Timeline {
     /// Returns the lane of an exception whose handler runs. It gets one, if it has none and there is room for one.
     fn take_handler(&mut self, exception: u16) -> usize
         ensures lane { result ≡ lane_in exception self.old.handlers }
-        ensures lanes { self.new ≡ record self.old { handlers = with_lane self.old.handlers exception (lane_in exception self.old.handlers) } }
+        ensures lanes { self.new ≡ with_handler self.old exception }
     {
         let lane = lane_in(exception, self.handlers.as_slice());
         if lane == self.handlers.len() && lane < MOST_LANES {

@@ -61,7 +61,8 @@ surveyed_stop m zero s v some = rw add-zero refl
 surveyed_stop m (suc k) s v some =
     let e : m + suc k ≡ (m + k) + 1 = omega arith in
     let same = (after_stop m k s some).0 in
-    rw (e, surveyed_more (m + k) s v, surveyed_stop m k s v some, same) (stands_by (after m s) (surveyed m s v) (after m s).stop refl some)
+    rw (e, surveyed_more (m + k) s v, surveyed_stop m k s v some, same)
+    (stands_by (after m s) (surveyed m s v) (after m s).stop refl some)
 
 -- a run is over where all its steps were made, or the machine has stopped
 pub all_surveyed : (limit n : ℕ) (s core : State) (v w : Survey) → n ≤ limit → core ≡ after n s

@@ -39,8 +39,8 @@ impl Rows for Settings {
     }
 }
 
-/// How many settings decide a load each; the events of a step with the first setting after that; how many rows there are;
-/// how many granted loads the first row has; how many accesses have no row; what the row is.
+/// How many settings decide a load each; the events of a step with the first setting after that; how many rows there
+/// are; how many granted loads the first row has; how many accesses have no row; what the row is.
 const SETTINGS: &str = "\
 0 | | 0 | 0 | 0 | no region has decided
 1 | | 1 | 1 | 0 | one setting

@@ -74,8 +74,8 @@ impl Rows for Marks {
     }
 }
 
-/// What runs in the first steps; the events of a privileged step after them; a column and a mark; whether it has the mark;
-/// what the row is.
+/// What runs in the first steps; the events of a privileged step after them; a column and a mark; whether it has the
+/// mark; what the row is.
 const MARKED: &str = "\
 up | | 0 unprivileged | yes | unprivileged code
 up | | 0 privileged | no | a tick is of one code
@@ -125,8 +125,8 @@ impl Rows for Lanes {
     }
 }
 
-/// How many handlers ran; for how many ticks other code did after them; how many have lanes; a column and a mark; whether
-/// it has the mark; what the row is.
+/// How many handlers ran; for how many ticks other code did after them; how many have lanes; a column and a mark;
+/// whether it has the mark; what the row is.
 const LANES: &str = "\
 0 | 1 | 0 | 0 unprivileged | yes | no handler
 18 | 0 | 18 | 17 last | yes | the 24th handler
