@@ -7,7 +7,6 @@ use crate::words::{
 };
 use machine::{Kind, Rule};
 use reference::access::Cause;
-use reference::mpu::MOST_REGIONS;
 use std::io;
 use std::io::Write;
 use survey::Counts;
@@ -28,13 +27,71 @@ struct Column {
     kind: Kind,
 }
 
+/// The columns, in their order.
+const COLUMNS: [Column; 14] = [
+    Column {
+        privileged: false,
+        kind: Kind::Fetch,
+    },
+    Column {
+        privileged: false,
+        kind: Kind::Load,
+    },
+    Column {
+        privileged: false,
+        kind: Kind::Store,
+    },
+    Column {
+        privileged: false,
+        kind: Kind::Push,
+    },
+    Column {
+        privileged: false,
+        kind: Kind::Pop,
+    },
+    Column {
+        privileged: false,
+        kind: Kind::Vector,
+    },
+    Column {
+        privileged: false,
+        kind: Kind::Probe,
+    },
+    Column {
+        privileged: true,
+        kind: Kind::Fetch,
+    },
+    Column {
+        privileged: true,
+        kind: Kind::Load,
+    },
+    Column {
+        privileged: true,
+        kind: Kind::Store,
+    },
+    Column {
+        privileged: true,
+        kind: Kind::Push,
+    },
+    Column {
+        privileged: true,
+        kind: Kind::Pop,
+    },
+    Column {
+        privileged: true,
+        kind: Kind::Vector,
+    },
+    Column {
+        privileged: true,
+        kind: Kind::Probe,
+    },
+];
+
 /// Returns how many accesses there were.
 pub fn accesses(counts: &Counts) -> u64 {
     let mut sum = 0u64;
-    'privileges: for privileged in [false, true] {
-        'kinds: for kind in KINDS {
-            sum = sum.saturating_add(of_column(counts, Column { privileged, kind }));
-        }
+    'columns: for column in COLUMNS {
+        sum = sum.saturating_add(of_column(counts, column));
     }
     sum
 }
@@ -47,9 +104,6 @@ pub fn handlers(counts: &Counts) -> u64 {
 /// Returns how many accesses there were of a privilege and kind.
 fn of_column(counts: &Counts, column: Column) -> u64 {
     let mut sum = 0u64;
-    'regions: for number in 0..MOST_REGIONS {
-        sum = sum.saturating_add(of_cell(counts, Rule::Region(number), column));
-    }
     'rules: for rule in RULES {
         sum = sum.saturating_add(of_cell(counts, rule, column));
     }
@@ -69,10 +123,8 @@ fn of_cell(counts: &Counts, rule: Rule, column: Column) -> u64 {
 /// Returns how many accesses a rule decided.
 fn of_rule(counts: &Counts, rule: Rule) -> u64 {
     let mut sum = 0u64;
-    'privileges: for privileged in [false, true] {
-        'kinds: for kind in KINDS {
-            sum = sum.saturating_add(of_cell(counts, rule, Column { privileged, kind }));
-        }
+    'columns: for column in COLUMNS {
+        sum = sum.saturating_add(of_cell(counts, rule, column));
     }
     sum
 }
@@ -84,9 +136,6 @@ pub fn write_rules<W: Write>(out: &mut W, report: &Report<'_>) -> io::Result<()>
     writeln!(out, "<div class='scroll'><table class='cards numbers'>")?;
     write_heading(out, counts)?;
     writeln!(out, "<tbody>")?;
-    'regions: for number in 0..MOST_REGIONS {
-        write_row(out, counts, Rule::Region(number))?;
-    }
     'rules: for rule in RULES {
         write_row(out, counts, rule)?;
     }
@@ -149,10 +198,8 @@ fn write_row<W: Write>(out: &mut W, counts: &Counts, rule: Rule) -> io::Result<(
         out,
         "<tr><th scope='row'><code>{word}</code> <small>{meaning}</small></th>"
     )?;
-    'privileges: for privileged in [false, true] {
-        'kinds: for kind in KINDS {
-            write_cell(out, counts, rule, Column { privileged, kind })?;
-        }
+    'columns: for column in COLUMNS {
+        write_cell(out, counts, rule, column)?;
     }
     writeln!(
         out,

@@ -15,8 +15,24 @@ pub const KINDS: [Kind; 7] = [
     Kind::Probe,
 ];
 
-/// The rules that are no region, in the order of the rows.
-pub const RULES: [Rule; 7] = [
+/// The rules, in the order of the rows: the regions that an MPU can have, and those that are no region.
+pub const RULES: [Rule; 23] = [
+    Rule::Region(0),
+    Rule::Region(1),
+    Rule::Region(2),
+    Rule::Region(3),
+    Rule::Region(4),
+    Rule::Region(5),
+    Rule::Region(6),
+    Rule::Region(7),
+    Rule::Region(8),
+    Rule::Region(9),
+    Rule::Region(10),
+    Rule::Region(11),
+    Rule::Region(12),
+    Rule::Region(13),
+    Rule::Region(14),
+    Rule::Region(15),
     Rule::Background,
     Rule::NoRegion,
     Rule::MpuOff,
