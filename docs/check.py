@@ -234,7 +234,7 @@ def missing(repo, span, page):
     span = span.strip()
     if not span or WHOLE.match(span) or span in OUTSIDE or re.match(r"^[a-z]\d$", span) or MANUAL.match(span) or span in PLACEHOLDERS or span in LANGUAGE or TRACE_LINE.match(span):
         return []
-    if re.match(r"^[\"'\[(<>=.,;:!?*+&|{}#\\-]+$", span):
+    if re.match(r"^[\"'\[(<>=.,;:!?*+&|{}#\\-]+$", span) or PAGE_ID.fullmatch(span):
         return []
     words = span.split()
     if words[0] in COMMANDS or words[0].startswith(("./", "crosscheck/", "bench/", "fuzz/", "docs/", "mutations/")) and len(words) > 1:
@@ -276,6 +276,10 @@ def missing(repo, span, page):
 
 def known(repo, word, page):
     return repo.has(word, page) or bool(MANUAL.match(word)) or word in PLACEHOLDERS or word.lower() in ENGLISH
+
+
+# ids, attributes and elements of the page that the crate report writes
+PAGE_ID = re.compile(r"(data|cells|lane|refusal|region|[rs]\d+|none|bg)-[\w-]+|console-bytes|all-refusals|rect")
 
 
 # options of compilers, linkers and disassemblers
