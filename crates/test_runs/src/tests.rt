@@ -3,6 +3,7 @@ mod answers;
 mod board_messages;
 mod both;
 mod cut;
+mod cuts;
 mod elf_files;
 mod exclusives;
 mod fault_registers;

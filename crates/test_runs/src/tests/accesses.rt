@@ -4,7 +4,7 @@ use super::run::check_runs;
 use std::test::*;
 
 /// STR R1, [R0] is 6001, and LDR R1, [R0] is 6801.
-const ACCESSES: &str = "\
+pub(super) const ACCESSES: &str = "\
 a word stored to OUT sends its low byte to the console
 word 100 6001
 reg F 100

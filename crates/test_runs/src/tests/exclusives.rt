@@ -5,7 +5,7 @@ use super::run::check_runs;
 use std::test::*;
 
 /// LDREX R1, [R0] is E850 1F00, STREX R2, R1, [R0] is E840 1200, CLREX is F3BF 8F2F, BX LR is 4770.
-const EXCLUSIVES: &str = "\
+pub(super) const EXCLUSIVES: &str = "\
 a store exclusive passes once, and then fails by a probe
 reg F 100
 word 100 1F00E850

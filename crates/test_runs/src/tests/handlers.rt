@@ -4,7 +4,7 @@ use super::run::check_runs;
 use std::test::*;
 
 /// BX LR is 4770, BX R0 is 4700, and each vector is 0x200 with the Thumb bit.
-const EXCEPTIONS: &str = "\
+pub(super) const EXCEPTIONS: &str = "\
 erased flash: each fetch is refused, and the second is lockup
 steps A
 trace 1 F FFFFFFFE 2 p mpu xn

@@ -1,14 +1,6 @@
-//! The command's debug sessions, and sessions whose reader or writer fails.
+//! The command's debug sessions.
 
-ghost use Rattle.std.specs.Prelude.{◌≡◌};
-
-use super::cut::{Cut, Short};
 use super::files::Ends;
-use super::machines::machine_with;
-use debugger::{SessionFault, session};
-use machine::{Over, Slow};
-use std::marker::Brand;
-use std::sync::ledger::{Blank, Ledger};
 use std::test::*;
 use test_tables::check_between;
 
@@ -426,90 +418,4 @@ err For more information, try '--help'.";
 #[test]
 fn sessions_of_files(rt: HostRuntime) -> Result<(), Fail> {
     check_between(SESSIONS, "\n\n", &mut Ends { rt: &rt })
-}
-
-/// MOV R0, #5; BKPT 0 at address 8, with MSP 0x20001000: the smallest firmware.
-const FIRST: &str = "\
-word 8 BE002005
-reg D 20001000
-reg F 8
-reg E FFFFFFFF";
-
-/// What a session of three commands writes: 24, 24 and 18 bytes of a run, then the byte at 8.
-static ANSWERS: [u8; 79] =
-    *b"1 F 00000008 2 p ok off\n2 F 0000000A 2 p ok off\nstop breakpoint 0\n00000008: 05\n";
-
-/// Holds a session of a text, of which the reader returns `left` bytes before it fails.
-fn talk(machine: &mut Slow, text: &[u8], left: usize, out: &mut Cut) -> Result<(), SessionFault> {
-    hear::<Brand>(machine, Short { text, left }, out, Blank::new(1))
-}
-
-fn hear<K: Ledger>(
-    machine: &mut Slow,
-    input: Short<'_>,
-    out: &mut Cut,
-    blank: Blank,
-) -> Result<(), SessionFault>
-    requires name { blank.name ≡ K.name }
-    requires parts { blank.parts ≡ K.parts }
-    requires some { blank.parts ≡ 1 }
-{
-    let mut input: Over<Short<'_>, K> = Over::new(input, blank);
-    answer::<K, Brand>(machine, &mut input, out, Blank::new(1))
-}
-
-fn answer<J: Ledger, K: Ledger>(
-    machine: &mut Slow,
-    input: &mut Over<Short<'_>, J>,
-    out: &mut Cut,
-    blank: Blank,
-) -> Result<(), SessionFault>
-    requires name { blank.name ≡ K.name }
-    requires parts { blank.parts ≡ K.parts }
-    requires some { blank.parts ≡ 1 }
-{
-    let mut out: Over<&mut Cut, K> = Over::new(out, blank);
-    session(machine, input, &mut out)
-}
-
-/// The address of the next instruction after a session whose writer takes `left` bytes.
-fn pc_after(machine: &mut Slow, left: usize, fails: bool) -> Option<u32> {
-    let mut out = Cut::new(left, 512, fails);
-    match talk(machine, b"run 2\nmem 8 1\n", 15, &mut out) {
-        Err(SessionFault::Write) if out.text.as_slice() == &ANSWERS[..left.min(79)] => {
-            Some(machine.regs().pc)
-        }
-        _ => None,
-    }
-}
-
-#[test]
-fn a_writer_that_fails_ends_the_session(rt: HostRuntime) -> Result<(), Fail> {
-    'bytes: for left in 0..79usize {
-        'ways: for fails in [true, false] {
-            let mut machine = machine_with(rt.alloc(), FIRST).ok_or("a machine")?;
-            let stopped = pc_after(&mut machine, left, fails);
-            assert!(rt; stopped == Some(0xA), "after {left}");
-            let steps = if left < 24 { None } else { machine.stop() };
-            assert!(rt; steps.is_some() == (left >= 24), "after {left}");
-        }
-    }
-    Ok(())
-}
-
-#[test]
-fn a_reader_that_fails_ends_the_session(rt: HostRuntime) -> Result<(), Fail> {
-    'bytes: for left in 0..15usize {
-        let mut machine = machine_with(rt.alloc(), FIRST).ok_or("a machine")?;
-        let mut out = Cut::whole();
-        let ended = talk(&mut machine, b"run 2\nmem 8 1\n", left, &mut out);
-        assert!(rt; matches!(ended, Err(SessionFault::Read)), "after {left}");
-        let answered = match left {
-            0..=5 => 0,
-            6..=13 => 66,
-            _ => 79,
-        };
-        assert!(rt; out.text.as_slice() == &ANSWERS[..answered], "after {left}");
-    }
-    Ok(())
 }

@@ -2,7 +2,8 @@
 //! nothing of what it does. A task is code in unprivileged Thread mode while the regions of the MPU decide
 //! (ARM DDI 0403, "Protected Memory System Architecture, PMSAv7").
 
-use super::cut::{Cut, run_task};
+use super::cut::Text;
+use super::cuts::{ALL, At, Ending, NOWHERE, run_task_cut};
 use super::machines::machine_with;
 use super::pairs::{Pairs, agree};
 use super::run::check_runs;
@@ -645,8 +646,8 @@ static STORE_TRACE: [u8; 92] =
     *b"1 F 00000100 2 u ok r1\n1 S 20000000 4 u ok r0\n2 F 00000102 2 u ok r1\n3 F 00000102 2 u ok r1\n";
 
 /// Returns whether a writer got this number of bytes of the trace.
-fn got(out: &Cut, bytes: usize) -> bool {
-    out.text.len() == bytes && STORE_TRACE.starts_with(out.text.as_slice())
+fn got(text: &Text, bytes: usize) -> bool {
+    text.len() == bytes && STORE_TRACE.starts_with(text.as_slice())
 }
 
 /// The step whose line a writer of this number of bytes cuts.
@@ -662,10 +663,14 @@ fn cut_step(bytes: usize) -> u64 {
 
 /// Returns whether a writer of this number of bytes breaks a machine, in the step whose line it cuts.
 fn breaks(machine: &mut Slow, left: usize, fails: bool) -> bool {
-    let mut out = Cut::new(left, 512, fails);
-    match run_task(machine, 3, &mut out) {
+    let ending = Ending {
+        most: ALL,
+        at: At { left, fails },
+    };
+    let (end, text) = run_task_cut(machine, 3, ending);
+    match end {
         Err(RunFault::Write { steps }) => {
-            steps == cut_step(left) && got(&out, left) && machine.broken()
+            steps == cut_step(left) && got(&text, left) && machine.broken()
         }
         _ => false,
     }
@@ -673,8 +678,12 @@ fn breaks(machine: &mut Slow, left: usize, fails: bool) -> bool {
 
 /// Returns whether a machine is broken, so that a run of a task writes nothing.
 fn is_broken(machine: &mut Slow) -> bool {
-    let mut out = Cut::whole();
-    matches!(run_task(machine, 3, &mut out), Err(RunFault::Broken)) && out.text.is_empty()
+    let ending = Ending {
+        most: ALL,
+        at: NOWHERE,
+    };
+    let (end, text) = run_task_cut(machine, 3, ending);
+    matches!(end, Err(RunFault::Broken)) && text.is_empty()
 }
 
 /// Of two machines that are broken alike, one is run further, which changes nothing.

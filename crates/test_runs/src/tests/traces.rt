@@ -4,7 +4,7 @@ use super::run::check_runs;
 use std::test::*;
 
 /// MOV R0, #5 and BKPT 0 at 8; and MOV R0, #7, STR R0, [R1], LDR R2, [R1] and B to itself at 100.
-const TRACES: &str = "\
+pub(super) const TRACES: &str = "\
 a breakpoint after one instruction
 word 8 BE002005
 reg D 20001000

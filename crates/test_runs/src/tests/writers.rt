@@ -1,10 +1,10 @@
-//! Writers that fail, take little, or gather.
+//! Writers that gather.
 
 ghost use Rattle.std.specs.Prelude.{◌≡◌};
 
-use super::cut::{Cut, run};
+use super::cut::Cut;
 use super::machines::machine_with;
-use machine::{CodeLines, Decider, DueTicks, Levels, Machine, Over, Paged, RunFault, Slow, Stop};
+use machine::{CodeLines, Decider, DueTicks, Levels, Machine, Over, Paged, Slow};
 use std::alloc::{AllocError, Global};
 use std::io::Write;
 use std::marker::Brand;
@@ -25,53 +25,6 @@ static FIRST_TRACE: [u8; 66] =
 /// Returns whether a writer got this number of bytes of the trace.
 fn got(out: &Cut, bytes: usize) -> bool {
     out.text.len() == bytes && FIRST_TRACE.starts_with(out.text.as_slice())
-}
-
-/// Returns whether a writer of this number of bytes breaks a machine, in the step whose line it
-/// cuts.
-fn breaks(machine: &mut Slow, left: usize, fails: bool) -> bool {
-    let mut out = Cut::new(left, 512, fails);
-    let wanted = if left < 24 { 1 } else { 2 };
-    match run(machine, 10, &mut out) {
-        Err(RunFault::Write { steps }) => steps == wanted && got(&out, left) && machine.broken(),
-        _ => false,
-    }
-}
-
-/// Returns whether a machine is broken, so that a run writes nothing.
-fn is_broken(machine: &mut Slow) -> bool {
-    let mut out = Cut::whole();
-    matches!(run(machine, 10, &mut out), Err(RunFault::Broken)) && out.text.is_empty()
-}
-
-#[test]
-fn a_writer_that_fails_breaks_the_machine(rt: HostRuntime) -> Result<(), Fail> {
-    'bytes: for left in 0..66usize {
-        'ways: for fails in [true, false] {
-            let mut machine: Slow = machine_with(rt.alloc(), FIRST).ok_or("a machine")?;
-            assert!(rt; breaks(&mut machine, left, fails), "after {left}");
-            assert!(rt; is_broken(&mut machine), "after {left}");
-        }
-    }
-    Ok(())
-}
-
-/// Returns whether a run into a writer of one byte a call ends at the breakpoint.
-fn ends(machine: &mut Slow, out: &mut Cut) -> bool {
-    matches!(run(machine, 10, out), Ok(Stop::Breakpoint(0))) && !machine.broken()
-}
-
-/// A further run of a stopped machine writes its stop line alone.
-#[test]
-fn a_writer_that_takes_one_byte_gets_all(rt: HostRuntime) -> Result<(), Fail> {
-    let mut machine: Slow = machine_with(rt.alloc(), FIRST).ok_or("a machine")?;
-    let mut out = Cut::new(512, 1, true);
-    assert!(rt; ends(&mut machine, &mut out));
-    assert!(rt; got(&out, 66));
-    let mut again = Cut::new(512, 1, true);
-    assert!(rt; ends(&mut machine, &mut again));
-    assert!(rt; again.text.as_slice() == b"stop breakpoint 0\n".as_slice());
-    Ok(())
 }
 
 /// A run whose lines are gathered: whether it ends, and whether the lines go out then.

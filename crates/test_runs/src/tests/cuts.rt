@@ -1,0 +1,517 @@
+//! Runs and sessions whose writer or reader is cut after each byte, and how often a session calls them.
+
+ghost use Rattle.std.specs.Prelude.{◌≡◌};
+
+use super::accesses::ACCESSES;
+use super::cut::{Cut, Text};
+use super::exclusives::EXCLUSIVES;
+use super::handlers::EXCEPTIONS;
+use super::machines::machine_with;
+use super::run::Run;
+use super::traces::TRACES;
+use arrayvec::ArrayVec;
+use debugger::{SessionFault, session};
+use machine::{
+    Ahead, BitLevels, Buffered, CodeLines, Counting, Decider, DueTicks, In, KeptDecisions,
+    KeptPriorities, Levels, Lines, Machine, Over, Paged, PlainLevels, Reread, RunFault, Search,
+    Slow, Stop, Table, TaskEnd,
+};
+use std::alloc::Global;
+use std::io;
+use std::io::{Read, Write};
+use std::marker::Brand;
+use std::sync::ledger::{Blank, Ledger};
+use std::test::*;
+use test_tables::{Rows, check_between, number_at, word};
+
+/// The most bytes that a writer takes in a call, where it takes all.
+pub(super) const ALL: usize = 4096;
+
+/// Where a writer or a reader is cut, and whether it fails there.
+#[derive(Clone, Copy)]
+pub(super) struct At {
+    pub(super) left: usize,
+    pub(super) fails: bool,
+}
+
+/// Where none is cut.
+pub(super) const NOWHERE: At = At {
+    left: ALL,
+    fails: true,
+};
+
+/// A writer or a reader that is cut there.
+fn cut_at<T: Drop>(inner: T, at: At) -> machine::Cut<T> {
+    if at.fails {
+        machine::Cut::failing(inner, at.left)
+    } else {
+        machine::Cut::taking_none(inner, at.left)
+    }
+}
+
+/// A writer that takes `most` bytes a call, and is cut.
+#[derive(Clone, Copy)]
+pub(super) struct Ending {
+    pub(super) most: usize,
+    pub(super) at: At,
+}
+
+/// How a run ended, and what its writer took.
+#[derive(Drop)]
+struct Ended {
+    stop: Result<Stop, RunFault>,
+    taken: Text,
+}
+
+/// A run into a writer that is cut.
+fn run_cut<D: Decider, C: CodeLines, L: Levels, U: DueTicks>(
+    machine: &mut Machine<D, C, L, U>,
+    steps: u32,
+    ending: Ending,
+) -> Ended {
+    run_over::<D, C, L, U, Brand>(machine, steps, ending, Blank::new(1))
+}
+
+fn run_over<D: Decider, C: CodeLines, L: Levels, U: DueTicks, K: Ledger>(
+    machine: &mut Machine<D, C, L, U>,
+    steps: u32,
+    ending: Ending,
+    blank: Blank,
+) -> Ended
+    requires name { blank.name ≡ K.name }
+    requires parts { blank.parts ≡ K.parts }
+    requires some { blank.parts ≡ 1 }
+{
+    let below: Over<Cut, K> = Over::new(Cut::new(ALL, ending.most, true), blank);
+    let mut out = cut_at(below, ending.at);
+    let stop = machine.run(u64::from(steps), &mut out);
+    Ended {
+        stop,
+        taken: out.into_inner().into_inner().text,
+    }
+}
+
+/// A run of a task into a writer that is cut: how it ended, and what the writer took.
+pub(super) fn run_task_cut<D: Decider, C: CodeLines, L: Levels, U: DueTicks>(
+    machine: &mut Machine<D, C, L, U>,
+    steps: u32,
+    ending: Ending,
+) -> (Result<TaskEnd, RunFault>, Text) {
+    run_task_over::<D, C, L, U, Brand>(machine, steps, ending, Blank::new(1))
+}
+
+fn run_task_over<D: Decider, C: CodeLines, L: Levels, U: DueTicks, K: Ledger>(
+    machine: &mut Machine<D, C, L, U>,
+    steps: u32,
+    ending: Ending,
+    blank: Blank,
+) -> (Result<TaskEnd, RunFault>, Text)
+    requires name { blank.name ≡ K.name }
+    requires parts { blank.parts ≡ K.parts }
+    requires some { blank.parts ≡ 1 }
+{
+    let below: Over<Cut, K> = Over::new(Cut::new(ALL, ending.most, true), blank);
+    let mut out = cut_at(below, ending.at);
+    let end = machine.run_task(u64::from(steps), &mut out);
+    (end, out.into_inner().into_inner().text)
+}
+
+/// The tick that the line with a byte of a trace begins with: that of the line before for the stop line.
+fn tick_at(trace: &str, byte: usize) -> Option<u64> {
+    let mut tick = None;
+    let mut begin: usize = 0;
+    'lines: for line in trace.lines() {
+        if begin > byte {
+            break;
+        }
+        tick = word(line, 0).parse::<u64>().ok().or(tick);
+        begin = begin.saturating_add(line.len()).saturating_add(1);
+    }
+    tick
+}
+
+/// Runs of a table of `run.rt` whose writers are cut after each byte of their traces.
+#[derive(Drop)]
+struct CutRuns {
+    alloc: Global,
+}
+
+impl Rows for CutRuns {
+    fn holds(&mut self, text: &str) -> Option<bool> {
+        Some(
+            is_cut::<Search, Reread, PlainLevels, Counting>(self.alloc, text)?
+                && is_cut::<KeptDecisions<Table>, Lines, KeptPriorities<BitLevels>, Ahead>(
+                    self.alloc, text,
+                )?,
+        )
+    }
+}
+
+/// A run that stands before its steps, and how many steps these are.
+fn before_steps<D: Decider, C: CodeLines, L: Levels, U: DueTicks>(
+    alloc: Global,
+    text: &str,
+) -> Option<(Run<D, C, L, U>, u32)> {
+    let mut run: Run<D, C, L, U> = Run::of(alloc, text)?;
+    let mut steps = None;
+    'lines: for line in text.lines().skip(1) {
+        match word(line, 0) {
+            "steps" => steps = number_at(line, 1),
+            "after" => {}
+            _ => {
+                if !run.follow(line)? {
+                    return None;
+                }
+            }
+        }
+    }
+    Some((run, steps?))
+}
+
+/// Returns whether a machine's run is cut after each byte of its trace, and takes it whole by single bytes.
+fn is_cut<D: Decider, C: CodeLines, L: Levels, U: DueTicks>(
+    alloc: Global,
+    text: &str,
+) -> Option<bool> {
+    let (mut run, steps): (Run<D, C, L, U>, u32) = before_steps(alloc, text)?;
+    let single = Ending {
+        most: 1,
+        at: NOWHERE,
+    };
+    let whole = run_cut(&mut run.machine, steps, single);
+    let mut holds = whole.stop.is_ok() && whole.taken.as_slice() == run.wanted.as_slice();
+    'bytes: for left in 0..run.wanted.len() {
+        'ways: for fails in [true, false] {
+            let ending = Ending {
+                most: ALL,
+                at: At { left, fails },
+            };
+            holds = holds && breaks::<D, C, L, U>(alloc, text, ending)?;
+        }
+    }
+    Some(holds)
+}
+
+/// Returns whether a run fails at the byte at which its writer is cut, and the machine is broken then.
+fn breaks<D: Decider, C: CodeLines, L: Levels, U: DueTicks>(
+    alloc: Global,
+    text: &str,
+    ending: Ending,
+) -> Option<bool> {
+    let (mut run, steps): (Run<D, C, L, U>, u32) = before_steps(alloc, text)?;
+    let cut = run_cut(&mut run.machine, steps, ending);
+    let trace = str::from_utf8(run.wanted.as_slice()).ok()?;
+    let tick = tick_at(trace, ending.at.left)?;
+    let again = run_cut(&mut run.machine, steps, ending);
+    Some(
+        matches!(cut.stop, Err(RunFault::Write { steps }) if steps == tick)
+            && cut.taken.len() == ending.at.left
+            && run.wanted.starts_with(cut.taken.as_slice())
+            && run.machine.broken()
+            && matches!(again.stop, Err(RunFault::Broken))
+            && again.taken.is_empty(),
+    )
+}
+
+/// The run of a table that has this name.
+fn named<'a>(table: &'a str, name: &str) -> &'a str {
+    table
+        .split("\n\n")
+        .find(|text| text.starts_with(name))
+        .unwrap_or("")
+}
+
+/// Their traces have a line of each kind.
+#[test]
+fn runs_are_cut_at_each_byte(rt: HostRuntime) -> Result<(), Fail> {
+    let mut runs = CutRuns { alloc: rt.alloc() };
+    let texts = [
+        named(TRACES, "a breakpoint after one instruction"),
+        named(ACCESSES, "a word stored to OUT sends its low byte"),
+        named(
+            EXCEPTIONS,
+            "a refused byte of an unaligned store is a MemManage fault",
+        ),
+        named(EXCLUSIVES, "a load exclusive in a handler marks nothing"),
+    ];
+    'texts: for text in texts {
+        check_between(text, "\n\n", &mut runs)?;
+    }
+    Ok(())
+}
+
+/// A reader that returns a line a call, or as much as there is room for.
+#[derive(Drop)]
+struct Typed<'a> {
+    text: &'a [u8],
+    by_lines: bool,
+}
+
+impl Read for Typed<'_> {
+    fn read(&mut self, buf: &mut [u8]) -> io::Result<usize> {
+        let end = match self.text.iter().position(|byte| *byte == b'\n') {
+            Some(at) if self.by_lines => at.saturating_add(1),
+            _ => self.text.len(),
+        };
+        let count = end.min(buf.len()).min(self.text.len());
+        let (front, rest) = self.text.split_at(count);
+        buf[..count].copy_from_slice(front);
+        self.text = rest;
+        Ok(count)
+    }
+}
+
+/// A writer that keeps how many bytes it had after each call.
+#[derive(Drop)]
+struct Calls {
+    text: Text,
+    ends: ArrayVec<usize, 256>,
+}
+
+impl Write for Calls {
+    fn write(&mut self, buf: &[u8]) -> io::Result<usize> {
+        let _ = self.text.try_extend_from_slice(buf);
+        let _ = self.ends.try_push(self.text.len());
+        Ok(buf.len())
+    }
+
+    fn flush(&mut self) -> io::Result<()> {
+        Ok(())
+    }
+}
+
+/// How a session is held: where its reader and its writer are cut, and whether they read ahead and gather.
+#[derive(Clone, Copy)]
+struct Way {
+    input: At,
+    output: At,
+    by_lines: bool,
+    gathers: bool,
+}
+
+/// How a session ended, and what its writer took.
+#[derive(Drop)]
+struct Held {
+    ended: Result<(), SessionFault>,
+    calls: Calls,
+}
+
+/// A session of `COMMANDS`.
+fn hold<D: Decider, C: CodeLines, L: Levels, U: DueTicks>(
+    machine: &mut Machine<D, C, L, U>,
+    way: Way,
+) -> Held {
+    hold_over::<D, C, L, U, Brand, Brand>(machine, way, Blank::new(1), Blank::new(1))
+}
+
+fn hold_over<D: Decider, C: CodeLines, L: Levels, U: DueTicks, J: Ledger, K: Ledger>(
+    machine: &mut Machine<D, C, L, U>,
+    way: Way,
+    first: Blank,
+    second: Blank,
+) -> Held
+    requires first_name { first.name ≡ J.name }
+    requires first_parts { first.parts ≡ J.parts }
+    requires first_some { first.parts ≡ 1 }
+    requires second_name { second.name ≡ K.name }
+    requires second_parts { second.parts ≡ K.parts }
+    requires second_some { second.parts ≡ 1 }
+{
+    let typed = Typed {
+        text: &COMMANDS,
+        by_lines: way.by_lines,
+    };
+    let calls = Calls {
+        text: Text::new(),
+        ends: ArrayVec::new(),
+    };
+    let input: Over<Typed<'_>, J> = Over::new(typed, first);
+    let out: Over<Calls, K> = Over::new(calls, second);
+    let mut input = cut_at(input, way.input);
+    if way.gathers {
+        return gather(
+            machine,
+            Buffered::new(input),
+            Paged::new(cut_at(out, way.output)),
+        );
+    }
+    let mut out = cut_at(out, way.output);
+    let ended = session(machine, &mut input, &mut out);
+    Held {
+        ended,
+        calls: out.into_inner().into_inner(),
+    }
+}
+
+fn gather<D: Decider, C: CodeLines, L: Levels, U: DueTicks, I: In + Drop, K: Ledger>(
+    machine: &mut Machine<D, C, L, U>,
+    mut input: I,
+    mut out: Paged<machine::Cut<Over<Calls, K>>>,
+) -> Held {
+    let ended = session(machine, &mut input, &mut out);
+    Held {
+        ended,
+        calls: out.into_inner().into_inner().into_inner(),
+    }
+}
+
+/// MOV R0, #5; BKPT 0 at address 8, with MSP 0x20001000: the smallest firmware.
+const FIRST: &str = "\
+word 8 BE002005
+reg D 20001000
+reg F 8
+reg E FFFFFFFF";
+
+/// A step, a line of 81 bytes, another step, and a last line without a line feed.
+static COMMANDS: [u8; 100] =
+    *b"step\n---------------------------------------------------------------------------------\nrun 1\nmem 8 1";
+
+/// What a session answers to them: 36, 8, 42 and 13 bytes.
+static ANSWERS: [u8; 99] =
+    *b"1 F 00000008 2 p ok off\nat 0000000A\nerror 1\n2 F 0000000A 2 p ok off\nstop breakpoint 0\n00000008: 05\n";
+
+/// How many bytes were read, how many are answered where the input ends after them, and how many where the
+/// reader fails after them: a line without its line feed counts only at the end.
+const ANSWERED: [(usize, usize, usize); 8] = [
+    (0, 0, 0),
+    (4, 36, 0),
+    (5, 36, 36),
+    (86, 44, 36),
+    (87, 44, 44),
+    (92, 86, 44),
+    (93, 86, 86),
+    (100, 99, 86),
+];
+
+/// How many bytes are answered where the reader fails after so many bytes.
+fn answered(read: usize) -> usize {
+    let mut count = 0;
+    'rows: for (least, _, failed) in ANSWERED.iter() {
+        if *least <= read {
+            count = *failed;
+        }
+    }
+    count
+}
+
+/// Returns whether a session fails where its writer is cut: the last step is made once the line before it is
+/// answered.
+fn fails_to_write<D: Decider, C: CodeLines, L: Levels, U: DueTicks>(
+    alloc: Global,
+    output: At,
+    gathers: bool,
+) -> Option<bool> {
+    let mut machine: Machine<D, C, L, U> = machine_with(alloc, FIRST)?;
+    let way = Way {
+        input: NOWHERE,
+        output,
+        by_lines: true,
+        gathers,
+    };
+    let held = hold(&mut machine, way);
+    Some(
+        matches!(held.ended, Err(SessionFault::Write))
+            && held.calls.text.as_slice() == &ANSWERS[..output.left.min(99)]
+            && machine.regs().pc == 0xA
+            && machine.stop().is_some() == (output.left >= 44),
+    )
+}
+
+/// Returns whether a session ends as it is to where its reader is cut, with this number of bytes answered.
+fn fails_to_read<D: Decider, C: CodeLines, L: Levels, U: DueTicks>(
+    alloc: Global,
+    input: At,
+    gathers: bool,
+    wanted: usize,
+) -> Option<bool> {
+    let mut machine: Machine<D, C, L, U> = machine_with(alloc, FIRST)?;
+    let way = Way {
+        input,
+        output: NOWHERE,
+        by_lines: true,
+        gathers,
+    };
+    let held = hold(&mut machine, way);
+    let ends = match held.ended {
+        Ok(()) => !input.fails,
+        Err(SessionFault::Read) => input.fails,
+        Err(SessionFault::Write) => false,
+    };
+    Some(ends && held.calls.text.as_slice() == &ANSWERS[..wanted.min(99)])
+}
+
+#[test]
+fn writers_of_sessions_are_cut_at_each_byte(rt: HostRuntime) -> Result<(), Fail> {
+    let alloc = rt.alloc();
+    'bytes: for left in 0..99usize {
+        'forms: for (fails, gathers) in FORMS.iter() {
+            let at = At {
+                left,
+                fails: *fails,
+            };
+            let slow = fails_to_write::<Search, Reread, PlainLevels, Counting>(alloc, at, *gathers);
+            assert!(rt; slow == Some(true), "Slow, after {left}");
+            let fast = fails_to_write::<
+                KeptDecisions<Table>,
+                Lines,
+                KeptPriorities<BitLevels>,
+                Ahead,
+            >(alloc, at, *gathers);
+            assert!(rt; fast == Some(true), "Fast, after {left}");
+        }
+    }
+    Ok(())
+}
+
+/// Whether a writer fails or takes none, and whether a session reads ahead and gathers.
+const FORMS: [(bool, bool); 4] = [(true, true), (true, false), (false, true), (false, false)];
+
+#[test]
+fn readers_of_sessions_are_cut_at_each_byte(rt: HostRuntime) -> Result<(), Fail> {
+    let alloc = rt.alloc();
+    'ways: for gathers in [true, false] {
+        'bytes: for left in 0..=100usize {
+            let at = At { left, fails: true };
+            let wanted = answered(left);
+            let failed = fails_to_read::<Search, Reread, PlainLevels, Counting>(
+                alloc, at, gathers, wanted,
+            );
+            assert!(rt; failed == Some(true), "fails after {left}");
+        }
+        'rows: for (left, wanted, _) in ANSWERED.iter() {
+            let at = At {
+                left: *left,
+                fails: false,
+            };
+            let ended = fails_to_read::<Search, Reread, PlainLevels, Counting>(
+                alloc, at, gathers, *wanted,
+            );
+            assert!(rt; ended == Some(true), "ends after {left}");
+        }
+    }
+    Ok(())
+}
+
+/// Each answer goes out in a call of its own before the next line is waited for; those to lines that were read
+/// in one call go out together. The last line counts only at the end of the input.
+#[test]
+fn answers_go_out_in_few_calls(rt: HostRuntime) -> Result<(), Fail> {
+    'ways: for by_lines in [true, false] {
+        let mut machine: Slow = machine_with(rt.alloc(), FIRST).ok_or("a machine")?;
+        let way = Way {
+            input: NOWHERE,
+            output: NOWHERE,
+            by_lines,
+            gathers: true,
+        };
+        let held = hold(&mut machine, way);
+        assert!(rt; held.ended.is_ok() && held.calls.text.as_slice() == ANSWERS.as_slice());
+        let wanted: &[usize] = if by_lines {
+            &[36, 44, 86, 99]
+        } else {
+            &[86, 99]
+        };
+        assert!(rt; held.calls.ends.as_slice() == wanted);
+    }
+    Ok(())
+}
