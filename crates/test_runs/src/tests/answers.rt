@@ -19,9 +19,10 @@ out
 out Usage: marm <COMMAND>
 out
 out Commands:
-out   run    Runs an image on a board and writes the trace to standard output
-out   debug  Reads commands from standard input and writes their answers to standard output
-out   help   Print this message or the help of the given subcommand(s)
+out   run     Runs an image on a board and writes the trace to standard output
+out   report  Runs an image on a board and writes a page about the run, in HTML, to standard output
+out   debug   Reads commands from standard input and writes their answers to standard output
+out   help    Print this message or the help of the given subcommand(s)
 out
 out Options:
 out   -h, --help     Print help
@@ -89,9 +90,10 @@ out
 out Usage: marm <COMMAND>
 out
 out Commands:
-out   run    Runs an image on a board and writes the trace to standard output
-out   debug  Reads commands from standard input and writes their answers to standard output
-out   help   Print this message or the help of the given subcommand(s)
+out   run     Runs an image on a board and writes the trace to standard output
+out   report  Runs an image on a board and writes a page about the run, in HTML, to standard output
+out   debug   Reads commands from standard input and writes their answers to standard output
+out   help    Print this message or the help of the given subcommand(s)
 out
 out Options:
 out   -h, --help     Print help
@@ -149,6 +151,37 @@ out   5  reading or writing failed, or memory ran out for the arguments or a fil
 out
 out Example:
 out   marm run --board examples/boards/small.toml --steps 10 examples/first.elf
+err marm: usage
+
+the help of report
+words report --help
+ends 2
+out Runs an image on a board and writes a page about the run, in HTML, to standard output
+out
+out Usage: marm report --board <FILE> --steps <N> <IMAGE>
+out
+out Arguments:
+out   <IMAGE>  The image: an ELF file for ARM of at most 16 MiB, linked to run
+out
+out Options:
+out       --board <FILE>  The board: a TOML file of at most 16 MiB with the memory sizes, the interrupt lines and the events
+out       --steps <N>     The most steps (instructions, halves of exception entries, idle ticks) to make, from 0 to 4294967296
+out   -h, --help          Print help
+out
+out The page says which memory the code touched, by which rule or region, what was refused and by which
+out instruction, what ran when, and what the machine was like at the end. It is one HTML file that needs no
+out other: open it in a browser.
+out
+out Exit status:
+out   0  all steps were made, or a breakpoint was met
+out   2  the arguments are wrong, or help was asked for (marm: usage)
+out   3  the image or the board is refused, or memory ran out for the board or the machine
+out      (marm: load, board, start, size)
+out   4  the machine stopped otherwise: the page's first line says why
+out   5  reading or writing failed, or memory ran out for the arguments or a file (marm: io)
+out
+out Example:
+out   marm report --board examples/boards/small.toml --steps 10 examples/first.elf >first.html
 err marm: usage
 
 the help of debug
@@ -267,7 +300,7 @@ err
 err Usage: marm <COMMAND>
 err
 err For more information, try '--help'.
-err The commands are run, debug and help.
+err The commands are run, report, debug and help.
 
 an option that does not exist
 words run --frob --board board.toml --steps 10 image.elf
@@ -312,7 +345,7 @@ err
 err Usage: marm <COMMAND>
 err
 err For more information, try '--help'.
-err The commands are run, debug and help.
+err The commands are run, report, debug and help.
 
 no words
 words

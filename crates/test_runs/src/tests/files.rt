@@ -746,6 +746,7 @@ fn steps_of(alloc: Global, line: &str) -> Option<u64> {
     let request = read_words(alloc, words.as_slice()).ok()?;
     match request.task {
         Task::Run(run) => Some(run.steps),
+        Task::Report(steps) => Some(steps),
         Task::Debug => None,
     }
 }
@@ -771,6 +772,10 @@ marm run first.elf --steps 0 --board b.toml | 0
 marm run --steps=4294967296 --board=b.toml first.elf | 4294967296
 marm run --board b.toml --steps 4294967297 first.elf | -
 marm run --board b.toml --steps ten first.elf | -
+marm report --board b.toml --steps 4294967296 first.elf | 4294967296
+marm report --board b.toml --steps 4294967297 first.elf | -
+marm report --board b.toml first.elf | -
+marm report --board b.toml --steps 1 --trace none first.elf | -
 marm run --board b.toml --steps 10 | -
 marm run --board b.toml first.elf | -
 marm run --steps 10 first.elf | -
