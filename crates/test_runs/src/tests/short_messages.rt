@@ -14,13 +14,14 @@ struct Ended {
 }
 
 impl Ended {
-    /// Runs the program with words after its name, which name no files that are there.
-    fn of(rt: &HostRuntime, given: &[&str]) -> io::Result<Self> {
+    /// Runs the program with words after its name, and a last one, which name no files that are there.
+    fn of(rt: &HostRuntime, given: &[&str], last: &str) -> io::Result<Self> {
         let mut words = Vec::new(rt.alloc());
         words.push("marm".to_string(rt.alloc())?)?;
         'words: for word in given {
             words.push(word.to_string(rt.alloc())?)?;
         }
+        words.push(last.to_string(rt.alloc())?)?;
         let mut err = Cut::whole();
         let status = program(rt, words.as_slice(), NO_INPUT, Cut::whole(), &mut err);
         Ok(Ended { status, err })
@@ -32,56 +33,54 @@ impl Ended {
     }
 }
 
-/// A name, the status, what is on standard error, and the words after the program's name.
-const HIDDEN: [(&str, u8, &str, &[&str]); 5] = [
+/// A name, the status, what is on standard error, the words after the program's name, and the last one.
+const HIDDEN: [(&str, u8, &str, &[&str], &str); 5] = [
     (
         "a path with an escape character and a line feed",
         5,
         "marm: io\n  a\\u001B[31m\\u000Ab: No such file or directory (os error 2)\n",
-        &["debug", "--board", "board.toml", "a\u{1B}[31m\nb"],
+        &["debug", "--board", "board.toml"],
+        "a\u{1B}[31m\nb",
     ),
     (
         "a command with a line feed and an override of direction",
         2,
+<<<<<<< HEAD
         "marm: usage\nerror: unrecognized subcommand 'frob\\u000Amarm: size\\u202E'\n\nUsage: marm <COMMAND>\n\nFor more information, try '--help'.\nThe commands are run, report, debug and help.\n",
         &["frob\nmarm: size\u{202E}"],
+=======
+        "marm: usage\nerror: unrecognized subcommand 'frob\\u000Amarm: size\\u202E'\n\nUsage: marm <COMMAND>\n\nFor more information, try '--help'.\nThe commands are run, debug and help.\n",
+        &[],
+        "frob\nmarm: size\u{202E}",
+>>>>>>> f6688889f57a55ee9050f214dbd400346ee022cd
     ),
     (
         "a number with a line feed",
         2,
         "marm: usage\nerror: invalid value '1\\u000A' for '--steps <N>': invalid digit found in string\n\nFor more information, try '--help'.\n--steps takes a decimal number from 0 to 4294967296.\n",
-        &["run", "--board=board.toml", "--steps=1\n", "image.elf"],
+        &["run", "--board=board.toml", "image.elf"],
+        "--steps=1\n",
     ),
     (
         "a selection with a carriage return",
         2,
         "marm: usage\nerror: invalid value 'all\\u000D' for '--trace <WHICH>'\n--trace takes all, refused, exceptions, console or none.\n",
-        &[
-            "run",
-            "--board=board.toml",
-            "--steps=1",
-            "--trace=all\r",
-            "image.elf",
-        ],
+        &["run", "--board=board.toml", "--steps=1", "image.elf"],
+        "--trace=all\r",
     ),
     (
         "an expected stop with separators",
         2,
         "marm: usage\nerror: invalid value 'steps\\u2028\\u2029' for '--expect <STOP>'\n--expect takes the words of a stop line after `stop`: steps, breakpoint N (N from 0 to 255), reset, lockup,\nor unpredictable or outofprofile and a name.\n",
-        &[
-            "run",
-            "--board=board.toml",
-            "--steps=1",
-            "--expect=steps\u{2028}\u{2029}",
-            "image.elf",
-        ],
+        &["run", "--board=board.toml", "--steps=1", "image.elf"],
+        "--expect=steps\u{2028}\u{2029}",
     ),
 ];
 
 #[test]
 fn what_a_display_hides_is_escaped(rt: HostRuntime) -> Result<(), Fail> {
-    'rows: for (name, status, err, words) in HIDDEN.iter() {
-        assert!(rt; Ended::of(&rt, words)?.is(*status, err), "{name}");
+    'rows: for (name, status, err, words, last) in HIDDEN.iter() {
+        assert!(rt; Ended::of(&rt, words, last)?.is(*status, err), "{name}");
     }
     Ok(())
 }
@@ -129,10 +128,7 @@ fn a_long_word_is_cut(rt: HostRuntime) -> Result<(), Fail> {
     let shown = "a".repeat(rt.alloc(), SHOWN)?;
     'rows: for (name, length, status, before, front, end) in CUT.iter() {
         let word = "a".repeat(rt.alloc(), *length)?;
-        let mut words = Vec::new(rt.alloc());
-        words.extend_from_slice(before)?;
-        words.push(word.as_str())?;
-        let ended = Ended::of(&rt, words.as_slice())?;
+        let ended = Ended::of(&rt, before, word.as_str())?;
         let err = format!(in rt.alloc(); "{front}{}{end}", shown.as_str())?;
         assert!(rt; ended.is(*status, err.as_str()), "{name}");
     }
