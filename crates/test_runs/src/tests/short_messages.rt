@@ -45,14 +45,9 @@ const HIDDEN: [(&str, u8, &str, &[&str], &str); 5] = [
     (
         "a command with a line feed and an override of direction",
         2,
-<<<<<<< HEAD
         "marm: usage\nerror: unrecognized subcommand 'frob\\u000Amarm: size\\u202E'\n\nUsage: marm <COMMAND>\n\nFor more information, try '--help'.\nThe commands are run, report, debug and help.\n",
-        &["frob\nmarm: size\u{202E}"],
-=======
-        "marm: usage\nerror: unrecognized subcommand 'frob\\u000Amarm: size\\u202E'\n\nUsage: marm <COMMAND>\n\nFor more information, try '--help'.\nThe commands are run, debug and help.\n",
         &[],
         "frob\nmarm: size\u{202E}",
->>>>>>> f6688889f57a55ee9050f214dbd400346ee022cd
     ),
     (
         "a number with a line feed",
@@ -85,8 +80,8 @@ fn what_a_display_hides_is_escaped(rt: HostRuntime) -> Result<(), Fail> {
     Ok(())
 }
 
-/// How many bytes the longest word has: 16 MiB.
-const LONGEST: usize = 0x100_0000;
+/// How many bytes the longest word has: 1 MiB.
+const LONGEST: usize = 0x10_0000;
 
 /// How many bytes of a word Linux passes at most: 128 KiB.
 const LONG: usize = 0x2_0000;
