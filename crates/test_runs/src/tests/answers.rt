@@ -352,7 +352,7 @@ words
 ends 2
 err marm: usage
 err error: 'marm' requires a subcommand but one was not provided
-err   [subcommands: run, debug, help]
+err   [subcommands: run, report, debug, help]
 err
 err Usage: marm <COMMAND>
 err
