@@ -12,6 +12,8 @@ from html.parser import HTMLParser
 
 KINDS = {"F": "fetch", "L": "load", "S": "store", "K": "push", "U": "pop", "V": "vector", "P": "probe"}
 OUTCOMES = {"ok": "granted", "mpu": "mpu", "bus": "bus"}
+OTHER_RULES = "off|bg|none|neg|xn|ppb|vec"
+FIGURES = ("accesses", "refused", "handlers", "console-bytes")
 MOST_BYTES = 2 << 20
 CHROMIUM = ["chromium", "--headless", "--no-sandbox", "--disable-gpu", "--hide-scrollbars", "--enable-logging=stderr"]
 
@@ -88,7 +90,14 @@ def differences(path, trace):
     if page.numbers.get("steps", -1) < last:
         wrong.append(f"steps: {page.numbers.get('steps')} on the page, {last} ticks in the trace")
     shown = {name: number for name, number in page.numbers.items()
-             if name in ("accesses", "refused", "handlers", "console-bytes") or re.fullmatch(r"\w+-[up]-\w+-\w+", name)}
+             if name in FIGURES or re.fullmatch(rf"(r\d+|{OTHER_RULES})-[up]-\w+-\w+", name)}
+    # the settings of all regions together have what the regions have
+    for name, number in page.numbers.items():
+        if re.fullmatch(r"s\d+-[up]-\w+-\w+", name):
+            shown["settings" + name[name.index("-"):]] = shown.get("settings" + name[name.index("-"):], 0) + number
+    for name, number in list(found.items()):
+        if re.match(r"r\d", name):
+            found["settings" + name[name.index("-"):]] += number
     for name in sorted(set(found) | set(shown)):
         if found.get(name, 0) != shown.get(name, 0):
             wrong.append(f"{name}: {shown.get(name, 0)} on the page, {found.get(name, 0)} in the trace")
