@@ -6,7 +6,8 @@ ghost use Rattle.clap.specs.declared.builder.command.Command.TheViews.{out-Comma
 ghost use Rattle.command_line.specs.Commands as spec;
 
 use crate::texts::{
-    AFTER_DEBUG, AFTER_MARM, AFTER_REPORT, AFTER_RUN, EXPECT_HELP, STATE_HELP, STEPS_HELP, TRACE_HELP,
+    AFTER_DEBUG, AFTER_MARM, AFTER_REPORT, AFTER_RUN, EXPECT_HELP, STATE_HELP, STEPS_HELP,
+    TRACE_HELP,
 };
 use clap::builder::ValueParser;
 use clap::{Arg, ArgAction, Command};
@@ -59,7 +60,9 @@ fn report<'a>(alloc: Global) -> Result<Command<'a>, AllocError>
     ensures local { IfOk result (λ c. (out-Command c).has_globals ≡ false) }
 {
     let report = Command::new(alloc, "report")
-        .about("Runs an image on a board and writes a page about the run, in HTML, to standard output")
+        .about(
+            "Runs an image on a board and writes a page about the run, in HTML, to standard output",
+        )
         .after_help(AFTER_REPORT);
     let report = report.arg(board(alloc))?;
     let report = report.arg(steps(alloc))?;

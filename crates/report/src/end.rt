@@ -22,7 +22,7 @@ the MPU and the bits of the fault status registers in words.";
 pub fn write_end<W: Write>(out: &mut W, report: &Report<'_>) -> io::Result<()> {
     write_part(out, "end", "At the end", CAPTION)?;
     write_registers(out, &report.machine.regs(), report.symbols)?;
-    write_regions(out, report.machine)?;
+    write_regions(out, report.machine, report.symbols)?;
     write_faults(out, report)?;
     write_exceptions(out, report.machine)?;
     writeln!(out, "</section>")
@@ -125,7 +125,7 @@ fn write_control<W: Write>(out: &mut W, value: u32) -> io::Result<()> {
 }
 
 /// Writes the regions of the MPU.
-fn write_regions<W: Write>(out: &mut W, machine: &Fast) -> io::Result<()> {
+fn write_regions<W: Write>(out: &mut W, machine: &Fast, symbols: &Symbols<'_>) -> io::Result<()> {
     writeln!(out, "<h3>Regions of the MPU</h3>")?;
     match machine.explain(0, false, Kind::Load).rule {
         Rule::MpuOff => writeln!(
@@ -152,7 +152,7 @@ fn write_regions<W: Write>(out: &mut W, machine: &Fast) -> io::Result<()> {
          <th scope='col'>subregions off</th></tr></thead>\n<tbody>"
     )?;
     'regions: for number in 0..MOST_REGIONS {
-        write_region(out, number, machine.region(number))?;
+        write_region(out, number, machine.region(number), symbols)?;
     }
     write!(out, "</tbody></table></div>\n<p id='regions-off'>Off: ")?;
     write_off(out, machine)?;
@@ -160,7 +160,12 @@ fn write_regions<W: Write>(out: &mut W, machine: &Fast) -> io::Result<()> {
 }
 
 /// Writes the row of a region, if there is one and it is enabled.
-fn write_region<W: Write>(out: &mut W, number: u8, region: Option<(u32, u32)>) -> io::Result<()> {
+fn write_region<W: Write>(
+    out: &mut W,
+    number: u8,
+    region: Option<(u32, u32)>,
+    symbols: &Symbols<'_>,
+) -> io::Result<()> {
     let Some((base, attributes)) = region else {
         return Ok(());
     };
@@ -173,7 +178,7 @@ fn write_region<W: Write>(out: &mut W, number: u8, region: Option<(u32, u32)>) -
         "<tr id='region-{number}' data-rbar='{base:08X}' data-rasr='{attributes:08X}'>\
          <th scope='row'><code>r{number}</code></th>"
     )?;
-    write_words(out, words)?;
+    write_words(out, words, symbols)?;
     writeln!(out, "</tr>")
 }
 

@@ -14,7 +14,7 @@ const CAPTION: &str =
 <span class='u'>unprivileged</span> code read, wrote, executed, and <span class='p'>privileged</span> code \
 read, wrote, executed. A faint strip is what the MPU would grant to unprivileged code at the end of the run, and \
 a full one is what was done. An outline is round each cell in which an access was \
-<span class='refused'>✕ refused</span>.";
+<span class='refused'>✕ refused</span>. Addresses outside of flash and RAM have no cell.";
 
 /// How high a row of cells is, in units of the drawing.
 const ROW_HEIGHT: usize = 30;

@@ -74,6 +74,7 @@ fn write_head<W: Write>(out: &mut W, report: &Report<'_>) -> io::Result<()> {
 /// Writes how the run ended, and its figures.
 fn write_figures<W: Write>(out: &mut W, report: &Report<'_>) -> io::Result<()> {
     let limit = Thousands(report.limit);
+    let made = Thousands(report.survey.steps);
     let line = stop_line(&report.stop);
     let words = str::from_utf8(line.as_slice()).unwrap_or("stop");
     let words = Escaped(words.trim_end());
@@ -81,7 +82,7 @@ fn write_figures<W: Write>(out: &mut W, report: &Report<'_>) -> io::Result<()> {
     writeln!(
         out,
         "<p class='ending'>Ended with <strong id='stop' class='{class}'>{words}</strong>, \
-         of at most <span id='limit'>{limit}</span> steps.</p>\n<dl class='figures'>"
+         after {made} of at most <span id='limit'>{limit}</span> steps.</p>\n<dl class='figures'>"
     )?;
     write_figure(out, "steps", "steps", report.survey.steps)?;
     write_figure(out, "accesses", "accesses", accesses(&report.survey.counts))?;

@@ -4,7 +4,7 @@ use crate::faults::FaultNames;
 use crate::names::Place;
 use crate::numbers::Thousands;
 use crate::page::{Report, write_part};
-use crate::rules::outcome_sign;
+use crate::rules::{outcome_sign, refused};
 use crate::words::{AccessWords, ExceptionName, RefusedBy, RuleWord};
 use reference::access::{Cause, DecidedAccess};
 use reference::event::RecordedFault;
@@ -43,26 +43,26 @@ pub fn write_refusals<W: Write>(out: &mut W, report: &Report<'_>) -> io::Result<
         shown = shown.saturating_add(refusal.times);
     }
     writeln!(out, "</tbody></table></div>")?;
-    write_number(out, number, number.saturating_sub(shown))?;
+    write_number(out, report, number.saturating_sub(shown))?;
     writeln!(out, "</section>")
 }
 
-/// Writes how many refusals there are, and how many are in no row.
-fn write_number<W: Write>(out: &mut W, number: u64, others: u64) -> io::Result<()> {
+/// Writes how many refusals there are, by the MPU and by the bus, and how many are in no row.
+fn write_number<W: Write>(out: &mut W, report: &Report<'_>, others: u64) -> io::Result<()> {
+    let counts = &report.survey.counts;
+    let number = report.survey.refusals.number();
     let all = Thousands(number);
-    if others == 0 {
-        writeln!(
-            out,
-            "<p id='all-refusals' data-number='{number}'>Refused in all: {all}.</p>"
-        )
-    } else {
+    let mpu = Thousands(refused(counts, Cause::Mpu));
+    let bus = Thousands(refused(counts, Cause::Bus));
+    write!(
+        out,
+        "<p id='all-refusals' data-number='{number}'>Refused in all: {all}, {mpu} by the MPU and {bus} by the bus."
+    )?;
+    if others > 0 {
         let rest = Thousands(others);
-        writeln!(
-            out,
-            "<p id='all-refusals' data-number='{number}'>Refused in all: {all}, of which {rest} have no \
-             row here.</p>"
-        )
+        write!(out, " {rest} of them have no row here.")?;
     }
+    writeln!(out, "</p>")
 }
 
 /// Writes the row of a refusal.

@@ -1,5 +1,6 @@
 //! The settings of regions: what each says, and what it decided.
 
+use crate::names::Place;
 use crate::numbers::{ByteCount, Thousands};
 use crate::page::{Report, write_part};
 use crate::rules::write_outcome;
@@ -10,6 +11,7 @@ use reference::access::Cause;
 use std::io;
 use std::io::Write;
 use survey::{Setting, Settings};
+use symbols::Symbols;
 
 const CAPTION: &str =
     "Each row is one setting of a region (RBAR and RASR) under which the region decided \
@@ -23,13 +25,17 @@ pub fn write_regions<W: Write>(out: &mut W, report: &Report<'_>) -> io::Result<(
     if settings.rows().is_empty() {
         writeln!(out, "<p id='no-settings'>No region decided an access.</p>")?;
     } else {
-        write_table(out, settings)?;
+        write_table(out, settings, report.symbols)?;
     }
     writeln!(out, "</section>")
 }
 
 /// Writes the table of the settings, and how many accesses are in no row.
-fn write_table<W: Write>(out: &mut W, settings: &Settings) -> io::Result<()> {
+fn write_table<W: Write>(
+    out: &mut W,
+    settings: &Settings,
+    symbols: &Symbols<'_>,
+) -> io::Result<()> {
     writeln!(
         out,
         "<div class='scroll'><table class='cards'><thead><tr><th scope='col'>region</th><th scope='col'>addresses</th>\
@@ -40,7 +46,7 @@ fn write_table<W: Write>(out: &mut W, settings: &Settings) -> io::Result<()> {
          </tr></thead>\n<tbody>"
     )?;
     'settings: for (place, setting) in settings.rows().iter().enumerate() {
-        write_setting(out, place, setting)?;
+        write_setting(out, place, setting, symbols)?;
     }
     writeln!(out, "</tbody></table></div>")?;
     let others = settings.others();
@@ -56,7 +62,12 @@ fn write_table<W: Write>(out: &mut W, settings: &Settings) -> io::Result<()> {
 }
 
 /// Writes the row of a setting.
-fn write_setting<W: Write>(out: &mut W, place: usize, setting: &Setting) -> io::Result<()> {
+fn write_setting<W: Write>(
+    out: &mut W,
+    place: usize,
+    setting: &Setting,
+    symbols: &Symbols<'_>,
+) -> io::Result<()> {
     let number = setting.region.number;
     let base = setting.region.base;
     let attributes = setting.region.attributes;
@@ -66,7 +77,7 @@ fn write_setting<W: Write>(out: &mut W, place: usize, setting: &Setting) -> io::
          <th scope='row'><code>r{number}</code> \
          <small>RBAR {base:08X}<br>RASR {attributes:08X}</small></th>"
     )?;
-    write_words(out, RegionWords { base, attributes })?;
+    write_words(out, RegionWords { base, attributes }, symbols)?;
     write_ways(out, place, setting, false)?;
     write_ways(out, place, setting, true)?;
     writeln!(out, "</tr>")
@@ -74,8 +85,15 @@ fn write_setting<W: Write>(out: &mut W, place: usize, setting: &Setting) -> io::
 
 /// Writes a setting in words: the cells for its addresses, its size, what it grants, whether instructions are
 /// fetched from it, and its subregions.
-pub fn write_words<W: Write>(out: &mut W, words: RegionWords) -> io::Result<()> {
-    let first = words.first();
+pub fn write_words<W: Write>(
+    out: &mut W,
+    words: RegionWords,
+    symbols: &Symbols<'_>,
+) -> io::Result<()> {
+    let first = Place {
+        address: words.first(),
+        symbols,
+    };
     let last = words.last();
     let size = ByteCount(words.bytes());
     let unprivileged = words.permission(false);
@@ -88,7 +106,7 @@ pub fn write_words<W: Write>(out: &mut W, words: RegionWords) -> io::Result<()> 
     let off = SubregionsOff(words);
     write!(
         out,
-        "<td data-label='addresses'><code>{first:08X}</code> to <code>{last:08X}</code></td>\
+        "<td data-label='addresses'>{first} to <code>{last:08X}</code></td>\
          <td class='n' data-label='size'>{size}</td>\
          <td class='u' data-label='unprivileged may'>{unprivileged}</td>\
          <td class='p' data-label='privileged may'>{privileged}</td>\

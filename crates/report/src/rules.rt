@@ -96,6 +96,25 @@ pub fn accesses(counts: &Counts) -> u64 {
     sum
 }
 
+/// Returns how many accesses the MPU or the bus refused.
+pub fn refused(counts: &Counts, cause: Cause) -> u64 {
+    let mut sum = 0u64;
+    'columns: for column in COLUMNS {
+        sum = sum.saturating_add(refused_in_column(counts, column, cause));
+    }
+    sum
+}
+
+/// Returns how many accesses of a privilege and kind the MPU or the bus refused.
+fn refused_in_column(counts: &Counts, column: Column, cause: Cause) -> u64 {
+    let mut sum = 0u64;
+    'rules: for rule in RULES {
+        let number = counts.number(rule, column.privileged, column.kind, Some(cause));
+        sum = sum.saturating_add(number);
+    }
+    sum
+}
+
 /// Returns how many handlers were entered: each has its vector read just before.
 pub fn handlers(counts: &Counts) -> u64 {
     counts.number(Rule::VectorRead, true, Kind::Vector, None)

@@ -9,8 +9,8 @@ use command::{FileFault, Task, WordsFault, program, read_file, read_words, words
 use elf::{Image, load};
 use machine::{
     Ahead, BitLevels, Board, BoardLines, CodeLines, Counting, Decider, DueTicks, KeptDecisions,
-    KeptPriorities, Levels, Machine, PlainLevels, RegionCount, Reread, ScriptedEvent, Search, Signal,
-    StartFault, Table,
+    KeptPriorities, Levels, Machine, PlainLevels, RegionCount, Reread, ScriptedEvent, Search,
+    Signal, StartFault, Table,
 };
 use std::alloc::{AllocError, Global};
 use std::env::FillError;

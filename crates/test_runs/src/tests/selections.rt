@@ -31,7 +31,11 @@ reg 2 100";
 const STEPS: u64 = 5;
 
 /// What the machine holds after them: it has entered no handler of HardFault yet.
-const AFTER: [&str; 3] = ["after reg pc 102", "after reg msp 20001000", "after reg xpsr 01000000"];
+const AFTER: [&str; 3] = [
+    "after reg pc 102",
+    "after reg msp 20001000",
+    "after reg xpsr 01000000",
+];
 
 /// A selection, and what a run of the program writes with it.
 #[derive(Clone, Copy)]
