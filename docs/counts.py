@@ -192,6 +192,7 @@ PROGRAMS = "sort crc32 sha256 division print strings floats fields".split()
 KERNELS = "round_robin faults nested atomics".split()
 IMAGES = {name: f"crates/test_firmware/data/{name}.elf" for name in PROGRAMS + KERNELS}
 IMAGES["crc32-loop"] = "examples/firmware/crc32-loop.elf"
+IMAGES["in-turn"] = "examples/firmware/in-turn.elf"
 
 
 def image_bytes(name):
