@@ -40,7 +40,7 @@ board=$top/examples/boards/small.toml
 } >"$work/many.toml"
 
 expect 0 "1 F 00000008 2 p ok off" run --board "$board" --steps 10 "$top/examples/first.elf"
-expect 0 "marm 0.2.0" --version
+expect 0 "marm 0.3.0" --version
 expect 2 "marm: usage" run --board "$board" "$top/examples/first.elf"
 expect 3 "marm: load 1 Truncated" run --board "$board" --steps 10 "$work/cut.elf"
 expect 3 "marm: board 1 NotToml" run --board "$top/examples/first.elf" --steps 10 "$top/examples/first.elf"

@@ -17,7 +17,7 @@ use std::alloc::{AllocError, Global};
 pub const MOST_STEPS: u64 = 0x1_0000_0000;
 
 /// The program's version.
-const VERSION: &str = "0.2.0";
+const VERSION: &str = "0.3.0";
 
 /// Returns the command `marm`, with its three subcommands.
 pub fn marm<'a>(alloc: Global) -> Result<Command<'a>, AllocError>

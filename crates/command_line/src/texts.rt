@@ -80,7 +80,7 @@ Exit status:
   2  the arguments are wrong, or help was asked for (marm: usage)
   3  the image or the board is refused, or memory ran out for the board or the machine
      (marm: load, board, start, size)
-  4  the machine stopped otherwise: the page's first line says why
+  4  the machine stopped otherwise: the line below the page's title says why
   5  reading or writing failed, or memory ran out for the arguments or a file (marm: io)
 
 Example:

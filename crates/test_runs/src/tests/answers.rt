@@ -9,7 +9,7 @@ const ANSWERS: &str = "\
 the version
 words --version
 ends 0
-out marm 0.2.0
+out marm 0.3.0
 
 the help
 words --help
@@ -177,7 +177,7 @@ out   0  all steps were made, or a breakpoint was met
 out   2  the arguments are wrong, or help was asked for (marm: usage)
 out   3  the image or the board is refused, or memory ran out for the board or the machine
 out      (marm: load, board, start, size)
-out   4  the machine stopped otherwise: the page's first line says why
+out   4  the machine stopped otherwise: the line below the page's title says why
 out   5  reading or writing failed, or memory ran out for the arguments or a file (marm: io)
 out
 out Example:
