@@ -1,4 +1,5 @@
 mod Accessed
+mod AtOnce
 pub mod Fetches
 mod Refusals
 mod Stale

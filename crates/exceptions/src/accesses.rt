@@ -51,7 +51,7 @@ pub fn serve<D: Decider, C: CodeLines, L: Levels, U: DueTicks, S: Sink>(
     Ok(())
 }
 
-/// Makes one access, and appends its lines.
+/// Makes one access, and appends its lines. Most are to flash or RAM, by a rule that is kept.
 #[inline(always)]
 pub fn access<D: Decider, C: CodeLines, L: Levels, U: DueTicks, S: Sink>(
     exception: u16,
@@ -67,13 +67,38 @@ pub fn access<D: Decider, C: CodeLines, L: Levels, U: DueTicks, S: Sink>(
     ensures answer { result ≡ value_of request.now (perform exception bus.old request.now).performed }
     ensures narrow { IfOk result (λ value. value < 256 ^ bytes_in request.now.access.size) }
 {
-    match bus.perform(exception, request) {
+    if let Some(done) = bus.perform_at_once(request) {
+        events.emit(accessed(tick, request, done.rule, None));
+        return Ok(done.value);
+    }
+    access_whole(exception, bus, tick, events, *request)
+}
+
+/// Makes one access, whatever it is, and appends its lines. It takes a copy, so that the compiler can keep the request
+/// of an access that never comes here in the host's registers.
+#[cold]
+#[inline(never)]
+fn access_whole<D: Decider, C: CodeLines, L: Levels, U: DueTicks, S: Sink>(
+    exception: u16,
+    bus: &mut Bus<D, C, L, U>,
+    tick: u64,
+    events: &mut S,
+    request: Request,
+) -> Result<u32, Failure>
+    requires { length (S.emitted events.old).events + lines_of request ≤ MOST_EVENTS }
+    ensures bus { bus.new ≡ (perform exception bus.old request).bus }
+    ensures events { S.emitted events.new ≡ with_emitted (S.emitted events.old) ((S.emitted events.old).events ++ access_lines tick request (perform exception bus.old request).performed) }
+    ensures room { length (S.emitted events.new).events ≤ length (S.emitted events.old).events + lines_of request }
+    ensures answer { result ≡ value_of request (perform exception bus.old request).performed }
+    ensures narrow { IfOk result (λ value. value < 256 ^ bytes_in request.access.size) }
+{
+    match bus.perform(exception, &request) {
         Performed::Done(rule, value) => {
-            put_done(events, tick, request, rule);
+            put_done(events, tick, &request, rule);
             Ok(value)
         }
         Performed::Denied(rule, cause) => {
-            events.emit(accessed(tick, request, rule, Some(cause)));
+            events.emit(accessed(tick, &request, rule, Some(cause)));
             Err(Failure::Refused(request.access, cause))
         }
         Performed::Stop(why) => Err(Failure::Stop(why)),

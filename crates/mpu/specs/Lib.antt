@@ -1,2 +1,1 @@
 pub mod Spans
-pub mod Fetches

@@ -1,7 +1,6 @@
 //! The trait `Decider`: it decides accesses by the registers of the MPU, however it keeps them.
 
-ghost use Rattle.std.specs.Prelude.{◌≡◌, ◌≤◌, IfSome};
-ghost use Rattle.mpu.specs.Fetches.{GrantsFetch};
+ghost use Rattle.std.specs.Prelude.{◌≡◌, ◌≤◌, true, false, IfSome};
 ghost use Rattle.mpu.specs.Spans.{BelongTo};
 ghost use Rattle.reference.specs.Regions.{Mpu, owner};
 ghost use Rattle.reference.specs.Rules.{by_owner, decision_of};
@@ -9,8 +8,7 @@ ghost use Rattle.reference.specs.Rules.{by_owner, decision_of};
 use crate::registers::MpuRegs;
 use crate::rules::{Rights, before_regions, by_region, without_region};
 use crate::spans::Span;
-use reference::access::{Decision, Kind};
-use trace::fetches::KeptFetch;
+use reference::access::{Decision, Kind, Rule};
 
 /// Decides each access by the MPU's registers as they were last loaded.
 pub trait Decider: Drop {
@@ -46,13 +44,13 @@ pub trait Decider: Drop {
         self.decide(address, kind, privileged, below_zero)
     }
 
-    /// Returns the fetch of a halfword from an address, by code of that privilege, if it is kept with its
-    /// text: its rule grants it while the execution priority isn't below 0.
+    /// Returns the rule that grants an access of that kind to an address, by code of that privilege, while the
+    /// execution priority isn't below 0, if that is kept.
     #[inline(always)]
-    fn kept_fetch(&self, address: u32, privileged: bool) -> Option<KeptFetch>
-        ensures { (m : Mpu) → stands_for self.now m → IfSome result (λ fetch. GrantsFetch m address privileged fetch) }
+    fn kept_rule(&self, address: u32, kind: Kind, privileged: bool) -> Option<Rule>
+        ensures { (m : Mpu) → stands_for self.now m → IfSome result (λ rule. decision_of m address kind privileged false ≡ record { rule = rule; granted = true }) }
     {
-        let _unused = (address, privileged);
+        let _unused = (address, kind, privileged);
         None
     }
 

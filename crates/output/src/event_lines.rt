@@ -3,8 +3,6 @@
 ghost use Rattle.std.specs.Prelude.{◌≡◌, [], ◌∷◌, Option};
 ghost use Rattle.output.specs.Emitting.{BeforeStep, PutsText, PutsUnless, WritesSoFar, emission};
 ghost use Rattle.output.specs.Output.{Put};
-ghost use Rattle.reference.specs.declared.event.EventKind.TheVariants.{Accessed};
-ghost use Rattle.trace.specs.Fetches.{access_of};
 ghost use Rattle.trace.specs.Selection.{last_printed, selected_text};
 
 use crate::history::History;
@@ -12,7 +10,6 @@ use crate::view::View;
 use crate::writer::{IoFault, LineRoom, Out};
 use reference::event::Event;
 use std::marker::PhantomData;
-use trace::fetches::KeptFetch;
 use trace::selection::{TraceSelection, byte_of};
 use trace::sink::Sink;
 
@@ -77,15 +74,6 @@ impl<'a, O: Out, V: View> Sink for EventLines<'a, O, V> {
         self.last = V::SELECTION.last_after(self.last, &event);
         self.history = history;
     }
-
-    #[inline(always)]
-    fn emit_fetch(&mut self, tick: u64, fetch: &KeptFetch) {
-        let event = fetch.event(tick);
-        let history = self.history.and(self.out, &event);
-        self.failed = put_fetch_unless(V::SELECTION, self.failed, self.out, self.room, tick, fetch);
-        self.last = V::SELECTION.last_after(self.last, &event);
-        self.history = history;
-    }
 }
 
 /// Puts the text of an event if it is selected, unless an earlier text failed. Returns whether either failed.
@@ -121,39 +109,5 @@ fn put_selected<O: Out>(
     match byte_of(&event.what) {
         Some(byte) => out.put_byte(byte),
         None => Ok(()),
-    }
-}
-
-/// Puts the line of a fetch at a tick if it is selected, unless an earlier text failed. Returns whether either
-/// failed.
-#[inline(always)]
-fn put_fetch_unless<O: Out>(
-    selection: TraceSelection,
-    failed: bool,
-    out: &mut O,
-    room: &mut LineRoom,
-    tick: u64,
-    fetch: &KeptFetch,
-) -> bool
-    ensures { PutsUnless failed (O.written out.old) (O.written out.new) (O.faults out.old) (O.faults out.new) (selected_text selection (record { tick = tick; what = Accessed (access_of fetch.now) } ∷ [])) result }
-{
-    failed || put_selected_fetch(selection, out, room, tick, fetch).is_err()
-}
-
-/// Puts the line of a fetch at a tick if it is selected.
-#[inline(always)]
-fn put_selected_fetch<O: Out>(
-    selection: TraceSelection,
-    out: &mut O,
-    room: &mut LineRoom,
-    tick: u64,
-    fetch: &KeptFetch,
-) -> Result<(), IoFault>
-    ensures { Put (O.written out.old) (O.written out.new) (O.faults out.old) (O.faults out.new) (selected_text selection (record { tick = tick; what = Accessed (access_of fetch.now) } ∷ [])) result }
-{
-    if selection.selects(&fetch.event(tick).what) {
-        out.put_fetch(room, tick, fetch)
-    } else {
-        Ok(())
     }
 }

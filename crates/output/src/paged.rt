@@ -6,7 +6,6 @@ ghost use Rattle.std.specs.Io.KnownBytes.{append_known, Keeps};
 
 use crate::writer::{IoFault, LineRoom, Out};
 use reference::event::Event;
-use trace::fetches::KeptFetch;
 use trace::page::Page;
 
 /// How many bytes are gathered at most.
@@ -126,22 +125,6 @@ impl<O: Out + Drop> Out for Paged<O> {
         match self.make_room() {
             Ok(()) => {
                 self.page.put_event(&mut room.digits, event);
-                Ok(())
-            }
-            Err(fault) => Err(fault),
-        }
-    }
-
-    #[inline(always)]
-    fn put_fetch(
-        &mut self,
-        room: &mut LineRoom,
-        tick: u64,
-        fetch: &KeptFetch,
-    ) -> Result<(), IoFault> {
-        match self.make_room() {
-            Ok(()) => {
-                self.page.put_fetch(&mut room.digits, tick, fetch);
                 Ok(())
             }
             Err(fault) => Err(fault),

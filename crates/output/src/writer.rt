@@ -3,27 +3,24 @@
 ghost use Rattle.std.specs.Prelude.{◌≡◌, ℕ, ◌+◌, ◌<◌, ◌≤◌, Bool, true, List, [], ◌∷◌, length, Option, OnErr};
 ghost use Rattle.output.specs.Input.{Received};
 ghost use Rattle.output.specs.Output.{HandsOn, Put, Took};
-ghost use Rattle.reference.specs.declared.event.EventKind.TheVariants.{Accessed};
 ghost use Rattle.reference.specs.Text.{line};
-ghost use Rattle.trace.specs.Fetches.{access_of};
 
 use reference::event::Event;
 use std::io::{Read, Write};
 use std::marker::Model;
 use std::sync::ledger::{Blank, Book, Ledger, Share};
 use thiserror::Error;
-use trace::fetches::KeptFetch;
+use trace::digits::LineDigits;
 use trace::page::Page;
-use trace::tick::Tick;
 
 /// Room for one line; the same type as `Text` of `trace`.
 pub type LinePage = Page<64>;
 
-/// Room for the text of one line, and the digits of its tick, which are kept for later ones.
+/// Room for the text of one line, and its digits, which are kept for later ones.
 #[derive(Drop)]
 pub struct LineRoom {
     page: LinePage,
-    pub(crate) digits: Tick,
+    pub(crate) digits: LineDigits,
 }
 
 impl LineRoom {
@@ -31,7 +28,7 @@ impl LineRoom {
     pub fn new() -> Self {
         LineRoom {
             page: LinePage::new(),
-            digits: Tick::new(),
+            digits: LineDigits::new(),
         }
     }
 }
@@ -88,20 +85,6 @@ pub trait Out {
         room.page.put_event(&mut room.digits, event);
         let text = room.page.as_slice();
         self.put_all(text)
-    }
-
-    /// Puts the line of a fetch at a tick, whose text is kept. `room` is room for its text.
-    fn put_fetch(
-        &mut self,
-        room: &mut LineRoom,
-        tick: u64,
-        fetch: &KeptFetch,
-    ) -> Result<(), IoFault>
-        ensures { Put (written self.old) (written self.new) (faults self.old) (faults self.new) (line (record { tick = tick; what = Accessed (access_of fetch.now) })) result }
-    {
-        room.page.clear();
-        room.page.put_fetch(&mut room.digits, tick, fetch);
-        self.put_all(room.page.as_slice())
     }
 
     /// Sends the bytes that wait. On an error some of them may still wait.

@@ -5,7 +5,6 @@ ghost use Rattle.clock.specs.Kept.{IsRight};
 ghost use Rattle.reference.specs.Answers.{IsNarrow, LeavesUnlessDone};
 ghost use Rattle.reference.specs.System.{reset_system, after_tick, deactivated, is_held as is_held_of, has_access as is_allowed_of, word_at as word_at_of, after_read, register_written, register_access, system_access, with_nvic, mpu_written, first_byte as first_byte_of};
 ghost use Rattle.reference.specs.Interrupts.{write_priorities as write_priorities_of};
-ghost use Rattle.reference.specs.declared.access.Kind.TheVariants.{Fetch};
 ghost use Rattle.reference.specs.Kinds.{bytes_in};
 ghost use Rattle.reference.specs.Regions.{is_on, shown, write as write_mpu_of};
 ghost use Rattle.reference.specs.Priorities.{is_below_zero, with_pending, with_active, with_faultmask};
@@ -14,8 +13,6 @@ ghost use Rattle.reference.specs.Rules.{decision_of, is_off_below_zero};
 ghost use Rattle.reference.specs.SpecialRegisters.{read_special as read_special_of, write_special as write_special_of, write_mask as write_mask_of, change_state as change_state_of, with_special, with_mask};
 ghost use Rattle.reference.specs.Status.{with_fault_bits, with_mmfar, with_bfar};
 ghost use Rattle.scs.specs.Writes.{after_write, answered};
-ghost use Rattle.trace.specs.Fetches.{access_of};
-ghost use Rattle.trace.specs.Tails.{fetch_done};
 
 use crate::addresses::{first_byte, has_width, in_place, part_of, register_at};
 use crate::control::{read_control, write_control};
@@ -29,14 +26,13 @@ use crate::systick::{read_systick, write_systick};
 use clock::{Clock, DueTicks, ScriptedEvent};
 use mpu::{Decider, MpuRegister, MpuRegs, stop_of, uses_regions};
 use nvic::{Levels, Masks};
-use reference::access::{Access, Answer, Decision, Request};
+use reference::access::{Access, Answer, Decision, Request, Rule};
 use reference::exception::FIRST_LINE;
 use reference::operands::{ChangeProcessorState, SpecialRegister};
 use reference::stop::{LeftOut, Stop};
 use reference::system::SystemRegister;
 use regs::Regs;
 use std::marker::Model;
-use trace::fetches::KeptFetch;
 
 /// The address of STIR.
 const STIR: u32 = 0xE000_EF00;
@@ -163,17 +159,16 @@ impl<D: Decider, L: Levels, U: DueTicks> System<D, L, U> {
             .decide_and_keep(access.address, access.kind, access.privileged, below_zero)
     }
 
-    /// Returns the fetch of a halfword from an address, by code of that privilege, if it is kept with its
-    /// text: its rule grants it at the current execution priority.
+    /// Returns the rule that grants an access at the current execution priority, if that is kept.
     #[inline(always)]
-    pub fn kept_fetch(&self, address: u32, privileged: bool) -> Option<KeptFetch>
-        ensures fetch { IfSome result (λ fetch. access_of fetch ≡ fetch_done address privileged fetch.rule) }
-        ensures granted { IfSome result (λ fetch. decision_of self.now.mpu address Fetch privileged (is_below_zero self.now.nvic) ≡ record { rule = fetch.rule; granted = true }) }
+    pub fn kept_rule(&self, access: &Access) -> Option<Rule>
+        ensures { IfSome result (λ rule. decision_of self.now.mpu access.now.address access.now.kind access.now.privileged (is_below_zero self.now.nvic) ≡ record { rule = rule; granted = true }) }
     {
         if self.levels.is_below_zero() {
             return None;
         }
-        self.decider.kept_fetch(address, privileged)
+        self.decider
+            .kept_rule(access.address, access.kind, access.privileged)
     }
 
     /// Returns VTOR, SCR, CCR and the registers of faults.

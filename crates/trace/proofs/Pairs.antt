@@ -1,6 +1,6 @@
 -- The table of the pairs of hexadecimal digits.
-use Rattle.std.proofs.Common.{◌≡◌, ℕ, zero, suc, ◌+◌, ◌-◌, ◌*◌, ◌/◌, ◌%◌, ◌<◌, Bool, true, ◌&&◌, T, eqb, get_or, inl}
-use Rattle.std.proofs.Common.{inr, arith, eq-zero-or-pos, eqb→eq}
+use Rattle.std.proofs.Common.{◌≡◌, ℕ, zero, suc, ◌+◌, ◌-◌, ◌*◌, ◌/◌, ◌%◌, ◌^◌, ◌<◌, Bool, true, ◌&&◌, T, eqb, get_or, inl}
+use Rattle.std.proofs.Common.{inr, arith, eq-zero-or-pos, eqb→eq, refl}
 use lib.Ieee.Fits.{and_l, and_r}
 use Rattle.reference.specs.Text.{hex_digit}
 use Rattle.trace.specs.declared.hex.TheConstants.{PAIRS}
@@ -28,3 +28,8 @@ below (suc n) p t h =
 pub pair_at : (p : ℕ) → p < 256 →
     (get_or PAIRS (p * 2) 0 ≡ hex_digit (p / 16)) × (get_or PAIRS (p * 2 + 1) 0 ≡ hex_digit (p % 16))
 pair_at p h = below 256 p tt h
+
+-- the upper half of an address has its upper two bytes
+pub upper_half : (a h : ℕ) → a < 2 ^ 32 → h ≡ a / 0x1_0000 →
+    (h / 256 % 256 ≡ a / 0x100_0000) × (h % 256 ≡ a / 0x1_0000 % 256)
+upper_half a h small is = (omega arith, rw is refl)

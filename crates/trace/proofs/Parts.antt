@@ -1,13 +1,12 @@
 -- The parts of a line, put together.
-use Rattle.std.proofs.Common.{◌≡◌, ℕ, Bool, List, ◌++◌, append_assoc}
+use Rattle.std.proofs.Common.{◌≡◌, ℕ, List, ◌++◌, append_assoc}
 use Rattle.std.specs.Fmt.{decimal}
 use Rattle.std.specs.Prelude.{codes}
 use Rattle.reference.specs.declared.access.DecidedAccess.{DecidedAccess}
 use Rattle.reference.specs.declared.event.Event.{Event}
 use Rattle.reference.specs.declared.event.EventKind.TheVariants.{Accessed}
 use Rattle.reference.specs.Text.{line, line_feed, outcome_text, rule_text}
-use Rattle.reference.specs.declared.access.Rule.{Rule}
-use Rattle.trace.specs.Tails.{access_head, fetch_done, fetch_end, fetch_head, tail}
+use Rattle.trace.specs.Tails.{access_head, tail}
 
 -- a line is its tick and its tail
 pub tick_and_tail : (page : List ℕ) (e : Event) → (page ++ decimal e.tick) ++ tail e.what ≡ page ++ line e
@@ -20,10 +19,3 @@ pub head_and_rule : (page : List ℕ) (d : DecidedAccess) →
     ++ tail (Accessed d)
 unfolding access_head tail
 head_and_rule page d = simp append_assoc
-
--- the tail of a fetch that was done is its head and its end
-pub fetch_head_and_end : (page : List ℕ) (address : ℕ) (privileged : Bool) (rule : Rule) →
-    (page ++ fetch_head address) ++ fetch_end privileged rule
-    ≡ page ++ tail (Accessed (fetch_done address privileged rule))
-unfolding fetch_head fetch_end tail
-fetch_head_and_end page address privileged rule = simp append_assoc

@@ -1,7 +1,7 @@
 //! The text of the trace: the lines of events and of stops, appended to a page.
 #![tactic(auto)]
 
-pub mod fetches;
+pub mod digits;
 mod hex;
 pub mod lines;
 pub mod page;

@@ -3,10 +3,9 @@
 ghost use Rattle.std.specs.Prelude.{◌≡◌, ◌+◌, ◌≤◌, ◌++◌, length, codes, decimal};
 ghost use Rattle.reference.specs.declared.event.EventKind.TheVariants.{Accessed, ConsoleByte, ReturnBegan, HandlerEntered, FaultRecorded};
 ghost use Rattle.reference.specs.Text.{line, stop_line as line_of_stop, stop_text, outcome_text, rule_text, line_feed};
-ghost use Rattle.trace.specs.Fetches.{access_of};
-ghost use Rattle.trace.specs.Tails.{access_head, fetch_end, fetch_head, tail};
+ghost use Rattle.trace.specs.Tails.{access_head, tail};
 
-use crate::fetches::KeptFetch;
+use crate::digits::LineDigits;
 use crate::hex;
 use crate::page::Page;
 use crate::tick::Tick;
@@ -54,52 +53,16 @@ impl<const ROOM: usize> Page<ROOM> {
     /// Appends the line of an event. Most are accesses, so these are tested for first.
     #[inline(always)]
     #[tactic(auto, using(crate::proofs::Parts::tick_and_tail))]
-    pub fn put_event(&mut self, digits: &mut Tick, event: &Event)
+    pub fn put_event(&mut self, digits: &mut LineDigits, event: &Event)
         requires { length self.old + 64 ≤ ROOM }
         ensures text { self.new ≡ self.old ++ line event.now }
         ensures short { length self.new ≤ length self.old + 64 }
     {
-        digits.put_on(event.tick, self);
+        digits.tick.put_on(event.tick, self);
         match &event.what {
-            EventKind::Accessed(access) => self.put_access(access),
+            EventKind::Accessed(access) => self.put_access(digits, access),
             what => self.put_tail(*what),
         }
-    }
-
-    /// Appends the line of a fetch at a tick, whose text is kept.
-    #[inline(always)]
-    pub fn put_fetch(&mut self, digits: &mut Tick, tick: u64, fetch: &KeptFetch)
-        requires { length self.old + 64 ≤ ROOM }
-        ensures text { self.new ≡ self.old ++ line (record { tick = tick; what = Accessed (access_of fetch.now) }) }
-        ensures short { length self.new ≤ length self.old + 64 }
-    {
-        digits.put_on(tick, self);
-        self.put_kept(fetch);
-    }
-
-    /// Appends the line of a fetch, of which the text after the address is kept, but for its tick.
-    #[inline(always)]
-    #[tactic(auto, using(crate::proofs::Parts::fetch_head_and_end))]
-    fn put_kept(&mut self, fetch: &KeptFetch)
-        requires { length self.old + TAIL_ROOM ≤ ROOM }
-        ensures text { self.new ≡ self.old ++ tail (Accessed (access_of fetch.now)) }
-        ensures short { length self.new ≤ length self.old + TAIL_ROOM }
-    {
-        self.put(&fetch_head_of(fetch.address));
-        self.put_some(&fetch.text, fetch.length);
-    }
-
-    /// Appends the text of a fetch that a rule granted and that was done, after the address.
-    #[tactic(auto, unfolding(crate::specs::Tails::fetch_end))]
-    pub(crate) fn put_fetch_end(&mut self, privileged: bool, rule: Rule)
-        requires { length self.old + TAIL_ROOM ≤ ROOM }
-        ensures text { self.new ≡ self.old ++ fetch_end privileged rule }
-        ensures short { length self.new ≤ length self.old + TAIL_ROOM }
-    {
-        let size = size_digit(Size::Halfword);
-        let privilege = privilege_letter(privileged);
-        self.put(&[b' ', size, b' ', privilege, b' ', b'o', b'k', b' ']);
-        self.put_rule(rule);
     }
 
     /// Appends the line of a stop.
@@ -149,7 +112,7 @@ impl<const ROOM: usize> Page<ROOM> {
         ensures short { length self.new ≤ length self.old + TAIL_ROOM }
     {
         match what {
-            EventKind::Accessed(access) => self.put_access(&access),
+            EventKind::Accessed(access) => self.put_any_access(access),
             EventKind::ConsoleByte(byte) => self.put_console_byte(byte),
             EventKind::ReturnBegan(exc_return) => self.put_return(exc_return),
             EventKind::HandlerEntered(exception) => self.put_handler(exception),
@@ -160,25 +123,36 @@ impl<const ROOM: usize> Page<ROOM> {
     /// Appends the line of an access but for its tick. Most lines are of this kind.
     #[inline(always)]
     #[tactic(auto, using(crate::proofs::Parts::head_and_rule))]
-    pub(crate) fn put_access(&mut self, decided: &DecidedAccess)
+    fn put_access(&mut self, digits: &mut LineDigits, decided: &DecidedAccess)
         requires { length self.old + TAIL_ROOM ≤ ROOM }
         ensures text { self.new ≡ self.old ++ tail (Accessed decided.now) }
         ensures short { length self.new ≤ length self.old + TAIL_ROOM }
     {
-        self.put_head(decided);
+        self.put_head(digits, decided);
+        self.put_rule(decided.rule);
+    }
+
+    /// Appends the line of any access but for its tick.
+    #[tactic(auto, using(crate::proofs::Parts::head_and_rule))]
+    fn put_any_access(&mut self, decided: DecidedAccess)
+        requires { length self.old + TAIL_ROOM ≤ ROOM }
+        ensures text { self.new ≡ self.old ++ tail (Accessed decided) }
+        ensures short { length self.new ≤ length self.old + TAIL_ROOM }
+    {
+        self.put_rare_head(decided);
         self.put_rule(decided.rule);
     }
 
     /// Appends the part between the tick and the rule in the line of an access. Most accesses are
     /// done, so that is one piece of text.
     #[inline(always)]
-    fn put_head(&mut self, decided: &DecidedAccess)
+    fn put_head(&mut self, digits: &mut LineDigits, decided: &DecidedAccess)
         requires { length self.old + HEAD_ROOM ≤ ROOM }
         ensures text { self.new ≡ self.old ++ (access_head decided.now.access ++ (outcome_text decided.now.refused ++ codes " ")) }
         ensures short { length self.new ≤ length self.old + HEAD_ROOM }
     {
         match decided.refused {
-            None => self.put(&done_head_of(&decided.access)),
+            None => self.put(&done_head_of(digits, &decided.access)),
             Some(_) => self.put_rare_head(*decided),
         }
     }
@@ -317,27 +291,14 @@ impl<const ROOM: usize> Page<ROOM> {
     }
 }
 
-/// Returns the line of a fetch from the space after the tick to the address.
-#[inline(always)]
-#[tactic(auto, unfolding(crate::specs::Tails::fetch_head))]
-fn fetch_head_of(address: u32) -> [u8; 11]
-    ensures { result ≡ fetch_head address }
-{
-    let kind = kind_letter(Kind::Fetch);
-    let a = hex::word(address);
-    [
-        b' ', kind, b' ', a[0], a[1], a[2], a[3], a[4], a[5], a[6], a[7],
-    ]
-}
-
 /// Returns the fixed-length part of the line of an access that was done: from the space after the
 /// tick to the one before the rule.
 #[inline(always)]
-fn done_head_of(access: &Access) -> [u8; 19]
+fn done_head_of(digits: &mut LineDigits, access: &Access) -> [u8; 19]
     ensures { result ≡ access_head access.now ++ (codes "ok" ++ codes " ") }
 {
     let kind = kind_letter(access.kind);
-    let a = hex::word(access.address);
+    let a = digits.address(access);
     let size = size_digit(access.size);
     let privilege = privilege_letter(access.privileged);
     [

@@ -1,11 +1,8 @@
 //! What takes the events of a step, one by one.
 
 ghost use Rattle.std.specs.Prelude.{◌≡◌, ◌<◌, [], ◌∷◌, ◌++◌, length, None};
-ghost use Rattle.reference.specs.declared.event.EventKind.TheVariants.{Accessed};
-ghost use Rattle.trace.specs.Fetches.{access_of};
 ghost use Rattle.trace.specs.Emission.{Emission, with_emitted};
 
-use crate::fetches::KeptFetch;
 use bounded::Bounded;
 use reference::event::{Event, MOST_EVENTS};
 
@@ -17,15 +14,6 @@ pub trait Sink {
     fn emit(&mut self, event: Event)
         requires { length (emitted self.old).events < MOST_EVENTS }
         ensures { emitted self.new ≡ with_emitted (emitted self.old) ((emitted self.old).events ++ event ∷ []) };
-
-    /// Takes the event of a fetch at a tick, whose text is kept. There must be room for it.
-    #[inline(always)]
-    fn emit_fetch(&mut self, tick: u64, fetch: &KeptFetch)
-        requires { length (emitted self.old).events < MOST_EVENTS }
-        ensures { emitted self.new ≡ with_emitted (emitted self.old) ((emitted self.old).events ++ record { tick = tick; what = Accessed (access_of fetch.now) } ∷ []) }
-    {
-        self.emit(fetch.event(tick));
-    }
 }
 
 /// The events of one step, in their order.

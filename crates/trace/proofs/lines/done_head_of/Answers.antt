@@ -8,5 +8,5 @@ returns c =
       ← c.kind_letter-kind.ensures,
       ← c.size_digit-size.ensures,
       ← c.privilege_letter-privilege.ensures,
-      c.word-a.ensures,
+      c.address-a.ensures,
     )
