@@ -19,7 +19,7 @@ pub(crate) fn immediate_carry(immediate: Immediate, flags: Flags) -> bool
 }
 
 /// Returns a shifted register, and its carry.
-#[inline]
+#[inline(always)]
 pub(crate) fn shifted(operand: ShiftedRegister, regs: &Regs) -> (u32, bool)
     ensures { result ≡ shifted operand regs.now }
 {

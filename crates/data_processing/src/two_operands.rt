@@ -11,7 +11,7 @@ use regs::{Regs, add_with_carry};
 
 /// Returns the result of an operation on two operands, and the flags. The carry is the second
 /// operand's.
-#[inline]
+#[inline(always)]
 #[tactic(auto, unfolding(reference::specs::TwoOperands::computed))]
 fn computed(operation: DataOperation, x: u32, y: u32, carry: bool, flags: Flags) -> (u32, Flags)
     ensures { result ≡ computed operation x y carry flags }

@@ -73,7 +73,7 @@ pub fn finish(length: InstructionLength, branch: &Branch, regs: &mut Regs, value
 // ---- branches
 
 /// B with a condition of its own.
-#[inline]
+#[inline(always)]
 fn conditional_branch(
     regs: &mut Regs,
     length: InstructionLength,
@@ -129,7 +129,7 @@ fn takes_branch(operands: &CompareAndBranch, regs: &Regs) -> bool
 }
 
 /// CBZ and CBNZ.
-#[inline]
+#[inline(always)]
 fn compare_and_branch(
     regs: &mut Regs,
     length: InstructionLength,

@@ -127,13 +127,10 @@ fn the_table_and_kept_decisions_decide_as_the_search() -> Result<(), Fail> {
     check(AGREEMENTS, &mut Agreements)
 }
 
-/// Returns whether a fetch by privileged code is kept with its text, and none by unprivileged code.
+/// Returns whether the rule of a fetch by privileged code is kept, and none of unprivileged code.
 fn is_kept(kept: &KeptDecisions<Table>, address: u32) -> bool {
-    let of_unprivileged = kept.kept_fetch(address, false).is_some();
-    match kept.kept_fetch(address, true) {
-        Some(fetch) => fetch.is_of(address, true) && !of_unprivileged,
-        None => false,
-    }
+    kept.kept_rule(address, Kind::Fetch, true).is_some()
+        && kept.kept_rule(address, Kind::Fetch, false).is_none()
 }
 
 #[test]
@@ -149,6 +146,22 @@ fn fetches_are_kept_until_the_registers_are_written(rt: HostRuntime) {
     assert!(rt; write_pairs(&mut registers, "E000ED94:00000005").is_some());
     kept.reload(&registers);
     assert!(rt; !is_kept(&kept, 0x100), "after a write");
+}
+
+#[test]
+fn rules_of_data_are_kept_until_the_registers_are_written(rt: HostRuntime) {
+    let mut registers = MpuRegs::new(8);
+    let mut kept = KeptDecisions::<Table>::fresh(&registers);
+    assert!(rt; kept.kept_rule(0x2000_0000, Kind::Load, true).is_none(), "before a decision");
+    let _ = kept.decide_and_keep(0x2000_0000, Kind::Load, true, false);
+    assert!(rt; kept.kept_rule(0x2000_0000, Kind::Store, true).is_some(), "for each kind");
+    assert!(rt; kept.kept_rule(0x2000_0000, Kind::Load, false).is_some(), "for each privilege");
+    assert!(rt; kept.kept_rule(0x2000_0000, Kind::Vector, true).is_none(), "but for vectors");
+    assert!(rt; write_pairs(&mut registers, "E000ED94:00000001").is_some());
+    kept.reload(&registers);
+    let _ = kept.decide_and_keep(0x2000_0000, Kind::Load, false, false);
+    assert!(rt; kept.kept_rule(0x2000_0000, Kind::Load, false).is_none(), "where it is refused");
+    assert!(rt; kept.kept_rule(0x2000_0000, Kind::Load, true).is_none(), "without PRIVDEFENA");
 }
 
 #[test]

@@ -2,15 +2,14 @@
 
 use super::words::{request, rule};
 use arrayvec::ArrayVec;
-use reference::access::{Cause, DecidedAccess, Rule};
+use reference::access::{Cause, DecidedAccess};
 use reference::event::{Event, EventKind, RecordedFault};
 use reference::stop::{LeftOut, Stop, UnpredictableCase};
 use std::test::*;
 use test_tables::{Rows, byte_at, check, halfword_at, long_at, meaning, number_at, part, word};
-use trace::fetches::KeptFetch;
+use trace::digits::LineDigits;
 use trace::lines::{event_line, stop_line};
 use trace::page::Page;
-use trace::tick::Tick;
 
 /// What refused an access, by its word.
 const REFUSALS: [(&str, Option<Cause>); 3] = [
@@ -95,38 +94,24 @@ fn lines_of_events() -> Result<(), Fail> {
     check(EVENTS, &mut EventLines)
 }
 
-/// The lines of events one after another, with the digits of the earlier tick. The text of a fetch that was
-/// done is kept.
+/// The lines of events one after another, with the digits of the earlier ones.
 #[derive(Drop)]
-struct KeptLines {
-    digits: Tick,
+struct LaterLines {
+    digits: LineDigits,
 }
 
-/// Returns the fetch that was done, if this is one.
-fn fetch_of(what: &EventKind) -> Option<KeptFetch> {
-    match what {
-        EventKind::Accessed(done) if done.access.kind.is_fetch() && done.refused.is_none() => {
-            KeptFetch::new(done.access.address, done.access.privileged, done.rule)
-        }
-        _ => None,
-    }
-}
-
-impl Rows for KeptLines {
+impl Rows for LaterLines {
     fn holds(&mut self, row: &str) -> Option<bool> {
         let tick = long_at(part(row, 1), 0)?;
         let what = happening(row)?;
         let mut page = Page::<64>::new();
-        match fetch_of(&what) {
-            Some(fetch) => page.put_fetch(&mut self.digits, tick, &fetch),
-            None => page.put_event(&mut self.digits, &Event { tick, what }),
-        }
+        page.put_event(&mut self.digits, &Event { tick, what });
         Some(is_line(page.as_slice(), part(row, 0)))
     }
 }
 
 /// As in `EVENTS`.
-const FETCHES: &str = "\
+const LATER: &str = "\
 1 F 00000008 2 p ok off   | 1 access | F halfword 8 0 p | done off
 2 F 00000008 2 p ok off   | 2 access | F halfword 8 0 p | done off
 2 F 00000008 2 u ok off   | 2 access | F halfword 8 0 u | done off
@@ -137,28 +122,21 @@ const FETCHES: &str = "\
 7 F 00000008 2 u ok r15   | 7 access | F halfword 8 0 u | done rF
 8 F 00000008 2 u mpu r15  | 8 access | F halfword 8 0 u | refused-by-mpu rF
 9 F 00000008 2 u ok bg    | 9 access | F halfword 8 0 u | done bg
-10 F 00000008 2 u ok neg  | A access | F halfword 8 0 u | done neg";
+10 F 00000008 2 u ok neg  | A access | F halfword 8 0 u | done neg
+11 F 1234ABCD 2 u ok off  | B access | F halfword 1234ABCD 0 u | done off
+11 L 20010004 4 u ok off  | B access | L word 20010004 0 u | done off
+12 F 1234ABCF 2 u ok off  | C access | F halfword 1234ABCF 0 u | done off
+12 S 20010008 4 u ok off  | C access | S word 20010008 0 u | done off
+13 F 00340010 2 u ok off  | D access | F halfword 340010 0 u | done off
+13 L FFFFFFFF 1 u bus off | D access | L byte FFFFFFFF 0 u | refused-by-bus off
+14 L 0000FFFC 4 p ok r0   | E access | L word FFFC 0 p | done r0";
 
 #[test]
-fn lines_of_fetches_after_one_another() -> Result<(), Fail> {
-    let mut lines = KeptLines {
-        digits: Tick::new(),
+fn lines_after_one_another() -> Result<(), Fail> {
+    let mut lines = LaterLines {
+        digits: LineDigits::new(),
     };
-    check(FETCHES, &mut lines)
-}
-
-#[test]
-fn a_kept_fetch_is_of_its_address_and_privilege(rt: HostRuntime) {
-    match KeptFetch::new(8, true, Rule::Region(15)) {
-        Some(fetch) => {
-            assert!(rt;
-                fetch.is_of(8, true) && !fetch.is_of(8, false) && !fetch.is_of(0x808, true)
-            );
-            let line = event_line(&fetch.event(3));
-            assert!(rt; line.as_slice() == b"3 F 00000008 2 p ok r15\n".as_slice());
-        }
-        None => assert!(rt; false, "its text is short"),
-    }
+    check(LATER, &mut lines)
 }
 
 /// The stops that the rows name.
@@ -219,7 +197,7 @@ fn consoles(ticks: &str) -> Option<ArrayVec<Event, 16>> {
     Some(events)
 }
 
-/// Ticks of one to twenty digits: a `Tick` goes on, stays, skips and goes back.
+/// Ticks of one to twenty digits: the digits go on, stay, skip and go back.
 const TICKS: &str = "9 A A 63 64 65 FFFFFFFFFFFFFFFF 6C 6D 6E 7";
 
 /// Their lines.
@@ -238,7 +216,7 @@ const TICK_LINES: &str = "\
 ";
 
 /// Returns whether the lines of an event and of a stop are on the page, which may have had others.
-fn is_begun(page: &mut Page<1024>, digits: &mut Tick) -> bool {
+fn is_begun(page: &mut Page<1024>, digits: &mut LineDigits) -> bool {
     page.clear();
     page.put_event(digits, &console(8));
     page.put_stop(&Stop::StepLimit);
@@ -249,7 +227,7 @@ fn is_begun(page: &mut Page<1024>, digits: &mut Tick) -> bool {
 /// ticks.
 fn are_lines_so(
     page: &mut Page<1024>,
-    digits: &mut Tick,
+    digits: &mut LineDigits,
     ticks: &str,
     lines: &str,
 ) -> Option<bool> {
@@ -267,7 +245,7 @@ fn are_lines_so(
 #[test]
 fn ticks_after_one_another(rt: HostRuntime) {
     let mut page = Page::new();
-    let mut digits = Tick::new();
+    let mut digits = LineDigits::new();
     assert!(rt; page.is_empty(), "a new page");
     assert!(rt; is_begun(&mut page, &mut digits), "an event and a stop");
     let answer = are_lines_so(&mut page, &mut digits, TICKS, TICK_LINES);
