@@ -89,7 +89,7 @@ impl<D: Decider, L: Levels, U: DueTicks> System<D, L, U> {
     /// Makes the next tick: time goes on, and what the tick pends becomes pending. On most ticks
     /// nothing is due: only time goes on.
     #[inline]
-    #[tactic(auto, using(crate::proofs::Due::nothing_is_pended), unfolding(reference::specs::System::after_tick))]
+    #[tactic(auto, using(nvic::proofs::Due::nothing_is_pended), unfolding(reference::specs::System::after_tick))]
     pub fn tick(&mut self)
         requires { self.old.time.ticks < 2 ^ 48 }
         ensures { self.new ≡ after_tick self.old }
@@ -102,7 +102,7 @@ impl<D: Decider, L: Levels, U: DueTicks> System<D, L, U> {
     /// Makes the next tick, and makes pending what is due at it.
     #[cold]
     #[inline(never)]
-    #[tactic(auto, using(crate::proofs::Due::due_is_pended), unfolding(reference::specs::System::after_tick))]
+    #[tactic(auto, using(nvic::proofs::Due::due_is_pended), unfolding(reference::specs::System::after_tick))]
     fn tick_and_pend(&mut self)
         requires { self.old.time.ticks < 2 ^ 48 }
         ensures { self.new ≡ after_tick self.old }

@@ -1,6 +1,7 @@
 -- The phases of a step keep what holds of the core registers, from the last one up.
 use Rattle.std.proofs.Common.{ℕ, nat_le, false, ◌||◌, List, [], ◌++◌, length, Option, Some}
 use Rattle.std.proofs.Common.{None, Result, Ok, Err, refl, arith}
+use Rattle.std.proofs.lemmas.Bool.{cond_both}
 use Rattle.std.proofs.lemmas.List.{length-replicate}
 use Rattle.reference.specs.declared.access.Request.{Request}
 use Rattle.reference.specs.declared.event.Event.{Event}
@@ -37,7 +38,6 @@ use Rattle.state_laws.proofs.Effects.{Leaves, stack_pointer_is, code_address_is,
 use Rattle.state_laws.proofs.Effects.{result_kept}
 use Rattle.state_laws.proofs.Frames.{Has, LeavesGood, failed_kept, supervisor_kept, entry_kept, vector_step_kept}
 use Rattle.state_laws.proofs.Frames.{return_kept}
-use Rattle.state_laws.proofs.Nvic.{either}
 use Rattle.state_laws.proofs.Registers.{zeros_are_words, alike, with_flags, msp_kept, psp_kept, writes_kept}
 
 -- ---- the end of an instruction
@@ -64,7 +64,7 @@ write_special_kept : (r : Registers) (special : SpecialRegister) (value : ℕ) �
     HasRegisters (write_special r special value)
 unfolding write_special
 write_special_kept r special value h =
-    either HasRegisters (is_privileged r || is_open special) _ _ (λ e. special_kept r special value h) (λ e. h)
+    cond_both (is_privileged r || is_open special) _ _ HasRegisters (λ e. special_kept r special value h) (λ e. h)
 
 ended_kept : (s : State) (events : List Event) (end : Ending) → Has s → LeavesGood (ended s events end)
 ended_kept s events ending.Next h = h
@@ -107,7 +107,7 @@ planned_kept s events i (Err why) h = failed_kept s events why h
 meaningless_kept : (s : State) (events : List Event) (length : InstructionLength) (fault : UsageFault) → Has s →
     LeavesGood (without_meaning s events length fault)
 meaningless_kept s events length fault h =
-    either LeavesGood (condition_passed s.registers.it_state s.registers.flags) _ _
+    cond_both (condition_passed s.registers.it_state s.registers.flags) _ _ LeavesGood
     (λ passed. failed_kept s events (failure.Usage fault) h)
     (λ skipped. finished_kept s events (moves_on length s.registers) (moves_on_kept writes_kept length s.registers h))
 
@@ -130,7 +130,7 @@ second_kept s events hw1 (Err why) h = failed_kept s events why h
 with_second_kept : (s : State) (events : List Event) (hw1 : ℕ) → Has s → LeavesGood (with_second s events hw1)
 unfolding with_second
 with_second_kept s events hw1 h =
-    either LeavesGood (is_long hw1) _ _ (λ long. second_kept _ _ hw1 _ h)
+    cond_both (is_long hw1) _ _ LeavesGood (λ long. second_kept _ _ hw1 _ h)
     (λ short. executed_kept s events Short _ h)
 
 first_kept : (s : State) (events : List Event) (answer : Result ℕ Failure) → Has s →
@@ -141,7 +141,7 @@ first_kept s events (Err why) h = failed_kept s events why h
 instruction_kept : (s : State) → Has s → LeavesGood (instruction s)
 unfolding instruction
 instruction_kept s h =
-    either LeavesGood s.registers.thumb _ _ (λ thumb. first_kept _ _ _ h)
+    cond_both s.registers.thumb _ _ LeavesGood (λ thumb. first_kept _ _ _ h)
     (λ arm. failed_kept s [] (failure.Usage InvalidState) h)
 
 -- ---- the step
@@ -151,11 +151,11 @@ unfolding phase
 phase_kept s (Some e) exception h = vector_step_kept s e h
 phase_kept s None (Some exception) h = entry_kept s h
 phase_kept s None None h =
-    either LeavesGood (sleeps_on s) _ _ (λ sleeps. h) (λ wakes. instruction_kept (record s { asleep = false }) h)
+    cond_both (sleeps_on s) _ _ LeavesGood (λ sleeps. h) (λ wakes. instruction_kept (record s { asleep = false }) h)
 
 running_kept : (s : State) → Has s → LeavesGood (running s)
 running_kept s h =
-    either LeavesGood (nat_le last_tick s.bus.system.time.ticks) _ _ (λ late. h)
+    cond_both (nat_le last_tick s.bus.system.time.ticks) _ _ LeavesGood (λ late. h)
     (λ early. phase_kept (ticked s) s.entry _ h)
 
 stopped_kept : (s : State) (why : Option Stop) → Has s → LeavesGood (unless_stopped s why)

@@ -1,6 +1,8 @@
 -- An entry phase without a stop has a candidate after each phase of a step.
 use Rattle.std.proofs.Common.{◌≡◌, ℕ, ◌<◌, nat_le, Bool, true, false, not, is_some, List, [], ◌∷◌, ◌++◌, length}
 use Rattle.std.proofs.Common.{Option, Some, None, Result, Ok, Err, refl, ◌∙◌, ap, arith}
+use Rattle.std.proofs.lemmas.Bool.{cond_both}
+use Rattle.nvic.proofs.Systems.{ended_kept}
 use Rattle.reference.specs.declared.access.Cause.{Cause}
 use Rattle.reference.specs.declared.access.Cause.TheVariants as cause
 use Rattle.reference.specs.declared.access.Decision.{Decision}
@@ -54,9 +56,8 @@ use Rattle.reference.specs.Words.{word_sum, is_bit}
 use Rattle.state_laws.proofs.Accesses.{IsWholeBus, perform_whole, served_whole}
 use Rattle.state_laws.proofs.Candidates.{Calls, Follows, pending_calls, pended_calls, escalation_follows}
 use Rattle.state_laws.proofs.Faults.{HasWhole}
-use Rattle.state_laws.proofs.Nvic.{either}
 use Rattle.state_laws.proofs.Steps.{is_early}
-use Rattle.state_laws.proofs.Systems.{ended_whole, tick_whole}
+use Rattle.state_laws.proofs.Systems.{tick_whole, parts_kept}
 
 -- an entry phase has a candidate, unless the machine has stopped
 abbrev pub IsCalled : State → Type 0
@@ -113,7 +114,7 @@ faulted_called : (lines bits : ℕ) (s : State) (events : List Event) (f : Fault
 unfolding faulted
 faulted_called lines bits s events f is h =
     escalated_called (recorded s f) events f.exception _
-    (escalation_follows s.bus.system.nvic f.exception h.0.nvic.board.pending.places is.small
+    (escalation_follows s.bus.system.nvic f.exception h.0.nvic.board.sets.pending.places is.small
     (is.exists s.bus.system.nvic.lines))
 
 failed_called : (lines bits : ℕ) (s : State) (events : List Event) (why : Failure) → HasWhole lines bits s →
@@ -146,8 +147,8 @@ Keeps s a = a.bus.system ≡ s
 carried_leaves : (x : ℕ) (b : Bus) (q : Request) → IsApart q → Keeps b.system (answered_by_bus x b q)
 unfolding answered_by_bus
 carried_leaves x b q apart =
-    either (Keeps b.system) (is_probe q.access.kind) _ _ (λ e. refl)
-    (λ e. either (Keeps b.system) (is_in_ppb q.access.address) _ _ (λ f. apart x b.system) (λ f. refl))
+    cond_both (is_probe q.access.kind) _ _ (Keeps b.system) (λ e. refl)
+    (λ e. cond_both (is_in_ppb q.access.address) _ _ (Keeps b.system) (λ f. apart x b.system) (λ f. refl))
 
 decided_leaves : (x : ℕ) (b : Bus) (q : Request) (d : Decision) (granted : Bool) → d.granted ≡ granted → IsApart q →
     (decided x b q d).bus.system ≡ b.system
@@ -208,7 +209,7 @@ vector_called : (lines bits : ℕ) (s : State) (events : List Event) (x e : ℕ)
     HasWhole lines bits s → Calls s.bus.system.nvic → LeavesCalled (vector_taken s events x e answer)
 vector_called lines bits s events x e (Ok vector) h c = λ stop entry. absurd (let w : ⊥ = cc in w)
 vector_called lines bits s events x e (Err (failure.Refused access cause)) h c =
-    either LeavesCalled (is_fixed x) _ _ (λ f stop entry. some_none _ _ stop)
+    cond_both (is_fixed x) _ _ LeavesCalled (λ f stop entry. some_none _ _ stop)
     (λ f stop entry. pending_calls s.bus.system.nvic HARD_FAULT c)
 vector_called lines bits s events x e (Err (failure.Usage fault)) h c =
     failed_called lines bits s events (failure.Usage fault) h
@@ -241,9 +242,9 @@ unstacked_called : (lines bits : ℕ) (s : State) (events : List Event) (e : ℕ
     HasWhole lines bits s → s.entry ≡ None → LeavesCalled (unstacked s events e frame)
 unfolding unstacked
 unstacked_called lines bits s events e frame h out =
-    either LeavesCalled (not (fits_mode e frame)) _ _
+    cond_both (not (fits_mode e frame)) _ _ LeavesCalled
     (λ is. failed_called lines bits (with_entry s e) events (failure.Usage InvalidReturn) h)
-    (λ is. either LeavesCalled (is_bit (popped_pc frame) 0) _ _ (λ odd stop entry. some_none _ _ stop)
+    (λ is. cond_both (is_bit (popped_pc frame) 0) _ _ LeavesCalled (λ odd stop entry. some_none _ _ stop)
     (λ even stop entry. none _ _ out entry))
 
 read_called : (lines bits : ℕ) (s : State) (events : List Event) (e : ℕ) (all : ListResult) (end : Option Failure) →
@@ -277,10 +278,10 @@ return_called : (lines bits : ℕ) (s : State) (before : List Event) (e : ℕ) �
     s.entry ≡ None → LeavesCalled (exception_return s before e)
 unfolding exception_return
 return_called lines bits s before e h out =
-    either LeavesCalled (has_reserved_ones e) _ _
+    cond_both (has_reserved_ones e) _ _ LeavesCalled
     (λ ones. returned_called lines bits (with_system s (exception_ended s.bus.system s.registers.exception))
     (before ++ return_line s e ∷ []) e (is_allowed s e)
-    (ended_whole lines bits s.bus.system s.registers.exception h.0, h.1) out)
+    (ended_kept (parts_kept lines bits) s.bus.system s.registers.exception h.0, h.1) out)
     (λ other stop entry. some_none _ _ stop)
 
 -- ---- an instruction
@@ -323,7 +324,7 @@ meaningless_called : (lines bits : ℕ) (s : State) (events : List Event) (lengt
     (fault : UsageFault) →
     HasWhole lines bits s → s.entry ≡ None → LeavesCalled (without_meaning s events length fault)
 meaningless_called lines bits s events length fault h out =
-    either LeavesCalled (condition_passed s.registers.it_state s.registers.flags) _ _
+    cond_both (condition_passed s.registers.it_state s.registers.flags) _ _ LeavesCalled
     (λ passed. failed_called lines bits s events (failure.Usage fault) h) (λ skipped stop entry. none _ _ out entry)
 
 executed_called : (lines bits : ℕ) (s : State) (events : List Event) (length : InstructionLength) (d : Decoded) →
@@ -344,7 +345,7 @@ with_second_called : (lines bits : ℕ) (s : State) (events : List Event) (hw1 :
     s.entry ≡ None → LeavesCalled (with_second s events hw1)
 unfolding with_second
 with_second_called lines bits s events hw1 h out =
-    either LeavesCalled (is_long hw1) _ _
+    cond_both (is_long hw1) _ _ LeavesCalled
     (λ long. second_called lines bits _ _ hw1 _
     (perform_whole lines bits s.registers.exception s.bus (fetching s.registers (word_sum s.registers.pc 2)) h) out)
     (λ short. executed_called lines bits s events Short _ h out)
@@ -358,7 +359,7 @@ instruction_called : (lines bits : ℕ) (s : State) → HasWhole lines bits s �
     LeavesCalled (instruction s)
 unfolding instruction
 instruction_called lines bits s h out =
-    either LeavesCalled s.registers.thumb _ _
+    cond_both s.registers.thumb _ _ LeavesCalled
     (λ thumb. first_called lines bits _ _ _
     (perform_whole lines bits s.registers.exception s.bus (fetching s.registers s.registers.pc) h) out)
     (λ arm. failed_called lines bits s [] (failure.Usage InvalidState) h)
@@ -372,7 +373,7 @@ unfolding phase
 phase_called lines bits s (Some e) next is is_next h c = vector_step_called lines bits s e h (c refl)
 phase_called lines bits s None (Some x) is is_next h c = entry_called lines bits s h (ap is_some is_next)
 phase_called lines bits s None None is is_next h c =
-    either LeavesCalled (sleeps_on s) _ _ (λ sleeps stop entry. none _ _ is entry)
+    cond_both (sleeps_on s) _ _ LeavesCalled (λ sleeps stop entry. none _ _ is entry)
     (λ wakes. instruction_called lines bits (record s { asleep = false }) h is)
 
 tick_calls : (s : System) → Calls s.nvic → Calls (after_tick s).nvic
@@ -382,7 +383,7 @@ tick_calls s c = pended_calls s.nvic (tick_pends s.time) c
 running_called : (lines bits : ℕ) (s : State) → s.stop ≡ None → HasWhole lines bits s → IsCalled s →
     LeavesCalled (running s)
 running_called lines bits s going h c =
-    either LeavesCalled (nat_le last_tick s.bus.system.time.ticks) _ _ (λ late stop entry. some_none _ _ stop)
+    cond_both (nat_le last_tick s.bus.system.time.ticks) _ _ LeavesCalled (λ late stop entry. some_none _ _ stop)
     (λ early. phase_called lines bits (ticked s) s.entry _ refl refl
     (tick_whole lines bits s.bus.system (is_early s.bus.system.time.ticks early) h.0, h.1)
     (λ entering. tick_calls s.bus.system (c going entering)))

@@ -1,6 +1,8 @@
 -- A fault, its escalation, SVC, and the entry into a handler and the return from it keep what holds of the System
 -- Control Space.
 use Rattle.std.proofs.Common.{ℕ, Bool, true, false, not, List, [], ◌∷◌, ◌++◌, Option, Some, None, Result, Ok, Err}
+use Rattle.std.proofs.lemmas.Bool.{cond_both}
+use Rattle.nvic.proofs.Systems.{pending_kept, begun_kept, ended_kept, with_status_kept}
 use Rattle.reference.specs.declared.event.Event.{Event}
 use Rattle.reference.specs.declared.exception.Escalation.{Escalation}
 use Rattle.reference.specs.declared.exception.Escalation.TheVariants.{Itself, HardFault, Lockup}
@@ -21,8 +23,7 @@ use Rattle.reference.specs.Priorities.{is_fixed}
 use Rattle.reference.specs.State.{State, Stepped, with_bus, with_system}
 use Rattle.reference.specs.Words.{is_bit}
 use Rattle.state_laws.proofs.Accesses.{IsWholeBus, perform_whole, served_whole}
-use Rattle.state_laws.proofs.Nvic.{either}
-use Rattle.state_laws.proofs.Systems.{status_whole, pending_whole, activated_whole, ended_whole}
+use Rattle.state_laws.proofs.Systems.{parts_kept}
 
 -- the same of a state, and of what a step makes of one
 abbrev pub HasWhole : ℕ → ℕ → State → Type 0
@@ -35,13 +36,14 @@ LeavesWhole lines bits step = HasWhole lines bits step.state
 
 recorded_whole : (lines bits : ℕ) (s : State) (f : FaultEffect) → HasWhole lines bits s →
     HasWhole lines bits (recorded s f)
-recorded_whole lines bits s f h = (status_whole lines bits s.bus.system _ h.0, h.1)
+recorded_whole lines bits s f h = (with_status_kept (parts_kept lines bits) s.bus.system _ h.0, h.1)
 
 escalated_whole : (lines bits : ℕ) (s : State) (events : List Event) (x : ℕ) (e : Escalation) →
     HasWhole lines bits s → LeavesWhole lines bits (escalated s events x e)
-escalated_whole lines bits s events x Itself h = (pending_whole lines bits s.bus.system x true h.0, h.1)
+escalated_whole lines bits s events x Itself h = (pending_kept (parts_kept lines bits) s.bus.system x true h.0, h.1)
 escalated_whole lines bits s events x HardFault h =
-    (pending_whole lines bits _ HARD_FAULT true (status_whole lines bits s.bus.system _ h.0), h.1)
+    let k = parts_kept lines bits in
+    (pending_kept k _ HARD_FAULT true (with_status_kept k s.bus.system _ h.0), h.1)
 escalated_whole lines bits s events x Lockup h = h
 
 faulted_whole : (lines bits : ℕ) (s : State) (events : List Event) (f : FaultEffect) → HasWhole lines bits s →
@@ -59,7 +61,7 @@ failed_whole lines bits s events (failure.Stop why) h = h
 
 called_whole : (lines bits : ℕ) (s : State) (events : List Event) (e : Escalation) → HasWhole lines bits s →
     LeavesWhole lines bits (supervisor_called_by s events e)
-called_whole lines bits s events Itself h = (pending_whole lines bits s.bus.system SV_CALL true h.0, h.1)
+called_whole lines bits s events Itself h = (pending_kept (parts_kept lines bits) s.bus.system SV_CALL true h.0, h.1)
 called_whole lines bits s events HardFault h = escalated_whole lines bits s events SV_CALL HardFault h
 called_whole lines bits s events Lockup h = h
 
@@ -85,12 +87,12 @@ entry_whole lines bits s h =
 refused_whole : (lines bits : ℕ) (s : State) (events : List Event) (x : ℕ) → HasWhole lines bits s →
     LeavesWhole lines bits (vector_refused s events x)
 refused_whole lines bits s events x h =
-    either (LeavesWhole lines bits) (is_fixed x) _ _ (λ e. recorded_whole lines bits s vector_fault h)
-    (λ e. (pending_whole lines bits _ HARD_FAULT true (recorded_whole lines bits s vector_fault h).0, h.1))
+    cond_both (is_fixed x) _ _ (LeavesWhole lines bits) (λ e. recorded_whole lines bits s vector_fault h)
+    (λ e. (pending_kept (parts_kept lines bits) _ HARD_FAULT true (recorded_whole lines bits s vector_fault h).0, h.1))
 
 vector_whole : (lines bits : ℕ) (s : State) (events : List Event) (x e : ℕ) (answer : Result ℕ Failure) →
     HasWhole lines bits s → LeavesWhole lines bits (vector_taken s events x e answer)
-vector_whole lines bits s events x e (Ok vector) h = (activated_whole lines bits s.bus.system x h.0, h.1)
+vector_whole lines bits s events x e (Ok vector) h = (begun_kept (parts_kept lines bits) s.bus.system x h.0, h.1)
 vector_whole lines bits s events x e (Err (failure.Refused access cause)) h = refused_whole lines bits s events x h
 vector_whole lines bits s events x e (Err (failure.Usage fault)) h =
     failed_whole lines bits s events (failure.Usage fault) h
@@ -118,9 +120,9 @@ unstacked_whole : (lines bits : ℕ) (s : State) (events : List Event) (e : ℕ)
     HasWhole lines bits s → LeavesWhole lines bits (unstacked s events e frame)
 unfolding unstacked
 unstacked_whole lines bits s events e frame h =
-    either (LeavesWhole lines bits) (not (fits_mode e frame)) _ _
+    cond_both (not (fits_mode e frame)) _ _ (LeavesWhole lines bits)
     (λ is. failed_whole lines bits (with_entry s e) events (failure.Usage InvalidReturn) h)
-    (λ is. either (LeavesWhole lines bits) (is_bit (popped_pc frame) 0) _ _ (λ odd. h) (λ even. h))
+    (λ is. cond_both (is_bit (popped_pc frame) 0) _ _ (LeavesWhole lines bits) (λ odd. h) (λ even. h))
 
 read_whole : (lines bits : ℕ) (s : State) (events : List Event) (e : ℕ) (all : ListResult) (end : Option Failure) →
     IsWholeBus lines bits all.bus → LeavesWhole lines bits (frame_read s events e all end)
@@ -152,8 +154,8 @@ pub return_whole : (lines bits : ℕ) (s : State) (before : List Event) (e : ℕ
     LeavesWhole lines bits (exception_return s before e)
 unfolding exception_return
 return_whole lines bits s before e h =
-    either (LeavesWhole lines bits) (has_reserved_ones e) _ _
+    cond_both (has_reserved_ones e) _ _ (LeavesWhole lines bits)
     (λ ones. returned_whole lines bits (with_system s (exception_ended s.bus.system s.registers.exception))
     (before ++ return_line s e ∷ []) e (is_allowed s e)
-    (ended_whole lines bits s.bus.system s.registers.exception h.0, h.1))
+    (ended_kept (parts_kept lines bits) s.bus.system s.registers.exception h.0, h.1))
     (λ other. h)

@@ -1,6 +1,7 @@
 -- A fault, SVC, and the entry into a handler and the return from it keep what holds of the core registers.
 use Rattle.std.proofs.Common.{◌≡◌, ℕ, ◌%◌, ◌^◌, ◌<◌, Bool, true, false, not, List, [], ◌∷◌, ◌++◌, Option, Some, None}
 use Rattle.std.proofs.Common.{Result, Ok, Err, bit_or, length, ◌∙◌, ap, arith}
+use Rattle.std.proofs.lemmas.Bool.{cond_both}
 use Rattle.std.proofs.lemmas.Bool.Decides.{nat_tests}
 use Rattle.std.proofs.lemmas.List.{length-set}
 use Rattle.std.proofs.lemmas.Nat.{or_lt, or_mod}
@@ -29,7 +30,6 @@ use Rattle.reference.specs.Priorities.{Nvic, candidate, is_fixed}
 use Rattle.reference.specs.Registers.{Registers, sp}
 use Rattle.reference.specs.State.{State, Stepped, with_bus, with_system}
 use Rattle.reference.specs.Words.{word_sum, is_bit}
-use Rattle.state_laws.proofs.Nvic.{either}
 use Rattle.state_laws.proofs.Registers.{AreWords, words_set, psp_kept, msp_kept, writes_kept}
 use Rattle.state_laws.proofs.Effects.{sp_kept, exchange_kept, moves_on_kept}
 
@@ -110,7 +110,7 @@ vector_kept : (s : State) (events : List Event) (x e : ℕ) (answer : Result ℕ
     LeavesGood (vector_taken s events x e answer)
 vector_kept s events x e (Ok vector) small h = handler_kept s.registers x e vector small h
 vector_kept s events x e (Err (failure.Refused access cause)) small h =
-    either LeavesGood (is_fixed x) _ _ (λ f. h) (λ f. h)
+    cond_both (is_fixed x) _ _ LeavesGood (λ f. h) (λ f. h)
 vector_kept s events x e (Err (failure.Usage fault)) small h = failed_kept s events (failure.Usage fault) h
 vector_kept s events x e (Err (failure.Stop why)) small h = h
 
@@ -138,14 +138,14 @@ raised x is = record {
 above_is : (base xpsr : ℕ) → base % 4 ≡ 0 → IsStackPointer (above_frame base xpsr)
 above_is base xpsr aligned =
     let up : IsStackPointer (word_sum base 0x20) = record { word = omega arith; aligned = omega arith } in
-    either IsStackPointer (is_bit xpsr 9) _ _ (λ f. raised (word_sum base 0x20) up) (λ f. up)
+    cond_both (is_bit xpsr 9) _ _ IsStackPointer (λ f. raised (word_sum base 0x20) up) (λ f. up)
 
 frame_aligned : (r : Registers) (e : ℕ) → HasRegisters r → frame_pointer r e % 4 ≡ 0
-frame_aligned r e h = either (λ x. x % 4 ≡ 0) (returns_on_psp e) _ _ (λ f. h.psp.aligned) (λ f. h.msp.aligned)
+frame_aligned r e h = cond_both (returns_on_psp e) _ _ (λ x. x % 4 ≡ 0) (λ f. h.psp.aligned) (λ f. h.msp.aligned)
 
 frame_of_kept : (r : Registers) (e v : ℕ) → IsStackPointer v → HasRegisters r → HasRegisters (with_frame_pointer r e v)
 frame_of_kept r e v is h =
-    either HasRegisters (returns_on_psp e) _ _ (λ f. psp_kept r v is h) (λ f. msp_kept r v is h)
+    cond_both (returns_on_psp e) _ _ HasRegisters (λ f. psp_kept r v is h) (λ f. msp_kept r v is h)
 
 -- a return address without its bit 0 is even
 is_even : (v : ℕ) → is_bit v 0 ≡ false → v % 2 ≡ 0
@@ -185,9 +185,9 @@ unstacked_kept : (s : State) (events : List Event) (e : ℕ) (frame : List ℕ) 
     LeavesGood (unstacked s events e frame)
 unfolding unstacked
 unstacked_kept s events e frame h =
-    either LeavesGood (not (fits_mode e frame)) _ _
+    cond_both (not (fits_mode e frame)) _ _ LeavesGood
     (λ is. failed_kept (with_entry s e) events (failure.Usage InvalidReturn) h)
-    (λ is. either LeavesGood (is_bit (popped_pc frame) 0) _ _ (λ odd. h)
+    (λ is. cond_both (is_bit (popped_pc frame) 0) _ _ LeavesGood (λ odd. h)
     (λ even. popped_kept s.registers e frame even h))
 
 read_kept : (s : State) (events : List Event) (e : ℕ) (all : ListResult) (end : Option Failure) → Has s →
@@ -214,7 +214,7 @@ returned_kept s events e false h = failed_kept (with_entry s e) events (failure.
 pub return_kept : (s : State) (before : List Event) (e : ℕ) → Has s → LeavesGood (exception_return s before e)
 unfolding exception_return
 return_kept s before e h =
-    either LeavesGood (has_reserved_ones e) _ _
+    cond_both (has_reserved_ones e) _ _ LeavesGood
     (λ ones. returned_kept (with_system s (exception_ended s.bus.system s.registers.exception))
     (before ++ return_line s e ∷ []) e (is_allowed s e) h)
     (λ other. h)

@@ -1,4 +1,3 @@
-pub mod Nvic
 mod Sets
 mod Ticks
 mod Systems

@@ -1,6 +1,7 @@
 -- Each write of a core register keeps what the invariant says of them.
 use Rattle.std.proofs.Common.{◌≡◌, ℕ, zero, suc, ◌%◌, ◌^◌, ◌<◌, not, ◌==◌, List, [], ◌∷◌, slice_index, slice_set}
 use Rattle.std.proofs.Common.{replicate, refl, ◌∙◌, arith}
+use Rattle.std.proofs.lemmas.Bool.{cond_both}
 use Rattle.std.proofs.lemmas.List.{length-set}
 use Rattle.reference.specs.declared.instruction.InstructionLength.TheVariants.{Short, Long}
 use Rattle.reference.specs.declared.instruction.InstructionLength.{InstructionLength}
@@ -11,7 +12,6 @@ use Rattle.reference.specs.ProgramCounter.{advanced, instruction_bytes}
 use Rattle.reference.specs.Registers.{Registers}
 use Rattle.reference.specs.Words.{word_sum}
 use Rattle.state_laws.proofs.Effects.{KeepsWrites}
-use Rattle.state_laws.proofs.Nvic.{either}
 
 -- ---- values
 
@@ -129,8 +129,8 @@ with_it r it small h = record {
 
 advance_small : (it : ℕ) → it < 2 ^ 8 → it_advance it < 2 ^ 8
 advance_small it small =
-    either (λ x. x < 2 ^ 8) (not (in_it_block it)) _ _ (λ e. small)
-    (λ e. either (λ x. x < 2 ^ 8) (it % 2 ^ 3 == 0) _ _ (λ f. omega arith) (λ f. omega arith))
+    cond_both (not (in_it_block it)) _ _ (λ x. x < 2 ^ 8) (λ e. small)
+    (λ e. cond_both (it % 2 ^ 3 == 0) _ _ (λ x. x < 2 ^ 8) (λ f. omega arith) (λ f. omega arith))
 
 advanced_kept : (r : Registers) → HasRegisters r → HasRegisters (advanced r)
 advanced_kept r h = with_it r (it_advance r.it_state) (advance_small r.it_state h.it_state) h

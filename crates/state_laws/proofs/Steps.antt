@@ -1,7 +1,9 @@
 -- The phases of a step keep what holds of the System Control Space, from the last one up.
 use Rattle.std.proofs.Common.{◌≡◌, ℕ, ◌<◌, nat_le, false, List, [], ◌++◌, Option, Some, None, Result, Ok, Err}
 use Rattle.std.proofs.Common.{arith}
+use Rattle.std.proofs.lemmas.Bool.{cond_both}
 use Rattle.std.proofs.lemmas.Bool.Decides.{nat_tests}
+use Rattle.nvic.proofs.Systems.{ended_kept, cps_kept, msr_kept}
 use Rattle.reference.specs.declared.access.Request.{Request}
 use Rattle.reference.specs.declared.event.Event.{Event}
 use Rattle.reference.specs.declared.failure.Failure.{Failure}
@@ -31,8 +33,7 @@ use Rattle.reference.specs.Words.{word_sum}
 use Rattle.state_laws.proofs.Accesses.{IsWholeBus, perform_whole, served_whole}
 use Rattle.state_laws.proofs.Faults.{HasWhole, LeavesWhole, failed_whole, supervisor_whole, entry_whole}
 use Rattle.state_laws.proofs.Faults.{vector_step_whole, return_whole}
-use Rattle.state_laws.proofs.Nvic.{either}
-use Rattle.state_laws.proofs.Systems.{mask_whole, state_whole, tick_whole}
+use Rattle.state_laws.proofs.Systems.{tick_whole, parts_kept}
 
 -- ---- the end of an instruction
 
@@ -41,9 +42,9 @@ ended_whole : (lines bits : ℕ) (s : State) (events : List Event) (end : Ending
 ended_whole lines bits s events ending.Next h = h
 ended_whole lines bits s events (ending.ReadSpecial o) h = h
 ended_whole lines bits s events (ending.WriteSpecial special value) h =
-    (mask_whole lines bits s.bus.system (is_privileged s.registers) special value h.0, h.1)
+    (msr_kept (parts_kept lines bits) s.bus.system (is_privileged s.registers) special value h.0, h.1)
 ended_whole lines bits s events (ending.ChangeState o) h =
-    (state_whole lines bits s.bus.system (is_privileged s.registers) o h.0, h.1)
+    (cps_kept (parts_kept lines bits) s.bus.system (is_privileged s.registers) o h.0, h.1)
 ended_whole lines bits s events ending.Sleep h = h
 ended_whole lines bits s events (ending.SupervisorCall number) h = supervisor_whole lines bits s events h
 ended_whole lines bits s events (ending.Breakpoint number) h = h
@@ -82,7 +83,7 @@ meaningless_whole : (lines bits : ℕ) (s : State) (events : List Event) (length
     (fault : UsageFault) →
     HasWhole lines bits s → LeavesWhole lines bits (without_meaning s events length fault)
 meaningless_whole lines bits s events length fault h =
-    either (LeavesWhole lines bits) (condition_passed s.registers.it_state s.registers.flags) _ _
+    cond_both (condition_passed s.registers.it_state s.registers.flags) _ _ (LeavesWhole lines bits)
     (λ passed. failed_whole lines bits s events (failure.Usage fault) h)
     (λ skipped. finished_whole lines bits s events (moves_on length s.registers) h)
 
@@ -106,7 +107,7 @@ with_second_whole : (lines bits : ℕ) (s : State) (events : List Event) (hw1 : 
     LeavesWhole lines bits (with_second s events hw1)
 unfolding with_second
 with_second_whole lines bits s events hw1 h =
-    either (LeavesWhole lines bits) (is_long hw1) _ _
+    cond_both (is_long hw1) _ _ (LeavesWhole lines bits)
     (λ long. second_whole lines bits _ _ hw1 _
     (perform_whole lines bits s.registers.exception s.bus (fetching s.registers (word_sum s.registers.pc 2)) h))
     (λ short. executed_whole lines bits s events Short _ h)
@@ -119,7 +120,7 @@ first_whole lines bits s events (Err why) h = failed_whole lines bits s events w
 instruction_whole : (lines bits : ℕ) (s : State) → HasWhole lines bits s → LeavesWhole lines bits (instruction s)
 unfolding instruction
 instruction_whole lines bits s h =
-    either (LeavesWhole lines bits) s.registers.thumb _ _
+    cond_both s.registers.thumb _ _ (LeavesWhole lines bits)
     (λ thumb. first_whole lines bits _ _ _
     (perform_whole lines bits s.registers.exception s.bus (fetching s.registers s.registers.pc) h))
     (λ arm. failed_whole lines bits s [] (failure.Usage InvalidState) h)
@@ -132,7 +133,7 @@ unfolding phase
 phase_whole lines bits s (Some e) exception h = vector_step_whole lines bits s e h
 phase_whole lines bits s None (Some exception) h = entry_whole lines bits s h
 phase_whole lines bits s None None h =
-    either (LeavesWhole lines bits) (sleeps_on s) _ _ (λ sleeps. h)
+    cond_both (sleeps_on s) _ _ (LeavesWhole lines bits) (λ sleeps. h)
     (λ wakes. instruction_whole lines bits (record s { asleep = false }) h)
 
 pub is_early : (ticks : ℕ) → nat_le last_tick ticks ≡ false → ticks < last_tick
@@ -140,7 +141,7 @@ is_early ticks e = grind (arith, nat_tests, e)
 
 running_whole : (lines bits : ℕ) (s : State) → HasWhole lines bits s → LeavesWhole lines bits (running s)
 running_whole lines bits s h =
-    either (LeavesWhole lines bits) (nat_le last_tick s.bus.system.time.ticks) _ _ (λ late. h)
+    cond_both (nat_le last_tick s.bus.system.time.ticks) _ _ (LeavesWhole lines bits) (λ late. h)
     (λ early. phase_whole lines bits (ticked s) s.entry _
     (tick_whole lines bits s.bus.system (is_early s.bus.system.time.ticks early) h.0, h.1))
 
