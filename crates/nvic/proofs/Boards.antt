@@ -55,7 +55,7 @@ member_set lines s x on h =
     (λ e. set_of (is_exception lines) s x on e h) (λ e. h)
 
 -- what was kept is kept
-kept_again : (bits b : ℕ) → kept bits (kept bits b) ≡ kept bits b
+pub kept_again : (bits b : ℕ) → kept bits (kept bits b) ≡ kept bits b
 kept_again bits b = let d = 2 ^ (8 - bits) in ap (λ q. q * d) (mul-div_left (b / d) {n = d} (pow_pos (8 - bits)))
 
 set_kept : (bits : ℕ) (bytes : List ℕ) (x b : ℕ) → AreKept bits bytes → AreKept bits (slice_set bytes x (kept bits b))
@@ -67,14 +67,11 @@ set_kept bits bytes x b h = record {
 kept_none : (bits : ℕ) → kept bits 0 ≡ 0
 kept_none bits = let d = 2 ^ (8 - bits) in ap (λ q. q * d) (zero-div d) ∙ zero-mul d
 
-no_bytes : (bits : ℕ) → AreKept bits (replicate EXCEPTIONS 0)
+pub no_bytes : (bits : ℕ) → AreKept bits (replicate EXCEPTIONS 0)
 no_bytes bits = record {
   places = length-replicate {A = ℕ} EXCEPTIONS 0;
-  keep = λ x. none (slice_index (replicate EXCEPTIONS 0) x) (same_each EXCEPTIONS 0 x);
+  keep = λ x. let e : slice_index (replicate EXCEPTIONS 0) x ≡ 0 = same_each EXCEPTIONS 0 x in rw e (kept_none bits);
 }
-  where
-    none : (b : ℕ) → b ≡ 0 → kept bits b ≡ b
-    none b e = rw e (kept_none bits)
 
 -- ---- the changes
 

@@ -1,17 +1,18 @@
 -- There is a candidate still where more exceptions become pending, and where a fault is taken.
-use Rattle.std.proofs.Common.{◌≡◌, ℕ, zero, suc, ◌<◌, min, Bool, true, false, ◌&&◌, is_some, nat_lt, List, length}
+use Rattle.std.proofs.Common.{◌≡◌, ℕ, ◌<◌, min, Bool, true, false, ◌&&◌, is_some, nat_lt, List, length}
 use Rattle.std.proofs.Common.{slice_set, Option, Some, None, refl, ap, arith}
 use Rattle.std.proofs.lemmas.Bool.{cond_both, and_parts, ltb-true, ltb-false}
 use Rattle.std.proofs.lemmas.List.{get_or-set_same}
 use Rattle.nvic.proofs.Best.{candidate_is}
 use Rattle.nvic.proofs.Boards.{at_each}
 use Rattle.nvic.proofs.Changes.{pended_kept}
+use Rattle.nvic.proofs.Least.{highest_alike}
 use Rattle.nvic.specs.Laws.{IsReady, IsCandidate}
 use Rattle.reference.specs.declared.exception.Escalation.{Escalation}
 use Rattle.reference.specs.declared.exception.Escalation.TheVariants.{Itself, HardFault, Lockup}
 use Rattle.reference.specs.declared.exception.TheConstants.{EXCEPTIONS, HARD_FAULT}
-use Rattle.reference.specs.Priorities.{Nvic, is_in, is_enabled, is_exception, is_negative, group_priority, raised_by}
-use Rattle.reference.specs.Priorities.{highest_active, boosted, execution_priority, candidate, with_pending, escalation}
+use Rattle.reference.specs.Priorities.{Nvic, is_in, is_enabled, is_exception, is_negative, group_priority}
+use Rattle.reference.specs.Priorities.{boosted, execution_priority, candidate, with_pending, escalation}
 use Rattle.reference.specs.System.{with_pended}
 
 -- ---- there is a candidate
@@ -42,14 +43,10 @@ preempts n h = lead (candidate n) (candidate_is n) h
 
 -- ---- more become pending
 
-least_kept : (n : Nvic) (p : List Bool) (k : ℕ) → highest_active (record n { pending = p }) k ≡ highest_active n k
-unfolding highest_active
-least_kept n p zero = refl
-least_kept n p (suc k) = ap (λ least. raised_by n k least) (least_kept n p k)
-
 execution_kept : (n : Nvic) (p : List Bool) → execution_priority (record n { pending = p }) ≡ execution_priority n
 unfolding execution_priority
-execution_kept n p = ap (λ least. min least (boosted n.group n.masks)) (least_kept n p EXCEPTIONS)
+execution_kept n p =
+    ap (λ least. min least (boosted n.group n.masks)) (highest_alike n p n.enabled n.masks EXCEPTIONS)
 
 grows : (s : List Bool) (x y : ℕ) → is_in s y ≡ true → is_in (slice_set s x true) y ≡ true
 grows s x y = at_each (λ j b. is_in s j ≡ true → b ≡ true) s x true false (λ e. refl) (λ j e. e) y

@@ -1,6 +1,6 @@
 -- One access, and a list of them.
-use Rattle.std.proofs.Common.{◌≡◌, inl, inr, ℕ, zero, suc, ◌+◌, ◌/◌, nat_le, nat_lt, Bool, true, false, ◌&&◌, ◌||◌}
-use Rattle.std.proofs.Common.{List, [], ◌∷◌, length, Some, Result, Ok, Err, refl, ap, arith}
+use Rattle.std.proofs.Common.{◌≡◌, inl, inr, ℕ, ◌+◌, nat_le, nat_lt, Bool, true, false, ◌&&◌, ◌||◌}
+use Rattle.std.proofs.Common.{List, [], ◌∷◌, length, Some, Result, Ok, Err, refl, arith}
 use Rattle.std.proofs.lemmas.Bool.{cond_both}
 use Rattle.std.proofs.lemmas.Bool.Decides.{nat_tests}
 use Rattle.reference.specs.declared.access.Answer.TheVariants as answer
@@ -23,12 +23,9 @@ use Rattle.step_laws.specs.AccessLaw.{NoneRefused, are_covering, OnlyCovered}
 use Rattle.space.proofs.Blocks.{IsOutside, blocks_kept}
 use Rattle.step_laws.proofs.Lines.{unrefused-nil, unrefused-cons, EndIn, failure_in, ends-append}
 use Rattle.step_laws.proofs.Lines.{covered-append, covered-same}
+use Rattle.step_laws.proofs.Stored.{length-bytes_of}
 
 -- ---- the bytes of one access
-
-length-bytes_of : (n v : ℕ) → length (bytes_of n v) ≡ n
-length-bytes_of zero v = refl
-length-bytes_of (suc n) v = ap suc (length-bytes_of n (v / 256))
 
 -- an address that a write doesn't cover lies outside it
 outside : (a n x : ℕ) (b : Bool) → ((nat_le a x && nat_lt x (a + n)) || b) ≡ false → IsOutside a n x

@@ -1,7 +1,7 @@
 -- The accesses of an instruction of unprivileged code.
-use Rattle.std.proofs.Common.{◌≡◌, inl, inr, ℕ, ◌%◌, Bool, true, false, not, ◌&&◌, ◌==◌, List, [], ◌∷◌, refl, arith}
+use Rattle.std.proofs.Common.{◌≡◌, inl, inr, ℕ, ◌%◌, Bool, false, not, ◌&&◌, ◌==◌, List, [], ◌∷◌, refl, arith}
 use Rattle.std.proofs.Common.{eqb-true}
-use Rattle.std.proofs.lemmas.Bool.{cond_both}
+use Rattle.std.proofs.lemmas.Bool.{cond_both, not-false, and_left}
 use Rattle.reference.specs.declared.access.Kind.{Kind}
 use Rattle.reference.specs.declared.access.Kind.TheVariants.{Load, Store, Probe}
 use Rattle.reference.specs.declared.access.Request.{Request}
@@ -48,10 +48,6 @@ probes = inr (inr (inr refl))
 
 -- ---- one request
 
-made_unprivileged : (u p : Bool) → p ≡ false → (p && not u) ≡ false
-made_unprivileged u true e = absurd cc
-made_unprivileged u false e = refl
-
 bytes_asked : (kind : Kind) (p : Bool) (address : ℕ) (bytes : List ℕ) → p ≡ false → IsTaskKind kind →
     AreOfTask (byte_requests kind p address bytes)
 bytes_asked kind p address [] e k = tt
@@ -77,10 +73,6 @@ load_asked traps form t p address e =
     cond_both (t == 15 && not (is_aligned Word address)) _ _ AskOfTask (λ f. tt)
     (λ f. transfer_asked traps Load p form.size address 0 e loads)
 
-not_not : (b : Bool) → not b ≡ false → b ≡ true
-not_not true e = refl
-not_not false e = absurd cc
-
 access_asked : (kind : Kind) (p : Bool) (size : Size) (address value : ℕ) → p ≡ false → IsTaskKind kind →
     AskOfTask (exclusive_access kind p size address value)
 unfolding exclusive_access
@@ -91,7 +83,7 @@ access_asked kind p size address value e k =
       record {
         unprivileged = e;
         kind = k;
-        aligned = eqb-true (address % bytes_in size) 0 (not_not (is_aligned size address) f);
+        aligned = eqb-true (address % bytes_in size) 0 (not-false (is_aligned size address) f);
       },
       tt,
     )))
@@ -102,11 +94,11 @@ module _ (r : Registers) (t : is_privileged r ≡ false) where
   load_store_asked : (traps : Traps) (i : LoadStore) → AskOfTask (load_store_requests traps i r)
   unfolding load_store_requests
   load_store_asked traps (load_store.LoadImmediate o) =
-      load_asked traps o.form o.target _ _ (made_unprivileged o.unprivileged _ t)
+      load_asked traps o.form o.target _ _ (and_left _ (not o.unprivileged) t)
   load_store_asked traps (load_store.LoadRegister o) = load_asked traps o.form o.target _ _ t
   load_store_asked traps (load_store.LoadLiteral o) = load_asked traps o.form o.target _ _ t
   load_store_asked traps (load_store.StoreImmediate o) =
-      transfer_asked traps Store _ o.size _ _ (made_unprivileged o.unprivileged _ t)
+      transfer_asked traps Store _ o.size _ _ (and_left _ (not o.unprivileged) t)
       stores
   load_store_asked traps (load_store.StoreRegister o) =
       transfer_asked traps Store _ o.size _ _ t stores
