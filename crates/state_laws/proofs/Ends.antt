@@ -29,14 +29,13 @@ use Rattle.reference.specs.Step.{step}
 use Rattle.reference.specs.System.{System, reset_system}
 use Rattle.state_laws.specs.StateLaw.{IfGiven, TickKeeps, AccessKeeps, InstructionKeeps}
 use Rattle.state_laws.proofs.Accesses.{IsWholeBus, carried_whole, perform_whole, served_whole}
-use Rattle.state_laws.proofs.Core.{special_kept, step_kept, reset_has}
 use Rattle.state_laws.proofs.Effects.{register_kept, result_kept}
 use Rattle.state_laws.proofs.Entries.{none, step_called}
 use Rattle.state_laws.proofs.Faults.{HasWhole}
 use Rattle.state_laws.proofs.Memories.{overwritten_apart, start_apart}
-use Rattle.state_laws.proofs.Registers.{writes_kept}
+use Rattle.state_laws.proofs.Registers.{writes_kept, special_kept, reset_has}
 use Rattle.state_laws.proofs.Sets.{top_bits_of_board, board_of, board_at_reset}
-use Rattle.state_laws.proofs.Steps.{step_whole}
+use Rattle.state_laws.proofs.Steps.{step_good}
 use Rattle.state_laws.proofs.Systems.{IsWhole, tick_whole, parts_kept}
 use Rattle.state_laws.proofs.Ticks.{timely_at_start}
 
@@ -65,13 +64,16 @@ whole_state s h = (whole s.bus.system h.system, h.memory)
 -- ---- a step
 
 pub step_keeps : (s : State) → Invariant s → Invariant (step s).state
-step_keeps s h = record {
-  registers = step_kept s h.registers;
-  entry = step_called _ _ s (whole_state s h) h.entry;
-  memory = (step_whole _ _ s (whole_state s h)).1;
-  system =
-      sound s.bus.system.nvic.lines s.bus.system.nvic.priority_bits _ (step_whole _ _ s (whole_state s h)).0;
-}
+step_keeps s h =
+    let lines = s.bus.system.nvic.lines in
+    let bits = s.bus.system.nvic.priority_bits in
+    let after = step_good lines bits s (record { registers = h.registers; bus = whole_state s h }) in
+    record {
+      registers = after.registers;
+      entry = step_called _ _ s (whole_state s h) h.entry;
+      memory = after.bus.1;
+      system = sound lines bits _ after.bus.0;
+    }
 
 -- ---- a value that is placed
 

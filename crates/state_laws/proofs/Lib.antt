@@ -8,7 +8,6 @@ mod Steps
 pub mod Effects
 mod Registers
 mod Frames
-mod Core
 mod Candidates
 mod Entries
 pub mod Ends

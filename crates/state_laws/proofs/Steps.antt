@@ -1,4 +1,4 @@
--- The phases of a step keep what holds of the System Control Space, from the last one up.
+-- The phases of a step keep what holds of the core registers and of the bus, from the last one up.
 use Rattle.std.proofs.Common.{◌≡◌, ℕ, ◌<◌, nat_le, false, List, [], ◌++◌, Option, Some, None, Result, Ok, Err}
 use Rattle.std.proofs.Common.{arith}
 use Rattle.std.proofs.lemmas.Bool.{cond_both}
@@ -18,7 +18,7 @@ use Rattle.reference.specs.declared.instruction.Ending.TheVariants as ending
 use Rattle.reference.specs.declared.instruction.InstructionLength.TheVariants.{Short, Long}
 use Rattle.reference.specs.declared.instruction.InstructionLength.{InstructionLength}
 use Rattle.reference.specs.declared.stop.Stop.{Stop}
-use Rattle.reference.specs.Accesses.{ListResult, perform_all}
+use Rattle.reference.specs.Accesses.{ListResult, perform_all, perform}
 use Rattle.reference.specs.Arithmetic.{condition_passed}
 use Rattle.reference.specs.Decoding.{is_long}
 use Rattle.reference.specs.Operations.{result_of}
@@ -30,126 +30,139 @@ use Rattle.reference.specs.Step.{fetched_second, with_second, fetched_first, ins
 use Rattle.reference.specs.Step.{unless_stopped, step}
 use Rattle.reference.specs.Time.{last_tick}
 use Rattle.reference.specs.Words.{word_sum}
-use Rattle.state_laws.proofs.Accesses.{IsWholeBus, perform_whole, served_whole}
-use Rattle.state_laws.proofs.Faults.{HasWhole, LeavesWhole, failed_whole, supervisor_whole, entry_whole}
-use Rattle.state_laws.proofs.Faults.{vector_step_whole, return_whole}
+use Rattle.reference.specs.Invariant.{HasRegisters}
+use Rattle.state_laws.proofs.Accesses.{perform_whole, served_whole}
 use Rattle.state_laws.proofs.Systems.{tick_whole, parts_kept}
-
--- ---- the end of an instruction
-
-ended_whole : (lines bits : ℕ) (s : State) (events : List Event) (end : Ending) → HasWhole lines bits s →
-    LeavesWhole lines bits (ended s events end)
-ended_whole lines bits s events ending.Next h = h
-ended_whole lines bits s events (ending.ReadSpecial o) h = h
-ended_whole lines bits s events (ending.WriteSpecial special value) h =
-    (msr_kept (parts_kept lines bits) s.bus.system (is_privileged s.registers) special value h.0, h.1)
-ended_whole lines bits s events (ending.ChangeState o) h =
-    (cps_kept (parts_kept lines bits) s.bus.system (is_privileged s.registers) o h.0, h.1)
-ended_whole lines bits s events ending.Sleep h = h
-ended_whole lines bits s events (ending.SupervisorCall number) h = supervisor_whole lines bits s events h
-ended_whole lines bits s events (ending.Breakpoint number) h = h
-ended_whole lines bits s events (ending.ExceptionReturn value) h = return_whole lines bits s events value h
-
-finished_whole : (lines bits : ℕ) (s : State) (events : List Event) (f : Finished) → HasWhole lines bits s →
-    LeavesWhole lines bits (finished s events f)
-finished_whole lines bits s events f h = ended_whole lines bits (with_registers s f.registers) events f.ending h
-
--- ---- its accesses
-
-end_whole : (lines bits : ℕ) (s : State) (events : List Event) (i : CodedInstruction) (all : ListResult)
-    (end : Option Failure) → IsWholeBus lines bits all.bus → LeavesWhole lines bits (served s events i all end)
-end_whole lines bits s events i all None h =
-    finished_whole lines bits (with_bus s all.bus) (events ++ all.events) (result_of i s.registers all.values) h
-end_whole lines bits s events i all (Some why) h =
-    failed_whole lines bits (with_bus s all.bus) (events ++ all.events) why h
-
-performed_whole : (lines bits : ℕ) (s : State) (events : List Event) (i : CodedInstruction) (qs : List Request) →
-    HasWhole lines bits s → LeavesWhole lines bits (performed_all s events i qs)
-unfolding performed_all
-performed_whole lines bits s events i qs h =
-    let all = perform_all s.registers.exception s.bus.system.time.ticks s.bus qs in
-    end_whole lines bits s events i all all.failure
-    (served_whole lines bits s.registers.exception s.bus.system.time.ticks s.bus qs h)
-
-planned_whole : (lines bits : ℕ) (s : State) (events : List Event) (i : CodedInstruction)
-    (asked : Result (List Request) Failure) → HasWhole lines bits s →
-    LeavesWhole lines bits (planned s events i asked)
-planned_whole lines bits s events i (Ok qs) h = performed_whole lines bits s events i qs h
-planned_whole lines bits s events i (Err why) h = failed_whole lines bits s events why h
-
--- ---- the decoded instruction
-
-meaningless_whole : (lines bits : ℕ) (s : State) (events : List Event) (length : InstructionLength)
-    (fault : UsageFault) →
-    HasWhole lines bits s → LeavesWhole lines bits (without_meaning s events length fault)
-meaningless_whole lines bits s events length fault h =
-    cond_both (condition_passed s.registers.it_state s.registers.flags) _ _ (LeavesWhole lines bits)
-    (λ passed. failed_whole lines bits s events (failure.Usage fault) h)
-    (λ skipped. finished_whole lines bits s events (moves_on length s.registers) h)
-
-executed_whole : (lines bits : ℕ) (s : State) (events : List Event) (length : InstructionLength) (d : Decoded) →
-    HasWhole lines bits s → LeavesWhole lines bits (executed s events length d)
-executed_whole lines bits s events length (decoded.Instr i) h = planned_whole lines bits s events i _ h
-executed_whole lines bits s events length decoded.Undefined h =
-    meaningless_whole lines bits s events length UndefinedInstruction h
-executed_whole lines bits s events length decoded.NoCoprocessor h =
-    meaningless_whole lines bits s events length NoCoprocessor h
-executed_whole lines bits s events length (decoded.Unpredictable place why) h = h
-
--- ---- the fetches
-
-second_whole : (lines bits : ℕ) (s : State) (events : List Event) (hw1 : ℕ) (answer : Result ℕ Failure) →
-    HasWhole lines bits s → LeavesWhole lines bits (fetched_second s events hw1 answer)
-second_whole lines bits s events hw1 (Ok hw2) h = executed_whole lines bits s events Long _ h
-second_whole lines bits s events hw1 (Err why) h = failed_whole lines bits s events why h
-
-with_second_whole : (lines bits : ℕ) (s : State) (events : List Event) (hw1 : ℕ) → HasWhole lines bits s →
-    LeavesWhole lines bits (with_second s events hw1)
-unfolding with_second
-with_second_whole lines bits s events hw1 h =
-    cond_both (is_long hw1) _ _ (LeavesWhole lines bits)
-    (λ long. second_whole lines bits _ _ hw1 _
-    (perform_whole lines bits s.registers.exception s.bus (fetching s.registers (word_sum s.registers.pc 2)) h))
-    (λ short. executed_whole lines bits s events Short _ h)
-
-first_whole : (lines bits : ℕ) (s : State) (events : List Event) (answer : Result ℕ Failure) →
-    HasWhole lines bits s → LeavesWhole lines bits (fetched_first s events answer)
-first_whole lines bits s events (Ok hw1) h = with_second_whole lines bits s events hw1 h
-first_whole lines bits s events (Err why) h = failed_whole lines bits s events why h
-
-instruction_whole : (lines bits : ℕ) (s : State) → HasWhole lines bits s → LeavesWhole lines bits (instruction s)
-unfolding instruction
-instruction_whole lines bits s h =
-    cond_both s.registers.thumb _ _ (LeavesWhole lines bits)
-    (λ thumb. first_whole lines bits _ _ _
-    (perform_whole lines bits s.registers.exception s.bus (fetching s.registers s.registers.pc) h))
-    (λ arm. failed_whole lines bits s [] (failure.Usage InvalidState) h)
-
--- ---- the step
-
-phase_whole : (lines bits : ℕ) (s : State) (entry exception : Option ℕ) → HasWhole lines bits s →
-    LeavesWhole lines bits (phase s entry exception)
-unfolding phase
-phase_whole lines bits s (Some e) exception h = vector_step_whole lines bits s e h
-phase_whole lines bits s None (Some exception) h = entry_whole lines bits s h
-phase_whole lines bits s None None h =
-    cond_both (sleeps_on s) _ _ (LeavesWhole lines bits) (λ sleeps. h)
-    (λ wakes. instruction_whole lines bits (record s { asleep = false }) h)
+use Rattle.state_laws.proofs.Faults.{IsGood, LeavesGood, with_registers_good, with_bus_good, with_system_good}
+use Rattle.state_laws.proofs.Faults.{failed_good}
+use Rattle.state_laws.proofs.Faults.{supervisor_good, entry_good, vector_step_good, return_good}
+use Rattle.state_laws.proofs.Effects.{Leaves, register_kept, moves_on_kept, result_kept}
+use Rattle.state_laws.proofs.Registers.{writes_kept, write_special_kept}
 
 pub is_early : (ticks : ℕ) → nat_le last_tick ticks ≡ false → ticks < last_tick
 is_early ticks e = grind (arith, nat_tests, e)
 
-running_whole : (lines bits : ℕ) (s : State) → HasWhole lines bits s → LeavesWhole lines bits (running s)
-running_whole lines bits s h =
-    cond_both (nat_le last_tick s.bus.system.time.ticks) _ _ (LeavesWhole lines bits) (λ late. h)
-    (λ early. phase_whole lines bits (ticked s) s.entry _
-    (tick_whole lines bits s.bus.system (is_early s.bus.system.time.ticks early) h.0, h.1))
+module _ (lines bits : ℕ) where
+  -- ---- the end of an instruction
 
-stopped_whole : (lines bits : ℕ) (s : State) (why : Option Stop) → HasWhole lines bits s →
-    LeavesWhole lines bits (unless_stopped s why)
-stopped_whole lines bits s None h = running_whole lines bits s h
-stopped_whole lines bits s (Some why) h = h
+  ended_good : (s : State) (events : List Event) (end : Ending) → IsGood lines bits s →
+      LeavesGood lines bits (ended s events end)
+  ended_good s events ending.Next h = h
+  ended_good s events (ending.ReadSpecial o) h =
+      with_registers_good lines bits s _ (register_kept writes_kept s.registers o.destination _ h.registers) h
+  ended_good s events (ending.WriteSpecial special value) h = record {
+    registers = write_special_kept s.registers special value h.registers;
+    bus =
+        (msr_kept (parts_kept lines bits) s.bus.system (is_privileged s.registers) special value h.bus.0, h.bus.1);
+  }
+  ended_good s events (ending.ChangeState o) h =
+      with_system_good lines bits s _
+      (cps_kept (parts_kept lines bits) s.bus.system (is_privileged s.registers) o h.bus.0) h
+  ended_good s events ending.Sleep h = h
+  ended_good s events (ending.SupervisorCall number) h = supervisor_good lines bits s events h
+  ended_good s events (ending.Breakpoint number) h = h
+  ended_good s events (ending.ExceptionReturn value) h = return_good lines bits s events value h
 
-pub step_whole : (lines bits : ℕ) (s : State) → HasWhole lines bits s → LeavesWhole lines bits (step s)
-unfolding step
-step_whole lines bits s h = stopped_whole lines bits s s.stop h
+  finished_good : (s : State) (events : List Event) (f : Finished) → Leaves HasRegisters f → IsGood lines bits s →
+      LeavesGood lines bits (finished s events f)
+  finished_good s events f new h =
+      ended_good (with_registers s f.registers) events f.ending
+      (with_registers_good lines bits s f.registers new.kept h)
+
+  -- ---- its accesses
+
+  end_good : (s : State) (events : List Event) (i : CodedInstruction) (all : ListResult) (end : Option Failure) →
+      IsGood lines bits (with_bus s all.bus) → LeavesGood lines bits (served s events i all end)
+  end_good s events i all None h =
+      finished_good (with_bus s all.bus) (events ++ all.events) (result_of i s.registers all.values)
+      (result_kept writes_kept i s.registers all.values h.registers) h
+  end_good s events i all (Some why) h = failed_good lines bits (with_bus s all.bus) (events ++ all.events) why h
+
+  performed_good : (s : State) (events : List Event) (i : CodedInstruction) (qs : List Request) →
+      IsGood lines bits s → LeavesGood lines bits (performed_all s events i qs)
+  unfolding performed_all
+  performed_good s events i qs h =
+      let all = perform_all s.registers.exception s.bus.system.time.ticks s.bus qs in
+      end_good s events i all all.failure
+      (with_bus_good lines bits s all.bus
+      (served_whole lines bits s.registers.exception s.bus.system.time.ticks s.bus qs h.bus) h)
+
+  planned_good : (s : State) (events : List Event) (i : CodedInstruction) (asked : Result (List Request) Failure) →
+      IsGood lines bits s → LeavesGood lines bits (planned s events i asked)
+  planned_good s events i (Ok qs) h = performed_good s events i qs h
+  planned_good s events i (Err why) h = failed_good lines bits s events why h
+
+  -- ---- the decoded instruction
+
+  meaningless_good : (s : State) (events : List Event) (length : InstructionLength) (fault : UsageFault) →
+      IsGood lines bits s → LeavesGood lines bits (without_meaning s events length fault)
+  meaningless_good s events length fault h =
+      cond_both (condition_passed s.registers.it_state s.registers.flags) _ _ (LeavesGood lines bits)
+      (λ passed. failed_good lines bits s events (failure.Usage fault) h)
+      (λ skipped. finished_good s events (moves_on length s.registers)
+      (moves_on_kept writes_kept length s.registers h.registers) h)
+
+  executed_good : (s : State) (events : List Event) (length : InstructionLength) (d : Decoded) →
+      IsGood lines bits s → LeavesGood lines bits (executed s events length d)
+  executed_good s events length (decoded.Instr i) h = planned_good s events i _ h
+  executed_good s events length decoded.Undefined h = meaningless_good s events length UndefinedInstruction h
+  executed_good s events length decoded.NoCoprocessor h = meaningless_good s events length NoCoprocessor h
+  executed_good s events length (decoded.Unpredictable place why) h = h
+
+  -- ---- the fetches
+
+  -- an access
+  after_one : (s : State) (q : Request) → IsGood lines bits s →
+      IsGood lines bits (with_bus s (perform s.registers.exception s.bus q).bus)
+  after_one s q h = with_bus_good lines bits s _ (perform_whole lines bits s.registers.exception s.bus q h.bus) h
+
+  second_good : (s : State) (events : List Event) (hw1 : ℕ) (answer : Result ℕ Failure) → IsGood lines bits s →
+      LeavesGood lines bits (fetched_second s events hw1 answer)
+  second_good s events hw1 (Ok hw2) h = executed_good s events Long _ h
+  second_good s events hw1 (Err why) h = failed_good lines bits s events why h
+
+  with_second_good : (s : State) (events : List Event) (hw1 : ℕ) → IsGood lines bits s →
+      LeavesGood lines bits (with_second s events hw1)
+  unfolding with_second
+  with_second_good s events hw1 h =
+      cond_both (is_long hw1) _ _ (LeavesGood lines bits)
+      (λ long. second_good _ _ hw1 _ (after_one s (fetching s.registers (word_sum s.registers.pc 2)) h))
+      (λ short. executed_good s events Short _ h)
+
+  first_good : (s : State) (events : List Event) (answer : Result ℕ Failure) → IsGood lines bits s →
+      LeavesGood lines bits (fetched_first s events answer)
+  first_good s events (Ok hw1) h = with_second_good s events hw1 h
+  first_good s events (Err why) h = failed_good lines bits s events why h
+
+  instruction_good : (s : State) → IsGood lines bits s → LeavesGood lines bits (instruction s)
+  unfolding instruction
+  instruction_good s h =
+      cond_both s.registers.thumb _ _ (LeavesGood lines bits)
+      (λ thumb. first_good _ _ _ (after_one s (fetching s.registers s.registers.pc) h))
+      (λ arm. failed_good lines bits s [] (failure.Usage InvalidState) h)
+
+  -- ---- the step
+
+  phase_good : (s : State) (entry exception : Option ℕ) → IsGood lines bits s →
+      LeavesGood lines bits (phase s entry exception)
+  unfolding phase
+  phase_good s (Some e) exception h = vector_step_good lines bits s e h
+  phase_good s None (Some exception) h = entry_good lines bits s h
+  phase_good s None None h =
+      cond_both (sleeps_on s) _ _ (LeavesGood lines bits) (λ sleeps. h)
+      (λ wakes. instruction_good (record s { asleep = false }) h)
+
+  running_good : (s : State) → IsGood lines bits s → LeavesGood lines bits (running s)
+  running_good s h =
+      cond_both (nat_le last_tick s.bus.system.time.ticks) _ _ (LeavesGood lines bits) (λ late. h)
+      (λ early. phase_good (ticked s) s.entry _
+      (with_bus_good lines bits s (ticked s).bus
+      (tick_whole lines bits s.bus.system (is_early s.bus.system.time.ticks early) h.bus.0, h.bus.1) h))
+
+  stopped_good : (s : State) (why : Option Stop) → IsGood lines bits s → LeavesGood lines bits (unless_stopped s why)
+  stopped_good s None h = running_good s h
+  stopped_good s (Some why) h = h
+
+  pub step_good : (s : State) → IsGood lines bits s → LeavesGood lines bits (step s)
+  unfolding step
+  step_good s h = stopped_good s s.stop h
