@@ -1,7 +1,7 @@
 -- There is a candidate still where more exceptions become pending, and where a fault is taken.
 use Rattle.std.proofs.Common.{◌≡◌, ℕ, ◌<◌, min, Bool, true, false, ◌&&◌, is_some, nat_lt, List, length}
 use Rattle.std.proofs.Common.{slice_set, Option, Some, None, refl, ap, arith}
-use Rattle.std.proofs.lemmas.Bool.{cond_both, and_parts, ltb-true, ltb-false}
+use Rattle.std.proofs.lemmas.Bool.{cond_both, and_parts, ltb-true, ltb-false, and_from}
 use Rattle.std.proofs.lemmas.List.{get_or-set_same}
 use Rattle.nvic.proofs.Best.{candidate_is}
 use Rattle.nvic.proofs.Boards.{at_each}
@@ -51,18 +51,15 @@ execution_kept n p =
 grows : (s : List Bool) (x y : ℕ) → is_in s y ≡ true → is_in (slice_set s x true) y ≡ true
 grows s x y = at_each (λ j b. is_in s j ≡ true → b ≡ true) s x true false (λ e. refl) (λ j e. e) y
 
-both : (a b c : Bool) → (a ≡ true → c ≡ true) → (a && b) ≡ true → (c && b) ≡ true
-both true b true f e = e
-both true b false f e = absurd (let g = f refl in let w : ⊥ = cc in w)
-both false b c f e = absurd (let w : ⊥ = cc in w)
-
 preempts_with : (n : Nvic) (p : List Bool) → ((y : ℕ) → is_in n.pending y ≡ true → is_in p y ≡ true) → Preempts n →
     Preempts (record n { pending = p })
 preempts_with n p more h = record {
   number = h.number;
   ready = record {
     in_range = h.ready.in_range;
-    ready = both (is_in n.pending h.number) (is_enabled n h.number) (is_in p h.number) (more h.number) h.ready.ready;
+    ready =
+        let parts = and_parts (is_in n.pending h.number) (is_enabled n h.number) h.ready.ready in
+        and_from _ _ (more h.number parts.0) parts.1;
   };
   above = rw (execution_kept n p) h.above;
 }

@@ -30,7 +30,7 @@ use Rattle.reference.specs.System.{System, reset_system}
 use Rattle.state_laws.specs.StateLaw.{IfGiven, TickKeeps, AccessKeeps, InstructionKeeps}
 use Rattle.state_laws.proofs.Accesses.{IsWholeBus, carried_whole, perform_whole, served_whole}
 use Rattle.state_laws.proofs.Effects.{register_kept, result_kept}
-use Rattle.state_laws.proofs.Entries.{none, step_called}
+use Rattle.state_laws.proofs.Entries.{none}
 use Rattle.state_laws.proofs.Faults.{HasWhole}
 use Rattle.state_laws.proofs.Memories.{overwritten_apart, start_apart}
 use Rattle.state_laws.proofs.Registers.{writes_kept, special_kept, reset_has}
@@ -67,12 +67,12 @@ pub step_keeps : (s : State) → Invariant s → Invariant (step s).state
 step_keeps s h =
     let lines = s.bus.system.nvic.lines in
     let bits = s.bus.system.nvic.priority_bits in
-    let after = step_good lines bits s (record { registers = h.registers; bus = whole_state s h }) in
+    let after = step_good lines bits s h.entry (record { registers = h.registers; bus = whole_state s h }) in
     record {
-      registers = after.registers;
-      entry = step_called _ _ s (whole_state s h) h.entry;
-      memory = after.bus.1;
-      system = sound lines bits _ after.bus.0;
+      registers = after.good.registers;
+      entry = after.called;
+      memory = after.good.bus.1;
+      system = sound lines bits _ after.good.bus.0;
     }
 
 -- ---- a value that is placed

@@ -1,6 +1,6 @@
 -- The phases of a step keep what holds of the core registers and of the bus, from the last one up.
 use Rattle.std.proofs.Common.{◌≡◌, ℕ, ◌<◌, nat_le, false, List, [], ◌++◌, Option, Some, None, Result, Ok, Err}
-use Rattle.std.proofs.Common.{arith}
+use Rattle.std.proofs.Common.{arith, ◌≡◌, is_some, true, refl, ap}
 use Rattle.std.proofs.lemmas.Bool.{cond_both}
 use Rattle.std.proofs.lemmas.Bool.Decides.{nat_tests}
 use Rattle.nvic.proofs.Systems.{cps_kept, msr_kept}
@@ -28,16 +28,20 @@ use Rattle.reference.specs.State.{State, ticked, with_bus, with_registers}
 use Rattle.reference.specs.Step.{ended, finished, served, performed_all, planned, without_meaning, executed, fetching}
 use Rattle.reference.specs.Step.{fetched_second, with_second, fetched_first, instruction, sleeps_on, phase, running}
 use Rattle.reference.specs.Step.{unless_stopped, step}
-use Rattle.reference.specs.Time.{last_tick}
+use Rattle.reference.specs.Time.{last_tick, tick_pends}
 use Rattle.reference.specs.Words.{word_sum}
 use Rattle.reference.specs.Invariant.{HasRegisters}
+use Rattle.reference.specs.Priorities.{candidate}
+use Rattle.reference.specs.System.{System, after_tick}
 use Rattle.state_laws.proofs.Accesses.{perform_whole, served_whole}
 use Rattle.state_laws.proofs.Systems.{tick_whole, parts_kept}
 use Rattle.state_laws.proofs.Faults.{IsGood, LeavesGood, with_registers_good, with_bus_good, with_system_good}
 use Rattle.state_laws.proofs.Faults.{failed_good}
-use Rattle.state_laws.proofs.Faults.{supervisor_good, entry_good, vector_step_good, return_good}
+use Rattle.state_laws.proofs.Faults.{supervisor_good, entry_good, vector_step_good, return_good, out_good}
 use Rattle.state_laws.proofs.Effects.{Leaves, register_kept, moves_on_kept, result_kept}
 use Rattle.state_laws.proofs.Registers.{writes_kept, write_special_kept}
+use Rattle.state_laws.proofs.Candidates.{Calls, pended_calls}
+use Rattle.state_laws.proofs.Entries.{IsCalled, some_none}
 
 pub is_early : (ticks : ℕ) → nat_le last_tick ticks ≡ false → ticks < last_tick
 is_early ticks e = grind (arith, nat_tests, e)
@@ -45,69 +49,73 @@ is_early ticks e = grind (arith, nat_tests, e)
 module _ (lines bits : ℕ) where
   -- ---- the end of an instruction
 
-  ended_good : (s : State) (events : List Event) (end : Ending) → IsGood lines bits s →
+  ended_good : (s : State) (events : List Event) (end : Ending) → s.entry ≡ None → IsGood lines bits s →
       LeavesGood lines bits (ended s events end)
-  ended_good s events ending.Next h = h
-  ended_good s events (ending.ReadSpecial o) h =
-      with_registers_good lines bits s _ (register_kept writes_kept s.registers o.destination _ h.registers) h
-  ended_good s events (ending.WriteSpecial special value) h = record {
-    registers = write_special_kept s.registers special value h.registers;
-    bus =
-        (msr_kept (parts_kept lines bits) s.bus.system (is_privileged s.registers) special value h.bus.0, h.bus.1);
-  }
-  ended_good s events (ending.ChangeState o) h =
-      with_system_good lines bits s _
-      (cps_kept (parts_kept lines bits) s.bus.system (is_privileged s.registers) o h.bus.0) h
-  ended_good s events ending.Sleep h = h
-  ended_good s events (ending.SupervisorCall number) h = supervisor_good lines bits s events h
-  ended_good s events (ending.Breakpoint number) h = h
-  ended_good s events (ending.ExceptionReturn value) h = return_good lines bits s events value h
+  ended_good s events ending.Next out h = out_good lines bits _ out h
+  ended_good s events (ending.ReadSpecial o) out h =
+      out_good lines bits _ out
+      (with_registers_good lines bits s _ (register_kept writes_kept s.registers o.destination _ h.registers) h)
+  ended_good s events (ending.WriteSpecial special value) out h =
+      out_good lines bits _ out
+      (record {
+        registers = write_special_kept s.registers special value h.registers;
+        bus =
+            (msr_kept (parts_kept lines bits) s.bus.system (is_privileged s.registers) special value h.bus.0, h.bus.1);
+      })
+  ended_good s events (ending.ChangeState o) out h =
+      out_good lines bits _ out
+      (with_system_good lines bits s _
+      (cps_kept (parts_kept lines bits) s.bus.system (is_privileged s.registers) o h.bus.0) h)
+  ended_good s events ending.Sleep out h = out_good lines bits _ out h
+  ended_good s events (ending.SupervisorCall number) out h = supervisor_good lines bits s events out h
+  ended_good s events (ending.Breakpoint number) out h = out_good lines bits _ out h
+  ended_good s events (ending.ExceptionReturn value) out h = return_good lines bits s events value out h
 
-  finished_good : (s : State) (events : List Event) (f : Finished) → Leaves HasRegisters f → IsGood lines bits s →
-      LeavesGood lines bits (finished s events f)
-  finished_good s events f new h =
-      ended_good (with_registers s f.registers) events f.ending
+  finished_good : (s : State) (events : List Event) (f : Finished) → Leaves HasRegisters f → s.entry ≡ None →
+      IsGood lines bits s → LeavesGood lines bits (finished s events f)
+  finished_good s events f new out h =
+      ended_good (with_registers s f.registers) events f.ending out
       (with_registers_good lines bits s f.registers new.kept h)
 
   -- ---- its accesses
 
   end_good : (s : State) (events : List Event) (i : CodedInstruction) (all : ListResult) (end : Option Failure) →
-      IsGood lines bits (with_bus s all.bus) → LeavesGood lines bits (served s events i all end)
-  end_good s events i all None h =
+      s.entry ≡ None → IsGood lines bits (with_bus s all.bus) → LeavesGood lines bits (served s events i all end)
+  end_good s events i all None out h =
       finished_good (with_bus s all.bus) (events ++ all.events) (result_of i s.registers all.values)
-      (result_kept writes_kept i s.registers all.values h.registers) h
-  end_good s events i all (Some why) h = failed_good lines bits (with_bus s all.bus) (events ++ all.events) why h
+      (result_kept writes_kept i s.registers all.values h.registers) out h
+  end_good s events i all (Some why) out h = failed_good lines bits (with_bus s all.bus) (events ++ all.events) why h
 
-  performed_good : (s : State) (events : List Event) (i : CodedInstruction) (qs : List Request) →
+  performed_good : (s : State) (events : List Event) (i : CodedInstruction) (qs : List Request) → s.entry ≡ None →
       IsGood lines bits s → LeavesGood lines bits (performed_all s events i qs)
   unfolding performed_all
-  performed_good s events i qs h =
+  performed_good s events i qs out h =
       let all = perform_all s.registers.exception s.bus.system.time.ticks s.bus qs in
-      end_good s events i all all.failure
+      end_good s events i all all.failure out
       (with_bus_good lines bits s all.bus
       (served_whole lines bits s.registers.exception s.bus.system.time.ticks s.bus qs h.bus) h)
 
   planned_good : (s : State) (events : List Event) (i : CodedInstruction) (asked : Result (List Request) Failure) →
-      IsGood lines bits s → LeavesGood lines bits (planned s events i asked)
-  planned_good s events i (Ok qs) h = performed_good s events i qs h
-  planned_good s events i (Err why) h = failed_good lines bits s events why h
+      s.entry ≡ None → IsGood lines bits s → LeavesGood lines bits (planned s events i asked)
+  planned_good s events i (Ok qs) out h = performed_good s events i qs out h
+  planned_good s events i (Err why) out h = failed_good lines bits s events why h
 
   -- ---- the decoded instruction
 
   meaningless_good : (s : State) (events : List Event) (length : InstructionLength) (fault : UsageFault) →
-      IsGood lines bits s → LeavesGood lines bits (without_meaning s events length fault)
-  meaningless_good s events length fault h =
+      s.entry ≡ None → IsGood lines bits s → LeavesGood lines bits (without_meaning s events length fault)
+  meaningless_good s events length fault out h =
       cond_both (condition_passed s.registers.it_state s.registers.flags) _ _ (LeavesGood lines bits)
       (λ passed. failed_good lines bits s events (failure.Usage fault) h)
       (λ skipped. finished_good s events (moves_on length s.registers)
-      (moves_on_kept writes_kept length s.registers h.registers) h)
+      (moves_on_kept writes_kept length s.registers h.registers) out h)
 
-  executed_good : (s : State) (events : List Event) (length : InstructionLength) (d : Decoded) →
+  executed_good : (s : State) (events : List Event) (length : InstructionLength) (d : Decoded) → s.entry ≡ None →
       IsGood lines bits s → LeavesGood lines bits (executed s events length d)
-  executed_good s events length (decoded.Instr i) h = planned_good s events i _ h
-  executed_good s events length decoded.Undefined h = meaningless_good s events length UndefinedInstruction h
-  executed_good s events length decoded.NoCoprocessor h = meaningless_good s events length NoCoprocessor h
-  executed_good s events length (decoded.Unpredictable place why) h = h
+  executed_good s events length (decoded.Instr i) out h = planned_good s events i _ out h
+  executed_good s events length decoded.Undefined out h = meaningless_good s events length UndefinedInstruction out h
+  executed_good s events length decoded.NoCoprocessor out h = meaningless_good s events length NoCoprocessor out h
+  executed_good s events length (decoded.Unpredictable place why) out h = out_good lines bits _ out h
 
   -- ---- the fetches
 
@@ -116,53 +124,60 @@ module _ (lines bits : ℕ) where
       IsGood lines bits (with_bus s (perform s.registers.exception s.bus q).bus)
   after_one s q h = with_bus_good lines bits s _ (perform_whole lines bits s.registers.exception s.bus q h.bus) h
 
-  second_good : (s : State) (events : List Event) (hw1 : ℕ) (answer : Result ℕ Failure) → IsGood lines bits s →
-      LeavesGood lines bits (fetched_second s events hw1 answer)
-  second_good s events hw1 (Ok hw2) h = executed_good s events Long _ h
-  second_good s events hw1 (Err why) h = failed_good lines bits s events why h
+  second_good : (s : State) (events : List Event) (hw1 : ℕ) (answer : Result ℕ Failure) → s.entry ≡ None →
+      IsGood lines bits s → LeavesGood lines bits (fetched_second s events hw1 answer)
+  second_good s events hw1 (Ok hw2) out h = executed_good s events Long _ out h
+  second_good s events hw1 (Err why) out h = failed_good lines bits s events why h
 
-  with_second_good : (s : State) (events : List Event) (hw1 : ℕ) → IsGood lines bits s →
+  with_second_good : (s : State) (events : List Event) (hw1 : ℕ) → s.entry ≡ None → IsGood lines bits s →
       LeavesGood lines bits (with_second s events hw1)
   unfolding with_second
-  with_second_good s events hw1 h =
+  with_second_good s events hw1 out h =
       cond_both (is_long hw1) _ _ (LeavesGood lines bits)
-      (λ long. second_good _ _ hw1 _ (after_one s (fetching s.registers (word_sum s.registers.pc 2)) h))
-      (λ short. executed_good s events Short _ h)
+      (λ long. second_good _ _ hw1 _ out (after_one s (fetching s.registers (word_sum s.registers.pc 2)) h))
+      (λ short. executed_good s events Short _ out h)
 
-  first_good : (s : State) (events : List Event) (answer : Result ℕ Failure) → IsGood lines bits s →
+  first_good : (s : State) (events : List Event) (answer : Result ℕ Failure) → s.entry ≡ None → IsGood lines bits s →
       LeavesGood lines bits (fetched_first s events answer)
-  first_good s events (Ok hw1) h = with_second_good s events hw1 h
-  first_good s events (Err why) h = failed_good lines bits s events why h
+  first_good s events (Ok hw1) out h = with_second_good s events hw1 out h
+  first_good s events (Err why) out h = failed_good lines bits s events why h
 
-  instruction_good : (s : State) → IsGood lines bits s → LeavesGood lines bits (instruction s)
+  instruction_good : (s : State) → s.entry ≡ None → IsGood lines bits s → LeavesGood lines bits (instruction s)
   unfolding instruction
-  instruction_good s h =
+  instruction_good s out h =
       cond_both s.registers.thumb _ _ (LeavesGood lines bits)
-      (λ thumb. first_good _ _ _ (after_one s (fetching s.registers s.registers.pc) h))
+      (λ thumb. first_good _ _ _ out (after_one s (fetching s.registers s.registers.pc) h))
       (λ arm. failed_good lines bits s [] (failure.Usage InvalidState) h)
 
   -- ---- the step
 
-  phase_good : (s : State) (entry exception : Option ℕ) → IsGood lines bits s →
-      LeavesGood lines bits (phase s entry exception)
+  phase_good : (s : State) (entry next : Option ℕ) → s.entry ≡ entry → candidate s.bus.system.nvic ≡ next →
+      (is_some entry ≡ true → Calls s.bus.system.nvic) → IsGood lines bits s →
+      LeavesGood lines bits (phase s entry next)
   unfolding phase
-  phase_good s (Some e) exception h = vector_step_good lines bits s e h
-  phase_good s None (Some exception) h = entry_good lines bits s h
-  phase_good s None None h =
-      cond_both (sleeps_on s) _ _ (LeavesGood lines bits) (λ sleeps. h)
-      (λ wakes. instruction_good (record s { asleep = false }) h)
+  phase_good s (Some e) next is is_next c h = vector_step_good lines bits s e (c refl) h
+  phase_good s None (Some x) is is_next c h = entry_good lines bits s (ap is_some is_next) h
+  phase_good s None None is is_next c h =
+      cond_both (sleeps_on s) _ _ (LeavesGood lines bits) (λ sleeps. out_good lines bits _ is h)
+      (λ wakes. instruction_good (record s { asleep = false }) is h)
 
-  running_good : (s : State) → IsGood lines bits s → LeavesGood lines bits (running s)
-  running_good s h =
-      cond_both (nat_le last_tick s.bus.system.time.ticks) _ _ (LeavesGood lines bits) (λ late. h)
-      (λ early. phase_good (ticked s) s.entry _
+  tick_calls : (s : System) → Calls s.nvic → Calls (after_tick s).nvic
+  unfolding after_tick
+  tick_calls s c = pended_calls s.nvic (tick_pends s.time) c
+
+  running_good : (s : State) → s.stop ≡ None → IsCalled s → IsGood lines bits s → LeavesGood lines bits (running s)
+  running_good s going c h =
+      cond_both (nat_le last_tick s.bus.system.time.ticks) _ _ (LeavesGood lines bits)
+      (λ late. record { good = h; called = λ stop entry. some_none _ _ stop })
+      (λ early. phase_good (ticked s) s.entry _ refl refl (λ entering. tick_calls s.bus.system (c going entering))
       (with_bus_good lines bits s (ticked s).bus
       (tick_whole lines bits s.bus.system (is_early s.bus.system.time.ticks early) h.bus.0, h.bus.1) h))
 
-  stopped_good : (s : State) (why : Option Stop) → IsGood lines bits s → LeavesGood lines bits (unless_stopped s why)
-  stopped_good s None h = running_good s h
-  stopped_good s (Some why) h = h
+  stopped_good : (s : State) (why : Option Stop) → s.stop ≡ why → IsCalled s → IsGood lines bits s →
+      LeavesGood lines bits (unless_stopped s why)
+  stopped_good s None is c h = running_good s is c h
+  stopped_good s (Some why) is c h = record { good = h; called = c }
 
-  pub step_good : (s : State) → IsGood lines bits s → LeavesGood lines bits (step s)
+  pub step_good : (s : State) → IsCalled s → IsGood lines bits s → LeavesGood lines bits (step s)
   unfolding step
-  step_good s h = stopped_good s s.stop h
+  step_good s c h = stopped_good s s.stop refl c h
