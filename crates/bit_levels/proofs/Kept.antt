@@ -23,10 +23,6 @@ PutsAt old new p x on =
 both_equal : (q p y x : ℕ) → ((q == p) && (y == x)) ≡ true → (q ≡ p) × (y ≡ x)
 both_equal q p y x e = (grind (arith, nat_tests), grind (arith, nat_tests))
 
-other : (b c : Bool) → b ≡ c → (c ≡ false → ⊥) → b ≡ true
-other true c e f = refl
-other false c e f = absurd (f (sym e))
-
 -- what is levelled isn't held
 pub unheld : {levels : List (List ℕ)} {held enabled priorities : List ℕ} (x : ℕ) → x < EXCEPTIONS
     → IsKept levels held enabled priorities → is_levelled enabled x ≡ true → is_in_words held x ≡ false
@@ -157,7 +153,10 @@ pub kept_switched : (levels : List (List ℕ)) (held old new priorities : List �
     → IsKept levels held old priorities → is_waiting levels held priorities x ≡ false → Puts old new x on
     → IsKept levels held new priorities
 kept_switched levels held old new priorities x on small kept out puts = record {
-  in_level = λ q y h t. ((kept.in_level q y h t).0, same y h (another levels held old priorities q x y small kept out t) ∙ (kept.in_level q y h t).1);
+  in_level = λ q y h t. (
+    (kept.in_level q y h t).0,
+    same y h (another levels held old priorities q x y small kept out t) ∙ (kept.in_level q y h t).1,
+  );
   in_held = λ y h t. same y h (at_held y h t) ∙ kept.in_held y h t;
 }
   where
