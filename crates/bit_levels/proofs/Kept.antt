@@ -26,7 +26,8 @@ both_equal q p y x e = (grind (arith, nat_tests), grind (arith, nat_tests))
 -- what is levelled isn't held
 pub unheld : {levels : List (List ℕ)} {held enabled priorities : List ℕ} (x : ℕ) → x < EXCEPTIONS
     → IsKept levels held enabled priorities → is_levelled enabled x ≡ true → is_in_words held x ≡ false
-unheld {held = held} x small kept levelled = false_from_ne_true (is_in_words held x) (λ t. let f = kept.in_held x small t in cc)
+unheld {held = held} x small kept levelled =
+    false_from_ne_true (is_in_words held x) (λ t. let f = kept.in_held x small t in cc)
 
 -- what isn't levelled is in no level
 pub unlevelled : {levels : List (List ℕ)} {held enabled priorities : List ℕ} (p x : ℕ) → x < EXCEPTIONS

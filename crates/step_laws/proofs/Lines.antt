@@ -70,7 +70,8 @@ ends-append (Some (Stop why)) xs ys before end = unrefused-append xs ys before e
 -- an address that lines leave uncovered is left so by either part of them
 pub uncovered : (xs ys : List Event) (address : ℕ) → are_covering (xs ++ ys) address ≡ false →
     (are_covering xs address ≡ false) × (are_covering ys address ≡ false)
-uncovered xs ys address e = or_parts _ _ (sym (list_any-append (λ (event : Event). covers event.what address) xs ys) ∙ e)
+uncovered xs ys address e =
+    or_parts _ _ (sym (list_any-append (λ (event : Event). covers event.what address) xs ys) ∙ e)
 
 -- one after another
 append_from : (base : ℕ) (old between new : List ℕ) (xs ys : List Event) → OnlyCoveredFrom base old between xs →
