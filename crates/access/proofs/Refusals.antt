@@ -1,5 +1,6 @@
 -- What is refused changes nothing.
-use Rattle.std.proofs.Common.{◌≡◌, ℕ, Bool, true, false, if◌then◌else◌, refl}
+use Rattle.std.proofs.Common.{◌≡◌, ℕ, Bool, true, false, refl}
+use Rattle.std.proofs.lemmas.Bool.{cond_both}
 use Rattle.reference.specs.declared.access.Answer.{Answer}
 use Rattle.reference.specs.declared.access.Answer.TheVariants.{Value, Error, Stop}
 use Rattle.reference.specs.declared.access.Cause.{Cause}
@@ -26,15 +27,6 @@ Keeps b a = a.answer ≡ Error → a.bus ≡ b
 abbrev KeepsMemory : Memory → SpaceAnswer → Type 0
 KeepsMemory m r = r.answer ≡ Error → r.memory ≡ m
 
-either : (b : Bus) (test : Bool) (x y : BusAnswer) → Keeps b x → Keeps b y → Keeps b (if test then x else y)
-either b true x y first second = first
-either b false x y first second = second
-
-either_memory : (m : Memory) (test : Bool) (x y : SpaceAnswer) → KeepsMemory m x → KeepsMemory m y
-    → KeepsMemory m (if test then x else y)
-either_memory m true x y first second = first
-either_memory m false x y first second = second
-
 -- what leaves the system registers as they were unless it is done leaves them so at an error
 error_keeps : (s after : System) (a : Answer) → LeavesUnlessDone a s after → a ≡ Error → after ≡ s
 error_keeps s after (Value value) left e = absurd cc
@@ -47,12 +39,14 @@ lifted_system_keeps b r left e = rw (error_keeps b.system r.system r.answer left
 
 writing_keeps : (m : Memory) (q : Request) → KeepsMemory m (written_to m q)
 writing_keeps m q =
-    either_memory m (is_in_window q.access.address) _ _ (λ e. refl)
-    (either_memory m (is_in_ram m q.access.address (bytes_in q.access.size)) _ _ (λ e. absurd cc) (λ e. refl))
+    cond_both (is_in_window q.access.address) _ _ (KeepsMemory m) (λ f e. refl)
+    (λ f. cond_both (is_in_ram m q.access.address (bytes_in q.access.size)) _ _ (KeepsMemory m) (λ g e. absurd cc)
+    (λ g e. refl))
 
 space_keeps : (m : Memory) (ticks : ℕ) (q : Request) → KeepsMemory m (space_access m ticks q)
 unfolding space_access
-space_keeps m ticks q = either_memory m (is_write q.access.kind) _ _ (writing_keeps m q) (λ e. refl)
+space_keeps m ticks q =
+    cond_both (is_write q.access.kind) _ _ (KeepsMemory m) (λ f. writing_keeps m q) (λ f e. refl)
 
 lifted_keeps : (b : Bus) (r : SpaceAnswer) → KeepsMemory b.memory r → Keeps b (lifted b r)
 lifted_keeps b r kept e = rw (kept e) refl
@@ -60,10 +54,10 @@ lifted_keeps b r kept e = rw (kept e) refl
 carrying_keeps : (exception : ℕ) (b : Bus) (q : Request) → Keeps b (answered_by_bus exception b q)
 unfolding answered_by_bus
 carrying_keeps exception b q =
-    either b (is_probe q.access.kind) _ _ (λ e. absurd cc)
-    (either b (is_in_ppb q.access.address) _ _
-    (lifted_system_keeps b (system_access exception b.system q) (refused_leaves exception b.system q))
-    (lifted_keeps b (space_access b.memory b.system.time.ticks q) (space_keeps b.memory b.system.time.ticks q)))
+    cond_both (is_probe q.access.kind) _ _ (Keeps b) (λ f e. absurd cc)
+    (λ f. cond_both (is_in_ppb q.access.address) _ _ (Keeps b)
+    (λ g. lifted_system_keeps b (system_access exception b.system q) (refused_leaves exception b.system q))
+    (λ g. lifted_keeps b (space_access b.memory b.system.time.ticks q) (space_keeps b.memory b.system.time.ticks q)))
 
 is_error : (rule by : Rule) (a : Answer) (why : Cause) → performed_by rule a ≡ Denied by why → a ≡ Error
 is_error rule by (Value value) why e = absurd cc

@@ -3,8 +3,8 @@ use Rattle.std.specs.Prelude.{ℕ, ◌+◌, ◌*◌, ◌/◌, ◌%◌, ◌^◌, 
 use Rattle.std.specs.Prelude.{bit_and, List, [], length, slice_index, slice_index_or, slice_set}
 use Rattle.std.specs.Int.{bit_not, trailing_zeros}
 use Rattle.std.proofs.Math.Nat.{zero-div}
-use Rattle.std.proofs.Common.{arith, ap, refl, ◌∙◌, ◌≤◌, ◌⊎◌, inl, inr, zero, suc, ◌∷◌, replicate, Some, None, false}
-use Rattle.std.proofs.Common.{below_more, w32}
+use Rattle.std.proofs.Common.{arith, ap, refl, ◌∙◌, ◌≤◌, ◌⊎◌, inl, inr, zero, suc, ◌∷◌, replicate, Some, false}
+use Rattle.std.proofs.Common.{w32}
 use Rattle.std.proofs.lemmas.Bool.{cases_lt, eq-eqb}
 use Rattle.std.proofs.lemmas.Grind.{common_steps}
 use Rattle.std.proofs.lemmas.Nat.Bits.{bit_at_set_same, bit_at_set_other, bit_at_clear_same, bit_at_clear_other}
@@ -13,6 +13,7 @@ use Rattle.bit_levels.specs.Sets.{level, AreEmpty, IsFirstOf}
 use Rattle.reference.specs.declared.exception.TheConstants.{EXCEPTIONS}
 use Rattle.reference.specs.Priorities.{is_in_words}
 use Rattle.reference.specs.Words.{bit_at, is_bit}
+use Rattle.nvic.proofs.Sets.{no_bit}
 
 -- a word with bit k set, and one with bit k cleared
 abbrev with_bit : ℕ → ℕ → ℕ
@@ -100,9 +101,6 @@ first_in_word set word small some fits before = (room, there, none)
 
 -- ---- nothing
 
-no_bit : (k : ℕ) → is_bit 0 k ≡ false
-no_bit k = rw (zero-div (2 ^ k)) refl
-
 zero_word : (n k : ℕ) → slice_index (replicate n 0) k ≡ 0
 zero_word zero k = refl
 zero_word (suc n) zero = refl
@@ -132,8 +130,3 @@ all_empty levels e none p y h = lead (cases_lt p 256)
     lead : ((p < 256) ⊎ (256 ≤ p)) → is_in_words (level levels p) y ≡ false
     lead (inl within) = none p within y h
     lead (inr past) = ap (λ s. is_in_words s y) (past_levels levels p (omega (arith, e, past))) ∙ none_in_empty y
-
-pub empty_more : (levels : List (List ℕ)) (p : ℕ) → AreEmpty levels p → IsFirstOf (level levels p) None
-    → AreEmpty levels (p + 1)
-empty_more levels p before here =
-    below_more (λ q. (y : ℕ) → y < EXCEPTIONS → is_in_words (level levels q) y ≡ false) p before here

@@ -2,9 +2,9 @@
 use Rattle.std.proofs.Common.{◌≡◌, ℕ, ◌+◌, ◌<◌, ◌≤◌, ◌⊎◌, inl, inr, Bool, true, false, not, ◌&&◌, ◌||◌, ◌==◌, List}
 use Rattle.std.proofs.Common.{slice_index, Some, None, refl, sym, ◌∙◌, ap, subst, arith}
 use Rattle.std.proofs.Math.Bool.{or-true}
-use Rattle.std.proofs.lemmas.Bool.{cases_lt, eqb-true, eq-eqb}
+use Rattle.std.proofs.lemmas.Bool.{cases_lt, eqb-true, eq-eqb, and_parts, false_from_ne_true, not-true}
 use Rattle.std.proofs.lemmas.Bool.Decides.{nat_tests}
-use Rattle.bit_levels.proofs.Kept.{not_true, view_of}
+use Rattle.bit_levels.proofs.Kept.{view_of}
 use Rattle.bit_levels.proofs.Lists.{flag}
 use Rattle.bit_levels.specs.Sets.{flags, level, is_waiting, is_levelled, AreEmpty, IsKept, IsFirstOf}
 use Rattle.nvic.proofs.Best.{best_exactly}
@@ -29,18 +29,6 @@ pub of_view : (levels : List (List ℕ)) (held enabled active priorities : List 
 of_view levels held enabled active priorities group masks lines bits kept =
     record { kept = kept; pending = refl; enabled_is = refl }
 
-left_is : (a b : Bool) → (a && b) ≡ true → a ≡ true
-left_is true b e = refl
-left_is false b e = e
-
-right_is : (a b : Bool) → (a && b) ≡ true → b ≡ true
-right_is true b e = e
-right_is false b e = absurd (let w : ⊥ = cc in w)
-
-unnot : (b : Bool) → not b ≡ true → b ≡ false
-unnot true e = absurd (let w : ⊥ = cc in w)
-unnot false e = refl
-
 -- a ready exception that isn't fixed is in its level
 in_its_level : (n : Nvic) (levels : List (List ℕ)) (held enabled : List ℕ) (y : ℕ) → IsOf n levels held enabled
     → IsReady n y → is_fixed y ≡ false → is_in_words (level levels (slice_index n.priorities y)) y ≡ true
@@ -50,10 +38,10 @@ in_its_level n levels held enabled y of ready free = lead (is_in_words held y) r
     waiting =
         let e : is_in n.pending y ≡ is_waiting levels held n.priorities y =
         ap (λ s. is_in s y) of.pending ∙ flag (is_waiting levels held n.priorities) y ready.in_range in
-        sym e ∙ left_is _ _ ready.ready
+        sym e ∙ (and_parts _ _ ready.ready).0
 
     on : is_enabled n y ≡ true
-    on = right_is (is_in n.pending y) _ ready.ready
+    on = (and_parts (is_in n.pending y) _ ready.ready).1
 
     levelled : is_levelled enabled y ≡ true
     levelled =
@@ -75,7 +63,7 @@ unfixed : (n : Nvic) (y : ℕ) → is_in n.pending NMI ≡ false → is_in n.pen
 unfixed n y nmi fault ready = first (y == NMI) refl
   where
     pending : is_in n.pending y ≡ true
-    pending = left_is _ _ ready.ready
+    pending = (and_parts _ _ ready.ready).0
 
     second : (y == NMI) ≡ false → (b : Bool) → (y == HARD_FAULT) ≡ b → is_fixed y ≡ false
     second e true f =
@@ -104,7 +92,7 @@ level_ready n levels held enabled p x of small there = (record { in_range = smal
     levelled = (of.kept.in_level p x small there).1
 
     free : is_fixed x ≡ false
-    free = unnot (is_fixed x) (right_is (is_always_enabled x || is_in_words enabled x) (not (is_fixed x)) levelled)
+    free = not-true (is_fixed x) (and_parts (is_always_enabled x || is_in_words enabled x) _ levelled).1
 
     pending : is_in n.pending x ≡ true
     pending =
@@ -116,7 +104,7 @@ level_ready n levels held enabled p x of small there = (record { in_range = smal
     on =
         let e : is_in n.enabled x ≡ is_in_words enabled x =
         ap (λ s. is_in s x) of.enabled_is ∙ flag (is_in_words enabled) x small in
-        ap (λ b. is_always_enabled x || b) e ∙ left_is _ _ levelled
+        ap (λ b. is_always_enabled x || b) e ∙ (and_parts _ _ levelled).0
 
     ready : is_ready n x ≡ true
     ready = let p = pending in let o = on in rw (p, o) refl
@@ -200,16 +188,14 @@ level_exactly n levels held enabled p x of small = lead (is_in_words (level leve
         let f = r.1 in
         let q = eq-eqb (slice_index n.priorities x) p r.2 in
         e ∙ sym (let g : all ≡ true = rw (i, f, q) refl in g)
-    lead false e = e ∙ sym (not_true all wrong)
+    lead false e = e ∙ sym (false_from_ne_true all wrong)
       where
         wrong : all ≡ true → ⊥
         wrong t =
-            let both = left_is (is_ready n x && not (is_fixed x)) (slice_index n.priorities x == p) t in
-            let i = left_is (is_ready n x) (not (is_fixed x)) both in
-            let f = right_is (is_ready n x) (not (is_fixed x)) both in
-            let q = eqb-true (slice_index n.priorities x) p
-            (right_is (is_ready n x && not (is_fixed x)) (slice_index n.priorities x == p) t) in
-            let free = unnot (is_fixed x) f in
+            let (both, is) = and_parts (is_ready n x && not (is_fixed x)) (slice_index n.priorities x == p) t in
+            let (i, f) = and_parts (is_ready n x) (not (is_fixed x)) both in
+            let q = eqb-true (slice_index n.priorities x) p is in
+            let free = not-true (is_fixed x) f in
             let there = in_its_level n levels held enabled x of (record { in_range = small; ready = i }) free in
             let t2 : is_in_words (level levels p) x ≡ true = rw q at there in
             cc
@@ -229,7 +215,7 @@ best_hard_fault n f e = (best_exactly n (Some HARD_FAULT)).0
   where
     missing : (y : ℕ) → IsReady n y → y ≡ NMI → ⊥
     missing y r i = let t : is_in n.pending NMI ≡ true =
-        subst (λ z. is_in n.pending z ≡ true) i (left_is _ _ r.ready) in cc
+        subst (λ z. is_in n.pending z ≡ true) i (and_parts _ _ r.ready).0 in cc
 
     order : (y : ℕ) → (y ≡ NMI → ⊥) → (1 < priority_of n y) ⊎ ((1 ≡ priority_of n y) × (HARD_FAULT ≤ y))
     order y h = grind (arith, nat_tests)

@@ -2,7 +2,7 @@
 use Rattle.std.proofs.Common.{◌≡◌, ℕ, ◌<◌, min, Bool, true, false, not, ◌&&◌, ◌||◌, ◌==◌, if◌then◌else◌, List, set}
 use Rattle.std.proofs.Common.{replicate, slice_index, slice_set, refl, sym, ◌∙◌, ap, arith}
 use Rattle.std.proofs.Math.Bool.{or-true, or-false}
-use Rattle.std.proofs.lemmas.Bool.{eqb-true, eqb-false}
+use Rattle.std.proofs.lemmas.Bool.{eqb-true, eqb-false, false_from_ne_true}
 use Rattle.std.proofs.lemmas.Bool.Decides.{nat_tests}
 use Rattle.std.proofs.lemmas.List.{get_or-set_other}
 use Rattle.bit_levels.proofs.Lists.{flags_set, flags_same, flags_none}
@@ -23,38 +23,31 @@ PutsAt old new p x on =
 both_equal : (q p y x : ℕ) → ((q == p) && (y == x)) ≡ true → (q ≡ p) × (y ≡ x)
 both_equal q p y x e = (grind (arith, nat_tests), grind (arith, nat_tests))
 
-other : (b c : Bool) → b ≡ c → (c ≡ false → ⊥) → b ≡ true
-other true c e f = refl
-other false c e f = absurd (f (sym e))
-
-pub not_true : (b : Bool) → (b ≡ true → ⊥) → b ≡ false
-not_true true f = absurd (f refl)
-not_true false f = refl
-
 -- what is levelled isn't held
 pub unheld : {levels : List (List ℕ)} {held enabled priorities : List ℕ} (x : ℕ) → x < EXCEPTIONS
     → IsKept levels held enabled priorities → is_levelled enabled x ≡ true → is_in_words held x ≡ false
-unheld {held = held} x small kept levelled = not_true (is_in_words held x) (λ t. let f = kept.in_held x small t in cc)
+unheld {held = held} x small kept levelled =
+    false_from_ne_true (is_in_words held x) (λ t. let f = kept.in_held x small t in cc)
 
 -- what isn't levelled is in no level
 pub unlevelled : {levels : List (List ℕ)} {held enabled priorities : List ℕ} (p x : ℕ) → x < EXCEPTIONS
     → IsKept levels held enabled priorities → is_levelled enabled x ≡ false → is_in_words (level levels p) x ≡ false
 unlevelled {levels = levels} p x small kept off =
-    not_true (is_in_words (level levels p) x) (λ t. let f = (kept.in_level p x small t).1 in cc)
+    false_from_ne_true (is_in_words (level levels p) x) (λ t. let f = (kept.in_level p x small t).1 in cc)
 
 -- what isn't waiting is in no level and not held
 absent : {levels : List (List ℕ)} {held enabled priorities : List ℕ} (p x : ℕ) → x < EXCEPTIONS
     → IsKept levels held enabled priorities → is_waiting levels held priorities x ≡ false
     → is_in_words (level levels p) x ≡ false
 absent {levels = levels} {held = held} {priorities = priorities} p x small kept out =
-    not_true (is_in_words (level levels p) x) (λ t. wrong (rw (kept.in_level p x small t).0 at out) t)
+    false_from_ne_true (is_in_words (level levels p) x) (λ t. wrong (rw (kept.in_level p x small t).0 at out) t)
   where
     wrong : (is_in_words held x || is_in_words (level levels p) x) ≡ false → is_in_words (level levels p) x ≡ true → ⊥
     wrong f t = let e : (is_in_words held x || true) ≡ false = rw t at f in let g = or-true (is_in_words held x) in cc
 
 free : (levels : List (List ℕ)) (held priorities : List ℕ) (x : ℕ) → is_waiting levels held priorities x ≡ false
     → is_in_words held x ≡ false
-free levels held priorities x out = not_true (is_in_words held x) (λ t. wrong t out)
+free levels held priorities x out = false_from_ne_true (is_in_words held x) (λ t. wrong t out)
   where
     wrong : is_in_words held x ≡ true
         → (is_in_words held x || is_in_words (level levels (slice_index priorities x)) x) ≡ false → ⊥
@@ -147,11 +140,24 @@ pub flags_put : (old new : List ℕ) (x : ℕ) (on : Bool) → x < 256 → Puts 
     → flags (is_in_words new) ≡ slice_set (flags (is_in_words old)) x on
 flags_put old new x on small puts = flags_set (is_in_words old) (is_in_words new) x on small puts
 
+-- what is in a level is another exception than one that isn't waiting
+another : (levels : List (List ℕ)) (held enabled priorities : List ℕ) (q x y : ℕ) → x < 256
+    → IsKept levels held enabled priorities → is_waiting levels held priorities x ≡ false
+    → is_in_words (level levels q) y ≡ true → (y == x) ≡ false
+another levels held enabled priorities q x y small kept out t =
+    false_from_ne_true (y == x) (λ e. wrong (eqb-true y x e))
+  where
+    wrong : y ≡ x → ⊥
+    wrong e = let f = absent q x small kept out in let g = ap (is_in_words (level levels q)) e in cc
+
 pub kept_switched : (levels : List (List ℕ)) (held old new priorities : List ℕ) (x : ℕ) (on : Bool) → x < 256
     → IsKept levels held old priorities → is_waiting levels held priorities x ≡ false → Puts old new x on
     → IsKept levels held new priorities
 kept_switched levels held old new priorities x on small kept out puts = record {
-  in_level = λ q y h t. ((kept.in_level q y h t).0, same y h (at_level q y h t) ∙ (kept.in_level q y h t).1);
+  in_level = λ q y h t. (
+    (kept.in_level q y h t).0,
+    same y h (another levels held old priorities q x y small kept out t) ∙ (kept.in_level q y h t).1,
+  );
   in_held = λ y h t. same y h (at_held y h t) ∙ kept.in_held y h t;
 }
   where
@@ -159,14 +165,8 @@ kept_switched levels held old new priorities x on small kept out puts = record {
     same y h e = ap (λ b. (is_always_enabled y || b) && not (is_fixed y))
         (puts y h ∙ ap (λ b. if b then on else is_in_words old y) e)
 
-    at_level : (q y : ℕ) → y < 256 → is_in_words (level levels q) y ≡ true → (y == x) ≡ false
-    at_level q y h t = not_true (y == x) (λ e. wrong (eqb-true y x e))
-      where
-        wrong : y ≡ x → ⊥
-        wrong e = let f = absent q x small kept out in let g = ap (is_in_words (level levels q)) e in cc
-
     at_held : (y : ℕ) → y < 256 → is_in_words held y ≡ true → (y == x) ≡ false
-    at_held y h t = not_true (y == x) (λ e. wrong (eqb-true y x e))
+    at_held y h t = false_from_ne_true (y == x) (λ e. wrong (eqb-true y x e))
       where
         wrong : y ≡ x → ⊥
         wrong e = let f = free levels held priorities x out in let g = ap (is_in_words held) e in cc
@@ -180,18 +180,12 @@ pub kept_moved : (levels : List (List ℕ)) (held enabled priorities : List ℕ)
     → IsKept levels held enabled (slice_set priorities x b)
 kept_moved levels held enabled priorities x b small kept out = record {
   in_level = λ q y h t. (
-    moved priorities x y b (at_level q y h t)
+    moved priorities x y b (another levels held enabled priorities q x y small kept out t)
         ∙ (kept.in_level q y h t).0,
     (kept.in_level q y h t).1,
   );
   in_held = kept.in_held;
 }
-  where
-    at_level : (q y : ℕ) → y < 256 → is_in_words (level levels q) y ≡ true → (y == x) ≡ false
-    at_level q y h t = not_true (y == x) (λ e. wrong (eqb-true y x e))
-      where
-        wrong : y ≡ x → ⊥
-        wrong e = let f = absent q x small kept out in let g = ap (is_in_words (level levels q)) e in cc
 
 pub seen_moved : (levels : List (List ℕ)) (held enabled priorities : List ℕ) (x b : ℕ) → x < 256
     → IsKept levels held enabled priorities → is_waiting levels held priorities x ≡ false

@@ -1,12 +1,13 @@
 -- Sets of the reference, which are lists, and sets of bits.
 use Rattle.std.proofs.Common.{◌≡◌, ℕ, zero, suc, ◌<◌, ◌≤◌, Bool, true, false, ◌==◌, if◌then◌else◌, List, [], ◌∷◌}
-use Rattle.std.proofs.Common.{length, get_or, replicate, slice_set, refl, sym, ◌∙◌, ap, arith}
+use Rattle.std.proofs.Common.{length, replicate, slice_set, refl, sym, ◌∙◌, ap, arith}
 use Rattle.std.proofs.lemmas.Bool.{eqb-true, eqb-false}
 use Rattle.std.proofs.lemmas.List.{length-set, length-replicate, get_or-set_same, get_or-set_other}
 use Rattle.std.proofs.lemmas.List.FromFn.{length-map-range_with_len, get_or-map-range_with_len, fill_by_all}
 use Rattle.reference.specs.declared.exception.TheConstants.{EXCEPTIONS}
 use Rattle.reference.specs.Priorities.{is_in}
 use Rattle.bit_levels.specs.Sets.{flags}
+use Rattle.nvic.proofs.Boards.{same_each}
 
 flags_length : (f : ℕ → Bool) → length (flags f) ≡ EXCEPTIONS
 unfolding flags
@@ -47,11 +48,6 @@ flags_set f g x on small changes =
         rw same (get_or-set_same (flags f) x on false room)
     each y h false e =
         get_or-set_other (flags f) x y on false (eqb-false y x e) ∙ flag f y h
-
-same_each : {A : Type 0} (n : ℕ) (v : A) (x : ℕ) → get_or (replicate n v) x v ≡ v
-same_each zero v x = refl
-same_each (suc n) v zero = refl
-same_each (suc n) v (suc x) = same_each n v x
 
 pub flags_none : (f : ℕ → Bool) → ((x : ℕ) → x < 256 → f x ≡ false) → flags f ≡ replicate EXCEPTIONS false
 flags_none f none =

@@ -1,11 +1,10 @@
 -- Only the sets of some priority bytes can have an exception.
-use Rattle.std.proofs.Common.{◌≡◌, ℕ, ◌+◌, ◌-◌, ◌*◌, ◌/◌, ◌^◌, ◌<◌, ◌≤◌, ◌⊎◌, inl, inr, false, List, slice_index}
+use Rattle.std.proofs.Common.{◌≡◌, ℕ, ◌+◌, ◌-◌, ◌*◌, ◌/◌, ◌^◌, ◌<◌, ◌≤◌, ◌⊎◌, inl, inr, false, List}
 use Rattle.std.proofs.Common.{slice_set, None, replicate, ◌∙◌, ap, arith, pow_pos, mul-le-mul, le_refl}
-use Rattle.std.proofs.Math.Nat.{div-mul-le_self, mul-div_left, zero-div, zero-mul}
-use Rattle.std.proofs.lemmas.Bool.{cases_lt}
+use Rattle.std.proofs.Math.Nat.{div-mul-le_self}
+use Rattle.std.proofs.lemmas.Bool.{cases_lt, false_from_ne_true}
 use Rattle.std.proofs.lemmas.Nat.{div_below, le-div, pow-add, shl-shr}
-use Rattle.nvic.proofs.Boards.{at_each, same_each}
-use Rattle.bit_levels.proofs.Kept.{not_true}
+use Rattle.nvic.proofs.Boards.{at_each, no_bytes}
 use Rattle.bit_levels.specs.Sets.{level, AreEmpty, AreKeptBytes, AreSpaced, IsFirstOf, IsKept}
 use Rattle.reference.specs.declared.exception.TheConstants.{EXCEPTIONS}
 use Rattle.reference.specs.Priorities.{is_in_words, kept}
@@ -24,18 +23,8 @@ in_range place d h =
     one_more : (a u : ℕ) → (a + 1) * u ≡ a * u + u
     one_more a u = grind arith
 
--- what was kept is kept
-pub kept_again : (bits b : ℕ) → kept bits (kept bits b) ≡ kept bits b
-kept_again bits b = let d = 2 ^ (8 - bits) in ap (λ q. q * d) (mul-div_left (b / d) {n = d} (pow_pos (8 - bits)))
-
-kept_none : (bits : ℕ) → kept bits 0 ≡ 0
-kept_none bits = let d = 2 ^ (8 - bits) in ap (λ q. q * d) (zero-div d) ∙ zero-mul d
-
 pub bytes_none : (bits : ℕ) → AreKeptBytes bits (replicate EXCEPTIONS 0)
-bytes_none bits x = lead (slice_index (replicate EXCEPTIONS 0) x) (same_each EXCEPTIONS 0 x)
-  where
-    lead : (b : ℕ) → b ≡ 0 → kept bits b ≡ b
-    lead b e = rw e (kept_none bits)
+bytes_none bits = (no_bytes bits).keep
 
 pub bytes_set : (bits : ℕ) (priorities : List ℕ) (x b : ℕ) → AreKeptBytes bits priorities → kept bits b ≡ b
     → AreKeptBytes bits (slice_set priorities x b)
@@ -47,9 +36,6 @@ pub spaced : (bits : ℕ) (levels : List (List ℕ)) (held enabled priorities : 
 spaced bits levels held enabled priorities kept bytes p y h t = rw (kept.in_level p y h t).0 at (bytes y)
 
 -- ---- the sets before a place
-
-pub empty_first : (levels : List (List ℕ)) (d : ℕ) → AreEmpty levels (0 * 2 ^ d)
-empty_first levels d q h y k = let z = zero-mul (2 ^ d) in absurd (omega (arith, z, h))
 
 pub empty_next : (bits : ℕ) (levels : List (List ℕ)) (place : ℕ) → AreSpaced bits levels
     → AreEmpty levels (place * 2 ^ (8 - bits))
@@ -67,7 +53,7 @@ empty_next bits levels place spaced before here q h y k =
     lead (inr from) (inr upto) =
         let e : q ≡ place * 2 ^ (8 - bits) = omega (arith, from, upto) in
         rw e (here y k)
-    lead (inr from) (inl above) = not_true (is_in_words (level levels q) y) (λ t.
+    lead (inr from) (inl above) = false_from_ne_true (is_in_words (level levels q) y) (λ t.
         let whole : q / 2 ^ (8 - bits) * 2 ^ (8 - bits) ≡ q = spaced q y k t in
         let low : place ≤ q / 2 ^ (8 - bits) = le-div place q (2 ^ (8 - bits)) some from in
         let high : q / 2 ^ (8 - bits) < place + 1 = div_below q (2 ^ (8 - bits)) (place + 1) some h in

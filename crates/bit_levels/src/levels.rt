@@ -187,7 +187,7 @@ impl Levels for BitLevels {
         }
     }
 
-    #[tactic(auto, using(crate::proofs::Lists::put_back, crate::proofs::Lists::now_out, crate::proofs::Spaced::kept_again))]
+    #[tactic(auto, using(crate::proofs::Lists::put_back, crate::proofs::Lists::now_out, nvic::proofs::Boards::kept_again))]
     fn set_priority(&mut self, number: u16, byte: u8) {
         if !has_priority_byte(self.lines, number) {
             return;

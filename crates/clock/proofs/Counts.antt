@@ -2,7 +2,7 @@
 use Rattle.std.proofs.Common.{◌≡◌, ℕ, ◌+◌, ◌-◌, ◌%◌, ◌<◌, ◌≤◌, ◌⊎◌, Bool, true, false, ◌==◌, nat_le, if◌then◌else◌}
 use Rattle.std.proofs.Common.{arith, refl, sym, ap, ◌∙◌, inl, inr, add-one}
 use Rattle.std.proofs.Math.Nat.{suc-mod, mod_self, mod-eq_of_lt, zero-mod}
-use Rattle.std.proofs.lemmas.Bool.{cases_lt}
+use Rattle.std.proofs.lemmas.Bool.{cases_lt, cond_both}
 use Rattle.std.proofs.lemmas.Bool.Decides.{nat_tests}
 use Rattle.clock.specs.Later.{from_zero, current_after, later}
 use Rattle.reference.specs.Time.{SysTick, next_current}
@@ -94,11 +94,9 @@ later_next t n = ap (λ (c : ℕ). record t { current = c }) (split t.enable)
     split false = refl
 
 pub later_none : (t : SysTick) → later t 0 ≡ t
-later_none t = ap (λ (c : ℕ). record t { current = c }) (split t.enable)
-  where
-    split : (on : Bool) → (if on then current_after t.reload t.current 0 else t.current) ≡ t.current
-    split true = grind (arith, nat_tests)
-    split false = refl
+later_none t =
+    ap (λ (c : ℕ). record t { current = c })
+    (cond_both t.enable _ _ (λ c. c ≡ t.current) (λ e. grind (arith, nat_tests)) (λ e. refl))
 
 -- the next tick after some ticks since another one
 pub later_after : (t : SysTick) (since now : ℕ) → since ≤ now

@@ -1,7 +1,7 @@
 -- The bytes of a session, one after another.
-use Rattle.std.proofs.Common.{◌≡◌, inl, inr, ℕ, ◌+◌, ◌-◌, ◌^◌, ◌<◌, ◌≤◌, zero, suc, Bool, true, false, List, [], ◌∷◌}
-use Rattle.std.proofs.Common.{◌++◌, length, take, slice_index, Result, Ok, Err, Some, refl, sym, ◌∙◌, ap, subst, append_assoc}
-use Rattle.std.proofs.Common.{length-append, arith}
+use Rattle.std.proofs.Common.{◌≡◌, inl, inr, ℕ, ◌+◌, ◌-◌, ◌^◌, Bool, true, false, List, [], ◌∷◌}
+use Rattle.std.proofs.Common.{◌++◌, length, Result, Ok, Err, Some, refl, sym, ◌∙◌, ap, subst, append_assoc}
+use Rattle.std.proofs.Common.{length-append}
 use Rattle.std.proofs.lemmas.List.{append-nil}
 use Rattle.std.specs.Io.KnownBytes.{IsAtEnd, Keeps}
 use Rattle.std.proofs.KnownBytes.{Appends-kept, Consumes-nil, Consumes-trans, Consumes-kept}
@@ -303,13 +303,3 @@ not_taken n k old new i j l a b c waits Write h takes = (
   },
   tt,
 )
-
--- ---- one byte
-
-pub one_taken : (room : List ℕ) (n : ℕ) → length room ≡ 1 → n ≤ length room → 0 < n
-    → take n room ≡ slice_index room 0 ∷ []
-one_taken [] n one within some = absurd (let wrong : 0 ≡ 1 = one in omega arith)
-one_taken (x ∷ []) zero one within some = absurd (let wrong : 0 < 0 = some in omega arith)
-one_taken (x ∷ []) (suc zero) one within some = refl
-one_taken (x ∷ []) (suc (suc n)) one within some = absurd (let wrong : suc (suc n) ≤ 1 = within in omega arith)
-one_taken (x ∷ y ∷ room) n one within some = absurd (let wrong : suc (suc (length room)) ≡ 1 = one in omega arith)

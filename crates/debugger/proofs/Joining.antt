@@ -4,10 +4,6 @@ use Rattle.debugger.specs.StateText.{numbers_below, set_line}
 use Rattle.reference.specs.declared.exception.TheConstants.{EXCEPTIONS}
 use Rattle.reference.specs.Text.{line_feed}
 
-pub in_three : (page mid last all b c d : List ℕ) → mid ≡ page ++ b → last ≡ mid ++ c → all ≡ last ++ d
-    → all ≡ page ++ ((b ++ c) ++ d)
-in_three page mid last all b c d x y z = rw (z, y, x) (simp append_assoc refl)
-
 pub in_six : (a b c d e f x y z u v w : List ℕ) → u ≡ a → v ≡ u ++ b → w ≡ v ++ c → x ≡ w ++ d → y ≡ x ++ e → z ≡ y ++ f
     → z ≡ a ++ (b ++ (c ++ (d ++ (e ++ f))))
 in_six a b c d e f x y z u v w p q r s t k = rw (k, t, s, r, q, p) (simp append_assoc refl)

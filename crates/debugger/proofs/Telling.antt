@@ -1,7 +1,5 @@
 -- Pieces that go out one after another.
 use Rattle.std.proofs.Common.{◌≡◌, ◌+◌, List, [], ◌∷◌, ◌++◌, refl, sym, ◌∙◌, ap, append_assoc}
-use Rattle.std.proofs.lemmas.List.{append-nil}
-use Rattle.std.specs.Io.KnownBytes.{Appends}
 use Rattle.std.proofs.KnownBytes.{Appends-nil, Appends-trans}
 use Rattle.debugger.specs.Answers.{Piece}
 use Rattle.debugger.specs.Sessions.{Sink, TellsAll, TellsPart, texts, last_state}
@@ -20,11 +18,6 @@ last-append s (x ∷ xs) ys = last-append x.state xs ys
 -- no piece
 pub none_told : (m : Whole) (a : Sink) → TellsAll [] m m a a
 none_told m a = record { went = Appends-nil a.written; stands = refl; quiet = refl }
-
--- one piece went out
-pub one_told : (p : Piece) (old new : Whole) (a b : Sink) → Appends a.written b.written p.text
-    → new ≡ record old { state = p.state } → b.faults ≡ a.faults → TellsAll (p ∷ []) old new a b
-one_told p old new a b went stands quiet = record { went = rw append-nil went; stands = stands; quiet = quiet }
 
 -- one piece was cut
 pub one_cut : (p : Piece) (old new : Whole) (a b : Sink) → IsCutShort a.written b.written p.text

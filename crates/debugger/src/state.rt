@@ -15,7 +15,7 @@ use trace::page::Page;
 type StatePage = Page<0x4000>;
 
 /// Appends the line of the clock.
-#[tactic(auto, using(crate::proofs::Joining::in_three))]
+#[tactic(auto, using(debugger_commands::proofs::Parts::in_three))]
 fn put_clock(page: &mut StatePage, ticks: u64)
     requires { length page.old ≤ 1024 }
     ensures text { page.new ≡ page.old ++ clock_line ticks }

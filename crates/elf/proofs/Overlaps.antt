@@ -1,19 +1,12 @@
 -- The test for segments that share an address, and what it says of all pairs and all addresses.
-use Rattle.std.proofs.Common.{◌≡◌, ◌↔◌, suc, max, Bool, true, false, ◌||◌, List, [], ◌∷◌, refl, arith}
+use Rattle.std.proofs.Common.{◌≡◌, ◌↔◌, suc, max, Bool, false, List, [], ◌∷◌, refl, arith}
 use Rattle.std.proofs.lemmas.Bool.Decides.{nat_tests}
 use Rattle.std.proofs.lemmas.List.Elements.{All-nil, All-cons}
 use Rattle.std.proofs.lemmas.List.Folds.{list_any_none}
 use Rattle.std.proofs.lemmas.List.Kept.{AllPairs-cons}
+use Rattle.std.proofs.lemmas.Bool.{false_from_ne_true, or_parts}
 use Rattle.std.specs.List.{All, AllPairs, list_any}
 use Rattle.reference.specs.Images.{Segment, AreAllApart, AreApart, have_overlap, share_an_address}
-
-not_true : (b : Bool) → (b ≡ true → ⊥) → b ≡ false
-not_true true impossible = absurd (impossible refl)
-not_true false impossible = refl
-
-neither : (a b : Bool) → (a || b) ≡ false → (a ≡ false) × (b ≡ false)
-neither false b none = (refl, none)
-neither true b none = cc
 
 -- where the test finds no address of both, there is none
 apart_from : (one other : Segment) → share_an_address one other ≡ false → AreApart one other
@@ -22,20 +15,20 @@ apart_from one other none address of_one of_other = grind (arith, nat_tests)
 -- where there is none, the test finds none: the later of the two beginnings would be one
 unshared : (one other : Segment) → AreApart one other → share_an_address one other ≡ false
 unshared one other apart =
-    not_true (share_an_address one other)
+    false_from_ne_true (share_an_address one other)
     (λ shared. apart (max one.address other.address) (grind (arith, nat_tests)) (grind (arith, nat_tests)))
 
 none_shared : (segment : Segment) (others : List Segment) →
     list_any (share_an_address segment) others ≡ false → All (AreApart segment) others
 none_shared segment [] none = All-nil (AreApart segment)
 none_shared segment (other ∷ others) none =
-    let (here, more) = neither (share_an_address segment other) (list_any (share_an_address segment) others) none in
+    let (here, more) = or_parts (share_an_address segment other) (list_any (share_an_address segment) others) none in
     All-cons (AreApart segment) other others (apart_from segment other here) (none_shared segment others more)
 
 all_apart : (segments : List Segment) → have_overlap segments ≡ false → AllPairs AreApart segments
 all_apart [] none = λ i j d before inside. absurd (omega arith)
 all_apart (segment ∷ others) none =
-    let (here, more) = neither (list_any (share_an_address segment) others) (have_overlap others) none in
+    let (here, more) = or_parts (list_any (share_an_address segment) others) (have_overlap others) none in
     AllPairs-cons AreApart segment others (none_shared segment others here) (all_apart others more)
 
 no_overlap : (segments : List Segment) → AllPairs AreApart segments → have_overlap segments ≡ false

@@ -2,7 +2,7 @@
 use Rattle.std.proofs.Common.{pow_pos, ◌≡◌, ℕ, zero, suc, ◌+◌, ◌-◌, ◌*◌, ◌/◌, ◌%◌, ◌^◌, ◌<◌, ◌≤◌, ◌⊎◌, Bool, true}
 use Rattle.std.proofs.Common.{false, not, ◌&&◌, ◌==◌, nat_le, if◌then◌else◌, arith, refl, sym, ap, ◌∙◌, inl, inr}
 use Rattle.std.proofs.lemmas.Bool.Decides.{nat_tests}
-use Rattle.std.proofs.lemmas.Bool.{leb-true, eqb-true, eq-eqb, cases_lt}
+use Rattle.std.proofs.lemmas.Bool.{leb-true, eqb-true, eq-eqb, cases_lt, and_right}
 use Rattle.reference.specs.Words.{is_bit}
 use Rattle.std.proofs.lemmas.Nat.{div_below, le-div, shr-shr}
 use Rattle.reference.specs.declared.mpu.Region.{Region}
@@ -101,11 +101,7 @@ none_off : (r : Region) (a : ℕ) → switched_off r.attributes ≡ 0 → is_swi
 none_off r a e =
     let b : r.attributes / 2 ^ (8 + subregion r a) % 2 ≡ 0 = no_bit r.attributes (subregion r a) (omega arith) e in
     let c : (r.attributes / 2 ^ (8 + subregion r a) % 2 == 1) ≡ false = ap (λ (d : ℕ). d == 1) b in
-    lead (nat_le 7 (size r.attributes)) _ c
-  where
-    lead : (s t : Bool) → t ≡ false → (s && t) ≡ false
-    lead true t h = h
-    lead false t h = refl
+    and_right (nat_le 7 (size r.attributes)) _ c
 
 small_off : (r : Region) (a : ℕ) → nat_le 7 (size r.attributes) ≡ false → is_switched_off r a ≡ false
 small_off r a h = ap (λ (b : Bool). b && is_bit r.attributes (8 + subregion r a)) h

@@ -1,7 +1,7 @@
 -- The decision is by the first case of the table that fits, and nothing else is.
 use Rattle.std.proofs.Common.{◌≡◌, ℕ, ◌<◌, ◌≤◌, ◌⊎◌, ◌↔◌, true, false, not, Bool, if◌then◌else◌, ◌==◌, ◌+◌, subst}
 use Rattle.std.proofs.Common.{Option, Some, None, arith, refl, sym, ap, ◌∙◌, inl, inr}
-use Rattle.std.proofs.lemmas.Bool.{cases_lt, eqb-true, eq-eqb}
+use Rattle.std.proofs.lemmas.Bool.{cases_lt, eqb-true, eq-eqb, both_ways}
 use Rattle.reference.specs.declared.access.Decision.{Decision}
 use Rattle.reference.specs.declared.access.Rule.{Rule}
 use Rattle.reference.specs.declared.access.Rule.TheVariants.{NeverExecute, VectorRead, PrivatePeripheralBus, MpuOff}
@@ -79,19 +79,13 @@ and_regions m q before here r above f = lead (cases_lt (rank r) 5)
 
 -- ---- the first case that fits
 
-unlike : (b : Bool) → b ≡ false → b ≡ true → ⊥
-unlike b e f = let e : true ≡ false = sym f ∙ e in cc
-
-unlike_too : (b : Bool) → b ≡ true → b ≡ false → ⊥
-unlike_too b e f = unlike b f e
-
 behind : (m : Mpu) (q : AccessQuery) (b : Bool) → is_background m.control q.privileged ≡ b → Missed m q 6
     → IsFirstFit m q (if b then record { rule = Background; granted = default_map q.address q.kind }
     else record { rule = NoRegion; granted = false })
 behind m q true e missed = record { fits = e; first = missed; granted = refl }
 behind m q false e missed = record {
   fits = tt;
-  first = and_rule m q Background (λ h. omega arith) missed (unlike _ e);
+  first = and_rule m q Background (λ h. omega arith) missed (both_ways _ e);
   granted = refl;
 }
 
@@ -125,29 +119,29 @@ fit : (m : Mpu) (q : AccessQuery) (xn vec ppb on neg : Bool) (o : Option ℕ) �
     → IsFirstFit m q (first_of_two (before q xn vec ppb on neg) (by_owner m q.kind q.address q.privileged o))
 fit m q true vec ppb on neg o t owns = record { fits = t.xn_is; first = nothing_above m q; granted = refl }
 fit m q false true ppb on neg o t owns =
-    let m1 = and_rule m q NeverExecute (λ h. omega arith) (nothing_above m q) (unlike _ t.xn_is) in
+    let m1 = and_rule m q NeverExecute (λ h. omega arith) (nothing_above m q) (both_ways _ t.xn_is) in
     record { fits = t.vec_is; first = m1; granted = refl }
 fit m q false false true on neg o t owns =
-    let m1 = and_rule m q NeverExecute (λ h. omega arith) (nothing_above m q) (unlike _ t.xn_is) in
-    let m2 = and_rule m q VectorRead (λ h. omega arith) m1 (unlike _ t.vec_is) in
+    let m1 = and_rule m q NeverExecute (λ h. omega arith) (nothing_above m q) (both_ways _ t.xn_is) in
+    let m2 = and_rule m q VectorRead (λ h. omega arith) m1 (both_ways _ t.vec_is) in
     record { fits = t.ppb_is; first = m2; granted = refl }
 fit m q false false false false neg o t owns =
-    let m1 = and_rule m q NeverExecute (λ h. omega arith) (nothing_above m q) (unlike _ t.xn_is) in
-    let m2 = and_rule m q VectorRead (λ h. omega arith) m1 (unlike _ t.vec_is) in
-    let m3 = and_rule m q PrivatePeripheralBus (λ h. omega arith) m2 (unlike _ t.ppb_is) in
+    let m1 = and_rule m q NeverExecute (λ h. omega arith) (nothing_above m q) (both_ways _ t.xn_is) in
+    let m2 = and_rule m q VectorRead (λ h. omega arith) m1 (both_ways _ t.vec_is) in
+    let m3 = and_rule m q PrivatePeripheralBus (λ h. omega arith) m2 (both_ways _ t.ppb_is) in
     record { fits = t.on_is; first = m3; granted = refl }
 fit m q false false false true true o t owns =
-    let m1 = and_rule m q NeverExecute (λ h. omega arith) (nothing_above m q) (unlike _ t.xn_is) in
-    let m2 = and_rule m q VectorRead (λ h. omega arith) m1 (unlike _ t.vec_is) in
-    let m3 = and_rule m q PrivatePeripheralBus (λ h. omega arith) m2 (unlike _ t.ppb_is) in
-    let m4 = and_rule m q MpuOff (λ h. omega arith) m3 (unlike_too _ t.on_is) in
+    let m1 = and_rule m q NeverExecute (λ h. omega arith) (nothing_above m q) (both_ways _ t.xn_is) in
+    let m2 = and_rule m q VectorRead (λ h. omega arith) m1 (both_ways _ t.vec_is) in
+    let m3 = and_rule m q PrivatePeripheralBus (λ h. omega arith) m2 (both_ways _ t.ppb_is) in
+    let m4 = and_rule m q MpuOff (λ h. omega arith) m3 (λ f. both_ways _ f t.on_is) in
     record { fits = t.neg_is; first = m4; granted = refl }
 fit m q false false false true false o t owns =
-    let m1 = and_rule m q NeverExecute (λ h. omega arith) (nothing_above m q) (unlike _ t.xn_is) in
-    let m2 = and_rule m q VectorRead (λ h. omega arith) m1 (unlike _ t.vec_is) in
-    let m3 = and_rule m q PrivatePeripheralBus (λ h. omega arith) m2 (unlike _ t.ppb_is) in
-    let m4 = and_rule m q MpuOff (λ h. omega arith) m3 (unlike_too _ t.on_is) in
-    let m5 = and_rule m q NegativePriority (λ h. omega arith) m4 (unlike _ t.neg_is) in
+    let m1 = and_rule m q NeverExecute (λ h. omega arith) (nothing_above m q) (both_ways _ t.xn_is) in
+    let m2 = and_rule m q VectorRead (λ h. omega arith) m1 (both_ways _ t.vec_is) in
+    let m3 = and_rule m q PrivatePeripheralBus (λ h. omega arith) m2 (both_ways _ t.ppb_is) in
+    let m4 = and_rule m q MpuOff (λ h. omega arith) m3 (λ f. both_ways _ f t.on_is) in
+    let m5 = and_rule m q NegativePriority (λ h. omega arith) m4 (both_ways _ t.neg_is) in
     at_regions m q o m5 owns
 
 -- the decision is by the first case that fits
@@ -171,7 +165,7 @@ same_case m q r s e f g = lead (rank s == 5) refl
 
     lead : (b : Bool) → (rank s == 5) ≡ b → r ≡ s
     lead true t = let at_s : rank s ≡ 5 = eqb-true (rank s) 5 t in regions (e ∙ at_s) at_s
-    lead false t = same_rule r s e (λ h. unlike (rank s == 5) t (eq-eqb (rank s) 5 h))
+    lead false t = same_rule r s e (λ h. both_ways (rank s == 5) t (eq-eqb (rank s) 5 h))
 
 same_decision : (d e : Decision) → d.rule ≡ e.rule → d.granted ≡ e.granted → d ≡ e
 same_decision d e p g =

@@ -1,7 +1,7 @@
 -- The registers are sound after a reset, and stay so after each write.
 use Rattle.std.proofs.Common.{◌≡◌, ℕ, zero, suc, ◌*◌, ◌/◌, ◌%◌, ◌<◌, ◌⊎◌, true, false, not, ◌&&◌, Bool, nat_lt}
 use Rattle.std.proofs.Common.{if◌then◌else◌, replicate, slice_index_or, Result, Ok, Err, refl, arith, inl, inr}
-use Rattle.std.proofs.lemmas.Bool.{ltb-true}
+use Rattle.std.proofs.lemmas.Bool.{ltb-true, cond_both}
 use Rattle.reference.specs.declared.mpu.MpuRegister.{MpuRegister}
 use Rattle.reference.specs.declared.mpu.MpuRegister.TheVariants as register
 use Rattle.reference.specs.declared.mpu.MpuStop.{MpuStop}
@@ -40,12 +40,10 @@ based-sound m (Ok n) value s t =
 based-sound m (Err why) value s t = s
 
 write_base-sound : (m : Mpu) (value : ℕ) → IsSound m → IsSound (after_write m (write_base m value))
-write_base-sound m value s = based-sound m (if is_bit value 4 then selected m (value % 16) else Ok m) value s
-    (lead (is_bit value 4))
-  where
-    lead : (b : Bool) → IsSound (after_write m (if b then selected m (value % 16) else Ok m))
-    lead true = selected-sound m (value % 16) s
-    lead false = s
+write_base-sound m value s =
+    based-sound m (if is_bit value 4 then selected m (value % 16) else Ok m) value s
+    (cond_both (is_bit value 4) (selected m (value % 16)) (Ok m) (λ r. IsSound (after_write m r))
+    (λ e. selected-sound m (value % 16) s) (λ e. s))
 
 pub sound_after_write : (m : Mpu) (r : MpuRegister) (value : ℕ) → IsSound m → IsSound (after_write m (write m r value))
 unfolding write

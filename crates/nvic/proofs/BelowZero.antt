@@ -1,10 +1,11 @@
 -- FAULTMASK, NMI and HardFault alone bring the execution priority below 0.
-use Rattle.std.proofs.Common.{◌≡◌, ℕ, zero, suc, ◌≤◌, min, Bool, true, false, ◌||◌, if◌then◌else◌, slice_index, refl}
+use Rattle.std.proofs.Common.{◌≡◌, ℕ, zero, suc, ◌≤◌, min, Bool, true, false, ◌||◌, slice_index, refl}
 use Rattle.std.proofs.Common.{arith}
 use Rattle.std.proofs.lemmas.Bool.Decides.{nat_tests}
+use Rattle.std.proofs.lemmas.Bool.{cond_both}
 use Rattle.reference.specs.declared.exception.TheConstants.{NMI, HARD_FAULT, EXCEPTIONS}
 use Rattle.reference.specs.Priorities.{Nvic, is_in, is_negative, is_below_zero, fixed_or, of_byte, grouped}
-use Rattle.reference.specs.Priorities.{group_priority, raised_by, highest_active, boosted, execution_priority}
+use Rattle.reference.specs.Priorities.{raised_by, highest_active, boosted, execution_priority}
 use Rattle.nvic.proofs.Least.{at_most_active}
 
 -- another exception than NMI and HardFault has a priority of 0 or more
@@ -13,14 +14,11 @@ fixed_high x other f g = grind (arith, nat_tests)
 
 lessened_high : (n : Nvic) (x p : ℕ) → is_in n.active NMI ≡ false → is_in n.active HARD_FAULT ≡ false → 2 ≤ p
     → 2 ≤ raised_by n x p
-lessened_high n x p f g h = split (is_in n.active x) refl
-  where
-    split : (b : Bool) → is_in n.active x ≡ b → 2 ≤ (if b then min (group_priority n x) p else p)
-    split true e =
-        let high = fixed_high x (grouped n.group (slice_index n.priorities x))
-        (λ i. cc) (λ i. cc) in
-        omega (arith, high, h)
-    split false e = h
+lessened_high n x p f g h =
+    cond_both (is_in n.active x) _ _ (λ v. 2 ≤ v)
+    (λ e. let high = fixed_high x (grouped n.group (slice_index n.priorities x)) (λ i. cc) (λ i. cc) in
+    omega (arith, high, h))
+    (λ e. h)
 
 active_high : (n : Nvic) (k : ℕ) → is_in n.active NMI ≡ false → is_in n.active HARD_FAULT ≡ false
     → 2 ≤ highest_active n k

@@ -1,13 +1,14 @@
 -- The best of the exceptions that are pending and enabled, and the candidate.
 use Rattle.std.proofs.Common.{◌≡◌, ℕ, zero, suc, ◌+◌, ◌*◌, ◌/◌, ◌^◌, ◌<◌, ◌≤◌, ◌⊎◌, ◌↔◌, inr, Bool, true, false, nat_lt}
-use Rattle.std.proofs.Common.{if◌then◌else◌, slice_index, Option, Some, None, refl, subst, arith, below_more}
+use Rattle.std.proofs.Common.{if◌then◌else◌, slice_index, Option, Some, None, refl, subst, ap, arith, below_more, List}
 use Rattle.std.proofs.Math.Nat.{div-mul-le_self, mul-le-mul_right}
 use Rattle.std.proofs.lemmas.Nat.{le-div, pow_pos}
-use Rattle.std.proofs.lemmas.Bool.{ltb-true, ltb-false}
+use Rattle.std.proofs.lemmas.Bool.{cond_both, ltb-true, ltb-false}
 use Rattle.std.proofs.lemmas.Bool.Decides.{nat_tests}
 use Rattle.reference.specs.declared.exception.TheConstants.{EXCEPTIONS}
 use Rattle.reference.specs.Priorities.{Nvic, is_ready, priority_of, group_priority, execution_priority, better_of}
 use Rattle.reference.specs.Priorities.{with_ready, best_below, best, candidate, grouped, fixed_or, of_byte, if_preempts}
+use Rattle.reference.specs.declared.exception.Masks.{Masks}
 use Rattle.nvic.specs.Laws.{IsBest, IsCandidate}
 
 -- the same, of the exceptions below k, for any test and any key
@@ -115,18 +116,16 @@ group_order n x y h =
 
 preempting : (n : Nvic) (o : Option ℕ) → IsBest n o → IsCandidate n (if_preempts n o)
 preempting n None f = λ y r. absurd (f y r)
-preempting n (Some x) f = split (nat_lt (group_priority n x) (execution_priority n)) refl
-  where
-    split : (b : Bool) → nat_lt (group_priority n x) (execution_priority n) ≡ b
-        → IsCandidate n (if b then Some x else None)
-    split true e = (f, ltb-true (group_priority n x) (execution_priority n) e)
-    split false e = λ y r.
-        let above : execution_priority n ≤ group_priority n x =
-        ltb-false (group_priority n x) (execution_priority n) e in
-        let first = f.1 y r in
-        let order : priority_of n x ≤ priority_of n y = omega (arith, first) in
-        let more = group_order n x y order in
-        omega (arith, above, more)
+preempting n (Some x) f =
+    cond_both (nat_lt (group_priority n x) (execution_priority n)) _ _ (IsCandidate n)
+    (λ e. (f, ltb-true (group_priority n x) (execution_priority n) e))
+    (λ e y r.
+    let above : execution_priority n ≤ group_priority n x =
+    ltb-false (group_priority n x) (execution_priority n) e in
+    let first = f.1 y r in
+    let order : priority_of n x ≤ priority_of n y = omega (arith, first) in
+    let more = group_order n x y order in
+    omega (arith, above, more))
 
 -- the candidate is the best exception, where it preempts
 pub candidate_is : (n : Nvic) → IsCandidate n (candidate n)
@@ -139,6 +138,18 @@ only_candidate n None None f g = refl
 only_candidate n None (Some y) f g = let h = f y g.0.0 in let k = g.1 in absurd (omega (arith, h, k))
 only_candidate n (Some x) None f g = let h = g x f.0.0 in let k = f.1 in absurd (omega (arith, h, k))
 only_candidate n (Some x) (Some y) f g = only_best n (Some x) (Some y) f.0 g.0
+
+-- the best exception depends on neither the active ones nor PRIGROUP and the masks
+best_below_alike : (n : Nvic) (active : List Bool) (group : ℕ) (masks : Masks) (k : ℕ)
+    → best_below (record n { active = active; group = group; masks = masks }) k ≡ best_below n k
+unfolding best_below with_ready
+best_below_alike n active group masks zero = refl
+best_below_alike n active group masks (suc k) = ap (λ o. with_ready n k o) (best_below_alike n active group masks k)
+
+pub best_alike : (n : Nvic) (active : List Bool) (group : ℕ) (masks : Masks)
+    → best (record n { active = active; group = group; masks = masks }) ≡ best n
+unfolding best
+best_alike n active group masks = best_below_alike n active group masks EXCEPTIONS
 
 -- the number of the best exception is one that an exception can have
 pub best_small : (n : Nvic) (x : ℕ) → best n ≡ Some x → x < EXCEPTIONS

@@ -1,15 +1,20 @@
 -- Each change leaves the sets and the bytes as the board has them.
-use Rattle.std.proofs.Common.{◌≡◌, ℕ, zero, suc, ◌-◌, ◌*◌, ◌/◌, ◌^◌, min, Bool, true, false, if◌then◌else◌, List, []}
+use Rattle.std.proofs.Common.{◌≡◌, ℕ, zero, suc, ◌-◌, ◌*◌, ◌/◌, ◌%◌, ◌^◌, ◌<◌, min, Bool, true, false, List, []}
 use Rattle.std.proofs.Common.{◌∷◌, replicate, get_or, set, slice_index, slice_set, refl, ◌∙◌, ap, arith}
+use Rattle.std.proofs.lemmas.Bool.{cond_both, both_ways}
 use Rattle.std.proofs.lemmas.List.{length-set, length-replicate}
 use Rattle.std.proofs.lemmas.Nat.{pow_pos}
 use Rattle.std.proofs.Math.Nat.{mul-div_left, zero-div, zero-mul}
+use Rattle.reference.specs.declared.exception.Masks.{Masks}
+use Rattle.reference.specs.declared.exception.TheConstants.{EXCEPTIONS, MOST_LINES}
+use Rattle.reference.specs.Invariant.{HasOnly}
 use Rattle.reference.specs.Priorities.{Nvic, is_in_words, is_exception, can_be_disabled, has_priority_byte, kept}
 use Rattle.reference.specs.Priorities.{with_member}
 use Rattle.reference.specs.Priorities.{with_pending, with_active, with_enabled, with_priority, with_group, with_primask}
-use Rattle.reference.specs.Priorities.{with_faultmask, with_basepri, with_due_at, with_due_below, with_due, reset_nvic}
-use Rattle.reference.specs.declared.exception.TheConstants.{EXCEPTIONS, MOST_LINES}
-use Rattle.nvic.specs.Laws.{IsSetOf, AreKept, IsOfBoard}
+use Rattle.reference.specs.Priorities.{with_faultmask, with_basepri, with_due, reset_nvic}
+use Rattle.nvic.proofs.Changes.{IsKept, pended_kept}
+use Rattle.nvic.proofs.Due.{due_is_pended}
+use Rattle.nvic.specs.Laws.{AreKept, IsOfBoard}
 
 -- ---- lists
 
@@ -30,32 +35,27 @@ same_each (suc n) v (suc j) = same_each n v j
 
 -- ---- sets and bytes
 
-set_of : (test : ℕ → Bool) (s : List Bool) (x : ℕ) (on : Bool) → test x ≡ true → IsSetOf test s
-    → IsSetOf test (slice_set s x on)
+set_of : (test : ℕ → Bool) (s : List Bool) (x : ℕ) (on : Bool) → test x ≡ true → HasOnly test s
+    → HasOnly test (slice_set s x on)
 set_of test s x on t h = record {
   places = length-set s x on ∙ h.places;
   members = at_each (λ y b. b ≡ true → test y ≡ true) s x on false (λ _. t) h.members;
 }
 
-empty_set : (test : ℕ → Bool) → IsSetOf test (replicate EXCEPTIONS false)
+empty_set : (test : ℕ → Bool) → HasOnly test (replicate EXCEPTIONS false)
 empty_set test = record {
   places = length-replicate EXCEPTIONS false;
-  members = λ x e. absurd (none (same_each EXCEPTIONS false x) e);
+  members = λ x e. absurd (both_ways _ (same_each EXCEPTIONS false x) e);
 }
-  where
-    none : {b : Bool} → b ≡ false → b ≡ true → ⊥
-    none f t = cc
 
 member_set : (lines : ℕ) (s : List Bool) (x : ℕ) (on : Bool)
-    → IsSetOf (is_exception lines) s → IsSetOf (is_exception lines) (with_member lines s x on)
-member_set lines s x on h = split (is_exception lines x) refl
-  where
-    split : (b : Bool) → is_exception lines x ≡ b → IsSetOf (is_exception lines) (if b then slice_set s x on else s)
-    split true e = set_of (is_exception lines) s x on e h
-    split false e = h
+    → HasOnly (is_exception lines) s → HasOnly (is_exception lines) (with_member lines s x on)
+member_set lines s x on h =
+    cond_both (is_exception lines x) _ _ (HasOnly (is_exception lines))
+    (λ e. set_of (is_exception lines) s x on e h) (λ e. h)
 
 -- what was kept is kept
-kept_again : (bits b : ℕ) → kept bits (kept bits b) ≡ kept bits b
+pub kept_again : (bits b : ℕ) → kept bits (kept bits b) ≡ kept bits b
 kept_again bits b = let d = 2 ^ (8 - bits) in ap (λ q. q * d) (mul-div_left (b / d) {n = d} (pow_pos (8 - bits)))
 
 set_kept : (bits : ℕ) (bytes : List ℕ) (x b : ℕ) → AreKept bits bytes → AreKept bits (slice_set bytes x (kept bits b))
@@ -67,139 +67,100 @@ set_kept bits bytes x b h = record {
 kept_none : (bits : ℕ) → kept bits 0 ≡ 0
 kept_none bits = let d = 2 ^ (8 - bits) in ap (λ q. q * d) (zero-div d) ∙ zero-mul d
 
-no_bytes : (bits : ℕ) → AreKept bits (replicate EXCEPTIONS 0)
+pub no_bytes : (bits : ℕ) → AreKept bits (replicate EXCEPTIONS 0)
 no_bytes bits = record {
   places = length-replicate {A = ℕ} EXCEPTIONS 0;
-  keep = λ x. none (slice_index (replicate EXCEPTIONS 0) x) (same_each EXCEPTIONS 0 x);
+  keep = λ x. let e : slice_index (replicate EXCEPTIONS 0) x ≡ 0 = same_each EXCEPTIONS 0 x in rw e (kept_none bits);
 }
-  where
-    none : (b : ℕ) → b ≡ 0 → kept bits b ≡ b
-    none b e = rw e (kept_none bits)
 
 -- ---- the changes
 
-pub pending_of_board : (n : Nvic) (x : ℕ) (on : Bool) → IsOfBoard n → IsOfBoard (with_pending n x on)
-pending_of_board n x on h = record {
-  pending = member_set n.lines n.pending x on h.pending;
-  enabled = h.enabled;
-  active = h.active;
+-- other sets, and the rest as it is
+with_sets : (n : Nvic) (pending enabled active : List Bool) → HasOnly (is_exception n.lines) pending
+    → HasOnly (can_be_disabled n.lines) enabled → HasOnly (is_exception n.lines) active → IsOfBoard n
+    → IsOfBoard (record n { pending = pending; enabled = enabled; active = active })
+with_sets n pending enabled active p e a h = record {
+  sets = record { pending = p; enabled = e; active = a; lines = h.sets.lines };
   priorities = h.priorities;
   basepri = h.basepri;
   group = h.group;
-  lines = h.lines;
 }
+
+-- other priority bytes, another PRIGROUP and other masks, and the rest as it is
+with_others : (n : Nvic) (bytes : List ℕ) (group : ℕ) (masks : Masks) → AreKept n.priority_bits bytes → group < 8
+    → kept n.priority_bits masks.basepri ≡ masks.basepri → IsOfBoard n
+    → IsOfBoard (record n { priorities = bytes; group = group; masks = masks })
+with_others n bytes group masks are small basepri h = record {
+  sets = record {
+    pending = h.sets.pending;
+    enabled = h.sets.enabled;
+    active = h.sets.active;
+    lines = h.sets.lines;
+  };
+  priorities = are;
+  basepri = basepri;
+  group = small;
+}
+
+pub pending_of_board : (n : Nvic) (x : ℕ) (on : Bool) → IsOfBoard n → IsOfBoard (with_pending n x on)
+pending_of_board n x on h =
+    with_sets n _ n.enabled n.active (member_set n.lines n.pending x on h.sets.pending) h.sets.enabled h.sets.active h
 
 pub active_of_board : (n : Nvic) (x : ℕ) (on : Bool) → IsOfBoard n → IsOfBoard (with_active n x on)
-active_of_board n x on h = record {
-  pending = h.pending;
-  enabled = h.enabled;
-  active = member_set n.lines n.active x on h.active;
-  priorities = h.priorities;
-  basepri = h.basepri;
-  group = h.group;
-  lines = h.lines;
-}
+active_of_board n x on h =
+    with_sets n n.pending n.enabled _ h.sets.pending h.sets.enabled (member_set n.lines n.active x on h.sets.active) h
 
 pub enabled_of_board : (n : Nvic) (x : ℕ) (on : Bool) → IsOfBoard n → IsOfBoard (with_enabled n x on)
-enabled_of_board n x on h = split (can_be_disabled n.lines x) refl
-  where
-    split : (b : Bool) → can_be_disabled n.lines x ≡ b
-        → IsOfBoard (if b then record n { enabled = slice_set n.enabled x on } else n)
-    split true e = record {
-      pending = h.pending;
-      enabled = set_of (can_be_disabled n.lines) n.enabled x on e h.enabled;
-      active = h.active;
-      priorities = h.priorities;
-      basepri = h.basepri;
-      group = h.group;
-      lines = h.lines;
-    }
-    split false e = h
+enabled_of_board n x on h =
+    cond_both (can_be_disabled n.lines x) _ _ IsOfBoard
+    (λ e. with_sets n n.pending _ n.active h.sets.pending
+    (set_of (can_be_disabled n.lines) n.enabled x on e h.sets.enabled) h.sets.active h)
+    (λ e. h)
 
 pub priority_of_board : (n : Nvic) (x b : ℕ) → IsOfBoard n → IsOfBoard (with_priority n x b)
-priority_of_board n x b h = split (has_priority_byte n.lines x)
-  where
-    split : (has : Bool)
-        → IsOfBoard (if has then record n { priorities = slice_set n.priorities x (kept n.priority_bits b) } else n)
-    split true = record {
-      pending = h.pending;
-      enabled = h.enabled;
-      active = h.active;
-      priorities = set_kept n.priority_bits n.priorities x b h.priorities;
-      basepri = h.basepri;
-      group = h.group;
-      lines = h.lines;
-    }
-    split false = h
+priority_of_board n x b h =
+    cond_both (has_priority_byte n.lines x) _ _ IsOfBoard
+    (λ e. with_others n _ n.group n.masks (set_kept n.priority_bits n.priorities x b h.priorities) h.group h.basepri h)
+    (λ e. h)
 
 pub group_of_board : (n : Nvic) (g : ℕ) → IsOfBoard n → IsOfBoard (with_group n g)
-group_of_board n g h = record {
-  pending = h.pending;
-  enabled = h.enabled;
-  active = h.active;
-  priorities = h.priorities;
-  basepri = h.basepri;
-  group = omega arith;
-  lines = h.lines;
-}
+group_of_board n g h = with_others n n.priorities (g % 8) n.masks h.priorities (omega arith) h.basepri h
 
 pub primask_of_board : (n : Nvic) (on : Bool) → IsOfBoard n → IsOfBoard (with_primask n on)
-primask_of_board n on h = record {
-  pending = h.pending;
-  enabled = h.enabled;
-  active = h.active;
-  priorities = h.priorities;
-  basepri = h.basepri;
-  group = h.group;
-  lines = h.lines;
-}
+primask_of_board n on h = with_others n n.priorities n.group _ h.priorities h.group h.basepri h
 
 pub faultmask_of_board : (n : Nvic) (on : Bool) → IsOfBoard n → IsOfBoard (with_faultmask n on)
-faultmask_of_board n on h = record {
-  pending = h.pending;
-  enabled = h.enabled;
-  active = h.active;
-  priorities = h.priorities;
-  basepri = h.basepri;
-  group = h.group;
-  lines = h.lines;
-}
+faultmask_of_board n on h = with_others n n.priorities n.group _ h.priorities h.group h.basepri h
 
 pub basepri_of_board : (n : Nvic) (b : ℕ) → IsOfBoard n → IsOfBoard (with_basepri n b)
-basepri_of_board n b h = record {
-  pending = h.pending;
-  enabled = h.enabled;
-  active = h.active;
-  priorities = h.priorities;
-  basepri = kept_again n.priority_bits b;
-  group = h.group;
-  lines = h.lines;
+basepri_of_board n b h = with_others n n.priorities n.group _ h.priorities h.group (kept_again n.priority_bits b) h
+
+pub of_board_kept : IsKept IsOfBoard
+of_board_kept = record {
+  pending = pending_of_board;
+  active = active_of_board;
+  enabled = enabled_of_board;
+  priority = λ n x b small h. priority_of_board n x b h;
+  group = group_of_board;
+  primask = primask_of_board;
+  faultmask = faultmask_of_board;
+  basepri = λ n b small h. basepri_of_board n b h;
 }
 
-due_at_of_board : (n : Nvic) (due : List ℕ) (x : ℕ) → IsOfBoard n → IsOfBoard (with_due_at n due x)
-unfolding with_due_at
-due_at_of_board n due x h = split (is_in_words due x)
-  where
-    split : (b : Bool) → IsOfBoard (if b then with_pending n x true else n)
-    split true = pending_of_board n x true h
-    split false = h
-
-due_below_of_board : (n : Nvic) (due : List ℕ) (x : ℕ) → IsOfBoard n → IsOfBoard (with_due_below n due x)
-unfolding with_due_below
-due_below_of_board n due zero h = h
-due_below_of_board n due (suc x) h = due_at_of_board (with_due_below n due x) due x (due_below_of_board n due x h)
-
 pub due_of_board : (n : Nvic) (due : List ℕ) → IsOfBoard n → IsOfBoard (with_due n due)
-unfolding with_due
-due_of_board n due h = due_below_of_board n due EXCEPTIONS h
+due_of_board n due h =
+    rw (due_is_pended n due (is_in_words due) (λ x small. refl))
+    (pended_kept IsOfBoard (is_in_words due) (λ m x e g. pending_of_board m x true g) n h)
 
 pub reset_of_board : (lines bits : ℕ) → IsOfBoard (reset_nvic lines bits)
 reset_of_board lines bits = record {
-  pending = empty_set (is_exception (min lines MOST_LINES));
-  enabled = empty_set (can_be_disabled (min lines MOST_LINES));
-  active = empty_set (is_exception (min lines MOST_LINES));
+  sets = record {
+    pending = empty_set (is_exception (min lines MOST_LINES));
+    enabled = empty_set (can_be_disabled (min lines MOST_LINES));
+    active = empty_set (is_exception (min lines MOST_LINES));
+    lines = omega arith;
+  };
   priorities = no_bytes bits;
   basepri = kept_none bits;
   group = omega arith;
-  lines = omega arith;
 }

@@ -2,12 +2,16 @@
 use Rattle.std.proofs.Common.{◌≡◌, ℕ, zero, suc, ◌<◌, ◌≤◌, Bool, true, false, ◌&&◌, ◌||◌, if◌then◌else◌, List, length}
 use Rattle.std.proofs.Common.{set, refl, sym, ◌∙◌, ap, arith}
 use Rattle.std.proofs.Math.Bool.{or-true, or-false}
+use Rattle.std.proofs.lemmas.Bool.{cond_both, both_ways}
 use Rattle.std.proofs.lemmas.List.{length-set, get_or-set_same, get_or-set_other}
 use Rattle.reference.specs.declared.exception.TheConstants.{EXCEPTIONS}
 use Rattle.reference.specs.Priorities.{Nvic, is_in, is_in_words, is_exception, with_pending, with_due_at}
 use Rattle.reference.specs.Priorities.{with_due_below}
 use Rattle.reference.specs.Priorities.{with_due}
+use Rattle.reference.specs.System.{with_pended_at, with_pended_below, with_pended}
+use Rattle.reference.specs.Time.{IsSetOf}
 use Rattle.nvic.proofs.Best.{or_last}
+use Rattle.nvic.proofs.Changes.{pended_kept}
 use Rattle.nvic.specs.Laws.{AddsDue}
 
 -- ---- one exception, over the values of the two tests
@@ -42,14 +46,29 @@ at_pending n due x = split (is_in_words due x)
 
 at_rest : (n : Nvic) (due : List ℕ) (x : ℕ) → with_due_at n due x ≡ record n { pending = (with_due_at n due x).pending }
 unfolding with_due_at
-at_rest n due x = split (is_in_words due x)
-  where
-    split : (b : Bool) → (if b then with_pending n x true else n)
-        ≡ record n { pending = (if b then with_pending n x true else n).pending }
-    split true = refl
-    split false = refl
+at_rest n due x =
+    cond_both (is_in_words due x) _ _ (λ (w : Nvic). w ≡ record n { pending = w.pending }) (λ e. refl) (λ e. refl)
 
 -- ---- all below one
+
+pended_below : (n : Nvic) (due : List ℕ) (test : ℕ → Bool) → IsSetOf due test → (x : ℕ) → x ≤ 256
+    → with_due_below n due x ≡ with_pended_below n test x
+unfolding with_due_below with_due_at with_pended_below with_pended_at
+pended_below n due test same zero within = refl
+pended_below n due test same (suc x) within =
+    let before = pended_below n due test same x (omega arith) in
+    let here = same x (omega arith) in
+    rw (before, here) refl
+
+-- the eight words of a set make pending what its test makes pending
+pub due_is_pended : (n : Nvic) (due : List ℕ) (test : ℕ → Bool) → IsSetOf due test → with_due n due ≡ with_pended n test
+unfolding with_due with_pended
+due_is_pended n due test same = pended_below n due test same 256 (omega arith)
+
+-- where nothing is due, nothing becomes pending
+pub nothing_is_pended : (n : Nvic) (test : ℕ → Bool) → ((x : ℕ) → test x ≡ false) → with_pended n test ≡ n
+nothing_is_pended n test none =
+    pended_kept (λ m. m ≡ n) test (λ m x e same. absurd (both_ways _ (none x) e)) n refl
 
 below_rest : (n : Nvic) (due : List ℕ) (k : ℕ)
     → with_due_below n due k ≡ record n { pending = (with_due_below n due k).pending }

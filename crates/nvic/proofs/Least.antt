@@ -1,11 +1,12 @@
 -- The execution priority is the least of those at which something holds the machine.
 use Rattle.std.proofs.Common.{◌≡◌, ℕ, zero, suc, ◌<◌, ◌≤◌, ◌⊎◌, ◌↔◌, inl, inr, min, Bool, true, false, ◌==◌}
-use Rattle.std.proofs.Common.{if◌then◌else◌, refl, arith}
-use Rattle.std.proofs.lemmas.Bool.{eqb-false}
+use Rattle.std.proofs.Common.{List, refl, ap, arith, if◌then◌else◌}
+use Rattle.std.proofs.lemmas.Bool.{cond_both, eqb-false}
 use Rattle.std.proofs.lemmas.Bool.Decides.{nat_tests}
 use Rattle.reference.specs.declared.exception.TheConstants.{EXCEPTIONS}
 use Rattle.reference.specs.Priorities.{Nvic, hard_fault_priority, is_in, of_byte, grouped, lowest, group_priority}
 use Rattle.reference.specs.Priorities.{raised_by, highest_active, boosted, execution_priority}
+use Rattle.reference.specs.declared.exception.Masks.{Masks}
 use Rattle.nvic.proofs.Best.{or_last}
 use Rattle.nvic.specs.Laws.{Holds, IsLeast}
 use Rattle.nvic.specs.Laws.Holds.{nothing, handler, basepri, primask, faultmask}
@@ -19,11 +20,9 @@ lesser_holds n p q f g =
 
 -- the least group priority of those below k, and of k if that is active
 held_step : (n : Nvic) (k p : ℕ) → k < EXCEPTIONS → Holds n p → Holds n (raised_by n k p)
-held_step n k p h f = split (is_in n.active k) refl
-  where
-    split : (b : Bool) → is_in n.active k ≡ b → Holds n (if b then min (group_priority n k) p else p)
-    split true e = lesser_holds n (group_priority n k) p (handler k h e refl) f
-    split false e = f
+held_step n k p h f =
+    cond_both (is_in n.active k) _ _ (Holds n)
+    (λ e. lesser_holds n (group_priority n k) p (handler k h e refl) f) (λ e. f)
 
 held : (n : Nvic) (k : ℕ) → k ≤ EXCEPTIONS → Holds n (highest_active n k)
 unfolding highest_active
@@ -52,6 +51,13 @@ pub at_most_active : (n : Nvic) (k x : ℕ) → x < k → is_in n.active x ≡ t
 unfolding highest_active
 at_most_active n zero x h e = absurd (omega arith)
 at_most_active n (suc k) x h e = at_most_next n k (highest_active n k) (at_most_active n k) x h e
+
+-- it depends on neither the other sets nor the masks
+pub highest_alike : (n : Nvic) (pending enabled : List Bool) (masks : Masks) (k : ℕ)
+    → highest_active (record n { pending = pending; enabled = enabled; masks = masks }) k ≡ highest_active n k
+unfolding highest_active
+highest_alike n pending enabled masks zero = refl
+highest_alike n pending enabled masks (suc k) = ap (raised_by n k) (highest_alike n pending enabled masks k)
 
 -- ---- the masks
 

@@ -1,6 +1,8 @@
 pub mod Best
 pub mod Least
 pub mod Boards
+pub mod Changes
+pub mod Systems
 pub mod Due
 pub mod BelowZero
 pub mod Unmasked

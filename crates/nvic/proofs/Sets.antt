@@ -7,7 +7,7 @@ use Rattle.reference.specs.declared.exception.TheConstants.{EXCEPTIONS}
 use Rattle.reference.specs.Priorities.{Nvic, is_in_words, with_due, with_due_at, with_due_below}
 use Rattle.reference.specs.Words.{is_bit}
 
-no_bit : (k : ℕ) → is_bit 0 k ≡ false
+pub no_bit : (k : ℕ) → is_bit 0 k ≡ false
 no_bit k = rw (zero-div (2 ^ k)) refl
 
 or_zero : (a b : ℕ) → bit_or a b ≡ 0 → (a ≡ 0) × (b ≡ 0)

@@ -2,33 +2,19 @@
 use Rattle.std.proofs.Common.{◌≡◌, ℕ, zero, suc, ◌<◌, ◌≤◌, ◌⊎◌, min, Bool, true, false, not, ◌&&◌, nat_lt}
 use Rattle.std.proofs.Common.{if◌then◌else◌, slice_index, Option, Some, None, refl, sym, ◌∙◌, ap, subst, arith}
 use Rattle.std.proofs.lemmas.Bool.Decides.{nat_tests}
+use Rattle.std.proofs.lemmas.Bool.{cond_both}
 use Rattle.reference.specs.declared.exception.TheConstants.{NMI, EXCEPTIONS}
 use Rattle.reference.specs.Priorities.{Nvic, is_in, is_ready, is_negative, is_below_zero, fixed_or, of_byte, grouped}
 use Rattle.reference.specs.Priorities.{priority_of, group_priority, raised_by, highest_active, boosted, execution_priority}
-use Rattle.reference.specs.Priorities.{with_primask, with_ready, best_below, best, if_preempts, candidate}
+use Rattle.reference.specs.Priorities.{with_primask, best, if_preempts, candidate}
 use Rattle.reference.specs.Priorities.{candidate_unmasked}
 use Rattle.nvic.proofs.BelowZero.{below_zero}
-use Rattle.nvic.proofs.Best.{candidate_is, only_candidate}
-use Rattle.nvic.proofs.Least.{at_most_active}
+use Rattle.nvic.proofs.Best.{candidate_is, only_candidate, best_alike}
+use Rattle.nvic.proofs.Least.{at_most_active, highest_alike}
 use Rattle.nvic.specs.Laws.{IsBest, IsCandidate, IsReady}
 
 abbrev unmask : Nvic → Nvic
 unmask n = with_primask n false
-
--- PRIMASK changes neither the best exception nor the priorities of the active ones
-best_below_open : (n : Nvic) (k : ℕ) → best_below (unmask n) k ≡ best_below n k
-unfolding best_below with_ready
-best_below_open n zero = refl
-best_below_open n (suc k) = ap (λ o. with_ready n k o) (best_below_open n k)
-
-best_open : (n : Nvic) → best (unmask n) ≡ best n
-unfolding best
-best_open n = best_below_open n EXCEPTIONS
-
-least_open : (n : Nvic) (k : ℕ) → highest_active (unmask n) k ≡ highest_active n k
-unfolding highest_active
-least_open n zero = refl
-least_open n (suc k) = ap (λ p. raised_by n k p) (least_open n k)
 
 -- the execution priority if PRIMASK were 0
 abbrev pub limit : Nvic → ℕ
@@ -36,7 +22,9 @@ limit n = min (highest_active n EXCEPTIONS) (boosted n.group (record n.masks { p
 
 limit_is : (n : Nvic) → execution_priority (unmask n) ≡ limit n
 unfolding execution_priority
-limit_is n = ap (λ p. min p (boosted n.group (record n.masks { primask = false }))) (least_open n EXCEPTIONS)
+limit_is n =
+    ap (λ p. min p (boosted n.group (record n.masks { primask = false })))
+    (highest_alike n n.pending n.enabled (record n.masks { primask = false }) EXCEPTIONS)
 
 abbrev pub where_below : Nvic → Option ℕ → Option ℕ
 where_below n None = None
@@ -49,7 +37,9 @@ if_preempts_open n (Some x) = ap (λ p. if nat_lt (group_priority n x) p then So
 -- the best exception, where its group priority is below that limit
 pub unmasked : (n : Nvic) → candidate_unmasked n ≡ where_below n (best n)
 unfolding candidate_unmasked candidate
-unmasked n = ap (λ o. if_preempts (unmask n) o) (best_open n) ∙ if_preempts_open n (best n)
+unmasked n =
+    ap (λ o. if_preempts (unmask n) o) (best_alike n n.active n.group (record n.masks { primask = false }))
+    ∙ if_preempts_open n (best n)
 
 -- ---- at an execution priority below 0
 
@@ -58,13 +48,10 @@ fixed_above : (x other : ℕ) → (x ≡ NMI → ⊥) → 1 ≤ fixed_or x (of_b
 fixed_above x other f = grind (arith, nat_tests)
 
 lessened_above : (n : Nvic) (x p : ℕ) → is_in n.active NMI ≡ false → 1 ≤ p → 1 ≤ raised_by n x p
-lessened_above n x p f h = split (is_in n.active x) refl
-  where
-    split : (b : Bool) → is_in n.active x ≡ b → 1 ≤ (if b then min (group_priority n x) p else p)
-    split true e =
-        let above = fixed_above x (grouped n.group (slice_index n.priorities x)) (λ i. cc) in
-        omega (arith, above, h)
-    split false e = h
+lessened_above n x p f h =
+    cond_both (is_in n.active x) _ _ (λ v. 1 ≤ v)
+    (λ e. let above = fixed_above x (grouped n.group (slice_index n.priorities x)) (λ i. cc) in omega (arith, above, h))
+    (λ e. h)
 
 active_above : (n : Nvic) (k : ℕ) → is_in n.active NMI ≡ false → 1 ≤ highest_active n k
 unfolding highest_active

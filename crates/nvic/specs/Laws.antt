@@ -1,10 +1,10 @@
 -- What the laws of priorities say, as facts about all exceptions at once. The definitions that they are about are in
 -- the crate `reference`.
-use Rattle.std.specs.Prelude.{◌≡◌, ℕ, ◌<◌, ◌≤◌, ◌⊎◌, Bool, true, ◌&&◌, ◌||◌, List, length, slice_index, Option, Some}
+use Rattle.std.specs.Prelude.{◌≡◌, ℕ, ◌<◌, ◌≤◌, ◌⊎◌, true, ◌&&◌, ◌||◌, List, length, slice_index, Option, Some}
 use Rattle.std.specs.Prelude.{None}
-use Rattle.reference.specs.declared.exception.TheConstants.{EXCEPTIONS, MOST_LINES}
-use Rattle.reference.specs.Priorities.{Nvic, is_exception, can_be_disabled, kept, is_in, is_in_words, is_ready}
-use Rattle.reference.specs.Priorities.{priority_of}
+use Rattle.reference.specs.declared.exception.TheConstants.{EXCEPTIONS}
+use Rattle.reference.specs.Invariant.{HasExceptionsOfBoard}
+use Rattle.reference.specs.Priorities.{Nvic, is_exception, kept, is_in, is_in_words, is_ready, priority_of}
 use Rattle.reference.specs.Priorities.{group_priority, execution_priority, hard_fault_priority, of_byte, grouped}
 use Rattle.reference.specs.Priorities.{lowest}
 
@@ -41,11 +41,6 @@ pub record IsLeast (n : Nvic) (p : ℕ) : Type 0 where
   pub holds : Holds n p
   pub least : (q : ℕ) → Holds n q → p ≤ q
 
--- a set has a place for each number, and only numbers that pass the test are in it
-pub record IsSetOf (test : ℕ → Bool) (set : List Bool) : Type 0 where
-  pub places : length set ≡ EXCEPTIONS
-  pub members : (x : ℕ) → is_in set x ≡ true → test x ≡ true
-
 -- there's a byte for each number, and each has only bits that the board keeps
 pub record AreKept (bits : ℕ) (bytes : List ℕ) : Type 0 where
   pub places : length bytes ≡ EXCEPTIONS
@@ -54,13 +49,10 @@ pub record AreKept (bits : ℕ) (bytes : List ℕ) : Type 0 where
 -- what is always so: the sets hold exceptions of the board only, and the priority bytes and BASEPRI have only bits that
 -- the board keeps
 pub record IsOfBoard (n : Nvic) : Type 0 where
-  pub pending : IsSetOf (is_exception n.lines) n.pending
-  pub enabled : IsSetOf (can_be_disabled n.lines) n.enabled
-  pub active : IsSetOf (is_exception n.lines) n.active
+  pub sets : HasExceptionsOfBoard n
   pub priorities : AreKept n.priority_bits n.priorities
   pub basepri : kept n.priority_bits n.masks.basepri ≡ n.masks.basepri
   pub group : n.group < 8
-  pub lines : n.lines ≤ MOST_LINES
 
 -- pending now: what was pending, and the exceptions of the board that are due; nothing else has changed
 pub record AddsDue (n : Nvic) (due : List ℕ) (m : Nvic) : Type 0 where

@@ -3,14 +3,16 @@
 ghost use Rattle.std.specs.Prelude.{◌≡◌, ◌+◌, ◌^◌, ◌<◌, ◌≤◌, ◌⊎◌, ◌&&◌, ℕ, true, false, not, IfSome};
 ghost use Rattle.clock.specs.Kept.{IsRight};
 ghost use Rattle.reference.specs.Answers.{IsNarrow, LeavesUnlessDone};
-ghost use Rattle.reference.specs.System.{reset_system, after_tick, deactivated, is_held as is_held_of, has_access as is_allowed_of, word_at as word_at_of, after_read, register_written, register_access, system_access, with_nvic, mpu_written, first_byte as first_byte_of};
+ghost use Rattle.reference.specs.System.{reset_system, after_tick, deactivated, after_read, register_written, register_access, system_access, with_nvic, mpu_written};
+ghost use Rattle.reference.specs.System as spec;
 ghost use Rattle.reference.specs.Interrupts.{write_priorities as write_priorities_of};
 ghost use Rattle.reference.specs.Kinds.{bytes_in};
 ghost use Rattle.reference.specs.Regions.{is_on, shown, write as write_mpu_of};
 ghost use Rattle.reference.specs.Priorities.{is_below_zero, with_pending, with_active, with_faultmask};
 ghost use Rattle.reference.specs.Registers.{is_privileged};
 ghost use Rattle.reference.specs.Rules.{decision_of, is_off_below_zero};
-ghost use Rattle.reference.specs.SpecialRegisters.{read_special as read_special_of, write_special as write_special_of, write_mask as write_mask_of, change_state as change_state_of, with_special, with_mask};
+ghost use Rattle.reference.specs.SpecialRegisters.{with_special, with_mask};
+ghost use Rattle.reference.specs.SpecialRegisters as special;
 ghost use Rattle.reference.specs.Status.{with_fault_bits, with_mmfar, with_bfar};
 ghost use Rattle.scs.specs.Writes.{after_write, answered};
 
@@ -85,7 +87,7 @@ impl<D: Decider, L: Levels, U: DueTicks> System<D, L, U> {
     /// Makes the next tick: time goes on, and what the tick pends becomes pending. On most ticks
     /// nothing is due: only time goes on.
     #[inline]
-    #[tactic(auto, using(crate::proofs::Due::nothing_is_pended), unfolding(reference::specs::System::after_tick))]
+    #[tactic(auto, using(nvic::proofs::Due::nothing_is_pended), unfolding(reference::specs::System::after_tick))]
     pub fn tick(&mut self)
         requires { self.old.time.ticks < 2 ^ 48 }
         ensures { self.new ≡ after_tick self.old }
@@ -98,7 +100,7 @@ impl<D: Decider, L: Levels, U: DueTicks> System<D, L, U> {
     /// Makes the next tick, and makes pending what is due at it.
     #[cold]
     #[inline(never)]
-    #[tactic(auto, using(crate::proofs::Due::due_is_pended), unfolding(reference::specs::System::after_tick))]
+    #[tactic(auto, using(nvic::proofs::Due::due_is_pended), unfolding(reference::specs::System::after_tick))]
     fn tick_and_pend(&mut self)
         requires { self.old.time.ticks < 2 ^ 48 }
         ensures { self.new ≡ after_tick self.old }
@@ -197,15 +199,15 @@ impl<D: Decider, L: Levels, U: DueTicks> System<D, L, U> {
 
     /// Reads a special register as MRS does.
     pub fn read_special(&self, regs: &Regs, register: SpecialRegister) -> u32
-        ensures { result ≡ read_special_of regs.now self.now.nvic.masks register }
+        ensures { result ≡ special.read_special regs.now self.now.nvic.masks register }
     {
         special::read_special(regs, self.levels.masks(), register)
     }
 
     /// Writes a special register as MSR does, with the privilege of `regs`.
     pub fn write_special(&mut self, regs: &mut Regs, register: SpecialRegister, value: u32)
-        ensures registers { regs.new ≡ write_special_of regs.old register value }
-        ensures system { self.new ≡ with_nvic self.old (write_mask_of (is_privileged regs.old) self.old.nvic register value) }
+        ensures registers { regs.new ≡ special.write_special regs.old register value }
+        ensures system { self.new ≡ with_nvic self.old (special.write_mask (is_privileged regs.old) self.old.nvic register value) }
     {
         special::write_mask(&mut self.levels, regs.is_privileged(), register, value);
         special::write_special(regs, register, value);
@@ -222,7 +224,7 @@ impl<D: Decider, L: Levels, U: DueTicks> System<D, L, U> {
 
     /// Changes the masks as CPS does, by code that is privileged or not.
     pub fn change_state(&mut self, privileged: bool, operands: &ChangeProcessorState)
-        ensures { self.new ≡ with_nvic self.old (change_state_of privileged self.old.nvic operands.now) }
+        ensures { self.new ≡ with_nvic self.old (special.change_state privileged self.old.nvic operands.now) }
     {
         special::change_state(&mut self.levels, privileged, operands);
     }
@@ -262,7 +264,7 @@ impl<D: Decider, L: Levels, U: DueTicks> System<D, L, U> {
 
     /// Returns whether an exception is an interrupt of the board whose line is high.
     fn is_held(&self, number: u16) -> bool
-        ensures { result ≡ is_held_of self.now number }
+        ensures { result ≡ spec.is_held self.now number }
     {
         number >= FIRST_LINE
             && number - FIRST_LINE < u16::from(self.levels.lines())
@@ -345,7 +347,7 @@ impl<D: Decider, L: Levels, U: DueTicks> System<D, L, U> {
     /// Returns whether the bus accepts an access: one of privileged code, or a word that is stored
     /// to STIR where CCR.USERSETMPEND is 1.
     fn has_access(&self, request: &Request) -> bool
-        ensures { result ≡ is_allowed_of self.now request.now }
+        ensures { result ≡ spec.has_access self.now request.now }
     {
         request.access.privileged
             || (request.access.kind.is_store()
@@ -357,7 +359,7 @@ impl<D: Decider, L: Levels, U: DueTicks> System<D, L, U> {
     /// Reads a register as a word.
     #[tactic(auto, unfolding(reference::specs::System::word_at, reference::specs::System::after_read))]
     fn read(&mut self, exception: u16, register: SystemRegister) -> u32
-        ensures value { result ≡ word_at_of exception self.old register }
+        ensures value { result ≡ spec.word_at exception self.old register }
         ensures system { self.new ≡ after_read self.old register }
     {
         match register {
@@ -404,7 +406,7 @@ impl<D: Decider, L: Levels, U: DueTicks> System<D, L, U> {
 
     /// Writes priority bytes, as many as the access moves.
     fn write_priorities(&mut self, request: &Request, first: u8)
-        ensures { self.new ≡ with_nvic self.old (write_priorities_of self.old.nvic (first + first_byte_of request.now.access.size request.now.access.address) request.now.value (bytes_in request.now.access.size)) }
+        ensures { self.new ≡ with_nvic self.old (write_priorities_of self.old.nvic (first + spec.first_byte request.now.access.size request.now.access.address) request.now.value (bytes_in request.now.access.size)) }
     {
         let number = u16::from(first) + first_byte(request) as u16;
         write_priorities(

@@ -1,5 +1,7 @@
 -- An access, and a list of them, keep what holds of the System Control Space and of memory.
 use Rattle.std.proofs.Common.{◌≡◌, ℕ, Bool, true, false, List, [], ◌∷◌, Result, Ok, Err, refl}
+use Rattle.std.proofs.lemmas.Bool.{cond_both}
+use Rattle.nvic.proofs.Systems.{access_kept}
 use Rattle.reference.specs.declared.access.Decision.{Decision}
 use Rattle.reference.specs.declared.access.Request.{Request}
 use Rattle.reference.specs.declared.event.Event.{Event}
@@ -12,8 +14,7 @@ use Rattle.reference.specs.Kinds.{is_probe}
 use Rattle.reference.specs.Map.{is_in_ppb}
 use Rattle.reference.specs.State.{Bus}
 use Rattle.state_laws.proofs.Memories.{space_apart}
-use Rattle.state_laws.proofs.Nvic.{either}
-use Rattle.state_laws.proofs.Systems.{IsWhole, access_whole}
+use Rattle.state_laws.proofs.Systems.{IsWhole, parts_kept}
 
 -- what holds of the System Control Space, and of memory
 abbrev pub IsWholeBus : ℕ → ℕ → Bus → Type 0
@@ -23,9 +24,9 @@ pub carried_whole : (lines bits x : ℕ) (b : Bus) (q : Request) → IsWholeBus 
     IsWholeBus lines bits (answered_by_bus x b q).bus
 unfolding answered_by_bus
 carried_whole lines bits x b q h =
-    either (λ (a : BusAnswer). IsWholeBus lines bits a.bus) (is_probe q.access.kind) _ _ (λ e. h)
-    (λ e. either (λ (a : BusAnswer). IsWholeBus lines bits a.bus) (is_in_ppb q.access.address) _ _
-    (λ f. (access_whole lines bits x b.system q h.0, h.1))
+    cond_both (is_probe q.access.kind) _ _ (λ (a : BusAnswer). IsWholeBus lines bits a.bus) (λ e. h)
+    (λ e. cond_both (is_in_ppb q.access.address) _ _ (λ (a : BusAnswer). IsWholeBus lines bits a.bus)
+    (λ f. (access_kept (parts_kept lines bits) x b.system q h.0, h.1))
     (λ f. (h.0, space_apart b.memory b.system.time.ticks q h.1)))
 
 decided_whole : (lines bits x : ℕ) (b : Bus) (q : Request) (d : Decision) (granted : Bool) → d.granted ≡ granted →

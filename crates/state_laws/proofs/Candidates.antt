@@ -1,18 +1,19 @@
 -- There is a candidate still where more exceptions become pending, and where a fault is taken.
-use Rattle.std.proofs.Common.{◌≡◌, ℕ, zero, suc, ◌<◌, min, Bool, true, false, ◌&&◌, is_some, nat_lt, List, length}
+use Rattle.std.proofs.Common.{◌≡◌, ℕ, ◌<◌, min, Bool, true, false, ◌&&◌, is_some, nat_lt, List, length}
 use Rattle.std.proofs.Common.{slice_set, Option, Some, None, refl, ap, arith}
-use Rattle.std.proofs.lemmas.Bool.{ltb-true, ltb-false}
+use Rattle.std.proofs.lemmas.Bool.{cond_both, and_parts, ltb-true, ltb-false, and_from}
 use Rattle.std.proofs.lemmas.List.{get_or-set_same}
 use Rattle.nvic.proofs.Best.{candidate_is}
 use Rattle.nvic.proofs.Boards.{at_each}
+use Rattle.nvic.proofs.Changes.{pended_kept}
+use Rattle.nvic.proofs.Least.{highest_alike}
 use Rattle.nvic.specs.Laws.{IsReady, IsCandidate}
 use Rattle.reference.specs.declared.exception.Escalation.{Escalation}
 use Rattle.reference.specs.declared.exception.Escalation.TheVariants.{Itself, HardFault, Lockup}
 use Rattle.reference.specs.declared.exception.TheConstants.{EXCEPTIONS, HARD_FAULT}
-use Rattle.reference.specs.Priorities.{Nvic, is_in, is_enabled, is_exception, is_negative, group_priority, raised_by}
-use Rattle.reference.specs.Priorities.{highest_active, boosted, execution_priority, candidate, with_pending, escalation}
-use Rattle.reference.specs.System.{with_pended_at, with_pended_below, with_pended}
-use Rattle.state_laws.proofs.Nvic.{either}
+use Rattle.reference.specs.Priorities.{Nvic, is_in, is_enabled, is_exception, is_negative, group_priority}
+use Rattle.reference.specs.Priorities.{boosted, execution_priority, candidate, with_pending, escalation}
+use Rattle.reference.specs.System.{with_pended}
 
 -- ---- there is a candidate
 
@@ -42,22 +43,13 @@ preempts n h = lead (candidate n) (candidate_is n) h
 
 -- ---- more become pending
 
-least_kept : (n : Nvic) (p : List Bool) (k : ℕ) → highest_active (record n { pending = p }) k ≡ highest_active n k
-unfolding highest_active
-least_kept n p zero = refl
-least_kept n p (suc k) = ap (λ least. raised_by n k least) (least_kept n p k)
-
 execution_kept : (n : Nvic) (p : List Bool) → execution_priority (record n { pending = p }) ≡ execution_priority n
 unfolding execution_priority
-execution_kept n p = ap (λ least. min least (boosted n.group n.masks)) (least_kept n p EXCEPTIONS)
+execution_kept n p =
+    ap (λ least. min least (boosted n.group n.masks)) (highest_alike n p n.enabled n.masks EXCEPTIONS)
 
 grows : (s : List Bool) (x y : ℕ) → is_in s y ≡ true → is_in (slice_set s x true) y ≡ true
 grows s x y = at_each (λ j b. is_in s j ≡ true → b ≡ true) s x true false (λ e. refl) (λ j e. e) y
-
-both : (a b c : Bool) → (a ≡ true → c ≡ true) → (a && b) ≡ true → (c && b) ≡ true
-both true b true f e = e
-both true b false f e = absurd (let g = f refl in let w : ⊥ = cc in w)
-both false b c f e = absurd (let w : ⊥ = cc in w)
 
 preempts_with : (n : Nvic) (p : List Bool) → ((y : ℕ) → is_in n.pending y ≡ true → is_in p y ≡ true) → Preempts n →
     Preempts (record n { pending = p })
@@ -65,30 +57,21 @@ preempts_with n p more h = record {
   number = h.number;
   ready = record {
     in_range = h.ready.in_range;
-    ready = both (is_in n.pending h.number) (is_enabled n h.number) (is_in p h.number) (more h.number) h.ready.ready;
+    ready =
+        let parts = and_parts (is_in n.pending h.number) (is_enabled n h.number) h.ready.ready in
+        and_from _ _ (more h.number parts.0) parts.1;
   };
   above = rw (execution_kept n p) h.above;
 }
 
 pub pending_calls : (n : Nvic) (x : ℕ) → Calls n → Calls (with_pending n x true)
 pending_calls n x h =
-    either (λ p. Calls (record n { pending = p })) (is_exception n.lines x) _ _
+    cond_both (is_exception n.lines x) _ _ (λ p. Calls (record n { pending = p }))
     (λ e. calls _ (preempts_with n (slice_set n.pending x true) (λ y f. grows n.pending x y f) (preempts n h)))
     (λ e. calls _ (preempts_with n n.pending (λ y f. f) (preempts n h)))
 
-pended_at_calls : (n : Nvic) (test : ℕ → Bool) (x : ℕ) → Calls n → Calls (with_pended_at n test x)
-unfolding with_pended_at
-pended_at_calls n test x h = either Calls (test x) _ _ (λ e. pending_calls n x h) (λ e. h)
-
-pended_below_calls : (n : Nvic) (test : ℕ → Bool) (x : ℕ) → Calls n → Calls (with_pended_below n test x)
-unfolding with_pended_below
-pended_below_calls n test zero h = h
-pended_below_calls n test (suc x) h =
-    pended_at_calls (with_pended_below n test x) test x (pended_below_calls n test x h)
-
 pub pended_calls : (n : Nvic) (test : ℕ → Bool) → Calls n → Calls (with_pended n test)
-unfolding with_pended
-pended_calls n test h = pended_below_calls n test EXCEPTIONS h
+pended_calls n test h = pended_kept Calls test (λ m x e. pending_calls m x) n h
 
 -- ---- a fault
 
@@ -96,7 +79,7 @@ pended_calls n test h = pended_below_calls n test EXCEPTIONS h
 raised_calls : (n : Nvic) (x : ℕ) → length n.pending ≡ EXCEPTIONS → x < EXCEPTIONS → is_exception n.lines x ≡ true →
     is_enabled n x ≡ true → group_priority n x < execution_priority n → Calls (with_pending n x true)
 raised_calls n x places small exists enabled above =
-    either (λ p. Calls (record n { pending = p })) (is_exception n.lines x) _ _
+    cond_both (is_exception n.lines x) _ _ (λ p. Calls (record n { pending = p }))
     (λ e. calls _ (record {
       number = x;
       ready = record {
@@ -113,17 +96,12 @@ Follows n x Itself = Calls (with_pending n x true)
 Follows n x HardFault = Calls (with_pending n HARD_FAULT true)
 Follows n x Lockup = Unit {0}
 
-both_true : (a b : Bool) → (a && b) ≡ true → (a ≡ true) × (b ≡ true)
-both_true true true e = (refl, refl)
-both_true true false e = absurd (let w : ⊥ = cc in w)
-both_true false b e = absurd (let w : ⊥ = cc in w)
-
 pub escalation_follows : (n : Nvic) (x : ℕ) → length n.pending ≡ EXCEPTIONS → x < EXCEPTIONS →
     is_exception n.lines x ≡ true → Follows n x (escalation n x)
 unfolding escalation
 escalation_follows n x places small exists =
-    either (Follows n x) (is_enabled n x && nat_lt (group_priority n x) (execution_priority n)) _ _
-    (λ e. let h = both_true _ _ e in
+    cond_both (is_enabled n x && nat_lt (group_priority n x) (execution_priority n)) _ _ (Follows n x)
+    (λ e. let h = and_parts _ _ e in
     raised_calls n x places small exists h.0 (ltb-true (group_priority n x) (execution_priority n) h.1))
-    (λ e. either (Follows n x) (is_negative (execution_priority n)) _ _ (λ f. tt)
+    (λ e. cond_both (is_negative (execution_priority n)) _ _ (Follows n x) (λ f. tt)
     (λ f. raised_calls n HARD_FAULT places (omega arith) refl refl (ltb-false (execution_priority n) 2 f)))

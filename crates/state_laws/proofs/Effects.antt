@@ -1,7 +1,7 @@
 -- What each write of a core register keeps, each instruction keeps.
 use Rattle.std.proofs.Common.{ℕ, Bool, List, [], ◌∷◌, drop, slice_index, arith, ◌≡◌, ◌^◌, ◌<◌, true, ◌==◌, slice_set}
 use Rattle.std.proofs.Common.{Option}
-use Rattle.std.proofs.lemmas.Bool.{and_parts}
+use Rattle.std.proofs.lemmas.Bool.{cond_both, and_parts}
 use Rattle.reference.specs.declared.instruction.Branch.{Branch}
 use Rattle.reference.specs.declared.instruction.Branch.TheVariants as branch
 use Rattle.reference.specs.declared.instruction.CodedInstruction.{CodedInstruction}
@@ -44,7 +44,6 @@ use Rattle.reference.specs.Registers.{stack_pointer, with_sp, code_address, with
 use Rattle.reference.specs.SystemInstructions.{hint_ending, system_effect, moves_on_and}
 use Rattle.reference.specs.TwoOperands.{sets_flags, written}
 use Rattle.reference.specs.Words.{is_bit, low_word, word_sum}
-use Rattle.state_laws.proofs.Nvic.{either}
 
 -- ---- values
 
@@ -97,7 +96,7 @@ module _ {P : Registers → Type 0} (k : KeepsWrites P) where
 
   pub sp_kept : (r : Registers) (v : ℕ) → P r → P (with_sp r v)
   sp_kept r v p =
-      either P (uses_psp r) _ _ (λ e. k.psp r (stack_pointer v) (stack_pointer_is v) p)
+      cond_both (uses_psp r) _ _ P (λ e. k.psp r (stack_pointer v) (stack_pointer_is v) p)
       (λ e. k.msp r (stack_pointer v) (stack_pointer_is v) p)
 
   pc_kept : (r : Registers) (v : ℕ) → P r → P (with_pc r v)
@@ -109,9 +108,9 @@ module _ {P : Registers → Type 0} (k : KeepsWrites P) where
   pub register_kept : (r : Registers) (n v : ℕ) → P r → P (with_register r n v)
   register_kept r n v p =
       let word : low_word v < 2 ^ 32 = omega arith in
-      either P (n == 13) _ _ (λ e. sp_kept r v p)
-      (λ e. either P (n == 14) _ _ (λ f. k.lr r (low_word v) word p)
-      (λ f. either P (n == 15) _ _ (λ g. pc_kept r v p) (λ g. k.general r n (low_word v) word p)))
+      cond_both (n == 13) _ _ P (λ e. sp_kept r v p)
+      (λ e. cond_both (n == 14) _ _ P (λ f. k.lr r (low_word v) word p)
+      (λ f. cond_both (n == 15) _ _ P (λ g. pc_kept r v p) (λ g. k.general r n (low_word v) word p)))
 
   pub moves_on_kept : (length : InstructionLength) (r : Registers) → P r → Leaves P (moves_on length r)
   moves_on_kept length r p = record { kept = k.next (advanced r) length (k.advanced r p); ending = tt }
@@ -131,13 +130,13 @@ module _ {P : Registers → Type 0} (k : KeepsWrites P) where
 
   exchanges_kept : (v : ℕ) (r : Registers) → P r → Leaves P (exchanges v r)
   exchanges_kept v r p =
-      either (Leaves P) (is_exception_return v r) _ _ (λ e. record { kept = p; ending = (and_parts _ _ e).0 })
+      cond_both (is_exception_return v r) _ _ (Leaves P) (λ e. record { kept = p; ending = (and_parts _ _ e).0 })
       (λ e. branches_kept (with_exchange r v) (exchange_kept r v p))
 
   loads_into_kept : (length : InstructionLength) (t value : ℕ) (r : Registers) → P r →
       Leaves P (loads_into length t value r)
   loads_into_kept length t value r p =
-      either (Leaves P) (t == 15) _ _ (λ e. exchanges_kept value r p)
+      cond_both (t == 15) _ _ (Leaves P) (λ e. exchanges_kept value r p)
       (λ e. moves_on_kept length (with_register r t value) (register_kept r t value p))
 
   -- ---- the instructions that compute
@@ -146,7 +145,7 @@ module _ {P : Registers → Type 0} (k : KeepsWrites P) where
       P (written setting d given r)
   written_kept setting d given r h =
       let value = register_kept r d given.0 h in
-      either P (sets_flags setting r) _ _ (λ e. k.flags (with_register r d given.0) given.1 value)
+      cond_both (sets_flags setting r) _ _ P (λ e. k.flags (with_register r d given.0) given.1 value)
       (λ e. value)
 
   ruleset writes = (written_kept, register_kept, flags_kept)
@@ -161,14 +160,14 @@ module _ {P : Registers → Type 0} (k : KeepsWrites P) where
       Leaves P (data_processing_effect length i r)
   data_kept length i r h =
       let after = processed_kept i r h in
-      either (Leaves P) (writes_pc i) _ _ (λ e. branches_kept (processed i r) after)
+      cond_both (writes_pc i) _ _ (Leaves P) (λ e. branches_kept (processed i r) after)
       (λ e. moves_on_kept length (processed i r) after)
 
   -- ---- loads and stores
 
   base_kept : (a : ImmediateAddress) (r : Registers) → P r → P (with_base a r)
   base_kept a r h =
-      either P (writes_back a.indexing) _ _ (λ e. register_kept r a.base (offset_address r a) h) (λ e. h)
+      cond_both (writes_back a.indexing) _ _ P (λ e. register_kept r a.base (offset_address r a) h) (λ e. h)
 
   load_store_kept : (length : InstructionLength) (i : LoadStore) (r : Registers) (values : List ℕ) → P r →
       Leaves P (load_store_effect length i r values)
@@ -184,7 +183,7 @@ module _ {P : Registers → Type 0} (k : KeepsWrites P) where
   moved_kept : (writes : Bool) (n : ℕ) (order : ListOrder) (list : ℕ) (r : Registers) → P r →
       P (with_moved_base writes n order list r)
   moved_kept writes n order list r h =
-      either P writes _ _ (λ e. register_kept r n (moved_base order list (register r n)) h) (λ e. h)
+      cond_both writes _ _ P (λ e. register_kept r n (moved_base order list (register r n)) h) (λ e. h)
 
   loaded_kept : (ns values : List ℕ) (r : Registers) → P r → P (loaded ns values r)
   unfolding loaded
@@ -199,7 +198,7 @@ module _ {P : Registers → Type 0} (k : KeepsWrites P) where
   load_multiple_kept length o values r h =
       let moved = moved_kept o.write_back o.base o.order o.list r h in
       let below = loaded_kept (registers_below 15 o.list) values _ moved in
-      either (Leaves P) (is_bit o.list 15) _ _ (λ e. exchanges_kept _ (loaded_below_pc o values r) below)
+      cond_both (is_bit o.list 15) _ _ (Leaves P) (λ e. exchanges_kept _ (loaded_below_pc o values r) below)
       (λ e. moves_on_kept length (loaded_below_pc o values r) below)
 
   multiple_kept : (length : InstructionLength) (i : LoadStoreMultiple) (r : Registers) (values : List ℕ) → P r →
@@ -235,17 +234,17 @@ module _ {P : Registers → Type 0} (k : KeepsWrites P) where
   unfolding branch_effect
   branch_kept length (branch.Immediate o) r values h = branches_by_kept o.offset r h
   branch_kept length (branch.Conditional o) r values h =
-      either (Leaves P) (condition_holds o.condition r.flags) _ _ (λ e. branches_by_kept o.offset r h)
+      cond_both (condition_holds o.condition r.flags) _ _ (Leaves P) (λ e. branches_by_kept o.offset r h)
       (λ e. moves_on_kept length r h)
   branch_kept length (branch.WithLink o) r values h =
       branches_by_kept o.offset (with_link length r) (link_kept length r h)
   branch_kept length (branch.Exchange o) r values h =
-      either (Leaves P) o.links _ _
+      cond_both o.links _ _ (Leaves P)
       (λ e. branches_kept (with_exchange (with_link length r) (register r o.target))
       (exchange_kept (with_link length r) (register r o.target) (link_kept length r h)))
       (λ e. exchanges_kept (register r o.target) r h)
   branch_kept length (branch.CompareAndBranch o) r values h =
-      either (Leaves P) (takes_branch o r) _ _ (λ e. branches_by_kept o.offset r h) (λ e. moves_on_kept length r h)
+      cond_both (takes_branch o r) _ _ (Leaves P) (λ e. branches_by_kept o.offset r h) (λ e. moves_on_kept length r h)
   branch_kept length (branch.Table o) r values h = branches_by_kept _ r h
   branch_kept length (branch.IfThen o) r values h =
       let begins : P (record r { it_state = begun o }) = k.it_state r (begun o) (omega arith) h in
@@ -274,5 +273,5 @@ module _ {P : Registers → Type 0} (k : KeepsWrites P) where
   pub result_kept : (i : CodedInstruction) (r : Registers) (values : List ℕ) → P r → Leaves P (result_of i r values)
   unfolding result_of
   result_kept i r values h =
-      either (Leaves P) (is_carried_out i.instruction r) _ _ (λ e. effect_kept i.length i.instruction r values h)
+      cond_both (is_carried_out i.instruction r) _ _ (Leaves P) (λ e. effect_kept i.length i.instruction r values h)
       (λ e. moves_on_kept i.length r h)

@@ -1,8 +1,10 @@
 -- A start gives the invariant, and a value that was placed keeps it.
 use Rattle.std.proofs.Common.{◌≡◌, ◌⊎◌, inl, inr, ℕ, ◌≤◌, min, Bool, true, false, not, ◌||◌, ◌==◌, is_some, List}
 use Rattle.std.proofs.Common.{Option, Some, None, Result, Ok, Err, refl, sym, subst, arith}
+use Rattle.std.proofs.lemmas.Bool.{cond_both}
 use Rattle.std.proofs.lemmas.Bool.Decides.{nat_tests}
 use Rattle.mpu.proofs.Writes.{sound_at_reset}
+use Rattle.nvic.proofs.Systems.{placed_kept}
 use Rattle.reference.specs.declared.access.Answer.{Answer}
 use Rattle.reference.specs.declared.access.Answer.TheVariants as answer
 use Rattle.reference.specs.declared.access.Request.{Request}
@@ -27,16 +29,14 @@ use Rattle.reference.specs.Step.{step}
 use Rattle.reference.specs.System.{System, reset_system}
 use Rattle.state_laws.specs.StateLaw.{IfGiven, TickKeeps, AccessKeeps, InstructionKeeps}
 use Rattle.state_laws.proofs.Accesses.{IsWholeBus, carried_whole, perform_whole, served_whole}
-use Rattle.state_laws.proofs.Core.{special_kept, step_kept, reset_has}
 use Rattle.state_laws.proofs.Effects.{register_kept, result_kept}
-use Rattle.state_laws.proofs.Entries.{none, step_called}
+use Rattle.state_laws.proofs.Entries.{none}
 use Rattle.state_laws.proofs.Faults.{HasWhole}
 use Rattle.state_laws.proofs.Memories.{overwritten_apart, start_apart}
-use Rattle.state_laws.proofs.Nvic.{either}
-use Rattle.state_laws.proofs.Registers.{writes_kept}
-use Rattle.state_laws.proofs.Sets.{sets_of_board, top_bits_of_board, board_of, board_at_reset}
-use Rattle.state_laws.proofs.Steps.{step_whole}
-use Rattle.state_laws.proofs.Systems.{IsWhole, placed_mask_whole, tick_whole}
+use Rattle.state_laws.proofs.Registers.{writes_kept, special_kept, reset_has}
+use Rattle.state_laws.proofs.Sets.{top_bits_of_board, board_of, board_at_reset}
+use Rattle.state_laws.proofs.Steps.{step_good}
+use Rattle.state_laws.proofs.Systems.{IsWhole, tick_whole, parts_kept}
 use Rattle.state_laws.proofs.Ticks.{timely_at_start}
 
 -- ---- what is whole has the invariant, and the other way round
@@ -46,7 +46,7 @@ sound lines bits s h = record {
   clock = h.time.clock;
   timer = h.time.timer;
   priorities = top_bits_of_board lines bits s.nvic h.nvic;
-  sets = sets_of_board lines bits s.nvic h.nvic;
+  sets = h.nvic.board.sets;
   script = rw h.nvic.same_lines h.time.ahead;
   regions = h.mpu;
 }
@@ -64,13 +64,16 @@ whole_state s h = (whole s.bus.system h.system, h.memory)
 -- ---- a step
 
 pub step_keeps : (s : State) → Invariant s → Invariant (step s).state
-step_keeps s h = record {
-  registers = step_kept s h.registers;
-  entry = step_called _ _ s (whole_state s h) h.entry;
-  memory = (step_whole _ _ s (whole_state s h)).1;
-  system =
-      sound s.bus.system.nvic.lines s.bus.system.nvic.priority_bits _ (step_whole _ _ s (whole_state s h)).0;
-}
+step_keeps s h =
+    let lines = s.bus.system.nvic.lines in
+    let bits = s.bus.system.nvic.priority_bits in
+    let after = step_good lines bits s h.entry (record { registers = h.registers; bus = whole_state s h }) in
+    record {
+      registers = after.good.registers;
+      entry = after.called;
+      memory = after.good.bus.1;
+      system = sound lines bits _ after.good.bus.0;
+    }
 
 -- ---- a value that is placed
 
@@ -89,7 +92,7 @@ special_placed lines bits s None value h = tt
 special_placed lines bits s (Some special) value h = record {
   registers = special_kept s.registers special value h.registers;
   entry = h.entry;
-  system = (placed_mask_whole lines bits s.bus.system special value h.system.0, h.system.1);
+  system = (placed_kept (parts_kept lines bits) s.bus.system special value h.system.0, h.system.1);
 }
 
 register_placed : (lines bits : ℕ) (s : State) (after : Bus) (a : Answer) → HasRegisters s.registers → s.entry ≡ None →
@@ -108,7 +111,7 @@ taken_placed lines bits s (Reg number value) h =
 taken_placed lines bits s (Special number value) h = special_placed lines bits s (special_of number) value h
 taken_placed lines bits s (Word address value) h =
     let a = answered_by_bus s.registers.exception s.bus (store_of address value) in
-    either (IsPlaced lines bits) (is_in_ppb address) _ _
+    cond_both (is_in_ppb address) _ _ (IsPlaced lines bits)
     (λ e. register_placed lines bits s a.bus a.answer h.registers h.entry
     (carried_whole lines bits s.registers.exception s.bus (store_of address value) h.system))
     (λ e. record {
@@ -126,9 +129,9 @@ placed : (lines bits : ℕ) (s : State) (p : Place) → HasRegisters s.registers
     IsPlaced lines bits (place s p)
 unfolding place
 placed lines bits s p r h =
-    either (IsPlaced lines bits) (not (is_word_aligned p)) _ _ (λ e. tt)
-    (λ e. either (IsPlaced lines bits) (not (is_there s.bus.memory p)) _ _ (λ f. tt)
-    (λ f. either (IsPlaced lines bits) (is_some s.stop || is_some s.entry || is_handler s.registers) _ _ (λ g. tt)
+    cond_both (not (is_word_aligned p)) _ _ (IsPlaced lines bits) (λ e. tt)
+    (λ e. cond_both (not (is_there s.bus.memory p)) _ _ (IsPlaced lines bits) (λ f. tt)
+    (λ f. cond_both (is_some s.stop || is_some s.entry || is_handler s.registers) _ _ (IsPlaced lines bits) (λ g. tt)
     (λ g. taken_placed lines bits s p (record {
       registers = r;
       entry = no_entry (is_some s.stop) s.entry (is_handler s.registers) g;
@@ -165,7 +168,7 @@ all_lines lines e = let few : lines ≤ MOST_LINES = grind (arith, nat_tests, e)
 pub start_gives : (board : Described) (image : List Segment) → IsBoard board → IfGiven Invariant (start board image)
 unfolding start
 start_gives board image h =
-    either (IfGiven Invariant) (are_placed (blank board.numbers) image) _ _
+    cond_both (are_placed (blank board.numbers) image) _ _ (IfGiven Invariant)
     (λ e. record {
       registers = reset_has _ _;
       entry = λ stop entry. absurd (let w : ⊥ = cc in w);

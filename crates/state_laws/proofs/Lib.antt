@@ -1,4 +1,3 @@
-pub mod Nvic
 mod Sets
 mod Ticks
 mod Systems
@@ -9,7 +8,6 @@ mod Steps
 pub mod Effects
 mod Registers
 mod Frames
-mod Core
 mod Candidates
 mod Entries
 pub mod Ends

@@ -1,5 +1,6 @@
 -- Flash ends where RAM begins, or below: after each access, and in the memory of a board.
 use Rattle.std.proofs.Common.{◌≡◌, ℕ, ◌+◌, ◌-◌, ◌≤◌, true, List, [], ◌∷◌, length, arith}
+use Rattle.std.proofs.lemmas.Bool.{cond_both}
 use Rattle.std.proofs.lemmas.Bool.Decides.{nat_tests}
 use Rattle.std.proofs.lemmas.List.{length-replicate}
 use Rattle.reference.specs.declared.access.Request.{Request}
@@ -11,27 +12,26 @@ use Rattle.reference.specs.Map.{is_in_window}
 use Rattle.reference.specs.Memory.{Memory, is_in_flash, is_in_ram, bytes_of, overwritten}
 use Rattle.reference.specs.Space.{SpaceAnswer, written_to, space_access}
 use Rattle.reference.specs.Start.{blank, image_loaded}
-use Rattle.state_laws.proofs.Nvic.{either}
 use Rattle.space.proofs.Blocks.{length-with_bytes}
 
 pub overwritten_apart : (m : Memory) (a : ℕ) (bytes : List ℕ) → FlashEndsBelowRam m →
     FlashEndsBelowRam (overwritten m a bytes)
 overwritten_apart m a bytes h =
-    either FlashEndsBelowRam (is_in_flash m a (length bytes)) _ _
+    cond_both (is_in_flash m a (length bytes)) _ _ FlashEndsBelowRam
     (λ there. rw (length-with_bytes m.flash bytes (a - m.flash_base) (grind (arith, nat_tests, there))) h) (λ other. h)
 
 written_apart : (m : Memory) (q : Request) → FlashEndsBelowRam m → FlashEndsBelowRam (written_to m q).memory
 written_apart m q h =
-    either (λ (r : SpaceAnswer). FlashEndsBelowRam r.memory) (is_in_window q.access.address) _ _ (λ e. h)
-    (λ e. either (λ (r : SpaceAnswer). FlashEndsBelowRam r.memory)
-    (is_in_ram m q.access.address (bytes_in q.access.size)) _ _
+    cond_both (is_in_window q.access.address) _ _ (λ (r : SpaceAnswer). FlashEndsBelowRam r.memory) (λ e. h)
+    (λ e. cond_both (is_in_ram m q.access.address (bytes_in q.access.size)) _ _
+    (λ (r : SpaceAnswer). FlashEndsBelowRam r.memory)
     (λ f. overwritten_apart m q.access.address (bytes_of (bytes_in q.access.size) q.value) h) (λ f. h))
 
 pub space_apart : (m : Memory) (ticks : ℕ) (q : Request) → FlashEndsBelowRam m →
     FlashEndsBelowRam (space_access m ticks q).memory
 unfolding space_access
 space_apart m ticks q h =
-    either (λ (r : SpaceAnswer). FlashEndsBelowRam r.memory) (is_write q.access.kind) _ _ (λ e. written_apart m q h)
+    cond_both (is_write q.access.kind) _ _ (λ (r : SpaceAnswer). FlashEndsBelowRam r.memory) (λ e. written_apart m q h)
     (λ e. h)
 
 -- ---- the start

@@ -1,17 +1,22 @@
 -- Each write of a core register keeps what the invariant says of them.
 use Rattle.std.proofs.Common.{◌≡◌, ℕ, zero, suc, ◌%◌, ◌^◌, ◌<◌, not, ◌==◌, List, [], ◌∷◌, slice_index, slice_set}
-use Rattle.std.proofs.Common.{replicate, refl, ◌∙◌, arith}
-use Rattle.std.proofs.lemmas.List.{length-set}
+use Rattle.std.proofs.Common.{replicate, refl, ◌∙◌, arith, ◌||◌}
+use Rattle.std.proofs.lemmas.Bool.{cond_both}
+use Rattle.std.proofs.lemmas.List.{length-set, length-replicate}
 use Rattle.reference.specs.declared.instruction.InstructionLength.TheVariants.{Short, Long}
 use Rattle.reference.specs.declared.instruction.InstructionLength.{InstructionLength}
 use Rattle.reference.specs.declared.registers.Flags.{Flags}
 use Rattle.reference.specs.Arithmetic.{in_it_block, it_advance}
 use Rattle.reference.specs.Invariant.{IsStackPointer, IsCodeAddress, HasRegisters}
 use Rattle.reference.specs.ProgramCounter.{advanced, instruction_bytes}
-use Rattle.reference.specs.Registers.{Registers}
+use Rattle.reference.specs.Registers.{Registers, is_privileged, stack_pointer, flags_of, reset_registers}
 use Rattle.reference.specs.Words.{word_sum}
-use Rattle.state_laws.proofs.Effects.{KeepsWrites}
-use Rattle.state_laws.proofs.Nvic.{either}
+use Rattle.reference.specs.declared.operands.SpecialRegister.{SpecialRegister}
+use Rattle.reference.specs.declared.operands.SpecialRegister.TheVariants.{Apsr, Iapsr, Eapsr, Xpsr, Ipsr, Epsr, Iepsr}
+use Rattle.reference.specs.declared.operands.SpecialRegister.TheVariants.{Msp, Psp, Primask, Basepri, BasepriMax}
+use Rattle.reference.specs.declared.operands.SpecialRegister.TheVariants.{Faultmask, Control}
+use Rattle.reference.specs.SpecialRegisters.{is_open, with_special, write_special}
+use Rattle.state_laws.proofs.Effects.{KeepsWrites, stack_pointer_is, code_address_is}
 
 -- ---- values
 
@@ -34,22 +39,22 @@ zeros_are_words (suc count) (suc n) = zeros_are_words count n
 
 -- ---- registers
 
--- registers that have the same of what the invariant speaks of
-pub alike : (r u : Registers) → u.general ≡ r.general → u.msp ≡ r.msp → u.psp ≡ r.psp → u.lr ≡ r.lr →
-    u.pc ≡ r.pc → u.it_state ≡ r.it_state → u.exception ≡ r.exception → HasRegisters r → HasRegisters u
-alike r u general msp psp lr pc it exception h = record {
+-- registers with the same R0 to R12 and the same IPSR
+pub changed : (r u : Registers) → u.general ≡ r.general → u.exception ≡ r.exception → IsStackPointer u.msp →
+    IsStackPointer u.psp → u.lr < 2 ^ 32 → IsCodeAddress u.pc → u.it_state < 2 ^ 8 → HasRegisters r → HasRegisters u
+changed r u general exception msp psp lr pc it h = record {
   all = rw general h.all;
   general = rw general h.general;
-  msp = rw msp h.msp;
-  psp = rw psp h.psp;
-  lr = rw lr h.lr;
-  pc = rw pc h.pc;
-  it_state = rw it h.it_state;
+  msp = msp;
+  psp = psp;
+  lr = lr;
+  pc = pc;
+  it_state = it;
   exception = rw exception h.exception;
 }
 
 pub with_flags : (r : Registers) (f : Flags) → HasRegisters r → HasRegisters (record r { flags = f })
-with_flags r f h = alike r _ refl refl refl refl refl refl refl h
+with_flags r f h = changed r _ refl refl h.msp h.psp h.lr h.pc h.it_state h
 
 -- one of R0 to R12 becomes a word
 general_kept : (r : Registers) (n v : ℕ) → v < 2 ^ 32 → HasRegisters r →
@@ -66,71 +71,26 @@ general_kept r n v small h = record {
 }
 
 lr_kept : (r : Registers) (v : ℕ) → v < 2 ^ 32 → HasRegisters r → HasRegisters (record r { lr = v })
-lr_kept r v small h = record {
-  all = h.all;
-  general = h.general;
-  msp = h.msp;
-  psp = h.psp;
-  lr = small;
-  pc = h.pc;
-  it_state = h.it_state;
-  exception = h.exception;
-}
+lr_kept r v small h = changed r _ refl refl h.msp h.psp small h.pc h.it_state h
 
 pc_kept : (r : Registers) (v : ℕ) → IsCodeAddress v → HasRegisters r → HasRegisters (record r { pc = v })
-pc_kept r v is h = record {
-  all = h.all;
-  general = h.general;
-  msp = h.msp;
-  psp = h.psp;
-  lr = h.lr;
-  pc = is;
-  it_state = h.it_state;
-  exception = h.exception;
-}
+pc_kept r v is h = changed r _ refl refl h.msp h.psp h.lr is h.it_state h
 
 pub psp_kept : (r : Registers) (v : ℕ) → IsStackPointer v → HasRegisters r → HasRegisters (record r { psp = v })
-psp_kept r v is h = record {
-  all = h.all;
-  general = h.general;
-  msp = h.msp;
-  psp = is;
-  lr = h.lr;
-  pc = h.pc;
-  it_state = h.it_state;
-  exception = h.exception;
-}
+psp_kept r v is h = changed r _ refl refl h.msp is h.lr h.pc h.it_state h
 
 pub msp_kept : (r : Registers) (v : ℕ) → IsStackPointer v → HasRegisters r → HasRegisters (record r { msp = v })
-msp_kept r v is h = record {
-  all = h.all;
-  general = h.general;
-  msp = is;
-  psp = h.psp;
-  lr = h.lr;
-  pc = h.pc;
-  it_state = h.it_state;
-  exception = h.exception;
-}
+msp_kept r v is h = changed r _ refl refl is h.psp h.lr h.pc h.it_state h
 
 -- ---- the end of an instruction
 
 with_it : (r : Registers) (it : ℕ) → it < 2 ^ 8 → HasRegisters r → HasRegisters (record r { it_state = it })
-with_it r it small h = record {
-  all = h.all;
-  general = h.general;
-  msp = h.msp;
-  psp = h.psp;
-  lr = h.lr;
-  pc = h.pc;
-  it_state = small;
-  exception = h.exception;
-}
+with_it r it small h = changed r _ refl refl h.msp h.psp h.lr h.pc small h
 
 advance_small : (it : ℕ) → it < 2 ^ 8 → it_advance it < 2 ^ 8
 advance_small it small =
-    either (λ x. x < 2 ^ 8) (not (in_it_block it)) _ _ (λ e. small)
-    (λ e. either (λ x. x < 2 ^ 8) (it % 2 ^ 3 == 0) _ _ (λ f. omega arith) (λ f. omega arith))
+    cond_both (not (in_it_block it)) _ _ (λ x. x < 2 ^ 8) (λ e. small)
+    (λ e. cond_both (it % 2 ^ 3 == 0) _ _ (λ x. x < 2 ^ 8) (λ f. omega arith) (λ f. omega arith))
 
 advanced_kept : (r : Registers) → HasRegisters r → HasRegisters (advanced r)
 advanced_kept r h = with_it r (it_advance r.it_state) (advance_small r.it_state h.it_state) h
@@ -157,6 +117,44 @@ writes_kept = record {
   flags = with_flags;
   it_state = with_it;
   advanced = advanced_kept;
-  thumb = λ r on h. alike r _ refl refl refl refl refl refl refl h;
-  monitor = λ r m h. alike r _ refl refl refl refl refl refl refl h;
+  thumb = λ r on h. changed r _ refl refl h.msp h.psp h.lr h.pc h.it_state h;
+  monitor = λ r m h. changed r _ refl refl h.msp h.psp h.lr h.pc h.it_state h;
+}
+
+-- ---- special registers, and a reset
+
+pub special_kept : (r : Registers) (special : SpecialRegister) (value : ℕ) → HasRegisters r →
+    HasRegisters (with_special r special value)
+unfolding with_special
+special_kept r Apsr value h = with_flags r (flags_of value) h
+special_kept r Iapsr value h = with_flags r (flags_of value) h
+special_kept r Eapsr value h = with_flags r (flags_of value) h
+special_kept r Xpsr value h = with_flags r (flags_of value) h
+special_kept r Ipsr value h = h
+special_kept r Epsr value h = h
+special_kept r Iepsr value h = h
+special_kept r Msp value h = msp_kept r (stack_pointer value) (stack_pointer_is value) h
+special_kept r Psp value h = psp_kept r (stack_pointer value) (stack_pointer_is value) h
+special_kept r Primask value h = h
+special_kept r Basepri value h = h
+special_kept r BasepriMax value h = h
+special_kept r Faultmask value h = h
+special_kept r Control value h = changed r _ refl refl h.msp h.psp h.lr h.pc h.it_state h
+
+pub write_special_kept : (r : Registers) (special : SpecialRegister) (value : ℕ) → HasRegisters r →
+    HasRegisters (write_special r special value)
+unfolding write_special
+write_special_kept r special value h =
+    cond_both (is_privileged r || is_open special) _ _ HasRegisters (λ e. special_kept r special value h) (λ e. h)
+
+pub reset_has : (stack entry : ℕ) → HasRegisters (reset_registers stack entry)
+reset_has stack entry = record {
+  all = length-replicate {A = ℕ} 13 0;
+  general = zeros_are_words 13;
+  msp = stack_pointer_is stack;
+  psp = stack_pointer_is 0;
+  lr = omega arith;
+  pc = code_address_is entry;
+  it_state = omega arith;
+  exception = omega arith;
 }

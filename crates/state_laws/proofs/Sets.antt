@@ -1,16 +1,17 @@
 -- Each small change of the exceptions keeps the board's numbers, its sets and its priority bytes.
-use Rattle.std.proofs.Common.{◌≡◌, ℕ, ◌-◌, ◌^◌, ◌<◌, ◌≤◌, Bool, List, replicate, slice_index, refl, arith, ◌∙◌}
+use Rattle.std.proofs.Common.{◌≡◌, ℕ, ◌-◌, ◌^◌, ◌<◌, ◌≤◌, Bool, replicate, slice_index, refl, arith, ◌∙◌}
+use Rattle.std.proofs.lemmas.Bool.{cond_both}
 use Rattle.std.proofs.Math.Nat.{div-mul-le_self}
 use Rattle.nvic.proofs.Boards.{at_each, same_each, pending_of_board, active_of_board, enabled_of_board}
 use Rattle.nvic.proofs.Boards.{priority_of_board, group_of_board, primask_of_board, faultmask_of_board}
 use Rattle.nvic.proofs.Boards.{basepri_of_board, reset_of_board}
-use Rattle.nvic.specs.Laws.{IsSetOf, IsOfBoard}
+use Rattle.nvic.proofs.Changes.{IsKept}
+use Rattle.nvic.specs.Laws.{IsOfBoard}
 use Rattle.reference.specs.declared.exception.TheConstants.{EXCEPTIONS}
-use Rattle.reference.specs.Invariant.{KeepsTopBits, HasOnly, HasExceptionsOfBoard}
+use Rattle.reference.specs.Invariant.{KeepsTopBits, HasExceptionsOfBoard}
 use Rattle.reference.specs.Priorities.{Nvic, can_be_disabled, has_priority_byte, kept, with_enabled, with_priority}
 use Rattle.reference.specs.Priorities.{with_basepri}
 use Rattle.reference.specs.Priorities.{reset_nvic}
-use Rattle.state_laws.proofs.Nvic.{either, IsKept}
 
 -- the numbers of the board, its sets and its priority bytes
 pub record HasBoard (lines bits : ℕ) (n : Nvic) : Type 0 where
@@ -21,20 +22,6 @@ pub record HasBoard (lines bits : ℕ) (n : Nvic) : Type 0 where
   pub basepri : n.masks.basepri < 2 ^ 8
 
 -- ---- what the invariant says
-
-only : (test : ℕ → Bool) (set : List Bool) → IsSetOf test set → HasOnly test set
-only test set h = record { places = h.places; members = h.members }
-
-set_of : (test : ℕ → Bool) (set : List Bool) → HasOnly test set → IsSetOf test set
-set_of test set h = record { places = h.places; members = h.members }
-
-pub sets_of_board : (lines bits : ℕ) (n : Nvic) → HasBoard lines bits n → HasExceptionsOfBoard n
-sets_of_board lines bits n h = record {
-  pending = only _ n.pending h.board.pending;
-  enabled = only _ n.enabled h.board.enabled;
-  active = only _ n.active h.board.active;
-  lines = h.board.lines;
-}
 
 pub top_bits_of_board : (lines bits : ℕ) (n : Nvic) → HasBoard lines bits n → KeepsTopBits n
 top_bits_of_board lines bits n h = record {
@@ -49,13 +36,10 @@ board_of n top sets = record {
   same_lines = refl;
   same_bits = refl;
   board = record {
-    pending = set_of _ n.pending sets.pending;
-    enabled = set_of _ n.enabled sets.enabled;
-    active = set_of _ n.active sets.active;
+    sets = sets;
     priorities = record { places = top.places; keep = λ x. (top.priorities x).kept };
     basepri = top.basepri.kept;
     group = top.group;
-    lines = sets.lines;
   };
   bytes = λ x. (top.priorities x).byte;
   basepri = top.basepri.byte;
@@ -82,14 +66,14 @@ kept_small bits b small = let less : kept bits b ≤ b = div-mul-le_self b (2 ^ 
 enabled_kept : (lines bits : ℕ) (n : Nvic) (x : ℕ) (on : Bool) → HasBoard lines bits n →
     HasBoard lines bits (with_enabled n x on)
 enabled_kept lines bits n x on h =
-    either (λ m. IsOfBoard m → HasBoard lines bits m) (can_be_disabled n.lines x) _ _
+    cond_both (can_be_disabled n.lines x) _ _ (λ m. IsOfBoard m → HasBoard lines bits m)
     (λ e. same_bytes lines bits n _ refl refl refl refl h) (λ e. same_bytes lines bits n _ refl refl refl refl h)
     (enabled_of_board n x on h.board)
 
 priority_kept : (lines bits : ℕ) (n : Nvic) (x b : ℕ) → b < 2 ^ 8 → HasBoard lines bits n →
     HasBoard lines bits (with_priority n x b)
 priority_kept lines bits n x b small h =
-    either (λ m. IsOfBoard m → HasBoard lines bits m) (has_priority_byte n.lines x) _ _
+    cond_both (has_priority_byte n.lines x) _ _ (λ m. IsOfBoard m → HasBoard lines bits m)
     (λ e is. record {
       same_lines = h.same_lines;
       same_bits = h.same_bits;

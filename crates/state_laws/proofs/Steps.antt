@@ -1,7 +1,9 @@
--- The phases of a step keep what holds of the System Control Space, from the last one up.
+-- The phases of a step keep what holds of the core registers and of the bus, from the last one up.
 use Rattle.std.proofs.Common.{◌≡◌, ℕ, ◌<◌, nat_le, false, List, [], ◌++◌, Option, Some, None, Result, Ok, Err}
-use Rattle.std.proofs.Common.{arith}
+use Rattle.std.proofs.Common.{arith, ◌≡◌, is_some, true, refl, ap}
+use Rattle.std.proofs.lemmas.Bool.{cond_both}
 use Rattle.std.proofs.lemmas.Bool.Decides.{nat_tests}
+use Rattle.nvic.proofs.Systems.{cps_kept, msr_kept}
 use Rattle.reference.specs.declared.access.Request.{Request}
 use Rattle.reference.specs.declared.event.Event.{Event}
 use Rattle.reference.specs.declared.failure.Failure.{Failure}
@@ -16,7 +18,7 @@ use Rattle.reference.specs.declared.instruction.Ending.TheVariants as ending
 use Rattle.reference.specs.declared.instruction.InstructionLength.TheVariants.{Short, Long}
 use Rattle.reference.specs.declared.instruction.InstructionLength.{InstructionLength}
 use Rattle.reference.specs.declared.stop.Stop.{Stop}
-use Rattle.reference.specs.Accesses.{ListResult, perform_all}
+use Rattle.reference.specs.Accesses.{ListResult, perform_all, perform}
 use Rattle.reference.specs.Arithmetic.{condition_passed}
 use Rattle.reference.specs.Decoding.{is_long}
 use Rattle.reference.specs.Operations.{result_of}
@@ -26,129 +28,156 @@ use Rattle.reference.specs.State.{State, ticked, with_bus, with_registers}
 use Rattle.reference.specs.Step.{ended, finished, served, performed_all, planned, without_meaning, executed, fetching}
 use Rattle.reference.specs.Step.{fetched_second, with_second, fetched_first, instruction, sleeps_on, phase, running}
 use Rattle.reference.specs.Step.{unless_stopped, step}
-use Rattle.reference.specs.Time.{last_tick}
+use Rattle.reference.specs.Time.{last_tick, tick_pends}
 use Rattle.reference.specs.Words.{word_sum}
-use Rattle.state_laws.proofs.Accesses.{IsWholeBus, perform_whole, served_whole}
-use Rattle.state_laws.proofs.Faults.{HasWhole, LeavesWhole, failed_whole, supervisor_whole, entry_whole}
-use Rattle.state_laws.proofs.Faults.{vector_step_whole, return_whole}
-use Rattle.state_laws.proofs.Nvic.{either}
-use Rattle.state_laws.proofs.Systems.{mask_whole, state_whole, tick_whole}
-
--- ---- the end of an instruction
-
-ended_whole : (lines bits : ℕ) (s : State) (events : List Event) (end : Ending) → HasWhole lines bits s →
-    LeavesWhole lines bits (ended s events end)
-ended_whole lines bits s events ending.Next h = h
-ended_whole lines bits s events (ending.ReadSpecial o) h = h
-ended_whole lines bits s events (ending.WriteSpecial special value) h =
-    (mask_whole lines bits s.bus.system (is_privileged s.registers) special value h.0, h.1)
-ended_whole lines bits s events (ending.ChangeState o) h =
-    (state_whole lines bits s.bus.system (is_privileged s.registers) o h.0, h.1)
-ended_whole lines bits s events ending.Sleep h = h
-ended_whole lines bits s events (ending.SupervisorCall number) h = supervisor_whole lines bits s events h
-ended_whole lines bits s events (ending.Breakpoint number) h = h
-ended_whole lines bits s events (ending.ExceptionReturn value) h = return_whole lines bits s events value h
-
-finished_whole : (lines bits : ℕ) (s : State) (events : List Event) (f : Finished) → HasWhole lines bits s →
-    LeavesWhole lines bits (finished s events f)
-finished_whole lines bits s events f h = ended_whole lines bits (with_registers s f.registers) events f.ending h
-
--- ---- its accesses
-
-end_whole : (lines bits : ℕ) (s : State) (events : List Event) (i : CodedInstruction) (all : ListResult)
-    (end : Option Failure) → IsWholeBus lines bits all.bus → LeavesWhole lines bits (served s events i all end)
-end_whole lines bits s events i all None h =
-    finished_whole lines bits (with_bus s all.bus) (events ++ all.events) (result_of i s.registers all.values) h
-end_whole lines bits s events i all (Some why) h =
-    failed_whole lines bits (with_bus s all.bus) (events ++ all.events) why h
-
-performed_whole : (lines bits : ℕ) (s : State) (events : List Event) (i : CodedInstruction) (qs : List Request) →
-    HasWhole lines bits s → LeavesWhole lines bits (performed_all s events i qs)
-unfolding performed_all
-performed_whole lines bits s events i qs h =
-    let all = perform_all s.registers.exception s.bus.system.time.ticks s.bus qs in
-    end_whole lines bits s events i all all.failure
-    (served_whole lines bits s.registers.exception s.bus.system.time.ticks s.bus qs h)
-
-planned_whole : (lines bits : ℕ) (s : State) (events : List Event) (i : CodedInstruction)
-    (asked : Result (List Request) Failure) → HasWhole lines bits s →
-    LeavesWhole lines bits (planned s events i asked)
-planned_whole lines bits s events i (Ok qs) h = performed_whole lines bits s events i qs h
-planned_whole lines bits s events i (Err why) h = failed_whole lines bits s events why h
-
--- ---- the decoded instruction
-
-meaningless_whole : (lines bits : ℕ) (s : State) (events : List Event) (length : InstructionLength)
-    (fault : UsageFault) →
-    HasWhole lines bits s → LeavesWhole lines bits (without_meaning s events length fault)
-meaningless_whole lines bits s events length fault h =
-    either (LeavesWhole lines bits) (condition_passed s.registers.it_state s.registers.flags) _ _
-    (λ passed. failed_whole lines bits s events (failure.Usage fault) h)
-    (λ skipped. finished_whole lines bits s events (moves_on length s.registers) h)
-
-executed_whole : (lines bits : ℕ) (s : State) (events : List Event) (length : InstructionLength) (d : Decoded) →
-    HasWhole lines bits s → LeavesWhole lines bits (executed s events length d)
-executed_whole lines bits s events length (decoded.Instr i) h = planned_whole lines bits s events i _ h
-executed_whole lines bits s events length decoded.Undefined h =
-    meaningless_whole lines bits s events length UndefinedInstruction h
-executed_whole lines bits s events length decoded.NoCoprocessor h =
-    meaningless_whole lines bits s events length NoCoprocessor h
-executed_whole lines bits s events length (decoded.Unpredictable place why) h = h
-
--- ---- the fetches
-
-second_whole : (lines bits : ℕ) (s : State) (events : List Event) (hw1 : ℕ) (answer : Result ℕ Failure) →
-    HasWhole lines bits s → LeavesWhole lines bits (fetched_second s events hw1 answer)
-second_whole lines bits s events hw1 (Ok hw2) h = executed_whole lines bits s events Long _ h
-second_whole lines bits s events hw1 (Err why) h = failed_whole lines bits s events why h
-
-with_second_whole : (lines bits : ℕ) (s : State) (events : List Event) (hw1 : ℕ) → HasWhole lines bits s →
-    LeavesWhole lines bits (with_second s events hw1)
-unfolding with_second
-with_second_whole lines bits s events hw1 h =
-    either (LeavesWhole lines bits) (is_long hw1) _ _
-    (λ long. second_whole lines bits _ _ hw1 _
-    (perform_whole lines bits s.registers.exception s.bus (fetching s.registers (word_sum s.registers.pc 2)) h))
-    (λ short. executed_whole lines bits s events Short _ h)
-
-first_whole : (lines bits : ℕ) (s : State) (events : List Event) (answer : Result ℕ Failure) →
-    HasWhole lines bits s → LeavesWhole lines bits (fetched_first s events answer)
-first_whole lines bits s events (Ok hw1) h = with_second_whole lines bits s events hw1 h
-first_whole lines bits s events (Err why) h = failed_whole lines bits s events why h
-
-instruction_whole : (lines bits : ℕ) (s : State) → HasWhole lines bits s → LeavesWhole lines bits (instruction s)
-unfolding instruction
-instruction_whole lines bits s h =
-    either (LeavesWhole lines bits) s.registers.thumb _ _
-    (λ thumb. first_whole lines bits _ _ _
-    (perform_whole lines bits s.registers.exception s.bus (fetching s.registers s.registers.pc) h))
-    (λ arm. failed_whole lines bits s [] (failure.Usage InvalidState) h)
-
--- ---- the step
-
-phase_whole : (lines bits : ℕ) (s : State) (entry exception : Option ℕ) → HasWhole lines bits s →
-    LeavesWhole lines bits (phase s entry exception)
-unfolding phase
-phase_whole lines bits s (Some e) exception h = vector_step_whole lines bits s e h
-phase_whole lines bits s None (Some exception) h = entry_whole lines bits s h
-phase_whole lines bits s None None h =
-    either (LeavesWhole lines bits) (sleeps_on s) _ _ (λ sleeps. h)
-    (λ wakes. instruction_whole lines bits (record s { asleep = false }) h)
+use Rattle.reference.specs.Invariant.{HasRegisters}
+use Rattle.reference.specs.Priorities.{candidate}
+use Rattle.reference.specs.System.{System, after_tick}
+use Rattle.state_laws.proofs.Accesses.{perform_whole, served_whole}
+use Rattle.state_laws.proofs.Systems.{tick_whole, parts_kept}
+use Rattle.state_laws.proofs.Faults.{IsGood, LeavesGood, with_registers_good, with_bus_good, with_system_good}
+use Rattle.state_laws.proofs.Faults.{failed_good}
+use Rattle.state_laws.proofs.Faults.{supervisor_good, entry_good, vector_step_good, return_good, out_good}
+use Rattle.state_laws.proofs.Effects.{Leaves, register_kept, moves_on_kept, result_kept}
+use Rattle.state_laws.proofs.Registers.{writes_kept, write_special_kept}
+use Rattle.state_laws.proofs.Candidates.{Calls, pended_calls}
+use Rattle.state_laws.proofs.Entries.{IsCalled, some_none}
 
 pub is_early : (ticks : ℕ) → nat_le last_tick ticks ≡ false → ticks < last_tick
 is_early ticks e = grind (arith, nat_tests, e)
 
-running_whole : (lines bits : ℕ) (s : State) → HasWhole lines bits s → LeavesWhole lines bits (running s)
-running_whole lines bits s h =
-    either (LeavesWhole lines bits) (nat_le last_tick s.bus.system.time.ticks) _ _ (λ late. h)
-    (λ early. phase_whole lines bits (ticked s) s.entry _
-    (tick_whole lines bits s.bus.system (is_early s.bus.system.time.ticks early) h.0, h.1))
+module _ (lines bits : ℕ) where
+  -- ---- the end of an instruction
 
-stopped_whole : (lines bits : ℕ) (s : State) (why : Option Stop) → HasWhole lines bits s →
-    LeavesWhole lines bits (unless_stopped s why)
-stopped_whole lines bits s None h = running_whole lines bits s h
-stopped_whole lines bits s (Some why) h = h
+  ended_good : (s : State) (events : List Event) (end : Ending) → s.entry ≡ None → IsGood lines bits s →
+      LeavesGood lines bits (ended s events end)
+  ended_good s events ending.Next out h = out_good lines bits _ out h
+  ended_good s events (ending.ReadSpecial o) out h =
+      out_good lines bits _ out
+      (with_registers_good lines bits s _ (register_kept writes_kept s.registers o.destination _ h.registers) h)
+  ended_good s events (ending.WriteSpecial special value) out h =
+      out_good lines bits _ out
+      (record {
+        registers = write_special_kept s.registers special value h.registers;
+        bus =
+            (msr_kept (parts_kept lines bits) s.bus.system (is_privileged s.registers) special value h.bus.0, h.bus.1);
+      })
+  ended_good s events (ending.ChangeState o) out h =
+      out_good lines bits _ out
+      (with_system_good lines bits s _
+      (cps_kept (parts_kept lines bits) s.bus.system (is_privileged s.registers) o h.bus.0) h)
+  ended_good s events ending.Sleep out h = out_good lines bits _ out h
+  ended_good s events (ending.SupervisorCall number) out h = supervisor_good lines bits s events out h
+  ended_good s events (ending.Breakpoint number) out h = out_good lines bits _ out h
+  ended_good s events (ending.ExceptionReturn value) out h = return_good lines bits s events value out h
 
-pub step_whole : (lines bits : ℕ) (s : State) → HasWhole lines bits s → LeavesWhole lines bits (step s)
-unfolding step
-step_whole lines bits s h = stopped_whole lines bits s s.stop h
+  finished_good : (s : State) (events : List Event) (f : Finished) → Leaves HasRegisters f → s.entry ≡ None →
+      IsGood lines bits s → LeavesGood lines bits (finished s events f)
+  finished_good s events f new out h =
+      ended_good (with_registers s f.registers) events f.ending out
+      (with_registers_good lines bits s f.registers new.kept h)
+
+  -- ---- its accesses
+
+  end_good : (s : State) (events : List Event) (i : CodedInstruction) (all : ListResult) (end : Option Failure) →
+      s.entry ≡ None → IsGood lines bits (with_bus s all.bus) → LeavesGood lines bits (served s events i all end)
+  end_good s events i all None out h =
+      finished_good (with_bus s all.bus) (events ++ all.events) (result_of i s.registers all.values)
+      (result_kept writes_kept i s.registers all.values h.registers) out h
+  end_good s events i all (Some why) out h = failed_good lines bits (with_bus s all.bus) (events ++ all.events) why h
+
+  performed_good : (s : State) (events : List Event) (i : CodedInstruction) (qs : List Request) → s.entry ≡ None →
+      IsGood lines bits s → LeavesGood lines bits (performed_all s events i qs)
+  unfolding performed_all
+  performed_good s events i qs out h =
+      let all = perform_all s.registers.exception s.bus.system.time.ticks s.bus qs in
+      end_good s events i all all.failure out
+      (with_bus_good lines bits s all.bus
+      (served_whole lines bits s.registers.exception s.bus.system.time.ticks s.bus qs h.bus) h)
+
+  planned_good : (s : State) (events : List Event) (i : CodedInstruction) (asked : Result (List Request) Failure) →
+      s.entry ≡ None → IsGood lines bits s → LeavesGood lines bits (planned s events i asked)
+  planned_good s events i (Ok qs) out h = performed_good s events i qs out h
+  planned_good s events i (Err why) out h = failed_good lines bits s events why h
+
+  -- ---- the decoded instruction
+
+  meaningless_good : (s : State) (events : List Event) (length : InstructionLength) (fault : UsageFault) →
+      s.entry ≡ None → IsGood lines bits s → LeavesGood lines bits (without_meaning s events length fault)
+  meaningless_good s events length fault out h =
+      cond_both (condition_passed s.registers.it_state s.registers.flags) _ _ (LeavesGood lines bits)
+      (λ passed. failed_good lines bits s events (failure.Usage fault) h)
+      (λ skipped. finished_good s events (moves_on length s.registers)
+      (moves_on_kept writes_kept length s.registers h.registers) out h)
+
+  executed_good : (s : State) (events : List Event) (length : InstructionLength) (d : Decoded) → s.entry ≡ None →
+      IsGood lines bits s → LeavesGood lines bits (executed s events length d)
+  executed_good s events length (decoded.Instr i) out h = planned_good s events i _ out h
+  executed_good s events length decoded.Undefined out h = meaningless_good s events length UndefinedInstruction out h
+  executed_good s events length decoded.NoCoprocessor out h = meaningless_good s events length NoCoprocessor out h
+  executed_good s events length (decoded.Unpredictable place why) out h = out_good lines bits _ out h
+
+  -- ---- the fetches
+
+  -- an access
+  after_one : (s : State) (q : Request) → IsGood lines bits s →
+      IsGood lines bits (with_bus s (perform s.registers.exception s.bus q).bus)
+  after_one s q h = with_bus_good lines bits s _ (perform_whole lines bits s.registers.exception s.bus q h.bus) h
+
+  second_good : (s : State) (events : List Event) (hw1 : ℕ) (answer : Result ℕ Failure) → s.entry ≡ None →
+      IsGood lines bits s → LeavesGood lines bits (fetched_second s events hw1 answer)
+  second_good s events hw1 (Ok hw2) out h = executed_good s events Long _ out h
+  second_good s events hw1 (Err why) out h = failed_good lines bits s events why h
+
+  with_second_good : (s : State) (events : List Event) (hw1 : ℕ) → s.entry ≡ None → IsGood lines bits s →
+      LeavesGood lines bits (with_second s events hw1)
+  unfolding with_second
+  with_second_good s events hw1 out h =
+      cond_both (is_long hw1) _ _ (LeavesGood lines bits)
+      (λ long. second_good _ _ hw1 _ out (after_one s (fetching s.registers (word_sum s.registers.pc 2)) h))
+      (λ short. executed_good s events Short _ out h)
+
+  first_good : (s : State) (events : List Event) (answer : Result ℕ Failure) → s.entry ≡ None → IsGood lines bits s →
+      LeavesGood lines bits (fetched_first s events answer)
+  first_good s events (Ok hw1) out h = with_second_good s events hw1 out h
+  first_good s events (Err why) out h = failed_good lines bits s events why h
+
+  instruction_good : (s : State) → s.entry ≡ None → IsGood lines bits s → LeavesGood lines bits (instruction s)
+  unfolding instruction
+  instruction_good s out h =
+      cond_both s.registers.thumb _ _ (LeavesGood lines bits)
+      (λ thumb. first_good _ _ _ out (after_one s (fetching s.registers s.registers.pc) h))
+      (λ arm. failed_good lines bits s [] (failure.Usage InvalidState) h)
+
+  -- ---- the step
+
+  phase_good : (s : State) (entry next : Option ℕ) → s.entry ≡ entry → candidate s.bus.system.nvic ≡ next →
+      (is_some entry ≡ true → Calls s.bus.system.nvic) → IsGood lines bits s →
+      LeavesGood lines bits (phase s entry next)
+  unfolding phase
+  phase_good s (Some e) next is is_next c h = vector_step_good lines bits s e (c refl) h
+  phase_good s None (Some x) is is_next c h = entry_good lines bits s (ap is_some is_next) h
+  phase_good s None None is is_next c h =
+      cond_both (sleeps_on s) _ _ (LeavesGood lines bits) (λ sleeps. out_good lines bits _ is h)
+      (λ wakes. instruction_good (record s { asleep = false }) is h)
+
+  tick_calls : (s : System) → Calls s.nvic → Calls (after_tick s).nvic
+  unfolding after_tick
+  tick_calls s c = pended_calls s.nvic (tick_pends s.time) c
+
+  running_good : (s : State) → s.stop ≡ None → IsCalled s → IsGood lines bits s → LeavesGood lines bits (running s)
+  running_good s going c h =
+      cond_both (nat_le last_tick s.bus.system.time.ticks) _ _ (LeavesGood lines bits)
+      (λ late. record { good = h; called = λ stop entry. some_none _ _ stop })
+      (λ early. phase_good (ticked s) s.entry _ refl refl (λ entering. tick_calls s.bus.system (c going entering))
+      (with_bus_good lines bits s (ticked s).bus
+      (tick_whole lines bits s.bus.system (is_early s.bus.system.time.ticks early) h.bus.0, h.bus.1) h))
+
+  stopped_good : (s : State) (why : Option Stop) → s.stop ≡ why → IsCalled s → IsGood lines bits s →
+      LeavesGood lines bits (unless_stopped s why)
+  stopped_good s None is c h = running_good s is c h
+  stopped_good s (Some why) is c h = record { good = h; called = c }
+
+  pub step_good : (s : State) → IsCalled s → IsGood lines bits s → LeavesGood lines bits (step s)
+  unfolding step
+  step_good s c h = stopped_good s s.stop refl c h

@@ -1,21 +1,18 @@
 -- The clock, SysTick, the script and the lines: a tick, and the registers of SysTick.
-use Rattle.std.proofs.Common.{◌≡◌, ℕ, zero, suc, ◌+◌, ◌-◌, ◌^◌, ◌<◌, Bool, true, false, ◌==◌, List, [], ◌∷◌, drop}
+use Rattle.std.proofs.Common.{◌≡◌, ℕ, zero, suc, ◌+◌, ◌<◌, Bool, true, false, List, [], ◌∷◌, drop}
 use Rattle.std.proofs.Common.{length, refl, ◌∙◌, arith}
 use Rattle.std.proofs.lemmas.List.{length-set, length-replicate}
 use Rattle.clock.proofs.Scripts.{applies_those}
+use Rattle.clock.proofs.Timers.{counted_bits}
 use Rattle.clock.specs.Laws.{IsSortedFrom}
 use Rattle.reference.specs.declared.exception.TheConstants.{MOST_LINES}
 use Rattle.reference.specs.declared.script.ScriptedEvent.{ScriptedEvent}
 use Rattle.reference.specs.declared.script.Signal.{Signal}
 use Rattle.reference.specs.declared.script.Signal.TheVariants.{Rise, Fall, Pulse, Nmi}
-use Rattle.reference.specs.declared.system.SysTickRegister.{SysTickRegister}
-use Rattle.reference.specs.declared.system.SysTickRegister.TheVariants.{Csr, Rvr, Cvr}
 use Rattle.reference.specs.Boards.{IsScriptFrom}
 use Rattle.reference.specs.Invariant.{IsWithinClock, HasTimerBits, IsAhead}
-use Rattle.reference.specs.SysTickRegisters.{after_systick_read, write_systick}
-use Rattle.reference.specs.Time.{Time, SysTick, last_tick, counted, with_signal, with_events, events_at, due_count}
+use Rattle.reference.specs.Time.{Time, SysTick, last_tick, with_signal, with_events, events_at, due_count}
 use Rattle.reference.specs.Time.{events_after, time_after_tick, start_time}
-use Rattle.state_laws.proofs.Nvic.{either}
 
 -- what holds of time on a board with these lines
 pub record IsTimely (lines : ℕ) (t : Time) : Type 0 where
@@ -55,29 +52,7 @@ events_length : (high : List Bool) (events : List ScriptedEvent) → length (wit
 events_length high [] = refl
 events_length high (e ∷ events) = events_length (with_signal high e.what) events ∙ signal_length high e.what
 
--- ---- SysTick
-
-counted_bits : (t : SysTick) → HasTimerBits t → HasTimerBits (counted t)
-counted_bits t h = record {
-  reload = h.reload;
-  current =
-      let less : t.current - 1 < 2 ^ 24 = let c = h.current in omega arith in
-      either (λ v. v < 2 ^ 24) t.enable _ _
-      (λ on. either (λ v. v < 2 ^ 24) (t.current == 0) _ _ (λ e. h.reload) (λ e. less)) (λ off. h.current);
-}
-
-pub read_bits : (t : SysTick) (it : SysTickRegister) → HasTimerBits t → HasTimerBits (after_systick_read t it)
-unfolding after_systick_read
-read_bits t Csr h = record { reload = h.reload; current = h.current }
-read_bits t Rvr h = h
-read_bits t Cvr h = h
-
-pub write_bits : (t : SysTick) (it : SysTickRegister) (value : ℕ) → HasTimerBits t →
-    HasTimerBits (write_systick t it value)
-unfolding write_systick
-write_bits t Csr value h = record { reload = h.reload; current = h.current }
-write_bits t Rvr value h = record { reload = omega arith; current = h.current }
-write_bits t Cvr value h = record { reload = h.reload; current = omega arith }
+-- ---- a tick, and the start
 
 pub with_timer : (lines : ℕ) (t : Time) (timer : SysTick) → HasTimerBits timer → IsTimely lines t →
     IsTimely lines (record t { systick = timer })
@@ -86,8 +61,6 @@ with_timer lines t timer bits h = record {
   timer = bits;
   ahead = record { script = h.ahead.script; high = h.ahead.high };
 }
-
--- ---- a tick, and the start
 
 pub tick_timely : (lines : ℕ) (t : Time) → t.ticks < last_tick → IsTimely lines t → IsTimely lines (time_after_tick t)
 unfolding time_after_tick

@@ -1,6 +1,7 @@
 -- One access, and a list of them.
-use Rattle.std.proofs.Common.{◌≡◌, inl, inr, ℕ, zero, suc, ◌+◌, ◌/◌, nat_le, nat_lt, Bool, true, false, ◌&&◌, ◌||◌}
-use Rattle.std.proofs.Common.{if◌then◌else◌, List, [], ◌∷◌, length, Some, Result, Ok, Err, refl, ap, arith}
+use Rattle.std.proofs.Common.{◌≡◌, inl, inr, ℕ, ◌+◌, nat_le, nat_lt, Bool, true, false, ◌&&◌, ◌||◌}
+use Rattle.std.proofs.Common.{List, [], ◌∷◌, length, Some, Result, Ok, Err, refl, arith}
+use Rattle.std.proofs.lemmas.Bool.{cond_both}
 use Rattle.std.proofs.lemmas.Bool.Decides.{nat_tests}
 use Rattle.reference.specs.declared.access.Answer.TheVariants as answer
 use Rattle.reference.specs.declared.access.Decision.{Decision}
@@ -20,18 +21,11 @@ use Rattle.reference.specs.Space.{SpaceAnswer, is_out, written_to, space_access}
 use Rattle.reference.specs.State.{Bus}
 use Rattle.step_laws.specs.AccessLaw.{NoneRefused, are_covering, OnlyCovered}
 use Rattle.space.proofs.Blocks.{IsOutside, blocks_kept}
-use Rattle.step_laws.proofs.Lines.{unrefused-nil, unrefused-cons, EndIn, failure_in, ends-append, covered-append, covered-same}
+use Rattle.step_laws.proofs.Lines.{unrefused-nil, unrefused-cons, EndIn, failure_in, ends-append}
+use Rattle.step_laws.proofs.Lines.{covered-append, covered-same}
+use Rattle.step_laws.proofs.Stored.{length-bytes_of}
 
 -- ---- the bytes of one access
-
-pub either : {A : Type 0} (P : A → Type 0) (test : Bool) (x y : A) → (test ≡ true → P x) → (test ≡ false → P y) →
-    P (if test then x else y)
-either P true x y first second = first refl
-either P false x y first second = second refl
-
-length-bytes_of : (n v : ℕ) → length (bytes_of n v) ≡ n
-length-bytes_of zero v = refl
-length-bytes_of (suc n) v = ap suc (length-bytes_of n (v / 256))
 
 -- an address that a write doesn't cover lies outside it
 outside : (a n x : ℕ) (b : Bool) → ((nat_le a x && nat_lt x (a + n)) || b) ≡ false → IsOutside a n x
@@ -69,14 +63,14 @@ stored tick q m writing there rule =
 writing_writes : (tick : ℕ) (q : Request) (m : Memory) → is_write q.access.kind ≡ true →
     Writes tick q m (written_to m q)
 writing_writes tick q m writing =
-    either (Writes tick q m) (is_in_window q.access.address) _ _ (λ e rule. covered-same _ _)
-    (λ away. either (Writes tick q m) (is_in_ram m q.access.address (bytes_in q.access.size)) _ _
+    cond_both (is_in_window q.access.address) _ _ (Writes tick q m) (λ e rule. covered-same _ _)
+    (λ away. cond_both (is_in_ram m q.access.address (bytes_in q.access.size)) _ _ (Writes tick q m)
     (stored tick q m writing) (λ e rule. covered-same _ _))
 
 space_writes : (tick ticks : ℕ) (q : Request) (m : Memory) → Writes tick q m (space_access m ticks q)
 unfolding space_access
 space_writes tick ticks q m =
-    either (Writes tick q m) (is_write q.access.kind) _ _ (writing_writes tick q m) (λ e rule. covered-same _ _)
+    cond_both (is_write q.access.kind) _ _ (Writes tick q m) (writing_writes tick q m) (λ e rule. covered-same _ _)
 
 abbrev BusWrites : ℕ → Request → Bus → BusAnswer → Type 0
 BusWrites tick q b a =
@@ -85,8 +79,8 @@ BusWrites tick q b a =
 carried_writes : (exception tick : ℕ) (b : Bus) (q : Request) → BusWrites tick q b (answered_by_bus exception b q)
 unfolding answered_by_bus
 carried_writes exception tick b q =
-    either (BusWrites tick q b) (is_probe q.access.kind) _ _ (λ e rule. covered-same _ _)
-    (λ asked. either (BusWrites tick q b) (is_in_ppb q.access.address) _ _ (λ e rule. covered-same _ _)
+    cond_both (is_probe q.access.kind) _ _ (BusWrites tick q b) (λ e rule. covered-same _ _)
+    (λ asked. cond_both (is_in_ppb q.access.address) _ _ (BusWrites tick q b) (λ e rule. covered-same _ _)
     (λ e. space_writes tick b.system.time.ticks q b.memory))
 
 decided_writes : (exception tick : ℕ) (b : Bus) (q : Request) (d : Decision) (granted : Bool) →

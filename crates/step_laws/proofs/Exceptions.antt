@@ -1,5 +1,6 @@
 -- Entry and return: the frame, the vector, and the points of a return.
 use Rattle.std.proofs.Common.{◌≡◌, inl, ℕ, Bool, true, false, not, List, [], ◌∷◌, ◌++◌, Option, Some, None, refl}
+use Rattle.std.proofs.lemmas.Bool.{cond_both}
 use Rattle.reference.specs.declared.access.Kind.TheVariants.{Vector}
 use Rattle.reference.specs.declared.access.Performed.{Performed}
 use Rattle.reference.specs.declared.access.Performed.TheVariants as performed
@@ -20,7 +21,7 @@ use Rattle.reference.specs.Words.{is_bit}
 use Rattle.step_laws.specs.AccessLaw.{OnlyCovered}
 use Rattle.step_laws.proofs.Lines.{unrefused-nil, unrefused-cons, unrefused-append, EndIn, failure_in, ends-append}
 use Rattle.step_laws.proofs.Lines.{covered-append, covered-more}
-use Rattle.step_laws.proofs.Bytes.{either, perform_writes, told_ends, ServedWell, served_well}
+use Rattle.step_laws.proofs.Bytes.{perform_writes, told_ends, ServedWell, served_well}
 use Rattle.step_laws.proofs.Faults.{IsLawful, MayGoOn, at_first, goes_on_lawful, failed_unrefused, failed_lawful}
 use Rattle.step_laws.proofs.Faults.{vector_refused_lawful}
 
@@ -77,10 +78,10 @@ unstacked_lawful : (old : Memory) (s : State) (events : List Event) (e : ℕ) (f
     MayGoOn old s events → IsLawful old (unstacked s events e frame)
 unfolding unstacked
 unstacked_lawful old s events e frame ready =
-    either (IsLawful old) (not (fits_mode e frame)) _ _
+    cond_both (not (fits_mode e frame)) _ _ (IsLawful old)
     (λ is. failed_unrefused old (with_entry s e) events (failure.Usage InvalidReturn)
     (record { unrefused = ready.unrefused; only = ready.only }))
-    (λ is. either (IsLawful old) (is_bit (popped_pc frame) 0) _ _
+    (λ is. cond_both (is_bit (popped_pc frame) 0) _ _ (IsLawful old)
     (λ odd. record { one_refusal = inl ready.unrefused; only_covered = ready.only })
     (λ even. record { one_refusal = inl ready.unrefused; only_covered = ready.only }))
 
@@ -124,7 +125,7 @@ return_lawful old s before e ready =
     let unrefused = unrefused-append before (return_line s e ∷ []) ready.unrefused
     (unrefused-cons (return_line s e) [] refl unrefused-nil) in
     let only = covered-more old s.bus.memory before (return_line s e ∷ []) ready.only in
-    either (IsLawful old) (has_reserved_ones e) _ _
+    cond_both (has_reserved_ones e) _ _ (IsLawful old)
     (λ ones. returned_lawful old (with_system s (exception_ended s.bus.system s.registers.exception))
     (before ++ return_line s e ∷ []) e (is_allowed s e) (record { unrefused = unrefused; only = only }))
     (λ other. record { one_refusal = inl unrefused; only_covered = only })

@@ -1,6 +1,7 @@
 -- What a frame gives back.
 use Rattle.std.proofs.Common.{◌≡◌, ℕ, ◌%◌, ◌^◌, ◌<◌, Bool, true, false, not, ◌&&◌, ◌==◌, if◌then◌else◌, List}
 use Rattle.std.proofs.Common.{length, get_or, refl, ◌∙◌, ap, arith}
+use Rattle.std.proofs.lemmas.Bool.{cond_both}
 use Rattle.std.proofs.lemmas.List.{get_or-set_same, get_or-set_other}
 use Rattle.std.proofs.Math.ListN.{set, length-set}
 use Rattle.reference.specs.Frames.{exc_return, frame, frame_base, frame_pointer, returns_on_psp, with_frame}
@@ -10,7 +11,6 @@ use Rattle.reference.specs.Invariant.{IsStackPointer, HasRegisters}
 use Rattle.reference.specs.Registers.{Registers, is_handler, uses_psp, sp, stack_pointer, with_sp, flags_of}
 use Rattle.reference.specs.Words.{low_word, is_bit}
 use Rattle.step_laws.specs.FrameLaw.{FrameGivesBack}
-use Rattle.step_laws.proofs.Bytes.{either}
 use Rattle.step_laws.proofs.Words.{flags_back, it_back, thumb_back, exception_back, xpsr_is_word, sp_back}
 
 -- ---- R0 to R3 and R12
@@ -62,7 +62,7 @@ with_sp_is r v false e = rw (e, e) refl
 
 -- SP is one of the two stack pointers
 sp_is_stack_pointer : (r : Registers) → HasRegisters r → IsStackPointer (sp r)
-sp_is_stack_pointer r h = either IsStackPointer (uses_psp r) _ _ (λ e. h.psp) (λ e. h.msp)
+sp_is_stack_pointer r h = cond_both (uses_psp r) _ _ IsStackPointer (λ e. h.psp) (λ e. h.msp)
 
 -- SP is at the frame after the push
 pub pushed_sp : (r : Registers) → sp (with_frame r) ≡ frame_base (sp r)

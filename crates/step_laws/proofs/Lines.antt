@@ -1,8 +1,9 @@
 -- The lines of accesses, one after another.
-use Rattle.std.proofs.Common.{◌≡◌, ℕ, ◌+◌, Bool, true, false, ◌||◌, List, [], ◌∷◌, ◌++◌, Option, Some, None, Result, Ok, Err}
+use Rattle.std.proofs.Common.{◌≡◌, ℕ, ◌+◌, false, List, [], ◌∷◌, ◌++◌, Option, Some, None, Result, Ok, Err}
 use Rattle.std.proofs.Common.{refl, sym, ◌∙◌, ap, subst, append_assoc}
 use Rattle.std.proofs.lemmas.List.Elements.{All-nil, All-cons, All-append}
 use Rattle.std.proofs.lemmas.List.Folds.{list_any-append}
+use Rattle.std.proofs.lemmas.Bool.{or_parts}
 use Rattle.reference.specs.declared.access.Access.{Access}
 use Rattle.reference.specs.declared.access.Cause.{Cause}
 use Rattle.reference.specs.declared.access.Rule.{Rule}
@@ -66,14 +67,11 @@ ends-append (Some (Stop why)) xs ys before end = unrefused-append xs ys before e
 
 -- ---- bytes
 
-neither : (x y : Bool) → (x || y) ≡ false → (x ≡ false) × (y ≡ false)
-neither true y e = absurd cc
-neither false y e = (refl, e)
-
 -- an address that lines leave uncovered is left so by either part of them
 pub uncovered : (xs ys : List Event) (address : ℕ) → are_covering (xs ++ ys) address ≡ false →
     (are_covering xs address ≡ false) × (are_covering ys address ≡ false)
-uncovered xs ys address e = neither _ _ (sym (list_any-append (λ (event : Event). covers event.what address) xs ys) ∙ e)
+uncovered xs ys address e =
+    or_parts _ _ (sym (list_any-append (λ (event : Event). covers event.what address) xs ys) ∙ e)
 
 -- one after another
 append_from : (base : ℕ) (old between new : List ℕ) (xs ys : List Event) → OnlyCoveredFrom base old between xs →

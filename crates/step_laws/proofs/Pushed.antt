@@ -1,5 +1,6 @@
 -- Words that are pushed and popped, one after another.
 use Rattle.std.proofs.Common.{◌≡◌, ℕ, Bool, true, false, if◌then◌else◌, Option, Some, None, Ok, refl}
+use Rattle.std.proofs.lemmas.Bool.{cond_both}
 use Rattle.reference.specs.declared.access.Answer.TheVariants.{Error}
 use Rattle.reference.specs.declared.access.Decision.{Decision}
 use Rattle.reference.specs.declared.access.Kind.TheVariants.{Push, Pop}
@@ -13,7 +14,6 @@ use Rattle.reference.specs.Memory.{Memory, is_in_ram, number_at, bytes_of, overw
 use Rattle.reference.specs.Space.{SpaceAnswer, number_read, space_access}
 use Rattle.reference.specs.State.{Bus}
 use Rattle.reference.specs.System.{system_access}
-use Rattle.step_laws.proofs.Bytes.{either}
 
 -- ---- one push
 
@@ -40,10 +40,10 @@ carried_push : (exception : ℕ) (b : Bus) (privileged : Bool) (a v : ℕ) →
     IfPushed privileged a v b (answered_by_bus exception b (push_of privileged a v))
 unfolding answered_by_bus system_access space_access
 carried_push exception b privileged a v =
-    either (IfPushed privileged a v b) (is_in_ppb a) _ _ (λ e rule x done. absurd cc)
-    (λ beside. either (IfWritten privileged a v b.memory) (is_in_window a) _ _
+    cond_both (is_in_ppb a) _ _ (IfPushed privileged a v b) (λ e rule x done. absurd cc)
+    (λ beside. cond_both (is_in_window a) _ _ (IfWritten privileged a v b.memory)
     (λ e rule x done. absurd cc)
-    (λ away. either (IfWritten privileged a v b.memory) (is_in_ram b.memory a 4) _ _
+    (λ away. cond_both (is_in_ram b.memory a 4) _ _ (IfWritten privileged a v b.memory)
     (λ there rule x done. record { there = there; is = refl })
     (λ e rule x done. absurd cc)))
 
@@ -85,7 +85,7 @@ carried_pop : (exception : ℕ) (b : Bus) (privileged : Bool) (a : ℕ) →
     IfPopped privileged a b (answered_by_bus exception b (pop_of privileged a))
 unfolding answered_by_bus system_access space_access
 carried_pop exception b privileged a =
-    either (IfPopped privileged a b) (is_in_ppb a) _ _ (λ e rule x done. absurd cc)
+    cond_both (is_in_ppb a) _ _ (IfPopped privileged a b) (λ e rule x done. absurd cc)
     (λ beside rule x done. record { number = from_memory (is_in_window a) rule x done; same = refl })
   where
     from_memory : (window : Bool) (rule : Rule) (x : ℕ) →

@@ -1,6 +1,7 @@
 -- A return that reaches its end, after an entry whose pushes were carried out.
 use Rattle.std.proofs.Common.{◌≡◌, ℕ, ◌≤◌, Bool, true, false, not, List, [], ◌∷◌, ◌++◌, length, Option, Some, None}
 use Rattle.std.proofs.Common.{refl, sym, ◌∙◌, ap, subst, arith}
+use Rattle.std.proofs.lemmas.Bool.{cond_both}
 use Rattle.reference.specs.declared.event.Event.{Event}
 use Rattle.reference.specs.declared.exception.Escalation.{Escalation}
 use Rattle.reference.specs.declared.exception.Escalation.TheVariants.{Itself, HardFault, Lockup}
@@ -22,7 +23,6 @@ use Rattle.reference.specs.State.{State, Stepped, with_bus, with_system}
 use Rattle.reference.specs.Words.{is_bit}
 use Rattle.reference.specs.Invariant.{HasRegisters, FlashEndsBelowRam, Invariant}
 use Rattle.step_laws.specs.FrameLaw.{AreBack, KeepsFrame, IsFree, IsStacked, HasFrameOf, ReturnGivesBack}
-use Rattle.step_laws.proofs.Bytes.{either}
 use Rattle.step_laws.proofs.Frames.{gives_back, pushed_sp}
 use Rattle.step_laws.proofs.Stacks.{HoldsWords, AreWords, words_pushed, words_popped, frame_stays}
 use Rattle.step_laws.proofs.Words.{xpsr_is_word}
@@ -62,9 +62,9 @@ unstacked_ends : (s : State) (events : List Event) (e : ℕ) (all : ListResult) 
     EndsWith s.registers e all (unstacked s events e all.values)
 unfolding unstacked
 unstacked_ends s events e all done =
-    either (EndsWith s.registers e all) (not (fits_mode e all.values)) _ _
+    cond_both (not (fits_mode e all.values)) _ _ (EndsWith s.registers e all)
     (λ unfit free. not_free s events e (failure.Usage InvalidReturn) free)
-    (λ fit. either (EndsWith s.registers e all) (is_bit (popped_pc all.values) 0) _ _
+    (λ fit. cond_both (is_bit (popped_pc all.values) 0) _ _ (EndsWith s.registers e all)
     (λ odd free. absurd cc (free.1))
     (λ even free. record { done = done; popped = refl }))
 
@@ -98,7 +98,7 @@ return_ends : (s : State) (before : List Event) (e : ℕ) →
     EndsWith s.registers e (pops_of (deactivating s) e) (exception_return s before e)
 unfolding exception_return
 return_ends s before e =
-    either (EndsWith s.registers e (pops_of (deactivating s) e)) (has_reserved_ones e) _ _
+    cond_both (has_reserved_ones e) _ _ (EndsWith s.registers e (pops_of (deactivating s) e))
     (λ ones. returned_ends (deactivating s) (before ++ return_line s e ∷ []) e (is_allowed s e))
     (λ other free. absurd cc (free.1))
 

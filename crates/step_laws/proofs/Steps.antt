@@ -1,6 +1,7 @@
 -- The phases of a step, from the last one up.
 use Rattle.std.proofs.Common.{◌≡◌, inl, ℕ, nat_le, false, List, [], ◌++◌, Option, Some, None, Result, Ok, Err}
 use Rattle.std.proofs.Common.{refl}
+use Rattle.std.proofs.lemmas.Bool.{cond_both}
 use Rattle.reference.specs.declared.access.Request.{Request}
 use Rattle.reference.specs.declared.event.Event.{Event}
 use Rattle.reference.specs.declared.failure.Failure.{Failure}
@@ -29,8 +30,9 @@ use Rattle.reference.specs.Step.{running, unless_stopped, step}
 use Rattle.reference.specs.Time.{last_tick}
 use Rattle.reference.specs.Words.{word_sum}
 use Rattle.step_laws.specs.AccessLaw.{OnlyCovered}
-use Rattle.step_laws.proofs.Lines.{unrefused-nil, unrefused-append, EndIn, failure_in, ends-append, covered-append, covered-same}
-use Rattle.step_laws.proofs.Bytes.{either, perform_writes, told_ends, ServedWell, served_well}
+use Rattle.step_laws.proofs.Lines.{unrefused-nil, unrefused-append, EndIn, failure_in, ends-append}
+use Rattle.step_laws.proofs.Lines.{covered-append, covered-same}
+use Rattle.step_laws.proofs.Bytes.{perform_writes, told_ends, ServedWell, served_well}
 use Rattle.step_laws.proofs.Faults.{IsLawful, MayGoOn, at_first, goes_on_lawful, failed_unrefused, failed_lawful}
 use Rattle.step_laws.proofs.Faults.{supervisor_lawful}
 use Rattle.step_laws.proofs.Exceptions.{entry_lawful, vector_step_lawful, return_lawful}
@@ -91,7 +93,7 @@ meaningless_lawful : (old : Memory) (s : State) (events : List Event) (length : 
     (fault : UsageFault) →
     MayGoOn old s events → IsLawful old (without_meaning s events length fault)
 meaningless_lawful old s events length fault ready =
-    either (IsLawful old) (condition_passed s.registers.it_state s.registers.flags) _ _
+    cond_both (condition_passed s.registers.it_state s.registers.flags) _ _ (IsLawful old)
     (λ passed. failed_unrefused old s events (failure.Usage fault) ready)
     (λ skipped. finished_lawful old s events (moves_on length s.registers) ready)
 
@@ -137,7 +139,7 @@ with_second_lawful : (old : Memory) (s : State) (events : List Event) (hw1 : ℕ
     IsLawful old (with_second s events hw1)
 unfolding with_second
 with_second_lawful old s events hw1 ready =
-    either (IsLawful old) (is_long hw1) _ _
+    cond_both (is_long hw1) _ _ (IsLawful old)
     (λ long. second_lawful old _ _ hw1 _
     (fetch_leaves old s events (fetching s.registers (word_sum s.registers.pc 2)) ready))
     (λ short. executed_lawful old s events Short _ ready)
@@ -153,7 +155,7 @@ instruction_lawful : (s : State) → IsLawful s.bus.memory (instruction s)
 unfolding instruction
 instruction_lawful s =
     let ready = at_first s.bus.memory s refl in
-    either (IsLawful s.bus.memory) s.registers.thumb _ _
+    cond_both s.registers.thumb _ _ (IsLawful s.bus.memory)
     (λ thumb. first_lawful s.bus.memory _ _ _
     (fetch_leaves s.bus.memory s [] (fetching s.registers s.registers.pc) ready))
     (λ arm. failed_unrefused s.bus.memory s [] (failure.Usage InvalidState) ready)
@@ -165,13 +167,13 @@ unfolding phase
 phase_lawful s (Some e) exception = vector_step_lawful s e
 phase_lawful s None (Some exception) = entry_lawful s
 phase_lawful s None None =
-    either (IsLawful s.bus.memory) (sleeps_on s) _ _
+    cond_both (sleeps_on s) _ _ (IsLawful s.bus.memory)
     (λ sleeps. goes_on_lawful s.bus.memory s [] (at_first s.bus.memory s refl))
     (λ wakes. instruction_lawful (record s { asleep = false }))
 
 running_lawful : (s : State) → IsLawful s.bus.memory (running s)
 running_lawful s =
-    either (IsLawful s.bus.memory) (nat_le last_tick s.bus.system.time.ticks) _ _
+    cond_both (nat_le last_tick s.bus.system.time.ticks) _ _ (IsLawful s.bus.memory)
     (λ late. record { one_refusal = inl unrefused-nil; only_covered = covered-same s.bus.memory [] })
     (λ early. phase_lawful (ticked s) s.entry _)
 

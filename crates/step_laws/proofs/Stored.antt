@@ -1,6 +1,6 @@
 -- A word that is written to RAM is read back, by its bytes.
-use Rattle.std.proofs.Common.{◌≡◌, ℕ, suc, ◌+◌, ◌-◌, ◌^◌, ◌<◌, ◌≤◌, Bool, true, false, List, ◌++◌, length, take, drop}
-use Rattle.std.proofs.Common.{get_or, Some, refl, sym, ◌∙◌, ap, arith}
+use Rattle.std.proofs.Common.{◌≡◌, ℕ, zero, suc, ◌+◌, ◌-◌, ◌^◌, ◌<◌, ◌≤◌, Bool, true, false, List, ◌++◌, length, take}
+use Rattle.std.proofs.Common.{drop, get_or, Some, refl, sym, ◌∙◌, ap, arith}
 use Rattle.std.proofs.lemmas.Bool.Decides.{nat_tests}
 use Rattle.std.proofs.lemmas.List.{length-take, get_or_append_left, get_or-append_right}
 use Rattle.reference.specs.Map.{ram_base}
@@ -14,6 +14,10 @@ abbrev pub IsWord : Memory → ℕ → ℕ → Type 0
 IsWord m a v = (k : ℕ) → k < 4 → byte_at m (a + k) ≡ Some (get_or (bytes_of 4 v) k 0)
 
 -- ---- what was written
+
+pub length-bytes_of : (n v : ℕ) → length (bytes_of n v) ≡ n
+length-bytes_of zero v = refl
+length-bytes_of (suc n) v = ap suc (length-bytes_of n _)
 
 -- a byte of a block at a place where bytes were written is the byte that was written there
 pub written_in : (block bytes : List ℕ) (a k : ℕ) → a + length bytes ≤ length block → k < length bytes →

@@ -1,7 +1,7 @@
 -- An access of unprivileged code, and a list of them, from two buses that differ only in memory, where the memories
 -- look the same to it: what is left differs only in memory again, and `Alike` holds of it.
-use Rattle.std.proofs.Common.{◌≡◌, ◌⊎◌, inl, inr, ℕ, zero, suc, ◌+◌, ◌/◌, Bool, true, false, not, List, [], ◌∷◌}
-use Rattle.std.proofs.Common.{length, Result, Ok, Err, refl, sym, ap, subst, ◌∙◌}
+use Rattle.std.proofs.Common.{◌≡◌, ◌⊎◌, inl, inr, ℕ, ◌+◌, Bool, true, false, not, List, [], ◌∷◌}
+use Rattle.std.proofs.Common.{Result, Ok, Err, refl, sym, ap, subst, ◌∙◌}
 use Rattle.std.proofs.lemmas.Bool.{or_right}
 use Rattle.reference.specs.declared.access.Answer.{Answer}
 use Rattle.reference.specs.declared.access.Decision.{Decision}
@@ -23,6 +23,7 @@ use Rattle.task_laws.specs.TaskLaw.{IsOfTask, AreOfTask}
 use Rattle.task_laws.proofs.Blocks.{decided_alike, one_block}
 use Rattle.task_laws.proofs.Memories.{AllIn, both, number_alike, written_alike, rest_kept, agree_then}
 use Rattle.task_laws.proofs.Priorities.{Decides, system_decides}
+use Rattle.step_laws.proofs.Stored.{length-bytes_of}
 
 -- ---- what a granted access may read and write
 
@@ -79,10 +80,6 @@ is_open m z q sound of granted = split of.kind
       reads = λ unprobed. absurd (let w : true ≡ false = ap is_probe (sym e) ∙ unprobed in cc);
       writes = no_write Probe e refl;
     }
-
-length-bytes_of : (n v : ℕ) → length (bytes_of n v) ≡ n
-length-bytes_of zero v = refl
-length-bytes_of (suc n) v = ap suc (length-bytes_of n (v / 256))
 
 -- ---- two buses
 

@@ -1,10 +1,11 @@
 -- Neither a tick nor an access of unprivileged code changes what the decision depends on: they make exceptions pending.
-use Rattle.std.proofs.Common.{◌≡◌, ℕ, zero, suc, ◌+◌, ◌*◌, ◌/◌, ◌%◌, ◌^◌, Bool, true, false, not, ◌||◌, ◌==◌, ◌∙◌, refl}
+use Rattle.std.proofs.Common.{◌≡◌, ℕ, ◌+◌, ◌*◌, ◌/◌, ◌%◌, ◌^◌, Bool, true, false, not, ◌||◌, ◌==◌, ◌∙◌, refl}
 use Rattle.std.proofs.Common.{sym, ap, eqb-true}
-use Rattle.std.proofs.lemmas.Bool.{and_parts}
+use Rattle.std.proofs.lemmas.Bool.{cond_both, and_parts}
 use Rattle.nvic.proofs.BelowZero.{below_zero}
+use Rattle.nvic.proofs.Changes.{pended_kept}
 use Rattle.reference.specs.declared.access.Request.{Request}
-use Rattle.reference.specs.declared.exception.TheConstants.{EXCEPTIONS, FIRST_LINE}
+use Rattle.reference.specs.declared.exception.TheConstants.{FIRST_LINE}
 use Rattle.reference.specs.declared.system.SystemRegister.{SystemRegister}
 use Rattle.reference.specs.declared.system.SystemRegister.TheVariants as register
 use Rattle.reference.specs.Control.{control_at}
@@ -16,10 +17,9 @@ use Rattle.reference.specs.Regions.{Mpu}
 use Rattle.reference.specs.Status.{status_at, usersetmpend}
 use Rattle.reference.specs.SysTickRegisters.{systick_at}
 use Rattle.reference.specs.System.{System, SystemAnswer, single_at, register_at, has_access, has_width, after_read}
-use Rattle.reference.specs.System.{register_written, register_access, system_access, with_pended_at, with_pended_below}
+use Rattle.reference.specs.System.{register_written, register_access, system_access}
 use Rattle.reference.specs.System.{with_pended, after_tick}
 use Rattle.reference.specs.Time.{tick_pends}
-use Rattle.state_laws.proofs.Nvic.{either}
 
 -- the decision on an access depends on the registers m of the MPU, and on z: whether the execution priority is below 0
 pub record Decides (m : Mpu) (z : Bool) (s : System) : Type 0 where
@@ -32,21 +32,10 @@ pub record Decides (m : Mpu) (z : Bool) (s : System) : Type 0 where
 pub pending_alike : (n : Nvic) (x : ℕ) (on : Bool) → is_below_zero (with_pending n x on) ≡ is_below_zero n
 pending_alike n x on = below_zero (with_pending n x on) ∙ sym (below_zero n)
 
-pended_at_alike : (n : Nvic) (test : ℕ → Bool) (x : ℕ) → is_below_zero (with_pended_at n test x) ≡ is_below_zero n
-unfolding with_pended_at
-pended_at_alike n test x =
-    either (λ (p : Nvic). is_below_zero p ≡ is_below_zero n) (test x) _ _ (λ e. pending_alike n x true) (λ e. refl)
-
-pended_below_alike : (n : Nvic) (test : ℕ → Bool) (x : ℕ) → is_below_zero (with_pended_below n test x) ≡ is_below_zero n
-unfolding with_pended_below
-pended_below_alike n test zero = refl
-pended_below_alike n test (suc x) =
-    pended_at_alike (with_pended_below n test x) test x ∙ pended_below_alike n test x
-
 -- what a tick makes pending leaves it too
 pub pended_alike : (n : Nvic) (test : ℕ → Bool) → is_below_zero (with_pended n test) ≡ is_below_zero n
-unfolding with_pended
-pended_alike n test = pended_below_alike n test EXCEPTIONS
+pended_alike n test =
+    pended_kept (λ m. is_below_zero m ≡ is_below_zero n) test (λ m x e same. pending_alike m x true ∙ same) n refl
 
 -- ---- the System Control Space
 
@@ -72,9 +61,9 @@ module _ (m : Mpu) (z : Bool) where
       Decides m z (register_access x s q register.Stir).system
   unfolding register_access register_written has_width after_read triggered
   stir_decides x s q d =
-      either (λ (a : SystemAnswer). Decides m z a.system) (not (has_access s q)) _ _ (λ e. d)
-      (λ e. either (λ (a : SystemAnswer). Decides m z a.system) (not (is_word q.access.size)) _ _ (λ f. d)
-      (λ f. either (λ (a : SystemAnswer). Decides m z a.system) (is_store q.access.kind) _ _
+      cond_both (not (has_access s q)) _ _ (λ (a : SystemAnswer). Decides m z a.system) (λ e. d)
+      (λ e. cond_both (not (is_word q.access.size)) _ _ (λ (a : SystemAnswer). Decides m z a.system) (λ f. d)
+      (λ f. cond_both (is_store q.access.kind) _ _ (λ (a : SystemAnswer). Decides m z a.system)
       (λ g. record {
         mpu = d.mpu;
         below_zero = pending_alike s.nvic (FIRST_LINE + q.value % 2 ^ 9) true ∙ d.below_zero;
@@ -97,5 +86,5 @@ module _ (m : Mpu) (z : Bool) where
       Decides m z (system_access x s q).system
   unfolding system_access
   system_decides x s q unprivileged d =
-      either (λ (a : SystemAnswer). Decides m z a.system) (is_load q.access.kind || is_store q.access.kind) _ _
+      cond_both (is_load q.access.kind || is_store q.access.kind) _ _ (λ (a : SystemAnswer). Decides m z a.system)
       (λ e. register_decides x s q _ refl unprivileged d) (λ e. d)

@@ -1,6 +1,7 @@
 -- The accesses of an instruction of unprivileged code.
-use Rattle.std.proofs.Common.{◌≡◌, inl, inr, ℕ, ◌%◌, Bool, true, false, not, ◌&&◌, ◌==◌, List, [], ◌∷◌, refl, arith}
+use Rattle.std.proofs.Common.{◌≡◌, inl, inr, ℕ, ◌%◌, Bool, false, not, ◌&&◌, ◌==◌, List, [], ◌∷◌, refl, arith}
 use Rattle.std.proofs.Common.{eqb-true}
+use Rattle.std.proofs.lemmas.Bool.{cond_both, not-false, and_left}
 use Rattle.reference.specs.declared.access.Kind.{Kind}
 use Rattle.reference.specs.declared.access.Kind.TheVariants.{Load, Store, Probe}
 use Rattle.reference.specs.declared.access.Request.{Request}
@@ -32,7 +33,6 @@ use Rattle.reference.specs.Operations.{is_misplaced, is_carried_out, requests_of
 use Rattle.reference.specs.Registers.{Registers, register, is_privileged}
 use Rattle.reference.specs.Step.{fetching}
 use Rattle.reference.specs.Words.{word_sum}
-use Rattle.state_laws.proofs.Nvic.{either}
 use Rattle.task_laws.specs.TaskLaw.{IsTaskKind, IsOfTask, AreOfTask, AskOfTask, RequestsLaw}
 
 -- ---- what an access is for
@@ -48,10 +48,6 @@ probes = inr (inr (inr refl))
 
 -- ---- one request
 
-made_unprivileged : (u p : Bool) → p ≡ false → (p && not u) ≡ false
-made_unprivileged u true e = absurd cc
-made_unprivileged u false e = refl
-
 bytes_asked : (kind : Kind) (p : Bool) (address : ℕ) (bytes : List ℕ) → p ≡ false → IsTaskKind kind →
     AreOfTask (byte_requests kind p address bytes)
 bytes_asked kind p address [] e k = tt
@@ -59,39 +55,35 @@ bytes_asked kind p address (byte ∷ bytes) e k =
     (record { unprivileged = e; kind = k; aligned = omega arith }, bytes_asked kind p (word_sum address 1) bytes e k)
 
 unless_device : (requests : List Request) → AreOfTask requests → AskOfTask (unaligned requests)
-unless_device requests are = either AskOfTask (meets_device requests) _ _ (λ h. tt) (λ h. are)
+unless_device requests are = cond_both (meets_device requests) _ _ AskOfTask (λ h. tt) (λ h. are)
 
 transfer_asked : (traps : Traps) (kind : Kind) (p : Bool) (size : Size) (address value : ℕ) → p ≡ false →
     IsTaskKind kind → AskOfTask (transfer traps kind p size address value)
 unfolding transfer
 transfer_asked traps kind p size address value e k =
-    either AskOfTask (is_aligned size address) _ _
+    cond_both (is_aligned size address) _ _ AskOfTask
     (λ f. (record { unprivileged = e; kind = k; aligned = eqb-true (address % bytes_in size) 0 f }, tt))
-    (λ f. either AskOfTask traps.unaligned _ _ (λ g. tt)
+    (λ f. cond_both traps.unaligned _ _ AskOfTask (λ g. tt)
     (λ g. unless_device _ (bytes_asked kind p address (bytes_of (bytes_in size) value) e k)))
 
 load_asked : (traps : Traps) (form : LoadForm) (t : ℕ) (p : Bool) (address : ℕ) → p ≡ false →
     AskOfTask (load traps form t p address)
 unfolding load
 load_asked traps form t p address e =
-    either AskOfTask (t == 15 && not (is_aligned Word address)) _ _ (λ f. tt)
+    cond_both (t == 15 && not (is_aligned Word address)) _ _ AskOfTask (λ f. tt)
     (λ f. transfer_asked traps Load p form.size address 0 e loads)
-
-not_not : (b : Bool) → not b ≡ false → b ≡ true
-not_not true e = refl
-not_not false e = absurd cc
 
 access_asked : (kind : Kind) (p : Bool) (size : Size) (address value : ℕ) → p ≡ false → IsTaskKind kind →
     AskOfTask (exclusive_access kind p size address value)
 unfolding exclusive_access
 access_asked kind p size address value e k =
-    either AskOfTask (not (is_aligned size address)) _ _ (λ f. tt)
-    (λ f. either AskOfTask (has_side_effects address) _ _ (λ g. tt)
+    cond_both (not (is_aligned size address)) _ _ AskOfTask (λ f. tt)
+    (λ f. cond_both (has_side_effects address) _ _ AskOfTask (λ g. tt)
     (λ g. (
       record {
         unprivileged = e;
         kind = k;
-        aligned = eqb-true (address % bytes_in size) 0 (not_not (is_aligned size address) f);
+        aligned = eqb-true (address % bytes_in size) 0 (not-false (is_aligned size address) f);
       },
       tt,
     )))
@@ -102,11 +94,11 @@ module _ (r : Registers) (t : is_privileged r ≡ false) where
   load_store_asked : (traps : Traps) (i : LoadStore) → AskOfTask (load_store_requests traps i r)
   unfolding load_store_requests
   load_store_asked traps (load_store.LoadImmediate o) =
-      load_asked traps o.form o.target _ _ (made_unprivileged o.unprivileged _ t)
+      load_asked traps o.form o.target _ _ (and_left _ (not o.unprivileged) t)
   load_store_asked traps (load_store.LoadRegister o) = load_asked traps o.form o.target _ _ t
   load_store_asked traps (load_store.LoadLiteral o) = load_asked traps o.form o.target _ _ t
   load_store_asked traps (load_store.StoreImmediate o) =
-      transfer_asked traps Store _ o.size _ _ (made_unprivileged o.unprivileged _ t)
+      transfer_asked traps Store _ o.size _ _ (and_left _ (not o.unprivileged) t)
       stores
   load_store_asked traps (load_store.StoreRegister o) =
       transfer_asked traps Store _ o.size _ _ t stores
@@ -123,14 +115,14 @@ module _ (r : Registers) (t : is_privileged r ≡ false) where
   several_asked : (kind : Kind) (ns : List ℕ) (address : ℕ) → IsTaskKind kind → AskOfTask (several kind ns address r)
   unfolding several
   several_asked kind ns address k =
-      either AskOfTask (is_aligned Word address) _ _
+      cond_both (is_aligned Word address) _ _ AskOfTask
       (λ e. words_asked kind address ns k (eqb-true (address % 4) 0 e)) (λ e. tt)
 
   multiple_asked : (i : LoadStoreMultiple) → AskOfTask (load_store_multiple_requests i r)
   unfolding load_store_multiple_requests
   multiple_asked (multiple.LoadDual o) = several_asked Load _ _ loads
   multiple_asked (multiple.LoadDualLiteral o) =
-      either AskOfTask (is_aligned Word (register r 15)) _ _ (λ e. several_asked Load _ _ loads) (λ e. tt)
+      cond_both (is_aligned Word (register r 15)) _ _ AskOfTask (λ e. several_asked Load _ _ loads) (λ e. tt)
   multiple_asked (multiple.StoreDual o) = several_asked Store _ _ stores
   multiple_asked (multiple.LoadMultiple o) = several_asked Load _ _ loads
   multiple_asked (multiple.StoreMultiple o) = several_asked Store _ _ stores
@@ -141,7 +133,7 @@ module _ (r : Registers) (t : is_privileged r ≡ false) where
   unfolding exclusive_requests
   exclusive_asked (exclusive.Load o) = access_asked Load _ o.size _ 0 t loads
   exclusive_asked (exclusive.Store o) =
-      either AskOfTask (passes o r) _ _
+      cond_both (passes o r) _ _ AskOfTask
       (λ e. access_asked Store _ o.size _ _ t stores)
       (λ e. access_asked Probe _ o.size _ 0 t probes)
   exclusive_asked exclusive.Clear = tt
@@ -156,7 +148,7 @@ module _ (r : Registers) (t : is_privileged r ≡ false) where
   requests_asked : (traps : Traps) (i : Instruction) → AskOfTask (requests_of traps i r)
   unfolding requests_of
   requests_asked traps (family.DataProcessing i) =
-      either AskOfTask (traps.divide_by_zero && divides_by_zero i r) _ _ (λ e. tt) (λ e. tt)
+      cond_both (traps.divide_by_zero && divides_by_zero i r) _ _ AskOfTask (λ e. tt) (λ e. tt)
   requests_asked traps (family.LoadStore i) = load_store_asked traps i
   requests_asked traps (family.LoadStoreMultiple i) = multiple_asked i
   requests_asked traps (family.Exclusive i) = exclusive_asked i
@@ -167,8 +159,9 @@ module _ (r : Registers) (t : is_privileged r ≡ false) where
   pub wants_asked : (traps : Traps) (i : CodedInstruction) → AskOfTask (wants traps i r)
   unfolding wants
   wants_asked traps i =
-      either AskOfTask (is_misplaced i.place r.it_state) _ _ (λ e. tt)
-      (λ e. either AskOfTask (is_carried_out i.instruction r) _ _ (λ f. requests_asked traps i.instruction) (λ f. tt))
+      cond_both (is_misplaced i.place r.it_state) _ _ AskOfTask (λ e. tt)
+      (λ e. cond_both (is_carried_out i.instruction r) _ _ AskOfTask (λ f. requests_asked traps i.instruction)
+      (λ f. tt))
 
   -- a fetch of unprivileged code
   pub fetch_of : (address : ℕ) → address % 2 ≡ 0 → IsOfTask (fetching r address)

@@ -1,7 +1,7 @@
 -- A task, part by part.
-use Rattle.std.proofs.Common.{◌≡◌, ℕ, Bool, true, false, not, ◌&&◌, ◌==◌, is_some, Option, Some, None, refl, sym, ap}
+use Rattle.std.proofs.Common.{◌≡◌, ℕ, Bool, true, not, ◌&&◌, ◌==◌, is_some, Option, Some, None, refl, sym, ap}
 use Rattle.std.proofs.Common.{◌∙◌, eqb-true}
-use Rattle.std.proofs.lemmas.Bool.{and_parts}
+use Rattle.std.proofs.lemmas.Bool.{and_parts, not-true, not-false}
 use Rattle.reference.specs.Priorities.{is_below_zero}
 use Rattle.reference.specs.Regions.{Mpu, is_on}
 use Rattle.reference.specs.Rules.{is_off_below_zero}
@@ -10,10 +10,6 @@ use Rattle.reference.specs.System.{System}
 use Rattle.task_laws.specs.Tasks.{runs_unprivileged, uses_regions}
 use Rattle.task_laws.proofs.Priorities.{Decides}
 use Rattle.task_laws.proofs.Unprivileged.{IsUnprivileged}
-
-not_not : (b : Bool) → not (not b) ≡ true → b ≡ true
-not_not true e = refl
-not_not false e = absurd cc
 
 not_some : (o : Option ℕ) → not (is_some o) ≡ true → o ≡ None
 not_some None e = refl
@@ -30,7 +26,7 @@ parts_of s e =
     let mode = and_parts _ s.registers.unprivileged all.0 in
     record {
       thread = record {
-        thread = eqb-true s.registers.exception 0 (not_not (s.registers.exception == 0) mode.0);
+        thread = eqb-true s.registers.exception 0 (not-false (s.registers.exception == 0) (not-true _ mode.0));
         unprivileged = mode.1;
       };
       outside = not_some s.entry all.1;

@@ -1,5 +1,6 @@
 -- Registers in unprivileged Thread mode: what an instruction leaves of them, and what MSR and CPS do there.
 use Rattle.std.proofs.Common.{◌≡◌, ℕ, true, false, refl, ◌∙◌}
+use Rattle.std.proofs.lemmas.Bool.{cond_both}
 use Rattle.reference.specs.declared.operands.ChangeProcessorState.{ChangeProcessorState}
 use Rattle.reference.specs.declared.operands.SpecialRegister.{SpecialRegister}
 use Rattle.reference.specs.declared.operands.SpecialRegister.TheVariants.{Apsr, Iapsr, Eapsr, Xpsr}
@@ -7,7 +8,6 @@ use Rattle.reference.specs.Priorities.{Nvic}
 use Rattle.reference.specs.Registers.{Registers, is_handler, is_privileged}
 use Rattle.reference.specs.SpecialRegisters.{is_open, with_special, write_special, write_mask, change_state}
 use Rattle.state_laws.proofs.Effects.{KeepsWrites}
-use Rattle.state_laws.proofs.Nvic.{either}
 
 -- IPSR is 0 and CONTROL.nPRIV is 1
 pub record IsUnprivileged (r : Registers) : Type 0 where
@@ -62,7 +62,7 @@ pub special_kept : (r : Registers) (special : SpecialRegister) (value : ℕ) →
 unfolding write_special
 special_kept r special value u =
     rw (unprivileged_is r u)
-    (either IsUnprivileged (is_open special) _ _ (λ e. open_kept r special value e u) (λ e. u))
+    (cond_both (is_open special) _ _ IsUnprivileged (λ e. open_kept r special value e u) (λ e. u))
 
 -- MSR writes no mask
 pub mask_kept : (r : Registers) (n : Nvic) (special : SpecialRegister) (value : ℕ) → IsUnprivileged r →

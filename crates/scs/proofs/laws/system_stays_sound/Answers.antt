@@ -1,5 +1,4 @@
-use Rattle.scs.proofs.Boards.{masks, change}
-use Rattle.scs.proofs.Sound.{nvic_changed, access_sound, tick_sound, deactivated_sound, reset_sound}
+use Rattle.scs.proofs.Sound.{access_sound, tick_sound, msr_sound, cps_sound, deactivated_sound, reset_sound}
 use Rattle.scs.proofs.laws.system_stays_sound.Goals as goal
 
 pub returns-clause-reset : goal.returns-clause-reset
@@ -12,10 +11,10 @@ pub returns-clause-tick : goal.returns-clause-tick
 returns-clause-tick c = tick_sound
 
 pub returns-clause-msr : goal.returns-clause-msr
-returns-clause-msr c = λ privileged s special value h. nvic_changed s _ h (masks privileged s.nvic special value h.nvic)
+returns-clause-msr c = msr_sound
 
 pub returns-clause-cps : goal.returns-clause-cps
-returns-clause-cps c = λ privileged s o h. nvic_changed s _ h (change privileged s.nvic o h.nvic)
+returns-clause-cps c = cps_sound
 
 pub returns-clause-deactivation : goal.returns-clause-deactivation
 returns-clause-deactivation c = deactivated_sound

@@ -1,0 +1,176 @@
+-- If the small changes of the exceptions, the registers of SysTick and those of the MPU keep what holds of the parts of
+-- the System Control Space, so do each access, MSR, CPS, each tick, and the begin and the end of a handler.
+use Rattle.std.proofs.Common.{ℕ, ◌+◌, ◌*◌, ◌/◌, Bool, true, false, not, ◌||◌, ◌==◌, Result, Ok, Err}
+use Rattle.std.proofs.lemmas.Bool.{cond_both}
+use Rattle.reference.specs.declared.access.Request.{Request}
+use Rattle.reference.specs.declared.exception.TheConstants.{NMI}
+use Rattle.reference.specs.declared.mpu.MpuRegister.{MpuRegister}
+use Rattle.reference.specs.declared.mpu.MpuStop.{MpuStop}
+use Rattle.reference.specs.declared.operands.ChangeProcessorState.{ChangeProcessorState}
+use Rattle.reference.specs.declared.operands.SpecialRegister.{SpecialRegister}
+use Rattle.reference.specs.declared.stop.Stop.{Stop}
+use Rattle.reference.specs.declared.system.SysTickRegister.{SysTickRegister}
+use Rattle.reference.specs.declared.system.SystemRegister.{SystemRegister}
+use Rattle.reference.specs.declared.system.SystemRegister.TheVariants as register
+use Rattle.reference.specs.ExceptionEntry.{activated}
+use Rattle.reference.specs.ExceptionReturn.{exception_ended}
+use Rattle.reference.specs.Kinds.{bytes_in, is_load, is_store}
+use Rattle.reference.specs.Priorities.{Nvic, with_pending, with_active}
+use Rattle.reference.specs.Regions.{Mpu, after_write, write as write_mpu}
+use Rattle.reference.specs.SpecialRegisters.{with_mask, write_mask, change_state}
+use Rattle.reference.specs.Status.{Status, write_status}
+use Rattle.reference.specs.System.{System, SystemAnswer, replied, with_nvic, nvic_written, status_written, mpu_written}
+use Rattle.reference.specs.System.{first_byte, in_place, after_read, register_written, has_access, has_width}
+use Rattle.reference.specs.System.{register_access, system_access, register_at, after_tick, is_held, deactivated}
+use Rattle.reference.specs.SysTickRegisters.{after_systick_read, write_systick}
+use Rattle.reference.specs.Time.{Time, tick_pends, time_after_tick}
+use Rattle.nvic.proofs.Changes.{IsKept, IfDone, interrupts_kept, priorities_kept, triggered_kept, control_kept}
+use Rattle.nvic.proofs.Changes.{shcsr_kept, mask_kept, write_mask_kept, state_kept, activated_kept, pended_kept}
+
+-- what holds of the exceptions, of time and of the MPU's registers
+pub record Parts : Type 1 where
+  pub nvic : Nvic → Type 0
+  pub time : Time → Type 0
+  pub mpu : Mpu → Type 0
+
+pub record HasParts (P : Parts) (s : System) : Type 0 where
+  pub nvic : P.nvic s.nvic
+  pub time : P.time s.time
+  pub mpu : P.mpu s.mpu
+
+-- each change of a part alone keeps what holds of it
+pub record PartsAreKept (P : Parts) : Type 0 where
+  pub nvic : IsKept P.nvic
+  pub read : (t : Time) (it : SysTickRegister) → P.time t
+      → P.time (record t { systick = after_systick_read t.systick it })
+  pub written : (t : Time) (it : SysTickRegister) (value : ℕ) → P.time t
+      → P.time (record t { systick = write_systick t.systick it value })
+  pub mpu : (m : Mpu) (it : MpuRegister) (value : ℕ) → P.mpu m → P.mpu (after_write m (write_mpu m it value))
+
+module _ {P : Parts} (k : PartsAreKept P) where
+  pub with_nvic_kept : (s : System) (n : Nvic) → P.nvic n → HasParts P s → HasParts P (with_nvic s n)
+  with_nvic_kept s n new h = record { nvic = new; time = h.time; mpu = h.mpu }
+
+  pub with_status_kept : (s : System) (st : Status) → HasParts P s → HasParts P (record s { status = st })
+  with_status_kept s st h = record { nvic = h.nvic; time = h.time; mpu = h.mpu }
+
+  -- ---- a write
+
+  nvic_done : (s : System) (r : Result Nvic Stop) → HasParts P s → IfDone P.nvic r
+      → IfDone (HasParts P) (nvic_written s r)
+  nvic_done s (Ok n) h new = with_nvic_kept s n new h
+  nvic_done s (Err why) h new = tt
+
+  status_done : (s : System) (r : Result Status Stop) → HasParts P s → IfDone (HasParts P) (status_written s r)
+  status_done s (Ok st) h = with_status_kept s st h
+  status_done s (Err why) h = tt
+
+  mpu_done : (s : System) (r : Result Mpu MpuStop) → HasParts P s → P.mpu (after_write s.mpu r)
+      → IfDone (HasParts P) (mpu_written s r)
+  mpu_done s (Ok m) h new = record { nvic = h.nvic; time = h.time; mpu = new }
+  mpu_done s (Err why) h new = tt
+
+  written_kept : (s : System) (q : Request) (it : SystemRegister) → HasParts P s
+      → IfDone (HasParts P) (register_written s q it)
+  unfolding register_written
+  written_kept s q register.Ictr h = h
+  written_kept s q (register.SysTick it) h =
+      record { nvic = h.nvic; time = k.written s.time it q.value h.time; mpu = h.mpu }
+  written_kept s q (register.Interrupts it word) h =
+      with_nvic_kept s _ (interrupts_kept k.nvic s.nvic it word q.value h.nvic) h
+  written_kept s q (register.Priorities first) h =
+      with_nvic_kept s _
+      (priorities_kept k.nvic s.nvic (first + first_byte q.access.size q.access.address) q.value
+      (bytes_in q.access.size) h.nvic)
+      h
+  written_kept s q (register.Control it) h = nvic_done s _ h (control_kept k.nvic s.nvic it q.value h.nvic)
+  written_kept s q register.Shcsr h = nvic_done s _ h (shcsr_kept k.nvic s.nvic q.value h.nvic)
+  written_kept s q (register.Status it) h = status_done s (write_status s.status it (in_place q)) h
+  written_kept s q (register.Mpu it) h =
+      mpu_done s (write_mpu s.mpu it q.value) h (k.mpu s.mpu it q.value h.mpu)
+  written_kept s q register.Stir h = with_nvic_kept s _ (triggered_kept k.nvic s.nvic q.value h.nvic) h
+  written_kept s q register.Unlisted h = h
+
+  -- ---- an access
+
+  read_kept : (s : System) (it : SystemRegister) → HasParts P s → HasParts P (after_read s it)
+  unfolding after_read
+  read_kept s register.Ictr h = h
+  read_kept s (register.SysTick it) h = record { nvic = h.nvic; time = k.read s.time it h.time; mpu = h.mpu }
+  read_kept s (register.Interrupts it word) h = h
+  read_kept s (register.Priorities first) h = h
+  read_kept s (register.Control it) h = h
+  read_kept s register.Shcsr h = h
+  read_kept s (register.Status it) h = h
+  read_kept s (register.Mpu it) h = h
+  read_kept s register.Stir h = h
+  read_kept s register.Unlisted h = h
+
+  replied_kept : (s : System) (r : Result System Stop) → HasParts P s → IfDone (HasParts P) r
+      → HasParts P (replied s r).system
+  replied_kept s (Ok after) h new = new
+  replied_kept s (Err why) h new = h
+
+  abbrev LeavesParts : SystemAnswer → Type 0
+  LeavesParts r = HasParts P r.system
+
+  register_kept : (x : ℕ) (s : System) (q : Request) (it : SystemRegister) → HasParts P s
+      → LeavesParts (register_access x s q it)
+  unfolding register_access
+  register_kept x s q it h =
+      cond_both (not (has_access s q)) _ _ LeavesParts (λ e. h)
+      (λ e. cond_both (not (has_width it q.access.size)) _ _ LeavesParts (λ f. h)
+      (λ f. cond_both (is_store q.access.kind) _ _ LeavesParts
+      (λ g. replied_kept s (register_written s q it) h (written_kept s q it h)) (λ g. read_kept s it h)))
+
+  pub access_kept : (x : ℕ) (s : System) (q : Request) → HasParts P s → HasParts P (system_access x s q).system
+  unfolding system_access
+  access_kept x s q h =
+      cond_both (is_load q.access.kind || is_store q.access.kind) _ _ LeavesParts
+      (λ e. register_kept x s q (register_at (q.access.address / 4 * 4)) h) (λ e. h)
+
+  -- ---- changes by the processor
+
+  pub pending_kept : (s : System) (x : ℕ) (on : Bool) → HasParts P s
+      → HasParts P (with_nvic s (with_pending s.nvic x on))
+  pending_kept s x on h = with_nvic_kept s _ (k.nvic.pending s.nvic x on h.nvic) h
+
+  pub begun_kept : (s : System) (x : ℕ) → HasParts P s → HasParts P (with_nvic s (activated s.nvic x))
+  begun_kept s x h = with_nvic_kept s _ (activated_kept k.nvic s.nvic x h.nvic) h
+
+  pub placed_kept : (s : System) (special : SpecialRegister) (value : ℕ) → HasParts P s
+      → HasParts P (with_nvic s (with_mask s.nvic special value))
+  placed_kept s special value h = with_nvic_kept s _ (mask_kept k.nvic s.nvic special value h.nvic) h
+
+  pub msr_kept : (s : System) (privileged : Bool) (special : SpecialRegister) (value : ℕ) → HasParts P s
+      → HasParts P (with_nvic s (write_mask privileged s.nvic special value))
+  msr_kept s privileged special value h =
+      with_nvic_kept s _ (write_mask_kept k.nvic privileged s.nvic special value h.nvic) h
+
+  pub cps_kept : (s : System) (privileged : Bool) (o : ChangeProcessorState) → HasParts P s
+      → HasParts P (with_nvic s (change_state privileged s.nvic o))
+  cps_kept s privileged o h = with_nvic_kept s _ (state_kept k.nvic privileged s.nvic o h.nvic) h
+
+  -- ---- a tick, and the end of a handler
+
+  pub tick_kept : (s : System) → P.time (time_after_tick s.time) → HasParts P s → HasParts P (after_tick s)
+  unfolding after_tick
+  tick_kept s time h = record {
+    nvic = pended_kept P.nvic (tick_pends s.time) (λ n x e p. k.nvic.pending n x true p) s.nvic h.nvic;
+    time = time;
+    mpu = h.mpu;
+  }
+
+  pub deactivated_kept : (s : System) (x : ℕ) → HasParts P s → HasParts P (deactivated s x)
+  unfolding deactivated
+  deactivated_kept s x h =
+      let idle = k.nvic.active s.nvic x false h.nvic in
+      cond_both (is_held s x) _ _ (HasParts P)
+      (λ e. with_nvic_kept s _ (k.nvic.pending (with_active s.nvic x false) x true idle) h)
+      (λ e. with_nvic_kept s _ idle h)
+
+  pub ended_kept : (s : System) (x : ℕ) → HasParts P s → HasParts P (exception_ended s x)
+  ended_kept s x h =
+      let after = deactivated_kept s x h in
+      cond_both (x == NMI) _ _ (HasParts P) (λ e. after)
+      (λ e. with_nvic_kept (deactivated s x) _ (k.nvic.faultmask (deactivated s x).nvic false after.nvic) after)
