@@ -32,5 +32,5 @@ pub use task::end_of_task;
 pub use task_laws::{StepKind, TaskEnd};
 pub use trace::lines::{Text, event_line, stop_line};
 pub use trace::selection::TraceSelection;
-pub use trace::sink::Events;
+pub use trace::sink::{Events, Sink};
 pub use whole::{Fast, Machine, RunFault, Slow};

@@ -8,6 +8,7 @@ ghost use Rattle.reference.specs.Status.{read_status};
 
 use crate::stepping::Processor;
 use access::{CodeLines, Decider, DueTicks, Levels};
+use mpu::MpuRegs;
 use reference::system::StatusRegister;
 
 /// The values of the core registers, each as a word.
@@ -82,6 +83,14 @@ impl<D: Decider, C: CodeLines, L: Levels, U: DueTicks> Processor<D, C, L, U> {
         ensures { result ≡ byte_at self.now.bus.memory address }
     {
         self.bus().space().byte(address)
+    }
+
+    /// The registers of the MPU.
+    #[inline]
+    pub fn mpu(&self) -> &MpuRegs
+        ensures { result.now ≡ self.now.bus.system.mpu }
+    {
+        self.bus().system.mpu()
     }
 
     /// RBAR and RASR of a region, if there is one of that number.

@@ -1,6 +1,6 @@
 //! The machine that a user has: a core, and whether its trace is still whole.
 
-ghost use Rattle.std.specs.Prelude.{◌≡◌, length, ◌↔◌, ◌≤◌, false, true, Ok, Err, IfOk, IfErr, OnOk};
+ghost use Rattle.std.specs.Prelude.{◌≡◌, [], length, ◌↔◌, ◌≤◌, false, true, Ok, Err, IfOk, IfErr, OnOk};
 ghost use Rattle.board.specs.Seen.{described};
 ghost use Rattle.machine.specs.Runs.{Fails};
 ghost use Rattle.machine.specs.Selected.{SelectedFails};
@@ -20,6 +20,7 @@ ghost use Rattle.reference.specs.Text.{lines};
 ghost use Rattle.std.specs.Io.KnownBytes.{Appends};
 ghost use Rattle.task_laws.specs.Foresight.{next_kind_of};
 ghost use Rattle.task_laws.specs.Tasks.{is_task};
+ghost use Rattle.trace.specs.Emission.{with_emitted};
 ghost use Rattle.trace.specs.Selection.{selected_trace};
 
 use crate::readers::{Execution, RegValues};
@@ -34,6 +35,7 @@ use board::Board;
 use code_lines::BoardLines;
 use decode::Reread;
 use elf::Image;
+use mpu::MpuRegs;
 use output::{
     AllEvents, ConsoleBytes, ExceptionEvents, IoFault, LineRoom, NoEvents, Out, RefusedEvents, View,
 };
@@ -47,7 +49,7 @@ use std::alloc::Global;
 use std::marker::Model;
 use task_laws::{StepKind, TaskEnd};
 use trace::selection::TraceSelection;
-use trace::sink::Events;
+use trace::sink::{Events, Sink};
 
 /// Why a run failed.
 #[derive(Clone, Copy)]
@@ -108,6 +110,16 @@ impl<D: Decider, C: CodeLines, L: Levels, U: DueTicks> Machine<D, C, L, U> {
         self.core.step(events);
         prove!(events.len() <= MOST_EVENTS);
         self.core.stop()
+    }
+
+    /// Makes a step. `events`, which has taken no event yet, takes its events.
+    #[inline]
+    pub fn step_into<S: Sink>(&mut self, events: &mut S)
+        requires { (S.emitted events.old).events ≡ [] }
+        ensures state { self.new ≡ record self.old { state = (step self.old.state).state } }
+        ensures events { S.emitted events.new ≡ with_emitted (S.emitted events.old) ((step self.old.state).events) }
+    {
+        self.core.step(events);
     }
 
     /// Makes a step and writes its lines. `room` is a buffer for one line, the same at each step. On an error
@@ -291,6 +303,14 @@ impl<D: Decider, C: CodeLines, L: Levels, U: DueTicks> Machine<D, C, L, U> {
         ensures { result ≡ byte_at self.now.state.bus.memory address }
     {
         self.core.byte(address)
+    }
+
+    /// Returns the registers of the MPU.
+    #[inline]
+    pub fn mpu(&self) -> &MpuRegs
+        ensures { result.now ≡ self.now.state.bus.system.mpu }
+    {
+        self.core.mpu()
     }
 
     /// Returns RBAR (with VALID 0 and REGION `number`) and RASR of a region, if there is one of that

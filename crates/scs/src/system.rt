@@ -181,6 +181,14 @@ impl<D: Decider, L: Levels, U: DueTicks> System<D, L, U> {
         &self.status
     }
 
+    /// Returns the registers of the MPU.
+    #[inline]
+    pub fn mpu(&self) -> &MpuRegs
+        ensures { result.now ≡ self.now.mpu }
+    {
+        &self.mpu
+    }
+
     /// Returns RBAR (with VALID 0 and REGION `number`) and RASR of a region, if there is one.
     pub fn region(&self, number: u8) -> Option<(u32, u32)>
         ensures { result ≡ shown self.now.mpu number }

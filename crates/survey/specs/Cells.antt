@@ -71,11 +71,14 @@ touched_at c privileged touch a =
 abbrev pub last_byte : DecidedAccess → ℕ
 last_byte d = d.access.address + (bytes_in d.access.size - 1)
 
+-- after it touched the bytes at two addresses
+abbrev pub touched_both : Cells → Bool → Touch → ℕ → ℕ → Cells
+touched_both c privileged touch first last = touched_at (touched_at c privileged touch first) privileged touch last
+
 -- after an access that touches memory so: it has at most four bytes, which lie in the cells of its first and last byte
 abbrev pub touched : Cells → DecidedAccess → Option Touch → Cells
 touched c d None = c
-touched c d (Some touch) =
-    touched_at (touched_at c d.access.privileged touch d.access.address) d.access.privileged touch (last_byte d)
+touched c d (Some touch) = touched_both c d.access.privileged touch d.access.address (last_byte d)
 
 -- after an access
 abbrev pub with_touch : Cells → DecidedAccess → Cells

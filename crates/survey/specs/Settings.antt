@@ -5,6 +5,7 @@ use Rattle.reference.specs.declared.access.DecidedAccess.{DecidedAccess}
 use Rattle.reference.specs.declared.access.Rule.{Rule}
 use Rattle.reference.specs.declared.access.Rule.TheVariants.{NeverExecute, VectorRead, PrivatePeripheralBus, MpuOff}
 use Rattle.reference.specs.declared.access.Rule.TheVariants.{NegativePriority, Region, Background, NoRegion}
+use Rattle.reference.specs.Regions.{Mpu, shown}
 use Rattle.survey.specs.declared.setting.RegionSetting.{RegionSetting}
 use Rattle.survey.specs.declared.setting.Setting.{Setting}
 use Rattle.survey.specs.Counts.{counted_at, one_more, way_of}
@@ -64,7 +65,7 @@ counted_from s region way place =
 unfoldable pub with_setting : Settings → RegionSetting → ℕ → Settings
 with_setting s region way = counted_from s region way (place_in region (take s.used s.rows))
 
--- the setting of a region, of a list of RBAR and RASR by the regions' numbers
+-- the setting of the region of a number, by its RBAR and RASR, if there is such a region
 abbrev pub setting_of : ℕ → Option (ℕ × ℕ) → Option RegionSetting
 setting_of number None = None
 setting_of number (Some pair) = Some (record { number = number; base = pair.0; attributes = pair.1 })
@@ -73,19 +74,19 @@ abbrev pub with_setting_of : Settings → Option RegionSetting → ℕ → Setti
 with_setting_of s None way = s
 with_setting_of s (Some region) way = with_setting s region way
 
--- after an access that was decided by a rule, while the regions had these settings
-abbrev pub with_rule : List (Option (ℕ × ℕ)) → Settings → ℕ → Rule → Settings
-with_rule regions s way NeverExecute = s
-with_rule regions s way VectorRead = s
-with_rule regions s way PrivatePeripheralBus = s
-with_rule regions s way MpuOff = s
-with_rule regions s way NegativePriority = s
-with_rule regions s way Background = s
-with_rule regions s way NoRegion = s
-with_rule regions s way (Region number) =
-    with_setting_of s (setting_of number (slice_index_or regions number None)) way
+-- after an access that was decided by a rule, while the MPU had these registers
+abbrev pub with_rule : Mpu → Settings → ℕ → Rule → Settings
+with_rule mpu s way NeverExecute = s
+with_rule mpu s way VectorRead = s
+with_rule mpu s way PrivatePeripheralBus = s
+with_rule mpu s way MpuOff = s
+with_rule mpu s way NegativePriority = s
+with_rule mpu s way Background = s
+with_rule mpu s way NoRegion = s
+with_rule mpu s way (Region number) =
+    with_setting_of s (setting_of number (shown mpu number)) way
 
 -- after an access
-abbrev pub with_decision : List (Option (ℕ × ℕ)) → Settings → DecidedAccess → Settings
-with_decision regions s d =
-    with_rule regions s (way_of d.access.privileged d.access.kind d.refused) d.rule
+abbrev pub with_decision : Mpu → Settings → DecidedAccess → Settings
+with_decision mpu s d =
+    with_rule mpu s (way_of d.access.privileged d.access.kind d.refused) d.rule

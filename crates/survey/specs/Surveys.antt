@@ -6,7 +6,6 @@ use Rattle.reference.specs.declared.event.EventKind.{EventKind}
 use Rattle.reference.specs.declared.event.EventKind.TheVariants.{Accessed, ConsoleByte, ReturnBegan, HandlerEntered}
 use Rattle.reference.specs.declared.event.EventKind.TheVariants.{FaultRecorded}
 use Rattle.reference.specs.declared.stop.Stop.{Stop}
-use Rattle.reference.specs.Regions.{Mpu, shown}
 use Rattle.reference.specs.Registers.{is_privileged}
 use Rattle.reference.specs.Run.{after}
 use Rattle.reference.specs.State.{State}
@@ -20,12 +19,6 @@ use Rattle.survey.specs.Refusals.{with_decided, with_fault, with_end}
 use Rattle.survey.specs.Settings.{with_decision}
 use Rattle.survey.specs.Timeline.{with_accessed_mark, with_tick}
 
--- RBAR and RASR of the 16 regions that an MPU can have, by their numbers: None for those that it doesn't have
-abbrev pub regions_of : Mpu → List (Option (ℕ × ℕ))
-regions_of m =
-    shown m 0 ∷ shown m 1 ∷ shown m 2 ∷ shown m 3 ∷ shown m 4 ∷ shown m 5 ∷ shown m 6 ∷ shown m 7 ∷ shown m 8
-    ∷ shown m 9 ∷ shown m 10 ∷ shown m 11 ∷ shown m 12 ∷ shown m 13 ∷ shown m 14 ∷ shown m 15 ∷ []
-
 -- what a survey takes from the state in which a step begins
 unfoldable pub moment_of : State → Moment
 moment_of s = record {
@@ -33,14 +26,14 @@ moment_of s = record {
   exception = s.registers.exception;
   privileged = is_privileged s.registers;
   asleep = s.asleep;
-  regions = regions_of s.bus.system.mpu;
+  mpu = s.bus.system.mpu;
 }
 
 -- a survey after an access of a step that began at a moment
 abbrev pub with_accessed : Moment → Survey → ℕ → DecidedAccess → Survey
 with_accessed m v tick d = record v {
   counts = with_access v.counts d;
-  settings = with_decision m.regions v.settings d;
+  settings = with_decision m.mpu v.settings d;
   refusals = with_decided m.pc v.refusals tick d;
   flash = with_touch v.flash d;
   ram = with_touch v.ram d;

@@ -121,6 +121,10 @@ lanes_after handlers m =
 abbrev pub with_handler : Timeline → ℕ → Timeline
 with_handler t exception = record t { handlers = with_lane t.handlers exception (lane_in exception t.handlers) }
 
+-- the last tick is that of a step of the handler of an exception
+abbrev pub handled : Timeline → ℕ → Timeline
+handled t exception = marked (with_handler t exception) (handler_mark (lane_in exception t.handlers))
+
 -- the last tick is that of a step that begins at a moment
 abbrev pub ran : Timeline → Moment → Timeline
 ran t m = marked (record t { handlers = lanes_after t.handlers m }) (running_mark t.handlers m)

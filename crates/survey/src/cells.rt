@@ -1,7 +1,7 @@
 //! Which cells of a memory were touched, by whom and how.
 
 ghost use Rattle.std.specs.Prelude.{◌≡◌, ◌<◌, ◌≤◌, ◌+◌, ◌*◌, ◌^◌, IfOk, replicate, false};
-ghost use Rattle.survey.specs.Cells.{is_marked, mark_of, touched, touched_at, width_of};
+ghost use Rattle.survey.specs.Cells.{is_marked, mark_of, touched, touched_at, touched_both, width_of};
 
 use crate::counts::privilege_number;
 use crate::touch::Touch;
@@ -67,14 +67,55 @@ impl Cells {
             Some(touch) => {
                 let first = u64::from(decided.access.address);
                 let last = first + u64::from(decided.access.size.bytes() - 1);
-                self.mark_at(decided.access.privileged, touch, first);
-                self.mark_at(decided.access.privileged, touch, last);
+                self.mark_both(decided.access.privileged, touch, first, last);
             }
         }
     }
 
+    /// Marks the cells of the first and the last address of an access, if the memory has a byte there.
+    #[inline(always)]
+    fn mark_both(&mut self, privileged: bool, touch: Touch, first: u64, last: u64)
+        requires { first ≤ last }
+        ensures { self.new ≡ touched_both self.old privileged touch first last }
+    {
+        let base = u64::from(self.base);
+        if base <= first {
+            if last - base < u64::from(self.size) {
+                self.mark_within(privileged, touch, first - base, last - base);
+            } else if first - base < u64::from(self.size) {
+                self.mark_partly(privileged, touch, first, last);
+            }
+        } else if base <= last {
+            self.mark_partly(privileged, touch, first, last);
+        }
+    }
+
+    /// Marks the cells of two bytes of the memory, by their places in it.
+    #[inline(always)]
+    fn mark_within(&mut self, privileged: bool, touch: Touch, first: u64, last: u64)
+        requires first { first < self.old.size }
+        requires last { last < self.old.size }
+        ensures { self.new ≡ touched_both self.old privileged touch (self.old.base + first) (self.old.base + last) }
+    {
+        let width = self.width;
+        let one = mark_of(privileged, touch, (first >> width) as usize);
+        let other = mark_of(privileged, touch, (last >> width) as usize);
+        let marks = self.marks.as_mut_slice();
+        marks[one] = true;
+        marks[other] = true;
+    }
+
+    /// Marks the cells of the first and the last address of an access, of which the memory may not have all bytes.
+    #[cold]
+    #[inline(never)]
+    fn mark_partly(&mut self, privileged: bool, touch: Touch, first: u64, last: u64)
+        ensures { self.new ≡ touched_both self.old privileged touch first last }
+    {
+        self.mark_at(privileged, touch, first);
+        self.mark_at(privileged, touch, last);
+    }
+
     /// Marks the cell of an address, if the memory has a byte there.
-    #[inline]
     fn mark_at(&mut self, privileged: bool, touch: Touch, address: u64)
         ensures { self.new ≡ touched_at self.old privileged touch address }
     {
@@ -110,7 +151,7 @@ impl Cells {
 }
 
 /// Returns the place of the mark of a cell that code of a privilege touched so.
-#[inline]
+#[inline(always)]
 fn mark_of(privileged: bool, touch: Touch, cell: usize) -> usize
     requires { cell < MOST_CELLS }
     ensures value { result ≡ mark_of privileged touch cell }

@@ -39,6 +39,7 @@ impl Counts {
     }
 
     /// Counts an access. A counter stays at its highest value, 2^64 - 1.
+    #[inline(always)]
     pub fn count(&mut self, decided: &DecidedAccess)
         ensures { self.new ≡ with_access self.old decided.now }
     {
@@ -55,7 +56,7 @@ impl Counts {
 }
 
 /// Returns the place of the counter of an access.
-#[inline]
+#[inline(always)]
 pub fn place_of_access(decided: &DecidedAccess) -> usize
     ensures value { result ≡ place_of_access decided.now }
     ensures within { result < COUNTERS }
@@ -69,7 +70,7 @@ pub fn place_of_access(decided: &DecidedAccess) -> usize
 }
 
 /// Returns the place of the counter of a rule, privilege, kind and outcome.
-#[inline]
+#[inline(always)]
 fn place(rule: Rule, privileged: bool, kind: Kind, refused: Option<Cause>) -> usize
     ensures value { result ≡ place_of rule privileged kind refused }
     ensures within { result < COUNTERS }
@@ -78,7 +79,7 @@ fn place(rule: Rule, privileged: bool, kind: Kind, refused: Option<Cause>) -> us
 }
 
 /// Returns the place of the counter of a privilege, kind and outcome, among those of one rule.
-#[inline]
+#[inline(always)]
 pub fn way(privileged: bool, kind: Kind, refused: Option<Cause>) -> usize
     ensures value { result ≡ way_of privileged kind refused }
     ensures within { result < WAYS }
@@ -87,8 +88,27 @@ pub fn way(privileged: bool, kind: Kind, refused: Option<Cause>) -> usize
 }
 
 /// Returns the number of a rule: the regions follow the seven others.
-#[inline]
+#[inline(always)]
 fn rule_number(rule: Rule) -> usize
+    ensures value { result ≡ rule_number rule }
+    ensures within { result < 263 }
+{
+    // Few tests, not a table of jumps, for the rules that decide most accesses.
+    if let Rule::Region(number) = rule {
+        7 + number as usize
+    } else if matches!(rule, Rule::MpuOff) {
+        3
+    } else if matches!(rule, Rule::Background) {
+        5
+    } else {
+        rare_number(rule)
+    }
+}
+
+/// Returns the number of a rule, likewise, for the rules that decide few accesses: out of the way of the others.
+#[cold]
+#[inline(never)]
+fn rare_number(rule: Rule) -> usize
     ensures value { result ≡ rule_number rule }
     ensures within { result < 263 }
 {
@@ -105,7 +125,7 @@ fn rule_number(rule: Rule) -> usize
 }
 
 /// Returns the number of a privilege.
-#[inline]
+#[inline(always)]
 pub fn privilege_number(privileged: bool) -> usize
     ensures value { result ≡ privilege_number privileged }
     ensures within { result < 2 }
@@ -114,7 +134,7 @@ pub fn privilege_number(privileged: bool) -> usize
 }
 
 /// Returns the number of a kind of access.
-#[inline]
+#[inline(always)]
 fn kind_number(kind: Kind) -> usize
     ensures value { result ≡ kind_number kind }
     ensures within { result < 7 }
@@ -131,7 +151,7 @@ fn kind_number(kind: Kind) -> usize
 }
 
 /// Returns the number of an outcome.
-#[inline]
+#[inline(always)]
 fn outcome_number(refused: Option<Cause>) -> usize
     ensures value { result ≡ outcome_number refused }
     ensures within { result < 3 }

@@ -35,7 +35,7 @@ pub enum Mark {
 
 impl Mark {
     /// Returns its number: below 30 for the lanes that there are.
-    #[inline]
+    #[inline(always)]
     pub fn number(self) -> usize
         ensures { result ≡ mark_number self }
     {
@@ -51,7 +51,7 @@ impl Mark {
     }
 
     /// Returns the mark of a handler, by the lane of its exception; the number of lanes stands for none.
-    #[inline]
+    #[inline(always)]
     pub(crate) fn of_handler(lane: usize) -> Self
         ensures value { result ≡ handler_mark lane }
         ensures within { mark_number result < 30 }
@@ -64,7 +64,7 @@ impl Mark {
     }
 
     /// Returns the mark that an access makes: a refused one, and a write to a register of the MPU.
-    #[inline]
+    #[inline(always)]
     pub(crate) fn of_access(decided: &DecidedAccess) -> Option<Self>
         ensures value { result ≡ mark_of_access decided.now }
         ensures within { IfSome result (λ mark. mark_number mark < 30) }

@@ -1,9 +1,6 @@
 //! What a survey takes from the state in which a step begins.
 
-use reference::mpu::MOST_REGIONS;
-
-/// RBAR, with VALID 0 and REGION its number, and RASR of each region that there is, by the regions' numbers.
-pub type Regions = [Option<(u32, u32)>; MOST_REGIONS as usize];
+use mpu::MpuRegs;
 
 /// What a survey takes from the state in which a step begins.
 #[derive(Clone, Copy)]
@@ -16,6 +13,6 @@ pub struct Moment {
     pub privileged: bool,
     /// Whether WFI has put the core to sleep.
     pub asleep: bool,
-    /// The settings of the regions.
-    pub regions: Regions,
+    /// The registers of the MPU: the settings of the regions.
+    pub mpu: MpuRegs,
 }

@@ -64,7 +64,7 @@ impl Refusals {
     }
 
     /// Takes an access of an instruction at `pc`.
-    #[inline]
+    #[inline(always)]
     pub fn take_access(&mut self, pc: u32, tick: u64, decided: &DecidedAccess)
         ensures { self.new ≡ with_decided pc self.old tick decided.now }
     {
@@ -98,7 +98,7 @@ impl Refusals {
     }
 
     /// Ends a step: counts its refusal, if it had one.
-    #[inline]
+    #[inline(always)]
     pub fn end_step(&mut self)
         ensures { self.new ≡ with_end self.old }
     {
@@ -110,6 +110,7 @@ impl Refusals {
 
     /// Counts a refusal: in the last row where it repeats that one, otherwise in a new row where there is a
     /// place for one.
+    #[inline(never)]
     fn count(&mut self, refusal: &Refusal)
         ensures { self.new ≡ with_refusal self.old refusal.now }
     {

@@ -1,11 +1,12 @@
 //! The settings under which regions decided accesses.
 
-ghost use Rattle.std.specs.Prelude.{◌≡◌, ◌<◌, length, take, IfOk, slice_index_or, None};
+ghost use Rattle.std.specs.Prelude.{◌≡◌, ◌<◌, length, take, IfOk};
+ghost use Rattle.reference.specs.Regions.{shown};
 ghost use Rattle.survey.specs.Settings.{added, counted_from, place_in, setting_of, with_decision, with_setting};
 
 use crate::counts::{WAYS, way};
-use crate::moment::Regions;
 use crate::setting::{RegionSetting, Setting};
+use mpu::MpuRegs;
 use reference::access::{DecidedAccess, Rule};
 use std::alloc::{AllocError, Global};
 use std::marker::Model;
@@ -65,10 +66,10 @@ impl Settings {
         self.others
     }
 
-    /// Takes an access that was decided while the regions had these settings.
-    #[inline]
-    pub fn take_access(&mut self, regions: &Regions, decided: &DecidedAccess)
-        ensures { self.new ≡ with_decision regions.now self.old decided.now }
+    /// Takes an access that was decided while the MPU had these registers.
+    #[inline(always)]
+    pub fn take_access(&mut self, mpu: &MpuRegs, decided: &DecidedAccess)
+        ensures { self.new ≡ with_decision mpu.now self.old decided.now }
     {
         match decided.rule {
             Rule::NeverExecute => {}
@@ -79,7 +80,7 @@ impl Settings {
             Rule::Background => {}
             Rule::NoRegion => {}
             Rule::Region(number) => {
-                if let Some(region) = setting_of(regions, number) {
+                if let Some(region) = setting_of(mpu, number) {
                     let access = &decided.access;
                     let way = way(access.privileged, access.kind, decided.refused);
                     self.count(&region, way);
@@ -90,6 +91,7 @@ impl Settings {
 
     /// Counts an access of a way that a region's setting decided.
     #[tactic(auto, unfolding(crate::specs::Settings::with_setting))]
+    #[inline(never)]
     fn count(&mut self, region: &RegionSetting, way: usize)
         requires { way < WAYS }
         ensures { self.new ≡ with_setting self.old region.now way }
@@ -141,16 +143,16 @@ fn place_in(region: &RegionSetting, rows: &[Setting]) -> usize
 
 /// Returns the setting of the region of a number, if there is one.
 #[inline]
-fn setting_of(regions: &Regions, number: u8) -> Option<RegionSetting>
-    ensures { result ≡ setting_of number (slice_index_or regions.now number None) }
+fn setting_of(mpu: &MpuRegs, number: u8) -> Option<RegionSetting>
+    ensures { result ≡ setting_of number (shown mpu.now number) }
 {
-    match regions.get(number as usize) {
-        Some(Some((base, attributes))) => Some(RegionSetting {
-            number,
-            base: *base,
-            attributes: *attributes,
-        }),
-        Some(None) => None,
-        None => None,
+    if number >= mpu.count() {
+        return None;
     }
+    let region = mpu.at(number);
+    Some(RegionSetting {
+        number,
+        base: region.base + u32::from(number),
+        attributes: region.attributes,
+    })
 }

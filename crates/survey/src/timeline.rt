@@ -2,7 +2,7 @@
 
 ghost use Rattle.std.specs.Prelude.{◌≡◌, ◌<◌, ◌≤◌, ◌+◌, ◌^◌, [], length, IfOk, replicate};
 ghost use Rattle.reference.specs.Words.{is_bit};
-ghost use Rattle.survey.specs.Timeline.{begun, has_mark, joined, joined_to, lane_in, lanes_after, mark_number, marked, running_mark, with_accessed_mark, with_column, with_handler, with_tick};
+ghost use Rattle.survey.specs.Timeline.{begun, has_mark, joined, handled, joined_to, lane_in, mark_number, marked, ran, with_accessed_mark, with_column, with_handler, with_tick};
 
 use crate::mark::{MOST_LANES, Mark};
 use crate::moment::Moment;
@@ -96,18 +96,17 @@ impl Timeline {
     }
 
     /// Takes the tick of a step that begins at a moment.
-    #[inline]
+    #[inline(always)]
     #[tactic(auto, unfolding(crate::specs::Timeline::with_tick))]
     pub fn take_tick(&mut self, moment: &Moment)
         ensures { self.new ≡ with_tick self.old moment.now }
     {
         self.begin_tick();
-        let mark = self.take_running(moment);
-        self.mark(mark);
+        self.take_running(moment);
     }
 
     /// Takes an access of the step whose tick came last.
-    #[inline]
+    #[inline(always)]
     pub fn take_access(&mut self, decided: &DecidedAccess)
         ensures { self.new ≡ with_accessed_mark self.old decided.now }
     {
@@ -117,7 +116,7 @@ impl Timeline {
     }
 
     /// Begins a tick, and a column where the last one has all its ticks.
-    #[inline]
+    #[inline(always)]
     fn begin_tick(&mut self)
         ensures { self.new ≡ begun self.old }
     {
@@ -129,6 +128,7 @@ impl Timeline {
     }
 
     /// Begins a column, after joining neighbours where all columns have begun.
+    #[inline(never)]
     fn begin_column(&mut self)
         ensures { self.new ≡ with_column self.old }
     {
@@ -150,25 +150,31 @@ impl Timeline {
         self.column_ticks = self.column_ticks.saturating_mul(2);
     }
 
-    /// Returns what the core runs when a step begins. The exception of a handler gets a lane, if it has none and
-    /// there is room for one.
-    #[inline]
-    fn take_running(&mut self, moment: &Moment) -> Mark
-        ensures mark { result ≡ running_mark self.old.handlers moment.now }
-        ensures within { mark_number result < 30 }
-        ensures lanes { self.new ≡ record self.old { handlers = lanes_after self.old.handlers moment.now } }
+    /// Marks the last tick with what the core runs when its step begins.
+    #[inline(always)]
+    fn take_running(&mut self, moment: &Moment)
+        ensures { self.new ≡ ran self.old moment.now }
     {
         if moment.asleep {
-            Mark::Sleep
+            self.mark(Mark::Sleep);
         } else if moment.exception == 0 {
             if moment.privileged {
-                Mark::Privileged
+                self.mark(Mark::Privileged);
             } else {
-                Mark::Unprivileged
+                self.mark(Mark::Unprivileged);
             }
         } else {
-            Mark::of_handler(self.take_handler(moment.exception))
+            self.mark_handler(moment.exception);
         }
+    }
+
+    /// Marks the last tick as one of a handler. Its exception gets a lane, if it has none and there is room for one.
+    #[inline(never)]
+    fn mark_handler(&mut self, exception: u16)
+        ensures { self.new ≡ handled self.old exception }
+    {
+        let lane = self.take_handler(exception);
+        self.mark(Mark::of_handler(lane));
     }
 
     /// Returns the lane of an exception whose handler runs. It gets one, if it has none and there is room for one.
@@ -184,7 +190,7 @@ impl Timeline {
     }
 
     /// Marks the last column that has begun.
-    #[inline]
+    #[inline(always)]
     fn mark(&mut self, mark: Mark)
         requires { mark_number mark < 30 }
         ensures { self.new ≡ marked self.old mark }

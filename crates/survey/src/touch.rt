@@ -19,7 +19,7 @@ pub enum Touch {
 impl Touch {
     /// Returns what an access does to the memory that it touches; None for a probe that is granted, which
     /// writes nothing.
-    #[inline]
+    #[inline(always)]
     pub fn of(kind: Kind, refused: Option<Cause>) -> Option<Self>
         ensures { result ≡ touch_of kind refused }
     {
@@ -33,7 +33,7 @@ impl Touch {
     }
 
     /// Returns its number, from 0 to 3.
-    #[inline]
+    #[inline(always)]
     pub fn number(self) -> usize
         ensures value { result ≡ touch_number self }
         ensures within { result < 4 }

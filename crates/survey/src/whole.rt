@@ -71,7 +71,7 @@ impl Survey {
     }
 
     /// Begins a step at a moment, and counts it.
-    #[inline]
+    #[inline(always)]
     pub fn begin_step(&mut self, moment: &Moment)
         ensures { self.new ≡ with_step_begun moment.now self.old }
     {
@@ -89,7 +89,7 @@ impl Survey {
     }
 
     /// Counts an event of a step that began at a moment.
-    #[inline]
+    #[inline(always)]
     #[tactic(auto, unfolding(crate::specs::Surveys::with_event))]
     pub fn take(&mut self, moment: &Moment, tick: u64, what: &EventKind)
         ensures { self.new ≡ with_event moment.now self.old tick what.now }
@@ -104,12 +104,12 @@ impl Survey {
     }
 
     /// Counts an access of a step that began at a moment.
-    #[inline]
+    #[inline(always)]
     fn take_access(&mut self, moment: &Moment, tick: u64, decided: &DecidedAccess)
         ensures { self.new ≡ with_accessed moment.now self.old tick decided.now }
     {
         self.counts.count(decided);
-        self.settings.take_access(&moment.regions, decided);
+        self.settings.take_access(&moment.mpu, decided);
         self.refusals.take_access(moment.pc, tick, decided);
         let touch = Touch::of(decided.access.kind, decided.refused);
         self.flash.take_touch(decided, touch);
@@ -118,6 +118,7 @@ impl Survey {
     }
 
     /// Ends a step.
+    #[inline(always)]
     pub fn end_step(&mut self)
         ensures { self.new ≡ with_step_end self.old }
     {

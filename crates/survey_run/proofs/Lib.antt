@@ -1,1 +1,3 @@
 mod Counted
+mod OneMore
+mod Walks

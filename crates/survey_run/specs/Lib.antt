@@ -1,1 +1,2 @@
 pub use Rattle.survey.specs.Surveys
+pub mod Begun

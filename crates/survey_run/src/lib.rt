@@ -4,10 +4,15 @@
 ghost use Rattle.std.specs.Prelude.{◌≡◌, None};
 ghost use Rattle.reference.specs.Run.{after, ending_of};
 ghost use Rattle.reference.specs.Step.{step};
-ghost use Rattle.survey.specs.Surveys.{moment_of, regions_of, surveyed, with_made_step};
+ghost use Rattle.survey.specs.Surveys.{moment_of, surveyed, with_events, with_made_step};
 
-use machine::{CodeLines, Decider, DueTicks, Events, Levels, Machine, Stop};
-use survey::{Moment, Regions, Survey};
+mod counting;
+mod history;
+
+use counting::{Begun, CountedEvents};
+use machine::{CodeLines, Decider, DueTicks, Levels, Machine, Stop};
+use std::marker::Brand;
+use survey::{Moment, Survey};
 
 /// Makes at most `limit` steps, up to the first stop, and counts each of them. Writes nothing. Returns the stop,
 /// `StepLimit` where the machine hasn't stopped.
@@ -20,23 +25,21 @@ pub fn survey_run<D: Decider, C: CodeLines, L: Levels, U: DueTicks>(
     ensures survey { survey.new ≡ surveyed limit machine.old.state survey.old }
     ensures stop { result ≡ ending_of limit machine.old.state }
 {
-    let mut events = Events::new();
     let mut made = 0;
     'steps: while made < limit {
         if machine.stop().is_some() {
             break;
         }
         made += 1;
-        survey_step(machine, &mut events, survey);
+        survey_step(machine, survey);
     }
     machine.stop().unwrap_or(Stop::StepLimit)
 }
 
-/// Makes a step, and counts it. `events` becomes its events.
+/// Makes a step, and counts it.
 #[inline(always)]
 fn survey_step<D: Decider, C: CodeLines, L: Levels, U: DueTicks>(
     machine: &mut Machine<D, C, L, U>,
-    events: &mut Events,
     survey: &mut Survey,
 )
     ensures state { machine.new ≡ record machine.old { state = (step machine.old.state).state } }
@@ -44,9 +47,24 @@ fn survey_step<D: Decider, C: CodeLines, L: Levels, U: DueTicks>(
 {
     let moment = moment_of(machine);
     survey.begin_step(&moment);
-    let _ = machine.step(events);
-    survey.take_events(&moment, events.as_slice());
+    count_step::<Brand, D, C, L, U>(machine, &moment, survey);
     survey.end_step();
+}
+
+/// Makes a step that begins so, and counts its events.
+#[inline(always)]
+fn count_step<K: Begun, D: Decider, C: CodeLines, L: Levels, U: DueTicks>(
+    machine: &mut Machine<D, C, L, U>,
+    moment: &Moment,
+    survey: &mut Survey,
+)
+    requires moment { moment.now ≡ K.moment }
+    requires survey { survey.old ≡ K.survey }
+    ensures state { machine.new ≡ record machine.old { state = (step machine.old.state).state } }
+    ensures survey { survey.new ≡ with_events K.moment K.survey (step machine.old.state).events }
+{
+    let mut events = CountedEvents::<K>::new(survey, moment);
+    events.take_step(machine);
 }
 
 /// Returns what a survey takes from the state in which a step begins.
@@ -63,33 +81,6 @@ fn moment_of<D: Decider, C: CodeLines, L: Levels, U: DueTicks>(
         exception: execution.exception,
         privileged: execution.privileged,
         asleep: execution.asleep,
-        regions: regions_of(machine),
+        mpu: *machine.mpu(),
     }
-}
-
-/// Returns RBAR and RASR of the regions.
-#[inline]
-fn regions_of<D: Decider, C: CodeLines, L: Levels, U: DueTicks>(
-    machine: &Machine<D, C, L, U>,
-) -> Regions
-    ensures { result ≡ regions_of machine.now.state.bus.system.mpu }
-{
-    [
-        machine.region(0),
-        machine.region(1),
-        machine.region(2),
-        machine.region(3),
-        machine.region(4),
-        machine.region(5),
-        machine.region(6),
-        machine.region(7),
-        machine.region(8),
-        machine.region(9),
-        machine.region(10),
-        machine.region(11),
-        machine.region(12),
-        machine.region(13),
-        machine.region(14),
-        machine.region(15),
-    ]
 }

@@ -99,6 +99,14 @@ is_named_type type = nat_le type function_type
 abbrev pub undefined_section : ℕ
 undefined_section = 0
 
+-- SHN_ABS: the value of a symbol is a number, such as a size, and no address
+abbrev pub absolute : ℕ
+absolute = 0xFFF1
+
+-- whether a symbol lies in a section of the file, or in one that it shares, by its section's number
+abbrev pub has_section : ℕ → Bool
+has_section section = not (section == undefined_section) && not (section == absolute)
+
 -- the address of a symbol: that of a function without its Thumb bit
 abbrev pub address_of : ℕ → ℕ → ℕ
 address_of type value = if type == function_type then value / 2 * 2 else value
@@ -117,7 +125,7 @@ second_of table strings at = slice_index strings (st_name table at + 1)
 -- whether the symbol at a place of the table names an address
 abbrev pub names_address : List ℕ → List ℕ → ℕ → Bool
 names_address table strings at =
-    ((is_named_type (st_type table at) && not (st_shndx table at == undefined_section))
+    ((is_named_type (st_type table at) && has_section (st_shndx table at))
     && not (first_of table strings at == 0))
     && not (is_mapping (first_of table strings at) (second_of table strings at))
 

@@ -1,7 +1,7 @@
 //! The symbols of a table ("Symbol Table").
 
 ghost use Rattle.std.specs.Prelude.{◌≡◌, ◌+◌, ◌*◌, ◌≤◌, length, slice_index, IfOk, OnOk};
-ghost use Rattle.symbols.specs.Tables.{is_mapping, names_address, or_symbol, symbol_at, symbols_of, address_of};
+ghost use Rattle.symbols.specs.Tables.{has_section, is_mapping, names_address, or_symbol, symbol_at, symbols_of, address_of};
 
 use crate::number::{halfword, word};
 use crate::places::SYMBOL_SIZE;
@@ -11,6 +11,9 @@ use std::alloc::{AllocError, Global};
 const STT_FUNC: u8 = 2;
 
 const SHN_UNDEF: u16 = 0;
+
+/// The section of a symbol whose value is no address.
+const SHN_ABS: u16 = 0xFFF1;
 
 /// Returns the symbols of a table that name addresses, in its order.
 pub fn symbols_of(
@@ -54,9 +57,16 @@ fn names_address(table: &[u8], strings: &[u8], at: usize) -> bool
     let name = word(table, at) as usize;
     let first = byte_at(strings, name);
     table[at + 12] % 16 <= STT_FUNC
-        && halfword(table, at + 14) != SHN_UNDEF
+        && has_section(halfword(table, at + 14))
         && first != 0
         && !is_mapping(first, byte_at(strings, name + 1))
+}
+
+// Returns whether a symbol lies in a section, by its section's number.
+fn has_section(section: u16) -> bool
+    ensures { result ≡ has_section section }
+{
+    section != SHN_UNDEF && section != SHN_ABS
 }
 
 // Returns the byte at a place of the string table, 0 where it has none.

@@ -46,7 +46,7 @@ fn survey_step(machine: &mut Fast, survey: &mut Survey) -> Option<Stop> {
         exception: 0,
         privileged: true,
         asleep: false,
-        regions: [None; 16],
+        mpu: *machine.mpu(),
     };
     survey.begin_step(&moment);
     let stop = machine.step(&mut events);

@@ -1,4 +1,4 @@
-use Rattle.std.proofs.Common.{◌≡◌, ◌⊎◌, inl, inr, ◌∙◌, sym, refl, ap, arith, IsSome, is_some, false}
+use Rattle.std.proofs.Common.{◌≡◌, ◌⊎◌, inl, inr, ◌∙◌, sym, ap, arith, IsSome, is_some, false}
 use Rattle.machine.proofs.Running.{ends_so, not_some}
 use Rattle.machine.specs.Whole.{Whole}
 use Rattle.survey_run.proofs.Counted.{all_surveyed, machine_on, none_made, none_surveyed, surveyed_on, whole_made}

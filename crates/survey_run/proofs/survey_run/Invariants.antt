@@ -1,4 +1,4 @@
-use Rattle.std.proofs.Common.{◌≡◌, ℕ, ◌-◌, ◌<◌, ◌≤◌, None}
+use Rattle.std.proofs.Common.{◌≡◌, ◌-◌, ◌≤◌}
 use Rattle.reference.specs.Run.{after}
 use Rattle.survey.specs.Surveys.{surveyed}
 use Rattle.survey_run.proofs.survey_run.Given as goal

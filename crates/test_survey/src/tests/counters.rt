@@ -38,7 +38,7 @@ F 00000100 2 p ok off | F p ok bg | 0 | another rule
 L 20000000 4 u mpu r0 | L u mpu r0 | 1 | a load that a region refuses
 L 20000000 4 u mpu r0 | L u ok r0 | 0 | it isn't granted
 L 20000000 4 u mpu r0 | L u bus r0 | 0 | the bus doesn't refuse it
-L 20000000 4 u ok r7, L 20000000 4 u ok r0 | L u ok r7 | 1 | each region has counters of its own
+L 20000000 4 u ok r9, L 20000000 4 u ok r0 | L u ok r9 | 1 | each region has counters of its own
 K 20000000 4 p ok off | S p ok off | 0 | a push is no store
 U 20000000 4 u ok off | U u ok off | 1 | a pop has the privilege of the code to which it returns
 V 0000000C 4 p ok vec | V p ok vec | 1 | a vector

@@ -1,6 +1,7 @@
 //! The rows of settings and of refusals.
 
 use super::words::{moment, take_step};
+use mpu::MpuRegister;
 use reference::access::Kind;
 use reference::board::SMALL_BOARD;
 use std::alloc::Global;
@@ -8,11 +9,15 @@ use std::test::*;
 use survey::{Moment, Survey};
 use test_tables::{Rows, check, long_at, number_at, part};
 
-/// A moment at which region 0 has this RBAR.
-fn region_at(base: u32) -> Moment {
+/// A moment at which region 0, which RNR selects after a reset, has this address; None where RBAR doesn't take it.
+fn region_at(base: u32) -> Option<Moment> {
     let mut moment = moment('u', 0, 0x100);
-    moment.regions[0] = Some((base, 0x0300_0009));
+    moment.mpu.write_reg(MpuRegister::Base, base).ok()?;
     moment
+        .mpu
+        .write_reg(MpuRegister::Attributes, 0x0300_0009)
+        .ok()?;
+    Some(moment)
 }
 
 /// Surveys of steps whose settings differ, and of steps with the first setting after them.
@@ -25,10 +30,10 @@ impl Rows for Settings {
     fn holds(&mut self, row: &str) -> Option<bool> {
         let mut survey = Survey::new(self.alloc, &SMALL_BOARD).ok()?;
         'settings: for setting in 0..number_at(part(row, 0), 0)? {
-            let moment = region_at(setting.wrapping_mul(32));
+            let moment = region_at(setting.wrapping_mul(32))?;
             take_step(&mut survey, &moment, "L 20000000 4 u ok r0")?;
         }
-        take_step(&mut survey, &region_at(0), part(row, 1))?;
+        take_step(&mut survey, &region_at(0)?, part(row, 1))?;
         let (mut first, rows) = (0, survey.settings.rows());
         if let Some(setting) = rows.first() {
             first = setting.number(false, Kind::Load, None);
@@ -47,7 +52,7 @@ const SETTINGS: &str = "\
 1 | L 20000000 4 u ok r0 | 1 | 2 | 0 | the same setting
 1 | L 20000000 4 u mpu r0 | 1 | 1 | 0 | a refused load is another way
 1 | L 20000000 4 u ok off | 1 | 1 | 0 | another rule
-1 | L 20000000 4 u ok r7 | 1 | 1 | 0 | a region that isn't there
+1 | L 20000000 4 u ok r9 | 1 | 1 | 0 | a region that isn't there
 2 | L 20000000 4 u ok r0 | 2 | 2 | 0 | the setting before the last
 40 | | 40 | 1 | 0 | 64 settings
 41 | | 40 | 1 | 1 | the 65th setting has no row

@@ -1,5 +1,6 @@
 //! The words of the rows: events as lines of the trace have them, and what the core runs.
 
+use mpu::MpuRegs;
 use reference::access::{Access, Cause, DecidedAccess, Kind, Rule, Size};
 use reference::event::{EventKind, RecordedFault};
 use survey::{Moment, Survey, Touch};
@@ -34,7 +35,7 @@ const RULES: [(&str, Rule); 9] = [
     ("bg", Rule::Background),
     ("none", Rule::NoRegion),
     ("r0", Rule::Region(0)),
-    ("r7", Rule::Region(7)),
+    ("r9", Rule::Region(9)),
 ];
 
 const TOUCHES: [(&str, Touch); 4] = [
@@ -103,7 +104,7 @@ pub(super) fn moment(mode: char, exception: u16, pc: u32) -> Moment {
         exception: if mode == 'h' { exception } else { 0 },
         privileged: mode != 'u',
         asleep: mode == 's',
-        regions: [None; 16],
+        mpu: MpuRegs::new(8),
     }
 }
 

@@ -1,0 +1,10 @@
+use Rattle.survey_run.proofs.OneMore.{more_events, one_counted}
+use Rattle.survey_run.proofs.counting.CountedEventsSink.emit.Goals as goal
+
+pub invariant_of-self : goal.invariant_of-self
+invariant_of-self g c = record {
+  moment_is = c.args.self.now.moment_is;
+  survey_is =
+      one_counted g.K.Begun.moment _ g.K.Begun.survey _ _ _ _ _ c.args.self.now.moment_is
+      c.args.self.now.survey_is c.take.ensures (more_events _ _ _ c.and-history.ensures);
+}

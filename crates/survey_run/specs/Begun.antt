@@ -1,0 +1,34 @@
+-- What a step begins with, and the events so far.
+use Rattle.std.specs.Prelude.{ℕ, List, map, [], None, false}
+use Rattle.reference.specs.declared.event.Event.{Event}
+use Rattle.reference.specs.Regions.{fresh}
+use Rattle.trace.specs.Emission.{Emission}
+use Rattle.survey.specs.declared.moment.Moment.{Moment}
+use Rattle.survey.specs.declared.whole.Survey.{Survey}
+use Rattle.survey.specs.Cells.{Cells}
+
+abbrev pub no_moment : Moment
+no_moment = record { pc = 0; exception = 0; privileged = false; asleep = false; mpu = fresh 8 }
+
+abbrev pub no_cells : Cells
+no_cells = record { base = 0; size = 0; width = 0; marks = [] }
+
+abbrev pub no_survey : Survey
+no_survey = record {
+  counts = [];
+  settings = record { rows = []; used = 0; others = 0 };
+  refusals = record { rows = []; used = 0; number = 0; current = None };
+  flash = no_cells;
+  ram = no_cells;
+  timeline = record { columns = []; used = 0; column_ticks = 1; filled = 1; handlers = [] };
+  console = record { bytes = []; used = 0; number = 0 };
+  steps = 0;
+}
+
+-- the events of pairs of which each event is the second
+abbrev pub events_of : List (Unit {0} × Event) → List Event
+events_of items = map (λ entry. entry.1) items
+
+-- what a sink that has taken these events shows, over a survey that is borrowed under a name
+abbrev pub emission : ℕ → List (Unit {0} × Event) → Emission
+emission name items = record { writer = name; written = None; faults = 0; events = events_of items }
