@@ -12,7 +12,6 @@ use machine::{CodeLines, Decider, DueTicks, Levels, Machine};
 use reference::event::Event;
 use std::marker::{Brand, PhantomData};
 use survey::{Moment, Survey};
-use trace::fetches::KeptFetch;
 use trace::sink::Sink;
 
 /// What a step begins with: a moment, and a survey. Contracts alone see it.
@@ -81,10 +80,5 @@ impl<'a, K: Begun> Sink for CountedEvents<'a, K> {
         let history = self.history.and(&(), &event);
         self.survey.take(self.moment, event.tick, &event.what);
         self.history = history;
-    }
-
-    #[inline(always)]
-    fn emit_fetch(&mut self, tick: u64, fetch: &KeptFetch) {
-        self.emit(fetch.event(tick));
     }
 }
