@@ -5,16 +5,12 @@ ghost use Rattle.exceptions.specs.Room.{lines_of, most_lines};
 ghost use Rattle.exceptions.specs.Serving.{Serves, done_lines};
 ghost use Rattle.reference.specs.Accesses.{accessed, access_lines, value_of, perform, perform_all};
 ghost use Rattle.reference.specs.declared.event.EventKind.TheVariants.{ConsoleByte};
-ghost use Rattle.reference.specs.declared.access.Size.TheVariants.{Word};
 ghost use Rattle.reference.specs.Kinds.{bytes_in};
-ghost use Rattle.reference.specs.LoadStore.{request};
 ghost use Rattle.trace.specs.Emission.{with_emitted};
 
 use access::{Bus, CodeLines, Decider, DueTicks, Levels, is_out};
 use bounded::Bounded;
-use reference::access::{
-    Access, Cause, DecidedAccess, Kind, MOST_REQUESTS, Performed, Request, Rule, Size,
-};
+use reference::access::{Cause, DecidedAccess, MOST_REQUESTS, Performed, Request, Rule};
 use reference::event::{Event, EventKind, MOST_EVENTS};
 use reference::failure::Failure;
 use trace::sink::Sink;
@@ -55,62 +51,9 @@ pub fn serve<D: Decider, C: CodeLines, L: Levels, U: DueTicks, S: Sink>(
     Ok(())
 }
 
-/// Makes one access, and appends its lines. Most are loads and stores of words, for each of which the compiler makes code
-/// of its own.
-#[inline(always)]
-pub fn access<D: Decider, C: CodeLines, L: Levels, U: DueTicks, S: Sink>(
-    exception: u16,
-    bus: &mut Bus<D, C, L, U>,
-    tick: u64,
-    events: &mut S,
-    request: &Request,
-) -> Result<u32, Failure>
-    requires { length (S.emitted events.old).events + lines_of request.now ≤ MOST_EVENTS }
-    ensures bus { bus.new ≡ (perform exception bus.old request.now).bus }
-    ensures events { S.emitted events.new ≡ with_emitted (S.emitted events.old) ((S.emitted events.old).events ++ access_lines tick request.now (perform exception bus.old request.now).performed) }
-    ensures room { length (S.emitted events.new).events ≤ length (S.emitted events.old).events + lines_of request.now }
-    ensures answer { result ≡ value_of request.now (perform exception bus.old request.now).performed }
-    ensures narrow { IfOk result (λ value. value < 256 ^ bytes_in request.now.access.size) }
-{
-    let Access {
-        address,
-        kind,
-        size,
-        privileged,
-    } = request.access;
-    let value = request.value;
-    match (kind, size) {
-        (Kind::Load, Size::Word) => {
-            let load = word(Kind::Load, address, privileged, value);
-            access_quickly(exception, bus, tick, events, &load)
-        }
-        (Kind::Store, Size::Word) => {
-            let store = word(Kind::Store, address, privileged, value);
-            access_quickly(exception, bus, tick, events, &store)
-        }
-        _ => access_quickly(exception, bus, tick, events, request),
-    }
-}
-
-/// Returns an access of a word.
-#[inline(always)]
-fn word(kind: Kind, address: u32, privileged: bool, value: u32) -> Request
-    ensures { result ≡ request kind privileged Word address value }
-{
-    Request {
-        access: Access {
-            address,
-            kind,
-            size: Size::Word,
-            privileged,
-        },
-        value,
-    }
-}
-
 /// Makes one access, and appends its lines. Most are to flash or RAM, by a rule that is kept.
 #[inline(always)]
-fn access_quickly<D: Decider, C: CodeLines, L: Levels, U: DueTicks, S: Sink>(
+pub fn access<D: Decider, C: CodeLines, L: Levels, U: DueTicks, S: Sink>(
     exception: u16,
     bus: &mut Bus<D, C, L, U>,
     tick: u64,

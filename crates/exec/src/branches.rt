@@ -73,7 +73,7 @@ pub fn finish(length: InstructionLength, branch: &Branch, regs: &mut Regs, value
 // ---- branches
 
 /// B with a condition of its own.
-#[inline(always)]
+#[inline]
 fn conditional_branch(
     regs: &mut Regs,
     length: InstructionLength,
@@ -129,7 +129,7 @@ fn takes_branch(operands: &CompareAndBranch, regs: &Regs) -> bool
 }
 
 /// CBZ and CBNZ.
-#[inline(always)]
+#[inline]
 fn compare_and_branch(
     regs: &mut Regs,
     length: InstructionLength,
