@@ -138,6 +138,13 @@ fn run<R: Files + AllocGlobal, W: Write + Drop, E: Write>(
     run_files::<R, W, E, Brand>(rt, image, board, asked, out, err, Blank::new(1))
 }
 
+/// Writes why standard output failed, if it did.
+fn tell_failed<E: Write>(error: Option<io::Error>, err: &mut E) {
+    if let Some(error) = error {
+        let _ = writeln!(err, "  standard output: {error}");
+    }
+}
+
 /// Writes a page about a run of an image on a board, and why `out` failed.
 fn report_by<W: Write + Drop, E: Write>(
     alloc: Global,
@@ -151,9 +158,7 @@ fn report_by<W: Write + Drop, E: Write>(
 {
     let mut out = LastError::new(out);
     let status = report(alloc, image, board, steps, &mut out, err);
-    if let Some(error) = out.error() {
-        let _ = writeln!(err, "  standard output: {error}");
-    }
+    tell_failed(out.error(), err);
     status
 }
 
@@ -223,9 +228,7 @@ fn debug_to<I: In, W: Write + Drop, E: Write, K: Ledger>(
 {
     let mut out: Paged<Over<LastError<W>, K>> = Paged::new(Over::new(LastError::new(out), blank));
     let status = debug(alloc, image, board, input, &mut out, err);
-    if let Some(error) = out.into_inner().into_inner().error() {
-        let _ = writeln!(err, "  standard output: {error}");
-    }
+    tell_failed(out.into_inner().into_inner().error(), err);
     status
 }
 
@@ -255,9 +258,7 @@ fn run_files<R: Files + AllocGlobal, W: Write + Drop, E: Write, K: Ledger>(
         err,
         Blank::new(1),
     );
-    if let Some(error) = out.into_inner().into_inner().error() {
-        let _ = writeln!(err, "  standard output: {error}");
-    }
+    tell_failed(out.into_inner().into_inner().error(), err);
     status
 }
 

@@ -5,7 +5,7 @@
 mod clipped;
 mod messages;
 mod quoted;
-mod visible;
+pub mod visible;
 
 pub use messages::Messages;
 pub use quoted::{Escaped, Quoted};

@@ -1,12 +1,13 @@
 //! Texts from outside, as the page has them.
 
+use messages::visible::visible;
 use std::fmt;
 
 /// How many characters of a text are shown at most.
 const MOST_CHARACTERS: usize = 96;
 
 /// A text from outside: what HTML acts on is written as a character reference, and what a display hides or
-/// acts on as `\u{..}`. After 96 characters it is cut, and ends in `..`.
+/// acts on as messages have it, as `\u202E`. After 96 characters it is cut, and ends in `..`.
 #[derive(Clone, Copy)]
 pub struct Escaped<'a>(pub &'a str);
 
@@ -30,18 +31,7 @@ fn write_character<W: fmt::Write>(f: &mut fmt::Formatter<W>, character: char) ->
         '&' => write!(f, "&amp;"),
         '"' => write!(f, "&#34;"),
         '\'' => write!(f, "&#39;"),
-        '\0'..='\u{1F}'
-        | '\u{7F}'..='\u{9F}'
-        | '\u{AD}'
-        | '\u{200B}'..='\u{200F}'
-        | '\u{2028}'..='\u{202E}'
-        | '\u{2060}'..='\u{206F}'
-        | '\u{FEFF}'
-        | '\u{FFF9}'..='\u{FFFB}' => {
-            let code = u32::from(character);
-            write!(f, "\\u{{{code:X}}}")
-        }
-        _ => write!(f, "{character}"),
+        _ => f.write_str(visible(character).as_str()),
     }
 }
 

@@ -48,15 +48,16 @@ fn sizes_have_units(rt: HostRuntime) -> Result<(), Fail> {
 }
 
 /// A name, a text from outside, and what the page has of it.
-const TEXTS: [(&str, &str, &str); 9] = [
+const TEXTS: [(&str, &str, &str); 10] = [
     ("nothing", "", ""),
     ("a path", "a/b c.elf", "a/b c.elf"),
     ("an element", "<b>", "&lt;b&gt;"),
     ("a reference", "a&amp;b", "a&amp;amp;b"),
     ("quotes", "\"'", "&#34;&#39;"),
-    ("a line feed", "a\nb", "a\\u{A}b"),
-    ("delete", "\u{7F}", "\\u{7F}"),
-    ("an override of direction", "\u{202E}", "\\u{202E}"),
+    ("a line feed", "a\nb", "a\\u000Ab"),
+    ("delete", "\u{7F}", "\\u007F"),
+    ("an override of direction", "\u{202E}", "\\u202E"),
+    ("a mark of an Arabic letter", "\u{61C}", "\\u061C"),
     ("letters of two to four bytes", "é€😀", "é€😀"),
 ];
 
