@@ -152,16 +152,34 @@ fn fetches_are_kept_until_the_registers_are_written(rt: HostRuntime) {
 fn rules_of_data_are_kept_until_the_registers_are_written(rt: HostRuntime) {
     let mut registers = MpuRegs::new(8);
     let mut kept = KeptDecisions::<Table>::fresh(&registers);
-    assert!(rt; kept.kept_rule(0x2000_0000, Kind::Load, true).is_none(), "before a decision");
+    assert!(rt;
+        kept.kept_rule(0x2000_0000, Kind::Load, true).is_none(),
+        "before a decision"
+    );
     let _ = kept.decide_and_keep(0x2000_0000, Kind::Load, true, false);
-    assert!(rt; kept.kept_rule(0x2000_0000, Kind::Store, true).is_some(), "for each kind");
-    assert!(rt; kept.kept_rule(0x2000_0000, Kind::Load, false).is_some(), "for each privilege");
-    assert!(rt; kept.kept_rule(0x2000_0000, Kind::Vector, true).is_none(), "but for vectors");
+    assert!(rt;
+        kept.kept_rule(0x2000_0000, Kind::Store, true).is_some(),
+        "for each kind"
+    );
+    assert!(rt;
+        kept.kept_rule(0x2000_0000, Kind::Load, false).is_some(),
+        "for each privilege"
+    );
+    assert!(rt;
+        kept.kept_rule(0x2000_0000, Kind::Vector, true).is_none(),
+        "but for vectors"
+    );
     assert!(rt; write_pairs(&mut registers, "E000ED94:00000001").is_some());
     kept.reload(&registers);
     let _ = kept.decide_and_keep(0x2000_0000, Kind::Load, false, false);
-    assert!(rt; kept.kept_rule(0x2000_0000, Kind::Load, false).is_none(), "where it is refused");
-    assert!(rt; kept.kept_rule(0x2000_0000, Kind::Load, true).is_none(), "without PRIVDEFENA");
+    assert!(rt;
+        kept.kept_rule(0x2000_0000, Kind::Load, false).is_none(),
+        "where it is refused"
+    );
+    assert!(rt;
+        kept.kept_rule(0x2000_0000, Kind::Load, true).is_none(),
+        "without PRIVDEFENA"
+    );
 }
 
 #[test]
