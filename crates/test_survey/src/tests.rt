@@ -1,5 +1,6 @@
 mod consoles;
 mod counters;
 mod rows;
+mod runs;
 mod timelines;
 mod words;
