@@ -274,9 +274,9 @@ impl<U: DueTicks> Clock<U> {
         self.set_systick(systick);
     }
 
-    /// Returns the state of SysTick.
+    /// Returns the state of SysTick. Nothing is read of its registers, so COUNTFLAG stays.
     #[inline]
-    fn systick(&self) -> SysTick
+    pub fn systick(&self) -> SysTick
         ensures { result ≡ self.now.time.systick }
     {
         self.timer.systick(self.ticks)

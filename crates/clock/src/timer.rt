@@ -109,7 +109,7 @@ impl SysTick {
     }
 
     /// Returns SYST_CSR, as a read finds it.
-    pub(crate) fn csr(&self) -> u32
+    pub fn csr(&self) -> u32
         ensures { result ≡ csr_of self.now }
     {
         weighed(self.enable, 1)
@@ -134,7 +134,7 @@ impl SysTick {
     }
 
     /// Returns SYST_RVR.
-    pub(crate) fn rvr(&self) -> u32
+    pub fn rvr(&self) -> u32
         ensures { result ≡ self.now.reload }
     {
         self.reload
@@ -148,7 +148,7 @@ impl SysTick {
     }
 
     /// Returns SYST_CVR.
-    pub(crate) fn cvr(&self) -> u32
+    pub fn cvr(&self) -> u32
         ensures { result ≡ self.now.current }
     {
         self.current

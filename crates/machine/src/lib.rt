@@ -11,7 +11,9 @@ mod stepping;
 mod task;
 mod whole;
 
-pub use access::{Ahead, CodeLines, Counting, Decider, DueTicks, Levels, PlainLevels, Search};
+pub use access::{
+    Ahead, CodeLines, Counting, Decider, DueTicks, Levels, PlainLevels, Search, SysTick,
+};
 pub use access_table::{KeptDecisions, Table};
 pub use bit_levels::{BitLevels, KeptPriorities};
 pub use board::{Board, InterruptLine, ScriptedEvent, Signal};

@@ -7,7 +7,7 @@ ghost use Rattle.reference.specs.Regions.{shown};
 ghost use Rattle.reference.specs.Status.{read_status};
 
 use crate::stepping::Processor;
-use access::{CodeLines, Decider, DueTicks, Levels};
+use access::{CodeLines, Decider, DueTicks, Levels, SysTick};
 use mpu::MpuRegs;
 use reference::system::StatusRegister;
 
@@ -105,6 +105,13 @@ impl<D: Decider, C: CodeLines, L: Levels, U: DueTicks> Processor<D, C, L, U> {
         ensures { result ≡ self.now.bus.system.time.ticks }
     {
         self.bus().system.ticks()
+    }
+
+    /// SysTick. Nothing is read of its registers, so COUNTFLAG stays.
+    pub fn systick(&self) -> SysTick
+        ensures { result ≡ self.now.bus.system.time.systick }
+    {
+        self.bus().system.clock().systick()
     }
 
     /// VTOR, SCR, CCR or a register of faults, as it reads.

@@ -28,7 +28,7 @@ use crate::run::{run_core, write_step};
 use crate::start::start_core;
 use crate::stepping::Processor;
 use crate::task::run_task_core;
-use access::{Ahead, CodeLines, Counting, Decider, DueTicks, Levels, PlainLevels, Search};
+use access::{Ahead, CodeLines, Counting, Decider, DueTicks, Levels, PlainLevels, Search, SysTick};
 use access_table::{KeptDecisions, Table};
 use bit_levels::{BitLevels, KeptPriorities};
 use board::Board;
@@ -326,6 +326,13 @@ impl<D: Decider, C: CodeLines, L: Levels, U: DueTicks> Machine<D, C, L, U> {
         ensures { result ≡ self.now.state.bus.system.time.ticks }
     {
         self.core.ticks()
+    }
+
+    /// Returns SysTick. Nothing is read of its registers, so COUNTFLAG stays.
+    pub fn systick(&self) -> SysTick
+        ensures { result ≡ self.now.state.bus.system.time.systick }
+    {
+        self.core.systick()
     }
 
     /// Returns VTOR, SCR, CCR or a register of faults, as it reads.

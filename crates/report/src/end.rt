@@ -229,13 +229,13 @@ fn write_bits<W: Write>(out: &mut W, name: &str, value: u32, bits: &[FaultBit]) 
     writeln!(out, "</dd></div>")
 }
 
-/// Writes which exceptions are pending and active, and the clock.
+/// Writes which exceptions are pending and active, the clock, and SysTick.
 fn write_exceptions<W: Write>(out: &mut W, machine: &Fast) -> io::Result<()> {
     let ticks = machine.ticks();
     let shown = Thousands(ticks);
     writeln!(
         out,
-        "<h3>Exceptions and clock</h3>\n<dl class='registers wide'>"
+        "<h3>Exceptions, clock and SysTick</h3>\n<dl class='registers wide'>"
     )?;
     write!(out, "<div><dt>pending</dt><dd id='pending'>")?;
     write_pending(out, machine)?;
@@ -243,8 +243,29 @@ fn write_exceptions<W: Write>(out: &mut W, machine: &Fast) -> io::Result<()> {
     write_active(out, machine)?;
     writeln!(
         out,
-        "</dd></div>\n<div><dt>clock</dt><dd id='clock' data-number='{ticks}'>{shown} ticks</dd></div>\n</dl>"
-    )
+        "</dd></div>\n<div><dt>clock</dt><dd id='clock' data-number='{ticks}'>{shown} ticks</dd></div>"
+    )?;
+    write_systick(out, machine)?;
+    writeln!(out, "</dl>")
+}
+
+/// Writes the registers of SysTick: whether it counts and whether it makes its exception pending in words.
+fn write_systick<W: Write>(out: &mut W, machine: &Fast) -> io::Result<()> {
+    let systick = machine.systick();
+    let csr = systick.csr();
+    let counts = if csr % 2 == 1 { "counts" } else { "off" };
+    let exception = if csr / 2 % 2 == 1 {
+        "its exception is on"
+    } else {
+        "its exception is off"
+    };
+    writeln!(
+        out,
+        "<div><dt>SYST_CSR</dt><dd id='SYST_CSR'><code>{csr:08X}</code> \
+         <small>{counts}, {exception}</small></dd></div>"
+    )?;
+    write_value(out, "SYST_RVR", systick.rvr())?;
+    write_value(out, "SYST_CVR", systick.cvr())
 }
 
 /// Writes the names of the pending exceptions.
