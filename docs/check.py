@@ -218,7 +218,8 @@ class Repository:
         if patterns:
             return True
         above = os.path.dirname(page)
-        for base in ("", above, os.path.join(above, "src"), os.path.join(above, "specs"), "crates", "crates/reference"):
+        lowest = ("crates", "crates/reference", "crates/instruction_set")
+        for base in ("", above, os.path.join(above, "src"), os.path.join(above, "specs"), *lowest):
             full = os.path.normpath(os.path.join(base, path))
             if full in self.files or full in self.folders:
                 return True
@@ -361,7 +362,7 @@ def lists(repo):
     lost = []
     rows = {line.split("|")[1].strip() for line in read("docs/REFERENCE.md").split("\n") if line.startswith("|")}
     listed = {name for row in rows for name in row.split(", ")}
-    folders = ("crates/reference/specs/", "crates/task_laws/specs/")
+    folders = ("crates/instruction_set/specs/", "crates/reference/specs/", "crates/task_laws/specs/")
     chapters = {os.path.basename(path)[:-5] for path in repo.files if path.startswith(folders)} - {"Lib"}
     lost += [("docs/REFERENCE.md", chapter) for chapter in sorted(chapters - listed)]
     lost += [("docs/REFERENCE.md", name) for name in sorted(listed - chapters) if re.match(r"^[A-Z]\w+$", name) and name != "File"]

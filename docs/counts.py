@@ -46,13 +46,31 @@ def crates():
     return matches(r"^[a-z]\w*:", "crates.txt")
 
 
+def crates_above(base):
+    """Returns the crates that are built on a crate, with those that are built on them."""
+    listed = dict(re.findall(r"^([a-z]\w*):(.*)$", text_of("crates.txt"), re.M))
+    found = {base}
+    while True:
+        more = {name for name, below in listed.items() if name not in found and found & set(below.split())}
+        if not more:
+            return found - {base}
+        found |= more
+
+
+def proved_above(base):
+    """Returns how many crates above a crate aren't made for tests or programs alone."""
+    others = "test_ example_bench slow_machine"
+    return len([name for name in crates_above(base) if not name.startswith(tuple(others.split()))])
+
+
 def chapters():
-    return len([path for path in found("crates/reference/specs/*.antt") if not path.endswith("/Lib.antt")])
+    paths = found("crates/reference/specs/*.antt", "crates/instruction_set/specs/*.antt")
+    return len([path for path in paths if not path.endswith("/Lib.antt")])
 
 
 def rows(width):
     """Returns how many rows of the instruction set are defined, of a width, `Short` or `Long`."""
-    return matches(r"^.*\b\w+ : Row$", f"crates/reference/specs/{width}*.antt")
+    return matches(r"^.*\b\w+ : Row$", f"crates/instruction_set/specs/{width}*.antt")
 
 
 def overlaps(name):
@@ -66,9 +84,10 @@ def overlaps(name):
 
 
 def spec(name):
-    """Returns the path of a file of definitions: `crate/Name`, or a chapter of `reference`."""
+    """Returns the path of a file of definitions: `crate/Name`, or a chapter of `instruction_set` or of `reference`."""
     crate, _, stem = name.rpartition("/")
-    return f"crates/{crate or 'reference'}/specs/{stem}.antt"
+    is_lower = not crate and glob.glob(os.path.join(TOP, f"crates/instruction_set/specs/{stem}.antt"))
+    return f"crates/{crate or ('instruction_set' if is_lower else 'reference')}/specs/{stem}.antt"
 
 
 def lines_in(text):
@@ -91,7 +110,7 @@ AUDIT_PARTS = {
     "claim": "machine/Whole machine/Runs output/Output Run",
     "step": "State Step Operations ProgramCounter",
     "access": "Map Memory Regions Rules Space Accesses",
-    "words": "Words Arithmetic Kinds Registers",
+    "words": "Words Arithmetic Sizes Kinds Registers Monitor",
     "priorities": "Priorities Time",
     "exceptions": "Faults Frames ExceptionEntry ExceptionReturn",
     "system": "Status Interrupts Handlers Control SysTickRegisters System SpecialRegisters",
@@ -103,7 +122,7 @@ AUDIT_PARTS = {
     "files": "Images Boards Start board/Texts board/Seen command/Statuses output/Gathered machine/Starts",
 }
 
-# the enums and structs that the definitions name, beside all those of `reference`
+# the enums and structs that the definitions name, beside all those of `reference` and `instruction_set`
 AUDIT_ITEMS = {
     "crates/output/src/writer.rt": "Out",
     "crates/output/src/paged.rt": "Paged",
@@ -115,7 +134,8 @@ AUDIT_ITEMS = {
 
 def audit_lines(part):
     if part == "types":
-        return lines_of("crates/reference/src/*.rt") + sum(lines_of_item(*item) for item in AUDIT_ITEMS.items())
+        types = lines_of("crates/reference/src/*.rt", "crates/instruction_set/src/*.rt")
+        return types + sum(lines_of_item(*item) for item in AUDIT_ITEMS.items())
     return lines_of(*(spec(name) for name in AUDIT_PARTS[part].split()))
 
 
@@ -208,6 +228,9 @@ def steps_of_firmware():
 
 COUNTS = {
     "crates": crates,
+    "above reference": lambda: len(crates_above("reference")),
+    "proved above reference": lambda: proved_above("reference"),
+    "above instruction_set": lambda: len(crates_above("instruction_set")),
     "chapters": chapters,
     "rows": lambda: rows("Short") + rows("Long"),
     "short rows": lambda: rows("Short"),

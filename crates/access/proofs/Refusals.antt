@@ -1,6 +1,7 @@
 -- What is refused changes nothing.
 use Rattle.std.proofs.Common.{◌≡◌, ℕ, Bool, true, false, refl}
 use Rattle.std.proofs.lemmas.Bool.{cond_both}
+use Rattle.instruction_set.specs.Sizes.{bytes_in}
 use Rattle.reference.specs.declared.access.Answer.{Answer}
 use Rattle.reference.specs.declared.access.Answer.TheVariants.{Value, Error, Stop}
 use Rattle.reference.specs.declared.access.Cause.{Cause}
@@ -11,7 +12,7 @@ use Rattle.reference.specs.declared.access.Rule.{Rule}
 use Rattle.reference.specs.Accesses.{BusAnswer, lifted, lifted_system, answered_by_bus, performed_by, answered_under}
 use Rattle.reference.specs.Accesses.{decided, decision, perform}
 use Rattle.reference.specs.Answers.{LeavesUnlessDone}
-use Rattle.reference.specs.Kinds.{is_probe, is_write, bytes_in}
+use Rattle.reference.specs.Kinds.{is_probe, is_write}
 use Rattle.reference.specs.Map.{is_in_ppb, is_in_window}
 use Rattle.reference.specs.Memory.{Memory, is_in_ram}
 use Rattle.reference.specs.Space.{SpaceAnswer, written_to, space_access}

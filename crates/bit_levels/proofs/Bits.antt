@@ -10,9 +10,9 @@ use Rattle.std.proofs.lemmas.Grind.{common_steps}
 use Rattle.std.proofs.lemmas.Nat.Bits.{bit_at_set_same, bit_at_set_other, bit_at_clear_same, bit_at_clear_other}
 use Rattle.std.proofs.lemmas.Nat.Bits.{bit_at-trailing_zeros}
 use Rattle.bit_levels.specs.Sets.{level, AreEmpty, IsFirstOf}
+use Rattle.instruction_set.specs.Words.{bit_at, is_bit}
 use Rattle.reference.specs.declared.exception.TheConstants.{EXCEPTIONS}
 use Rattle.reference.specs.Priorities.{is_in_words}
-use Rattle.reference.specs.Words.{bit_at, is_bit}
 use Rattle.nvic.proofs.Sets.{no_bit}
 
 -- a word with bit k set, and one with bit k cleared

@@ -5,8 +5,8 @@ use Rattle.std.proofs.Common.{arith, ap, w32}
 use Rattle.std.proofs.lemmas.Bool.{eq-eqb}
 use Rattle.std.proofs.lemmas.Grind.{common_steps}
 use Rattle.std.proofs.lemmas.Nat.Bits.{bit_at_set_same, bit_at_set_other}
+use Rattle.instruction_set.specs.Words.{is_bit}
 use Rattle.reference.specs.Priorities.{is_in_words}
-use Rattle.reference.specs.Words.{is_bit}
 
 -- a word with bit k set
 abbrev with_bit : ℕ → ℕ → ℕ

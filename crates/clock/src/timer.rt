@@ -2,7 +2,7 @@
 
 ghost use Rattle.std.specs.Prelude.{◌≡◌, ◌&&◌, ◌^◌, ◌<◌, ◌≤◌};
 ghost use Rattle.clock.specs.Later.{current_after, later};
-ghost use Rattle.reference.specs.Registers.{weighed as weighed_of};
+ghost use Rattle.instruction_set.specs.Registers.{weighed as weighed_of};
 ghost use Rattle.reference.specs.Time.{counted, reaches_zero, csr as csr_of, after_csr_read, with_csr, with_rvr, with_cvr_cleared, reset_systick, timer_due};
 
 use crate::script::NEVER;

@@ -5,8 +5,9 @@ ghost use Rattle.std.specs.Str.{bytes_eq};
 ghost use Rattle.command.specs.Statuses.{IsStopText};
 ghost use Rattle.reference.specs.Text.{line_feed, stop_text};
 
+use instruction_set::unpredictable::UnpredictableCase;
 use machine::Stop;
-use reference::stop::{LeftOut, UnpredictableCase};
+use reference::stop::LeftOut;
 use trace::lines::stop_line;
 
 /// Every stop but the breakpoints.

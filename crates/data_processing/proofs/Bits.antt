@@ -5,8 +5,8 @@ use Rattle.std.specs.Int.{reverse_bits, reverse_bits_onto, leading_zeros, w32}
 use Rattle.std.proofs.Math.Nat.{pow-le-pow_right, mul-le-mul_right, pow-suc, lt_of_not-le}
 use Rattle.std.proofs.lemmas.Bool.Decides.{nat_tests}
 use Rattle.std.proofs.lemmas.Nat.{leading_length, pow_pos, div_below, shr-shr, shr_split, le-div}
-use Rattle.reference.specs.Fields.{reversed, significant_bits, count_leading_zero_bits}
-use Rattle.reference.specs.Words.{is_bit}
+use Rattle.instruction_set.specs.Fields.{reversed, significant_bits, count_leading_zero_bits}
+use Rattle.instruction_set.specs.Words.{is_bit}
 
 -- i bits are placed, and k are left
 placed : (k i x a : ℕ) → k + i ≡ 32 → a * 2 ^ k ≡ reversed i x → reverse_bits_onto k (x / 2 ^ i) a ≡ reversed 32 x

@@ -3,9 +3,9 @@ use Rattle.std.proofs.Common.{◌≡◌, ℕ, ◌-◌, ◌^◌, ◌<◌, ◌≤�
 use Rattle.std.proofs.Common.{sym, ◌∙◌, ap, arith, int_lt, int_eq}
 use Rattle.std.proofs.lemmas.Int.{ints}
 use Rattle.std.proofs.Math.Nat.{pow-le-pow_right}
-use Rattle.reference.specs.Arithmetic.{signed}
-use Rattle.reference.specs.Fields.{saturated, nearest, least, greatest}
-use Rattle.reference.specs.Products.{low_bits}
+use Rattle.instruction_set.specs.Arithmetic.{signed}
+use Rattle.instruction_set.specs.Fields.{saturated, nearest, least, greatest}
+use Rattle.instruction_set.specs.Products.{low_bits}
 
 -- a word read as signed is below 2^31, and not below -2^31
 not_above : (x t : ℕ) → x < 2 ^ 32 → 2 ^ 31 ≤ t → int_lt (pos (t - 1)) (signed x) ≡ false

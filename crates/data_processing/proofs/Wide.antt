@@ -4,8 +4,8 @@ use Rattle.std.proofs.Common.{negsuc, ◌+ℤ◌, ◌-ℤ◌, FitsSigned, to_z, 
 use Rattle.std.specs.Int.{int_rem_euclid}
 use Rattle.std.proofs.lemmas.Int.{ints, int_rem_euclid_is}
 use Rattle.std.proofs.lemmas.Nat.{pow_pos}
-use Rattle.reference.specs.Arithmetic.{signed}
-use Rattle.reference.specs.Products.{low_bits, product_of, wide_product, wide_accumulated}
+use Rattle.instruction_set.specs.Arithmetic.{signed}
+use Rattle.instruction_set.specs.Products.{low_bits, product_of, wide_product, wide_accumulated}
 
 -- a word read as signed is what the cast gives
 pub signed_cast : (x : ℕ) → x < 2 ^ 32 → to_z w32 x ≡ signed x

@@ -1,10 +1,10 @@
 //! ADR: an address beside the instruction.
 
 ghost use Rattle.std.specs.Prelude.{◌≡◌};
-ghost use Rattle.reference.specs.TwoOperands.{address};
+ghost use Rattle.instruction_set.specs.TwoOperands.{address};
 
-use reference::operands::Address;
-use reference::registers::Register;
+use instruction_set::operands::Address;
+use instruction_set::registers::Register;
 use regs::Regs;
 
 /// ADR.

@@ -1,10 +1,10 @@
 //! Comparisons, which set flags alone: TST, TEQ, CMP and CMN.
 
 ghost use Rattle.std.specs.Prelude.{◌≡◌};
-ghost use Rattle.reference.specs.TwoOperands.{compared_by, compare_immediate, compare_register};
+ghost use Rattle.instruction_set.specs.TwoOperands.{compared_by, compare_immediate, compare_register};
 
 use crate::two_operands::{with_immediate, with_shifted};
-use reference::operands::{CompareImmediate, CompareRegister, Comparison, DataOperation};
+use instruction_set::operands::{CompareImmediate, CompareRegister, Comparison, DataOperation};
 use regs::Regs;
 
 /// Returns the operation whose flags a comparison sets.

@@ -1,14 +1,14 @@
 //! Division: SDIV and UDIV. Whether a division by zero traps isn't decided here.
 
 ghost use Rattle.std.specs.Prelude.{◌≡◌};
-ghost use Rattle.reference.specs.Products.{quotient, divide};
+ghost use Rattle.instruction_set.specs.Products.{quotient, divide};
 
-use reference::operands::Divide;
+use instruction_set::operands::Divide;
 use regs::Regs;
 
 /// Returns the quotient, rounded towards zero. By zero it is 0.
 #[inline]
-#[tactic(auto, unfolding(reference::specs::Products::quotient))]
+#[tactic(auto, unfolding(instruction_set::specs::Products::quotient))]
 fn quotient(signed: bool, x: u32, y: u32) -> u32
     ensures { result ≡ quotient signed x y }
 {

@@ -1,10 +1,10 @@
 //! Bit fields: SBFX, UBFX, BFI and BFC.
 
 ghost use Rattle.std.specs.Prelude.{◌≡◌, ◌<◌, ◌*◌, ◌/◌, ◌%◌, ◌^◌};
-ghost use Rattle.reference.specs.Fields.{extended, extract_field, cleared, inserted, insert_field, clear_field};
-ghost use Rattle.reference.specs.Words.{bits, sign_extended};
+ghost use Rattle.instruction_set.specs.Fields.{extended, extract_field, cleared, inserted, insert_field, clear_field};
+ghost use Rattle.instruction_set.specs.Words.{bits, sign_extended};
 
-use reference::operands::{ClearField, ExtractField, InsertField};
+use instruction_set::operands::{ClearField, ExtractField, InsertField};
 use regs::Regs;
 
 /// Returns the lowest `width` bits.
@@ -73,7 +73,7 @@ pub(crate) fn extract_field(operands: &ExtractField, regs: &mut Regs)
 
 /// Returns a word with 0 in place of a field.
 #[inline]
-#[tactic(auto, using(crate::proofs::Parts::field_part), unfolding(reference::specs::Fields::cleared, reference::specs::Words::bits))]
+#[tactic(auto, using(crate::proofs::Parts::field_part), unfolding(instruction_set::specs::Fields::cleared, instruction_set::specs::Words::bits))]
 fn cleared(x: u32, low: u8, width: u8) -> u32
     ensures { result ≡ cleared x low width }
 {
@@ -82,7 +82,7 @@ fn cleared(x: u32, low: u8, width: u8) -> u32
 
 /// Returns a word with the low bits of another in place of a field.
 #[inline]
-#[tactic(auto, unfolding(reference::specs::Fields::inserted))]
+#[tactic(auto, unfolding(instruction_set::specs::Fields::inserted))]
 fn inserted(x: u32, y: u32, low: u8, width: u8) -> u32
     ensures { result ≡ inserted x y low width }
 {

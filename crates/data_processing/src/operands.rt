@@ -1,10 +1,10 @@
 //! The second operand: a number and its carry, or a shifted register.
 
 ghost use Rattle.std.specs.Prelude.{◌≡◌};
-ghost use Rattle.reference.specs.TwoOperands.{immediate_carry, shifted};
+ghost use Rattle.instruction_set.specs.TwoOperands.{immediate_carry, shifted};
 
-use reference::operands::{Immediate, ShiftedRegister};
-use reference::registers::Flags;
+use instruction_set::operands::{Immediate, ShiftedRegister};
+use instruction_set::registers::Flags;
 use regs::{Regs, shift_c};
 
 /// Returns the carry of an immediate: C, unchanged, where its expansion has none.

@@ -2,12 +2,12 @@
 //! UXTH, REV, REV16, REVSH, RBIT and CLZ.
 
 ghost use Rattle.std.specs.Prelude.{◌≡◌};
-ghost use Rattle.reference.specs.Fields.{width_of, extend, ror, rearranged, rearrange};
+ghost use Rattle.instruction_set.specs.Fields.{width_of, extend, ror, rearranged, rearrange};
 
 use crate::fields::extended;
-use reference::access::Size;
-use reference::operands::{Extend, Rearrange, Rearrangement};
-use reference::shift::ShiftType;
+use instruction_set::operands::{Extend, Rearrange, Rearrangement};
+use instruction_set::shift::ShiftType;
+use instruction_set::size::Size;
 use regs::{Regs, shift_c};
 
 /// Returns how many bits a byte, a halfword or a word has.
@@ -44,7 +44,7 @@ pub(crate) fn extend(operands: &Extend, regs: &mut Regs)
 /// Returns the bytes or the bits of a word in another order, or how many zeros are above its
 /// highest one.
 #[inline]
-#[tactic(auto, using(crate::proofs::Bits::reversed_bits, crate::proofs::Bits::leading_zeros_of), unfolding(reference::specs::Fields::rearranged))]
+#[tactic(auto, using(crate::proofs::Bits::reversed_bits, crate::proofs::Bits::leading_zeros_of), unfolding(instruction_set::specs::Fields::rearranged))]
 fn rearranged(operation: Rearrangement, x: u32) -> u32
     ensures { result ≡ rearranged operation x }
 {

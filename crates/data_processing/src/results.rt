@@ -1,11 +1,11 @@
 //! Results: the flags of each kind, and the write of a result to its register.
 
 ghost use Rattle.std.specs.Prelude.{◌≡◌};
-ghost use Rattle.reference.specs.TwoOperands.{sets_flags, logical, summed, written};
-ghost use Rattle.reference.specs.Registers.{with_result};
+ghost use Rattle.instruction_set.specs.Registers.{with_result};
+ghost use Rattle.instruction_set.specs.TwoOperands.{sets_flags, logical, summed, written};
 
-use reference::operands::FlagSetting;
-use reference::registers::{Flags, Register};
+use instruction_set::operands::FlagSetting;
+use instruction_set::registers::{Flags, Register};
 use regs::Regs;
 
 /// Returns the flags, with N and Z of a result.

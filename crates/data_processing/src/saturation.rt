@@ -2,13 +2,13 @@
 
 ghost use Rattle.std.specs.Ordering.{int_eq};
 ghost use Rattle.std.specs.Prelude.{◌≡◌, ◌-◌, ◌≤◌, ◌^◌, not, pos};
-ghost use Rattle.reference.specs.Arithmetic.{signed};
-ghost use Rattle.reference.specs.Fields.{least, greatest, nearest, saturated, saturate};
-ghost use Rattle.reference.specs.Products.{low_bits};
+ghost use Rattle.instruction_set.specs.Arithmetic.{signed};
+ghost use Rattle.instruction_set.specs.Fields.{least, greatest, nearest, saturated, saturate};
+ghost use Rattle.instruction_set.specs.Products.{low_bits};
 
 use crate::operands::shifted;
-use reference::operands::Saturate;
-use reference::registers::Flags;
+use instruction_set::operands::Saturate;
+use instruction_set::registers::Flags;
 use regs::Regs;
 
 /// A range of more bits than this saturates each word as one of this many bits does.
@@ -91,7 +91,7 @@ fn signed(word: u32) -> i64
 /// Returns the number of a range that is nearest to a word, read as signed, and whether it differs
 /// from the word.
 #[inline]
-#[tactic(auto, unfolding(reference::specs::Fields::saturated))]
+#[tactic(auto, unfolding(instruction_set::specs::Fields::saturated))]
 fn saturated_within(is_signed: bool, bits: u8, word: u32) -> (u32, bool)
     requires { bits ≤ WIDEST }
     ensures { result ≡ saturated is_signed bits word }

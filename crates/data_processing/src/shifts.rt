@@ -1,10 +1,10 @@
 //! Shifts by the low byte of a register: LSL, LSR, ASR and ROR.
 
 ghost use Rattle.std.specs.Prelude.{◌≡◌};
-ghost use Rattle.reference.specs.TwoOperands.{shifted_by_register, shift_by_register};
+ghost use Rattle.instruction_set.specs.TwoOperands.{shifted_by_register, shift_by_register};
 
 use crate::results::{logical, write};
-use reference::operands::ShiftByRegister;
+use instruction_set::operands::ShiftByRegister;
 use regs::{Regs, shift_c};
 
 /// Returns the shifted register, and its carry.

@@ -1,18 +1,20 @@
 //! Operations on two operands: AND, BIC, ORR, ORN, EOR, ADD, ADC, SBC, SUB and RSB.
 
 ghost use Rattle.std.specs.Prelude.{◌≡◌};
-ghost use Rattle.reference.specs.TwoOperands.{computed, with_immediate, with_shifted, data_immediate, data_register};
+ghost use Rattle.instruction_set.specs.TwoOperands.{computed, with_immediate, with_shifted, data_immediate, data_register};
 
 use crate::operands::{immediate_carry, shifted};
 use crate::results::{logical, summed, write};
-use reference::operands::{DataImmediate, DataOperation, DataRegister, Immediate, ShiftedRegister};
-use reference::registers::{Flags, Register};
+use instruction_set::operands::{
+    DataImmediate, DataOperation, DataRegister, Immediate, ShiftedRegister,
+};
+use instruction_set::registers::{Flags, Register};
 use regs::{Regs, add_with_carry};
 
 /// Returns the result of an operation on two operands, and the flags. The carry is the second
 /// operand's.
 #[inline(always)]
-#[tactic(auto, unfolding(reference::specs::TwoOperands::computed))]
+#[tactic(auto, unfolding(instruction_set::specs::TwoOperands::computed))]
 fn computed(operation: DataOperation, x: u32, y: u32, carry: bool, flags: Flags) -> (u32, Flags)
     ensures { result ≡ computed operation x y carry flags }
 {

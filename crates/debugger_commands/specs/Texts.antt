@@ -3,12 +3,12 @@ use Rattle.std.specs.Prelude.{ℕ, zero, suc, Bool, true, false, List, [], ◌++
 use Rattle.std.specs.Prelude.{Some, None}
 use Rattle.debugger_commands.specs.declared.commands.LineFault.{LineFault}
 use Rattle.debugger_commands.specs.declared.commands.LineFault.TheVariants as fault
+use Rattle.instruction_set.specs.Words.{word_sum}
 use Rattle.reference.specs.declared.access.Decision.{Decision}
 use Rattle.reference.specs.declared.stop.Stop.{Stop}
 use Rattle.reference.specs.Memory.{Memory, byte_at}
 use Rattle.reference.specs.Regions.{Mpu, shown}
 use Rattle.reference.specs.Text.{hex_byte, hex_word, line_feed, rule_text, stop_line}
-use Rattle.reference.specs.Words.{word_sum}
 
 -- ---- regs: a line for each register
 

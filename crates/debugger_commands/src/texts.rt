@@ -2,8 +2,8 @@
 
 ghost use Rattle.std.specs.Prelude.{◌≡◌, ◌+◌, ◌≤◌, [], ◌++◌, codes, decimal, length};
 ghost use Rattle.debugger_commands.specs.Texts.{byte_text, decision_text, end_text, fault_text, general_lines, grant_text, region_line, region_name, register_line, spaced, value_text, words_line};
+ghost use Rattle.instruction_set.specs.Words.{word_sum};
 ghost use Rattle.reference.specs.Text.{line_feed};
-ghost use Rattle.reference.specs.Words.{word_sum};
 
 use crate::commands::LineFault;
 use reference::access::Decision;

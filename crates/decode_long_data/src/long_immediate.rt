@@ -3,24 +3,24 @@
 
 ghost use Rattle.std.specs.Prelude.{◌≡◌, ◌≢◌, ◌==◌, ◌<◌, ◌≤◌, ◌+◌, ◌-◌, ◌*◌, ◌^◌, ◌&&◌, ◌||◌, not, true, false, nat_lt};
 ghost use Rattle.encodings.specs.Masks.{by_masks};
-ghost use Rattle.reference.specs.LongImmediate.{modified_immediate, compare_immediate_row, compares_sp, data_immediate_row, is_refused_destination, is_refused_first, logical_immediate_rows, move_immediate_row, sum_immediate_rows, takes_sp};
+ghost use Rattle.instruction_set.specs.LongImmediate.{modified_immediate, compare_immediate_row, compares_sp, data_immediate_row, is_refused_destination, is_refused_first, logical_immediate_rows, move_immediate_row, sum_immediate_rows, takes_sp};
 
 use encodings::operands::{flags_if, operand_of};
 use encodings::outcomes::{is_bad, long, unless_refused};
 use encodings::rows;
-use reference::instruction::{BlockPlace, DataProcessing, Decoded, Instruction};
-use reference::operands::Comparison::{Compare, CompareNegative, Test, TestEquivalence};
-use reference::operands::DataOperation::{
+use instruction_set::instruction::{BlockPlace, DataProcessing, Decoded, Instruction};
+use instruction_set::operands::Comparison::{Compare, CompareNegative, Test, TestEquivalence};
+use instruction_set::operands::DataOperation::{
     Add, AddWithCarry, And, BitClear, ExclusiveOr, Or, OrNot, ReverseSubtract, Subtract,
     SubtractWithCarry,
 };
-use reference::operands::MoveOperation::{Move, MoveNot};
-use reference::operands::{
+use instruction_set::operands::MoveOperation::{Move, MoveNot};
+use instruction_set::operands::{
     CompareImmediate, Comparison, DataImmediate, DataOperation, Immediate, MoveImmediate,
     MoveOperation,
 };
-use reference::registers::Register;
-use reference::stop::UnpredictableCase;
+use instruction_set::registers::Register;
+use instruction_set::unpredictable::UnpredictableCase;
 use regs::expand_imm;
 
 /// Returns an operation on the register `n` and the modified immediate `i`.
@@ -126,7 +126,7 @@ pub(crate) fn is_refused_destination(sp: bool, n: Register, d: Register) -> bool
 }
 
 /// Returns `ThumbExpandImm_C(imm12, ..)`, where it isn't UNPREDICTABLE.
-#[tactic(auto, unfolding(reference::specs::LongImmediate::modified_immediate))]
+#[tactic(auto, unfolding(instruction_set::specs::LongImmediate::modified_immediate))]
 fn modified_immediate(imm12: u16) -> Option<Immediate>
     ensures { result ≡ modified_immediate imm12 }
 {
@@ -134,7 +134,7 @@ fn modified_immediate(imm12: u16) -> Option<Immediate>
 }
 
 /// Returns an operation on a register and a modified immediate.
-#[tactic(auto, unfolding(reference::specs::LongImmediate::data_immediate_row))]
+#[tactic(auto, unfolding(instruction_set::specs::LongImmediate::data_immediate_row))]
 fn data_immediate(
     operation: DataOperation,
     s: bool,
@@ -162,7 +162,7 @@ fn data_immediate(
 }
 
 /// Returns a comparison of a register and a modified immediate.
-#[tactic(auto, unfolding(reference::specs::LongImmediate::compare_immediate_row))]
+#[tactic(auto, unfolding(instruction_set::specs::LongImmediate::compare_immediate_row))]
 fn compare_immediate(operation: Comparison, n: Register, second: Option<Immediate>) -> Decoded
     ensures { result ≡ compare_immediate_row operation n second }
 {
@@ -180,7 +180,7 @@ fn compare_immediate(operation: Comparison, n: Register, second: Option<Immediat
 }
 
 /// Returns MOV or MVN of a modified immediate.
-#[tactic(auto, unfolding(reference::specs::LongImmediate::move_immediate_row))]
+#[tactic(auto, unfolding(instruction_set::specs::LongImmediate::move_immediate_row))]
 fn move_immediate(
     operation: MoveOperation,
     s: bool,

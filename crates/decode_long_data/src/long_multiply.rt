@@ -4,15 +4,15 @@
 
 ghost use Rattle.std.specs.Prelude.{◌≡◌, ◌≢◌, ◌==◌, ◌<◌, ◌≤◌, ◌+◌, ◌-◌, ◌*◌, ◌^◌, ◌&&◌, ◌||◌, not, true, false, nat_lt};
 ghost use Rattle.encodings.specs.Masks.{by_masks};
-ghost use Rattle.reference.specs.LongMultiply.{divide_row, multiply_accumulate_row, multiply_long_row, multiply_wide_row, product_rows};
+ghost use Rattle.instruction_set.specs.LongMultiply.{divide_row, multiply_accumulate_row, multiply_long_row, multiply_wide_row, product_rows};
 
 use encodings::outcomes::{is_bad, long_unless};
 use encodings::rows;
-use reference::instruction::{DataProcessing, Decoded, Instruction};
-use reference::operands::{
+use instruction_set::instruction::{DataProcessing, Decoded, Instruction};
+use instruction_set::operands::{
     Accumulation, Divide, FlagSetting, Multiply, MultiplyAccumulate, MultiplyLong,
 };
-use reference::registers::Register;
+use instruction_set::registers::Register;
 
 /// Decodes two halfwords by these rows.
 #[tactic(auto, unfolding(encodings::specs::Masks::by_masks))]
@@ -47,7 +47,7 @@ pub fn product_rows(x: u32) -> Option<Decoded>
 }
 
 /// Returns MUL.
-#[tactic(auto, unfolding(reference::specs::LongMultiply::multiply_wide_row))]
+#[tactic(auto, unfolding(instruction_set::specs::LongMultiply::multiply_wide_row))]
 fn multiply_wide(n: Register, d: Register, m: Register) -> Decoded
     ensures { result ≡ multiply_wide_row n d m }
 {
@@ -61,7 +61,7 @@ fn multiply_wide(n: Register, d: Register, m: Register) -> Decoded
 }
 
 /// Returns MLA or MLS.
-#[tactic(auto, unfolding(reference::specs::LongMultiply::multiply_accumulate_row))]
+#[tactic(auto, unfolding(instruction_set::specs::LongMultiply::multiply_accumulate_row))]
 fn multiply_accumulate(
     operation: Accumulation,
     n: Register,
@@ -85,7 +85,7 @@ fn multiply_accumulate(
 }
 
 /// Returns SMULL, UMULL, SMLAL or UMLAL: the two destinations differ.
-#[tactic(auto, unfolding(reference::specs::LongMultiply::multiply_long_row))]
+#[tactic(auto, unfolding(instruction_set::specs::LongMultiply::multiply_long_row))]
 fn multiply_long(
     signed: bool,
     accumulates: bool,
@@ -110,7 +110,7 @@ fn multiply_long(
 }
 
 /// Returns SDIV or UDIV.
-#[tactic(auto, unfolding(reference::specs::LongMultiply::divide_row))]
+#[tactic(auto, unfolding(instruction_set::specs::LongMultiply::divide_row))]
 fn divide(signed: bool, n: Register, d: Register, m: Register) -> Decoded
     ensures { result ≡ divide_row (record { signed = signed; destination = d; dividend = n; divisor = m }) }
 {

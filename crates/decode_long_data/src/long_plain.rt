@@ -3,23 +3,23 @@
 
 ghost use Rattle.std.specs.Prelude.{◌≡◌, ◌≢◌, ◌==◌, ◌<◌, ◌≤◌, ◌+◌, ◌-◌, ◌*◌, ◌^◌, ◌&&◌, ◌||◌, not, true, false, nat_lt};
 ghost use Rattle.encodings.specs.Masks.{by_masks};
-ghost use Rattle.reference.specs.LongPlain.{add_wide_row, address_wide_row, clear_field_row, extract_field_row, halfword, insert_field_row, move_top_row, move_wide_row, plain_rows, saturate_row};
-ghost use Rattle.reference.specs.Rows.{long, unless};
-ghost use Rattle.reference.specs.declared.instruction.BlockPlace.TheVariants.{Anywhere};
-ghost use Rattle.reference.specs.declared.stop.UnpredictableCase.TheVariants.{BitField};
+ghost use Rattle.instruction_set.specs.declared.instruction.BlockPlace.TheVariants.{Anywhere};
+ghost use Rattle.instruction_set.specs.declared.unpredictable.UnpredictableCase.TheVariants.{BitField};
+ghost use Rattle.instruction_set.specs.LongPlain.{add_wide_row, address_wide_row, clear_field_row, extract_field_row, halfword, insert_field_row, move_top_row, move_wide_row, plain_rows, saturate_row};
+ghost use Rattle.instruction_set.specs.Rows.{long, unless};
 
 use crate::long_immediate::is_refused_destination;
 use encodings::operands::{negated, plain_immediate, shifted};
 use encodings::outcomes::{is_bad, long, long_unless, unless, unless_refused};
 use encodings::rows;
-use reference::instruction::{BlockPlace, DataProcessing, Decoded, Instruction};
-use reference::operands::DataOperation::{Add, Subtract};
-use reference::operands::{
+use instruction_set::instruction::{BlockPlace, DataProcessing, Decoded, Instruction};
+use instruction_set::operands::DataOperation::{Add, Subtract};
+use instruction_set::operands::{
     Address, ClearField, DataImmediate, DataOperation, ExtractField, FlagSetting, InsertField,
     MoveImmediate, MoveOperation, MoveTop, Saturate, ShiftedRegister,
 };
-use reference::registers::Register;
-use reference::stop::UnpredictableCase;
+use instruction_set::registers::Register;
+use instruction_set::unpredictable::UnpredictableCase;
 
 /// Returns the register `n`, shifted left or, where `h` is 1, right with its sign.
 macro_rules! source {
@@ -71,7 +71,7 @@ pub fn plain_rows(x: u32) -> Option<Decoded>
 }
 
 /// Returns `imm4:i:imm3:imm8`, a halfword with its top four bits apart.
-#[tactic(auto, unfolding(reference::specs::LongPlain::halfword))]
+#[tactic(auto, unfolding(instruction_set::specs::LongPlain::halfword))]
 fn halfword(top: u8, imm12: u16) -> u16
     requires small { top < 16 }
     requires narrow { imm12 < 4096 }
@@ -81,7 +81,7 @@ fn halfword(top: u8, imm12: u16) -> u16
 }
 
 /// Returns ADDW or SUBW: a number of twelve bits, which sets no flags.
-#[tactic(auto, unfolding(reference::specs::LongPlain::add_wide_row))]
+#[tactic(auto, unfolding(instruction_set::specs::LongPlain::add_wide_row))]
 fn add_wide(operation: DataOperation, n: Register, d: Register, imm12: u16) -> Decoded
     ensures { result ≡ add_wide_row operation n d imm12 }
 {
@@ -96,7 +96,7 @@ fn add_wide(operation: DataOperation, n: Register, d: Register, imm12: u16) -> D
 }
 
 /// Returns ADR.
-#[tactic(auto, unfolding(reference::specs::LongPlain::address_wide_row))]
+#[tactic(auto, unfolding(instruction_set::specs::LongPlain::address_wide_row))]
 fn address_wide(d: Register, offset: u32) -> Decoded
     ensures { result ≡ address_wide_row d offset }
 {
@@ -108,7 +108,7 @@ fn address_wide(d: Register, offset: u32) -> Decoded
 }
 
 /// Returns MOVW.
-#[tactic(auto, unfolding(reference::specs::LongPlain::move_wide_row))]
+#[tactic(auto, unfolding(instruction_set::specs::LongPlain::move_wide_row))]
 fn move_wide(d: Register, imm16: u16) -> Decoded
     ensures { result ≡ move_wide_row d imm16 }
 {
@@ -122,7 +122,7 @@ fn move_wide(d: Register, imm16: u16) -> Decoded
 }
 
 /// Returns MOVT.
-#[tactic(auto, unfolding(reference::specs::LongPlain::move_top_row))]
+#[tactic(auto, unfolding(instruction_set::specs::LongPlain::move_top_row))]
 fn move_top(d: Register, imm16: u16) -> Decoded
     ensures { result ≡ move_top_row d imm16 }
 {
@@ -134,7 +134,7 @@ fn move_top(d: Register, imm16: u16) -> Decoded
 }
 
 /// Returns SSAT or USAT, to `bits` bits.
-#[tactic(auto, unfolding(reference::specs::LongPlain::saturate_row))]
+#[tactic(auto, unfolding(instruction_set::specs::LongPlain::saturate_row))]
 fn saturate(signed: bool, destination: Register, bits: u8, source: ShiftedRegister) -> Decoded
     ensures { result ≡ saturate_row (record { signed = signed; destination = destination; bits = bits; source = source }) }
 {
@@ -161,7 +161,7 @@ fn long_within(outside: bool, instruction: Instruction) -> Decoded
 }
 
 /// Returns SBFX or UBFX: the field ends at most at bit 31.
-#[tactic(auto, unfolding(reference::specs::LongPlain::extract_field_row))]
+#[tactic(auto, unfolding(instruction_set::specs::LongPlain::extract_field_row))]
 fn extract_field(signed: bool, n: Register, d: Register, low: u8, width: u8) -> Decoded
     requires inside { low < 32 }
     requires narrow { width ≤ 32 }
@@ -181,7 +181,7 @@ fn extract_field(signed: bool, n: Register, d: Register, low: u8, width: u8) -> 
 }
 
 /// Returns BFI: the field's last bit isn't below its first.
-#[tactic(auto, unfolding(reference::specs::LongPlain::insert_field_row))]
+#[tactic(auto, unfolding(instruction_set::specs::LongPlain::insert_field_row))]
 fn insert_field(n: Register, d: Register, low: u8, high: u8) -> Decoded
     requires { high < 32 }
     ensures { result ≡ insert_field_row n d low high }
@@ -196,7 +196,7 @@ fn insert_field(n: Register, d: Register, low: u8, high: u8) -> Decoded
 }
 
 /// Returns BFC.
-#[tactic(auto, unfolding(reference::specs::LongPlain::clear_field_row))]
+#[tactic(auto, unfolding(instruction_set::specs::LongPlain::clear_field_row))]
 fn clear_field(d: Register, low: u8, high: u8) -> Decoded
     requires { high < 32 }
     ensures { result ≡ clear_field_row d low high }

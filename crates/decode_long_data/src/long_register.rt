@@ -3,21 +3,21 @@
 
 ghost use Rattle.std.specs.Prelude.{◌≡◌, ◌≢◌, ◌==◌, ◌<◌, ◌≤◌, ◌+◌, ◌-◌, ◌*◌, ◌^◌, ◌&&◌, ◌||◌, not, true, false, nat_lt};
 ghost use Rattle.encodings.specs.Masks.{by_masks};
-ghost use Rattle.reference.specs.LongRegister.{extend_wide_row, extended_size, rearrange_wide_row, register_rows, shift_by_register_row, shift_type_of};
-ghost use Rattle.reference.specs.RowOperands.{flags_if};
+ghost use Rattle.instruction_set.specs.LongRegister.{extend_wide_row, extended_size, rearrange_wide_row, register_rows, shift_by_register_row, shift_type_of};
+ghost use Rattle.instruction_set.specs.RowOperands.{flags_if};
 
 use encodings::operands::flags_if;
 use encodings::outcomes::{is_bad, long_unless};
 use encodings::rows;
-use reference::access::Size;
-use reference::access::Size::Halfword;
-use reference::instruction::{DataProcessing, Decoded, Instruction};
-use reference::operands::Rearrangement::{
+use instruction_set::instruction::{DataProcessing, Decoded, Instruction};
+use instruction_set::operands::Rearrangement::{
     CountLeadingZeros, ReverseBits, ReverseHalfwords, ReverseSignedHalfword, ReverseWord,
 };
-use reference::operands::{Extend, Rearrange, Rearrangement, ShiftByRegister};
-use reference::registers::Register;
-use reference::shift::ShiftType;
+use instruction_set::operands::{Extend, Rearrange, Rearrangement, ShiftByRegister};
+use instruction_set::registers::Register;
+use instruction_set::shift::ShiftType;
+use instruction_set::size::Size;
+use instruction_set::size::Size::Halfword;
 
 /// Decodes two halfwords by these rows.
 #[tactic(auto, unfolding(encodings::specs::Masks::by_masks))]
@@ -71,7 +71,7 @@ fn shift_type_of(bits: u32) -> ShiftType
 }
 
 /// Returns a shift by a register.
-#[tactic(auto, unfolding(reference::specs::LongRegister::shift_by_register_row))]
+#[tactic(auto, unfolding(instruction_set::specs::LongRegister::shift_by_register_row))]
 fn shift_by_register(kind: u32, s: bool, n: Register, d: Register, m: Register) -> Decoded
     ensures { result ≡ shift_by_register_row (record { shift_type = shift_type_of kind; flags = flags_if s; destination = d; source = n; amount = m }) }
 {
@@ -95,7 +95,7 @@ fn extended_size(bit: u32) -> Size
 }
 
 /// Returns SXTB, SXTH, UXTB or UXTH, after a rotation.
-#[tactic(auto, unfolding(reference::specs::LongRegister::extend_wide_row))]
+#[tactic(auto, unfolding(instruction_set::specs::LongRegister::extend_wide_row))]
 fn extend_wide(signed: bool, size: Size, d: Register, m: Register, rotation: u8) -> Decoded
     ensures { result ≡ extend_wide_row (record { signed = signed; size = size; destination = d; source = m; rotation = rotation }) }
 {
@@ -110,7 +110,7 @@ fn extend_wide(signed: bool, size: Size, d: Register, m: Register, rotation: u8)
 }
 
 /// Returns REV, REV16, RBIT, REVSH or CLZ, in which the source is encoded twice.
-#[tactic(auto, unfolding(reference::specs::LongRegister::rearrange_wide_row))]
+#[tactic(auto, unfolding(instruction_set::specs::LongRegister::rearrange_wide_row))]
 fn rearrange_wide(operation: Rearrangement, again: Register, d: Register, m: Register) -> Decoded
     ensures { result ≡ rearrange_wide_row operation again d m }
 {

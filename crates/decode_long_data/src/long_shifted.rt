@@ -3,24 +3,24 @@
 
 ghost use Rattle.std.specs.Prelude.{◌≡◌, ◌≢◌, ◌==◌, ◌<◌, ◌≤◌, ◌+◌, ◌-◌, ◌*◌, ◌^◌, ◌&&◌, ◌||◌, not, true, false, nat_lt};
 ghost use Rattle.encodings.specs.Masks.{by_masks};
-ghost use Rattle.reference.specs.LongShifted.{compare_shifted_row, data_shifted_row, is_lsl_below, is_refused_move, logical_shifted_rows, move_not_shifted_row, move_shifted_row, sum_shifted_rows};
+ghost use Rattle.instruction_set.specs.LongShifted.{compare_shifted_row, data_shifted_row, is_lsl_below, is_refused_move, logical_shifted_rows, move_not_shifted_row, move_shifted_row, sum_shifted_rows};
 
 use crate::long_immediate::{compares_sp, is_refused_destination, is_refused_first, takes_sp};
 use encodings::operands::{flags_if, shifted};
 use encodings::outcomes::{is_bad, long_unless};
 use encodings::rows;
-use reference::instruction::{DataProcessing, Decoded, Instruction};
-use reference::operands::Comparison::{Compare, CompareNegative, Test, TestEquivalence};
-use reference::operands::DataOperation::{
+use instruction_set::instruction::{DataProcessing, Decoded, Instruction};
+use instruction_set::operands::Comparison::{Compare, CompareNegative, Test, TestEquivalence};
+use instruction_set::operands::DataOperation::{
     Add, AddWithCarry, And, BitClear, ExclusiveOr, Or, OrNot, ReverseSubtract, Subtract,
     SubtractWithCarry,
 };
-use reference::operands::{
+use instruction_set::operands::{
     CompareRegister, Comparison, DataOperation, DataRegister, MoveOperation, MoveRegister,
     ShiftedRegister,
 };
-use reference::registers::Register;
-use reference::shift::{Shift, ShiftType};
+use instruction_set::registers::Register;
+use instruction_set::shift::{Shift, ShiftType};
 
 /// Returns the register `m`, shifted by the number `i`.
 macro_rules! second {
@@ -103,7 +103,7 @@ fn is_lsl_below(shift: Shift, bound: u8) -> bool
 
 /// Returns an operation on two registers, the second shifted. ADD and SUB may write SP only if the
 /// first operand is SP and the shift is LSL by at most 3.
-#[tactic(auto, unfolding(reference::specs::LongShifted::data_shifted_row))]
+#[tactic(auto, unfolding(instruction_set::specs::LongShifted::data_shifted_row))]
 fn data_shifted(
     operation: DataOperation,
     s: bool,
@@ -129,7 +129,7 @@ fn data_shifted(
 }
 
 /// Returns a comparison of two registers, the second shifted.
-#[tactic(auto, unfolding(reference::specs::LongShifted::compare_shifted_row))]
+#[tactic(auto, unfolding(instruction_set::specs::LongShifted::compare_shifted_row))]
 fn compare_shifted(operation: Comparison, n: Register, second: ShiftedRegister) -> Decoded
     ensures { result ≡ compare_shifted_row operation n second }
 {
@@ -157,7 +157,7 @@ fn is_refused_move(s: bool, d: Register, m: Register, shift: Shift) -> bool
 }
 
 /// Returns MOV of a shifted register.
-#[tactic(auto, unfolding(reference::specs::LongShifted::move_shifted_row))]
+#[tactic(auto, unfolding(instruction_set::specs::LongShifted::move_shifted_row))]
 fn move_shifted(s: bool, d: Register, source: ShiftedRegister) -> Decoded
     ensures { result ≡ move_shifted_row s d source }
 {
@@ -172,7 +172,7 @@ fn move_shifted(s: bool, d: Register, source: ShiftedRegister) -> Decoded
 }
 
 /// Returns MVN of a shifted register.
-#[tactic(auto, unfolding(reference::specs::LongShifted::move_not_shifted_row))]
+#[tactic(auto, unfolding(instruction_set::specs::LongShifted::move_not_shifted_row))]
 fn move_not_shifted(s: bool, d: Register, source: ShiftedRegister) -> Decoded
     ensures { result ≡ move_not_shifted_row s d source }
 {

@@ -3,20 +3,20 @@
 
 ghost use Rattle.std.specs.Prelude.{◌≡◌, ◌≢◌, ◌==◌, ◌<◌, ◌≤◌, ◌+◌, ◌-◌, ◌*◌, ◌^◌, ◌&&◌, ◌||◌, not, true, false, nat_lt};
 ghost use Rattle.encodings.specs.Masks.{by_masks};
-ghost use Rattle.reference.specs.LongControl.{branch_wide_if_row, branch_wide_row, branch_with_link_row, conditional_offset, long_control_rows, long_hint_of, move_from_special_row, move_to_special_row, wide_offset};
-ghost use Rattle.reference.specs.RowOperands.{plain_immediate};
+ghost use Rattle.instruction_set.specs.LongControl.{branch_wide_if_row, branch_wide_row, branch_with_link_row, conditional_offset, long_control_rows, long_hint_of, move_from_special_row, move_to_special_row, wide_offset};
+ghost use Rattle.instruction_set.specs.RowOperands.{plain_immediate};
 
 use encodings::operands::{hint, sign_extend};
 use encodings::outcomes::{is_bad, long, placed, unless, unless_refused};
 use encodings::rows;
-use reference::instruction::{
+use instruction_set::instruction::{
     BlockPlace, Branch, Decoded, Exclusive, Hint, Instruction, InstructionLength, System,
 };
-use reference::operands::{
+use instruction_set::operands::{
     ConditionalBranch, MoveFromSpecial, MoveToSpecial, Offset, SpecialRegister,
 };
-use reference::registers::Register;
-use reference::stop::UnpredictableCase;
+use instruction_set::registers::Register;
+use instruction_set::unpredictable::UnpredictableCase;
 
 /// Returns a branch's offset from its five fields.
 macro_rules! offset {
@@ -60,7 +60,7 @@ pub fn long_control_rows(x: u32) -> Option<Decoded>
 }
 
 /// Returns the offset of BL and of the longer B: `S:I1:I2:imm10:imm11:'0'`.
-#[tactic(auto, unfolding(reference::specs::LongControl::wide_offset))]
+#[tactic(auto, unfolding(instruction_set::specs::LongControl::wide_offset))]
 fn wide_offset(sign: u32, j1: u32, j2: u32, imm10: u32, imm11: u32) -> u32
     requires sign { sign < 2 }
     requires imm10 { imm10 < 2 ^ 10 }
@@ -76,7 +76,7 @@ fn wide_offset(sign: u32, j1: u32, j2: u32, imm10: u32, imm11: u32) -> u32
 }
 
 /// Returns the offset of B with a condition: `S:J2:J1:imm6:imm11:'0'`.
-#[tactic(auto, unfolding(reference::specs::LongControl::conditional_offset))]
+#[tactic(auto, unfolding(instruction_set::specs::LongControl::conditional_offset))]
 fn conditional_offset(sign: u32, j1: u32, j2: u32, imm6: u32, imm11: u32) -> u32
     requires sign { sign < 2 }
     requires j1 { j1 < 2 }
@@ -90,7 +90,7 @@ fn conditional_offset(sign: u32, j1: u32, j2: u32, imm6: u32, imm11: u32) -> u32
 }
 
 /// Returns BL.
-#[tactic(auto, unfolding(reference::specs::LongControl::branch_with_link_row))]
+#[tactic(auto, unfolding(instruction_set::specs::LongControl::branch_with_link_row))]
 fn branch_with_link(offset: u32) -> Decoded
     ensures { result ≡ branch_with_link_row offset }
 {
@@ -102,7 +102,7 @@ fn branch_with_link(offset: u32) -> Decoded
 }
 
 /// Returns B.
-#[tactic(auto, unfolding(reference::specs::LongControl::branch_wide_row))]
+#[tactic(auto, unfolding(instruction_set::specs::LongControl::branch_wide_row))]
 fn branch_wide(offset: u32) -> Decoded
     ensures { result ≡ branch_wide_row offset }
 {
@@ -114,7 +114,7 @@ fn branch_wide(offset: u32) -> Decoded
 }
 
 /// Returns B with a condition.
-#[tactic(auto, unfolding(reference::specs::LongControl::branch_wide_if_row))]
+#[tactic(auto, unfolding(instruction_set::specs::LongControl::branch_wide_if_row))]
 fn branch_wide_if(condition: u8, offset: u32) -> Decoded
     ensures { result ≡ branch_wide_if_row condition offset }
 {
@@ -126,7 +126,7 @@ fn branch_wide_if(condition: u8, offset: u32) -> Decoded
 }
 
 /// Returns MSR: the mask is 10, since there are no GE flags to write.
-#[tactic(auto, unfolding(reference::specs::LongControl::move_to_special_row))]
+#[tactic(auto, unfolding(instruction_set::specs::LongControl::move_to_special_row))]
 fn move_to_special(n: Register, mask: u32, number: u8) -> Decoded
     ensures { result ≡ move_to_special_row n mask number }
 {
@@ -147,7 +147,7 @@ fn move_to_special(n: Register, mask: u32, number: u8) -> Decoded
 }
 
 /// Returns MRS.
-#[tactic(auto, unfolding(reference::specs::LongControl::move_from_special_row))]
+#[tactic(auto, unfolding(instruction_set::specs::LongControl::move_from_special_row))]
 fn move_from_special(d: Register, number: u8) -> Decoded
     ensures { result ≡ move_from_special_row d number }
 {
@@ -162,7 +162,7 @@ fn move_from_special(d: Register, number: u8) -> Decoded
 }
 
 /// Returns the hint of 32 bits of this number: DBG has the top sixteen.
-#[tactic(auto, unfolding(reference::specs::LongControl::long_hint_of))]
+#[tactic(auto, unfolding(instruction_set::specs::LongControl::long_hint_of))]
 fn long_hint(number: u8) -> Hint
     ensures { result ≡ long_hint_of number }
 {

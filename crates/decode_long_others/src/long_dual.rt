@@ -3,22 +3,22 @@
 
 ghost use Rattle.std.specs.Prelude.{◌≡◌, ◌≢◌, ◌==◌, ◌<◌, ◌≤◌, ◌+◌, ◌-◌, ◌*◌, ◌^◌, ◌&&◌, ◌||◌, not, true, false, nat_lt};
 ghost use Rattle.encodings.specs.Masks.{by_masks};
-ghost use Rattle.reference.specs.LongDual.{dual_rows, is_refused_pair, load_dual_literal_row, load_dual_row, load_exclusive_row, store_dual_row, store_exclusive_row, table_branch_row};
-ghost use Rattle.reference.specs.RowOperands.{indexing_of};
+ghost use Rattle.instruction_set.specs.LongDual.{dual_rows, is_refused_pair, load_dual_literal_row, load_dual_row, load_exclusive_row, store_dual_row, store_exclusive_row, table_branch_row};
+ghost use Rattle.instruction_set.specs.RowOperands.{indexing_of};
 
 use encodings::operands::{byte_or_halfword, indexed, indexing_of, signed_offset, writes_back};
 use encodings::outcomes::{is_bad, long_unless, placed_unless};
 use encodings::rows;
-use reference::access::Size;
-use reference::access::Size::Word;
-use reference::instruction::{
+use instruction_set::instruction::{
     BlockPlace, Branch, Decoded, Exclusive, Instruction, InstructionLength, LoadStoreMultiple,
 };
-use reference::operands::{
+use instruction_set::operands::{
     ImmediateAddress, Indexing, LoadDual, LoadDualLiteral, LoadExclusive, StoreDual,
     StoreExclusive, TableBranch,
 };
-use reference::registers::Register;
+use instruction_set::registers::Register;
+use instruction_set::size::Size;
+use instruction_set::size::Size::Word;
 
 /// Returns the address of LDRD and STRD.
 macro_rules! address {
@@ -74,7 +74,7 @@ pub fn dual_rows(x: u32) -> Option<Decoded>
 }
 
 /// Returns STREX, STREXB or STREXH: R[d] is neither the base nor the register that is stored.
-#[tactic(auto, unfolding(reference::specs::LongDual::store_exclusive_row))]
+#[tactic(auto, unfolding(instruction_set::specs::LongDual::store_exclusive_row))]
 fn store_exclusive(size: Size, d: Register, t: Register, n: Register, offset: u32) -> Decoded
     ensures { result ≡ store_exclusive_row (record { size = size; status = d; target = t; base = n; offset = offset }) }
 {
@@ -91,7 +91,7 @@ fn store_exclusive(size: Size, d: Register, t: Register, n: Register, offset: u3
 }
 
 /// Returns LDREX, LDREXB or LDREXH.
-#[tactic(auto, unfolding(reference::specs::LongDual::load_exclusive_row))]
+#[tactic(auto, unfolding(instruction_set::specs::LongDual::load_exclusive_row))]
 fn load_exclusive(size: Size, t: Register, n: Register, offset: u32) -> Decoded
     ensures { result ≡ load_exclusive_row (record { size = size; target = t; base = n; offset = offset }) }
 {
@@ -106,7 +106,7 @@ fn load_exclusive(size: Size, t: Register, n: Register, offset: u32) -> Decoded
 }
 
 /// Returns TBB or TBH.
-#[tactic(auto, unfolding(reference::specs::LongDual::table_branch_row))]
+#[tactic(auto, unfolding(instruction_set::specs::LongDual::table_branch_row))]
 fn table_branch(size: Size, n: Register, m: Register) -> Decoded
     ensures { result ≡ table_branch_row size n m }
 {
@@ -140,7 +140,7 @@ fn is_refused_pair(t: Register, u: Register, n: Register, indexing: Indexing) ->
 }
 
 /// Returns LDRD: the two registers differ.
-#[tactic(auto, unfolding(reference::specs::LongDual::load_dual_row))]
+#[tactic(auto, unfolding(instruction_set::specs::LongDual::load_dual_row))]
 fn load_dual(t: Register, u: Register, address: ImmediateAddress) -> Decoded
     ensures { result ≡ load_dual_row (record { first = t; second = u; address = address }) }
 {
@@ -154,7 +154,7 @@ fn load_dual(t: Register, u: Register, address: ImmediateAddress) -> Decoded
 }
 
 /// Returns LDRD (literal): W = 1 is UNPREDICTABLE.
-#[tactic(auto, unfolding(reference::specs::LongDual::load_dual_literal_row))]
+#[tactic(auto, unfolding(instruction_set::specs::LongDual::load_dual_literal_row))]
 fn load_dual_literal(write_back: bool, t: Register, u: Register, offset: u32) -> Decoded
     ensures { result ≡ load_dual_literal_row write_back (record { first = t; second = u; offset = offset }) }
 {
@@ -170,7 +170,7 @@ fn load_dual_literal(write_back: bool, t: Register, u: Register, offset: u32) ->
 }
 
 /// Returns STRD: PC isn't a base.
-#[tactic(auto, unfolding(reference::specs::LongDual::store_dual_row))]
+#[tactic(auto, unfolding(instruction_set::specs::LongDual::store_dual_row))]
 fn store_dual(t: Register, u: Register, address: ImmediateAddress) -> Decoded
     ensures { result ≡ store_dual_row (record { first = t; second = u; address = address }) }
 {

@@ -3,21 +3,21 @@
 
 ghost use Rattle.std.specs.Prelude.{◌≡◌, ◌≢◌, ◌==◌, ◌<◌, ◌≤◌, ◌+◌, ◌-◌, ◌*◌, ◌^◌, ◌&&◌, ◌||◌, not, true, false, nat_lt};
 ghost use Rattle.encodings.specs.Masks.{by_masks};
-ghost use Rattle.reference.specs.LongLoad.{is_refused_load, load_at_row, load_indexed_row, load_literal_row, load_unprivileged_row, memory_hint_indexed_row, memory_hint_row, narrow_form, narrow_load_rows, place_of_load, word_form, word_load_rows};
+ghost use Rattle.instruction_set.specs.LongLoad.{is_refused_load, load_at_row, load_indexed_row, load_literal_row, load_unprivileged_row, memory_hint_indexed_row, memory_hint_row, narrow_form, narrow_load_rows, place_of_load, word_form, word_load_rows};
 
 use encodings::operands::{
     at_offset, byte_or_halfword, indexed, indexing_of, signed_offset, writes_back,
 };
 use encodings::outcomes::{is_bad, last_only_if, long, long_unless, placed_unless, unless_refused};
 use encodings::rows;
-use reference::access::Size;
-use reference::instruction::{
+use instruction_set::instruction::{
     BlockPlace, Decoded, Hint, Instruction, InstructionLength, LoadStore, System,
 };
-use reference::operands::{
+use instruction_set::operands::{
     ImmediateAddress, LoadForm, LoadImmediate, LoadLiteral, LoadRegister, RegisterAddress,
 };
-use reference::registers::Register;
+use instruction_set::registers::Register;
+use instruction_set::size::Size;
 
 /// Returns the size of a byte or halfword, and whether it is signed.
 macro_rules! form {
@@ -150,7 +150,7 @@ fn is_refused_load(size: Size, t: Register) -> bool
 }
 
 /// Returns a load at the PC and an offset.
-#[tactic(auto, unfolding(reference::specs::LongLoad::load_literal_row))]
+#[tactic(auto, unfolding(instruction_set::specs::LongLoad::load_literal_row))]
 fn load_literal(form: LoadForm, t: Register, offset: u32) -> Decoded
     ensures { result ≡ load_literal_row form t offset }
 {
@@ -165,7 +165,7 @@ fn load_literal(form: LoadForm, t: Register, offset: u32) -> Decoded
 }
 
 /// Returns a load at a register and an offset: a base that is written isn't the target.
-#[tactic(auto, unfolding(reference::specs::LongLoad::load_at_row))]
+#[tactic(auto, unfolding(instruction_set::specs::LongLoad::load_at_row))]
 fn load_at(form: LoadForm, t: Register, address: ImmediateAddress) -> Decoded
     ensures { result ≡ load_at_row form t address }
 {
@@ -182,7 +182,7 @@ fn load_at(form: LoadForm, t: Register, address: ImmediateAddress) -> Decoded
 }
 
 /// Returns an unprivileged load, which goes neither to SP nor to PC.
-#[tactic(auto, unfolding(reference::specs::LongLoad::load_unprivileged_row))]
+#[tactic(auto, unfolding(instruction_set::specs::LongLoad::load_unprivileged_row))]
 fn load_unprivileged(form: LoadForm, t: Register, address: ImmediateAddress) -> Decoded
     ensures { result ≡ load_unprivileged_row form t address }
 {
@@ -196,7 +196,7 @@ fn load_unprivileged(form: LoadForm, t: Register, address: ImmediateAddress) -> 
 }
 
 /// Returns a load at two registers.
-#[tactic(auto, unfolding(reference::specs::LongLoad::load_indexed_row))]
+#[tactic(auto, unfolding(instruction_set::specs::LongLoad::load_indexed_row))]
 fn load_indexed(form: LoadForm, t: Register, n: Register, m: Register, shift: u8) -> Decoded
     ensures { result ≡ load_indexed_row (record { form = form; target = t; address = record { base = n; index = m; shift = shift } }) }
 {
@@ -216,7 +216,7 @@ fn load_indexed(form: LoadForm, t: Register, n: Register, m: Register, shift: u8
 
 /// Returns PLD or PLI, where a byte would be loaded to PC; where a halfword would be, the hint is
 /// unallocated.
-#[tactic(auto, unfolding(reference::specs::LongLoad::memory_hint_row))]
+#[tactic(auto, unfolding(instruction_set::specs::LongLoad::memory_hint_row))]
 fn memory_hint(half: u32) -> Decoded
     ensures { result ≡ memory_hint_row half }
 {
@@ -229,7 +229,7 @@ fn memory_hint(half: u32) -> Decoded
 }
 
 /// Returns PLD or PLI at two registers, likewise.
-#[tactic(auto, unfolding(reference::specs::LongLoad::memory_hint_indexed_row))]
+#[tactic(auto, unfolding(instruction_set::specs::LongLoad::memory_hint_indexed_row))]
 fn memory_hint_indexed(half: u32, m: Register) -> Decoded
     ensures { result ≡ memory_hint_indexed_row half m }
 {

@@ -3,18 +3,18 @@
 
 ghost use Rattle.std.specs.Prelude.{◌≡◌, ◌≢◌, ◌==◌, ◌<◌, ◌≤◌, ◌+◌, ◌-◌, ◌*◌, ◌^◌, ◌&&◌, ◌||◌, not, true, false, nat_lt};
 ghost use Rattle.encodings.specs.Masks.{by_masks};
-ghost use Rattle.reference.specs.LongMultiple.{has_few, load_list_wide_row, multiple_rows, store_list_wide_row};
+ghost use Rattle.instruction_set.specs.LongMultiple.{has_few, load_list_wide_row, multiple_rows, store_list_wide_row};
 
 use encodings::operands::is_in_list;
 use encodings::outcomes::{last_only_if, long_unless, placed_unless, unless};
 use encodings::rows;
-use reference::instruction::{
+use instruction_set::instruction::{
     BlockPlace, Decoded, Instruction, InstructionLength, LoadStoreMultiple,
 };
-use reference::operands::ListOrder::{DecrementBefore, IncrementAfter};
-use reference::operands::{ListOrder, LoadMultiple, StoreMultiple};
-use reference::registers::{Register, RegisterList};
-use reference::stop::UnpredictableCase;
+use instruction_set::operands::ListOrder::{DecrementBefore, IncrementAfter};
+use instruction_set::operands::{ListOrder, LoadMultiple, StoreMultiple};
+use instruction_set::registers::{Register, RegisterList};
+use instruction_set::unpredictable::UnpredictableCase;
 
 /// Decodes two halfwords by these rows.
 #[tactic(auto, unfolding(encodings::specs::Masks::by_masks))]
@@ -53,7 +53,7 @@ fn has_few(list: u16) -> bool
 }
 
 /// Returns STM or STMDB: PC isn't a base, and a base that is stored isn't written back.
-#[tactic(auto, unfolding(reference::specs::LongMultiple::store_list_wide_row))]
+#[tactic(auto, unfolding(instruction_set::specs::LongMultiple::store_list_wide_row))]
 fn store_list_wide(n: Register, list: u16, order: ListOrder, write_back: bool) -> Decoded
     ensures { result ≡ store_list_wide_row (record { base = n; list = list; order = order; write_back = write_back }) }
 {
@@ -76,7 +76,7 @@ fn store_list_wide(n: Register, list: u16, order: ListOrder, write_back: bool) -
 
 /// Returns LDM or LDMDB: PC isn't a base, LR and PC aren't both loaded, and a base that is loaded
 /// isn't written back.
-#[tactic(auto, unfolding(reference::specs::LongMultiple::load_list_wide_row))]
+#[tactic(auto, unfolding(instruction_set::specs::LongMultiple::load_list_wide_row))]
 fn load_list_wide(n: Register, list: u16, order: ListOrder, write_back: bool) -> Decoded
     ensures { result ≡ load_list_wide_row (record { base = n; list = list; order = order; write_back = write_back }) }
 {

@@ -3,15 +3,15 @@
 
 ghost use Rattle.std.specs.Prelude.{◌≡◌, ◌≢◌, ◌==◌, ◌<◌, ◌≤◌, ◌+◌, ◌-◌, ◌*◌, ◌^◌, ◌&&◌, ◌||◌, not, true, false, nat_lt};
 ghost use Rattle.encodings.specs.Masks.{by_masks};
-ghost use Rattle.reference.specs.LongStore.{is_refused_store, size_of, store_at_row, store_indexed_row, store_rows, store_unprivileged_row};
+ghost use Rattle.instruction_set.specs.LongStore.{is_refused_store, size_of, store_at_row, store_indexed_row, store_rows, store_unprivileged_row};
 
 use encodings::operands::{at_offset, indexed, indexing_of, signed_offset, writes_back};
 use encodings::outcomes::{is_bad, long_unless};
 use encodings::rows;
-use reference::access::Size;
-use reference::instruction::{Decoded, Instruction, LoadStore};
-use reference::operands::{ImmediateAddress, RegisterAddress, StoreImmediate, StoreRegister};
-use reference::registers::Register;
+use instruction_set::instruction::{Decoded, Instruction, LoadStore};
+use instruction_set::operands::{ImmediateAddress, RegisterAddress, StoreImmediate, StoreRegister};
+use instruction_set::registers::Register;
+use instruction_set::size::Size;
 
 /// Decodes two halfwords by these rows.
 #[tactic(auto, unfolding(encodings::specs::Masks::by_masks))]
@@ -74,7 +74,7 @@ fn is_refused_store(size: Size, t: Register) -> bool
 }
 
 /// Returns a store at a register and an offset: a base that is written isn't the target.
-#[tactic(auto, unfolding(reference::specs::LongStore::store_at_row))]
+#[tactic(auto, unfolding(instruction_set::specs::LongStore::store_at_row))]
 fn store_at(size: Size, t: Register, address: ImmediateAddress) -> Decoded
     ensures { result ≡ store_at_row size t address }
 {
@@ -90,7 +90,7 @@ fn store_at(size: Size, t: Register, address: ImmediateAddress) -> Decoded
 }
 
 /// Returns an unprivileged store, which stores neither SP nor PC.
-#[tactic(auto, unfolding(reference::specs::LongStore::store_unprivileged_row))]
+#[tactic(auto, unfolding(instruction_set::specs::LongStore::store_unprivileged_row))]
 fn store_unprivileged(size: Size, t: Register, address: ImmediateAddress) -> Decoded
     ensures { result ≡ store_unprivileged_row size t address }
 {
@@ -104,7 +104,7 @@ fn store_unprivileged(size: Size, t: Register, address: ImmediateAddress) -> Dec
 }
 
 /// Returns a store at two registers.
-#[tactic(auto, unfolding(reference::specs::LongStore::store_indexed_row))]
+#[tactic(auto, unfolding(instruction_set::specs::LongStore::store_indexed_row))]
 fn store_indexed(size: Size, t: Register, n: Register, m: Register, shift: u8) -> Decoded
     ensures { result ≡ store_indexed_row (record { size = size; target = t; address = record { base = n; index = m; shift = shift } }) }
 {

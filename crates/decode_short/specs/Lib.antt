@@ -1,2 +1,2 @@
--- What halfwords decode to. The rows are in the crate `reference`.
-pub use Rattle.reference.specs.Decoding
+-- What halfwords decode to. The rows are in the crate `instruction_set`.
+pub use Rattle.instruction_set.specs.Decoding

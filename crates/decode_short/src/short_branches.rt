@@ -3,13 +3,15 @@
 
 ghost use Rattle.std.specs.Prelude.{◌≡◌, ◌≢◌, ◌==◌, ◌<◌, ◌≤◌, ◌+◌, ◌-◌, ◌*◌, ◌^◌, ◌&&◌, ◌||◌, not, true, false, nat_lt};
 ghost use Rattle.encodings.specs.Masks.{by_masks};
-ghost use Rattle.reference.specs.ShortBranches.{branch_if_row, branch_row, branch_rows};
+ghost use Rattle.instruction_set.specs.ShortBranches.{branch_if_row, branch_row, branch_rows};
 
 use encodings::operands::sign_extend;
 use encodings::outcomes::{placed, short};
 use encodings::rows;
-use reference::instruction::{BlockPlace, Branch, Decoded, Instruction, InstructionLength, System};
-use reference::operands::{ConditionalBranch, Offset};
+use instruction_set::instruction::{
+    BlockPlace, Branch, Decoded, Instruction, InstructionLength, System,
+};
+use instruction_set::operands::{ConditionalBranch, Offset};
 
 /// Decodes a halfword by these rows.
 #[tactic(auto, unfolding(encodings::specs::Masks::by_masks))]
@@ -28,7 +30,7 @@ pub fn branch_rows(x: u32) -> Option<Decoded>
 }
 
 /// Returns B with a condition: the offset counts halfwords, and is signed.
-#[tactic(auto, unfolding(reference::specs::ShortBranches::branch_if_row))]
+#[tactic(auto, unfolding(instruction_set::specs::ShortBranches::branch_if_row))]
 fn branch_if(condition: u8, halfwords: u8) -> Decoded
     ensures { result ≡ branch_if_row condition halfwords }
 {
@@ -40,7 +42,7 @@ fn branch_if(condition: u8, halfwords: u8) -> Decoded
 }
 
 /// Returns B: the offset counts halfwords, and is signed.
-#[tactic(auto, unfolding(reference::specs::ShortBranches::branch_row))]
+#[tactic(auto, unfolding(instruction_set::specs::ShortBranches::branch_row))]
 fn branch(halfwords: u32) -> Decoded
     requires { halfwords < 2 ^ 11 }
     ensures { result ≡ branch_row halfwords }

@@ -2,24 +2,24 @@
 
 ghost use Rattle.std.specs.Prelude.{◌≡◌, ◌≢◌, ◌==◌, ◌<◌, ◌≤◌, ◌+◌, ◌-◌, ◌*◌, ◌^◌, ◌&&◌, ◌||◌, not, true, false, nat_lt};
 ghost use Rattle.encodings.specs.Masks.{by_masks};
-ghost use Rattle.reference.specs.ShortData.{compare_registers_row, data_high_rows, data_low_rows, move_not_row, multiply_row, shift_register_row};
+ghost use Rattle.instruction_set.specs.ShortData.{compare_registers_row, data_high_rows, data_low_rows, move_not_row, multiply_row, shift_register_row};
 
 use crate::short_shifts::{data_number, data_registers};
 use encodings::operands::unshifted;
 use encodings::outcomes::short;
 use encodings::rows;
-use reference::instruction::{DataProcessing, Decoded, Instruction};
-use reference::operands::Comparison::{Compare, CompareNegative, Test};
-use reference::operands::DataOperation::{
+use instruction_set::instruction::{DataProcessing, Decoded, Instruction};
+use instruction_set::operands::Comparison::{Compare, CompareNegative, Test};
+use instruction_set::operands::DataOperation::{
     AddWithCarry, And, BitClear, ExclusiveOr, Or, ReverseSubtract, SubtractWithCarry,
 };
-use reference::operands::{
+use instruction_set::operands::{
     CompareRegister, Comparison, FlagSetting, MoveOperation, MoveRegister, Multiply,
     ShiftByRegister,
 };
-use reference::registers::Register;
-use reference::shift::ShiftType;
-use reference::shift::ShiftType::{Asr, Lsl, Lsr, Ror};
+use instruction_set::registers::Register;
+use instruction_set::shift::ShiftType;
+use instruction_set::shift::ShiftType::{Asr, Lsl, Lsr, Ror};
 
 /// Decodes a halfword by these rows.
 #[tactic(auto, unfolding(encodings::specs::Masks::by_masks))]
@@ -70,7 +70,7 @@ pub fn data_high_rows(x: u32) -> Option<Decoded>
 }
 
 /// Returns a shift by a register.
-#[tactic(auto, unfolding(reference::specs::ShortData::shift_register_row))]
+#[tactic(auto, unfolding(instruction_set::specs::ShortData::shift_register_row))]
 fn shift_register(shift_type: ShiftType, d: Register, m: Register) -> Decoded
     ensures { result ≡ shift_register_row shift_type d m }
 {
@@ -84,7 +84,7 @@ fn shift_register(shift_type: ShiftType, d: Register, m: Register) -> Decoded
 }
 
 /// Returns MVN of a register.
-#[tactic(auto, unfolding(reference::specs::ShortData::move_not_row))]
+#[tactic(auto, unfolding(instruction_set::specs::ShortData::move_not_row))]
 fn move_not(d: Register, m: Register) -> Decoded
     ensures { result ≡ move_not_row d m }
 {
@@ -97,7 +97,7 @@ fn move_not(d: Register, m: Register) -> Decoded
 }
 
 /// Returns a comparison of two registers.
-#[tactic(auto, unfolding(reference::specs::ShortData::compare_registers_row))]
+#[tactic(auto, unfolding(instruction_set::specs::ShortData::compare_registers_row))]
 fn compare_registers(operation: Comparison, n: Register, m: Register) -> Decoded
     ensures { result ≡ compare_registers_row operation n m }
 {
@@ -109,7 +109,7 @@ fn compare_registers(operation: Comparison, n: Register, m: Register) -> Decoded
 }
 
 /// Returns MUL.
-#[tactic(auto, unfolding(reference::specs::ShortData::multiply_row))]
+#[tactic(auto, unfolding(instruction_set::specs::ShortData::multiply_row))]
 fn multiply(d: Register, m: Register) -> Decoded
     ensures { result ≡ multiply_row d m }
 {

@@ -4,20 +4,22 @@
 
 ghost use Rattle.std.specs.Prelude.{◌≡◌, ◌≢◌, ◌==◌, ◌<◌, ◌≤◌, ◌+◌, ◌-◌, ◌*◌, ◌^◌, ◌&&◌, ◌||◌, not, true, false, nat_lt};
 ghost use Rattle.encodings.specs.Masks.{by_masks};
-ghost use Rattle.reference.specs.ShortLoadStore.{load_list_row, load_literal_word_row, load_number_row, load_register_row, immediate_and_list_rows, literal_and_register_rows, store_list_row, store_number_row, store_register_row};
+ghost use Rattle.instruction_set.specs.ShortLoadStore.{load_list_row, load_literal_word_row, load_number_row, load_register_row, immediate_and_list_rows, literal_and_register_rows, store_list_row, store_number_row, store_register_row};
 
 use encodings::operands::{at_offset, is_above_lowest, is_in_list};
 use encodings::outcomes::{short, unless};
 use encodings::rows;
-use reference::access::Size;
-use reference::access::Size::{Byte, Halfword, Word};
-use reference::instruction::{BlockPlace, Decoded, Instruction, LoadStore, LoadStoreMultiple};
-use reference::operands::{
+use instruction_set::instruction::{
+    BlockPlace, Decoded, Instruction, LoadStore, LoadStoreMultiple,
+};
+use instruction_set::operands::{
     ListOrder, LoadForm, LoadImmediate, LoadLiteral, LoadMultiple, LoadRegister, RegisterAddress,
     StoreImmediate, StoreMultiple, StoreRegister,
 };
-use reference::registers::{Register, RegisterList};
-use reference::stop::UnpredictableCase;
+use instruction_set::registers::{Register, RegisterList};
+use instruction_set::size::Size;
+use instruction_set::size::Size::{Byte, Halfword, Word};
+use instruction_set::unpredictable::UnpredictableCase;
 
 /// Decodes a halfword by these rows.
 #[tactic(auto, unfolding(encodings::specs::Masks::by_masks))]
@@ -77,7 +79,7 @@ pub fn immediate_and_list_rows(x: u32) -> Option<Decoded>
 }
 
 /// Returns LDR at the PC and an offset, which counts words.
-#[tactic(auto, unfolding(reference::specs::ShortLoadStore::load_literal_word_row))]
+#[tactic(auto, unfolding(instruction_set::specs::ShortLoadStore::load_literal_word_row))]
 fn load_literal_word(t: Register, words: u8) -> Decoded
     ensures { result ≡ load_literal_word_row t words }
 {
@@ -92,7 +94,7 @@ fn load_literal_word(t: Register, words: u8) -> Decoded
 }
 
 /// Returns a store at two registers.
-#[tactic(auto, unfolding(reference::specs::ShortLoadStore::store_register_row))]
+#[tactic(auto, unfolding(instruction_set::specs::ShortLoadStore::store_register_row))]
 fn store_register(size: Size, t: Register, n: Register, m: Register) -> Decoded
     ensures { result ≡ store_register_row size t n m }
 {
@@ -108,7 +110,7 @@ fn store_register(size: Size, t: Register, n: Register, m: Register) -> Decoded
 }
 
 /// Returns a load at two registers.
-#[tactic(auto, unfolding(reference::specs::ShortLoadStore::load_register_row))]
+#[tactic(auto, unfolding(instruction_set::specs::ShortLoadStore::load_register_row))]
 fn load_register(size: Size, signed: bool, t: Register, n: Register, m: Register) -> Decoded
     ensures { result ≡ load_register_row size signed t n m }
 {
@@ -124,7 +126,7 @@ fn load_register(size: Size, signed: bool, t: Register, n: Register, m: Register
 }
 
 /// Returns a store at a register and an offset.
-#[tactic(auto, unfolding(reference::specs::ShortLoadStore::store_number_row))]
+#[tactic(auto, unfolding(instruction_set::specs::ShortLoadStore::store_number_row))]
 fn store_number(size: Size, t: Register, n: Register, offset: u32) -> Decoded
     ensures { result ≡ store_number_row size t n offset }
 {
@@ -137,7 +139,7 @@ fn store_number(size: Size, t: Register, n: Register, offset: u32) -> Decoded
 }
 
 /// Returns a load at a register and an offset.
-#[tactic(auto, unfolding(reference::specs::ShortLoadStore::load_number_row))]
+#[tactic(auto, unfolding(instruction_set::specs::ShortLoadStore::load_number_row))]
 fn load_number(size: Size, t: Register, n: Register, offset: u32) -> Decoded
     ensures { result ≡ load_number_row size t n offset }
 {
@@ -153,7 +155,7 @@ fn load_number(size: Size, t: Register, n: Register, offset: u32) -> Decoded
 }
 
 /// Returns STM, which writes back always.
-#[tactic(auto, unfolding(reference::specs::ShortLoadStore::store_list_row))]
+#[tactic(auto, unfolding(instruction_set::specs::ShortLoadStore::store_list_row))]
 fn store_list(n: Register, list: u8) -> Decoded
     ensures { result ≡ store_list_row n list }
 {
@@ -179,7 +181,7 @@ fn store_list(n: Register, list: u8) -> Decoded
 }
 
 /// Returns LDM, which writes back where the base isn't in the list.
-#[tactic(auto, unfolding(reference::specs::ShortLoadStore::load_list_row))]
+#[tactic(auto, unfolding(instruction_set::specs::ShortLoadStore::load_list_row))]
 fn load_list(n: Register, list: u8) -> Decoded
     ensures { result ≡ load_list_row n list }
 {

@@ -3,26 +3,28 @@
 
 ghost use Rattle.std.specs.Prelude.{◌≡◌, ◌≢◌, ◌==◌, ◌<◌, ◌≤◌, ◌+◌, ◌-◌, ◌*◌, ◌^◌, ◌&&◌, ◌||◌, not, true, false, nat_lt};
 ghost use Rattle.encodings.specs.Masks.{by_masks};
-ghost use Rattle.reference.specs.RowOperands.{plain_immediate};
-ghost use Rattle.reference.specs.ShortMiscellaneous.{address_row, adjusting_rows, breakpoint_row, change_state_row, compare_and_branch_row, controlling_rows, extend_row, if_then_row, is_one_bit, pop_row, push_row, rearrange_row, sp_number_row};
+ghost use Rattle.instruction_set.specs.RowOperands.{plain_immediate};
+ghost use Rattle.instruction_set.specs.ShortMiscellaneous.{address_row, adjusting_rows, breakpoint_row, change_state_row, compare_and_branch_row, controlling_rows, extend_row, if_then_row, is_one_bit, pop_row, push_row, rearrange_row, sp_number_row};
 
 use encodings::operands::{hint, plain_immediate};
 use encodings::outcomes::{last_only_if, placed, placed_unless, short, unless};
 use encodings::rows;
-use reference::access::Size;
-use reference::access::Size::{Byte, Halfword};
-use reference::instruction::{
+use instruction_set::instruction::{
     BlockPlace, Branch, DataProcessing, Decoded, Instruction, InstructionLength, LoadStoreMultiple,
     System,
 };
-use reference::operands::DataOperation::{Add, Subtract};
-use reference::operands::Rearrangement::{ReverseHalfwords, ReverseSignedHalfword, ReverseWord};
-use reference::operands::{
+use instruction_set::operands::DataOperation::{Add, Subtract};
+use instruction_set::operands::Rearrangement::{
+    ReverseHalfwords, ReverseSignedHalfword, ReverseWord,
+};
+use instruction_set::operands::{
     Address, ChangeProcessorState, CompareAndBranch, DataImmediate, DataOperation, Extend,
     FlagSetting, IfThen, ListOrder, LoadMultiple, Rearrange, Rearrangement, StoreMultiple,
 };
-use reference::registers::{Register, RegisterList};
-use reference::stop::UnpredictableCase;
+use instruction_set::registers::{Register, RegisterList};
+use instruction_set::size::Size;
+use instruction_set::size::Size::{Byte, Halfword};
+use instruction_set::unpredictable::UnpredictableCase;
 
 /// Decodes a halfword by these rows.
 #[tactic(auto, unfolding(encodings::specs::Masks::by_masks))]
@@ -67,7 +69,7 @@ pub fn controlling_rows(x: u32) -> Option<Decoded>
 }
 
 /// Returns ADR: the offset counts words.
-#[tactic(auto, unfolding(reference::specs::ShortMiscellaneous::address_row))]
+#[tactic(auto, unfolding(instruction_set::specs::ShortMiscellaneous::address_row))]
 fn address(d: Register, words: u8) -> Decoded
     ensures { result ≡ address_row d words }
 {
@@ -78,7 +80,7 @@ fn address(d: Register, words: u8) -> Decoded
 }
 
 /// Returns ADD or SUB of SP and a number, which counts words; no flags.
-#[tactic(auto, unfolding(reference::specs::ShortMiscellaneous::sp_number_row))]
+#[tactic(auto, unfolding(instruction_set::specs::ShortMiscellaneous::sp_number_row))]
 fn sp_number(operation: DataOperation, d: Register, words: u8) -> Decoded
     ensures { result ≡ sp_number_row operation d words }
 {
@@ -92,7 +94,7 @@ fn sp_number(operation: DataOperation, d: Register, words: u8) -> Decoded
 }
 
 /// Returns SXTB, SXTH, UXTB or UXTH.
-#[tactic(auto, unfolding(reference::specs::ShortMiscellaneous::extend_row))]
+#[tactic(auto, unfolding(instruction_set::specs::ShortMiscellaneous::extend_row))]
 fn extend(signed: bool, size: Size, d: Register, m: Register) -> Decoded
     ensures { result ≡ extend_row signed size d m }
 {
@@ -106,7 +108,7 @@ fn extend(signed: bool, size: Size, d: Register, m: Register) -> Decoded
 }
 
 /// Returns REV, REV16 or REVSH.
-#[tactic(auto, unfolding(reference::specs::ShortMiscellaneous::rearrange_row))]
+#[tactic(auto, unfolding(instruction_set::specs::ShortMiscellaneous::rearrange_row))]
 fn rearrange(operation: Rearrangement, d: Register, m: Register) -> Decoded
     ensures { result ≡ rearrange_row operation d m }
 {
@@ -118,7 +120,7 @@ fn rearrange(operation: Rearrangement, d: Register, m: Register) -> Decoded
 }
 
 /// Returns PUSH of registers from R0 to R7, and of LR.
-#[tactic(auto, unfolding(reference::specs::ShortMiscellaneous::push_row))]
+#[tactic(auto, unfolding(instruction_set::specs::ShortMiscellaneous::push_row))]
 fn push(lr: u16, list: u8) -> Decoded
     requires { lr < 2 }
     ensures { result ≡ push_row lr list }
@@ -141,7 +143,7 @@ fn push(lr: u16, list: u8) -> Decoded
 }
 
 /// Returns POP of registers from R0 to R7, and of PC.
-#[tactic(auto, unfolding(reference::specs::ShortMiscellaneous::pop_row))]
+#[tactic(auto, unfolding(instruction_set::specs::ShortMiscellaneous::pop_row))]
 fn pop(pc: u16, list: u8) -> Decoded
     requires { pc < 2 }
     ensures { result ≡ pop_row pc list }
@@ -165,7 +167,7 @@ fn pop(pc: u16, list: u8) -> Decoded
 }
 
 /// Returns CBZ or CBNZ: the offset counts halfwords.
-#[tactic(auto, unfolding(reference::specs::ShortMiscellaneous::compare_and_branch_row))]
+#[tactic(auto, unfolding(instruction_set::specs::ShortMiscellaneous::compare_and_branch_row))]
 fn compare_and_branch(nonzero: bool, halfwords: u32, n: Register) -> Decoded
     requires { halfwords < 64 }
     ensures { result ≡ compare_and_branch_row nonzero halfwords n }
@@ -179,7 +181,7 @@ fn compare_and_branch(nonzero: bool, halfwords: u32, n: Register) -> Decoded
 }
 
 /// Returns CPS.
-#[tactic(auto, unfolding(reference::specs::ShortMiscellaneous::change_state_row))]
+#[tactic(auto, unfolding(instruction_set::specs::ShortMiscellaneous::change_state_row))]
 fn change_state(disables: bool, primask: bool, faultmask: bool) -> Decoded
     ensures { result ≡ change_state_row disables primask faultmask }
 {
@@ -197,7 +199,7 @@ fn change_state(disables: bool, primask: bool, faultmask: bool) -> Decoded
 }
 
 /// Returns BKPT.
-#[tactic(auto, unfolding(reference::specs::ShortMiscellaneous::breakpoint_row))]
+#[tactic(auto, unfolding(instruction_set::specs::ShortMiscellaneous::breakpoint_row))]
 fn breakpoint(number: u8) -> Decoded
     ensures { result ≡ breakpoint_row number }
 {
@@ -212,7 +214,7 @@ fn is_one_bit(mask: u8) -> bool
 }
 
 /// Returns IT: the condition 1111, and 1110 with more than one bit in the mask, are UNPREDICTABLE.
-#[tactic(auto, unfolding(reference::specs::ShortMiscellaneous::if_then_row))]
+#[tactic(auto, unfolding(instruction_set::specs::ShortMiscellaneous::if_then_row))]
 fn if_then(condition: u8, mask: u8) -> Decoded
     ensures { result ≡ if_then_row condition mask }
 {

@@ -3,18 +3,20 @@
 
 ghost use Rattle.std.specs.Prelude.{◌≡◌, ◌≢◌, ◌==◌, ◌<◌, ◌≤◌, ◌+◌, ◌-◌, ◌*◌, ◌^◌, ◌&&◌, ◌||◌, not, true, false, nat_lt};
 ghost use Rattle.encodings.specs.Masks.{by_masks};
-ghost use Rattle.reference.specs.ShortShifts.{compare_number_row, data_number_row, data_registers_row, move_low_row, move_number_row, shift_number_row, shifts_and_moves};
+ghost use Rattle.instruction_set.specs.ShortShifts.{compare_number_row, data_number_row, data_registers_row, move_low_row, move_number_row, shift_number_row, shifts_and_moves};
 
 use encodings::operands::{plain_immediate, unshifted};
 use encodings::outcomes::{placed, short};
 use encodings::rows;
-use reference::instruction::{BlockPlace, DataProcessing, Decoded, Instruction, InstructionLength};
-use reference::operands::DataOperation::{Add, Subtract};
-use reference::operands::{
+use instruction_set::instruction::{
+    BlockPlace, DataProcessing, Decoded, Instruction, InstructionLength,
+};
+use instruction_set::operands::DataOperation::{Add, Subtract};
+use instruction_set::operands::{
     CompareImmediate, Comparison, DataImmediate, DataOperation, DataRegister, FlagSetting,
     MoveImmediate, MoveOperation, MoveRegister, ShiftedRegister,
 };
-use reference::registers::Register;
+use instruction_set::registers::Register;
 use regs::decode_imm_shift;
 
 /// Decodes a halfword by these rows.
@@ -49,7 +51,7 @@ pub fn shifts_and_moves(x: u32) -> Option<Decoded>
 }
 
 /// Returns MOV of a low register, which sets N and Z always.
-#[tactic(auto, unfolding(reference::specs::ShortShifts::move_low_row))]
+#[tactic(auto, unfolding(instruction_set::specs::ShortShifts::move_low_row))]
 fn move_low(d: Register, m: Register) -> Decoded
     ensures { result ≡ move_low_row d m }
 {
@@ -63,7 +65,7 @@ fn move_low(d: Register, m: Register) -> Decoded
 }
 
 /// Returns a shift by a number: MOV of a shifted register.
-#[tactic(auto, unfolding(reference::specs::ShortShifts::shift_number_row))]
+#[tactic(auto, unfolding(instruction_set::specs::ShortShifts::shift_number_row))]
 fn shift_number(kind: u8, amount: u8, d: Register, m: Register) -> Decoded
     ensures { result ≡ shift_number_row kind amount d m }
 {
@@ -79,7 +81,7 @@ fn shift_number(kind: u8, amount: u8, d: Register, m: Register) -> Decoded
 }
 
 /// Returns an operation on two registers.
-#[tactic(auto, unfolding(reference::specs::ShortShifts::data_registers_row))]
+#[tactic(auto, unfolding(instruction_set::specs::ShortShifts::data_registers_row))]
 pub(crate) fn data_registers(
     operation: DataOperation,
     d: Register,
@@ -98,7 +100,7 @@ pub(crate) fn data_registers(
 }
 
 /// Returns an operation on a register and a number.
-#[tactic(auto, unfolding(reference::specs::ShortShifts::data_number_row))]
+#[tactic(auto, unfolding(instruction_set::specs::ShortShifts::data_number_row))]
 pub(crate) fn data_number(operation: DataOperation, d: Register, n: Register, value: u32) -> Decoded
     ensures { result ≡ data_number_row operation d n value }
 {
@@ -112,7 +114,7 @@ pub(crate) fn data_number(operation: DataOperation, d: Register, n: Register, va
 }
 
 /// Returns MOV of a number.
-#[tactic(auto, unfolding(reference::specs::ShortShifts::move_number_row))]
+#[tactic(auto, unfolding(instruction_set::specs::ShortShifts::move_number_row))]
 fn move_number(d: Register, value: u32) -> Decoded
     ensures { result ≡ move_number_row d value }
 {
@@ -125,7 +127,7 @@ fn move_number(d: Register, value: u32) -> Decoded
 }
 
 /// Returns CMP with a number.
-#[tactic(auto, unfolding(reference::specs::ShortShifts::compare_number_row))]
+#[tactic(auto, unfolding(instruction_set::specs::ShortShifts::compare_number_row))]
 fn compare_number(n: Register, value: u32) -> Decoded
     ensures { result ≡ compare_number_row n value }
 {

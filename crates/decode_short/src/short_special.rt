@@ -3,19 +3,19 @@
 
 ghost use Rattle.std.specs.Prelude.{◌≡◌, ◌≢◌, ◌==◌, ◌<◌, ◌≤◌, ◌+◌, ◌-◌, ◌*◌, ◌^◌, ◌&&◌, ◌||◌, not, true, false, nat_lt};
 ghost use Rattle.encodings.specs.Masks.{by_masks};
-ghost use Rattle.reference.specs.ShortSpecial.{add_high_row, branch_exchange_row, branch_link_exchange_row, compare_high_row, move_high_row, special_rows};
+ghost use Rattle.instruction_set.specs.ShortSpecial.{add_high_row, branch_exchange_row, branch_link_exchange_row, compare_high_row, move_high_row, special_rows};
 
 use encodings::operands::unshifted;
 use encodings::outcomes::{last_only_if, placed, placed_unless, short, unless_refused};
 use encodings::rows;
-use reference::instruction::{
+use instruction_set::instruction::{
     BlockPlace, Branch, DataProcessing, Decoded, Instruction, InstructionLength,
 };
-use reference::operands::{
+use instruction_set::operands::{
     BranchExchange, CompareRegister, Comparison, DataOperation, DataRegister, FlagSetting,
     MoveOperation, MoveRegister,
 };
-use reference::registers::Register;
+use instruction_set::registers::Register;
 
 /// Decodes a halfword by these rows.
 #[tactic(auto, unfolding(encodings::specs::Masks::by_masks))]
@@ -32,7 +32,7 @@ pub fn special_rows(x: u32) -> Option<Decoded>
 }
 
 /// Returns ADD of any registers, without flags.
-#[tactic(auto, unfolding(reference::specs::ShortSpecial::add_high_row))]
+#[tactic(auto, unfolding(instruction_set::specs::ShortSpecial::add_high_row))]
 fn add_high(d: Register, m: Register) -> Decoded
     ensures { result ≡ add_high_row d m }
 {
@@ -53,7 +53,7 @@ fn add_high(d: Register, m: Register) -> Decoded
 }
 
 /// Returns CMP of any registers, of which at least one is above R7.
-#[tactic(auto, unfolding(reference::specs::ShortSpecial::compare_high_row))]
+#[tactic(auto, unfolding(instruction_set::specs::ShortSpecial::compare_high_row))]
 fn compare_high(n: Register, m: Register) -> Decoded
     ensures { result ≡ compare_high_row n m }
 {
@@ -71,7 +71,7 @@ fn compare_high(n: Register, m: Register) -> Decoded
 }
 
 /// Returns MOV of any registers, without flags.
-#[tactic(auto, unfolding(reference::specs::ShortSpecial::move_high_row))]
+#[tactic(auto, unfolding(instruction_set::specs::ShortSpecial::move_high_row))]
 fn move_high(d: Register, m: Register) -> Decoded
     ensures { result ≡ move_high_row d m }
 {
@@ -89,7 +89,7 @@ fn move_high(d: Register, m: Register) -> Decoded
 }
 
 /// Returns BX.
-#[tactic(auto, unfolding(reference::specs::ShortSpecial::branch_exchange_row))]
+#[tactic(auto, unfolding(instruction_set::specs::ShortSpecial::branch_exchange_row))]
 fn branch_exchange(m: Register) -> Decoded
     ensures { result ≡ branch_exchange_row m }
 {
@@ -101,7 +101,7 @@ fn branch_exchange(m: Register) -> Decoded
 }
 
 /// Returns BLX.
-#[tactic(auto, unfolding(reference::specs::ShortSpecial::branch_link_exchange_row))]
+#[tactic(auto, unfolding(instruction_set::specs::ShortSpecial::branch_link_exchange_row))]
 fn branch_link_exchange(m: Register) -> Decoded
     ensures { result ≡ branch_link_exchange_row m }
 {

@@ -4,9 +4,9 @@ use Rattle.std.proofs.Math.Pow.{pow_mono}
 use Rattle.std.proofs.lemmas.Bool.Decides.{nat_tests}
 use Rattle.std.proofs.lemmas.Grind.{common_steps}
 use Rattle.std.proofs.lemmas.List.{at_drop_more}
-use Rattle.reference.specs.Words.{bit_at}
-use Rattle.reference.specs.Patterns.{joined_field}
 use Rattle.encodings.specs.Runs.{has_field, width}
+use Rattle.instruction_set.specs.Patterns.{joined_field}
+use Rattle.instruction_set.specs.Words.{bit_at}
 
 -- one place more
 pub joined_next : (letter : ℕ) (places : List ℕ) (i x before d : ℕ) → i < length places

@@ -5,12 +5,12 @@ use Rattle.std.proofs.Math.Path.{fun_ext}
 use Rattle.std.proofs.Math.Pow.{split}
 use Rattle.std.proofs.lemmas.Bool.Decides.{nat_tests}
 use Rattle.std.proofs.lemmas.Nat.{and_block, and_mask, and_le_r, mod_low, pow_pos, shr_high}
-use Rattle.reference.specs.declared.instruction.Decoded.{Decoded}
-use Rattle.reference.specs.Patterns.{place_0, place_1, place_z, place_o, allows, has_bits}
-use Rattle.reference.specs.Rows.{Row, letters, applies, as_printed, by_row, by_found}
 use Rattle.encodings.specs.Masks.{mask_bit, value_bit, mask_of, value_of, masked, by_text, excepted, chosen, outcome_of, by_masks, first_of}
 use Rattle.encodings.proofs.Places.{mask_bit_small, value_bit_small, digits_below}
 use Rattle.encodings.proofs.Runs.{field_is}
+use Rattle.instruction_set.specs.declared.instruction.Decoded.{Decoded}
+use Rattle.instruction_set.specs.Patterns.{place_0, place_1, place_z, place_o, allows, has_bits}
+use Rattle.instruction_set.specs.Rows.{Row, letters, applies, as_printed, by_row, by_found}
 
 -- ---- one place
 

@@ -3,10 +3,10 @@ use Rattle.std.proofs.Common.{◌≡◌, ℕ, ◌+◌, ◌*◌, ◌/◌, ◌%◌
 use Rattle.std.proofs.Math.Nat.{mod-lt}
 use Rattle.std.proofs.lemmas.Bool.{eqb-true}
 use Rattle.std.proofs.lemmas.Nat.{shr-shr, mod-pow-add, pow-add, pow_pos}
-use Rattle.reference.specs.Words.{bit_at, bits}
-use Rattle.reference.specs.Patterns.{joined_field, field}
 use Rattle.encodings.specs.Runs.{Run, with_place, runs_of, width_of, joined_runs, value_at, width}
 use Rattle.encodings.proofs.Places.{joined_below}
+use Rattle.instruction_set.specs.Patterns.{joined_field, field}
+use Rattle.instruction_set.specs.Words.{bit_at, bits}
 
 -- the bits of the runs, joined
 abbrev pub joined_bits : List Run → ℕ → ℕ

@@ -1,11 +1,11 @@
 -- The tables of rows, one after the other.
 use Rattle.std.proofs.Common.{◌≡◌, ℕ, List, [], ◌∷◌, ap, ◌∙◌, refl}
-use Rattle.reference.specs.declared.instruction.Decoded.{Decoded}
-use Rattle.reference.specs.declared.instruction.Decoded.TheVariants.{Undefined}
-use Rattle.reference.specs.Decoding.{rows_of, short_tables, short_meaning, long_tables, long_meaning}
-use Rattle.reference.specs.Rows.{Row, meaning}
 use Rattle.encodings.specs.Masks.{by_masks, first_of}
 use Rattle.encodings.proofs.Masks.{found_by_masks}
+use Rattle.instruction_set.specs.declared.instruction.Decoded.{Decoded}
+use Rattle.instruction_set.specs.declared.instruction.Decoded.TheVariants.{Undefined}
+use Rattle.instruction_set.specs.Decoding.{rows_of, short_tables, short_meaning, long_tables, long_meaning}
+use Rattle.instruction_set.specs.Rows.{Row, meaning}
 
 -- what the first table makes of the number that has a row for it
 abbrev by_tables : List (List Row) → ℕ → Decoded

@@ -1,5 +1,5 @@
 -- How the code reads a row: the bits that its text fixes as masks, and its fields as runs of bits. The rows are in the
--- crate `reference`.
-pub use Rattle.reference.specs.Decoding
+-- crate `instruction_set`.
+pub use Rattle.instruction_set.specs.Decoding
 pub mod Runs
 pub mod Masks

@@ -1,10 +1,10 @@
 -- What a number means by the rows of a table, if one of them applies: each text as a mask and a value.
 use Rattle.std.specs.Prelude.{ℕ, ◌+◌, ◌*◌, ◌^◌, Bool, not, ◌&&◌, ◌==◌, nat_le, if◌then◌else◌, List, [], ◌∷◌, length, Option, Some, None, bit_and}
 use Rattle.std.specs.List.{list_any, list_all}
-use Rattle.reference.specs.declared.instruction.Decoded.{Decoded}
-use Rattle.reference.specs.Patterns.{place_0, place_1, place_z, place_o}
-use Rattle.reference.specs.Rows.{Row, letters, as_printed}
 use Rattle.encodings.specs.Runs.{value_at}
+use Rattle.instruction_set.specs.declared.instruction.Decoded.{Decoded}
+use Rattle.instruction_set.specs.Patterns.{place_0, place_1, place_z, place_o}
+use Rattle.instruction_set.specs.Rows.{Row, letters, as_printed}
 
 -- whether a place fixes its bit, and whether to 1, as digits
 abbrev pub mask_bit : ℕ → ℕ → ℕ → ℕ

@@ -1,21 +1,22 @@
 //! Operands that several rows have in common.
 
 ghost use Rattle.std.specs.Prelude.{◌≡◌, ◌==◌, ◌<◌, ◌^◌};
-ghost use Rattle.reference.specs.LongImmediate.{operand_of};
-ghost use Rattle.reference.specs.LoadStore.{writes_back};
-ghost use Rattle.reference.specs.RowOperands.{unshifted, shifted_by_number, plain_immediate, flags_if, at_offset, signed_offset, indexing_of, byte_or_halfword, hint_of};
-ghost use Rattle.reference.specs.ShortLoadStore.{is_above_lowest};
-ghost use Rattle.reference.specs.Words.{is_bit, negated, sign_extended};
+ghost use Rattle.instruction_set.specs.LongImmediate.{operand_of};
+ghost use Rattle.instruction_set.specs.RowOperands.{writes_back, unshifted, shifted_by_number, plain_immediate, flags_if, at_offset, signed_offset, indexing_of, byte_or_halfword, hint_of};
+ghost use Rattle.instruction_set.specs.ShortLoadStore.{is_above_lowest};
+ghost use Rattle.instruction_set.specs.Words.{is_bit, negated, sign_extended};
 
-use reference::access::Size;
-use reference::instruction::Hint;
-use reference::operands::{FlagSetting, Immediate, ImmediateAddress, Indexing, ShiftedRegister};
-use reference::registers::Register;
-use reference::shift::{Shift, ShiftType};
+use instruction_set::instruction::Hint;
+use instruction_set::operands::{
+    FlagSetting, Immediate, ImmediateAddress, Indexing, ShiftedRegister,
+};
+use instruction_set::registers::Register;
+use instruction_set::shift::{Shift, ShiftType};
+use instruction_set::size::Size;
 use regs::decode_imm_shift;
 
 /// Returns the hint of this number.
-#[tactic(auto, unfolding(reference::specs::RowOperands::hint_of))]
+#[tactic(auto, unfolding(instruction_set::specs::RowOperands::hint_of))]
 pub fn hint(number: u8) -> Hint
     ensures { result ≡ hint_of number }
 {
@@ -66,7 +67,7 @@ pub fn operand_of(imm12: u16, expanded: Option<(u32, bool)>) -> Option<Immediate
 
 /// Returns the two's complement of a word: adding it subtracts the word.
 #[inline]
-#[tactic(auto, unfolding(reference::specs::Words::negated))]
+#[tactic(auto, unfolding(instruction_set::specs::Words::negated))]
 pub fn negated(offset: u32) -> u32
     ensures { result ≡ negated offset }
 {
@@ -114,7 +115,7 @@ pub fn unshifted(m: Register) -> ShiftedRegister
 
 /// Returns a register shifted by a number.
 #[inline]
-#[tactic(auto, unfolding(reference::specs::RowOperands::shifted_by_number))]
+#[tactic(auto, unfolding(instruction_set::specs::RowOperands::shifted_by_number))]
 pub fn shifted(m: Register, shift_type: u8, imm5: u8) -> ShiftedRegister
     ensures { result ≡ shifted_by_number m shift_type imm5 }
 {
@@ -147,7 +148,7 @@ pub fn indexed(base: Register, offset: u32, indexing: Indexing) -> ImmediateAddr
 }
 
 /// Returns an offset that is added where U is 1, and otherwise subtracted.
-#[tactic(auto, unfolding(reference::specs::RowOperands::signed_offset))]
+#[tactic(auto, unfolding(instruction_set::specs::RowOperands::signed_offset))]
 pub fn signed_offset(up: u32, offset: u32) -> u32
     ensures { result ≡ signed_offset up offset }
 {

@@ -1,15 +1,15 @@
 //! What a row says: an instruction, or the cause for which it is UNPREDICTABLE.
 
 ghost use Rattle.std.specs.Prelude.{◌≡◌, ◌==◌};
-ghost use Rattle.reference.specs.Rows.{as_printed, short, long, placed, last_only_if, unless, is_bad};
-ghost use Rattle.reference.specs.declared.instruction.BlockPlace.TheVariants.{Anywhere};
-ghost use Rattle.reference.specs.declared.stop.UnpredictableCase.TheVariants.{Registers};
+ghost use Rattle.instruction_set.specs.declared.instruction.BlockPlace.TheVariants.{Anywhere};
+ghost use Rattle.instruction_set.specs.declared.unpredictable.UnpredictableCase.TheVariants.{Registers};
+ghost use Rattle.instruction_set.specs.Rows.{as_printed, short, long, placed, last_only_if, unless, is_bad};
 
-use reference::instruction::{
+use instruction_set::instruction::{
     BlockPlace, CodedInstruction, Decoded, Instruction, InstructionLength,
 };
-use reference::registers::Register;
-use reference::stop::UnpredictableCase;
+use instruction_set::registers::Register;
+use instruction_set::unpredictable::UnpredictableCase;
 
 /// Returns an instruction of one halfword at any position in an IT block.
 #[inline]

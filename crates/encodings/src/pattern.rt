@@ -1,14 +1,14 @@
 //! The text of a row, read as bits and fields.
 
 ghost use Rattle.std.specs.Prelude.{◌≡◌, ◌==◌, ◌<◌, ◌≤◌, ◌^◌, ◌&&◌, ◌||◌, nat_le, not, length, [], ◌∷◌, IsTrue, Some};
-ghost use Rattle.reference.specs.Patterns.{field, place_0, place_1, place_o, place_z};
-ghost use Rattle.reference.specs.Rows.{as_printed};
 ghost use Rattle.encodings.specs.Runs.{has_field, value_at, width};
 ghost use Rattle.encodings.specs.Masks.{mask_bit, value_bit, mask_of, value_of, are_narrow, applies_by_masks, by_text, chosen};
+ghost use Rattle.instruction_set.specs.Patterns.{field, place_0, place_1, place_o, place_z};
+ghost use Rattle.instruction_set.specs.Rows.{as_printed};
 
 use crate::outcomes::as_printed;
-use reference::instruction::Decoded;
-use reference::registers::Register;
+use instruction_set::instruction::Decoded;
+use instruction_set::registers::Register;
 
 /// The bits that a row's text fixes, and their values.
 #[derive(Clone, Copy)]

@@ -3,9 +3,9 @@
 ghost use Rattle.std.specs.Prelude.{◌≡◌, ◌+◌, ◌≤◌, ◌<◌, ◌^◌, ◌%◌, ◌++◌, length, IfOk};
 ghost use Rattle.exceptions.specs.Room.{lines_of, most_lines};
 ghost use Rattle.exceptions.specs.Serving.{Serves, done_lines};
+ghost use Rattle.instruction_set.specs.Sizes.{bytes_in};
 ghost use Rattle.reference.specs.Accesses.{accessed, access_lines, value_of, perform, perform_all};
 ghost use Rattle.reference.specs.declared.event.EventKind.TheVariants.{ConsoleByte};
-ghost use Rattle.reference.specs.Kinds.{bytes_in};
 ghost use Rattle.trace.specs.Emission.{with_emitted};
 
 use access::{Bus, CodeLines, Decider, DueTicks, Levels, is_out};

@@ -1,7 +1,7 @@
 //! Exception entry in two steps (ARM DDI 0403, `PushStack()` and `ExceptionTaken()`).
 
 ghost use Rattle.std.specs.Prelude.{◌≡◌, ◌<◌, ◌≤◌, [], length};
-ghost use Rattle.reference.specs.declared.access.Size.TheVariants.{Word};
+ghost use Rattle.instruction_set.specs.declared.size.Size.TheVariants.{Word};
 ghost use Rattle.reference.specs.LoadStore.{request};
 ghost use Rattle.reference.specs.ExceptionEntry.{words_from as words_from_of, pushes as pushes_of, vector_read as vector_read_of, handler_entered, vector_refused, exception_taken, begin_entry, take_vector};
 ghost use Rattle.trace.specs.Emission.{with_emitted};
@@ -10,7 +10,8 @@ use crate::accesses::{Requests, Values};
 use crate::faults::vector_fault;
 use crate::state::Core;
 use access::{CodeLines, Decider, DueTicks, Levels};
-use reference::access::{Access, Kind, Request, Size};
+use instruction_set::size::Size;
+use reference::access::{Access, Kind, Request};
 use reference::event::{Event, EventKind, MOST_EVENTS};
 use reference::exception::{HARD_FAULT, NMI};
 use reference::failure::Failure;

@@ -1,11 +1,11 @@
 //! Exception return (ARM DDI 0403, `ExceptionReturn()`, `DeActivate()` and `PopStack()`).
 
 ghost use Rattle.std.specs.Prelude.{◌≡◌, ◌+◌, ◌<◌, ◌≤◌, length};
+ghost use Rattle.instruction_set.specs.Frames.{has_reserved_ones as has_reserved_ones_of, returns_to_thread as returns_to_thread_of};
 ghost use Rattle.reference.specs.declared.failure.Failure.TheVariants.{Usage};
 ghost use Rattle.reference.specs.declared.failure.UsageFault.TheVariants.{InvalidReturn};
 ghost use Rattle.reference.specs.ExceptionReturn.{is_allowed as is_allowed_of, exception_ended, with_entry, chained, pops as pops_of, returns_privileged as returns_privileged_of, pop_stack, fits_mode as fits_mode_of, unstacked, exception_return};
 ghost use Rattle.reference.specs.Faults.{failed};
-ghost use Rattle.reference.specs.Frames.{has_reserved_ones as has_reserved_ones_of, returns_to_thread as returns_to_thread_of};
 ghost use Rattle.reference.specs.Priorities.{candidate};
 ghost use Rattle.reference.specs.State.{with_system};
 ghost use Rattle.trace.specs.Emission.{with_emitted};
@@ -14,11 +14,12 @@ use crate::accesses::{Requests, Values};
 use crate::entry::words_from;
 use crate::state::Core;
 use access::{CodeLines, Decider, DueTicks, Levels};
+use instruction_set::unpredictable::UnpredictableCase;
 use reference::access::Kind;
 use reference::event::{Event, EventKind, MOST_EVENTS};
 use reference::exception::NMI;
 use reference::failure::{Failure, UsageFault};
-use reference::stop::{Stop, UnpredictableCase};
+use reference::stop::Stop;
 use regs::{Regs, returns_on_psp, returns_to_handler};
 use trace::sink::Sink;
 

@@ -3,7 +3,7 @@ use Rattle.std.proofs.Common.{Bool, true, false, ◌≡◌, ℕ, suc, ◌+◌, �
 use Rattle.std.proofs.Common.{get_or, refl, arith}
 use Rattle.std.proofs.Math.Seq.{drop-cons, drop-length}
 use Rattle.std.specs.Prelude.{nat_lt, if◌then◌else◌}
-use Rattle.reference.specs.Fields.{extended}
+use Rattle.instruction_set.specs.Fields.{extended}
 use Rattle.reference.specs.LoadStore.{joined}
 
 -- none of them makes 0

@@ -3,11 +3,11 @@ use Rattle.std.proofs.Common.{◌≡◌, ℕ, suc, ◌+◌, ◌-◌, ◌<◌, tr
 use Rattle.std.proofs.Common.{refl, sym, ap, append_assoc, append-nil, ◌∙◌, arith}
 use Rattle.std.specs.List.{filter, range_with_len}
 use Rattle.std.proofs.lemmas.List.{drop-drop, get_or-drop}
+use Rattle.instruction_set.specs.Registers.{Registers, with_register}
+use Rattle.instruction_set.specs.Words.{word_sum, is_bit}
 use Rattle.reference.specs.declared.access.Kind.{Kind}
 use Rattle.reference.specs.declared.access.Request.{Request}
-use Rattle.reference.specs.Registers.{Registers, with_register}
 use Rattle.reference.specs.LoadStoreMultiple.{registers_below, registers_of, word_request, word_requests, loaded}
-use Rattle.reference.specs.Words.{word_sum, is_bit}
 
 -- the registers of a list from one number on, below another
 unfoldable pub registers_between : ℕ → ℕ → ℕ → List ℕ

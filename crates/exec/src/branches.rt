@@ -8,13 +8,14 @@ ghost use Rattle.reference.specs.ProgramCounter.{branches_by};
 use crate::load_store::{joined, transfer};
 use crate::planning::Requests;
 use crate::program_counter::{branch_by, branched, exchange, move_on};
-use reference::access::{Access, Kind};
-use reference::failure::{Failure, Traps};
-use reference::instruction::{Branch, Ending, InstructionLength};
-use reference::operands::{
+use instruction_set::instruction::{Branch, InstructionLength};
+use instruction_set::operands::{
     BranchExchange, CompareAndBranch, ConditionalBranch, IfThen, TableBranch,
 };
-use reference::registers::Register;
+use instruction_set::registers::Register;
+use reference::access::{Access, Kind};
+use reference::ending::Ending;
+use reference::failure::{Failure, Traps};
 use regs::Regs;
 
 /// The number of the link register.

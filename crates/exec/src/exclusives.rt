@@ -2,20 +2,22 @@
 
 ghost use Rattle.std.specs.Prelude.{◌≡◌, []};
 ghost use Rattle.exec.specs.Plans.{planned, finished_as};
-ghost use Rattle.reference.specs.Exclusives.{exclusive_requests, exclusive_effect, exclusive_access, exclusive_address, store_requests, store_status, passes, with_mark, without_mark};
+ghost use Rattle.instruction_set.specs.Monitor.{with_mark, without_mark};
+ghost use Rattle.instruction_set.specs.Registers.{with_register};
+ghost use Rattle.reference.specs.Exclusives.{exclusive_requests, exclusive_effect, exclusive_access, exclusive_address, store_requests, store_status, passes};
 ghost use Rattle.reference.specs.LoadStore.{joined};
 ghost use Rattle.reference.specs.ProgramCounter.{moves_on};
-ghost use Rattle.reference.specs.Registers.{with_register};
 
 use crate::load_store::joined;
 use crate::planning::Requests;
 use crate::program_counter::move_on;
+use instruction_set::instruction::{Exclusive, InstructionLength};
+use instruction_set::operands::{LoadExclusive, StoreExclusive};
+use instruction_set::registers::Register;
 use reference::access::{Access, Kind, Request};
+use reference::ending::Ending;
 use reference::failure::{Failure, UsageFault};
-use reference::instruction::{Ending, Exclusive, InstructionLength};
 use reference::map::has_side_effects;
-use reference::operands::{LoadExclusive, StoreExclusive};
-use reference::registers::Register;
 use reference::stop::{LeftOut, Stop};
 use regs::Regs;
 

@@ -7,7 +7,8 @@ ghost use Rattle.reference.specs.Operations.{result_of, effect};
 use crate::planning::is_carried_out;
 use crate::program_counter::move_on;
 use crate::{branches, exclusives, load_store, load_store_multiple, processing, system};
-use reference::instruction::{CodedInstruction, Ending, Instruction, InstructionLength};
+use instruction_set::instruction::{CodedInstruction, Instruction, InstructionLength};
+use reference::ending::Ending;
 use regs::Regs;
 
 /// Carries out an instruction with the values that it read, in the order of its accesses. Where its

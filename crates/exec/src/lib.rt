@@ -16,10 +16,11 @@ mod system;
 
 pub use at_once::carry_out_at_once;
 pub use finishing::finish;
+pub use instruction_set::instruction::{CodedInstruction, Instruction};
 pub use one_access::{finish_single, single_access};
 pub use planning::{Requests, is_misplaced, plan};
 pub use program_counter::move_on;
 pub use reference::access::Request;
+pub use reference::ending::Ending;
 pub use reference::failure::{Failure, Traps};
-pub use reference::instruction::{CodedInstruction, Ending, Instruction};
 pub use reference::stop::Stop;

@@ -7,10 +7,11 @@ ghost use Rattle.reference.specs.Operations.{wants, requests_of, is_misplaced, i
 
 use crate::{branches, exclusives, load_store, load_store_multiple, processing, system};
 use bounded::Bounded;
+use instruction_set::instruction::{BlockPlace, CodedInstruction, Instruction};
+use instruction_set::unpredictable::UnpredictableCase;
 use reference::access::{MOST_REQUESTS, Request};
 use reference::failure::{Failure, Traps};
-use reference::instruction::{BlockPlace, CodedInstruction, Instruction};
-use reference::stop::{Stop, UnpredictableCase};
+use reference::stop::Stop;
 use regs::Regs;
 
 /// The accesses of an instruction, in their order.

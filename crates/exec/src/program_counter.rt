@@ -5,8 +5,9 @@ ghost use Rattle.std.specs.Prelude.{◌≡◌, ◌==◌};
 ghost use Rattle.exec.specs.Plans.{finished_as};
 ghost use Rattle.reference.specs.ProgramCounter.{moves_on, branches, branches_by, is_exception_return, exchanges, loads_into};
 
-use reference::instruction::{Ending, InstructionLength};
-use reference::registers::Register;
+use instruction_set::instruction::InstructionLength;
+use instruction_set::registers::Register;
+use reference::ending::Ending;
 use regs::Regs;
 
 // ---- the end of an instruction

@@ -6,7 +6,8 @@ ghost use Rattle.exec.specs.Plans.{finished_as};
 ghost use Rattle.reference.specs.SystemInstructions.{has_no_condition, hint_ending, moves_on_and, system_effect};
 
 use crate::program_counter::move_on;
-use reference::instruction::{Ending, Hint, InstructionLength, System};
+use instruction_set::instruction::{Hint, InstructionLength, System};
+use reference::ending::Ending;
 use regs::Regs;
 
 /// Returns whether an instruction has no condition, not even that of an IT block.

@@ -1,8 +1,8 @@
 -- The values of the registers, as a debugger shows them, and what the core runs.
+use Rattle.instruction_set.specs.Registers.{Registers, xpsr, control, weighed, is_privileged}
 use Rattle.machine.specs.declared.readers.Execution.{Execution}
 use Rattle.machine.specs.declared.readers.RegValues.{RegValues}
 use Rattle.reference.specs.declared.exception.Masks.{Masks}
-use Rattle.reference.specs.Registers.{Registers, xpsr, control, weighed, is_privileged}
 use Rattle.reference.specs.State.{State}
 
 abbrev pub values_of : Registers → Masks → RegValues

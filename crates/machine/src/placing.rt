@@ -1,20 +1,21 @@
 //! Values that `place` puts into a core between its steps.
 
 ghost use Rattle.std.specs.Prelude.{◌≡◌, true};
+ghost use Rattle.instruction_set.specs.RowOperands.{special_of};
 ghost use Rattle.machine.specs.Starts.{PlacesAt};
 ghost use Rattle.reference.specs.declared.place.Place.TheVariants.{Word};
 ghost use Rattle.reference.specs.Map.{is_in_ppb};
 ghost use Rattle.reference.specs.Places.{place, is_there, is_word_aligned, special_taken, store_of, taken};
-ghost use Rattle.reference.specs.SpecialRegisters.{special_of};
 
 use crate::stepping::Processor;
 use access::{CodeLines, Decider, DueTicks, Levels};
-use reference::access::{Access, Answer, Kind, Request, Size};
+use instruction_set::operands::SpecialRegister;
+use instruction_set::registers::Register;
+use instruction_set::size::Size;
+use reference::access::{Access, Answer, Kind, Request};
 use reference::fault::PlaceFault;
 use reference::map::is_in_ppb;
-use reference::operands::SpecialRegister;
 use reference::place::Place;
-use reference::registers::Register;
 
 impl<D: Decider, C: CodeLines, L: Levels, U: DueTicks> Processor<D, C, L, U> {
     /// Puts a value into a register or a word.

@@ -3,8 +3,8 @@ use Rattle.std.proofs.Common.{pow_pos, ◌≡◌, ℕ, zero, suc, ◌+◌, ◌-�
 use Rattle.std.proofs.Common.{false, not, ◌&&◌, ◌==◌, nat_le, if◌then◌else◌, arith, refl, sym, ap, ◌∙◌, inl, inr}
 use Rattle.std.proofs.lemmas.Bool.Decides.{nat_tests}
 use Rattle.std.proofs.lemmas.Bool.{leb-true, eqb-true, eq-eqb, cases_lt, and_right}
-use Rattle.reference.specs.Words.{is_bit}
 use Rattle.std.proofs.lemmas.Nat.{div_below, le-div, shr-shr}
+use Rattle.instruction_set.specs.Words.{is_bit}
 use Rattle.reference.specs.declared.mpu.Region.{Region}
 use Rattle.reference.specs.Regions.{Mpu, region, matches, agrees, subregion, is_switched_off, is_region_enabled, size}
 use Rattle.reference.specs.Regions.{switched_off, owner, owner_below}

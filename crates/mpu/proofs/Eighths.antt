@@ -1,7 +1,7 @@
 -- The eighths of the address space in which code may stand.
 use Rattle.std.proofs.Common.{◌≡◌, ℕ, zero, suc, ◌<◌, refl, arith}
 use Rattle.std.specs.Prelude.{◌||◌, ◌==◌, nat_lt}
-use Rattle.reference.specs.Words.{is_bit}
+use Rattle.instruction_set.specs.Words.{is_bit}
 
 -- the bits of 0b0001_1011
 pub executable_bits : (eighth : ℕ) → eighth < 8 → is_bit 27 eighth ≡ (nat_lt eighth 2 || (eighth == 3) || (eighth == 4))

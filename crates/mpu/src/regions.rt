@@ -1,8 +1,8 @@
 //! What the registers of one region say.
 
 ghost use Rattle.std.specs.Prelude.{◌≡◌, ◌<◌};
+ghost use Rattle.instruction_set.specs.Words.{is_bit};
 ghost use Rattle.reference.specs.Regions.{is_region_enabled, size, switched_off, permission, is_accepted, agrees, is_switched_off, matches};
-ghost use Rattle.reference.specs.Words.{is_bit};
 
 use reference::mpu::Region;
 

@@ -6,8 +6,9 @@ ghost use Rattle.reference.specs.Regions.{fresh, read, write, after_write, answe
 
 use crate::regions::{is_accepted, is_bit, matches};
 use crate::spans::{Span, cut};
+use instruction_set::unpredictable::UnpredictableCase;
 use reference::mpu::{MOST_REGIONS, MpuRegister, MpuStop, Region};
-use reference::stop::{Stop, UnpredictableCase};
+use reference::stop::Stop;
 use std::marker::Model;
 
 /// The most regions, as a length.

@@ -3,13 +3,14 @@
 use Rattle.std.proofs.Common.{◌≡◌, ℕ, zero, suc, ◌+◌, ◌*◌, ◌/◌, ◌%◌, ◌^◌, ◌<◌, Bool, true, false, not, ◌&&◌, ◌||◌}
 use Rattle.std.proofs.Common.{◌==◌, nat_lt, bit_and, Result, Ok, Err, arith}
 use Rattle.std.proofs.lemmas.Bool.{cond_both}
+use Rattle.instruction_set.specs.declared.operands.ChangeProcessorState.{ChangeProcessorState}
+use Rattle.instruction_set.specs.declared.operands.SpecialRegister.{SpecialRegister}
+use Rattle.instruction_set.specs.declared.operands.SpecialRegister.TheVariants.{Apsr, Iapsr, Eapsr, Xpsr, Ipsr, Epsr}
+use Rattle.instruction_set.specs.declared.operands.SpecialRegister.TheVariants.{Iepsr, Msp, Psp, Primask, Basepri}
+use Rattle.instruction_set.specs.declared.operands.SpecialRegister.TheVariants.{BasepriMax, Faultmask, Control}
+use Rattle.instruction_set.specs.Words.{is_bit}
 use Rattle.reference.specs.declared.exception.TheConstants.{NMI, MEM_MANAGE, BUS_FAULT, USAGE_FAULT, SV_CALL, PEND_SV}
 use Rattle.reference.specs.declared.exception.TheConstants.{SYS_TICK, FIRST_LINE, EXCEPTIONS}
-use Rattle.reference.specs.declared.operands.ChangeProcessorState.{ChangeProcessorState}
-use Rattle.reference.specs.declared.operands.SpecialRegister.{SpecialRegister}
-use Rattle.reference.specs.declared.operands.SpecialRegister.TheVariants.{Apsr, Iapsr, Eapsr, Xpsr, Ipsr, Epsr, Iepsr}
-use Rattle.reference.specs.declared.operands.SpecialRegister.TheVariants.{Msp, Psp, Primask, Basepri, BasepriMax}
-use Rattle.reference.specs.declared.operands.SpecialRegister.TheVariants.{Faultmask, Control}
 use Rattle.reference.specs.declared.stop.Stop.{Stop}
 use Rattle.reference.specs.declared.system.ControlRegister.{ControlRegister}
 use Rattle.reference.specs.declared.system.ControlRegister.TheVariants.{Cpuid, Icsr, Aircr}
@@ -26,7 +27,6 @@ use Rattle.reference.specs.Priorities.{with_basepri}
 use Rattle.reference.specs.SpecialRegisters.{faultmask_written, is_tighter, basepri_max_written, with_mask, write_mask}
 use Rattle.reference.specs.SpecialRegisters.{with_primask_if, with_faultmask_if, change_state}
 use Rattle.reference.specs.System.{with_pended_at, with_pended_below, with_pended}
-use Rattle.reference.specs.Words.{is_bit}
 
 -- what holds of the state after a write, where it doesn't stop
 abbrev pub IfDone : {A : Type 0} → (A → Type 0) → Result A Stop → Type 0

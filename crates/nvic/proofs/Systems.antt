@@ -2,19 +2,20 @@
 -- the System Control Space, so do each access, MSR, CPS, each tick, and the begin and the end of a handler.
 use Rattle.std.proofs.Common.{ℕ, ◌+◌, ◌*◌, ◌/◌, Bool, true, false, not, ◌||◌, ◌==◌, Result, Ok, Err}
 use Rattle.std.proofs.lemmas.Bool.{cond_both}
+use Rattle.instruction_set.specs.declared.operands.ChangeProcessorState.{ChangeProcessorState}
+use Rattle.instruction_set.specs.declared.operands.SpecialRegister.{SpecialRegister}
+use Rattle.instruction_set.specs.Sizes.{bytes_in}
 use Rattle.reference.specs.declared.access.Request.{Request}
 use Rattle.reference.specs.declared.exception.TheConstants.{NMI}
 use Rattle.reference.specs.declared.mpu.MpuRegister.{MpuRegister}
 use Rattle.reference.specs.declared.mpu.MpuStop.{MpuStop}
-use Rattle.reference.specs.declared.operands.ChangeProcessorState.{ChangeProcessorState}
-use Rattle.reference.specs.declared.operands.SpecialRegister.{SpecialRegister}
 use Rattle.reference.specs.declared.stop.Stop.{Stop}
 use Rattle.reference.specs.declared.system.SysTickRegister.{SysTickRegister}
 use Rattle.reference.specs.declared.system.SystemRegister.{SystemRegister}
 use Rattle.reference.specs.declared.system.SystemRegister.TheVariants as register
 use Rattle.reference.specs.ExceptionEntry.{activated}
 use Rattle.reference.specs.ExceptionReturn.{exception_ended}
-use Rattle.reference.specs.Kinds.{bytes_in, is_load, is_store}
+use Rattle.reference.specs.Kinds.{is_load, is_store}
 use Rattle.reference.specs.Priorities.{Nvic, with_pending, with_active}
 use Rattle.reference.specs.Regions.{Mpu, after_write, write as write_mpu}
 use Rattle.reference.specs.SpecialRegisters.{with_mask, write_mask, change_state}

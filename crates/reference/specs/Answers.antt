@@ -1,9 +1,9 @@
 -- What holds of each answer to an access.
 use Rattle.std.specs.Prelude.{◌≡◌, ◌^◌, ◌<◌, ⊤}
+use Rattle.instruction_set.specs.declared.size.Size.{Size}
+use Rattle.instruction_set.specs.Sizes.{bytes_in}
 use Rattle.reference.specs.declared.access.Answer.{Answer}
 use Rattle.reference.specs.declared.access.Answer.TheVariants.{Value, Error, Stop}
-use Rattle.reference.specs.declared.access.Size.{Size}
-use Rattle.reference.specs.Kinds.{bytes_in}
 
 -- a value that was read has no more bits than the access moves
 abbrev pub IsNarrow : Size → Answer → Type 0

@@ -1,25 +1,25 @@
 -- The branches and IT (ARM DDI 0403, the operation of B, BL, BX, BLX, CBZ, CBNZ, TBB, TBH and IT): the accesses of
 -- each, and where it goes on.
 use Rattle.std.specs.Prelude.{ℕ, ◌+◌, ◌*◌, ◌/◌, ◌%◌, ◌^◌, Bool, not, ◌==◌, if◌then◌else◌, List, [], Result, Ok}
+use Rattle.instruction_set.specs.declared.instruction.Branch.{Branch}
+use Rattle.instruction_set.specs.declared.instruction.Branch.TheVariants as branch
+use Rattle.instruction_set.specs.declared.instruction.InstructionLength.{InstructionLength}
+use Rattle.instruction_set.specs.declared.operands.BranchExchange.{BranchExchange}
+use Rattle.instruction_set.specs.declared.operands.CompareAndBranch.{CompareAndBranch}
+use Rattle.instruction_set.specs.declared.operands.ConditionalBranch.{ConditionalBranch}
+use Rattle.instruction_set.specs.declared.operands.IfThen.{IfThen}
+use Rattle.instruction_set.specs.declared.operands.TableBranch.{TableBranch}
+use Rattle.instruction_set.specs.Arithmetic.{condition_holds}
+use Rattle.instruction_set.specs.Registers.{Registers, register, with_register, with_exchange, is_privileged}
+use Rattle.instruction_set.specs.Sizes.{bytes_in, instruction_bytes}
+use Rattle.instruction_set.specs.Words.{word_sum}
 use Rattle.reference.specs.declared.access.Kind.TheVariants.{Load}
 use Rattle.reference.specs.declared.access.Request.{Request}
+use Rattle.reference.specs.declared.ending.Ending.TheVariants.{Next}
 use Rattle.reference.specs.declared.failure.Failure.{Failure}
 use Rattle.reference.specs.declared.failure.Traps.{Traps}
-use Rattle.reference.specs.declared.instruction.Branch.{Branch}
-use Rattle.reference.specs.declared.instruction.Branch.TheVariants as branch
-use Rattle.reference.specs.declared.instruction.Ending.TheVariants.{Next}
-use Rattle.reference.specs.declared.instruction.InstructionLength.{InstructionLength}
-use Rattle.reference.specs.declared.operands.BranchExchange.{BranchExchange}
-use Rattle.reference.specs.declared.operands.CompareAndBranch.{CompareAndBranch}
-use Rattle.reference.specs.declared.operands.ConditionalBranch.{ConditionalBranch}
-use Rattle.reference.specs.declared.operands.IfThen.{IfThen}
-use Rattle.reference.specs.declared.operands.TableBranch.{TableBranch}
-use Rattle.reference.specs.Arithmetic.{condition_holds}
-use Rattle.reference.specs.Kinds.{bytes_in}
 use Rattle.reference.specs.LoadStore.{transfer, joined}
-use Rattle.reference.specs.ProgramCounter.{Finished, instruction_bytes, moves_on, branches, branches_by, exchanges}
-use Rattle.reference.specs.Registers.{Registers, register, with_register, with_exchange, is_privileged}
-use Rattle.reference.specs.Words.{word_sum}
+use Rattle.reference.specs.ProgramCounter.{Finished, moves_on, branches, branches_by, exchanges}
 
 -- ---- branches
 

@@ -2,17 +2,17 @@
 -- State Register", "Application Interrupt and Reset Control Register").
 use Rattle.std.specs.Prelude.{ℕ, ◌+◌, ◌*◌, ◌/◌, ◌%◌, ◌^◌, Bool, true, false, not, ◌&&◌, ◌||◌, ◌==◌, if◌then◌else◌}
 use Rattle.std.specs.Prelude.{Option, Some, None, Result, Ok, Err, unwrap_or}
+use Rattle.instruction_set.specs.declared.unpredictable.UnpredictableCase.TheVariants as case
+use Rattle.instruction_set.specs.Registers.{weighed}
+use Rattle.instruction_set.specs.Words.{is_bit}
 use Rattle.reference.specs.declared.exception.TheConstants.{NMI, PEND_SV, SYS_TICK}
 use Rattle.reference.specs.declared.stop.LeftOut.TheVariants.{ResetControl}
 use Rattle.reference.specs.declared.stop.Stop.{Stop}
 use Rattle.reference.specs.declared.stop.Stop.TheVariants.{Unpredictable, OutOfProfile, ResetRequested}
-use Rattle.reference.specs.declared.stop.UnpredictableCase.TheVariants as case
 use Rattle.reference.specs.declared.system.ControlRegister.{ControlRegister}
 use Rattle.reference.specs.declared.system.ControlRegister.TheVariants.{Cpuid, Icsr, Aircr}
 use Rattle.reference.specs.Priorities.{Nvic, is_in, best, is_interrupt_pending, is_other_active, with_pending}
 use Rattle.reference.specs.Priorities.{with_group}
-use Rattle.reference.specs.Registers.{weighed}
-use Rattle.reference.specs.Words.{is_bit}
 
 -- the register at an address, if there is one
 unfoldable pub control_at : ℕ → Option ControlRegister

@@ -3,10 +3,13 @@
 -- `e` is the value of EXC_RETURN, which the handler gets in LR, and `x` is the number of the exception that is taken.
 use Rattle.std.specs.Prelude.{ℕ, ◌*◌, Bool, true, false, if◌then◌else◌, List, [], ◌∷◌, ◌++◌, Option, Some, None, Result}
 use Rattle.std.specs.Prelude.{Ok, Err}
+use Rattle.instruction_set.specs.declared.size.Size.TheVariants.{Word}
+use Rattle.instruction_set.specs.Frames.{exc_return, frame, frame_base, with_frame, in_handler}
+use Rattle.instruction_set.specs.Registers.{Registers, is_privileged, sp}
+use Rattle.instruction_set.specs.Words.{word_sum}
 use Rattle.reference.specs.declared.access.Kind.{Kind}
 use Rattle.reference.specs.declared.access.Kind.TheVariants.{Push, Vector}
 use Rattle.reference.specs.declared.access.Request.{Request}
-use Rattle.reference.specs.declared.access.Size.TheVariants.{Word}
 use Rattle.reference.specs.declared.event.Event.{Event}
 use Rattle.reference.specs.declared.event.EventKind.TheVariants.{HandlerEntered}
 use Rattle.reference.specs.declared.exception.TheConstants.{HARD_FAULT}
@@ -14,12 +17,9 @@ use Rattle.reference.specs.declared.failure.Failure.{Failure}
 use Rattle.reference.specs.declared.failure.Failure.TheVariants as failure
 use Rattle.reference.specs.Accesses.{ListResult, perform, perform_all, access_lines, value_of}
 use Rattle.reference.specs.Faults.{recorded, vector_fault, pended_by_fault, locked_up, failed}
-use Rattle.reference.specs.Frames.{exc_return, frame, frame_base, with_frame, in_handler}
 use Rattle.reference.specs.LoadStore.{request}
 use Rattle.reference.specs.Priorities.{Nvic, candidate, is_fixed, with_pending, with_active}
-use Rattle.reference.specs.Registers.{Registers, is_privileged, sp}
 use Rattle.reference.specs.State.{State, Stepped, with_bus, with_registers, with_exceptions}
-use Rattle.reference.specs.Words.{word_sum}
 
 -- ---- PushStack()
 

@@ -3,6 +3,11 @@
 -- its last function upward.
 use Rattle.std.specs.Prelude.{ℕ, Bool, true, false, not, ◌&&◌, ◌||◌, ◌==◌, if◌then◌else◌, List, [], ◌∷◌, ◌++◌, Option}
 use Rattle.std.specs.Prelude.{Some, None, replicate}
+use Rattle.instruction_set.specs.declared.unpredictable.UnpredictableCase.TheVariants as unpredictable
+use Rattle.instruction_set.specs.Frames.{returns_to_handler, returns_to_thread, has_reserved_ones, frame_pointer}
+use Rattle.instruction_set.specs.Frames.{popped_pc, popped_exception, popped}
+use Rattle.instruction_set.specs.Registers.{Registers}
+use Rattle.instruction_set.specs.Words.{is_bit}
 use Rattle.reference.specs.declared.access.Kind.TheVariants.{Pop}
 use Rattle.reference.specs.declared.access.Request.{Request}
 use Rattle.reference.specs.declared.event.Event.{Event}
@@ -12,18 +17,13 @@ use Rattle.reference.specs.declared.failure.Failure.{Failure}
 use Rattle.reference.specs.declared.failure.Failure.TheVariants.{Usage}
 use Rattle.reference.specs.declared.failure.UsageFault.TheVariants.{InvalidReturn}
 use Rattle.reference.specs.declared.stop.Stop.TheVariants.{Unpredictable}
-use Rattle.reference.specs.declared.stop.UnpredictableCase.TheVariants as unpredictable
 use Rattle.reference.specs.Accesses.{ListResult, perform_all}
 use Rattle.reference.specs.ExceptionEntry.{words_from}
 use Rattle.reference.specs.Faults.{failed}
-use Rattle.reference.specs.Frames.{returns_to_handler, returns_to_thread, has_reserved_ones, frame_pointer, popped_pc}
-use Rattle.reference.specs.Frames.{popped_exception, popped}
 use Rattle.reference.specs.Priorities.{candidate, is_in, is_other_active, with_faultmask}
-use Rattle.reference.specs.Registers.{Registers}
 use Rattle.reference.specs.State.{State, Stepped, with_bus, with_registers, with_system, stopped}
 use Rattle.reference.specs.Status.{nonbasethrdena}
 use Rattle.reference.specs.System.{System, with_nvic, deactivated}
-use Rattle.reference.specs.Words.{is_bit}
 
 -- an entry begins with the EXC_RETURN of the return
 abbrev pub with_entry : State → ℕ → State

@@ -1,47 +1,25 @@
--- The exclusive loads and stores and CLREX, with the local monitor (ARM DDI 0403, "Synchronization and semaphores", and
--- the pseudocode of SetExclusiveMonitors(), ExclusiveMonitorsPass() and ClearExclusiveLocal()). The monitor marks one
--- address with one size, and a store that fails is decided as a store is (profile).
-use Rattle.std.specs.Prelude.{ℕ, Bool, false, not, ◌&&◌, ◌==◌, if◌then◌else◌, List, [], ◌∷◌, Option, Some, None, Result}
-use Rattle.std.specs.Prelude.{Ok, Err}
+-- The exclusive loads and stores and CLREX, with the local monitor of `Monitor` (ARM DDI 0403, "Synchronization and
+-- semaphores"). A store that fails is decided as a store is (profile).
+use Rattle.std.specs.Prelude.{ℕ, Bool, not, if◌then◌else◌, List, [], ◌∷◌, Result, Ok, Err}
+use Rattle.instruction_set.specs.declared.instruction.Exclusive.{Exclusive}
+use Rattle.instruction_set.specs.declared.instruction.Exclusive.TheVariants.{Load, Store, Clear}
+use Rattle.instruction_set.specs.declared.instruction.InstructionLength.{InstructionLength}
+use Rattle.instruction_set.specs.declared.operands.StoreExclusive.{StoreExclusive}
+use Rattle.instruction_set.specs.declared.size.Size.{Size}
+use Rattle.instruction_set.specs.Monitor.{is_marked, with_mark, without_mark}
+use Rattle.instruction_set.specs.Registers.{Registers, register, with_register, is_privileged}
+use Rattle.instruction_set.specs.Words.{word_sum}
 use Rattle.reference.specs.declared.access.Kind.{Kind}
 use Rattle.reference.specs.declared.access.Kind.TheVariants as kind
 use Rattle.reference.specs.declared.access.Request.{Request}
-use Rattle.reference.specs.declared.access.Size.{Size}
 use Rattle.reference.specs.declared.failure.Failure.{Failure}
 use Rattle.reference.specs.declared.failure.Failure.TheVariants.{Usage, Stop}
 use Rattle.reference.specs.declared.failure.UsageFault.TheVariants.{Unaligned}
-use Rattle.reference.specs.declared.instruction.Exclusive.{Exclusive}
-use Rattle.reference.specs.declared.instruction.Exclusive.TheVariants.{Load, Store, Clear}
-use Rattle.reference.specs.declared.instruction.InstructionLength.{InstructionLength}
-use Rattle.reference.specs.declared.operands.StoreExclusive.{StoreExclusive}
-use Rattle.reference.specs.declared.registers.Marked.{Marked}
 use Rattle.reference.specs.declared.stop.LeftOut.TheVariants.{ExclusiveDevice}
 use Rattle.reference.specs.declared.stop.Stop.TheVariants.{OutOfProfile}
-use Rattle.reference.specs.Kinds.{bytes_in}
 use Rattle.reference.specs.LoadStore.{is_aligned, joined, request}
 use Rattle.reference.specs.Map.{has_side_effects}
 use Rattle.reference.specs.ProgramCounter.{Finished, moves_on}
-use Rattle.reference.specs.Registers.{Registers, register, with_register, is_privileged}
-use Rattle.reference.specs.Words.{word_sum}
-
--- ---- the local monitor
-
--- whether what is marked is that address with that size
-abbrev pub is_marked_with : Option Marked → ℕ → Size → Bool
-is_marked_with None address size = false
-is_marked_with (Some m) address size = m.address == address && bytes_in m.size == bytes_in size
-
--- ExclusiveMonitorsPass() without its checks of alignment and permission
-abbrev pub is_marked : Registers → ℕ → Size → Bool
-is_marked r address size = is_marked_with r.monitor address size
-
--- SetExclusiveMonitors()
-abbrev pub with_mark : Registers → ℕ → Size → Registers
-with_mark r address size = record r { monitor = Some (record { address = address; size = size }) }
-
--- ClearExclusiveLocal()
-abbrev pub without_mark : Registers → Registers
-without_mark r = record r { monitor = None }
 
 -- ---- accesses
 

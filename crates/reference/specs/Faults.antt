@@ -1,5 +1,6 @@
 -- What faults set and pend (ARM DDI 0403, "Fault behavior", the fault status registers, and "Priority escalation").
 use Rattle.std.specs.Prelude.{ℕ, ◌+◌, true, List, [], ◌∷◌, ◌++◌}
+use Rattle.instruction_set.specs.declared.instruction.InstructionLength.TheVariants.{Short}
 use Rattle.reference.specs.declared.access.Access.{Access}
 use Rattle.reference.specs.declared.access.Cause.{Cause}
 use Rattle.reference.specs.declared.access.Cause.TheVariants.{Mpu, Bus}
@@ -22,7 +23,6 @@ use Rattle.reference.specs.declared.fault_status.TheConstants.{IACCVIOL, DACCVIO
 use Rattle.reference.specs.declared.fault_status.TheConstants.{IBUSERR, PRECISERR, UNSTKERR, STKERR, BFARVALID}
 use Rattle.reference.specs.declared.fault_status.TheConstants.{UNDEFINSTR, INVSTATE, INVPC, NOCP, UNALIGNED, DIVBYZERO}
 use Rattle.reference.specs.declared.fault_status.TheConstants.{VECTTBL, FORCED}
-use Rattle.reference.specs.declared.instruction.InstructionLength.TheVariants.{Short}
 use Rattle.reference.specs.declared.stop.Stop.TheVariants as stop
 use Rattle.reference.specs.Priorities.{escalation, with_pending}
 use Rattle.reference.specs.ProgramCounter.{moves_on}

@@ -2,14 +2,14 @@
 -- Control and State Register").
 use Rattle.std.specs.Prelude.{ℕ, ◌+◌, ◌-◌, ◌^◌, ◌&&◌, ◌==◌, nat_le, nat_lt, if◌then◌else◌, Option, Some, None, Result}
 use Rattle.std.specs.Prelude.{Ok, Err, bit_and}
+use Rattle.instruction_set.specs.Registers.{weighed}
+use Rattle.instruction_set.specs.Words.{is_bit}
 use Rattle.reference.specs.declared.exception.TheConstants.{MEM_MANAGE, BUS_FAULT, USAGE_FAULT, SV_CALL, PEND_SV}
 use Rattle.reference.specs.declared.exception.TheConstants.{SYS_TICK}
 use Rattle.reference.specs.declared.stop.LeftOut.TheVariants.{ActiveBit}
 use Rattle.reference.specs.declared.stop.Stop.{Stop}
 use Rattle.reference.specs.declared.stop.Stop.TheVariants.{OutOfProfile}
 use Rattle.reference.specs.Priorities.{Nvic, is_in, is_enabled, with_enabled, with_pending}
-use Rattle.reference.specs.Registers.{weighed}
-use Rattle.reference.specs.Words.{is_bit}
 
 -- SHPR1 to SHPR3: a priority byte for each system handler, from that of MemManage on
 abbrev pub shpr_base : ℕ

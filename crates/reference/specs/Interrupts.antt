@@ -3,12 +3,12 @@
 -- interrupt that the board doesn't have reads 0 and ignores writes, since no set has it and no change reaches it.
 use Rattle.std.specs.Prelude.{ℕ, zero, suc, ◌+◌, ◌-◌, ◌*◌, ◌/◌, ◌%◌, ◌^◌, Bool, true, false, ◌&&◌, ◌==◌, nat_le, nat_lt}
 use Rattle.std.specs.Prelude.{if◌then◌else◌, slice_index, Option, Some, None}
+use Rattle.instruction_set.specs.Registers.{weighed}
+use Rattle.instruction_set.specs.Words.{is_bit}
 use Rattle.reference.specs.declared.exception.TheConstants.{FIRST_LINE, MOST_LINES}
 use Rattle.reference.specs.declared.system.InterruptRegister.{InterruptRegister}
 use Rattle.reference.specs.declared.system.InterruptRegister.TheVariants.{Iser, Icer, Ispr, Icpr, Iabr}
 use Rattle.reference.specs.Priorities.{Nvic, is_in, is_enabled, with_enabled, with_pending, with_priority}
-use Rattle.reference.specs.Registers.{weighed}
-use Rattle.reference.specs.Words.{is_bit}
 
 -- ICTR: the words of ISER that the board's lines need, less 1, and 0 where it has no line
 abbrev pub ictr : Nvic → ℕ

@@ -1,13 +1,13 @@
 -- What holds of a state at the start, after each step and after each value that `place` puts. It's proved in the crate
 -- `state_laws`. A step is defined in every state, also in one without the invariant.
 use Rattle.std.specs.Prelude.{◌≡◌, ℕ, ◌+◌, ◌%◌, ◌^◌, ◌<◌, ◌≤◌, Bool, true, is_some, List, length, slice_index, None}
+use Rattle.instruction_set.specs.Registers.{Registers}
 use Rattle.reference.specs.declared.exception.TheConstants.{EXCEPTIONS, MOST_LINES}
 use Rattle.reference.specs.Boards.{Described, IsScript, IsScriptFrom, is_flash, is_line_count, is_region_count}
 use Rattle.reference.specs.Map.{ram_base}
 use Rattle.reference.specs.Memory.{Memory}
 use Rattle.reference.specs.Priorities.{Nvic, is_in, is_exception, can_be_disabled, kept, candidate}
 use Rattle.reference.specs.Regions.{IsSound}
-use Rattle.reference.specs.Registers.{Registers}
 use Rattle.reference.specs.State.{State}
 use Rattle.reference.specs.System.{System}
 use Rattle.reference.specs.Time.{Time, SysTick, last_tick}

@@ -1,20 +1,7 @@
--- What an access is for, and how wide it is.
-use Rattle.std.specs.Prelude.{ℕ, Bool, true, false}
+-- What an access is for.
+use Rattle.std.specs.Prelude.{Bool, true, false}
 use Rattle.reference.specs.declared.access.Kind.{Kind}
 use Rattle.reference.specs.declared.access.Kind.TheVariants.{Fetch, Load, Store, Push, Pop, Vector, Probe}
-use Rattle.reference.specs.declared.access.Size.{Size}
-use Rattle.reference.specs.declared.access.Size.TheVariants.{Byte, Halfword, Word}
-
--- how many bytes an access moves
-abbrev pub bytes_in : Size → ℕ
-bytes_in Byte = 1
-bytes_in Halfword = 2
-bytes_in Word = 4
-
-abbrev pub is_word : Size → Bool
-is_word Byte = false
-is_word Halfword = false
-is_word Word = true
 
 abbrev pub is_fetch : Kind → Bool
 is_fetch Fetch = true

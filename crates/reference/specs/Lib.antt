@@ -1,8 +1,6 @@
--- The definitions of the reference machine, one chapter a file, in the order in which they are read.
-pub mod Words
-pub mod Arithmetic
+-- The definitions of the reference machine, one chapter a file, in the order in which they are read. Those of the
+-- instruction set are in the crate `instruction_set`.
 pub mod Kinds
-pub mod Registers
 pub mod Map
 pub mod Memory
 pub mod Regions
@@ -17,31 +15,7 @@ pub mod SysTickRegisters
 pub mod System
 pub mod SpecialRegisters
 pub mod State
-pub mod Patterns
-pub mod Rows
-pub mod RowOperands
-pub mod ShortShifts
-pub mod ShortData
-pub mod ShortSpecial
-pub mod ShortLoadStore
-pub mod ShortMiscellaneous
-pub mod ShortBranches
-pub mod LongImmediate
-pub mod LongShifted
-pub mod LongPlain
-pub mod LongControl
-pub mod LongMultiple
-pub mod LongDual
-pub mod LongStore
-pub mod LongLoad
-pub mod LongRegister
-pub mod LongMultiply
-pub mod Decoding
 pub mod ProgramCounter
-pub mod TwoOperands
-pub mod Products
-pub mod Fields
-pub mod DataProcessing
 pub mod LoadStore
 pub mod LoadStoreMultiple
 pub mod Exclusives
@@ -52,7 +26,6 @@ pub mod Rules
 pub mod Space
 pub mod Accesses
 pub mod Faults
-pub mod Frames
 pub mod ExceptionEntry
 pub mod ExceptionReturn
 pub mod Step

@@ -1,39 +1,40 @@
 -- Loads and stores of one register (ARM DDI 0403, MemU[], and the operation of LDR, STR and their forms of a byte and
 -- of a halfword): the address, the accesses, and the use of the values read.
-use Rattle.std.specs.Prelude.{ℕ, ◌+◌, ◌*◌, ◌%◌, ◌^◌, Bool, true, false, not, ◌&&◌, ◌==◌, if◌then◌else◌, List, [], ◌∷◌}
-use Rattle.std.specs.Prelude.{Result, Ok, Err}
+use Rattle.std.specs.Prelude.{ℕ, ◌+◌, ◌*◌, ◌%◌, ◌^◌, Bool, not, ◌&&◌, ◌==◌, if◌then◌else◌, List, [], ◌∷◌, Result, Ok}
+use Rattle.std.specs.Prelude.{Err}
 use Rattle.std.specs.List.{list_any}
+use Rattle.instruction_set.specs.declared.instruction.InstructionLength.{InstructionLength}
+use Rattle.instruction_set.specs.declared.instruction.LoadStore.{LoadStore}
+use Rattle.instruction_set.specs.declared.instruction.LoadStore.TheVariants.{LoadImmediate, LoadRegister, LoadLiteral}
+use Rattle.instruction_set.specs.declared.instruction.LoadStore.TheVariants.{StoreImmediate, StoreRegister}
+use Rattle.instruction_set.specs.declared.operands.ImmediateAddress.{ImmediateAddress}
+use Rattle.instruction_set.specs.declared.operands.Indexing.{Indexing}
+use Rattle.instruction_set.specs.declared.operands.Indexing.TheVariants.{Offset, PreIndexed, PostIndexed}
+use Rattle.instruction_set.specs.declared.operands.LoadForm.{LoadForm}
+use Rattle.instruction_set.specs.declared.operands.RegisterAddress.{RegisterAddress}
+use Rattle.instruction_set.specs.declared.shift.ShiftType.TheVariants.{Lsl}
+use Rattle.instruction_set.specs.declared.size.Size.{Size}
+use Rattle.instruction_set.specs.declared.size.Size.TheVariants.{Byte, Word}
+use Rattle.instruction_set.specs.declared.unpredictable.UnpredictableCase.TheVariants.{LoadPc}
+use Rattle.instruction_set.specs.Arithmetic.{shift_c}
+use Rattle.instruction_set.specs.Fields.{extended, width_of}
+use Rattle.instruction_set.specs.Registers.{Registers, register, with_register, is_privileged}
+use Rattle.instruction_set.specs.RowOperands.{writes_back}
+use Rattle.instruction_set.specs.Sizes.{bytes_in}
+use Rattle.instruction_set.specs.TwoOperands.{aligned_pc}
+use Rattle.instruction_set.specs.Words.{word_sum}
 use Rattle.reference.specs.declared.access.Kind.{Kind}
 use Rattle.reference.specs.declared.access.Kind.TheVariants.{Load, Store}
 use Rattle.reference.specs.declared.access.Request.{Request}
-use Rattle.reference.specs.declared.access.Size.{Size}
-use Rattle.reference.specs.declared.access.Size.TheVariants.{Byte, Word}
 use Rattle.reference.specs.declared.failure.Failure.{Failure}
 use Rattle.reference.specs.declared.failure.Failure.TheVariants.{Usage, Stop}
 use Rattle.reference.specs.declared.failure.Traps.{Traps}
 use Rattle.reference.specs.declared.failure.UsageFault.TheVariants.{Unaligned}
-use Rattle.reference.specs.declared.instruction.InstructionLength.{InstructionLength}
-use Rattle.reference.specs.declared.instruction.LoadStore.{LoadStore}
-use Rattle.reference.specs.declared.instruction.LoadStore.TheVariants.{LoadImmediate, LoadRegister, LoadLiteral}
-use Rattle.reference.specs.declared.instruction.LoadStore.TheVariants.{StoreImmediate, StoreRegister}
-use Rattle.reference.specs.declared.operands.ImmediateAddress.{ImmediateAddress}
-use Rattle.reference.specs.declared.operands.Indexing.{Indexing}
-use Rattle.reference.specs.declared.operands.Indexing.TheVariants.{Offset, PreIndexed, PostIndexed}
-use Rattle.reference.specs.declared.operands.LoadForm.{LoadForm}
-use Rattle.reference.specs.declared.operands.RegisterAddress.{RegisterAddress}
-use Rattle.reference.specs.declared.shift.ShiftType.TheVariants.{Lsl}
 use Rattle.reference.specs.declared.stop.LeftOut.TheVariants.{UnalignedDevice}
 use Rattle.reference.specs.declared.stop.Stop.TheVariants.{OutOfProfile, Unpredictable}
-use Rattle.reference.specs.declared.stop.UnpredictableCase.TheVariants.{LoadPc}
-use Rattle.reference.specs.Arithmetic.{shift_c}
-use Rattle.reference.specs.TwoOperands.{aligned_pc}
-use Rattle.reference.specs.Fields.{extended, width_of}
-use Rattle.reference.specs.Kinds.{bytes_in}
 use Rattle.reference.specs.Map.{has_side_effects}
 use Rattle.reference.specs.Memory.{bytes_of}
 use Rattle.reference.specs.ProgramCounter.{Finished, moves_on, loads_into}
-use Rattle.reference.specs.Registers.{Registers, register, with_register, is_privileged}
-use Rattle.reference.specs.Words.{word_sum}
 
 -- ---- addresses
 
@@ -50,12 +51,6 @@ indexed_address PostIndexed a r = register r a.base
 -- the address of an access by a base register and an immediate
 abbrev pub immediate_address : ImmediateAddress → Registers → ℕ
 immediate_address a r = indexed_address a.indexing a r
-
--- whether the base register is written
-abbrev pub writes_back : Indexing → Bool
-writes_back Offset = false
-writes_back PreIndexed = true
-writes_back PostIndexed = true
 
 -- R[n] = offset_addr, where the base is written back
 abbrev pub with_base : ImmediateAddress → Registers → Registers

@@ -3,27 +3,27 @@
 use Rattle.std.specs.Prelude.{ℕ, ◌*◌, Bool, if◌then◌else◌, List, [], ◌∷◌, length, drop, slice_index, Result, Ok, Err}
 use Rattle.std.specs.Int.RustNames.{count_ones}
 use Rattle.std.specs.List.{filter, range_with_len}
+use Rattle.instruction_set.specs.declared.instruction.InstructionLength.{InstructionLength}
+use Rattle.instruction_set.specs.declared.instruction.LoadStoreMultiple.{LoadStoreMultiple}
+use Rattle.instruction_set.specs.declared.instruction.LoadStoreMultiple.TheVariants as family
+use Rattle.instruction_set.specs.declared.operands.ListOrder.{ListOrder}
+use Rattle.instruction_set.specs.declared.operands.ListOrder.TheVariants.{IncrementAfter, DecrementBefore}
+use Rattle.instruction_set.specs.declared.operands.LoadDualLiteral.{LoadDualLiteral}
+use Rattle.instruction_set.specs.declared.operands.LoadMultiple.{LoadMultiple}
+use Rattle.instruction_set.specs.declared.size.Size.TheVariants.{Word}
+use Rattle.instruction_set.specs.declared.unpredictable.UnpredictableCase.TheVariants.{LiteralPc}
+use Rattle.instruction_set.specs.Registers.{Registers, register, with_register, is_privileged}
+use Rattle.instruction_set.specs.Words.{word_sum, negated, is_bit}
 use Rattle.reference.specs.declared.access.Kind.{Kind}
 use Rattle.reference.specs.declared.access.Kind.TheVariants.{Load, Store}
 use Rattle.reference.specs.declared.access.Request.{Request}
-use Rattle.reference.specs.declared.access.Size.TheVariants.{Word}
 use Rattle.reference.specs.declared.failure.Failure.{Failure}
 use Rattle.reference.specs.declared.failure.Failure.TheVariants.{Usage, Stop}
 use Rattle.reference.specs.declared.failure.UsageFault.TheVariants.{Unaligned}
-use Rattle.reference.specs.declared.instruction.InstructionLength.{InstructionLength}
-use Rattle.reference.specs.declared.instruction.LoadStoreMultiple.{LoadStoreMultiple}
-use Rattle.reference.specs.declared.instruction.LoadStoreMultiple.TheVariants as family
-use Rattle.reference.specs.declared.operands.ListOrder.{ListOrder}
-use Rattle.reference.specs.declared.operands.ListOrder.TheVariants.{IncrementAfter, DecrementBefore}
-use Rattle.reference.specs.declared.operands.LoadDualLiteral.{LoadDualLiteral}
-use Rattle.reference.specs.declared.operands.LoadMultiple.{LoadMultiple}
 use Rattle.reference.specs.declared.stop.Stop.TheVariants.{Unpredictable}
-use Rattle.reference.specs.declared.stop.UnpredictableCase.TheVariants.{LiteralPc}
 use Rattle.reference.specs.Kinds.{is_store}
 use Rattle.reference.specs.LoadStore.{request, is_aligned, immediate_address, with_base}
 use Rattle.reference.specs.ProgramCounter.{Finished, exchanges, moves_on}
-use Rattle.reference.specs.Registers.{Registers, register, with_register, is_privileged}
-use Rattle.reference.specs.Words.{word_sum, negated, is_bit}
 
 -- ---- lists
 

@@ -1,28 +1,32 @@
 -- The accesses of an instruction, and what it does with the values that it reads (ARM DDI 0403, "Alphabetical list of
--- ARMv7-M Thumb instructions"). The chapter of its family has both; this one fixes the order: the position in an IT
--- block, then the condition, then the family.
+-- ARMv7-M Thumb instructions"). The chapter of its family has both, but for the instructions that compute,
+-- whose accesses and ends are here. This chapter fixes the order: the position in an IT block, then the condition, then
+-- the family.
 use Rattle.std.specs.Prelude.{ℕ, Bool, false, not, ◌&&◌, ◌||◌, if◌then◌else◌, List, [], Result, Ok, Err}
+use Rattle.instruction_set.specs.declared.instruction.BlockPlace.{BlockPlace}
+use Rattle.instruction_set.specs.declared.instruction.BlockPlace.TheVariants.{Anywhere, LastOnly, Never}
+use Rattle.instruction_set.specs.declared.instruction.CodedInstruction.{CodedInstruction}
+use Rattle.instruction_set.specs.declared.instruction.DataProcessing.{DataProcessing as DataProcessingForm}
+use Rattle.instruction_set.specs.declared.instruction.Instruction.{Instruction}
+use Rattle.instruction_set.specs.declared.instruction.Instruction.TheVariants.{DataProcessing, LoadStore}
+use Rattle.instruction_set.specs.declared.instruction.Instruction.TheVariants.{LoadStoreMultiple, Exclusive, Branch}
+use Rattle.instruction_set.specs.declared.instruction.Instruction.TheVariants.{System}
+use Rattle.instruction_set.specs.declared.instruction.InstructionLength.{InstructionLength}
+use Rattle.instruction_set.specs.declared.unpredictable.UnpredictableCase.TheVariants.{ItBlock}
+use Rattle.instruction_set.specs.Arithmetic.{in_it_block, last_in_it_block, condition_passed}
+use Rattle.instruction_set.specs.DataProcessing.{processed, writes_pc, divides_by_zero}
+use Rattle.instruction_set.specs.Registers.{Registers}
 use Rattle.reference.specs.declared.access.Request.{Request}
 use Rattle.reference.specs.declared.failure.Failure.{Failure}
-use Rattle.reference.specs.declared.failure.Failure.TheVariants.{Stop}
+use Rattle.reference.specs.declared.failure.Failure.TheVariants.{Stop, Usage}
 use Rattle.reference.specs.declared.failure.Traps.{Traps}
-use Rattle.reference.specs.declared.instruction.BlockPlace.{BlockPlace}
-use Rattle.reference.specs.declared.instruction.BlockPlace.TheVariants.{Anywhere, LastOnly, Never}
-use Rattle.reference.specs.declared.instruction.CodedInstruction.{CodedInstruction}
-use Rattle.reference.specs.declared.instruction.Instruction.{Instruction}
-use Rattle.reference.specs.declared.instruction.Instruction.TheVariants.{DataProcessing, LoadStore, LoadStoreMultiple}
-use Rattle.reference.specs.declared.instruction.Instruction.TheVariants.{Exclusive, Branch, System}
-use Rattle.reference.specs.declared.instruction.InstructionLength.{InstructionLength}
+use Rattle.reference.specs.declared.failure.UsageFault.TheVariants.{DivideByZero}
 use Rattle.reference.specs.declared.stop.Stop.TheVariants.{Unpredictable}
-use Rattle.reference.specs.declared.stop.UnpredictableCase.TheVariants.{ItBlock}
-use Rattle.reference.specs.Arithmetic.{in_it_block, last_in_it_block, condition_passed}
 use Rattle.reference.specs.Branches.{branch_requests, branch_effect}
-use Rattle.reference.specs.DataProcessing.{data_processing_requests, data_processing_effect}
 use Rattle.reference.specs.Exclusives.{exclusive_requests, exclusive_effect}
 use Rattle.reference.specs.LoadStore.{load_store_requests, load_store_effect}
 use Rattle.reference.specs.LoadStoreMultiple.{load_store_multiple_requests, load_store_multiple_effect}
-use Rattle.reference.specs.ProgramCounter.{Finished, moves_on}
-use Rattle.reference.specs.Registers.{Registers}
+use Rattle.reference.specs.ProgramCounter.{Finished, moves_on, branches}
 use Rattle.reference.specs.SystemInstructions.{has_no_condition, system_effect}
 
 -- ---- before an instruction
@@ -45,6 +49,17 @@ is_unconditional (System i) = has_no_condition i
 -- whether it is carried out: ConditionPassed(), or it has no condition
 abbrev pub is_carried_out : Instruction → Registers → Bool
 is_carried_out i r = is_unconditional i || condition_passed r.it_state r.flags
+
+-- ---- the instructions that compute
+
+-- there is no access, and a division by zero is UsageFault DIVBYZERO where CCR.DIV_0_TRP is set
+abbrev pub data_processing_requests : Traps → DataProcessingForm → Registers → Result (List Request) Failure
+data_processing_requests traps i r =
+    if traps.divide_by_zero && divides_by_zero i r then Err (Usage DivideByZero) else Ok []
+
+-- what an instruction of this length does
+abbrev pub data_processing_effect : InstructionLength → DataProcessingForm → Registers → Finished
+data_processing_effect length i r = if writes_pc i then branches (processed i r) else moves_on length (processed i r)
 
 -- ---- the accesses of an instruction
 

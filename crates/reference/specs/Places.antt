@@ -2,21 +2,22 @@
 -- no line (profile).
 use Rattle.std.specs.Prelude.{ℕ, ◌%◌, Bool, true, not, ◌||◌, nat_lt, ◌==◌, if◌then◌else◌, is_some, Option, Some, None}
 use Rattle.std.specs.Prelude.{Result, Ok, Err}
+use Rattle.instruction_set.specs.declared.operands.SpecialRegister.{SpecialRegister}
+use Rattle.instruction_set.specs.declared.size.Size.TheVariants as size
+use Rattle.instruction_set.specs.Registers.{is_handler, with_register}
+use Rattle.instruction_set.specs.RowOperands.{special_of}
 use Rattle.reference.specs.declared.access.Answer.{Answer}
 use Rattle.reference.specs.declared.access.Answer.TheVariants as answer
 use Rattle.reference.specs.declared.access.Kind.TheVariants.{Store}
 use Rattle.reference.specs.declared.access.Request.{Request}
-use Rattle.reference.specs.declared.access.Size.TheVariants as size
 use Rattle.reference.specs.declared.fault.PlaceFault.{PlaceFault}
 use Rattle.reference.specs.declared.fault.PlaceFault.TheVariants.{NotAligned, NoSuchPlace, Stopped, Refused}
-use Rattle.reference.specs.declared.operands.SpecialRegister.{SpecialRegister}
 use Rattle.reference.specs.declared.place.Place.{Place}
 use Rattle.reference.specs.declared.place.Place.TheVariants.{Reg, Special, Word}
 use Rattle.reference.specs.Accesses.{BusAnswer, answered_by_bus}
 use Rattle.reference.specs.Map.{is_in_ppb}
 use Rattle.reference.specs.Memory.{Memory, is_in_flash, is_in_ram, overwritten, bytes_of}
-use Rattle.reference.specs.Registers.{is_handler, with_register}
-use Rattle.reference.specs.SpecialRegisters.{special_of, with_special, with_mask}
+use Rattle.reference.specs.SpecialRegisters.{with_special, with_mask}
 use Rattle.reference.specs.State.{Bus, State, with_registers, with_bus, with_exceptions}
 use Rattle.reference.specs.LoadStore.{request}
 

@@ -9,12 +9,12 @@
 use Rattle.std.specs.Prelude.{ℕ, zero, suc, ◌+◌, ◌-◌, ◌*◌, ◌/◌, ◌%◌, ◌^◌, min, Bool, true, false, not, ◌&&◌, ◌||◌, ◌==◌}
 use Rattle.std.specs.Prelude.{nat_lt, nat_le, if◌then◌else◌, List, slice_index, slice_index_or, slice_set, replicate}
 use Rattle.std.specs.Prelude.{Option, Some, None}
+use Rattle.instruction_set.specs.Words.{is_bit}
 use Rattle.reference.specs.declared.exception.Escalation.{Escalation}
 use Rattle.reference.specs.declared.exception.Escalation.TheVariants.{Itself, HardFault, Lockup}
 use Rattle.reference.specs.declared.exception.Masks.{Masks}
 use Rattle.reference.specs.declared.exception.TheConstants.{NMI, HARD_FAULT, MEM_MANAGE, USAGE_FAULT, SV_CALL, PEND_SV}
 use Rattle.reference.specs.declared.exception.TheConstants.{SYS_TICK, FIRST_LINE, MOST_LINES, EXCEPTIONS}
-use Rattle.reference.specs.Words.{is_bit}
 
 -- Each list has an element for every number below EXCEPTIONS, also for numbers that no exception has.
 pub record Nvic : Type 0 where

@@ -1,12 +1,12 @@
 -- How the PC goes on after an instruction (ARM DDI 0403, BranchWritePC(), BXWritePC(), BLXWritePC() and LoadWritePC()).
 use Rattle.std.specs.Prelude.{ℕ, ◌/◌, ◌^◌, Bool, ◌&&◌, ◌==◌, if◌then◌else◌}
-use Rattle.reference.specs.declared.instruction.Ending.{Ending}
-use Rattle.reference.specs.declared.instruction.Ending.TheVariants.{Next, ExceptionReturn}
-use Rattle.reference.specs.declared.instruction.InstructionLength.{InstructionLength}
-use Rattle.reference.specs.declared.instruction.InstructionLength.TheVariants.{Short, Long}
-use Rattle.reference.specs.Arithmetic.{it_advance}
-use Rattle.reference.specs.Registers.{Registers, register, with_register, with_pc, with_exchange, is_handler}
-use Rattle.reference.specs.Words.{word_sum}
+use Rattle.instruction_set.specs.declared.instruction.InstructionLength.{InstructionLength}
+use Rattle.instruction_set.specs.Arithmetic.{it_advance}
+use Rattle.instruction_set.specs.Registers.{Registers, register, with_register, with_pc, with_exchange, is_handler}
+use Rattle.instruction_set.specs.Sizes.{instruction_bytes}
+use Rattle.instruction_set.specs.Words.{word_sum}
+use Rattle.reference.specs.declared.ending.Ending.{Ending}
+use Rattle.reference.specs.declared.ending.Ending.TheVariants.{Next, ExceptionReturn}
 
 -- ---- the end of an instruction
 
@@ -18,11 +18,6 @@ pub record Finished : Type 0 where
 -- ITAdvance()
 abbrev pub advanced : Registers → Registers
 advanced r = record r { it_state = it_advance r.it_state }
-
--- the bytes of an instruction
-abbrev pub instruction_bytes : InstructionLength → ℕ
-instruction_bytes Short = 2
-instruction_bytes Long = 4
 
 -- the PC goes on by the length of the instruction
 abbrev pub moves_on : InstructionLength → Registers → Finished

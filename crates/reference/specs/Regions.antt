@@ -4,6 +4,8 @@
 use Rattle.std.specs.Prelude.{◌≡◌, ℕ, zero, suc, ◌+◌, ◌-◌, ◌*◌, ◌/◌, ◌%◌, ◌^◌, ◌<◌, ◌≤◌, ◌⊎◌, Bool, true, not, ◌&&◌}
 use Rattle.std.specs.Prelude.{◌||◌, ◌==◌, nat_lt, nat_le, if◌then◌else◌, List, length, slice_index_or, slice_set}
 use Rattle.std.specs.Prelude.{replicate, Option, Some, None, Result, Ok, Err, bit_and}
+use Rattle.instruction_set.specs.declared.unpredictable.UnpredictableCase.TheVariants.{MpuRegion, MpuControl}
+use Rattle.instruction_set.specs.Words.{bit_at, is_bit}
 use Rattle.reference.specs.declared.mpu.MpuRegister.{MpuRegister}
 use Rattle.reference.specs.declared.mpu.MpuRegister.TheVariants as register
 use Rattle.reference.specs.declared.mpu.MpuStop.{MpuStop}
@@ -13,8 +15,6 @@ use Rattle.reference.specs.declared.mpu.RegionCount.TheVariants.{Eight, Sixteen}
 use Rattle.reference.specs.declared.mpu.Region.{Region}
 use Rattle.reference.specs.declared.stop.Stop.{Stop}
 use Rattle.reference.specs.declared.stop.Stop.TheVariants.{Unpredictable}
-use Rattle.reference.specs.declared.stop.UnpredictableCase.TheVariants.{MpuRegion, MpuControl}
-use Rattle.reference.specs.Words.{bit_at, is_bit}
 
 -- how many regions an MPU has: MPU_TYPE.DREGION
 abbrev pub region_number : RegionCount → ℕ

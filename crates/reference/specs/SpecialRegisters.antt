@@ -1,37 +1,17 @@
 -- The special registers: what MRS reads, and what MSR and CPS write (ARM DDI 0403, the operation of MRS, MSR and CPS).
 -- The stack pointers, CONTROL and the parts of xPSR are in fields of `Registers`. The masks are in `Nvic`.
-use Rattle.std.specs.Prelude.{ℕ, ◌+◌, ◌%◌, ◌^◌, Bool, true, false, not, ◌&&◌, ◌||◌, ◌==◌, nat_lt}
-use Rattle.std.specs.Prelude.{if◌then◌else◌, Option, Some, None}
+use Rattle.std.specs.Prelude.{ℕ, ◌+◌, ◌%◌, ◌^◌, Bool, true, false, not, ◌&&◌, ◌||◌, ◌==◌, nat_lt, if◌then◌else◌}
+use Rattle.instruction_set.specs.declared.operands.ChangeProcessorState.{ChangeProcessorState}
+use Rattle.instruction_set.specs.declared.operands.SpecialRegister.{SpecialRegister}
+use Rattle.instruction_set.specs.declared.operands.SpecialRegister.TheVariants.{Apsr, Iapsr, Eapsr, Xpsr, Ipsr, Epsr}
+use Rattle.instruction_set.specs.declared.operands.SpecialRegister.TheVariants.{Iepsr, Msp, Psp, Primask, Basepri}
+use Rattle.instruction_set.specs.declared.operands.SpecialRegister.TheVariants.{BasepriMax, Faultmask, Control}
+use Rattle.instruction_set.specs.Registers.{Registers, is_privileged, apsr, flags_of, control, stack_pointer, weighed}
+use Rattle.instruction_set.specs.Registers.{control_written}
+use Rattle.instruction_set.specs.Words.{is_bit}
 use Rattle.reference.specs.declared.exception.Masks.{Masks}
-use Rattle.reference.specs.declared.operands.ChangeProcessorState.{ChangeProcessorState}
-use Rattle.reference.specs.declared.operands.SpecialRegister.{SpecialRegister}
-use Rattle.reference.specs.declared.operands.SpecialRegister.TheVariants.{Apsr, Iapsr, Eapsr, Xpsr, Ipsr, Epsr, Iepsr}
-use Rattle.reference.specs.declared.operands.SpecialRegister.TheVariants.{Msp, Psp, Primask, Basepri, BasepriMax}
-use Rattle.reference.specs.declared.operands.SpecialRegister.TheVariants.{Faultmask, Control}
 use Rattle.reference.specs.Priorities.{Nvic, execution_priority, hard_fault_priority, kept, with_primask}
 use Rattle.reference.specs.Priorities.{with_faultmask, with_basepri}
-use Rattle.reference.specs.Registers.{Registers, is_handler, is_privileged, apsr, flags_of, control, stack_pointer}
-use Rattle.reference.specs.Registers.{weighed}
-use Rattle.reference.specs.Words.{is_bit}
-
--- the special register of a number: SYSm
-abbrev pub special_of : ℕ → Option SpecialRegister
-special_of number =
-    if number == 0 then Some Apsr
-    else if number == 1 then Some Iapsr
-    else if number == 2 then Some Eapsr
-    else if number == 3 then Some Xpsr
-    else if number == 5 then Some Ipsr
-    else if number == 6 then Some Epsr
-    else if number == 7 then Some Iepsr
-    else if number == 8 then Some Msp
-    else if number == 9 then Some Psp
-    else if number == 16 then Some Primask
-    else if number == 17 then Some Basepri
-    else if number == 18 then Some BasepriMax
-    else if number == 19 then Some Faultmask
-    else if number == 20 then Some Control
-    else None
 
 -- ---- MRS
 
@@ -74,13 +54,6 @@ unfoldable pub read_special : Registers → Masks → SpecialRegister → ℕ
 read_special r m special = if is_hidden special && not (is_privileged r) then 0 else special_value r m special
 
 -- ---- MSR, registers
-
--- CONTROL.nPRIV, and in Thread mode CONTROL.SPSEL
-abbrev pub control_written : Registers → ℕ → Registers
-control_written r value = record r {
-  unprivileged = is_bit value 0;
-  process_stack = if is_handler r then r.process_stack else is_bit value 1;
-}
 
 -- what privileged code writes; the flags of APSR are the only bits of a program status register that MSR writes
 unfoldable pub with_special : Registers → SpecialRegister → ℕ → Registers

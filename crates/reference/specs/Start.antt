@@ -2,13 +2,13 @@
 -- the registers that TakeReset() leaves UNKNOWN, are the profile's.
 use Rattle.std.specs.Prelude.{ℕ, ◌+◌, ◌*◌, Bool, true, false, ◌&&◌, ◌||◌, if◌then◌else◌, List, [], ◌∷◌, length}
 use Rattle.std.specs.Prelude.{replicate, None, Result, Ok, Err, unwrap_or}
+use Rattle.instruction_set.specs.Registers.{reset_registers}
 use Rattle.reference.specs.declared.fault.StartFault.{StartFault}
 use Rattle.reference.specs.declared.fault.StartFault.TheVariants.{SegmentOutsideMemory}
 use Rattle.reference.specs.declared.script.ScriptedEvent.{ScriptedEvent}
 use Rattle.reference.specs.Boards.{Described, Numbers}
 use Rattle.reference.specs.Images.{Segment}
 use Rattle.reference.specs.Memory.{Memory, is_in_flash, is_in_ram, overwritten, number_at}
-use Rattle.reference.specs.Registers.{reset_registers}
 use Rattle.reference.specs.State.{State}
 use Rattle.reference.specs.System.{reset_system}
 

@@ -1,11 +1,11 @@
 -- The state of the machine: registers, memory and System Control Space, which other chapters define, and what is kept
 -- between steps. No field repeats what others determine.
 use Rattle.std.specs.Prelude.{ℕ, Bool, List, Option, Some}
+use Rattle.instruction_set.specs.Registers.{Registers}
 use Rattle.reference.specs.declared.event.Event.{Event}
 use Rattle.reference.specs.declared.stop.Stop.{Stop}
 use Rattle.reference.specs.Memory.{Memory}
 use Rattle.reference.specs.Priorities.{Nvic}
-use Rattle.reference.specs.Registers.{Registers}
 use Rattle.reference.specs.System.{System, after_tick}
 
 -- what an access can see and change

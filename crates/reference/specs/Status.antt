@@ -3,12 +3,12 @@
 -- Register", "HardFault Status Register", "MemManage Fault Address Register" and "BusFault Address Register").
 use Rattle.std.specs.Prelude.{ℕ, ◌-◌, ◌*◌, ◌/◌, ◌^◌, Bool, true, false, ◌==◌, if◌then◌else◌, Option, Some, None, Result}
 use Rattle.std.specs.Prelude.{Ok, Err, bit_and, bit_or}
+use Rattle.instruction_set.specs.Words.{is_bit}
 use Rattle.reference.specs.declared.stop.LeftOut.TheVariants.{IgnoredBusFaults, SleepOnExit}
 use Rattle.reference.specs.declared.stop.Stop.{Stop}
 use Rattle.reference.specs.declared.stop.Stop.TheVariants.{OutOfProfile}
 use Rattle.reference.specs.declared.system.StatusRegister.{StatusRegister}
 use Rattle.reference.specs.declared.system.StatusRegister.TheVariants.{Vtor, Scr, Ccr, Cfsr, Hfsr, Mmfar, Bfar}
-use Rattle.reference.specs.Words.{is_bit}
 
 -- each register as it reads
 pub record Status : Type 0 where

@@ -2,11 +2,12 @@
 -- tick does to it. Each block of registers has a chapter of its own.
 use Rattle.std.specs.Prelude.{ℕ, zero, suc, ◌+◌, ◌-◌, ◌*◌, ◌/◌, ◌%◌, ◌^◌, Bool, true, false, not, ◌&&◌, ◌||◌, ◌==◌}
 use Rattle.std.specs.Prelude.{if◌then◌else◌, List, Option, Some, None, Result, Ok, Err}
+use Rattle.instruction_set.specs.declared.size.Size.{Size}
+use Rattle.instruction_set.specs.declared.size.Size.TheVariants.{Byte, Halfword, Word}
+use Rattle.instruction_set.specs.Sizes.{bytes_in, is_word}
 use Rattle.reference.specs.declared.access.Answer.{Answer}
 use Rattle.reference.specs.declared.access.Answer.TheVariants as answer
 use Rattle.reference.specs.declared.access.Request.{Request}
-use Rattle.reference.specs.declared.access.Size.{Size}
-use Rattle.reference.specs.declared.access.Size.TheVariants.{Byte, Halfword, Word}
 use Rattle.reference.specs.declared.exception.TheConstants.{FIRST_LINE, EXCEPTIONS}
 use Rattle.reference.specs.declared.mpu.MpuStop.{MpuStop}
 use Rattle.reference.specs.declared.script.ScriptedEvent.{ScriptedEvent}
@@ -20,7 +21,7 @@ use Rattle.reference.specs.Handlers.{handler_priority_at, read_shcsr, write_shcs
 use Rattle.reference.specs.Interrupts.{ictr, interrupts_at, word_number, read_interrupts, write_interrupts}
 use Rattle.reference.specs.Interrupts.{interrupt_priority_at, read_priorities, write_priorities, stir_address}
 use Rattle.reference.specs.Interrupts.{triggered}
-use Rattle.reference.specs.Kinds.{bytes_in, is_word, is_load, is_store}
+use Rattle.reference.specs.Kinds.{is_load, is_store}
 use Rattle.reference.specs.Priorities.{Nvic, is_interrupt, with_pending, with_active, reset_nvic}
 use Rattle.reference.specs.Regions.{Mpu, mpu_register_at, read as read_mpu, write as write_mpu, stop_of, fresh}
 use Rattle.reference.specs.Status.{Status, status_at, has_parts, usersetmpend, read_status, write_status, reset_status}

@@ -1,15 +1,15 @@
 -- The instructions for special registers, the hints, SVC and BKPT (ARM DDI 0403, the operation of CPS, MSR, MRS, SVC,
 -- BKPT, WFI and the other hints): none makes an access, and what each does besides advancing the PC is its ending.
 use Rattle.std.specs.Prelude.{Bool, true, false}
-use Rattle.reference.specs.declared.instruction.Ending.{Ending}
-use Rattle.reference.specs.declared.instruction.Ending.TheVariants as ending
-use Rattle.reference.specs.declared.instruction.Hint.{Hint}
-use Rattle.reference.specs.declared.instruction.Hint.TheVariants as hint
-use Rattle.reference.specs.declared.instruction.InstructionLength.{InstructionLength}
-use Rattle.reference.specs.declared.instruction.System.{System}
-use Rattle.reference.specs.declared.instruction.System.TheVariants as system
+use Rattle.instruction_set.specs.declared.instruction.Hint.{Hint}
+use Rattle.instruction_set.specs.declared.instruction.Hint.TheVariants as hint
+use Rattle.instruction_set.specs.declared.instruction.InstructionLength.{InstructionLength}
+use Rattle.instruction_set.specs.declared.instruction.System.{System}
+use Rattle.instruction_set.specs.declared.instruction.System.TheVariants as system
+use Rattle.instruction_set.specs.Registers.{Registers, register}
+use Rattle.reference.specs.declared.ending.Ending.{Ending}
+use Rattle.reference.specs.declared.ending.Ending.TheVariants as ending
 use Rattle.reference.specs.ProgramCounter.{Finished, moves_on}
-use Rattle.reference.specs.Registers.{Registers, register}
 
 -- whether an instruction has no condition, not even that of an IT block: BKPT
 abbrev pub has_no_condition : System → Bool

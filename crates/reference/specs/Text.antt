@@ -3,6 +3,14 @@
 -- upper case.
 use Rattle.std.specs.Prelude.{ℕ, ◌+◌, ◌/◌, ◌%◌, nat_lt, Bool, true, false, if◌then◌else◌, List, [], ◌∷◌, ◌++◌, Option}
 use Rattle.std.specs.Prelude.{Some, None, codes, decimal}
+use Rattle.instruction_set.specs.declared.unpredictable.UnpredictableCase.{UnpredictableCase}
+use Rattle.instruction_set.specs.declared.unpredictable.UnpredictableCase.TheVariants.{Encoding, ItBlock, FewRegisters}
+use Rattle.instruction_set.specs.declared.unpredictable.UnpredictableCase.TheVariants.{Registers, StoredBase, Immediate}
+use Rattle.instruction_set.specs.declared.unpredictable.UnpredictableCase.TheVariants.{BitField, SpecialRegister}
+use Rattle.instruction_set.specs.declared.unpredictable.UnpredictableCase.TheVariants.{LoadPc, LiteralPc, MpuRegion}
+use Rattle.instruction_set.specs.declared.unpredictable.UnpredictableCase.TheVariants.{MpuControl, Icsr}
+use Rattle.instruction_set.specs.declared.unpredictable.UnpredictableCase.TheVariants.{ExceptionReturn, PoppedPc}
+use Rattle.instruction_set.specs.Sizes.{bytes_in}
 use Rattle.reference.specs.declared.access.Access.{Access}
 use Rattle.reference.specs.declared.access.Cause.{Cause}
 use Rattle.reference.specs.declared.access.Cause.TheVariants.{Mpu, Bus}
@@ -24,12 +32,6 @@ use Rattle.reference.specs.declared.stop.LeftOut.TheVariants.{ClockEnd}
 use Rattle.reference.specs.declared.stop.Stop.{Stop}
 use Rattle.reference.specs.declared.stop.Stop.TheVariants.{StepLimit, Breakpoint, Lockup, Unpredictable, OutOfProfile}
 use Rattle.reference.specs.declared.stop.Stop.TheVariants.{ResetRequested}
-use Rattle.reference.specs.declared.stop.UnpredictableCase.{UnpredictableCase}
-use Rattle.reference.specs.declared.stop.UnpredictableCase.TheVariants.{Encoding, ItBlock, FewRegisters, Registers}
-use Rattle.reference.specs.declared.stop.UnpredictableCase.TheVariants.{StoredBase, Immediate, BitField}
-use Rattle.reference.specs.declared.stop.UnpredictableCase.TheVariants.{SpecialRegister, LoadPc, LiteralPc, MpuRegion}
-use Rattle.reference.specs.declared.stop.UnpredictableCase.TheVariants.{MpuControl, Icsr, ExceptionReturn, PoppedPc}
-use Rattle.reference.specs.Kinds.{bytes_in}
 
 -- the digit of a number below 16
 abbrev pub hex_digit : ℕ → ℕ

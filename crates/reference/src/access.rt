@@ -1,9 +1,10 @@
 //! The types for one access to memory: what it is for, how wide it is, and what became of it.
 
 ghost use Rattle.std.specs.Prelude.{◌≡◌};
-ghost use Rattle.reference.specs.Kinds.{bytes_in, is_fetch, is_load, is_probe, is_store, is_vector, is_word, is_write};
+ghost use Rattle.reference.specs.Kinds.{is_fetch, is_load, is_probe, is_store, is_vector, is_write};
 
 use crate::stop::Stop;
+use instruction_set::size::Size;
 
 /// No instruction has more accesses than this.
 pub const MOST_REQUESTS: usize = 16;
@@ -72,36 +73,6 @@ impl Kind {
         ensures { result ≡ is_probe self }
     {
         matches!(self, Kind::Probe)
-    }
-}
-
-/// How many bytes an access moves.
-#[derive(Clone, Copy)]
-pub enum Size {
-    Byte,
-    Halfword,
-    Word,
-}
-
-impl Size {
-    /// Returns the number of bytes: 1, 2 or 4.
-    #[inline]
-    pub fn bytes(self) -> u32
-        ensures { result ≡ bytes_in self }
-    {
-        match self {
-            Size::Byte => 1,
-            Size::Halfword => 2,
-            Size::Word => 4,
-        }
-    }
-
-    /// Returns whether the size is a word.
-    #[inline]
-    pub fn is_word(self) -> bool
-        ensures { result ≡ is_word self }
-    {
-        matches!(self, Size::Word)
     }
 }
 

@@ -2,8 +2,9 @@
 
 use crate::access::DecidedAccess;
 
-/// No step has more lines than this.
-pub const MOST_EVENTS: usize = 40;
+/// No step has more lines than this: those of two fetches, of at most 16 accesses with a byte for the
+/// console each, and of a return from an exception, which are ten.
+pub const MOST_EVENTS: usize = 44;
 
 /// One line of the trace.
 #[derive(Clone, Copy)]

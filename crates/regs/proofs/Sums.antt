@@ -3,8 +3,8 @@ use Rattle.std.proofs.Common.{◌≡◌, ◌≢◌, ℕ, ◌+◌, ◌*◌, ◌/�
 use Rattle.std.proofs.Common.{◌-ℤ◌, refl, sym, ap, ap₂, arith, int_eq}
 use Rattle.std.proofs.lemmas.Int.{ints}
 use Rattle.std.proofs.lemmas.Bool.Decides.{Decides-int_eq}
-use Rattle.reference.specs.Words.{is_bit}
-use Rattle.reference.specs.Arithmetic.{signed, unsigned_sum, signed_sum, sum_result, same, carry_value}
+use Rattle.instruction_set.specs.Arithmetic.{signed, unsigned_sum, signed_sum, sum_result, same, carry_value}
+use Rattle.instruction_set.specs.Words.{is_bit}
 
 -- the words of that sign
 abbrev IsSigned : Bool → ℕ → Type 0

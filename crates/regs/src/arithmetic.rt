@@ -2,11 +2,11 @@
 //! `DecodeImmShift()` and `ThumbExpandImm_C()`).
 
 ghost use Rattle.std.specs.Prelude.{◌≡◌, ◌<◌, not};
-ghost use Rattle.reference.specs.Arithmetic.{add_with_carry as sum_of, unsigned_sum as unsigned_sum_of, sum_result, signed_sum, signed, shift_c as shift_of, lsl_c as lsl_of, lsr_c as lsr_of, asr_c as asr_of, ror_c as ror_of, rrx_c as rrx_of, rotated as rotated_of, decode_imm_shift as decoded_shift, replicated as replicated_of, expand_imm as expanded};
-ghost use Rattle.reference.specs.Words.{is_bit};
 ghost use Rattle.std.specs.Ordering.{int_eq};
+ghost use Rattle.instruction_set.specs.Arithmetic.{add_with_carry as sum_of, unsigned_sum as unsigned_sum_of, sum_result, signed_sum, signed, shift_c as shift_of, lsl_c as lsl_of, lsr_c as lsr_of, asr_c as asr_of, ror_c as ror_of, rrx_c as rrx_of, rotated as rotated_of, decode_imm_shift as decoded_shift, replicated as replicated_of, expand_imm as expanded};
+ghost use Rattle.instruction_set.specs.Words.{is_bit};
 
-pub use reference::shift::{Shift, ShiftType};
+pub use instruction_set::shift::{Shift, ShiftType};
 
 /// `AddWithCarry(x, y, carry)`: the low 32 bits of the sum, whether the unsigned sum isn't the
 /// result (the carry out), and whether the signed sum isn't the result read as signed (the
@@ -51,7 +51,7 @@ fn is_negative(x: u32) -> bool
 /// that of [`decode_imm_shift`], or the low byte of a register: by 0 the word and the carry stay.
 /// RRX is by one place.
 #[inline]
-#[tactic(auto, unfolding(reference::specs::Arithmetic::shift_c))]
+#[tactic(auto, unfolding(instruction_set::specs::Arithmetic::shift_c))]
 pub fn shift_c(value: u32, shift_type: ShiftType, amount: u8, carry: bool) -> (u32, bool)
     ensures { result ≡ shift_of value shift_type amount carry }
 {
@@ -160,7 +160,7 @@ pub fn decode_imm_shift(shift_type: u8, imm5: u8) -> Shift
 /// `ThumbExpandImm_C(imm12, carry)`: the word and the carry out, or None where a byte of 0 is to
 /// be replicated, which is UNPREDICTABLE.
 #[inline]
-#[tactic(auto, unfolding(reference::specs::Arithmetic::expand_imm))]
+#[tactic(auto, unfolding(instruction_set::specs::Arithmetic::expand_imm))]
 pub fn expand_imm(imm12: u16, carry: bool) -> Option<(u32, bool)>
     ensures { result ≡ expanded imm12 carry }
 {

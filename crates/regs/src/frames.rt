@@ -2,8 +2,8 @@
 //! `ExceptionTaken()` and `PopStack()`).
 
 ghost use Rattle.std.specs.Prelude.{◌≡◌, ◌<◌, length};
-ghost use Rattle.reference.specs.Frames.{exc_return as exc_return_of, returns_to_handler as returns_to_handler_of, returns_on_psp as returns_on_psp_of, frame_base, frame as words_of, with_frame, in_handler, frame_pointer, above_frame as above_frame_of, frame_word as frame_word_of, general_popped, it_of as it_of_word, popped};
-ghost use Rattle.reference.specs.Registers.{sp};
+ghost use Rattle.instruction_set.specs.Frames.{exc_return as exc_return_of, returns_to_handler as returns_to_handler_of, returns_on_psp as returns_on_psp_of, frame_base, frame as words_of, with_frame, in_handler, frame_pointer, above_frame as above_frame_of, frame_word as frame_word_of, general_popped, it_of as it_of_word, popped};
+ghost use Rattle.instruction_set.specs.Registers.{sp};
 
 use crate::{Regs, flags_of, weighed};
 
@@ -56,7 +56,7 @@ impl Regs {
 
     /// Returns the words of that frame, from its address upward: R0 to R3, R12, LR, the return
     /// address, and xPSR, in which bit 9 says whether bit 2 of SP was set.
-    #[tactic(auto, unfolding(reference::specs::Frames::frame))]
+    #[tactic(auto, unfolding(instruction_set::specs::Frames::frame))]
     pub fn frame(&self) -> [u32; 8]
         ensures { result ≡ words_of self.now }
     {
@@ -82,7 +82,7 @@ impl Regs {
     }
 
     /// Begins the handler of an exception at a vector.
-    #[tactic(auto, unfolding(reference::specs::Frames::in_handler))]
+    #[tactic(auto, unfolding(instruction_set::specs::Frames::in_handler))]
     pub fn enter_handler(&mut self, exception: u16, exc_return: u32, vector: u32)
         requires { exception < 512 }
         ensures { self.new ≡ in_handler self.old exception exc_return vector }
@@ -107,7 +107,7 @@ impl Regs {
     }
 
     /// Takes the registers from a frame, as a return with this EXC_RETURN does.
-    #[tactic(auto, unfolding(reference::specs::Frames::popped))]
+    #[tactic(auto, unfolding(instruction_set::specs::Frames::popped))]
     pub fn pop_frame(&mut self, exc_return: u32, frame: &[u32])
         requires { length frame.now ≡ 8 }
         ensures { self.new ≡ popped self.old exc_return frame.now }

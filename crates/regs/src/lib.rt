@@ -3,12 +3,11 @@
 #![tactic(auto)]
 
 ghost use Rattle.std.specs.Prelude.{◌≡◌, ◌<◌, ◌≤◌, ◌-◌, ◌*◌, ◌/◌, ◌^◌};
-ghost use Rattle.reference.specs.Registers.{register as register_of, with_register, with_pc, with_exchange, sp as sp_of, is_handler as is_handler_of, is_privileged as is_privileged_of, apsr as apsr_of, flags_of, xpsr as xpsr_of, control as control_of, weighed as weighed_of, uses_psp as uses_psp_of, with_sp, stack_pointer, reset_registers};
-ghost use Rattle.reference.specs.SpecialRegisters.{control_written};
-ghost use Rattle.reference.specs.Words.{word_sum};
+ghost use Rattle.instruction_set.specs.Registers.{register as register_of, with_register, with_pc, with_exchange, sp as sp_of, is_handler as is_handler_of, is_privileged as is_privileged_of, apsr as apsr_of, flags_of, xpsr as xpsr_of, control as control_of, weighed as weighed_of, uses_psp as uses_psp_of, with_sp, stack_pointer, reset_registers, control_written};
+ghost use Rattle.instruction_set.specs.Words.{word_sum};
 
-use reference::registers::Marked;
-pub use reference::registers::{Flags, Register};
+use instruction_set::registers::Marked;
+pub use instruction_set::registers::{Flags, Register};
 use std::marker::Model;
 
 mod arithmetic;
@@ -44,7 +43,7 @@ pub struct Regs {
 
 impl Model for Regs {
     ghost use Rattle.std.specs.Prelude.{◌<◌};
-    ghost use Rattle.reference.specs.Registers.{Registers};
+    ghost use Rattle.instruction_set.specs.Registers.{Registers};
 
     ghost Value = { Registers };
 

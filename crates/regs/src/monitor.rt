@@ -2,11 +2,11 @@
 //! marked.
 
 ghost use Rattle.std.specs.Prelude.{◌≡◌};
-ghost use Rattle.reference.specs.Exclusives.{is_marked as is_marked_in, with_mark, without_mark};
+ghost use Rattle.instruction_set.specs.Monitor.{is_marked as is_marked_in, with_mark, without_mark};
 
 use crate::Regs;
-use reference::access::Size;
-use reference::registers::Marked;
+use instruction_set::registers::Marked;
+use instruction_set::size::Size;
 
 impl Regs {
     /// Returns whether an address is marked with this size: the part of `ExclusiveMonitorsPass()` that

@@ -6,10 +6,10 @@ use Rattle.std.proofs.lemmas.Bool.Decides.{nat_tests}
 use Rattle.std.proofs.lemmas.List.Elements.{All-nil, All-cons}
 use Rattle.std.proofs.lemmas.List.Kept.{AllPairs-cons}
 use Rattle.std.proofs.lemmas.Nat.{and_assoc, and_comm}
-use Rattle.reference.specs.Patterns.{place_0, place_1, fits}
-use Rattle.reference.specs.Rows.{Row, applies}
 use Rattle.encodings.specs.Masks.{mask_of, value_of, masked}
 use Rattle.encodings.proofs.Masks.{bits_by_mask}
+use Rattle.instruction_set.specs.Patterns.{place_0, place_1, fits}
+use Rattle.instruction_set.specs.Rows.{Row, applies}
 use Rattle.row_laws.specs.Laws.{HavePlaces, AreApart, has_overlap, OverlapOnly, WinsOver, DoOverlap}
 use Rattle.row_laws.specs.Overlaps.{Overlap}
 

@@ -1,8 +1,8 @@
 -- What holds of the rows, whatever the halfwords.
 use Rattle.std.specs.Prelude.{◌≡◌, ℕ, Bool, true, false, ◌&&◌, ◌||◌, List, length, All, AllPairs, bytes_eq}
 use Rattle.std.specs.List.{list_any}
-use Rattle.reference.specs.Patterns.{fits}
-use Rattle.reference.specs.Rows.{Row, applies}
+use Rattle.instruction_set.specs.Patterns.{fits}
+use Rattle.instruction_set.specs.Rows.{Row, applies}
 use Rattle.row_laws.specs.Overlaps.{Overlap}
 
 -- each row has that many places, one for each bit

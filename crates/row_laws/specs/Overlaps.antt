@@ -1,17 +1,25 @@
 -- The pairs of rows whose texts fit the same halfwords, with the row that wins: what the manual says by "SEE".
 use Rattle.std.specs.Prelude.{List, [], ◌∷◌}
-use Rattle.reference.specs.Rows.{Row}
-use Rattle.reference.specs.ShortShifts.{mov_register_t2, lsl_immediate_t1}
-use Rattle.reference.specs.ShortMiscellaneous.{nop_t1, it_t1}
-use Rattle.reference.specs.ShortBranches.{udf_t1, svc_t1, b_t1}
-use Rattle.reference.specs.LongImmediate.{tst_immediate_t1, and_immediate_t1, mov_immediate_t2, orr_immediate_t1, mvn_immediate_t1, orn_immediate_t1, teq_immediate_t1, eor_immediate_t1, cmn_immediate_t1, add_immediate_t3, cmp_immediate_t2, sub_immediate_t3}
-use Rattle.reference.specs.LongShifted.{tst_register_t2, and_register_t2, mov_register_t3, orr_register_t2, mvn_register_t2, orn_register_t1, teq_register_t1, eor_register_t2, cmn_register_t2, add_register_t3, cmp_register_t3, sub_register_t2}
-use Rattle.reference.specs.LongPlain.{adr_t3, add_immediate_t4, adr_t2, sub_immediate_t4, bfc_t1, bfi_t1}
-use Rattle.reference.specs.LongControl.{msr_t1, mrs_t1, nop_t2, clrex_t1, dsb_t1, dmb_t1, isb_t1, b_t3}
-use Rattle.reference.specs.LongDual.{strex_t1, ldrex_t1, strexb_t1, ldrexb_t1, tbb_t1, ldrd_literal_t1, ldrd_immediate_t1, strd_immediate_t1}
-use Rattle.reference.specs.LongStore.{strt_t1, str_immediate_t4}
-use Rattle.reference.specs.LongLoad.{pld_literal_t1, ldrb_literal_t1, pld_immediate_t1, ldrb_immediate_t2, pld_register_t1, ldrb_register_t2, pld_immediate_t2, ldrbt_t1, ldrb_immediate_t3, ldr_literal_t2, ldr_immediate_t3, ldr_register_t2, ldrt_t1, ldr_immediate_t4}
-use Rattle.reference.specs.LongMultiply.{mul_t2, mla_t1}
+use Rattle.instruction_set.specs.LongControl.{msr_t1, mrs_t1, nop_t2, clrex_t1, dsb_t1, dmb_t1, isb_t1, b_t3}
+use Rattle.instruction_set.specs.LongDual.{strex_t1, ldrex_t1, strexb_t1, ldrexb_t1, tbb_t1, ldrd_literal_t1}
+use Rattle.instruction_set.specs.LongDual.{ldrd_immediate_t1, strd_immediate_t1}
+use Rattle.instruction_set.specs.LongImmediate.{tst_immediate_t1, and_immediate_t1, mov_immediate_t2, orr_immediate_t1}
+use Rattle.instruction_set.specs.LongImmediate.{mvn_immediate_t1, orn_immediate_t1, teq_immediate_t1, eor_immediate_t1}
+use Rattle.instruction_set.specs.LongImmediate.{cmn_immediate_t1, add_immediate_t3, cmp_immediate_t2, sub_immediate_t3}
+use Rattle.instruction_set.specs.LongLoad.{pld_literal_t1, ldrb_literal_t1, pld_immediate_t1, ldrb_immediate_t2}
+use Rattle.instruction_set.specs.LongLoad.{pld_register_t1, ldrb_register_t2, pld_immediate_t2, ldrbt_t1}
+use Rattle.instruction_set.specs.LongLoad.{ldrb_immediate_t3, ldr_literal_t2, ldr_immediate_t3, ldr_register_t2}
+use Rattle.instruction_set.specs.LongLoad.{ldrt_t1, ldr_immediate_t4}
+use Rattle.instruction_set.specs.LongMultiply.{mul_t2, mla_t1}
+use Rattle.instruction_set.specs.LongPlain.{adr_t3, add_immediate_t4, adr_t2, sub_immediate_t4, bfc_t1, bfi_t1}
+use Rattle.instruction_set.specs.LongShifted.{tst_register_t2, and_register_t2, mov_register_t3, orr_register_t2}
+use Rattle.instruction_set.specs.LongShifted.{mvn_register_t2, orn_register_t1, teq_register_t1, eor_register_t2}
+use Rattle.instruction_set.specs.LongShifted.{cmn_register_t2, add_register_t3, cmp_register_t3, sub_register_t2}
+use Rattle.instruction_set.specs.LongStore.{strt_t1, str_immediate_t4}
+use Rattle.instruction_set.specs.Rows.{Row}
+use Rattle.instruction_set.specs.ShortBranches.{udf_t1, svc_t1, b_t1}
+use Rattle.instruction_set.specs.ShortMiscellaneous.{nop_t1, it_t1}
+use Rattle.instruction_set.specs.ShortShifts.{mov_register_t2, lsl_immediate_t1}
 
 -- a row, and the others that win where its text and theirs fit
 pub record Overlap : Type 0 where

@@ -2,7 +2,7 @@
 //! encoding"): each law is the contract of a function that does nothing.
 #![tactic(auto)]
 
-ghost use Rattle.reference.specs.Decoding.{rows_of, short_tables, long_tables};
+ghost use Rattle.instruction_set.specs.Decoding.{rows_of, short_tables, long_tables};
 ghost use Rattle.row_laws.specs.Laws.{HavePlaces, AreApart, OverlapOnly, DoOverlap};
 ghost use Rattle.row_laws.specs.Overlaps.{short_overlaps, long_overlaps};
 

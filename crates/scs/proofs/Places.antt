@@ -1,8 +1,8 @@
 -- The bytes that an access writes lie within its word.
 use Rattle.std.proofs.Common.{◌≡◌, ℕ, zero, suc, ◌*◌, ◌/◌, ◌%◌, ◌^◌, ◌<◌, arith}
-use Rattle.reference.specs.declared.access.Size.{Size}
-use Rattle.reference.specs.declared.access.Size.TheVariants.{Byte, Halfword, Word}
-use Rattle.reference.specs.Kinds.{bytes_in}
+use Rattle.instruction_set.specs.declared.size.Size.{Size}
+use Rattle.instruction_set.specs.declared.size.Size.TheVariants.{Byte, Halfword, Word}
+use Rattle.instruction_set.specs.Sizes.{bytes_in}
 use Rattle.reference.specs.System.{first_byte}
 
 byte_within : (v k : ℕ) → v < 256 → k < 4 → v * 2 ^ (8 * k) < 2 ^ 32

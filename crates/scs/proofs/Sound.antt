@@ -3,14 +3,14 @@ use Rattle.std.proofs.Common.{◌≡◌, ◌⊎◌, ℕ, ◌+◌, Bool, List, ar
 use Rattle.clock.proofs.Scripts.{applies_those}
 use Rattle.clock.proofs.Timers.{counted_bits, read_bits, write_bits}
 use Rattle.clock.specs.Laws.{IsSortedFrom}
+use Rattle.instruction_set.specs.declared.operands.ChangeProcessorState.{ChangeProcessorState}
+use Rattle.instruction_set.specs.declared.operands.SpecialRegister.{SpecialRegister}
 use Rattle.mpu.proofs.Writes.{sound_at_reset, sound_after_write}
 use Rattle.nvic.proofs.Boards.{reset_of_board, of_board_kept}
 use Rattle.nvic.proofs.Systems.{Parts, HasParts, PartsAreKept, access_kept, tick_kept, msr_kept, cps_kept}
 use Rattle.nvic.proofs.Systems.{deactivated_kept}
 use Rattle.nvic.specs.Laws.{IsOfBoard}
 use Rattle.reference.specs.declared.access.Request.{Request}
-use Rattle.reference.specs.declared.operands.ChangeProcessorState.{ChangeProcessorState}
-use Rattle.reference.specs.declared.operands.SpecialRegister.{SpecialRegister}
 use Rattle.reference.specs.declared.script.ScriptedEvent.{ScriptedEvent}
 use Rattle.reference.specs.Regions.{IsSound as IsSoundMpu}
 use Rattle.reference.specs.SpecialRegisters.{write_mask, change_state}

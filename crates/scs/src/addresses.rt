@@ -1,7 +1,7 @@
 //! The register at an address, and the bytes of it that an access takes.
 
 ghost use Rattle.std.specs.Prelude.{◌≡◌, ◌<◌, ◌%◌, ◌^◌};
-ghost use Rattle.reference.specs.Kinds.{bytes_in};
+ghost use Rattle.instruction_set.specs.Sizes.{bytes_in};
 ghost use Rattle.reference.specs.System.{single_at as single_at_of, register_at as register_at_of, has_width as has_width_of, first_byte as first_byte_of, part_of as part_of_word, in_place as in_place_of};
 
 use crate::control::control_at;
@@ -9,8 +9,9 @@ use crate::handlers::handler_priority_at;
 use crate::interrupts::{interrupt_priority_at, interrupts_at, word_number};
 use crate::status::{has_parts, status_at};
 use crate::systick::systick_at;
+use instruction_set::size::Size;
 use mpu::mpu_register_at;
-use reference::access::{Request, Size};
+use reference::access::Request;
 use reference::system::SystemRegister;
 
 /// Returns the register at the address of a word of the Private Peripheral Bus.

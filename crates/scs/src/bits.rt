@@ -1,8 +1,8 @@
 //! The bits of a word.
 
 ghost use Rattle.std.specs.Prelude.{◌≡◌, ◌<◌};
-ghost use Rattle.reference.specs.Registers.{weighed as weighed_of};
-ghost use Rattle.reference.specs.Words.{is_bit as is_bit_of};
+ghost use Rattle.instruction_set.specs.Registers.{weighed as weighed_of};
+ghost use Rattle.instruction_set.specs.Words.{is_bit as is_bit_of};
 
 /// Returns whether a bit of a word is 1.
 #[inline]

@@ -5,9 +5,10 @@ ghost use Rattle.reference.specs.Control.{control_at as control_at_of, rettobase
 ghost use Rattle.scs.specs.Writes.{after_write, answered};
 
 use crate::bits::{is_bit, weighed};
+use instruction_set::unpredictable::UnpredictableCase;
 use nvic::Levels;
 use reference::exception::{NMI, PEND_SV, SYS_TICK};
-use reference::stop::{LeftOut, Stop, UnpredictableCase};
+use reference::stop::{LeftOut, Stop};
 use reference::system::ControlRegister;
 
 /// CPUID: implementer 0, and ARCHITECTURE F (the CPUID registers describe it).

@@ -3,9 +3,9 @@
 
 ghost use Rattle.std.specs.Prelude.{◌≡◌, ◌⊎◌, ℕ, Bool, List};
 ghost use Rattle.clock.specs.Laws.{IsSortedFrom};
+ghost use Rattle.instruction_set.specs.declared.operands.ChangeProcessorState.{ChangeProcessorState};
+ghost use Rattle.instruction_set.specs.declared.operands.SpecialRegister.{SpecialRegister};
 ghost use Rattle.reference.specs.declared.access.Request.{Request};
-ghost use Rattle.reference.specs.declared.operands.ChangeProcessorState.{ChangeProcessorState};
-ghost use Rattle.reference.specs.declared.operands.SpecialRegister.{SpecialRegister};
 ghost use Rattle.reference.specs.declared.script.ScriptedEvent.{ScriptedEvent as TheEvent};
 ghost use Rattle.reference.specs.Answers.{LeavesUnlessDone};
 ghost use Rattle.reference.specs.SpecialRegisters.{write_mask, change_state};

@@ -3,6 +3,7 @@
 
 mod memory;
 
+pub use instruction_set::size::Size;
 pub use memory::{Space, is_out, is_within};
-pub use reference::access::{Answer, Kind, Request, Size};
+pub use reference::access::{Answer, Kind, Request};
 pub use reference::board::Layout;

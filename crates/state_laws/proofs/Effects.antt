@@ -2,48 +2,50 @@
 use Rattle.std.proofs.Common.{ℕ, Bool, List, [], ◌∷◌, drop, slice_index, arith, ◌≡◌, ◌^◌, ◌<◌, true, ◌==◌, slice_set}
 use Rattle.std.proofs.Common.{Option}
 use Rattle.std.proofs.lemmas.Bool.{cond_both, and_parts}
-use Rattle.reference.specs.declared.instruction.Branch.{Branch}
-use Rattle.reference.specs.declared.instruction.Branch.TheVariants as branch
-use Rattle.reference.specs.declared.instruction.CodedInstruction.{CodedInstruction}
-use Rattle.reference.specs.declared.instruction.DataProcessing.{DataProcessing}
-use Rattle.reference.specs.declared.instruction.DataProcessing.TheVariants as data_processing
-use Rattle.reference.specs.declared.instruction.Ending.{Ending}
-use Rattle.reference.specs.declared.instruction.Ending.TheVariants as ending
-use Rattle.reference.specs.declared.instruction.Exclusive.{Exclusive}
-use Rattle.reference.specs.declared.instruction.Exclusive.TheVariants as exclusive
-use Rattle.reference.specs.declared.instruction.Hint.{Hint}
-use Rattle.reference.specs.declared.instruction.Hint.TheVariants as hint
-use Rattle.reference.specs.declared.instruction.Instruction.{Instruction}
-use Rattle.reference.specs.declared.instruction.Instruction.TheVariants as family
-use Rattle.reference.specs.declared.instruction.InstructionLength.{InstructionLength}
-use Rattle.reference.specs.declared.instruction.LoadStore.{LoadStore}
-use Rattle.reference.specs.declared.instruction.LoadStore.TheVariants as load_store
-use Rattle.reference.specs.declared.instruction.LoadStoreMultiple.{LoadStoreMultiple}
-use Rattle.reference.specs.declared.instruction.LoadStoreMultiple.TheVariants as multiple
-use Rattle.reference.specs.declared.instruction.System.{System}
-use Rattle.reference.specs.declared.instruction.System.TheVariants as system
-use Rattle.reference.specs.declared.operands.FlagSetting.{FlagSetting}
-use Rattle.reference.specs.declared.operands.ImmediateAddress.{ImmediateAddress}
-use Rattle.reference.specs.declared.operands.ListOrder.{ListOrder}
-use Rattle.reference.specs.declared.operands.LoadMultiple.{LoadMultiple}
-use Rattle.reference.specs.declared.registers.Flags.{Flags}
-use Rattle.reference.specs.declared.registers.Marked.{Marked}
-use Rattle.reference.specs.Arithmetic.{condition_holds}
+use Rattle.instruction_set.specs.declared.instruction.Branch.{Branch}
+use Rattle.instruction_set.specs.declared.instruction.Branch.TheVariants as branch
+use Rattle.instruction_set.specs.declared.instruction.CodedInstruction.{CodedInstruction}
+use Rattle.instruction_set.specs.declared.instruction.DataProcessing.{DataProcessing}
+use Rattle.instruction_set.specs.declared.instruction.DataProcessing.TheVariants as data_processing
+use Rattle.instruction_set.specs.declared.instruction.Exclusive.{Exclusive}
+use Rattle.instruction_set.specs.declared.instruction.Exclusive.TheVariants as exclusive
+use Rattle.instruction_set.specs.declared.instruction.Hint.{Hint}
+use Rattle.instruction_set.specs.declared.instruction.Hint.TheVariants as hint
+use Rattle.instruction_set.specs.declared.instruction.Instruction.{Instruction}
+use Rattle.instruction_set.specs.declared.instruction.Instruction.TheVariants as family
+use Rattle.instruction_set.specs.declared.instruction.InstructionLength.{InstructionLength}
+use Rattle.instruction_set.specs.declared.instruction.LoadStore.{LoadStore}
+use Rattle.instruction_set.specs.declared.instruction.LoadStore.TheVariants as load_store
+use Rattle.instruction_set.specs.declared.instruction.LoadStoreMultiple.{LoadStoreMultiple}
+use Rattle.instruction_set.specs.declared.instruction.LoadStoreMultiple.TheVariants as multiple
+use Rattle.instruction_set.specs.declared.instruction.System.{System}
+use Rattle.instruction_set.specs.declared.instruction.System.TheVariants as system
+use Rattle.instruction_set.specs.declared.operands.FlagSetting.{FlagSetting}
+use Rattle.instruction_set.specs.declared.operands.ImmediateAddress.{ImmediateAddress}
+use Rattle.instruction_set.specs.declared.operands.ListOrder.{ListOrder}
+use Rattle.instruction_set.specs.declared.operands.LoadMultiple.{LoadMultiple}
+use Rattle.instruction_set.specs.declared.registers.Flags.{Flags}
+use Rattle.instruction_set.specs.declared.registers.Marked.{Marked}
+use Rattle.instruction_set.specs.Arithmetic.{condition_holds}
+use Rattle.instruction_set.specs.DataProcessing.{processed, writes_pc}
+use Rattle.instruction_set.specs.Registers.{Registers, register, with_register, with_exchange, is_handler, uses_psp}
+use Rattle.instruction_set.specs.Registers.{stack_pointer, with_sp, code_address, with_pc}
+use Rattle.instruction_set.specs.RowOperands.{writes_back}
+use Rattle.instruction_set.specs.Sizes.{instruction_bytes}
+use Rattle.instruction_set.specs.TwoOperands.{sets_flags, written}
+use Rattle.instruction_set.specs.Words.{is_bit, low_word, word_sum}
+use Rattle.reference.specs.declared.ending.Ending.{Ending}
+use Rattle.reference.specs.declared.ending.Ending.TheVariants as ending
 use Rattle.reference.specs.Branches.{with_link, takes_branch, begun, branch_effect}
-use Rattle.reference.specs.DataProcessing.{processed, writes_pc, data_processing_effect}
+use Rattle.reference.specs.Operations.{data_processing_effect, is_carried_out, effect, result_of}
 use Rattle.reference.specs.Exclusives.{exclusive_effect}
 use Rattle.reference.specs.Invariant.{IsStackPointer, IsCodeAddress}
-use Rattle.reference.specs.LoadStore.{with_base, writes_back, load_store_effect, offset_address}
+use Rattle.reference.specs.LoadStore.{with_base, load_store_effect, offset_address}
 use Rattle.reference.specs.LoadStoreMultiple.{registers_below, with_moved_base, moved_base, loaded, loaded_below_pc}
 use Rattle.reference.specs.LoadStoreMultiple.{load_multiple, load_store_multiple_effect}
-use Rattle.reference.specs.Operations.{is_carried_out, effect, result_of}
-use Rattle.reference.specs.ProgramCounter.{moves_on, Finished, advanced, instruction_bytes, branches, branches_by}
-use Rattle.reference.specs.ProgramCounter.{is_exception_return, exchanges, loads_into}
-use Rattle.reference.specs.Registers.{Registers, register, with_register, with_exchange, is_handler, uses_psp}
-use Rattle.reference.specs.Registers.{stack_pointer, with_sp, code_address, with_pc}
+use Rattle.reference.specs.ProgramCounter.{moves_on, Finished, advanced, branches, branches_by, is_exception_return}
+use Rattle.reference.specs.ProgramCounter.{exchanges, loads_into}
 use Rattle.reference.specs.SystemInstructions.{hint_ending, system_effect, moves_on_and}
-use Rattle.reference.specs.TwoOperands.{sets_flags, written}
-use Rattle.reference.specs.Words.{is_bit, low_word, word_sum}
 
 -- ---- values
 

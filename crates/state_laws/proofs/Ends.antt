@@ -3,6 +3,10 @@ use Rattle.std.proofs.Common.{◌≡◌, ◌⊎◌, inl, inr, ℕ, ◌≤◌, mi
 use Rattle.std.proofs.Common.{Option, Some, None, Result, Ok, Err, refl, sym, subst, arith}
 use Rattle.std.proofs.lemmas.Bool.{cond_both}
 use Rattle.std.proofs.lemmas.Bool.Decides.{nat_tests}
+use Rattle.instruction_set.specs.declared.instruction.CodedInstruction.{CodedInstruction}
+use Rattle.instruction_set.specs.declared.operands.SpecialRegister.{SpecialRegister}
+use Rattle.instruction_set.specs.Registers.{Registers, is_handler}
+use Rattle.instruction_set.specs.RowOperands.{special_of}
 use Rattle.mpu.proofs.Writes.{sound_at_reset}
 use Rattle.nvic.proofs.Systems.{placed_kept}
 use Rattle.reference.specs.declared.access.Answer.{Answer}
@@ -10,8 +14,6 @@ use Rattle.reference.specs.declared.access.Answer.TheVariants as answer
 use Rattle.reference.specs.declared.access.Request.{Request}
 use Rattle.reference.specs.declared.exception.TheConstants.{MOST_LINES}
 use Rattle.reference.specs.declared.fault.PlaceFault.{PlaceFault}
-use Rattle.reference.specs.declared.instruction.CodedInstruction.{CodedInstruction}
-use Rattle.reference.specs.declared.operands.SpecialRegister.{SpecialRegister}
 use Rattle.reference.specs.declared.place.Place.{Place}
 use Rattle.reference.specs.declared.place.Place.TheVariants.{Reg, Special, Word}
 use Rattle.reference.specs.Accesses.{answered_by_bus, perform_all}
@@ -21,8 +23,6 @@ use Rattle.reference.specs.Invariant.{IsBoard, HasRegisters, SystemInvariant, In
 use Rattle.reference.specs.Map.{is_in_ppb}
 use Rattle.reference.specs.Memory.{bytes_of}
 use Rattle.reference.specs.Places.{is_word_aligned, is_there, special_taken, register_taken, store_of, taken, place}
-use Rattle.reference.specs.Registers.{Registers, is_handler}
-use Rattle.reference.specs.SpecialRegisters.{special_of}
 use Rattle.reference.specs.Start.{blank, are_placed, start}
 use Rattle.reference.specs.State.{Bus, State, ticked}
 use Rattle.reference.specs.Step.{step}

@@ -3,13 +3,16 @@
 use Rattle.std.proofs.Common.{◌≡◌, ℕ, ◌<◌, Bool, true, false, is_some, List, [], ◌∷◌}
 use Rattle.std.proofs.Common.{Option, Some, None, Result, Ok, Err, refl, ◌∙◌, arith}
 use Rattle.std.proofs.lemmas.Bool.{cond_both}
+use Rattle.instruction_set.specs.declared.size.Size.TheVariants.{Word}
+use Rattle.instruction_set.specs.Frames.{frame, frame_base}
+use Rattle.instruction_set.specs.Registers.{is_privileged, sp}
+use Rattle.instruction_set.specs.Words.{word_sum}
 use Rattle.reference.specs.declared.access.Cause.{Cause}
 use Rattle.reference.specs.declared.access.Cause.TheVariants as cause
 use Rattle.reference.specs.declared.access.Decision.{Decision}
 use Rattle.reference.specs.declared.access.Kind.{Kind}
 use Rattle.reference.specs.declared.access.Kind.TheVariants.{Fetch, Load, Store, Push, Pop, Vector, Probe}
 use Rattle.reference.specs.declared.access.Request.{Request}
-use Rattle.reference.specs.declared.access.Size.TheVariants.{Word}
 use Rattle.reference.specs.declared.event.Event.{Event}
 use Rattle.reference.specs.declared.exception.TheConstants.{EXCEPTIONS}
 use Rattle.reference.specs.declared.failure.Failure.{Failure}
@@ -22,15 +25,12 @@ use Rattle.reference.specs.Accesses.{value_of}
 use Rattle.reference.specs.Accesses.{followed}
 use Rattle.reference.specs.ExceptionEntry.{words_from, pushes, vector_read}
 use Rattle.reference.specs.Faults.{access_fault, usage_fault_of}
-use Rattle.reference.specs.Frames.{frame, frame_base}
 use Rattle.reference.specs.Kinds.{is_probe}
 use Rattle.reference.specs.LoadStore.{request}
 use Rattle.reference.specs.Map.{is_in_ppb}
 use Rattle.reference.specs.Priorities.{is_exception}
-use Rattle.reference.specs.Registers.{is_privileged, sp}
 use Rattle.reference.specs.State.{State, Bus}
 use Rattle.reference.specs.System.{System, system_access}
-use Rattle.reference.specs.Words.{word_sum}
 use Rattle.state_laws.proofs.Candidates.{Calls}
 
 -- an entry phase has a candidate, unless the machine has stopped

@@ -3,6 +3,10 @@
 use Rattle.std.proofs.Common.{ℕ, Bool, true, false, not, List, [], ◌∷◌, ◌++◌, Option, Some, None, Result, Ok, Err, ◌<◌}
 use Rattle.std.proofs.Common.{◌≡◌, is_some, refl, sym, ap, ◌∙◌}
 use Rattle.std.proofs.lemmas.Bool.{cond_both}
+use Rattle.instruction_set.specs.declared.instruction.InstructionLength.TheVariants.{Short}
+use Rattle.instruction_set.specs.Frames.{has_reserved_ones, popped_pc, frame_base}
+use Rattle.instruction_set.specs.Registers.{Registers, sp}
+use Rattle.instruction_set.specs.Words.{is_bit}
 use Rattle.nvic.proofs.Systems.{pending_kept, begun_kept, ended_kept, with_status_kept}
 use Rattle.reference.specs.declared.event.Event.{Event}
 use Rattle.reference.specs.declared.exception.Escalation.{Escalation}
@@ -19,14 +23,10 @@ use Rattle.reference.specs.ExceptionReturn.{with_entry, fits_mode, unstacked, fr
 use Rattle.reference.specs.ExceptionReturn.{returned, exception_ended, is_allowed, return_line, exception_return}
 use Rattle.reference.specs.Faults.{fault_of, usage_fault_of, vector_fault, recorded, escalated, faulted, failed}
 use Rattle.reference.specs.Faults.{supervisor_called_by, supervisor_called, with_status, pended}
-use Rattle.reference.specs.Frames.{has_reserved_ones, popped_pc, frame_base}
 use Rattle.reference.specs.Priorities.{is_fixed, candidate}
 use Rattle.reference.specs.State.{State, Stepped, with_bus, with_system, Bus, with_registers}
-use Rattle.reference.specs.Words.{is_bit}
-use Rattle.reference.specs.declared.instruction.InstructionLength.TheVariants.{Short}
 use Rattle.reference.specs.Invariant.{HasRegisters}
 use Rattle.reference.specs.ProgramCounter.{moves_on}
-use Rattle.reference.specs.Registers.{Registers, sp}
 use Rattle.reference.specs.Status.{Status}
 use Rattle.reference.specs.System.{System}
 use Rattle.reference.specs.declared.stop.Stop.{Stop}

@@ -4,15 +4,15 @@ use Rattle.std.proofs.lemmas.Bool.{cond_both}
 use Rattle.std.proofs.lemmas.Bool.Decides.{nat_tests}
 use Rattle.std.proofs.lemmas.List.{length-set}
 use Rattle.std.proofs.lemmas.Nat.{or_lt, or_mod}
+use Rattle.instruction_set.specs.Frames.{in_handler, frame_pointer, returns_on_psp, above_frame, general_popped}
+use Rattle.instruction_set.specs.Frames.{frame_word, popped_pc, popped_xpsr, with_frame_pointer, popped}
+use Rattle.instruction_set.specs.Registers.{Registers}
+use Rattle.instruction_set.specs.Words.{word_sum, is_bit}
 use Rattle.nvic.proofs.Best.{candidate_is}
 use Rattle.nvic.specs.Laws.{IsCandidate}
 use Rattle.reference.specs.declared.exception.TheConstants.{EXCEPTIONS}
-use Rattle.reference.specs.Frames.{in_handler, frame_pointer, returns_on_psp, above_frame, general_popped, frame_word}
-use Rattle.reference.specs.Frames.{popped_pc, popped_xpsr, with_frame_pointer, popped}
 use Rattle.reference.specs.Invariant.{IsStackPointer, HasRegisters}
 use Rattle.reference.specs.Priorities.{Nvic, candidate}
-use Rattle.reference.specs.Registers.{Registers}
-use Rattle.reference.specs.Words.{word_sum, is_bit}
 use Rattle.state_laws.proofs.Effects.{exchange_kept}
 use Rattle.state_laws.proofs.Registers.{AreWords, words_set, psp_kept, msp_kept, writes_kept}
 

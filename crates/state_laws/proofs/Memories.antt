@@ -3,11 +3,12 @@ use Rattle.std.proofs.Common.{◌≡◌, ℕ, ◌+◌, ◌-◌, ◌≤◌, true,
 use Rattle.std.proofs.lemmas.Bool.{cond_both}
 use Rattle.std.proofs.lemmas.Bool.Decides.{nat_tests}
 use Rattle.std.proofs.lemmas.List.{length-replicate}
+use Rattle.instruction_set.specs.Sizes.{bytes_in}
 use Rattle.reference.specs.declared.access.Request.{Request}
 use Rattle.reference.specs.Boards.{Numbers, is_flash}
 use Rattle.reference.specs.Images.{Segment}
 use Rattle.reference.specs.Invariant.{FlashEndsBelowRam}
-use Rattle.reference.specs.Kinds.{bytes_in, is_write}
+use Rattle.reference.specs.Kinds.{is_write}
 use Rattle.reference.specs.Map.{is_in_window}
 use Rattle.reference.specs.Memory.{Memory, is_in_flash, is_in_ram, bytes_of, overwritten}
 use Rattle.reference.specs.Space.{SpaceAnswer, written_to, space_access}

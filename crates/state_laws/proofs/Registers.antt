@@ -3,18 +3,19 @@ use Rattle.std.proofs.Common.{◌≡◌, ℕ, zero, suc, ◌%◌, ◌^◌, ◌<�
 use Rattle.std.proofs.Common.{replicate, refl, ◌∙◌, arith, ◌||◌}
 use Rattle.std.proofs.lemmas.Bool.{cond_both}
 use Rattle.std.proofs.lemmas.List.{length-set, length-replicate}
-use Rattle.reference.specs.declared.instruction.InstructionLength.TheVariants.{Short, Long}
-use Rattle.reference.specs.declared.instruction.InstructionLength.{InstructionLength}
-use Rattle.reference.specs.declared.registers.Flags.{Flags}
-use Rattle.reference.specs.Arithmetic.{in_it_block, it_advance}
+use Rattle.instruction_set.specs.declared.instruction.InstructionLength.{InstructionLength}
+use Rattle.instruction_set.specs.declared.instruction.InstructionLength.TheVariants.{Short, Long}
+use Rattle.instruction_set.specs.declared.operands.SpecialRegister.{SpecialRegister}
+use Rattle.instruction_set.specs.declared.operands.SpecialRegister.TheVariants.{Apsr, Iapsr, Eapsr, Xpsr, Ipsr, Epsr}
+use Rattle.instruction_set.specs.declared.operands.SpecialRegister.TheVariants.{Iepsr, Msp, Psp, Primask, Basepri}
+use Rattle.instruction_set.specs.declared.operands.SpecialRegister.TheVariants.{BasepriMax, Faultmask, Control}
+use Rattle.instruction_set.specs.declared.registers.Flags.{Flags}
+use Rattle.instruction_set.specs.Arithmetic.{in_it_block, it_advance}
+use Rattle.instruction_set.specs.Registers.{Registers, is_privileged, stack_pointer, flags_of, reset_registers}
+use Rattle.instruction_set.specs.Sizes.{instruction_bytes}
+use Rattle.instruction_set.specs.Words.{word_sum}
 use Rattle.reference.specs.Invariant.{IsStackPointer, IsCodeAddress, HasRegisters}
-use Rattle.reference.specs.ProgramCounter.{advanced, instruction_bytes}
-use Rattle.reference.specs.Registers.{Registers, is_privileged, stack_pointer, flags_of, reset_registers}
-use Rattle.reference.specs.Words.{word_sum}
-use Rattle.reference.specs.declared.operands.SpecialRegister.{SpecialRegister}
-use Rattle.reference.specs.declared.operands.SpecialRegister.TheVariants.{Apsr, Iapsr, Eapsr, Xpsr, Ipsr, Epsr, Iepsr}
-use Rattle.reference.specs.declared.operands.SpecialRegister.TheVariants.{Msp, Psp, Primask, Basepri, BasepriMax}
-use Rattle.reference.specs.declared.operands.SpecialRegister.TheVariants.{Faultmask, Control}
+use Rattle.reference.specs.ProgramCounter.{advanced}
 use Rattle.reference.specs.SpecialRegisters.{is_open, with_special, write_special}
 use Rattle.state_laws.proofs.Effects.{KeepsWrites, stack_pointer_is, code_address_is}
 

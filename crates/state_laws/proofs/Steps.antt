@@ -3,33 +3,33 @@ use Rattle.std.proofs.Common.{◌≡◌, ℕ, ◌<◌, nat_le, false, List, [], 
 use Rattle.std.proofs.Common.{arith, ◌≡◌, is_some, true, refl, ap}
 use Rattle.std.proofs.lemmas.Bool.{cond_both}
 use Rattle.std.proofs.lemmas.Bool.Decides.{nat_tests}
+use Rattle.instruction_set.specs.declared.instruction.CodedInstruction.{CodedInstruction}
+use Rattle.instruction_set.specs.declared.instruction.Decoded.{Decoded}
+use Rattle.instruction_set.specs.declared.instruction.Decoded.TheVariants as decoded
+use Rattle.instruction_set.specs.declared.instruction.InstructionLength.{InstructionLength}
+use Rattle.instruction_set.specs.declared.instruction.InstructionLength.TheVariants.{Short, Long}
+use Rattle.instruction_set.specs.Arithmetic.{condition_passed}
+use Rattle.instruction_set.specs.Decoding.{is_long}
+use Rattle.instruction_set.specs.Registers.{is_privileged}
+use Rattle.instruction_set.specs.Words.{word_sum}
 use Rattle.nvic.proofs.Systems.{cps_kept, msr_kept}
 use Rattle.reference.specs.declared.access.Request.{Request}
+use Rattle.reference.specs.declared.ending.Ending.{Ending}
+use Rattle.reference.specs.declared.ending.Ending.TheVariants as ending
 use Rattle.reference.specs.declared.event.Event.{Event}
 use Rattle.reference.specs.declared.failure.Failure.{Failure}
 use Rattle.reference.specs.declared.failure.Failure.TheVariants as failure
 use Rattle.reference.specs.declared.failure.UsageFault.{UsageFault}
 use Rattle.reference.specs.declared.failure.UsageFault.TheVariants.{UndefinedInstruction, NoCoprocessor, InvalidState}
-use Rattle.reference.specs.declared.instruction.CodedInstruction.{CodedInstruction}
-use Rattle.reference.specs.declared.instruction.Decoded.{Decoded}
-use Rattle.reference.specs.declared.instruction.Decoded.TheVariants as decoded
-use Rattle.reference.specs.declared.instruction.Ending.{Ending}
-use Rattle.reference.specs.declared.instruction.Ending.TheVariants as ending
-use Rattle.reference.specs.declared.instruction.InstructionLength.TheVariants.{Short, Long}
-use Rattle.reference.specs.declared.instruction.InstructionLength.{InstructionLength}
 use Rattle.reference.specs.declared.stop.Stop.{Stop}
 use Rattle.reference.specs.Accesses.{ListResult, perform_all, perform}
-use Rattle.reference.specs.Arithmetic.{condition_passed}
-use Rattle.reference.specs.Decoding.{is_long}
 use Rattle.reference.specs.Operations.{result_of}
 use Rattle.reference.specs.ProgramCounter.{Finished, moves_on}
-use Rattle.reference.specs.Registers.{is_privileged}
 use Rattle.reference.specs.State.{State, ticked, with_bus, with_registers}
 use Rattle.reference.specs.Step.{ended, finished, served, performed_all, planned, without_meaning, executed, fetching}
 use Rattle.reference.specs.Step.{fetched_second, with_second, fetched_first, instruction, sleeps_on, phase, running}
 use Rattle.reference.specs.Step.{unless_stopped, step}
 use Rattle.reference.specs.Time.{last_tick, tick_pends}
-use Rattle.reference.specs.Words.{word_sum}
 use Rattle.reference.specs.Invariant.{HasRegisters}
 use Rattle.reference.specs.Priorities.{candidate}
 use Rattle.reference.specs.System.{System, after_tick}

@@ -1,7 +1,7 @@
 -- What the laws of the state say beside the invariant.
 use Rattle.std.specs.Prelude.{◌≡◌, ◌<◌, List, None, Result, Ok, Err}
+use Rattle.instruction_set.specs.declared.instruction.CodedInstruction.{CodedInstruction}
 use Rattle.reference.specs.declared.access.Request.{Request}
-use Rattle.reference.specs.declared.instruction.CodedInstruction.{CodedInstruction}
 use Rattle.reference.specs.Accesses.{perform, perform_all}
 use Rattle.reference.specs.Invariant.{Invariant}
 use Rattle.reference.specs.Operations.{result_of}

@@ -3,8 +3,8 @@
 #![tactic(auto)]
 
 ghost use Rattle.std.specs.Prelude.{List};
+ghost use Rattle.instruction_set.specs.declared.instruction.CodedInstruction.{CodedInstruction};
 ghost use Rattle.reference.specs.declared.access.Request.{Request};
-ghost use Rattle.reference.specs.declared.instruction.CodedInstruction.{CodedInstruction};
 ghost use Rattle.reference.specs.declared.place.Place.{Place};
 ghost use Rattle.reference.specs.Boards.{Described};
 ghost use Rattle.reference.specs.Images.{Segment};

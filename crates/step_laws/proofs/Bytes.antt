@@ -3,6 +3,7 @@ use Rattle.std.proofs.Common.{◌≡◌, inl, inr, ℕ, ◌+◌, nat_le, nat_lt,
 use Rattle.std.proofs.Common.{List, [], ◌∷◌, length, Some, Result, Ok, Err, refl, arith}
 use Rattle.std.proofs.lemmas.Bool.{cond_both}
 use Rattle.std.proofs.lemmas.Bool.Decides.{nat_tests}
+use Rattle.instruction_set.specs.Sizes.{bytes_in}
 use Rattle.reference.specs.declared.access.Answer.TheVariants as answer
 use Rattle.reference.specs.declared.access.Decision.{Decision}
 use Rattle.reference.specs.declared.access.Performed.{Performed}
@@ -14,7 +15,7 @@ use Rattle.reference.specs.declared.failure.Failure.{Failure}
 use Rattle.reference.specs.Accesses.{BusAnswer, ListResult, answered_by_bus, performed_by, decided, decision, perform}
 use Rattle.reference.specs.Accesses.{accessed}
 use Rattle.reference.specs.Accesses.{console_line, access_lines, value_of, followed, perform_all}
-use Rattle.reference.specs.Kinds.{bytes_in, is_probe, is_write}
+use Rattle.reference.specs.Kinds.{is_probe, is_write}
 use Rattle.reference.specs.Map.{is_in_ppb, is_in_window}
 use Rattle.reference.specs.Memory.{Memory, is_in_ram, bytes_of, overwritten}
 use Rattle.reference.specs.Space.{SpaceAnswer, is_out, written_to, space_access}

@@ -1,6 +1,8 @@
 -- Entry and return: the frame, the vector, and the points of a return.
 use Rattle.std.proofs.Common.{◌≡◌, inl, ℕ, Bool, true, false, not, List, [], ◌∷◌, ◌++◌, Option, Some, None, refl}
 use Rattle.std.proofs.lemmas.Bool.{cond_both}
+use Rattle.instruction_set.specs.Frames.{has_reserved_ones, popped_pc}
+use Rattle.instruction_set.specs.Words.{is_bit}
 use Rattle.reference.specs.declared.access.Kind.TheVariants.{Vector}
 use Rattle.reference.specs.declared.access.Performed.{Performed}
 use Rattle.reference.specs.declared.access.Performed.TheVariants as performed
@@ -14,10 +16,8 @@ use Rattle.reference.specs.ExceptionEntry.{pushes, entering, stacked, begin_entr
 use Rattle.reference.specs.ExceptionEntry.{exception_taken, taken_if_any, take_vector}
 use Rattle.reference.specs.ExceptionReturn.{with_entry, fits_mode, unstacked, frame_read, pops, pop_stack, chained}
 use Rattle.reference.specs.ExceptionReturn.{returned, exception_ended, is_allowed, return_line, exception_return}
-use Rattle.reference.specs.Frames.{has_reserved_ones, popped_pc}
 use Rattle.reference.specs.Memory.{Memory}
 use Rattle.reference.specs.State.{State, with_bus, with_system}
-use Rattle.reference.specs.Words.{is_bit}
 use Rattle.step_laws.specs.AccessLaw.{OnlyCovered}
 use Rattle.step_laws.proofs.Lines.{unrefused-nil, unrefused-cons, unrefused-append, EndIn, failure_in, ends-append}
 use Rattle.step_laws.proofs.Lines.{covered-append, covered-more}

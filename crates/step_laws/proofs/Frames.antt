@@ -4,12 +4,12 @@ use Rattle.std.proofs.Common.{length, get_or, refl, ◌∙◌, ap, arith}
 use Rattle.std.proofs.lemmas.Bool.{cond_both}
 use Rattle.std.proofs.lemmas.List.{get_or-set_same, get_or-set_other}
 use Rattle.std.proofs.Math.ListN.{set, length-set}
-use Rattle.reference.specs.Frames.{exc_return, frame, frame_base, frame_pointer, returns_on_psp, with_frame}
-use Rattle.reference.specs.Frames.{with_frame_pointer}
-use Rattle.reference.specs.Frames.{above_frame, pushed_xpsr, frame_word, popped_xpsr, it_of, popped}
+use Rattle.instruction_set.specs.Frames.{exc_return, frame, frame_base, frame_pointer, returns_on_psp, with_frame}
+use Rattle.instruction_set.specs.Frames.{with_frame_pointer, above_frame, pushed_xpsr, frame_word, popped_xpsr, it_of}
+use Rattle.instruction_set.specs.Frames.{popped}
+use Rattle.instruction_set.specs.Registers.{Registers, is_handler, uses_psp, sp, stack_pointer, with_sp, flags_of}
+use Rattle.instruction_set.specs.Words.{low_word, is_bit}
 use Rattle.reference.specs.Invariant.{IsStackPointer, HasRegisters}
-use Rattle.reference.specs.Registers.{Registers, is_handler, uses_psp, sp, stack_pointer, with_sp, flags_of}
-use Rattle.reference.specs.Words.{low_word, is_bit}
 use Rattle.step_laws.specs.FrameLaw.{FrameGivesBack}
 use Rattle.step_laws.proofs.Words.{flags_back, it_back, thumb_back, exception_back, xpsr_is_word, sp_back}
 

@@ -1,12 +1,12 @@
 -- Words that are pushed and popped, one after another.
 use Rattle.std.proofs.Common.{◌≡◌, ℕ, Bool, true, false, if◌then◌else◌, Option, Some, None, Ok, refl}
 use Rattle.std.proofs.lemmas.Bool.{cond_both}
+use Rattle.instruction_set.specs.declared.size.Size.TheVariants.{Word}
 use Rattle.reference.specs.declared.access.Answer.TheVariants.{Error}
 use Rattle.reference.specs.declared.access.Decision.{Decision}
 use Rattle.reference.specs.declared.access.Kind.TheVariants.{Push, Pop}
 use Rattle.reference.specs.declared.access.Request.{Request}
 use Rattle.reference.specs.declared.access.Rule.{Rule}
-use Rattle.reference.specs.declared.access.Size.TheVariants.{Word}
 use Rattle.reference.specs.Accesses.{BusAnswer, answered_by_bus, performed_by, decided, perform, value_of}
 use Rattle.reference.specs.LoadStore.{request}
 use Rattle.reference.specs.Map.{is_in_ppb, is_in_window}

@@ -2,6 +2,10 @@
 use Rattle.std.proofs.Common.{◌≡◌, ℕ, ◌≤◌, Bool, true, false, not, List, [], ◌∷◌, ◌++◌, length, Option, Some, None}
 use Rattle.std.proofs.Common.{refl, sym, ◌∙◌, ap, subst, arith}
 use Rattle.std.proofs.lemmas.Bool.{cond_both}
+use Rattle.instruction_set.specs.Frames.{exc_return, frame, frame_base, frame_pointer, has_reserved_ones, popped_pc}
+use Rattle.instruction_set.specs.Frames.{popped, with_frame}
+use Rattle.instruction_set.specs.Registers.{Registers, is_privileged, sp}
+use Rattle.instruction_set.specs.Words.{is_bit}
 use Rattle.reference.specs.declared.event.Event.{Event}
 use Rattle.reference.specs.declared.exception.Escalation.{Escalation}
 use Rattle.reference.specs.declared.exception.Escalation.TheVariants.{Itself, HardFault, Lockup}
@@ -15,12 +19,8 @@ use Rattle.reference.specs.ExceptionReturn.{with_entry, fits_mode, unstacked, fr
 use Rattle.reference.specs.ExceptionReturn.{pop_stack, chained, returned, exception_ended, is_allowed, return_line}
 use Rattle.reference.specs.ExceptionReturn.{exception_return}
 use Rattle.reference.specs.Faults.{escalated, faulted, failed}
-use Rattle.reference.specs.Frames.{exc_return, frame, frame_base, frame_pointer, has_reserved_ones, popped_pc, popped}
-use Rattle.reference.specs.Frames.{with_frame}
 use Rattle.reference.specs.Memory.{Memory}
-use Rattle.reference.specs.Registers.{Registers, is_privileged, sp}
 use Rattle.reference.specs.State.{State, Stepped, with_bus, with_system}
-use Rattle.reference.specs.Words.{is_bit}
 use Rattle.reference.specs.Invariant.{HasRegisters, FlashEndsBelowRam, Invariant}
 use Rattle.step_laws.specs.FrameLaw.{AreBack, KeepsFrame, IsFree, IsStacked, HasFrameOf, ReturnGivesBack}
 use Rattle.step_laws.proofs.Frames.{gives_back, pushed_sp}

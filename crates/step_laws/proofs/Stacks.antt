@@ -3,6 +3,7 @@ use Rattle.std.proofs.Common.{◌≡◌, inl, ℕ, ◌+◌, ◌*◌, ◌%◌, �
 use Rattle.std.proofs.Common.{Err, refl, sym, ◌∙◌, ap, subst, arith}
 use Rattle.std.specs.Prelude.{⊤}
 use Rattle.std.proofs.lemmas.Bool.Decides.{nat_tests}
+use Rattle.instruction_set.specs.Words.{word_sum}
 use Rattle.reference.specs.declared.access.Kind.TheVariants.{Push, Pop}
 use Rattle.reference.specs.declared.event.Event.{Event}
 use Rattle.reference.specs.declared.failure.Failure.{Failure}
@@ -11,7 +12,6 @@ use Rattle.reference.specs.ExceptionEntry.{words_from}
 use Rattle.reference.specs.Map.{ram_base}
 use Rattle.reference.specs.Memory.{Memory, byte_at, bytes_of}
 use Rattle.reference.specs.State.{Bus}
-use Rattle.reference.specs.Words.{word_sum}
 use Rattle.reference.specs.Invariant.{FlashEndsBelowRam}
 use Rattle.step_laws.specs.FrameLaw.{KeepsFrame}
 use Rattle.space.proofs.Blocks.{overwritten_keeps}

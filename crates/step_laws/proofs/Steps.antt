@@ -2,23 +2,24 @@
 use Rattle.std.proofs.Common.{◌≡◌, inl, ℕ, nat_le, false, List, [], ◌++◌, Option, Some, None, Result, Ok, Err}
 use Rattle.std.proofs.Common.{refl}
 use Rattle.std.proofs.lemmas.Bool.{cond_both}
+use Rattle.instruction_set.specs.declared.instruction.CodedInstruction.{CodedInstruction}
+use Rattle.instruction_set.specs.declared.instruction.Decoded.{Decoded}
+use Rattle.instruction_set.specs.declared.instruction.Decoded.TheVariants as decoded
+use Rattle.instruction_set.specs.declared.instruction.InstructionLength.{InstructionLength}
+use Rattle.instruction_set.specs.declared.instruction.InstructionLength.TheVariants.{Short, Long}
+use Rattle.instruction_set.specs.Arithmetic.{condition_passed}
+use Rattle.instruction_set.specs.Decoding.{is_long}
+use Rattle.instruction_set.specs.Words.{word_sum}
 use Rattle.reference.specs.declared.access.Request.{Request}
+use Rattle.reference.specs.declared.ending.Ending.{Ending}
+use Rattle.reference.specs.declared.ending.Ending.TheVariants as ending
 use Rattle.reference.specs.declared.event.Event.{Event}
 use Rattle.reference.specs.declared.failure.Failure.{Failure}
 use Rattle.reference.specs.declared.failure.Failure.TheVariants as failure
 use Rattle.reference.specs.declared.failure.UsageFault.{UsageFault}
 use Rattle.reference.specs.declared.failure.UsageFault.TheVariants.{UndefinedInstruction, NoCoprocessor, InvalidState}
-use Rattle.reference.specs.declared.instruction.CodedInstruction.{CodedInstruction}
-use Rattle.reference.specs.declared.instruction.Decoded.{Decoded}
-use Rattle.reference.specs.declared.instruction.Decoded.TheVariants as decoded
-use Rattle.reference.specs.declared.instruction.Ending.{Ending}
-use Rattle.reference.specs.declared.instruction.Ending.TheVariants as ending
-use Rattle.reference.specs.declared.instruction.InstructionLength.TheVariants.{Short, Long}
-use Rattle.reference.specs.declared.instruction.InstructionLength.{InstructionLength}
 use Rattle.reference.specs.declared.stop.Stop.{Stop}
 use Rattle.reference.specs.Accesses.{ListResult, perform, access_lines, value_of}
-use Rattle.reference.specs.Arithmetic.{condition_passed}
-use Rattle.reference.specs.Decoding.{is_long}
 use Rattle.reference.specs.Memory.{Memory}
 use Rattle.reference.specs.Operations.{result_of}
 use Rattle.reference.specs.ProgramCounter.{Finished, moves_on}
@@ -28,7 +29,6 @@ use Rattle.reference.specs.Step.{with_access_lines, fetched_second, with_second,
 use Rattle.reference.specs.Step.{phase}
 use Rattle.reference.specs.Step.{running, unless_stopped, step}
 use Rattle.reference.specs.Time.{last_tick}
-use Rattle.reference.specs.Words.{word_sum}
 use Rattle.step_laws.specs.AccessLaw.{OnlyCovered}
 use Rattle.step_laws.proofs.Lines.{unrefused-nil, unrefused-append, EndIn, failure_in, ends-append}
 use Rattle.step_laws.proofs.Lines.{covered-append, covered-same}

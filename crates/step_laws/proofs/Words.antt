@@ -3,9 +3,9 @@ use Rattle.std.proofs.Common.{◌≡◌, ◌≢◌, ℕ, ◌+◌, ◌*◌, ◌/�
 use Rattle.std.proofs.Common.{bit_or, refl, ◌∙◌, ap, arith}
 use Rattle.std.proofs.lemmas.Bool.Decides.{nat_tests}
 use Rattle.std.proofs.lemmas.Nat.{or_shifted}
-use Rattle.reference.specs.Frames.{frame_base, pushed_xpsr, above_frame, it_of}
-use Rattle.reference.specs.Registers.{Registers, sp, weighed, flags_of}
-use Rattle.reference.specs.Words.{word_sum, is_bit}
+use Rattle.instruction_set.specs.Frames.{frame_base, pushed_xpsr, above_frame, it_of}
+use Rattle.instruction_set.specs.Registers.{Registers, sp, weighed, flags_of}
+use Rattle.instruction_set.specs.Words.{word_sum, is_bit}
 
 -- 1 for a set bit
 abbrev number : Bool → ℕ

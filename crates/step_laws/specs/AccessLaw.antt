@@ -2,6 +2,7 @@
 use Rattle.std.specs.Prelude.{◌≡◌, ◌⊎◌, ℕ, ◌+◌, nat_le, nat_lt, Bool, false, not, ◌&&◌, is_some, bit_and, List, [], ◌∷◌}
 use Rattle.std.specs.Prelude.{◌++◌, All, Some, length, slice_index}
 use Rattle.std.specs.List.{list_any}
+use Rattle.instruction_set.specs.Sizes.{bytes_in}
 use Rattle.reference.specs.declared.access.Access.{Access}
 use Rattle.reference.specs.declared.access.Cause.{Cause}
 use Rattle.reference.specs.declared.access.DecidedAccess.{DecidedAccess}
@@ -14,7 +15,7 @@ use Rattle.reference.specs.declared.event.RecordedFault.{RecordedFault}
 use Rattle.reference.specs.declared.exception.TheConstants.{HARD_FAULT}
 use Rattle.reference.specs.declared.fault_status.FaultEffect.{FaultEffect}
 use Rattle.reference.specs.Faults.{fault_of}
-use Rattle.reference.specs.Kinds.{bytes_in, is_write}
+use Rattle.reference.specs.Kinds.{is_write}
 use Rattle.reference.specs.Map.{ram_base}
 use Rattle.reference.specs.Memory.{Memory}
 

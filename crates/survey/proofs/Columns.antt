@@ -8,7 +8,7 @@ use Rattle.std.proofs.lemmas.List.{length-set}
 use Rattle.std.proofs.lemmas.Nat.Bits.{bit_at_above, bit_at_or, bit_at-pow_same, bit_at-pow_other}
 use Rattle.std.proofs.Math.Bool.{or_assoc, or-false}
 use Rattle.std.proofs.Math.Nat.{add-suc}
-use Rattle.reference.specs.Words.{bit_at, is_bit}
+use Rattle.instruction_set.specs.Words.{bit_at, is_bit}
 use Rattle.survey.specs.declared.mark.Mark.{Mark}
 use Rattle.survey.specs.TimeLaw.{some_makes}
 use Rattle.survey.specs.Timeline.{Timeline, appended, begun, join_at, joined, joined_to, with_bit, mark_number, marked}

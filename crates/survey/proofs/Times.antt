@@ -4,6 +4,7 @@ use Rattle.std.proofs.Common.{List, []}
 use Rattle.std.proofs.Common.{◌∷◌, Option, Some, None, refl, ap, ◌∙◌, arith, get_or, add-one, inl, inr}
 use Rattle.std.proofs.lemmas.Bool.{lt-ltb, eq-eqb, ne_eqb, cases_eq}
 use Rattle.std.proofs.Math.Bool.{or_assoc, or-false}
+use Rattle.instruction_set.specs.Words.{is_bit}
 use Rattle.reference.specs.declared.event.Event.{Event}
 use Rattle.reference.specs.declared.event.EventKind.{EventKind}
 use Rattle.reference.specs.declared.event.EventKind.TheVariants.{Accessed, ConsoleByte, ReturnBegan, HandlerEntered}
@@ -12,7 +13,6 @@ use Rattle.reference.specs.declared.stop.Stop.{Stop}
 use Rattle.reference.specs.Run.{after}
 use Rattle.reference.specs.State.{State}
 use Rattle.reference.specs.Step.{step}
-use Rattle.reference.specs.Words.{is_bit}
 use Rattle.survey.specs.declared.mark.Mark.{Mark}
 use Rattle.survey.specs.declared.moment.Moment.{Moment}
 use Rattle.survey.specs.declared.whole.Survey.{Survey}

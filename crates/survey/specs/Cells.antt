@@ -2,11 +2,11 @@
 use Rattle.std.specs.Prelude.{ℕ, ◌+◌, ◌-◌, ◌*◌, ◌/◌, ◌^◌, Bool, true, ◌&&◌, nat_le, nat_lt, if◌then◌else◌, List}
 use Rattle.std.specs.Prelude.{Option}
 use Rattle.std.specs.Prelude.{Some, None, slice_set, slice_index_or, false}
+use Rattle.instruction_set.specs.Sizes.{bytes_in}
 use Rattle.reference.specs.declared.access.Cause.{Cause}
 use Rattle.reference.specs.declared.access.DecidedAccess.{DecidedAccess}
 use Rattle.reference.specs.declared.access.Kind.{Kind}
 use Rattle.reference.specs.declared.access.Kind.TheVariants.{Fetch, Load, Store, Push, Pop, Vector, Probe}
-use Rattle.reference.specs.Kinds.{bytes_in}
 use Rattle.survey.specs.declared.touch.Touch.{Touch}
 use Rattle.survey.specs.declared.touch.Touch.TheVariants.{Read, Written, Executed, Refused}
 use Rattle.survey.specs.Counts.{privilege_number}

@@ -1,10 +1,10 @@
 -- The accesses that were refused: the first 64 that differ, and the number of all.
 use Rattle.std.specs.Prelude.{ℕ, ◌+◌, ◌-◌, Bool, true, false, ◌&&◌, ◌==◌, nat_lt, if◌then◌else◌, List, Option}
 use Rattle.std.specs.Prelude.{Some, None, slice_set, slice_index_or}
+use Rattle.instruction_set.specs.Sizes.{bytes_in}
 use Rattle.reference.specs.declared.access.Cause.{Cause}
 use Rattle.reference.specs.declared.access.DecidedAccess.{DecidedAccess}
 use Rattle.reference.specs.declared.event.RecordedFault.{RecordedFault}
-use Rattle.reference.specs.Kinds.{bytes_in}
 use Rattle.survey.specs.declared.refusal.Refusal.{Refusal}
 use Rattle.survey.specs.Counts.{one_more, place_of_access}
 

@@ -1,12 +1,12 @@
 -- What a run did, counted: a fold over the events of the reference machine's steps.
 use Rattle.std.specs.Prelude.{ℕ, zero, suc, List, [], ◌∷◌, Option, Some, None}
+use Rattle.instruction_set.specs.Registers.{is_privileged}
 use Rattle.reference.specs.declared.access.DecidedAccess.{DecidedAccess}
 use Rattle.reference.specs.declared.event.Event.{Event}
 use Rattle.reference.specs.declared.event.EventKind.{EventKind}
 use Rattle.reference.specs.declared.event.EventKind.TheVariants.{Accessed, ConsoleByte, ReturnBegan, HandlerEntered}
 use Rattle.reference.specs.declared.event.EventKind.TheVariants.{FaultRecorded}
 use Rattle.reference.specs.declared.stop.Stop.{Stop}
-use Rattle.reference.specs.Registers.{is_privileged}
 use Rattle.reference.specs.Run.{after}
 use Rattle.reference.specs.State.{State}
 use Rattle.reference.specs.Step.{step}

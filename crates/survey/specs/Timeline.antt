@@ -1,10 +1,10 @@
 -- What ran when: the ticks of a run in at most 1,024 columns, each of which stands for 1, 2, 4, .. of them.
 use Rattle.std.specs.Prelude.{ℕ, zero, suc, ◌+◌, ◌-◌, ◌*◌, ◌^◌, min, Bool, ◌&&◌, ◌==◌, nat_le, nat_lt, if◌then◌else◌}
 use Rattle.std.specs.Prelude.{List, [], ◌∷◌, ◌++◌, length, slice_set, slice_index, Option, Some, None, bit_or}
+use Rattle.instruction_set.specs.Words.{is_bit}
 use Rattle.reference.specs.declared.access.Cause.{Cause}
 use Rattle.reference.specs.declared.access.DecidedAccess.{DecidedAccess}
 use Rattle.reference.specs.Kinds.{is_write}
-use Rattle.reference.specs.Words.{is_bit}
 use Rattle.survey.specs.declared.mark.Mark.{Mark}
 use Rattle.survey.specs.declared.mark.Mark.TheVariants.{Unprivileged, Privileged, Sleep, Refused, MpuWritten}
 use Rattle.survey.specs.declared.mark.Mark.TheVariants.{OtherHandler, Handler}

@@ -1,6 +1,7 @@
 //! An access that was refused.
 
-use reference::access::{Access, DecidedAccess, Kind, Rule, Size};
+use instruction_set::size::Size;
+use reference::access::{Access, DecidedAccess, Kind, Rule};
 use reference::event::RecordedFault;
 
 /// An access that was refused, and the fault that followed it.

@@ -3,6 +3,7 @@
 use Rattle.std.proofs.Common.{◌≡◌, ◌⊎◌, inl, inr, ℕ, ◌+◌, Bool, true, false, not, List, [], ◌∷◌}
 use Rattle.std.proofs.Common.{Result, Ok, Err, refl, sym, ap, subst, ◌∙◌}
 use Rattle.std.proofs.lemmas.Bool.{or_right}
+use Rattle.instruction_set.specs.Sizes.{bytes_in}
 use Rattle.reference.specs.declared.access.Answer.{Answer}
 use Rattle.reference.specs.declared.access.Decision.{Decision}
 use Rattle.reference.specs.declared.access.Kind.{Kind}
@@ -12,7 +13,7 @@ use Rattle.reference.specs.declared.event.Event.{Event}
 use Rattle.reference.specs.declared.failure.Failure.{Failure}
 use Rattle.reference.specs.Accesses.{BusAnswer, AccessResult, ListResult, answered_by_bus, answered_under, decided}
 use Rattle.reference.specs.Accesses.{decision, lifted, access_lines, perform, value_of, followed, perform_all}
-use Rattle.reference.specs.Kinds.{bytes_in, is_probe, is_write}
+use Rattle.reference.specs.Kinds.{is_probe, is_write}
 use Rattle.reference.specs.Map.{is_in_ppb, is_in_window}
 use Rattle.reference.specs.Memory.{Memory, is_in_ram, bytes_of}
 use Rattle.reference.specs.Regions.{Mpu, IsSound}

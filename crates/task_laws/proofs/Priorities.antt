@@ -2,6 +2,7 @@
 use Rattle.std.proofs.Common.{◌≡◌, ℕ, ◌+◌, ◌*◌, ◌/◌, ◌%◌, ◌^◌, Bool, true, false, not, ◌||◌, ◌==◌, ◌∙◌, refl}
 use Rattle.std.proofs.Common.{sym, ap, eqb-true}
 use Rattle.std.proofs.lemmas.Bool.{cond_both, and_parts}
+use Rattle.instruction_set.specs.Sizes.{is_word}
 use Rattle.nvic.proofs.BelowZero.{below_zero}
 use Rattle.nvic.proofs.Changes.{pended_kept}
 use Rattle.reference.specs.declared.access.Request.{Request}
@@ -11,7 +12,7 @@ use Rattle.reference.specs.declared.system.SystemRegister.TheVariants as registe
 use Rattle.reference.specs.Control.{control_at}
 use Rattle.reference.specs.Handlers.{handler_priority_at}
 use Rattle.reference.specs.Interrupts.{interrupts_at, interrupt_priority_at, stir_address, triggered}
-use Rattle.reference.specs.Kinds.{is_load, is_store, is_word}
+use Rattle.reference.specs.Kinds.{is_load, is_store}
 use Rattle.reference.specs.Priorities.{Nvic, with_pending, is_below_zero}
 use Rattle.reference.specs.Regions.{Mpu}
 use Rattle.reference.specs.Status.{status_at, usersetmpend}

@@ -2,37 +2,37 @@
 use Rattle.std.proofs.Common.{◌≡◌, inl, inr, ℕ, ◌%◌, Bool, false, not, ◌&&◌, ◌==◌, List, [], ◌∷◌, refl, arith}
 use Rattle.std.proofs.Common.{eqb-true}
 use Rattle.std.proofs.lemmas.Bool.{cond_both, not-false, and_left}
+use Rattle.instruction_set.specs.declared.instruction.Branch.{Branch}
+use Rattle.instruction_set.specs.declared.instruction.Branch.TheVariants as branch
+use Rattle.instruction_set.specs.declared.instruction.CodedInstruction.{CodedInstruction}
+use Rattle.instruction_set.specs.declared.instruction.Exclusive.{Exclusive}
+use Rattle.instruction_set.specs.declared.instruction.Exclusive.TheVariants as exclusive
+use Rattle.instruction_set.specs.declared.instruction.Instruction.{Instruction}
+use Rattle.instruction_set.specs.declared.instruction.Instruction.TheVariants as family
+use Rattle.instruction_set.specs.declared.instruction.LoadStore.{LoadStore}
+use Rattle.instruction_set.specs.declared.instruction.LoadStore.TheVariants as load_store
+use Rattle.instruction_set.specs.declared.instruction.LoadStoreMultiple.{LoadStoreMultiple}
+use Rattle.instruction_set.specs.declared.instruction.LoadStoreMultiple.TheVariants as multiple
+use Rattle.instruction_set.specs.declared.operands.LoadForm.{LoadForm}
+use Rattle.instruction_set.specs.declared.size.Size.{Size}
+use Rattle.instruction_set.specs.declared.size.Size.TheVariants.{Word}
+use Rattle.instruction_set.specs.DataProcessing.{divides_by_zero}
+use Rattle.instruction_set.specs.Registers.{Registers, register, is_privileged}
+use Rattle.instruction_set.specs.Sizes.{bytes_in}
+use Rattle.instruction_set.specs.Words.{word_sum}
 use Rattle.reference.specs.declared.access.Kind.{Kind}
 use Rattle.reference.specs.declared.access.Kind.TheVariants.{Load, Store, Probe}
 use Rattle.reference.specs.declared.access.Request.{Request}
-use Rattle.reference.specs.declared.access.Size.{Size}
-use Rattle.reference.specs.declared.access.Size.TheVariants.{Word}
 use Rattle.reference.specs.declared.failure.Traps.{Traps}
-use Rattle.reference.specs.declared.instruction.Branch.{Branch}
-use Rattle.reference.specs.declared.instruction.Branch.TheVariants as branch
-use Rattle.reference.specs.declared.instruction.CodedInstruction.{CodedInstruction}
-use Rattle.reference.specs.declared.instruction.Exclusive.{Exclusive}
-use Rattle.reference.specs.declared.instruction.Exclusive.TheVariants as exclusive
-use Rattle.reference.specs.declared.instruction.Instruction.{Instruction}
-use Rattle.reference.specs.declared.instruction.Instruction.TheVariants as family
-use Rattle.reference.specs.declared.instruction.LoadStore.{LoadStore}
-use Rattle.reference.specs.declared.instruction.LoadStore.TheVariants as load_store
-use Rattle.reference.specs.declared.instruction.LoadStoreMultiple.{LoadStoreMultiple}
-use Rattle.reference.specs.declared.instruction.LoadStoreMultiple.TheVariants as multiple
-use Rattle.reference.specs.declared.operands.LoadForm.{LoadForm}
 use Rattle.reference.specs.Branches.{branch_requests}
-use Rattle.reference.specs.DataProcessing.{divides_by_zero}
 use Rattle.reference.specs.Exclusives.{exclusive_access, exclusive_requests, passes}
-use Rattle.reference.specs.Kinds.{bytes_in}
 use Rattle.reference.specs.LoadStore.{is_aligned, byte_requests, meets_device, unaligned, transfer, load}
 use Rattle.reference.specs.LoadStore.{load_store_requests}
 use Rattle.reference.specs.LoadStoreMultiple.{word_requests, several, load_store_multiple_requests}
 use Rattle.reference.specs.Map.{has_side_effects}
 use Rattle.reference.specs.Memory.{bytes_of}
 use Rattle.reference.specs.Operations.{is_misplaced, is_carried_out, requests_of, wants}
-use Rattle.reference.specs.Registers.{Registers, register, is_privileged}
 use Rattle.reference.specs.Step.{fetching}
-use Rattle.reference.specs.Words.{word_sum}
 use Rattle.task_laws.specs.TaskLaw.{IsTaskKind, IsOfTask, AreOfTask, AskOfTask, RequestsLaw}
 
 -- ---- what an access is for

@@ -8,7 +8,18 @@
 --   is replaced by the first with another memory, and the rest of the step goes on from there.
 use Rattle.std.proofs.Common.{◌≡◌, ℕ, ◌%◌, Bool, true, List, [], ◌++◌, Option, Some, None, Result, Ok, Err, refl, sym}
 use Rattle.std.proofs.Common.{ap, subst, ◌∙◌, arith}
+use Rattle.instruction_set.specs.declared.instruction.CodedInstruction.{CodedInstruction}
+use Rattle.instruction_set.specs.declared.instruction.Decoded.{Decoded}
+use Rattle.instruction_set.specs.declared.instruction.Decoded.TheVariants as decoded
+use Rattle.instruction_set.specs.declared.instruction.InstructionLength.{InstructionLength}
+use Rattle.instruction_set.specs.declared.instruction.InstructionLength.TheVariants.{Short, Long}
+use Rattle.instruction_set.specs.Arithmetic.{condition_passed}
+use Rattle.instruction_set.specs.Decoding.{is_long}
+use Rattle.instruction_set.specs.Registers.{Registers}
+use Rattle.instruction_set.specs.Words.{word_sum}
 use Rattle.reference.specs.declared.access.Request.{Request}
+use Rattle.reference.specs.declared.ending.Ending.{Ending}
+use Rattle.reference.specs.declared.ending.Ending.TheVariants as ending
 use Rattle.reference.specs.declared.event.Event.{Event}
 use Rattle.reference.specs.declared.exception.Escalation.{Escalation}
 use Rattle.reference.specs.declared.exception.Escalation.TheVariants.{Itself, HardFault, Lockup}
@@ -18,16 +29,7 @@ use Rattle.reference.specs.declared.failure.Failure.TheVariants as failure
 use Rattle.reference.specs.declared.failure.UsageFault.{UsageFault}
 use Rattle.reference.specs.declared.failure.UsageFault.TheVariants.{UndefinedInstruction, NoCoprocessor, InvalidState}
 use Rattle.reference.specs.declared.fault_status.FaultEffect.{FaultEffect}
-use Rattle.reference.specs.declared.instruction.CodedInstruction.{CodedInstruction}
-use Rattle.reference.specs.declared.instruction.Decoded.{Decoded}
-use Rattle.reference.specs.declared.instruction.Decoded.TheVariants as decoded
-use Rattle.reference.specs.declared.instruction.Ending.{Ending}
-use Rattle.reference.specs.declared.instruction.Ending.TheVariants as ending
-use Rattle.reference.specs.declared.instruction.InstructionLength.{InstructionLength}
-use Rattle.reference.specs.declared.instruction.InstructionLength.TheVariants.{Short, Long}
 use Rattle.reference.specs.Accesses.{AccessResult, ListResult, perform, perform_all, access_lines, value_of}
-use Rattle.reference.specs.Arithmetic.{condition_passed}
-use Rattle.reference.specs.Decoding.{is_long}
 use Rattle.reference.specs.Faults.{fault_of, usage_fault_of, recorded, with_status, pended, escalated, faulted, failed}
 use Rattle.reference.specs.Faults.{supervisor_called_by, supervisor_called}
 use Rattle.reference.specs.Memory.{Memory}
@@ -35,14 +37,12 @@ use Rattle.reference.specs.Operations.{result_of}
 use Rattle.reference.specs.Priorities.{Nvic, is_below_zero}
 use Rattle.reference.specs.ProgramCounter.{Finished, moves_on}
 use Rattle.reference.specs.Regions.{Mpu, IsSound}
-use Rattle.reference.specs.Registers.{Registers}
 use Rattle.reference.specs.SpecialRegisters.{write_special}
 use Rattle.reference.specs.State.{Bus, State, Stepped, ticked, with_bus, with_system, with_registers, with_exceptions}
 use Rattle.reference.specs.Status.{Status}
 use Rattle.reference.specs.Step.{ended, finished, served, performed_all, planned, without_meaning, executed, fetching}
 use Rattle.reference.specs.Step.{fetched_second, with_second, fetched_first, instruction, step, traps}
 use Rattle.reference.specs.System.{System}
-use Rattle.reference.specs.Words.{word_sum}
 use Rattle.state_laws.proofs.Effects.{IsEndIn, Leaves, register_kept, moves_on_kept, result_kept}
 use Rattle.task_laws.specs.Sight.{with_memory}
 use Rattle.task_laws.specs.TaskLaw.{IsOfTask, AreOfTask, AskOfTask}

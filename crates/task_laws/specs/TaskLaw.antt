@@ -1,16 +1,16 @@
 -- The laws of tasks: of one access, of one step, of n steps, and of a run.
 use Rattle.std.specs.Prelude.{◌≡◌, ◌⊎◌, ℕ, ◌%◌, false, true, List, [], ◌∷◌, Result, Ok, Err}
+use Rattle.instruction_set.specs.declared.instruction.CodedInstruction.{CodedInstruction}
+use Rattle.instruction_set.specs.Registers.{Registers, is_privileged}
+use Rattle.instruction_set.specs.Sizes.{bytes_in}
 use Rattle.reference.specs.declared.access.Kind.{Kind}
 use Rattle.reference.specs.declared.access.Kind.TheVariants.{Fetch, Load, Store, Probe}
 use Rattle.reference.specs.declared.access.Request.{Request}
 use Rattle.reference.specs.declared.failure.Failure.{Failure}
 use Rattle.reference.specs.declared.failure.Traps.{Traps}
-use Rattle.reference.specs.declared.instruction.CodedInstruction.{CodedInstruction}
 use Rattle.reference.specs.Accesses.{perform}
 use Rattle.reference.specs.Invariant.{Invariant}
-use Rattle.reference.specs.Kinds.{bytes_in}
 use Rattle.reference.specs.Operations.{wants}
-use Rattle.reference.specs.Registers.{Registers, is_privileged}
 use Rattle.reference.specs.Run.{after, events_of}
 use Rattle.reference.specs.State.{State, with_bus}
 use Rattle.reference.specs.Step.{fetching, step}

@@ -1,9 +1,9 @@
 -- A task: code that runs in unprivileged Thread mode while the regions of the MPU decide its accesses (ARM DDI 0403,
 -- "Operating modes", "Privileged and unprivileged execution", "MPU_CTRL"), and how a run of it ends.
 use Rattle.std.specs.Prelude.{◌≡◌, ℕ, ◌<◌, Bool, true, false, not, ◌&&◌, is_some, Some, None}
+use Rattle.instruction_set.specs.Registers.{is_handler}
 use Rattle.reference.specs.Priorities.{is_below_zero}
 use Rattle.reference.specs.Regions.{is_on}
-use Rattle.reference.specs.Registers.{is_handler}
 use Rattle.reference.specs.Rules.{is_off_below_zero}
 use Rattle.reference.specs.Run.{after}
 use Rattle.reference.specs.State.{State}

@@ -10,7 +10,8 @@ use crate::hex;
 use crate::page::Page;
 use crate::tick::Tick;
 use crate::words::{kind_letter, left_out_word, privilege_letter, size_digit, unpredictable_word};
-use reference::access::{Access, Cause, DecidedAccess, Kind, Rule, Size};
+use instruction_set::size::Size;
+use reference::access::{Access, Cause, DecidedAccess, Kind, Rule};
 use reference::event::{Event, EventKind, RecordedFault};
 use reference::stop::Stop;
 

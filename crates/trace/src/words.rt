@@ -1,11 +1,13 @@
 //! The words of the lines: the text of each enum.
 
 ghost use Rattle.std.specs.Prelude.{◌≡◌, ◌≤◌, [], ◌∷◌, length, decimal};
-ghost use Rattle.reference.specs.Kinds.{bytes_in};
+ghost use Rattle.instruction_set.specs.Sizes.{bytes_in};
 ghost use Rattle.reference.specs.Text.{kind_text, privilege_text, unpredictable_text, left_out_text};
 
-use reference::access::{Kind, Size};
-use reference::stop::{LeftOut, UnpredictableCase};
+use instruction_set::size::Size;
+use instruction_set::unpredictable::UnpredictableCase;
+use reference::access::Kind;
+use reference::stop::LeftOut;
 
 /// Returns the letter of a kind of access.
 #[inline(always)]

@@ -1,5 +1,5 @@
 use Rattle.std.proofs.Common.{refl}
-use Rattle.reference.specs.Decoding.{rows_of, short_tables, long_tables}
+use Rattle.instruction_set.specs.Decoding.{rows_of, short_tables, long_tables}
 use Rattle.row_laws.proofs.Texts.{all_apart}
 use Rattle.row_laws.proofs.rows_are_apart.Goals as goal
 

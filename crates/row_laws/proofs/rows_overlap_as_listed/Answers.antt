@@ -1,6 +1,6 @@
 use Rattle.std.proofs.Common.{refl}
-use Rattle.reference.specs.Patterns.{has_bits}
-use Rattle.reference.specs.Decoding.{rows_of, short_tables, long_tables}
+use Rattle.instruction_set.specs.Decoding.{rows_of, short_tables, long_tables}
+use Rattle.instruction_set.specs.Patterns.{has_bits}
 use Rattle.row_laws.specs.Overlaps.{short_overlaps, long_overlaps}
 use Rattle.row_laws.proofs.Texts.{all_listed, all_won}
 use Rattle.row_laws.proofs.rows_overlap_as_listed.Goals as goal

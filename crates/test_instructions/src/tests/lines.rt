@@ -19,7 +19,7 @@ ghost use Rattle.std.specs.Prelude.{◌<◌};
 
 use super::memory::Memory;
 use arrayvec::ArrayVec;
-use reference::registers::Register;
+use instruction_set::registers::Register;
 use regs::{Regs, flags_of};
 use test_tables::{number, word};
 

@@ -1,7 +1,8 @@
 //! A memory of a few bytes, and what it answers.
 
 use arrayvec::ArrayVec;
-use reference::access::{Request, Size};
+use instruction_set::size::Size;
+use reference::access::Request;
 
 /// A byte at an address.
 #[derive(Clone, Copy)]

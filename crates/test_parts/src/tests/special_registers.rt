@@ -1,9 +1,9 @@
 //! MRS, MSR and CPS (ARM DDI 0403, the operation of each), on a board with 4 priority bits.
 
 use clock::Counting;
+use instruction_set::operands::{ChangeProcessorState, SpecialRegister};
 use mpu::Search;
 use nvic::PlainLevels;
-use reference::operands::{ChangeProcessorState, SpecialRegister};
 use regs::Regs;
 use scs::System;
 use std::test::*;

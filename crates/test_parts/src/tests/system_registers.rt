@@ -3,11 +3,13 @@
 
 use super::words::request;
 use clock::Counting;
+use instruction_set::size::Size;
+use instruction_set::unpredictable::UnpredictableCase;
 use mpu::Search;
 use nvic::PlainLevels;
-use reference::access::{Access, Answer, Kind, Request, Size};
+use reference::access::{Access, Answer, Kind, Request};
 use reference::script::{InterruptLine, ScriptedEvent, Signal};
-use reference::stop::{LeftOut, Stop, UnpredictableCase};
+use reference::stop::{LeftOut, Stop};
 use scs::System;
 use std::alloc::Global;
 use std::test::*;

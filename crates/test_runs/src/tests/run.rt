@@ -18,12 +18,13 @@
 
 use super::cut::{Cut, Text, push_line, run, run_task};
 use super::machines::{event, place, place_vectors, scripted};
+use instruction_set::unpredictable::UnpredictableCase;
 use machine::{
     Ahead, BitLevels, BoardLines, CodeLines, Counting, Decider, DueTicks, KeptDecisions,
     KeptPriorities, Levels, Machine, PlaceFault, PlainLevels, RegValues, Reread, Search, Stop,
     Table, TaskEnd,
 };
-use reference::stop::{LeftOut, UnpredictableCase};
+use reference::stop::LeftOut;
 use std::alloc::Global;
 use std::test::Fail;
 use test_tables::{Rows, byte_at, check_between, number, number_at, word};

@@ -1,7 +1,8 @@
 //! The words of the rows: events as lines of the trace have them, and what the core runs.
 
+use instruction_set::size::Size;
 use mpu::MpuRegs;
-use reference::access::{Access, Cause, DecidedAccess, Kind, Rule, Size};
+use reference::access::{Access, Cause, DecidedAccess, Kind, Rule};
 use reference::event::{EventKind, RecordedFault};
 use survey::{Moment, Survey, Touch};
 use test_tables::{meaning, number_at, word};

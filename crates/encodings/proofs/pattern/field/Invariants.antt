@@ -1,6 +1,6 @@
 use Rattle.std.proofs.Common.{◌≡◌, ◌<◌, ◌^◌, drop}
-use Rattle.reference.specs.Patterns.{joined_field, field}
 use Rattle.encodings.proofs.pattern.field.Given as goal
+use Rattle.instruction_set.specs.Patterns.{joined_field, field}
 
 abbrev pub invariant-loop-i : goal.invariant-loop-i
 invariant-loop-i l = record {

@@ -1,10 +1,10 @@
 //! An instruction as the numbers of a line of the tables: a function for each family of shapes.
 
-use reference::instruction::{
+use instruction_set::instruction::{
     Branch, DataProcessing, Exclusive, Instruction, LoadStore, LoadStoreMultiple, System,
 };
-use reference::operands::{ImmediateAddress, LoadForm, RegisterAddress, ShiftedRegister};
-use reference::registers::Register;
+use instruction_set::operands::{ImmediateAddress, LoadForm, RegisterAddress, ShiftedRegister};
+use instruction_set::registers::Register;
 
 /// The number of the variant, and then the operands.
 pub type Told = [u32; 8];

@@ -1,0 +1,153 @@
+-- The rows of 32 bits in "Load/store dual or exclusive, table branch" (ARM DDI 0403, "32-bit Thumb instruction
+-- encoding").
+use Rattle.std.specs.Prelude.{ℕ, ◌*◌, Bool, ◌&&◌, ◌||◌, ◌==◌, List, [], ◌∷◌, codes}
+use Rattle.instruction_set.specs.declared.instruction.BlockPlace.TheVariants as place
+use Rattle.instruction_set.specs.declared.instruction.Branch.TheVariants as branch
+use Rattle.instruction_set.specs.declared.instruction.Decoded.{Decoded}
+use Rattle.instruction_set.specs.declared.instruction.Exclusive.TheVariants as exclusive
+use Rattle.instruction_set.specs.declared.instruction.Instruction.TheVariants.{Branch, Exclusive, LoadStoreMultiple}
+use Rattle.instruction_set.specs.declared.instruction.InstructionLength.TheVariants.{Long}
+use Rattle.instruction_set.specs.declared.instruction.LoadStoreMultiple.TheVariants as multiple
+use Rattle.instruction_set.specs.declared.operands.ImmediateAddress.{ImmediateAddress}
+use Rattle.instruction_set.specs.declared.operands.Indexing.{Indexing}
+use Rattle.instruction_set.specs.declared.operands.LoadDual.{LoadDual}
+use Rattle.instruction_set.specs.declared.operands.LoadDualLiteral.{LoadDualLiteral}
+use Rattle.instruction_set.specs.declared.operands.LoadExclusive.{LoadExclusive}
+use Rattle.instruction_set.specs.declared.operands.StoreDual.{StoreDual}
+use Rattle.instruction_set.specs.declared.operands.StoreExclusive.{StoreExclusive}
+use Rattle.instruction_set.specs.declared.size.Size.{Size}
+use Rattle.instruction_set.specs.declared.size.Size.TheVariants.{Word}
+use Rattle.instruction_set.specs.declared.unpredictable.UnpredictableCase.TheVariants as cause
+use Rattle.instruction_set.specs.Patterns.{unspaced}
+use Rattle.instruction_set.specs.RowOperands.{writes_back, byte_or_halfword, signed_offset, indexing_of}
+use Rattle.instruction_set.specs.Rows.{Letters, Row, long, placed, unless, is_bad}
+
+-- STREX, STREXB and STREXH: R[d] is neither the base nor the register that is stored
+unfoldable pub store_exclusive_row : StoreExclusive → Decoded
+store_exclusive_row o =
+    unless (is_bad o.status || (is_bad o.target || (o.base == 15 || (o.status == o.base || o.status == o.target))))
+    place.Anywhere cause.Registers
+    (long (Exclusive (exclusive.Store o)))
+
+-- LDREX, LDREXB and LDREXH
+unfoldable pub load_exclusive_row : LoadExclusive → Decoded
+load_exclusive_row o =
+    unless (is_bad o.target || o.base == 15) place.Anywhere cause.Registers
+    (long (Exclusive (exclusive.Load o)))
+
+-- TBB and TBH
+unfoldable pub table_branch_row : Size → ℕ → ℕ → Decoded
+table_branch_row size n m =
+    unless (n == 13 || is_bad m) place.LastOnly cause.Registers
+    (placed Long place.LastOnly (Branch (branch.Table (record { size = size; base = n; index = m }))))
+
+-- the address of LDRD and STRD: the offset counts words
+abbrev pub dual_address : Letters → ImmediateAddress
+dual_address f = record { base = f.n; offset = signed_offset f.U (f.i * 4); indexing = indexing_of f.P f.W }
+
+-- whether two registers are refused: SP, PC, and a base that is written
+abbrev pub is_refused_pair : ℕ → ℕ → ℕ → Indexing → Bool
+is_refused_pair t u n indexing = is_bad t || (is_bad u || writes_back indexing && (n == t || n == u))
+
+-- LDRD: the two registers differ
+unfoldable pub load_dual_row : LoadDual → Decoded
+load_dual_row o =
+    unless (is_refused_pair o.first o.second o.address.base o.address.indexing || o.first == o.second) place.Anywhere
+    cause.Registers
+    (long (LoadStoreMultiple (multiple.LoadDual o)))
+
+-- LDRD (literal): W = 1 is UNPREDICTABLE
+unfoldable pub load_dual_literal_row : Bool → LoadDualLiteral → Decoded
+load_dual_literal_row write_back o =
+    unless (is_bad o.first || (is_bad o.second || (o.first == o.second || write_back))) place.Anywhere cause.Registers
+    (long (LoadStoreMultiple (multiple.LoadDualLiteral o)))
+
+-- STRD: PC isn't a base
+unfoldable pub store_dual_row : StoreDual → Decoded
+store_dual_row o =
+    unless (is_refused_pair o.first o.second o.address.base o.address.indexing || o.address.base == 15) place.Anywhere
+    cause.Registers
+    (long (LoadStoreMultiple (multiple.StoreDual o)))
+
+-- ---- the rows
+
+-- STREX, encoding T1
+abbrev pub strex_t1 : Row
+strex_t1 = record {
+  places = unspaced (codes "1110100 00100 nnnn tttt dddd iiiiiiii");
+  except = [];
+  gives = λ f. store_exclusive_row (record { size = Word; status = f.d; target = f.t; base = f.n; offset = f.i * 4 });
+}
+
+-- LDREX, encoding T1
+abbrev pub ldrex_t1 : Row
+ldrex_t1 = record {
+  places = unspaced (codes "1110100 00101 nnnn tttt oooo iiiiiiii");
+  except = [];
+  gives = λ f. load_exclusive_row (record { size = Word; target = f.t; base = f.n; offset = f.i * 4 });
+}
+
+-- STREXB and STREXH, encoding T1
+abbrev pub strexb_t1 : Row
+strexb_t1 = record {
+  places = unspaced (codes "1110100 01100 nnnn tttt oooo 010 H dddd");
+  except = [];
+  gives = λ f. store_exclusive_row (record {
+    size = byte_or_halfword f.H;
+    status = f.d;
+    target = f.t;
+    base = f.n;
+    offset = 0;
+  });
+}
+
+-- LDREXB and LDREXH, encoding T1
+abbrev pub ldrexb_t1 : Row
+ldrexb_t1 = record {
+  places = unspaced (codes "1110100 01101 nnnn tttt oooo 010 H oooo");
+  except = [];
+  gives = λ f. load_exclusive_row (record { size = byte_or_halfword f.H; target = f.t; base = f.n; offset = 0 });
+}
+
+-- TBB and TBH, encoding T1
+abbrev pub tbb_t1 : Row
+tbb_t1 = record {
+  places = unspaced (codes "1110100 01101 nnnn oooo zzzz 000 H mmmm");
+  except = [];
+  gives = λ f. table_branch_row (byte_or_halfword f.H) f.n f.m;
+}
+
+-- LDRD (literal), encoding T1; P = 0 with W = 0 are the rows above, or UNDEFINED
+abbrev pub ldrd_literal_t1 : Row
+ldrd_literal_t1 = record {
+  places = unspaced (codes "1110100 P U 1 W 1 1111 tttt uuuu iiiiiiii");
+  except = unspaced (codes "xxxxxxx 0 x x 0 x xxxx xxxx xxxx xxxxxxxx") ∷ [];
+  gives = λ f. load_dual_literal_row (f.W == 1) (record {
+    first = f.t;
+    second = f.u;
+    offset = signed_offset f.U (f.i * 4);
+  });
+}
+
+-- LDRD (immediate), encoding T1; P = 0 with W = 0 are the rows above, or UNDEFINED; with n = 1111 it is LDRD (literal)
+abbrev pub ldrd_immediate_t1 : Row
+ldrd_immediate_t1 = record {
+  places = unspaced (codes "1110100 P U 1 W 1 nnnn tttt uuuu iiiiiiii");
+  except =
+      unspaced (codes "xxxxxxx 0 x x 0 x xxxx xxxx xxxx xxxxxxxx") ∷
+      unspaced (codes "xxxxxxx x x x x x 1111 xxxx xxxx xxxxxxxx") ∷ [];
+  gives = λ f. load_dual_row (record { first = f.t; second = f.u; address = dual_address f });
+}
+
+-- STRD (immediate), encoding T1; P = 0 with W = 0 are the rows above, or UNDEFINED
+abbrev pub strd_immediate_t1 : Row
+strd_immediate_t1 = record {
+  places = unspaced (codes "1110100 P U 1 W 0 nnnn tttt uuuu iiiiiiii");
+  except = unspaced (codes "xxxxxxx 0 x x 0 x xxxx xxxx xxxx xxxxxxxx") ∷ [];
+  gives = λ f. store_dual_row (record { first = f.t; second = f.u; address = dual_address f });
+}
+
+abbrev pub dual_rows : List Row
+dual_rows =
+    strex_t1 ∷ ldrex_t1 ∷ strexb_t1 ∷ ldrexb_t1 ∷ tbb_t1 ∷ ldrd_literal_t1 ∷ ldrd_immediate_t1 ∷ strd_immediate_t1 ∷
+    []

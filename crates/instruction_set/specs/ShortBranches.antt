@@ -1,0 +1,62 @@
+-- The rows of 16 bits in "Conditional branch, and Supervisor Call" and "Unconditional Branch" (ARM DDI 0403, "16-bit
+-- Thumb instruction encoding").
+use Rattle.std.specs.Prelude.{ℕ, ◌*◌, List, [], ◌∷◌, codes}
+use Rattle.instruction_set.specs.declared.instruction.BlockPlace.TheVariants as place
+use Rattle.instruction_set.specs.declared.instruction.Branch.TheVariants as branch
+use Rattle.instruction_set.specs.declared.instruction.Decoded.{Decoded}
+use Rattle.instruction_set.specs.declared.instruction.Decoded.TheVariants.{Undefined}
+use Rattle.instruction_set.specs.declared.instruction.Instruction.TheVariants.{Branch, System}
+use Rattle.instruction_set.specs.declared.instruction.InstructionLength.TheVariants.{Short}
+use Rattle.instruction_set.specs.declared.instruction.System.TheVariants.{SupervisorCall}
+use Rattle.instruction_set.specs.Patterns.{unspaced}
+use Rattle.instruction_set.specs.Rows.{Row, short, placed}
+use Rattle.instruction_set.specs.Words.{sign_extended}
+
+-- B with a condition: the offset counts halfwords, and is signed
+unfoldable pub branch_if_row : ℕ → ℕ → Decoded
+branch_if_row condition halfwords =
+    placed Short place.Never (Branch (branch.Conditional
+    (record { condition = condition; offset = sign_extended 9 (halfwords * 2) })))
+
+-- B: the offset counts halfwords, and is signed
+unfoldable pub branch_row : ℕ → Decoded
+branch_row halfwords = placed Short place.LastOnly
+    (Branch (branch.Immediate (record { offset = sign_extended 12 (halfwords * 2) })))
+
+-- ---- the rows
+
+-- UDF, encoding T1
+abbrev pub udf_t1 : Row
+udf_t1 = record {
+  places = unspaced (codes "1101 1110 iiiiiiii");
+  except = [];
+  gives = λ f. Undefined;
+}
+
+-- SVC, encoding T1
+abbrev pub svc_t1 : Row
+svc_t1 = record {
+  places = unspaced (codes "1101 1111 iiiiiiii");
+  except = [];
+  gives = λ f. short (System (SupervisorCall f.i));
+}
+
+-- B, encoding T1; with the condition 1110 it is UDF, with 1111 SVC
+abbrev pub b_t1 : Row
+b_t1 = record {
+  places = unspaced (codes "1101 cccc iiiiiiii");
+  except = unspaced (codes "xxxx 111x xxxxxxxx") ∷ [];
+  gives = λ f. branch_if_row f.c f.i;
+}
+
+-- B, encoding T2
+abbrev pub b_t2 : Row
+b_t2 = record {
+  places = unspaced (codes "11100 iiiiiiiiiii");
+  except = [];
+  gives = λ f. branch_row f.i;
+}
+
+abbrev pub branch_rows : List Row
+branch_rows =
+    udf_t1 ∷ svc_t1 ∷ b_t1 ∷ b_t2 ∷ []

@@ -1,0 +1,190 @@
+-- The rows of 16 bits in "Data processing" (ARM DDI 0403, "16-bit Thumb instruction encoding").
+use Rattle.std.specs.Prelude.{ℕ, List, [], ◌∷◌, codes}
+use Rattle.instruction_set.specs.declared.instruction.DataProcessing.TheVariants.{MoveRegister, CompareRegister}
+use Rattle.instruction_set.specs.declared.instruction.DataProcessing.TheVariants.{ShiftByRegister, Multiply}
+use Rattle.instruction_set.specs.declared.instruction.Decoded.{Decoded}
+use Rattle.instruction_set.specs.declared.instruction.Instruction.TheVariants.{DataProcessing}
+use Rattle.instruction_set.specs.declared.operands.Comparison.{Comparison}
+use Rattle.instruction_set.specs.declared.operands.Comparison.TheVariants.{Test, Compare, CompareNegative}
+use Rattle.instruction_set.specs.declared.operands.DataOperation.TheVariants.{And, BitClear, Or, ExclusiveOr}
+use Rattle.instruction_set.specs.declared.operands.DataOperation.TheVariants.{AddWithCarry, SubtractWithCarry}
+use Rattle.instruction_set.specs.declared.operands.DataOperation.TheVariants.{ReverseSubtract}
+use Rattle.instruction_set.specs.declared.operands.FlagSetting.TheVariants as flags
+use Rattle.instruction_set.specs.declared.operands.MoveOperation.TheVariants.{MoveNot}
+use Rattle.instruction_set.specs.declared.shift.ShiftType.{ShiftType}
+use Rattle.instruction_set.specs.declared.shift.ShiftType.TheVariants.{Lsl, Lsr, Asr, Ror}
+use Rattle.instruction_set.specs.Patterns.{unspaced}
+use Rattle.instruction_set.specs.RowOperands.{unshifted}
+use Rattle.instruction_set.specs.Rows.{Row, short}
+use Rattle.instruction_set.specs.ShortShifts.{data_registers_row, data_number_row}
+
+-- a shift by a register
+unfoldable pub shift_register_row : ShiftType → ℕ → ℕ → Decoded
+shift_register_row type d m =
+    short (DataProcessing (ShiftByRegister (record {
+      shift_type = type;
+      flags = flags.OutsideBlock;
+      destination = d;
+      source = d;
+      amount = m;
+    })))
+
+-- MVN of a register
+unfoldable pub move_not_row : ℕ → ℕ → Decoded
+move_not_row d m =
+    short (DataProcessing (MoveRegister (record {
+      operation = MoveNot;
+      flags = flags.OutsideBlock;
+      destination = d;
+      source = unshifted m;
+    })))
+
+-- a comparison of two registers
+unfoldable pub compare_registers_row : Comparison → ℕ → ℕ → Decoded
+compare_registers_row operation n m =
+    short (DataProcessing (CompareRegister (record { operation = operation; first = n; second = unshifted m })))
+
+-- MUL: R[d] = R[m] * R[d]
+unfoldable pub multiply_row : ℕ → ℕ → Decoded
+multiply_row d m =
+    short (DataProcessing (Multiply (record { flags = flags.OutsideBlock; destination = d; first = m; second = d })))
+
+-- ---- the rows: opcodes 0000 to 0111, then 1000 to 1111
+
+-- AND (register), encoding T1
+abbrev pub and_register_t1 : Row
+and_register_t1 = record {
+  places = unspaced (codes "010000 0000 mmm ddd");
+  except = [];
+  gives = λ f. data_registers_row And f.d f.d f.m;
+}
+
+-- EOR (register), encoding T1
+abbrev pub eor_register_t1 : Row
+eor_register_t1 = record {
+  places = unspaced (codes "010000 0001 mmm ddd");
+  except = [];
+  gives = λ f. data_registers_row ExclusiveOr f.d f.d f.m;
+}
+
+-- LSL (register), encoding T1
+abbrev pub lsl_register_t1 : Row
+lsl_register_t1 = record {
+  places = unspaced (codes "010000 0010 mmm ddd");
+  except = [];
+  gives = λ f. shift_register_row Lsl f.d f.m;
+}
+
+-- LSR (register), encoding T1
+abbrev pub lsr_register_t1 : Row
+lsr_register_t1 = record {
+  places = unspaced (codes "010000 0011 mmm ddd");
+  except = [];
+  gives = λ f. shift_register_row Lsr f.d f.m;
+}
+
+-- ASR (register), encoding T1
+abbrev pub asr_register_t1 : Row
+asr_register_t1 = record {
+  places = unspaced (codes "010000 0100 mmm ddd");
+  except = [];
+  gives = λ f. shift_register_row Asr f.d f.m;
+}
+
+-- ADC (register), encoding T1
+abbrev pub adc_register_t1 : Row
+adc_register_t1 = record {
+  places = unspaced (codes "010000 0101 mmm ddd");
+  except = [];
+  gives = λ f. data_registers_row AddWithCarry f.d f.d f.m;
+}
+
+-- SBC (register), encoding T1
+abbrev pub sbc_register_t1 : Row
+sbc_register_t1 = record {
+  places = unspaced (codes "010000 0110 mmm ddd");
+  except = [];
+  gives = λ f. data_registers_row SubtractWithCarry f.d f.d f.m;
+}
+
+-- ROR (register), encoding T1
+abbrev pub ror_register_t1 : Row
+ror_register_t1 = record {
+  places = unspaced (codes "010000 0111 mmm ddd");
+  except = [];
+  gives = λ f. shift_register_row Ror f.d f.m;
+}
+
+abbrev pub data_low_rows : List Row
+data_low_rows =
+    and_register_t1 ∷ eor_register_t1 ∷ lsl_register_t1 ∷ lsr_register_t1 ∷ asr_register_t1 ∷ adc_register_t1 ∷
+    sbc_register_t1 ∷ ror_register_t1 ∷ []
+
+-- TST (register), encoding T1
+abbrev pub tst_register_t1 : Row
+tst_register_t1 = record {
+  places = unspaced (codes "010000 1000 mmm ddd");
+  except = [];
+  gives = λ f. compare_registers_row Test f.d f.m;
+}
+
+-- RSB (immediate), encoding T1: 0 less the register
+abbrev pub rsb_immediate_t1 : Row
+rsb_immediate_t1 = record {
+  places = unspaced (codes "010000 1001 mmm ddd");
+  except = [];
+  gives = λ f. data_number_row ReverseSubtract f.d f.m 0;
+}
+
+-- CMP (register), encoding T1
+abbrev pub cmp_register_t1 : Row
+cmp_register_t1 = record {
+  places = unspaced (codes "010000 1010 mmm ddd");
+  except = [];
+  gives = λ f. compare_registers_row Compare f.d f.m;
+}
+
+-- CMN (register), encoding T1
+abbrev pub cmn_register_t1 : Row
+cmn_register_t1 = record {
+  places = unspaced (codes "010000 1011 mmm ddd");
+  except = [];
+  gives = λ f. compare_registers_row CompareNegative f.d f.m;
+}
+
+-- ORR (register), encoding T1
+abbrev pub orr_register_t1 : Row
+orr_register_t1 = record {
+  places = unspaced (codes "010000 1100 mmm ddd");
+  except = [];
+  gives = λ f. data_registers_row Or f.d f.d f.m;
+}
+
+-- MUL, encoding T1
+abbrev pub mul_t1 : Row
+mul_t1 = record {
+  places = unspaced (codes "010000 1101 mmm ddd");
+  except = [];
+  gives = λ f. multiply_row f.d f.m;
+}
+
+-- BIC (register), encoding T1
+abbrev pub bic_register_t1 : Row
+bic_register_t1 = record {
+  places = unspaced (codes "010000 1110 mmm ddd");
+  except = [];
+  gives = λ f. data_registers_row BitClear f.d f.d f.m;
+}
+
+-- MVN (register), encoding T1
+abbrev pub mvn_register_t1 : Row
+mvn_register_t1 = record {
+  places = unspaced (codes "010000 1111 mmm ddd");
+  except = [];
+  gives = λ f. move_not_row f.d f.m;
+}
+
+abbrev pub data_high_rows : List Row
+data_high_rows =
+    tst_register_t1 ∷ rsb_immediate_t1 ∷ cmp_register_t1 ∷ cmn_register_t1 ∷ orr_register_t1 ∷ mul_t1 ∷
+    bic_register_t1 ∷ mvn_register_t1 ∷ []

@@ -1,0 +1,240 @@
+-- The rows of 16 bits that load and store: "Load from Literal Pool", "Load/store single data item", "Store multiple
+-- registers" and "Load multiple registers" (ARM DDI 0403, "16-bit Thumb instruction encoding").
+use Rattle.std.specs.Prelude.{ℕ, ◌*◌, ◌%◌, ◌^◌, Bool, true, false, not, ◌&&◌, ◌==◌, List, [], ◌∷◌, codes}
+use Rattle.instruction_set.specs.declared.instruction.BlockPlace.TheVariants as place
+use Rattle.instruction_set.specs.declared.instruction.Decoded.{Decoded}
+use Rattle.instruction_set.specs.declared.instruction.Instruction.TheVariants.{LoadStore, LoadStoreMultiple}
+use Rattle.instruction_set.specs.declared.instruction.LoadStore.TheVariants.{LoadImmediate, LoadRegister, LoadLiteral}
+use Rattle.instruction_set.specs.declared.instruction.LoadStore.TheVariants.{StoreImmediate, StoreRegister}
+use Rattle.instruction_set.specs.declared.instruction.LoadStoreMultiple.TheVariants.{LoadMultiple, StoreMultiple}
+use Rattle.instruction_set.specs.declared.operands.ListOrder.TheVariants.{IncrementAfter}
+use Rattle.instruction_set.specs.declared.size.Size.{Size}
+use Rattle.instruction_set.specs.declared.size.Size.TheVariants.{Byte, Halfword, Word}
+use Rattle.instruction_set.specs.declared.unpredictable.UnpredictableCase.TheVariants.{FewRegisters, StoredBase}
+use Rattle.instruction_set.specs.Patterns.{unspaced}
+use Rattle.instruction_set.specs.RowOperands.{at_offset}
+use Rattle.instruction_set.specs.Rows.{Row, short, unless}
+use Rattle.instruction_set.specs.Words.{is_bit}
+
+-- LDR at the PC and an offset, which counts words
+unfoldable pub load_literal_word_row : ℕ → ℕ → Decoded
+load_literal_word_row t words =
+    short (LoadStore (LoadLiteral (record {
+      form = record { size = Word; signed = false };
+      target = t;
+      offset = words * 4;
+    })))
+
+-- a store at the sum of two registers
+unfoldable pub store_register_row : Size → ℕ → ℕ → ℕ → Decoded
+store_register_row size t n m =
+    short (LoadStore (StoreRegister
+    (record { size = size; target = t; address = record { base = n; index = m; shift = 0 } })))
+
+-- a load at the sum of two registers
+unfoldable pub load_register_row : Size → Bool → ℕ → ℕ → ℕ → Decoded
+load_register_row size signed t n m =
+    short (LoadStore (LoadRegister (record {
+      form = record { size = size; signed = signed };
+      target = t;
+      address = record { base = n; index = m; shift = 0 };
+    })))
+
+-- a store at a register and an offset
+unfoldable pub store_number_row : Size → ℕ → ℕ → ℕ → Decoded
+store_number_row size t n offset =
+    short (LoadStore (StoreImmediate
+    (record { size = size; target = t; address = at_offset n offset; unprivileged = false })))
+
+-- a load at a register and an offset
+unfoldable pub load_number_row : Size → ℕ → ℕ → ℕ → Decoded
+load_number_row size t n offset =
+    short (LoadStore (LoadImmediate (record {
+      form = record { size = size; signed = false };
+      target = t;
+      address = at_offset n offset;
+      unprivileged = false;
+    })))
+
+-- whether a register is in a list, and not its lowest
+abbrev pub is_above_lowest : ℕ → ℕ → Bool
+is_above_lowest n list = is_bit list n && not (list % 2 ^ n == 0)
+
+-- STM, which writes back always
+unfoldable pub store_list_row : ℕ → ℕ → Decoded
+store_list_row n list =
+    unless (list == 0) place.Anywhere FewRegisters
+    (unless (is_above_lowest n list) place.Anywhere StoredBase
+    (short (LoadStoreMultiple (StoreMultiple
+    (record { base = n; list = list; order = IncrementAfter; write_back = true })))))
+
+-- LDM, which writes back where the base isn't in the list
+unfoldable pub load_list_row : ℕ → ℕ → Decoded
+load_list_row n list =
+    unless (list == 0) place.Anywhere FewRegisters
+    (short (LoadStoreMultiple (LoadMultiple
+    (record { base = n; list = list; order = IncrementAfter; write_back = not (is_bit list n) }))))
+
+-- ---- the rows: at the PC or at the sum of two registers, at a register and an offset, of several registers
+
+-- LDR (literal), encoding T1
+abbrev pub ldr_literal_t1 : Row
+ldr_literal_t1 = record {
+  places = unspaced (codes "01001 ttt iiiiiiii");
+  except = [];
+  gives = λ f. load_literal_word_row f.t f.i;
+}
+
+-- STR (register), encoding T1
+abbrev pub str_register_t1 : Row
+str_register_t1 = record {
+  places = unspaced (codes "0101 000 mmm nnn ttt");
+  except = [];
+  gives = λ f. store_register_row Word f.t f.n f.m;
+}
+
+-- STRH (register), encoding T1
+abbrev pub strh_register_t1 : Row
+strh_register_t1 = record {
+  places = unspaced (codes "0101 001 mmm nnn ttt");
+  except = [];
+  gives = λ f. store_register_row Halfword f.t f.n f.m;
+}
+
+-- STRB (register), encoding T1
+abbrev pub strb_register_t1 : Row
+strb_register_t1 = record {
+  places = unspaced (codes "0101 010 mmm nnn ttt");
+  except = [];
+  gives = λ f. store_register_row Byte f.t f.n f.m;
+}
+
+-- LDRSB (register), encoding T1
+abbrev pub ldrsb_register_t1 : Row
+ldrsb_register_t1 = record {
+  places = unspaced (codes "0101 011 mmm nnn ttt");
+  except = [];
+  gives = λ f. load_register_row Byte true f.t f.n f.m;
+}
+
+-- LDR (register), encoding T1
+abbrev pub ldr_register_t1 : Row
+ldr_register_t1 = record {
+  places = unspaced (codes "0101 100 mmm nnn ttt");
+  except = [];
+  gives = λ f. load_register_row Word false f.t f.n f.m;
+}
+
+-- LDRH (register), encoding T1
+abbrev pub ldrh_register_t1 : Row
+ldrh_register_t1 = record {
+  places = unspaced (codes "0101 101 mmm nnn ttt");
+  except = [];
+  gives = λ f. load_register_row Halfword false f.t f.n f.m;
+}
+
+-- LDRB (register), encoding T1
+abbrev pub ldrb_register_t1 : Row
+ldrb_register_t1 = record {
+  places = unspaced (codes "0101 110 mmm nnn ttt");
+  except = [];
+  gives = λ f. load_register_row Byte false f.t f.n f.m;
+}
+
+-- LDRSH (register), encoding T1
+abbrev pub ldrsh_register_t1 : Row
+ldrsh_register_t1 = record {
+  places = unspaced (codes "0101 111 mmm nnn ttt");
+  except = [];
+  gives = λ f. load_register_row Halfword true f.t f.n f.m;
+}
+
+abbrev pub literal_and_register_rows : List Row
+literal_and_register_rows =
+    ldr_literal_t1 ∷ str_register_t1 ∷ strh_register_t1 ∷ strb_register_t1 ∷ ldrsb_register_t1 ∷ ldr_register_t1 ∷
+    ldrh_register_t1 ∷ ldrb_register_t1 ∷ ldrsh_register_t1 ∷ []
+
+-- STR (immediate), encoding T1
+abbrev pub str_immediate_t1 : Row
+str_immediate_t1 = record {
+  places = unspaced (codes "0110 0 iiiii nnn ttt");
+  except = [];
+  gives = λ f. store_number_row Word f.t f.n (f.i * 4);
+}
+
+-- LDR (immediate), encoding T1
+abbrev pub ldr_immediate_t1 : Row
+ldr_immediate_t1 = record {
+  places = unspaced (codes "0110 1 iiiii nnn ttt");
+  except = [];
+  gives = λ f. load_number_row Word f.t f.n (f.i * 4);
+}
+
+-- STRB (immediate), encoding T1
+abbrev pub strb_immediate_t1 : Row
+strb_immediate_t1 = record {
+  places = unspaced (codes "0111 0 iiiii nnn ttt");
+  except = [];
+  gives = λ f. store_number_row Byte f.t f.n f.i;
+}
+
+-- LDRB (immediate), encoding T1
+abbrev pub ldrb_immediate_t1 : Row
+ldrb_immediate_t1 = record {
+  places = unspaced (codes "0111 1 iiiii nnn ttt");
+  except = [];
+  gives = λ f. load_number_row Byte f.t f.n f.i;
+}
+
+-- STRH (immediate), encoding T1
+abbrev pub strh_immediate_t1 : Row
+strh_immediate_t1 = record {
+  places = unspaced (codes "1000 0 iiiii nnn ttt");
+  except = [];
+  gives = λ f. store_number_row Halfword f.t f.n (f.i * 2);
+}
+
+-- LDRH (immediate), encoding T1
+abbrev pub ldrh_immediate_t1 : Row
+ldrh_immediate_t1 = record {
+  places = unspaced (codes "1000 1 iiiii nnn ttt");
+  except = [];
+  gives = λ f. load_number_row Halfword f.t f.n (f.i * 2);
+}
+
+-- STR (immediate), encoding T2: at SP
+abbrev pub str_immediate_t2 : Row
+str_immediate_t2 = record {
+  places = unspaced (codes "1001 0 ttt iiiiiiii");
+  except = [];
+  gives = λ f. store_number_row Word f.t 13 (f.i * 4);
+}
+
+-- LDR (immediate), encoding T2: at SP
+abbrev pub ldr_immediate_t2 : Row
+ldr_immediate_t2 = record {
+  places = unspaced (codes "1001 1 ttt iiiiiiii");
+  except = [];
+  gives = λ f. load_number_row Word f.t 13 (f.i * 4);
+}
+
+-- STM, encoding T1
+abbrev pub stm_t1 : Row
+stm_t1 = record {
+  places = unspaced (codes "11000 nnn llllllll");
+  except = [];
+  gives = λ f. store_list_row f.n f.l;
+}
+
+-- LDM, encoding T1
+abbrev pub ldm_t1 : Row
+ldm_t1 = record {
+  places = unspaced (codes "11001 nnn llllllll");
+  except = [];
+  gives = λ f. load_list_row f.n f.l;
+}
+
+abbrev pub immediate_and_list_rows : List Row
+immediate_and_list_rows =
+    str_immediate_t1 ∷ ldr_immediate_t1 ∷ strb_immediate_t1 ∷ ldrb_immediate_t1 ∷ strh_immediate_t1 ∷
+    ldrh_immediate_t1 ∷ str_immediate_t2 ∷ ldr_immediate_t2 ∷ stm_t1 ∷ ldm_t1 ∷ []

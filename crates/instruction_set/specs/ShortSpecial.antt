@@ -1,0 +1,104 @@
+-- The rows of 16 bits in "Special data instructions and branch and exchange" (ARM DDI 0403, "16-bit Thumb instruction
+-- encoding").
+use Rattle.std.specs.Prelude.{ℕ, nat_lt, true, false, ◌&&◌, ◌||◌, ◌==◌, List, [], ◌∷◌, codes}
+use Rattle.instruction_set.specs.declared.instruction.BlockPlace.TheVariants as place
+use Rattle.instruction_set.specs.declared.instruction.Branch.TheVariants as branch
+use Rattle.instruction_set.specs.declared.instruction.DataProcessing.TheVariants.{DataRegister, MoveRegister}
+use Rattle.instruction_set.specs.declared.instruction.DataProcessing.TheVariants.{CompareRegister}
+use Rattle.instruction_set.specs.declared.instruction.Decoded.{Decoded}
+use Rattle.instruction_set.specs.declared.instruction.Instruction.TheVariants.{Branch, DataProcessing}
+use Rattle.instruction_set.specs.declared.instruction.InstructionLength.TheVariants.{Short}
+use Rattle.instruction_set.specs.declared.operands.Comparison.TheVariants.{Compare}
+use Rattle.instruction_set.specs.declared.operands.DataOperation.TheVariants.{Add}
+use Rattle.instruction_set.specs.declared.operands.FlagSetting.TheVariants as flags
+use Rattle.instruction_set.specs.declared.operands.MoveOperation.TheVariants.{Move}
+use Rattle.instruction_set.specs.declared.unpredictable.UnpredictableCase.TheVariants.{Registers}
+use Rattle.instruction_set.specs.Patterns.{unspaced}
+use Rattle.instruction_set.specs.RowOperands.{unshifted}
+use Rattle.instruction_set.specs.Rows.{Row, short, placed, last_only_if, unless}
+
+-- ADD of any registers, without flags
+unfoldable pub add_high_row : ℕ → ℕ → Decoded
+add_high_row d m =
+    unless (d == 15 && m == 15) (last_only_if (d == 15)) Registers
+    (placed Short (last_only_if (d == 15))
+    (DataProcessing (DataRegister (record {
+      operation = Add;
+      flags = flags.Never;
+      destination = d;
+      first = d;
+      second = unshifted m;
+    }))))
+
+-- CMP of any registers but PC, of which at least one is above R7
+unfoldable pub compare_high_row : ℕ → ℕ → Decoded
+compare_high_row n m =
+    unless (n == 15 || m == 15 || nat_lt n 8 && nat_lt m 8) place.Anywhere Registers
+    (short (DataProcessing (CompareRegister (record { operation = Compare; first = n; second = unshifted m }))))
+
+-- MOV of any registers, without flags
+unfoldable pub move_high_row : ℕ → ℕ → Decoded
+move_high_row d m =
+    placed Short (last_only_if (d == 15))
+    (DataProcessing (MoveRegister (record {
+      operation = Move;
+      flags = flags.Never;
+      destination = d;
+      source = unshifted m;
+    })))
+
+-- BX
+unfoldable pub branch_exchange_row : ℕ → Decoded
+branch_exchange_row m = placed Short place.LastOnly (Branch (branch.Exchange (record { links = false; target = m })))
+
+-- BLX
+unfoldable pub branch_link_exchange_row : ℕ → Decoded
+branch_link_exchange_row m =
+    unless (m == 15) place.LastOnly Registers
+    (placed Short place.LastOnly (Branch (branch.Exchange (record { links = true; target = m }))))
+
+-- ---- the rows
+
+-- ADD (register), encoding T2
+abbrev pub add_register_t2 : Row
+add_register_t2 = record {
+  places = unspaced (codes "010001 00 d mmmm ddd");
+  except = [];
+  gives = λ f. add_high_row f.d f.m;
+}
+
+-- CMP (register), encoding T2
+abbrev pub cmp_register_t2 : Row
+cmp_register_t2 = record {
+  places = unspaced (codes "010001 01 n mmmm nnn");
+  except = [];
+  gives = λ f. compare_high_row f.n f.m;
+}
+
+-- MOV (register), encoding T1
+abbrev pub mov_register_t1 : Row
+mov_register_t1 = record {
+  places = unspaced (codes "010001 10 d mmmm ddd");
+  except = [];
+  gives = λ f. move_high_row f.d f.m;
+}
+
+-- BX, encoding T1
+abbrev pub bx_t1 : Row
+bx_t1 = record {
+  places = unspaced (codes "010001 11 0 mmmm zzz");
+  except = [];
+  gives = λ f. branch_exchange_row f.m;
+}
+
+-- BLX (register), encoding T1
+abbrev pub blx_register_t1 : Row
+blx_register_t1 = record {
+  places = unspaced (codes "010001 11 1 mmmm zzz");
+  except = [];
+  gives = λ f. branch_link_exchange_row f.m;
+}
+
+abbrev pub special_rows : List Row
+special_rows =
+    add_register_t2 ∷ cmp_register_t2 ∷ mov_register_t1 ∷ bx_t1 ∷ blx_register_t1 ∷ []
