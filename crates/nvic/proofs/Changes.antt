@@ -13,7 +13,7 @@ use Rattle.reference.specs.declared.exception.TheConstants.{NMI, MEM_MANAGE, BUS
 use Rattle.reference.specs.declared.exception.TheConstants.{SYS_TICK, FIRST_LINE, EXCEPTIONS}
 use Rattle.reference.specs.declared.stop.Stop.{Stop}
 use Rattle.reference.specs.declared.system.ControlRegister.{ControlRegister}
-use Rattle.reference.specs.declared.system.ControlRegister.TheVariants.{Cpuid, Icsr, Aircr}
+use Rattle.reference.specs.declared.system.ControlRegister.TheVariants.{Ictr, Cpuid, Icsr, Aircr, Shcsr, Stir}
 use Rattle.reference.specs.declared.system.InterruptRegister.{InterruptRegister}
 use Rattle.reference.specs.declared.system.InterruptRegister.TheVariants.{Iser, Icer, Ispr, Icpr, Iabr}
 use Rattle.reference.specs.Control.{set_or_cleared, write_icsr, write_aircr, write_control}
@@ -112,13 +112,6 @@ module _ {P : Nvic → Type 0} (k : IsKept P) where
       (λ e. cond_both (is_bit value 0 || is_bit value 1) _ _ (IfDone P) (λ f. tt)
       (λ f. cond_both (is_bit value 2) _ _ (IfDone P) (λ g. tt) (λ g. k.group n (value / 2 ^ 8 % 8) p)))
 
-  pub control_kept : (n : Nvic) (it : ControlRegister) (value : ℕ) → P n
-      → IfDone P (write_control n it value)
-  unfolding write_control
-  control_kept n Cpuid value p = p
-  control_kept n Icsr value p = icsr_kept n value p
-  control_kept n Aircr value p = aircr_kept n value p
-
   handlers_pending_kept : (n : Nvic) (value : ℕ) → P n
       → P (with_handlers_pending n value)
   unfolding with_handlers_pending
@@ -137,6 +130,16 @@ module _ {P : Nvic → Type 0} (k : IsKept P) where
       cond_both (bit_and value 0xC8B == handlers_active n) _ _ (IfDone P)
       (λ e. handlers_enabled_kept (with_handlers_pending n value) value (handlers_pending_kept n value p))
       (λ e. tt)
+
+  pub control_kept : (n : Nvic) (it : ControlRegister) (value : ℕ) → P n
+      → IfDone P (write_control n it value)
+  unfolding write_control
+  control_kept n Ictr value p = p
+  control_kept n Cpuid value p = p
+  control_kept n Icsr value p = icsr_kept n value p
+  control_kept n Aircr value p = aircr_kept n value p
+  control_kept n Shcsr value p = shcsr_kept n value p
+  control_kept n Stir value p = triggered_kept n value p
 
   -- ---- the masks
 

@@ -25,8 +25,8 @@ use Rattle.reference.specs.System.{first_byte, in_place, after_read, register_wr
 use Rattle.reference.specs.System.{register_access, system_access, register_at, after_tick, is_held, deactivated}
 use Rattle.reference.specs.SysTickRegisters.{after_systick_read, write_systick}
 use Rattle.reference.specs.Time.{Time, tick_pends, time_after_tick}
-use Rattle.nvic.proofs.Changes.{IsKept, IfDone, interrupts_kept, priorities_kept, triggered_kept, control_kept}
-use Rattle.nvic.proofs.Changes.{shcsr_kept, mask_kept, write_mask_kept, state_kept, activated_kept, pended_kept}
+use Rattle.nvic.proofs.Changes.{IsKept, IfDone, interrupts_kept, priorities_kept, control_kept, mask_kept}
+use Rattle.nvic.proofs.Changes.{write_mask_kept, state_kept, activated_kept, pended_kept}
 
 -- what holds of the exceptions, of time and of the MPU's registers
 pub record Parts : Type 1 where
@@ -74,7 +74,6 @@ module _ {P : Parts} (k : PartsAreKept P) where
   written_kept : (s : System) (q : Request) (it : SystemRegister) → HasParts P s
       → IfDone (HasParts P) (register_written s q it)
   unfolding register_written
-  written_kept s q register.Ictr h = h
   written_kept s q (register.SysTick it) h =
       record { nvic = h.nvic; time = k.written s.time it q.value h.time; mpu = h.mpu }
   written_kept s q (register.Interrupts it word) h =
@@ -85,26 +84,21 @@ module _ {P : Parts} (k : PartsAreKept P) where
       (bytes_in q.access.size) h.nvic)
       h
   written_kept s q (register.Control it) h = nvic_done s _ h (control_kept k.nvic s.nvic it q.value h.nvic)
-  written_kept s q register.Shcsr h = nvic_done s _ h (shcsr_kept k.nvic s.nvic q.value h.nvic)
   written_kept s q (register.Status it) h = status_done s (write_status s.status it (in_place q)) h
   written_kept s q (register.Mpu it) h =
       mpu_done s (write_mpu s.mpu it q.value) h (k.mpu s.mpu it q.value h.mpu)
-  written_kept s q register.Stir h = with_nvic_kept s _ (triggered_kept k.nvic s.nvic q.value h.nvic) h
   written_kept s q register.Unlisted h = h
 
   -- ---- an access
 
   read_kept : (s : System) (it : SystemRegister) → HasParts P s → HasParts P (after_read s it)
   unfolding after_read
-  read_kept s register.Ictr h = h
   read_kept s (register.SysTick it) h = record { nvic = h.nvic; time = k.read s.time it h.time; mpu = h.mpu }
   read_kept s (register.Interrupts it word) h = h
   read_kept s (register.Priorities first) h = h
   read_kept s (register.Control it) h = h
-  read_kept s register.Shcsr h = h
   read_kept s (register.Status it) h = h
   read_kept s (register.Mpu it) h = h
-  read_kept s register.Stir h = h
   read_kept s register.Unlisted h = h
 
   replied_kept : (s : System) (r : Result System Stop) → HasParts P s → IfDone (HasParts P) r

@@ -1,4 +1,5 @@
--- The registers of identification and of interrupt control (ARM DDI 0403, "CPUID Base Register", "Interrupt Control and
+-- The registers of identification and of control: ICTR, SHCSR and STIR, whose parts are defined in `Interrupts` and
+-- `Handlers`, and CPUID, ICSR and AIRCR (ARM DDI 0403, "CPUID Base Register", "Interrupt Control and
 -- State Register", "Application Interrupt and Reset Control Register").
 use Rattle.std.specs.Prelude.{ℕ, ◌+◌, ◌*◌, ◌/◌, ◌%◌, ◌^◌, Bool, true, false, not, ◌&&◌, ◌||◌, ◌==◌, if◌then◌else◌}
 use Rattle.std.specs.Prelude.{Option, Some, None, Result, Ok, Err, unwrap_or}
@@ -10,16 +11,21 @@ use Rattle.reference.specs.declared.stop.LeftOut.TheVariants.{ResetControl}
 use Rattle.reference.specs.declared.stop.Stop.{Stop}
 use Rattle.reference.specs.declared.stop.Stop.TheVariants.{Unpredictable, OutOfProfile, ResetRequested}
 use Rattle.reference.specs.declared.system.ControlRegister.{ControlRegister}
-use Rattle.reference.specs.declared.system.ControlRegister.TheVariants.{Cpuid, Icsr, Aircr}
+use Rattle.reference.specs.declared.system.ControlRegister.TheVariants.{Ictr, Cpuid, Icsr, Aircr, Shcsr, Stir}
+use Rattle.reference.specs.Handlers.{read_shcsr, write_shcsr}
+use Rattle.reference.specs.Interrupts.{ictr, stir_address, triggered}
 use Rattle.reference.specs.Priorities.{Nvic, is_in, best, is_interrupt_pending, is_other_active, with_pending}
 use Rattle.reference.specs.Priorities.{with_group}
 
 -- the register at an address, if there is one
 unfoldable pub control_at : ℕ → Option ControlRegister
 control_at word =
-    if word == 0xE000_ED00 then Some Cpuid
+    if word == 0xE000_E004 then Some Ictr
+    else if word == 0xE000_ED00 then Some Cpuid
     else if word == 0xE000_ED04 then Some Icsr
     else if word == 0xE000_ED0C then Some Aircr
+    else if word == 0xE000_ED24 then Some Shcsr
+    else if word == stir_address then Some Stir
     else None
 
 -- ICSR.RETTOBASE: a handler runs, of exception x, and no other exception is active; it is UNKNOWN in Thread mode, and 0
@@ -69,11 +75,17 @@ write_aircr n value =
 
 -- CPUID names no implementer, and the architecture as ARMv7-M (profile); AIRCR reads 0xFA05 in VECTKEYSTAT
 unfoldable pub read_control : ℕ → Nvic → ControlRegister → ℕ
+read_control x n Ictr = ictr n
 read_control x n Cpuid = 0x000F_0000
 read_control x n Icsr = icsr n x
 read_control x n Aircr = 0xFA05_0000 + n.group * 2 ^ 8
+read_control x n Shcsr = read_shcsr n
+read_control x n Stir = 0
 
 unfoldable pub write_control : Nvic → ControlRegister → ℕ → Result Nvic Stop
+write_control n Ictr value = Ok n
 write_control n Cpuid value = Ok n
 write_control n Icsr value = write_icsr n value
 write_control n Aircr value = write_aircr n value
+write_control n Shcsr value = write_shcsr n value
+write_control n Stir value = Ok (triggered n value)

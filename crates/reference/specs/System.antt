@@ -17,10 +17,9 @@ use Rattle.reference.specs.declared.stop.Stop.TheVariants.{OutOfProfile}
 use Rattle.reference.specs.declared.system.SystemRegister.{SystemRegister}
 use Rattle.reference.specs.declared.system.SystemRegister.TheVariants as register
 use Rattle.reference.specs.Control.{control_at, read_control, write_control}
-use Rattle.reference.specs.Handlers.{handler_priority_at, read_shcsr, write_shcsr}
-use Rattle.reference.specs.Interrupts.{ictr, interrupts_at, word_number, read_interrupts, write_interrupts}
+use Rattle.reference.specs.Handlers.{handler_priority_at}
+use Rattle.reference.specs.Interrupts.{interrupts_at, word_number, read_interrupts, write_interrupts}
 use Rattle.reference.specs.Interrupts.{interrupt_priority_at, read_priorities, write_priorities, stir_address}
-use Rattle.reference.specs.Interrupts.{triggered}
 use Rattle.reference.specs.Kinds.{is_load, is_store}
 use Rattle.reference.specs.Priorities.{Nvic, is_interrupt, with_pending, with_active, reset_nvic}
 use Rattle.reference.specs.Regions.{Mpu, mpu_register_at, read as read_mpu, write as write_mpu, stop_of, fresh}
@@ -51,14 +50,6 @@ abbrev pub in_block : {A : Type 0} → (A → SystemRegister) → Option A → S
 in_block named (Some which) otherwise = named which
 in_block named None otherwise = otherwise
 
--- the registers that belong to no block: ICTR, SHCSR and STIR
-unfoldable pub single_at : ℕ → SystemRegister
-single_at word =
-    if word == 0xE000_E004 then register.Ictr
-    else if word == 0xE000_ED24 then register.Shcsr
-    else if word == stir_address then register.Stir
-    else register.Unlisted
-
 -- the register at a word of the Private Peripheral Bus; `register.Priorities` is the four bytes of a word of IPR or of
 -- SHPR, with the number of the exception that the first byte is for. A word without a register (the ID registers too)
 -- is `register.Unlisted` (profile)
@@ -71,20 +62,17 @@ register_at word =
     (in_block register.Status (status_at word)
     (in_block register.Priorities (handler_priority_at word)
     (in_block register.Mpu (mpu_register_at word)
-    (single_at word)))))))
+    register.Unlisted))))))
 
 -- whether a register takes accesses of a size: each takes words, and IPR, SHPR, CFSR and a word without a register take
 -- bytes and halfwords too
 unfoldable pub has_width : SystemRegister → Size → Bool
-has_width register.Ictr size = is_word size
 has_width (register.SysTick which) size = is_word size
 has_width (register.Interrupts which k) size = is_word size
 has_width (register.Priorities x) size = true
 has_width (register.Control which) size = is_word size
-has_width register.Shcsr size = is_word size
 has_width (register.Status which) size = is_word size || has_parts which
 has_width (register.Mpu which) size = is_word size
-has_width register.Stir size = is_word size
 has_width register.Unlisted size = true
 
 -- ---- the bytes of a word that an access takes
@@ -147,43 +135,34 @@ mpu_written s (Err why) = Err (stop_of why)
 
 -- what a register reads as while IPSR is x; a word without a register (the ID registers too) reads 0 (profile)
 unfoldable pub word_at : ℕ → System → SystemRegister → ℕ
-word_at x s register.Ictr = ictr s.nvic
 word_at x s (register.SysTick which) = read_systick s.time.systick which
 word_at x s (register.Interrupts which k) = read_interrupts s.nvic which k
 word_at x s (register.Priorities first) = read_priorities s.nvic first
 word_at x s (register.Control which) = read_control x s.nvic which
-word_at x s register.Shcsr = read_shcsr s.nvic
 word_at x s (register.Status which) = read_status s.status which
 word_at x s (register.Mpu which) = read_mpu s.mpu which
-word_at x s register.Stir = 0
 word_at x s register.Unlisted = 0
 
 -- the state after a register was read
 unfoldable pub after_read : System → SystemRegister → System
-after_read s register.Ictr = s
 after_read s (register.SysTick which) = with_systick s (after_systick_read s.time.systick which)
 after_read s (register.Interrupts which k) = s
 after_read s (register.Priorities first) = s
 after_read s (register.Control which) = s
-after_read s register.Shcsr = s
 after_read s (register.Status which) = s
 after_read s (register.Mpu which) = s
-after_read s register.Stir = s
 after_read s register.Unlisted = s
 
 -- the state after a write to a register, or the stop with which the write stops the machine
 unfoldable pub register_written : System → Request → SystemRegister → Result System Stop
-register_written s q register.Ictr = Ok s
 register_written s q (register.SysTick which) = Ok (with_systick s (write_systick s.time.systick which q.value))
 register_written s q (register.Interrupts which k) = Ok (with_nvic s (write_interrupts s.nvic which k q.value))
 register_written s q (register.Priorities first) =
     Ok (with_nvic s (write_priorities s.nvic (first + first_byte q.access.size q.access.address) q.value
     (bytes_in q.access.size)))
 register_written s q (register.Control which) = nvic_written s (write_control s.nvic which q.value)
-register_written s q register.Shcsr = nvic_written s (write_shcsr s.nvic q.value)
 register_written s q (register.Status which) = status_written s (write_status s.status which (in_place q))
 register_written s q (register.Mpu which) = mpu_written s (write_mpu s.mpu which q.value)
-register_written s q register.Stir = Ok (with_nvic s (triggered s.nvic q.value))
 register_written s q register.Unlisted = Ok s
 
 -- unprivileged code may store a word to STIR where CCR.USERSETMPEND is 1, and nothing else

@@ -5,20 +5,14 @@ use crate::mpu::MpuRegister;
 /// The register at a word of the Private Peripheral Bus, or `Unlisted`.
 #[derive(Clone, Copy)]
 pub enum SystemRegister {
-    /// ICTR: how many words of ISER there are, less 1.
-    Ictr,
     SysTick(SysTickRegister),
     /// The word of this number, from 0 to 7, of ISER, ICER, ISPR, ICPR or IABR.
     Interrupts(InterruptRegister, u8),
     /// A word of IPR or SHPR: the priority bytes of four exceptions, of which this one is the first.
     Priorities(u8),
     Control(ControlRegister),
-    /// SHCSR: which faults are enabled, and which system handlers are pending and active.
-    Shcsr,
     Status(StatusRegister),
     Mpu(MpuRegister),
-    /// STIR: a write makes an interrupt pending.
-    Stir,
     /// A word without a register: it reads 0 and ignores writes.
     Unlisted,
 }
@@ -49,15 +43,21 @@ pub enum InterruptRegister {
     Iabr,
 }
 
-/// A register of control and identification.
+/// A register of identification and of control, with a state of its own only in the exceptions.
 #[derive(Clone, Copy)]
 pub enum ControlRegister {
+    /// ICTR: how many words of ISER there are, less 1.
+    Ictr,
     /// CPUID.
     Cpuid,
     /// ICSR: NMI, PendSV and SysTick are made pending by it, and it reads what is active and pending.
     Icsr,
     /// AIRCR: PRIGROUP and requests for a reset.
     Aircr,
+    /// SHCSR: which faults are enabled, and which system handlers are pending and active.
+    Shcsr,
+    /// STIR: a write makes an interrupt pending.
+    Stir,
 }
 
 /// A register of configuration, or of what a fault leaves.

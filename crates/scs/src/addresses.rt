@@ -2,7 +2,7 @@
 
 ghost use Rattle.std.specs.Prelude.{◌≡◌, ◌<◌, ◌%◌, ◌^◌};
 ghost use Rattle.instruction_set.specs.Sizes.{bytes_in};
-ghost use Rattle.reference.specs.System.{single_at as single_at_of, register_at as register_at_of, has_width as has_width_of, first_byte as first_byte_of, part_of as part_of_word, in_place as in_place_of};
+ghost use Rattle.reference.specs.System.{register_at as register_at_of, has_width as has_width_of, first_byte as first_byte_of, part_of as part_of_word, in_place as in_place_of};
 
 use crate::control::control_at;
 use crate::handlers::handler_priority_at;
@@ -40,20 +40,7 @@ pub fn register_at(word: u32) -> SystemRegister
     if let Some(register) = mpu_register_at(word) {
         return SystemRegister::Mpu(register);
     }
-    single_at(word)
-}
-
-/// Returns ICTR, SHCSR or STIR, or `Unlisted` at another address.
-#[tactic(auto, unfolding(reference::specs::System::single_at))]
-fn single_at(word: u32) -> SystemRegister
-    ensures { result ≡ single_at_of word }
-{
-    match word {
-        0xE000_E004 => SystemRegister::Ictr,
-        0xE000_ED24 => SystemRegister::Shcsr,
-        0xE000_EF00 => SystemRegister::Stir,
-        _ => SystemRegister::Unlisted,
-    }
+    SystemRegister::Unlisted
 }
 
 /// Returns whether a register takes accesses of a size.
@@ -64,13 +51,10 @@ pub fn has_width(register: SystemRegister, size: Size) -> bool
     match register {
         SystemRegister::Priorities(_) | SystemRegister::Unlisted => true,
         SystemRegister::Status(register) => size.is_word() || has_parts(register),
-        SystemRegister::Ictr
-        | SystemRegister::SysTick(_)
+        SystemRegister::SysTick(_)
         | SystemRegister::Interrupts(..)
         | SystemRegister::Control(_)
-        | SystemRegister::Shcsr
-        | SystemRegister::Mpu(_)
-        | SystemRegister::Stir => size.is_word(),
+        | SystemRegister::Mpu(_) => size.is_word(),
     }
 }
 

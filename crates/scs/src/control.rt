@@ -1,10 +1,12 @@
-//! CPUID, ICSR and AIRCR.
+//! ICTR, CPUID, ICSR, AIRCR, SHCSR and STIR.
 
 ghost use Rattle.std.specs.Prelude.{◌≡◌};
 ghost use Rattle.reference.specs.Control.{control_at as control_at_of, rettobase as rettobase_of, icsr as icsr_of, set_or_cleared, write_icsr as write_icsr_of, write_aircr as write_aircr_of, read_control as read_control_of, write_control as write_control_of};
 ghost use Rattle.scs.specs.Writes.{after_write, answered};
 
 use crate::bits::{is_bit, weighed};
+use crate::handlers::{read_shcsr, write_shcsr};
+use crate::interrupts::{ictr, trigger};
 use instruction_set::unpredictable::UnpredictableCase;
 use nvic::Levels;
 use reference::exception::{NMI, PEND_SV, SYS_TICK};
@@ -26,9 +28,12 @@ pub fn control_at(word: u32) -> Option<ControlRegister>
     ensures { result ≡ control_at_of word }
 {
     match word {
+        0xE000_E004 => Some(ControlRegister::Ictr),
         0xE000_ED00 => Some(ControlRegister::Cpuid),
         0xE000_ED04 => Some(ControlRegister::Icsr),
         0xE000_ED0C => Some(ControlRegister::Aircr),
+        0xE000_ED24 => Some(ControlRegister::Shcsr),
+        0xE000_EF00 => Some(ControlRegister::Stir),
         _ => None,
     }
 }
@@ -39,9 +44,12 @@ pub fn read_control<L: Levels>(levels: &L, exception: u16, register: ControlRegi
     ensures { result ≡ read_control_of exception (L.content levels.now) register }
 {
     match register {
+        ControlRegister::Ictr => ictr(levels),
         ControlRegister::Cpuid => CPUID,
         ControlRegister::Icsr => icsr(levels, exception),
         ControlRegister::Aircr => VECTKEYSTAT + u32::from(levels.group()) * 256,
+        ControlRegister::Shcsr => read_shcsr(levels),
+        ControlRegister::Stir => 0,
     }
 }
 
@@ -56,9 +64,14 @@ pub fn write_control<L: Levels>(
     ensures answer { result ≡ answered (write_control_of (L.content levels.old) register value) }
 {
     match register {
-        ControlRegister::Cpuid => Ok(()),
+        ControlRegister::Ictr | ControlRegister::Cpuid => Ok(()),
         ControlRegister::Icsr => write_icsr(levels, value),
         ControlRegister::Aircr => write_aircr(levels, value),
+        ControlRegister::Shcsr => write_shcsr(levels, value),
+        ControlRegister::Stir => {
+            trigger(levels, value);
+            Ok(())
+        }
     }
 }
 

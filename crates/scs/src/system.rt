@@ -18,10 +18,7 @@ ghost use Rattle.scs.specs.Writes.{after_write, answered};
 
 use crate::addresses::{first_byte, has_width, in_place, part_of, register_at};
 use crate::control::{read_control, write_control};
-use crate::handlers::{read_shcsr, write_shcsr};
-use crate::interrupts::{
-    ictr, read_interrupts, read_priorities, trigger, write_interrupts, write_priorities,
-};
+use crate::interrupts::{read_interrupts, read_priorities, write_interrupts, write_priorities};
 use crate::special;
 use crate::status::Status;
 use crate::systick::{read_systick, write_systick};
@@ -371,17 +368,15 @@ impl<D: Decider, L: Levels, U: DueTicks> System<D, L, U> {
         ensures system { self.new ≡ after_read self.old register }
     {
         match register {
-            SystemRegister::Ictr => ictr(&self.levels),
             SystemRegister::SysTick(register) => read_systick(&mut self.clock, register),
             SystemRegister::Interrupts(register, word) => {
                 read_interrupts(&self.levels, register, word)
             }
             SystemRegister::Priorities(first) => read_priorities(&self.levels, first),
             SystemRegister::Control(register) => read_control(&self.levels, exception, register),
-            SystemRegister::Shcsr => read_shcsr(&self.levels),
             SystemRegister::Status(register) => self.status.read(register),
             SystemRegister::Mpu(register) => self.mpu.read_reg(register),
-            SystemRegister::Stir | SystemRegister::Unlisted => 0,
+            SystemRegister::Unlisted => 0,
         }
     }
 
@@ -401,13 +396,11 @@ impl<D: Decider, L: Levels, U: DueTicks> System<D, L, U> {
             SystemRegister::Control(register) => {
                 return write_control(&mut self.levels, register, value);
             }
-            SystemRegister::Shcsr => return write_shcsr(&mut self.levels, value),
             SystemRegister::Status(register) => {
                 return self.status.write(register, in_place(request));
             }
             SystemRegister::Mpu(register) => return self.write_mpu(register, value),
-            SystemRegister::Stir => trigger(&mut self.levels, value),
-            SystemRegister::Ictr | SystemRegister::Unlisted => {}
+            SystemRegister::Unlisted => {}
         }
         Ok(())
     }

@@ -7,9 +7,10 @@ use Rattle.nvic.proofs.BelowZero.{below_zero}
 use Rattle.nvic.proofs.Changes.{pended_kept}
 use Rattle.reference.specs.declared.access.Request.{Request}
 use Rattle.reference.specs.declared.exception.TheConstants.{FIRST_LINE}
+use Rattle.reference.specs.declared.system.ControlRegister.TheVariants as control
 use Rattle.reference.specs.declared.system.SystemRegister.{SystemRegister}
 use Rattle.reference.specs.declared.system.SystemRegister.TheVariants as register
-use Rattle.reference.specs.Control.{control_at}
+use Rattle.reference.specs.Control.{control_at, write_control}
 use Rattle.reference.specs.Handlers.{handler_priority_at}
 use Rattle.reference.specs.Interrupts.{interrupts_at, interrupt_priority_at, stir_address, triggered}
 use Rattle.reference.specs.Kinds.{is_load, is_store}
@@ -17,9 +18,8 @@ use Rattle.reference.specs.Priorities.{Nvic, with_pending, is_below_zero}
 use Rattle.reference.specs.Regions.{Mpu}
 use Rattle.reference.specs.Status.{status_at, usersetmpend}
 use Rattle.reference.specs.SysTickRegisters.{systick_at}
-use Rattle.reference.specs.System.{System, SystemAnswer, single_at, register_at, has_access, has_width, after_read}
-use Rattle.reference.specs.System.{register_written, register_access, system_access}
-use Rattle.reference.specs.System.{with_pended, after_tick}
+use Rattle.reference.specs.System.{System, SystemAnswer, register_at, has_access, has_width, after_read}
+use Rattle.reference.specs.System.{register_written, register_access, system_access, with_pended, after_tick}
 use Rattle.reference.specs.Time.{tick_pends}
 
 -- the decision on an access depends on the registers m of the MPU, and on z: whether the execution priority is below 0
@@ -40,13 +40,13 @@ pended_alike n test =
 
 -- ---- the System Control Space
 
-stir_is : register_at (stir_address / 4 * 4) ≡ register.Stir
-unfolding register_at single_at systick_at interrupts_at interrupt_priority_at control_at status_at handler_priority_at
+stir_is : register_at (stir_address / 4 * 4) ≡ register.Control control.Stir
+unfolding register_at systick_at interrupts_at interrupt_priority_at control_at status_at handler_priority_at
 stir_is = refl
 
 -- unprivileged code has access to STIR alone
 only_stir : (s : System) (q : Request) → q.access.privileged ≡ false → has_access s q ≡ true →
-    register_at (q.access.address / 4 * 4) ≡ register.Stir
+    register_at (q.access.address / 4 * 4) ≡ register.Control control.Stir
 only_stir s q unprivileged access =
     let enabled = and_parts _ (usersetmpend s.status) (rw unprivileged at access) in
     let there = and_parts _ (q.access.address == stir_address) enabled.0 in
@@ -59,8 +59,8 @@ module _ (m : Mpu) (z : Bool) where
   tick_decides s d = record { mpu = d.mpu; below_zero = pended_alike s.nvic (tick_pends s.time) ∙ d.below_zero }
 
   stir_decides : (x : ℕ) (s : System) (q : Request) → Decides m z s →
-      Decides m z (register_access x s q register.Stir).system
-  unfolding register_access register_written has_width after_read triggered
+      Decides m z (register_access x s q (register.Control control.Stir)).system
+  unfolding register_access register_written write_control has_width after_read triggered
   stir_decides x s q d =
       cond_both (not (has_access s q)) _ _ (λ (a : SystemAnswer). Decides m z a.system) (λ e. d)
       (λ e. cond_both (not (is_word q.access.size)) _ _ (λ (a : SystemAnswer). Decides m z a.system) (λ f. d)
