@@ -21,7 +21,8 @@ A page is README.md, CONTRIBUTING.md, docs/*.md or crates/*/README.md. A name is
 In a table with a column "Definition", "Function" or "Test", a chapter or a crate ahead of a name says where the name
 has to be: "Step `running`", "exec `plan`", "test_runs `short_runs`". The links of all pages are checked too. Without a
 page, the manual page docs/marm.1 is formatted too, by `groff -ww` and `man --warnings` where they are installed: each
-warning is an error. So is a file in crates/*/data that differs from the one of that name in examples/.
+warning is an error. So is a file in crates/*/data that differs from the one of that name in examples/, or in the data of
+another crate.
 """
 
 import fnmatch
@@ -395,11 +396,11 @@ FORMATTERS = (["groff", "-ww", "-man", "-Tutf8", "-z", MANUAL_PAGE],
 
 
 def copies():
-    """Lists the files in crates/*/data that aren't what examples/ has under the same name."""
+    """Lists the files in crates/*/data that aren't what examples/, or else a crate before, has under the same name."""
     originals = {os.path.basename(path): path for path in sorted(glob.glob(f"{TOP}/examples/**/*", recursive=True))}
     for path in sorted(glob.glob(f"{TOP}/crates/*/data/*")):
-        original = originals.get(os.path.basename(path))
-        if original and open(path, "rb").read() != open(original, "rb").read():
+        original = originals.setdefault(os.path.basename(path), path)
+        if open(path, "rb").read() != open(original, "rb").read():
             yield f"{os.path.relpath(path, TOP)}: not what {os.path.relpath(original, TOP)} is"
 
 
