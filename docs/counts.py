@@ -126,8 +126,8 @@ AUDIT_PARTS = {
 AUDIT_ITEMS = {
     "crates/output/src/writer.rt": "Out",
     "crates/output/src/paged.rt": "Paged",
-    "crates/command/src/fault.rt": "Fault",
-    "crates/machine/src/whole.rt": "RunFault",
+    "crates/command/src/error.rt": "Error",
+    "crates/machine/src/whole.rt": "RunError",
     "crates/board/src/whole.rt": "Board",
 }
 

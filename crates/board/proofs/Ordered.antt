@@ -3,8 +3,8 @@ use Rattle.std.proofs.Common.{◌≡◌, ℕ, ◌<◌, ◌≤◌, Bool, true, fa
 use Rattle.std.proofs.Common.{if◌then◌else◌, nat_lt, codes, refl, subst, arith}
 use Rattle.std.proofs.lemmas.Bool.Decides.{nat_tests}
 use Rattle.toml.specs.Data.{Data, Items, no_items, item, Members, get_member, as_bool, as_table}
-use Rattle.reference.specs.declared.fault.BoardFault.{BoardFault}
-use Rattle.reference.specs.declared.fault.BoardFault.TheVariants.{OutOfRange, EventsOutOfOrder}
+use Rattle.reference.specs.declared.error.BoardError.{BoardError}
+use Rattle.reference.specs.declared.error.BoardError.TheVariants.{OutOfRange, EventsOutOfOrder}
 use Rattle.reference.specs.declared.script.ScriptedEvent.{ScriptedEvent}
 use Rattle.reference.specs.declared.script.Signal.{Signal}
 use Rattle.reference.specs.declared.script.Signal.TheVariants.{Rise, Fall, Pulse, Nmi}
@@ -14,14 +14,14 @@ use Rattle.board.specs.Texts.{◌>>=◌, change, event_in, in_front, line_keys, 
 use Rattle.board.specs.Texts.{number, of_kind, only, script_in, signal_in, timely_event, where_ok, word}
 
 -- both steps were taken
-both : {A B : Type 0} (read : Result A BoardFault) (next : A → Result B BoardFault) (given : B) →
+both : {A B : Type 0} (read : Result A BoardError) (next : A → Result B BoardError) (given : B) →
     (read >>= next) ≡ Ok given → (value : A) × ((read ≡ Ok value) × (next value ≡ Ok given))
 both (Ok value) next given taken = (value, (refl, taken))
-both (Err fault) next given taken = cc
+both (Err error) next given taken = cc
 
 -- a number that was taken is in its range
-in_range : (ok : ℕ → Bool) (read : Result ℕ BoardFault) (n : ℕ) → where_ok ok read ≡ Ok n → ok n ≡ true
-in_range ok (Err fault) n taken = cc
+in_range : (ok : ℕ → Bool) (read : Result ℕ BoardError) (n : ℕ) → where_ok ok read ≡ Ok n → ok n ≡ true
+in_range ok (Err error) n taken = cc
 in_range ok (Ok m) n taken =
     let only_if : (b : Bool) → (if b then Ok m else Err OutOfRange) ≡ Ok n → (b ≡ true) × (m ≡ n) =
     λ b h. elim b as (λ b. (if b then Ok m else Err OutOfRange) ≡ Ok n → (b ≡ true) × (m ≡ n)) [
@@ -109,10 +109,10 @@ timely_is lines before value event taken =
     let after : before ≤ read.at = grind (arith, nat_tests) in
     subst (λ event. (before ≤ event.at) × IsRead lines event) same (after, event_is lines fields read at_read.0)
 
-front : (event : ScriptedEvent) (read : Result (List ScriptedEvent) BoardFault) (events : List ScriptedEvent) →
+front : (event : ScriptedEvent) (read : Result (List ScriptedEvent) BoardError) (events : List ScriptedEvent) →
     in_front event read ≡ Ok events → (others : List ScriptedEvent) × ((read ≡ Ok others) × (event ∷ others ≡ events))
 front event (Ok others) events taken = (others, (refl, cc))
-front event (Err fault) events taken = cc
+front event (Err error) events taken = cc
 
 pub script_is : (lines before : ℕ) (items : Items) (events : List ScriptedEvent) →
     script_in lines before items ≡ Ok events → IsScriptFrom lines before events

@@ -6,23 +6,23 @@ use Rattle.std.proofs.lemmas.List.{append-nil}
 use Rattle.toml.proofs.Views.{items_view-drop}
 use Rattle.toml.specs.View.{view, items_view}
 use Rattle.toml.specs.declared.value.Value.{Value}
-use Rattle.reference.specs.declared.fault.BoardFault.{BoardFault}
+use Rattle.reference.specs.declared.error.BoardError.{BoardError}
 use Rattle.reference.specs.declared.script.ScriptedEvent.{ScriptedEvent}
 use Rattle.board.specs.Texts.{◌>>=◌, count, in_front, script_in, timely_event}
 
 -- the events that are read, or the first refusal
 abbrev Read : Type 0
-Read = Result (List ScriptedEvent) BoardFault
+Read = Result (List ScriptedEvent) BoardError
 
 -- events in front of those that are read after them
 abbrev pub after : List ScriptedEvent → Read → Read
 after done (Ok rest) = Ok (done ++ rest)
-after done (Err fault) = Err fault
+after done (Err error) = Err error
 
 after-in_front : (done : List ScriptedEvent) (event : ScriptedEvent) (rest : Read) →
     after done (in_front event rest) ≡ after (done ++ event ∷ []) rest
 after-in_front done event (Ok rest) = ap Ok (sym (append_assoc done (event ∷ []) rest))
-after-in_front done event (Err fault) = refl
+after-in_front done event (Err error) = refl
 
 -- the value at an index, and those after it
 script_in-next : (lines before : ℕ) (values : List Value) (index : ℕ) (value : Value) → index < length values →
@@ -35,13 +35,13 @@ script_in-next lines before values index value below is = rw (items_view-drop va
 
 -- an event that is refused
 pub refused : (lines before : ℕ) (values : List Value) (index : ℕ) (value : Value)
-    (done : List ScriptedEvent) (all : Read) (fault : BoardFault) →
-    index < length values → value ≡ get_or values index value → timely_event lines before (view value) ≡ Err fault →
-    after done (script_in lines before (items_view (drop index values))) ≡ all → all ≡ Err fault
-refused lines before values index value done all fault below is outside whole =
+    (done : List ScriptedEvent) (all : Read) (error : BoardError) →
+    index < length values → value ≡ get_or values index value → timely_event lines before (view value) ≡ Err error →
+    after done (script_in lines before (items_view (drop index values))) ≡ all → all ≡ Err error
+refused lines before values index value done all error below is outside whole =
     sym whole
     ∙ ap (after done) (script_in-next lines before values index value below is)
-    ∙ ap (λ (read : Result ScriptedEvent BoardFault).
+    ∙ ap (λ (read : Result ScriptedEvent BoardError).
     after done (read >>= (λ event. in_front event (script_in lines event.at (items_view (drop (index + 1) values))))))
     outside
 
@@ -53,7 +53,7 @@ pub taken : (lines before : ℕ) (values : List Value) (index : ℕ) (value : Va
     after (done ++ event ∷ []) (script_in lines event.at (items_view (drop (index + 1) values))) ≡ all
 taken lines before values index value done all event below is inside whole =
     sym (after-in_front done event (script_in lines event.at (items_view (drop (index + 1) values))))
-    ∙ ap (λ (read : Result ScriptedEvent BoardFault).
+    ∙ ap (λ (read : Result ScriptedEvent BoardError).
     after done (read >>= (λ event. in_front event (script_in lines event.at (items_view (drop (index + 1) values))))))
     (sym inside)
     ∙ ap (after done) (sym (script_in-next lines before values index value below is))

@@ -6,9 +6,9 @@ use Rattle.std.specs.List.{list_any}
 use Rattle.toml.specs.Data.{Data, Items, no_items, item, Members, no_members, member, get_member, as_integer, as_str}
 use Rattle.toml.specs.Data.{as_bool, as_array, as_table}
 use Rattle.toml.specs.Parse.{parse_document}
-use Rattle.reference.specs.declared.fault.BoardFault.{BoardFault}
-use Rattle.reference.specs.declared.fault.BoardFault.TheVariants.{NotToml, MissingKey, WrongKind, OutOfRange}
-use Rattle.reference.specs.declared.fault.BoardFault.TheVariants.{EventsOutOfOrder, UnknownKey}
+use Rattle.reference.specs.declared.error.BoardError.{BoardError}
+use Rattle.reference.specs.declared.error.BoardError.TheVariants.{NotToml, MissingKey, WrongKind, OutOfRange}
+use Rattle.reference.specs.declared.error.BoardError.TheVariants.{EventsOutOfOrder, UnknownKey}
 use Rattle.reference.specs.declared.script.ScriptedEvent.{ScriptedEvent}
 use Rattle.reference.specs.declared.script.Signal.{Signal}
 use Rattle.reference.specs.declared.script.Signal.TheVariants.{Rise, Fall, Pulse, Nmi}
@@ -18,47 +18,47 @@ use Rattle.reference.specs.Boards.{is_region_count, default_regions, is_tick, fi
 
 -- one check, and then another with its result
 infixl 10 ◌>>=◌
-abbrev pub ◌>>=◌ : {A B : Type 0} → Result A BoardFault → (A → Result B BoardFault) → Result B BoardFault
+abbrev pub ◌>>=◌ : {A B : Type 0} → Result A BoardError → (A → Result B BoardError) → Result B BoardError
 (Ok given) >>= next = next given
-(Err fault) >>= next = Err fault
+(Err error) >>= next = Err error
 
 -- a value of the kind that its key takes
-abbrev pub of_kind : {A : Type 0} → Option A → Result A BoardFault
+abbrev pub of_kind : {A : Type 0} → Option A → Result A BoardError
 of_kind None = Err WrongKind
 of_kind (Some value) = Ok value
 
 -- an integer that isn't negative: a whole number (`is_whole_blocks` in `Boards` is about whole blocks)
-abbrev pub whole : Option ℤ → Result ℕ BoardFault
+abbrev pub whole : Option ℤ → Result ℕ BoardError
 whole None = Err WrongKind
 whole (Some (pos n)) = Ok n
 whole (Some (negsuc n)) = Err OutOfRange
 
 -- the value at a key is a whole number
-abbrev pub number : Option Data → Result ℕ BoardFault
+abbrev pub number : Option Data → Result ℕ BoardError
 number None = Err MissingKey
 number (Some value) = whole (as_integer value)
 
 -- likewise for a key that may be missing
-abbrev pub number_or : ℕ → Option Data → Result ℕ BoardFault
+abbrev pub number_or : ℕ → Option Data → Result ℕ BoardError
 number_or default None = Ok default
 number_or default (Some value) = whole (as_integer value)
 
 -- the value at a key is a word
-abbrev pub word : Option Data → Result (List ℕ) BoardFault
+abbrev pub word : Option Data → Result (List ℕ) BoardError
 word None = Err MissingKey
 word (Some value) = of_kind (as_str value)
 
 -- a number in its range
-abbrev pub where_ok : (ℕ → Bool) → Result ℕ BoardFault → Result ℕ BoardFault
+abbrev pub where_ok : (ℕ → Bool) → Result ℕ BoardError → Result ℕ BoardError
 where_ok ok (Ok n) = if ok n then Ok n else Err OutOfRange
-where_ok ok (Err fault) = Err fault
+where_ok ok (Err error) = Err error
 
 -- each key is one of those that are known
 abbrev pub has_only : List (List ℕ) → Members → Bool
 has_only known no_members = true
 has_only known (member key value others) = list_any (bytes_eq key) known && has_only known others
 
-abbrev pub only : List (List ℕ) → Members → Result Members BoardFault
+abbrev pub only : List (List ℕ) → Members → Result Members BoardError
 only known fields = if has_only known fields then Ok fields else Err UnknownKey
 
 abbrev pub board_keys : List (List ℕ)
@@ -73,7 +73,7 @@ abbrev pub nmi_keys : List (List ℕ)
 nmi_keys = codes "at" ∷ codes "nmi" ∷ []
 
 -- the six numbers, one after another
-unfoldable pub numbers_in : Members → Result Numbers BoardFault
+unfoldable pub numbers_in : Members → Result Numbers BoardError
 numbers_in document = do
   flash_base ← where_ok is_whole_blocks (number (get_member (codes "flash_base") document))
   flash_size ← where_ok (is_flash flash_base) (number (get_member (codes "flash_size") document))
@@ -91,7 +91,7 @@ numbers_in document = do
   })
 
 -- the signal on a line that a word names
-abbrev pub change : ℕ → List ℕ → Result Signal BoardFault
+abbrev pub change : ℕ → List ℕ → Result Signal BoardError
 change line name =
     if bytes_eq name (codes "rise") then Ok (Rise line)
     else if bytes_eq name (codes "fall") then Ok (Fall line)
@@ -99,13 +99,13 @@ change line name =
     else Err OutOfRange
 
 -- `nmi` is true
-abbrev pub nmi : Option Bool → Result Signal BoardFault
+abbrev pub nmi : Option Bool → Result Signal BoardError
 nmi None = Err WrongKind
 nmi (Some false) = Err OutOfRange
 nmi (Some true) = Ok Nmi
 
 -- the signal of an event that names a line of the board
-unfoldable pub line_signal : ℕ → Members → Result Signal BoardFault
+unfoldable pub line_signal : ℕ → Members → Result Signal BoardError
 line_signal lines event = do
   line ← where_ok (λ n. nat_lt n lines) (number (get_member (codes "line") event))
   name ← word (get_member (codes "what") event)
@@ -114,38 +114,38 @@ line_signal lines event = do
   Ok signal
 
 -- the signal of an event with `nmi`
-unfoldable pub nmi_signal : Data → Members → Result Signal BoardFault
+unfoldable pub nmi_signal : Data → Members → Result Signal BoardError
 nmi_signal value event = do
   signal ← nmi (as_bool value)
   known ← only nmi_keys event
   Ok signal
 
 -- the signal of an event, by whether it has `nmi`
-abbrev pub signal_in : ℕ → Members → Option Data → Result Signal BoardFault
+abbrev pub signal_in : ℕ → Members → Option Data → Result Signal BoardError
 signal_in lines event None = line_signal lines event
 signal_in lines event (Some value) = nmi_signal value event
 
 -- one event, on a board with that number of lines
-unfoldable pub event_in : ℕ → Members → Result ScriptedEvent BoardFault
+unfoldable pub event_in : ℕ → Members → Result ScriptedEvent BoardError
 event_in lines event = do
   at ← where_ok is_tick (number (get_member (codes "at") event))
   what ← signal_in lines event (get_member (codes "nmi") event)
   Ok (record { at = at; what = what })
 
 -- one event more, in front of those after it
-abbrev pub in_front : ScriptedEvent → Result (List ScriptedEvent) BoardFault → Result (List ScriptedEvent) BoardFault
+abbrev pub in_front : ScriptedEvent → Result (List ScriptedEvent) BoardError → Result (List ScriptedEvent) BoardError
 in_front event (Ok events) = Ok (event ∷ events)
-in_front event (Err fault) = Err fault
+in_front event (Err error) = Err error
 
 -- an event that is no earlier than a tick
-unfoldable pub timely_event : ℕ → ℕ → Data → Result ScriptedEvent BoardFault
+unfoldable pub timely_event : ℕ → ℕ → Data → Result ScriptedEvent BoardError
 timely_event lines before value = do
   fields ← of_kind (as_table value)
   event ← event_in lines fields
   if nat_lt event.at before then Err EventsOutOfOrder else Ok event
 
 -- the events of a list, the first of them no earlier than a tick
-unfoldable pub script_in : ℕ → ℕ → Items → Result (List ScriptedEvent) BoardFault
+unfoldable pub script_in : ℕ → ℕ → Items → Result (List ScriptedEvent) BoardError
 script_in lines before no_items = Ok []
 script_in lines before (item value others) = do
   event ← timely_event lines before value
@@ -167,7 +167,7 @@ are_tables no_items = true
 are_tables (item value others) = is_table (as_table value) && are_tables others
 
 -- a list of tables, not too many
-abbrev pub tables : Option Items → Result Items BoardFault
+abbrev pub tables : Option Items → Result Items BoardError
 tables None = Err WrongKind
 tables (Some items) =
     if not (are_tables items) then Err WrongKind
@@ -175,12 +175,12 @@ tables (Some items) =
     else Ok items
 
 -- the events of a board, which needn't have any
-abbrev pub events : Option Data → Result Items BoardFault
+abbrev pub events : Option Data → Result Items BoardError
 events None = Ok no_items
 events (Some value) = tables (as_array value)
 
 -- the board that a document describes, or the first refusal
-unfoldable pub board_in : Members → Result Described BoardFault
+unfoldable pub board_in : Members → Result Described BoardError
 board_in document = do
   numbers ← numbers_in document
   known ← only board_keys document
@@ -189,10 +189,10 @@ board_in document = do
   Ok (record { numbers = numbers; script = script })
 
 -- the board of what was parsed
-abbrev pub board_of_document : Option Members → Result Described BoardFault
+abbrev pub board_of_document : Option Members → Result Described BoardError
 board_of_document None = Err NotToml
 board_of_document (Some document) = board_in document
 
 -- the board that a text describes, or the first refusal
-unfoldable pub board_of : List ℕ → Result Described BoardFault
+unfoldable pub board_of : List ℕ → Result Described BoardError
 board_of text = board_of_document (parse_document text)

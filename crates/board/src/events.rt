@@ -9,8 +9,8 @@ ghost use Rattle.board.specs.Texts.{are_tables, change, event_in, events, is_tab
 
 use crate::keys::{LINE_KEYS, NMI_KEYS, has_only};
 use crate::values::{find, number, word};
+use reference::error::BoardError;
 use reference::exception::MOST_LINES;
-use reference::fault::BoardFault;
 use reference::script::{InterruptLine, ScriptedEvent, Signal};
 use std::alloc::Global;
 use toml::{Table, Value};
@@ -25,20 +25,20 @@ const LAST_TICK: u64 = 1 << 48;
 
 // The events of a board, which needn't have any: a list of tables, not too many.
 #[tactic(auto, using(crate::proofs::Scripts::count_is))]
-pub fn events(value: Option<&Value>) -> Result<&[Value], BoardFault>
+pub fn events(value: Option<&Value>) -> Result<&[Value], BoardError>
     ensures { Gives (λ values. items_view values.now) result (events (option_map (λ v. view v.now) value.entry)) }
 {
     let Some(value) = value else {
         return Ok(&[]);
     };
     let Some(values) = value.as_array() else {
-        return Err(BoardFault::WrongKind);
+        return Err(BoardError::WrongKind);
     };
     if !are_tables(values.as_slice()) {
-        return Err(BoardFault::WrongKind);
+        return Err(BoardError::WrongKind);
     }
     if values.len() > MOST_SCRIPT_EVENTS {
-        return Err(BoardFault::OutOfRange);
+        return Err(BoardError::OutOfRange);
     }
     Ok(values.as_slice())
 }
@@ -61,7 +61,7 @@ pub fn script_of(
     alloc: Global,
     lines: u8,
     values: &[Value],
-) -> Result<Vec<ScriptedEvent>, BoardFault>
+) -> Result<Vec<ScriptedEvent>, BoardError>
     requires { lines ≤ MOST_LINES }
     ensures { Answers (λ events. events.items) result (script_in lines FIRST_TICK (items_view values.now)) }
 {
@@ -74,7 +74,7 @@ pub fn script_of(
         is_complete = gather(&mut events, is_complete, ScriptedEvent { at, what });
     }
     if !is_complete {
-        return Err(BoardFault::OutOfMemory);
+        return Err(BoardError::OutOfMemory);
     }
     Ok(events)
 }
@@ -96,36 +96,36 @@ fn gather(events: &mut Vec<ScriptedEvent>, is_complete: bool, event: ScriptedEve
 
 // An event that is no earlier than a tick.
 #[tactic(auto, unfolding(crate::specs::Texts::timely_event))]
-fn timely_event(lines: u8, before: u64, value: &Value) -> Result<ScriptedEvent, BoardFault>
+fn timely_event(lines: u8, before: u64, value: &Value) -> Result<ScriptedEvent, BoardError>
     requires { lines ≤ MOST_LINES }
     ensures { result ≡ timely_event lines before (view value.now) }
 {
     let Some(fields) = value.as_table() else {
-        return Err(BoardFault::WrongKind);
+        return Err(BoardError::WrongKind);
     };
     let event = event_of(lines, fields)?;
     if event.at < before {
-        return Err(BoardFault::EventsOutOfOrder);
+        return Err(BoardError::EventsOutOfOrder);
     }
     Ok(event)
 }
 
 // One event.
 #[tactic(auto, unfolding(crate::specs::Texts::event_in))]
-fn event_of(lines: u8, event: &Table) -> Result<ScriptedEvent, BoardFault>
+fn event_of(lines: u8, event: &Table) -> Result<ScriptedEvent, BoardError>
     requires { lines ≤ MOST_LINES }
     ensures { result ≡ event_in lines (table_view event.now) }
 {
     let at = number(find(event, "at"))?;
     if !(FIRST_TICK..=LAST_TICK).contains(&at) {
-        return Err(BoardFault::OutOfRange);
+        return Err(BoardError::OutOfRange);
     }
     let what = signal_of(lines, event, find(event, "nmi"))?;
     Ok(ScriptedEvent { at, what })
 }
 
 // The signal of an event, by whether it has `nmi`.
-fn signal_of(lines: u8, event: &Table, value: Option<&Value>) -> Result<Signal, BoardFault>
+fn signal_of(lines: u8, event: &Table, value: Option<&Value>) -> Result<Signal, BoardError>
     requires { lines ≤ MOST_LINES }
     ensures { result ≡ signal_in lines (table_view event.now) (option_map (λ v. view v.now) value.entry) }
 {
@@ -137,53 +137,53 @@ fn signal_of(lines: u8, event: &Table, value: Option<&Value>) -> Result<Signal, 
 
 // The signal of an event that names a line of the board.
 #[tactic(auto, unfolding(crate::specs::Texts::line_signal))]
-fn line_signal(lines: u8, event: &Table) -> Result<Signal, BoardFault>
+fn line_signal(lines: u8, event: &Table) -> Result<Signal, BoardError>
     requires { lines ≤ MOST_LINES }
     ensures { result ≡ line_signal lines (table_view event.now) }
 {
     let line = number(find(event, "line"))?;
     if line >= u64::from(lines) {
-        return Err(BoardFault::OutOfRange);
+        return Err(BoardError::OutOfRange);
     }
     let name = word(find(event, "what"))?;
     let signal = change(InterruptLine::new(line as u8), name)?;
     if !has_only(&LINE_KEYS, event) {
-        return Err(BoardFault::UnknownKey);
+        return Err(BoardError::UnknownKey);
     }
     Ok(signal)
 }
 
 // The signal on a line that a word names.
-fn change(line: InterruptLine, name: &str) -> Result<Signal, BoardFault>
+fn change(line: InterruptLine, name: &str) -> Result<Signal, BoardError>
     ensures { result ≡ change line name.now }
 {
     match name {
         "rise" => Ok(Signal::Rise(line)),
         "fall" => Ok(Signal::Fall(line)),
         "pulse" => Ok(Signal::Pulse(line)),
-        _ => Err(BoardFault::OutOfRange),
+        _ => Err(BoardError::OutOfRange),
     }
 }
 
 // The signal of an event with `nmi`.
 #[tactic(auto, unfolding(crate::specs::Texts::nmi_signal))]
-fn nmi_signal(value: &Value, event: &Table) -> Result<Signal, BoardFault>
+fn nmi_signal(value: &Value, event: &Table) -> Result<Signal, BoardError>
     ensures { result ≡ nmi_signal (view value.now) (table_view event.now) }
 {
     let signal = nmi(value.as_bool())?;
     if !has_only(&NMI_KEYS, event) {
-        return Err(BoardFault::UnknownKey);
+        return Err(BoardError::UnknownKey);
     }
     Ok(signal)
 }
 
 // The signal of NMI where `nmi` is true. Another value is refused.
-fn nmi(value: Option<bool>) -> Result<Signal, BoardFault>
+fn nmi(value: Option<bool>) -> Result<Signal, BoardError>
     ensures { result ≡ nmi value }
 {
     match value {
-        None => Err(BoardFault::WrongKind),
-        Some(false) => Err(BoardFault::OutOfRange),
+        None => Err(BoardError::WrongKind),
+        Some(false) => Err(BoardError::OutOfRange),
         Some(true) => Ok(Signal::Nmi),
     }
 }

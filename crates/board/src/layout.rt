@@ -11,8 +11,8 @@ ghost use Rattle.board.specs.Texts.{numbers_in, where_ok};
 
 use crate::values::{find, number, number_or};
 use reference::board::Layout;
+use reference::error::BoardError;
 use reference::exception::MOST_LINES;
-use reference::fault::BoardFault;
 use reference::map::RAM_BASE;
 use reference::mpu::RegionCount;
 use toml::Table;
@@ -27,28 +27,28 @@ const DEFAULT_REGIONS: u64 = 8;
 
 // The six numbers, one after another.
 #[tactic(auto, unfolding(crate::specs::Texts::numbers_in))]
-pub fn layout_of(document: &Table) -> Result<Layout, BoardFault>
+pub fn layout_of(document: &Table) -> Result<Layout, BoardError>
     ensures { Gives numbers_of result (numbers_in (table_view document.now)) }
 {
     let flash_base = number(find(document, "flash_base"))?;
     if !is_whole_blocks(flash_base) {
-        return Err(BoardFault::OutOfRange);
+        return Err(BoardError::OutOfRange);
     }
     let flash_size = number(find(document, "flash_size"))?;
     if !is_flash(flash_base, flash_size) {
-        return Err(BoardFault::OutOfRange);
+        return Err(BoardError::OutOfRange);
     }
     let ram_size = number(find(document, "ram_size"))?;
     if !is_size(ram_size) {
-        return Err(BoardFault::OutOfRange);
+        return Err(BoardError::OutOfRange);
     }
     let priority_bits = number(find(document, "priority_bits"))?;
     if !is_priority_bits(priority_bits) {
-        return Err(BoardFault::OutOfRange);
+        return Err(BoardError::OutOfRange);
     }
     let lines = number(find(document, "lines"))?;
     if !is_line_count(lines) {
-        return Err(BoardFault::OutOfRange);
+        return Err(BoardError::OutOfRange);
     }
     let regions = number_or(find(document, "regions"), DEFAULT_REGIONS)?;
     let regions = region_count(regions)?;
@@ -110,12 +110,12 @@ fn is_line_count(lines: u64) -> bool
 }
 
 // The number of regions that the MPU can have.
-fn region_count(regions: u64) -> Result<RegionCount, BoardFault>
+fn region_count(regions: u64) -> Result<RegionCount, BoardError>
     ensures { Gives region_number result (where_ok is_region_count (Ok regions)) }
 {
     match regions {
         8 => Ok(RegionCount::Eight),
         16 => Ok(RegionCount::Sixteen),
-        _ => Err(BoardFault::OutOfRange),
+        _ => Err(BoardError::OutOfRange),
     }
 }

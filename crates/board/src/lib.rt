@@ -6,7 +6,7 @@ ghost use Rattle.std.specs.Prelude.{◌≡◌, ◌⊎◌, Err, IfOk};
 ghost use Rattle.toml.specs.View.{table_view};
 ghost use Rattle.reference.specs.Boards.{IsScript};
 ghost use Rattle.reference.specs.Invariant.{IsBoard};
-ghost use Rattle.reference.specs.declared.fault.BoardFault.TheVariants.{OutOfMemory as Wanting};
+ghost use Rattle.reference.specs.declared.error.BoardError.TheVariants.{OutOfMemory as Wanting};
 ghost use Rattle.board.specs.Texts.{board_in, board_of};
 ghost use Rattle.board.specs.Seen.{Answers, described};
 
@@ -21,7 +21,7 @@ use events::{events, script_of};
 use keys::{BOARD_KEYS, has_only};
 use layout::layout_of;
 pub use reference::board::Layout;
-pub use reference::fault::BoardFault;
+pub use reference::error::BoardError;
 pub use reference::script::{InterruptLine, ScriptedEvent, Signal};
 use std::alloc::Global;
 use toml::Table;
@@ -33,15 +33,15 @@ pub use whole::Board;
 /// answer while the text is parsed, and after that only where nothing else is refused: see
 /// `board_of_table`.
 #[tactic(auto, unfolding(crate::specs::Texts::board_of))]
-pub fn read_board(alloc: Global, text: &str) -> Result<Board, BoardFault>
+pub fn read_board(alloc: Global, text: &str) -> Result<Board, BoardError>
     ensures answer { Answers described result (board_of text.now) ⊎ (result ≡ Err Wanting) }
     ensures script { IfOk result (λ board. IsScript board.layout.lines board.events.items) }
     ensures board { IfOk result (λ board. IsBoard (described board)) }
 {
     let document = match toml::table_from_str(alloc, text) {
         Ok(document) => document,
-        Err(error) if error.is_memory() => return Err(BoardFault::OutOfMemory),
-        Err(_) => return Err(BoardFault::NotToml),
+        Err(error) if error.is_memory() => return Err(BoardError::OutOfMemory),
+        Err(_) => return Err(BoardError::NotToml),
     };
     board_of_table(alloc, &document)
 }
@@ -49,14 +49,14 @@ pub fn read_board(alloc: Global, text: &str) -> Result<Board, BoardFault>
 /// Returns the board that a parsed document describes, or the first refusal. `OutOfMemory` is
 /// returned only where nothing is refused.
 #[tactic(auto, using(crate::proofs::Ordered::script_is, crate::proofs::Taken::is_board), unfolding(crate::specs::Texts::board_in))]
-pub fn board_of_table(alloc: Global, document: &Table) -> Result<Board, BoardFault>
+pub fn board_of_table(alloc: Global, document: &Table) -> Result<Board, BoardError>
     ensures answer { Answers described result (board_in (table_view document.now)) }
     ensures script { IfOk result (λ board. IsScript board.layout.lines board.events.items) }
     ensures board { IfOk result (λ board. IsBoard (described board)) }
 {
     let layout = layout_of(document)?;
     if !has_only(&BOARD_KEYS, document) {
-        return Err(BoardFault::UnknownKey);
+        return Err(BoardError::UnknownKey);
     }
     let values = events(find(document, "event"))?;
     let events = script_of(alloc, layout.lines, values)?;

@@ -6,7 +6,7 @@ ghost use Rattle.toml.specs.View.{table_view, view};
 ghost use Rattle.board.specs.Seen.{Gives};
 ghost use Rattle.board.specs.Texts.{number, number_or, whole, word};
 
-use reference::fault::BoardFault;
+use reference::error::BoardError;
 use toml::{Table, Value};
 
 // Returns the value at a key, if the table has the key.
@@ -17,18 +17,18 @@ pub fn find<'a>(table: &'a Table, key: &str) -> Option<&'a Value>
 }
 
 // The whole number that a key has to have.
-pub fn number(value: Option<&Value>) -> Result<u64, BoardFault>
+pub fn number(value: Option<&Value>) -> Result<u64, BoardError>
     ensures number { result ≡ number (option_map (λ v. view v.now) value.entry) }
     ensures small { IfOk result (λ n. n < 2 ^ 63) }
 {
     match value {
-        None => Err(BoardFault::MissingKey),
+        None => Err(BoardError::MissingKey),
         Some(value) => whole(value.as_integer()),
     }
 }
 
 // The whole number of a key that may be missing, which then is the default.
-pub fn number_or(value: Option<&Value>, default: u64) -> Result<u64, BoardFault>
+pub fn number_or(value: Option<&Value>, default: u64) -> Result<u64, BoardError>
     ensures { result ≡ number_or default (option_map (λ v. view v.now) value.entry) }
 {
     match value {
@@ -38,25 +38,25 @@ pub fn number_or(value: Option<&Value>, default: u64) -> Result<u64, BoardFault>
 }
 
 // An integer that isn't negative.
-fn whole(integer: Option<i64>) -> Result<u64, BoardFault>
+fn whole(integer: Option<i64>) -> Result<u64, BoardError>
     ensures number { result ≡ whole integer }
     ensures small { IfOk result (λ n. n < 2 ^ 63) }
 {
     match integer {
-        None => Err(BoardFault::WrongKind),
-        Some(integer) if integer < 0 => Err(BoardFault::OutOfRange),
+        None => Err(BoardError::WrongKind),
+        Some(integer) if integer < 0 => Err(BoardError::OutOfRange),
         Some(integer) => Ok(integer as u64),
     }
 }
 
 // The word that a key has to have.
-pub fn word(value: Option<&Value>) -> Result<&str, BoardFault>
+pub fn word(value: Option<&Value>) -> Result<&str, BoardError>
     ensures { Gives (λ name. name.now) result (word (option_map (λ v. view v.now) value.entry)) }
 {
     match value {
-        None => Err(BoardFault::MissingKey),
+        None => Err(BoardError::MissingKey),
         Some(value) => match value.as_str() {
-            None => Err(BoardFault::WrongKind),
+            None => Err(BoardError::WrongKind),
             Some(name) => Ok(name),
         },
     }

@@ -5,30 +5,30 @@ use Rattle.command.specs.declared.request.Request.{Request}
 use Rattle.command.specs.Tasks.{AsksDebug, AsksReport, AsksRun, IsSteps, MayRefuse, Requests, number_in}
 use Rattle.command_line.specs.Asked.{Asked, AskedDebug, AskedReport, AskedRun, IsTaken, Takes, asked}
 use Rattle.command_line.specs.Asked as asks
-use Rattle.command_line.specs.declared.words.WordsFault.{WordsFault}
+use Rattle.command_line.specs.declared.words.WordsError.{WordsError}
 
-pub run_asked : (words : List (List ℕ)) (a : AskedRun) (result : Result Request WordsFault)
+pub run_asked : (words : List (List ℕ)) (a : AskedRun) (result : Result Request WordsError)
     → IsTaken words × (asked words ≡ Some (asks.run a)) → AsksRun a result → Requests words result
 run_asked words a (Ok request) taken h = (taken.0, (asks.run a, taken.1, h))
-run_asked words a (Err fault) taken (inl wrong) =
+run_asked words a (Err error) taken (inl wrong) =
     inr (inr (wrong.0, subst MayRefuse (sym taken.1) wrong.1))
-run_asked words a (Err fault) taken (inr wanting) = inl wanting
+run_asked words a (Err error) taken (inr wanting) = inl wanting
 
-pub report_asked : (words : List (List ℕ)) (a : AskedReport) (result : Result Request WordsFault)
+pub report_asked : (words : List (List ℕ)) (a : AskedReport) (result : Result Request WordsError)
     → IsTaken words × (asked words ≡ Some (asks.report a)) → AsksReport a result → Requests words result
 report_asked words a (Ok request) taken h = (taken.0, (asks.report a, taken.1, h))
-report_asked words a (Err fault) taken (inl wrong) =
+report_asked words a (Err error) taken (inl wrong) =
     inr (inr (wrong.0, subst MayRefuse (sym taken.1) wrong.1))
-report_asked words a (Err fault) taken (inr wanting) = inl wanting
+report_asked words a (Err error) taken (inr wanting) = inl wanting
 
 pub debug_asked : (words : List (List ℕ)) (a : AskedDebug) (request : Request)
     → IsTaken words × (asked words ≡ Some (asks.debug a)) → AsksDebug a (Ok request) → Requests words (Ok request)
 debug_asked words a request taken h = (taken.0, (asks.debug a, taken.1, h))
 
-pub not_taken : (words : List (List ℕ)) (fault : WordsFault) → Takes words (Err fault) → Requests words (Err fault)
-not_taken words fault (inl wanting) = inl wanting
-not_taken words fault (inr (inl refused)) = inr (inl refused)
-not_taken words fault (inr (inr nothing)) = inr (inr (nothing.1, subst MayRefuse (sym nothing.0) tt))
+pub not_taken : (words : List (List ℕ)) (error : WordsError) → Takes words (Err error) → Requests words (Err error)
+not_taken words error (inl wanting) = inl wanting
+not_taken words error (inr (inl refused)) = inr (inl refused)
+not_taken words error (inr (inr nothing)) = inr (inr (nothing.1, subst MayRefuse (sym nothing.0) tt))
 
 -- a text that is no number of 64 bits is no number of steps
 pub no_steps : (text : List ℕ) → ¬ (IsNumeral 10 (without_leading_plus text) × (number_in text < 2 ^ 64))

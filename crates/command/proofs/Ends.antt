@@ -8,38 +8,38 @@ use Rattle.board.specs.Seen.{Answers, described}
 use Rattle.board.specs.Texts.{board_of}
 use Rattle.command.specs.Statuses.{Reads, board_in_file}
 use Rattle.machine.proofs.Selecting.{selected_left_prefix}
-use Rattle.machine.specs.declared.whole.RunFault.{RunFault}
-use Rattle.machine.specs.declared.whole.RunFault.TheVariants.{Write, Broken}
+use Rattle.machine.specs.declared.whole.RunError.{RunError}
+use Rattle.machine.specs.declared.whole.RunError.TheVariants.{Write, Broken}
 use Rattle.machine.specs.Selected.{SelectedFails}
 use Rattle.machine.specs.Whole.{Whole}
 use Rattle.output.specs.Gathered.{GrowsByPrefix}
-use Rattle.reference.specs.declared.fault.BoardFault.{BoardFault}
-use Rattle.reference.specs.declared.fault.BoardFault.TheVariants.{NotToml, OutOfMemory}
+use Rattle.reference.specs.declared.error.BoardError.{BoardError}
+use Rattle.reference.specs.declared.error.BoardError.TheVariants.{NotToml, OutOfMemory}
 use Rattle.reference.specs.Boards.{Described}
 use Rattle.trace.specs.declared.selection.TraceSelection.{TraceSelection}
 use Rattle.trace.specs.Selection.{selected_trace}
 
 -- a run that failed in a machine whose writers hadn't failed before put a prefix of its text
 pub failed_cut : (selection : TraceSelection) (n : ℕ) (old new : Whole) (put put' : Option (List ℕ))
-    (faults faults' : ℕ) (fault : RunFault) → SelectedFails selection n old new put put' faults faults' fault
-    → (fault ≡ Broken → old.broken ≡ true) → old.broken ≡ false
-    → GrowsByPrefix put put' (selected_trace selection n old.state) × (faults' ≡ faults + 1)
-failed_cut selection n old new put put' faults faults' (Write steps) fails broken whole =
+    (errors errors' : ℕ) (error : RunError) → SelectedFails selection n old new put put' errors errors' error
+    → (error ≡ Broken → old.broken ≡ true) → old.broken ≡ false
+    → GrowsByPrefix put put' (selected_trace selection n old.state) × (errors' ≡ errors + 1)
+failed_cut selection n old new put put' errors errors' (Write steps) fails broken whole =
     (selected_left_prefix selection n old.state steps put put' new.state fails.0, fails.2)
-failed_cut selection n old new put put' faults faults' Broken fails broken whole =
+failed_cut selection n old new put put' errors errors' Broken fails broken whole =
     absurd (let wrong : true ≡ false = sym (broken refl) ∙ whole in cc)
 
 -- what the reader of boards answers is what is read here
-pub read_as : (read : Result Described BoardFault) (result : Result TheBoard BoardFault)
+pub read_as : (read : Result Described BoardError) (result : Result TheBoard BoardError)
     → Answers described result read ⊎ (result ≡ Err OutOfMemory) → Reads read result
 read_as read (Ok board) (inl same) = same
 read_as read (Ok board) (inr wanting) = absurd cc
-read_as read (Err fault) (inl (inl same)) = inl same
-read_as read (Err fault) (inl (inr wanting)) = inr wanting.0
-read_as read (Err fault) (inr wanting) = inr cc
+read_as read (Err error) (inl (inl same)) = inl same
+read_as read (Err error) (inl (inr wanting)) = inr wanting.0
+read_as read (Err error) (inr wanting) = inr cc
 
 -- bytes that are text are read as that text
-pub text_read : (bytes text : List ℕ) (result : Result TheBoard BoardFault) → IsUtf8 bytes → text ≡ bytes
+pub text_read : (bytes text : List ℕ) (result : Result TheBoard BoardError) → IsUtf8 bytes → text ≡ bytes
     → Answers described result (board_of text) ⊎ (result ≡ Err OutOfMemory) → Reads (board_in_file bytes) result
 text_read bytes text result is_text same answers =
     rw (is_utf8-from_IsUtf8 bytes is_text) (read_as (board_of bytes) result (rw same at answers))
@@ -49,6 +49,6 @@ no_text bytes true e other = absurd (other (IsUtf8-from_is_utf8 bytes e))
 no_text bytes false e other = rw e refl
 
 -- other bytes aren't
-pub bytes_refused : (bytes : List ℕ) (fault : BoardFault) → ¬ IsUtf8 bytes → fault ≡ NotToml
-    → Reads (board_in_file bytes) (Err fault)
-bytes_refused bytes fault other same = rw same (inl (no_text bytes (is_utf8 bytes) refl other))
+pub bytes_refused : (bytes : List ℕ) (error : BoardError) → ¬ IsUtf8 bytes → error ≡ NotToml
+    → Reads (board_in_file bytes) (Err error)
+bytes_refused bytes error other same = rw same (inl (no_text bytes (is_utf8 bytes) refl other))

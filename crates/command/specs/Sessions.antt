@@ -1,15 +1,15 @@
 -- A debug session of the program.
 use Rattle.std.specs.Prelude.{◌≡◌, ◌⊎◌, ℕ, false, List, [], Result, Ok, Err}
-use Rattle.command.specs.declared.fault.Fault.{Fault}
-use Rattle.command.specs.declared.fault.Fault.TheVariants.{Load, Board, Start, Io}
-use Rattle.command.specs.Statuses.{fault_status}
+use Rattle.command.specs.declared.error.Error.{Error}
+use Rattle.command.specs.declared.error.Error.TheVariants.{Load, Board, Start, Io}
+use Rattle.command.specs.Statuses.{error_status}
 use Rattle.debugger.specs.Sessions.{FailsToRead, FailsToWrite, Holds, Sink, Source}
 use Rattle.machine.specs.Whole.{Whole}
-use Rattle.reference.specs.declared.fault.BoardFault.{BoardFault}
-use Rattle.reference.specs.declared.fault.BoardFault.TheVariants.{OutOfMemory}
-use Rattle.reference.specs.declared.fault.LoadFault.{LoadFault}
-use Rattle.reference.specs.declared.fault.StartFault.{StartFault}
-use Rattle.reference.specs.declared.fault.StartFault.TheVariants.{NoMemory}
+use Rattle.reference.specs.declared.error.BoardError.{BoardError}
+use Rattle.reference.specs.declared.error.BoardError.TheVariants.{OutOfMemory}
+use Rattle.reference.specs.declared.error.LoadError.{LoadError}
+use Rattle.reference.specs.declared.error.StartError.{StartError}
+use Rattle.reference.specs.declared.error.StartError.TheVariants.{NoMemory}
 use Rattle.reference.specs.Boards.{Described}
 use Rattle.reference.specs.Images.{Segment}
 use Rattle.reference.specs.Start.{start}
@@ -26,34 +26,34 @@ pub record Writer : Type 0 where
 
 -- a session of a machine, with the machine as it is at the end: it ends, or its reader or its writer fails. Nothing
 -- waits unless the writer failed
-abbrev pub Talks : State → Whole → Source → Source → Writer → Writer → Result (Unit {0}) Fault → Type 0
+abbrev pub Talks : State → Whole → Source → Source → Writer → Writer → Result (Unit {0}) Error → Type 0
 Talks s last before after out out' (Ok done) =
     Holds (whole_of s) last before after out.sink out'.sink × (out'.waits ≡ [])
-Talks s last before after out out' (Err fault) =
-    (fault ≡ Io)
+Talks s last before after out out' (Err error) =
+    (error ≡ Io)
     × ((FailsToRead (whole_of s) last before after out.sink out'.sink × (out'.waits ≡ []))
     ⊎ FailsToWrite (whole_of s) last before after out.sink out'.sink)
 
 -- a session of a machine, whatever the machine is at its end
-pub record Talked (s : State) (before after : Source) (out out' : Writer) (result : Result (Unit {0}) Fault) : Type 0
+pub record Talked (s : State) (before after : Source) (out out' : Writer) (result : Result (Unit {0}) Error) : Type 0
   where
     pub last : Whole
     pub talks : Talks s last before after out out' result
 
 -- a refusal, with which nothing is read and nothing is written
-abbrev pub Refuses : Fault → Source → Source → Writer → Writer → Result (Unit {0}) Fault → Type 0
-Refuses fault before after out out' result = (result ≡ Err fault) × (after ≡ before) × (out' ≡ out)
+abbrev pub Refuses : Error → Source → Source → Writer → Writer → Result (Unit {0}) Error → Type 0
+Refuses error before after out out' result = (result ≡ Err error) × (after ≡ before) × (out' ≡ out)
 
 -- a session from a start state, or out of memory for it, or the refusal of the start
-abbrev pub TalksFrom : Result State StartFault → Source → Source → Writer → Writer → Result (Unit {0}) Fault → Type 0
+abbrev pub TalksFrom : Result State StartError → Source → Source → Writer → Writer → Result (Unit {0}) Error → Type 0
 TalksFrom (Ok s) before after out out' result =
     Talked s before after out out' result ⊎ Refuses (Start NoMemory) before after out out' result
 TalksFrom (Err refusal) before after out out' result = Refuses (Start refusal) before after out out' result
 
 -- an image or a board that is refused is refused as the definition refuses it, the image first; out of memory for
 -- the board may take the place of every later refusal
-abbrev pub Debugs : Result (List Segment) LoadFault → Result Described BoardFault → Source → Source → Writer
-    → Writer → Result (Unit {0}) Fault → Type 0
+abbrev pub Debugs : Result (List Segment) LoadError → Result Described BoardError → Source → Source → Writer
+    → Writer → Result (Unit {0}) Error → Type 0
 Debugs (Ok image) (Ok board) before after out out' result =
     TalksFrom (start board image) before after out out' result ⊎ Refuses (Board OutOfMemory) before after out out'
     result
@@ -61,20 +61,20 @@ Debugs (Ok image) (Err refusal) before after out out' result =
     Refuses (Board refusal) before after out out' result ⊎ Refuses (Board OutOfMemory) before after out out' result
 Debugs (Err refusal) board before after out out' result = Refuses (Load refusal) before after out out' result
 
--- 0 where the session ended, else the status of the fault
-abbrev pub session_status : Result (Unit {0}) Fault → ℕ
+-- 0 where the session ended, else the status of the error
+abbrev pub session_status : Result (Unit {0}) Error → ℕ
 session_status (Ok done) = 0
-session_status (Err fault) = fault_status fault
+session_status (Err error) = error_status error
 
 -- an image is debugged on a board, and the status is that of its end
-pub record DebugsTo (image : Result (List Segment) LoadFault) (board : Result Described BoardFault)
+pub record DebugsTo (image : Result (List Segment) LoadError) (board : Result Described BoardError)
     (before after : Source) (out out' : Writer) (status : ℕ) : Type 0 where
-  pub result : Result (Unit {0}) Fault
+  pub result : Result (Unit {0}) Error
   pub debugged : Debugs image board before after out out' result
   pub is : status ≡ session_status result
 
 -- the status is that of a session of the image on the board
-pub record SessionTo (image : Result (List Segment) LoadFault) (board : Result Described BoardFault) (status : ℕ)
+pub record SessionTo (image : Result (List Segment) LoadError) (board : Result Described BoardError) (status : ℕ)
     : Type 0 where
   pub before : Source
   pub after : Source

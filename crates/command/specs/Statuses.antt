@@ -4,19 +4,19 @@ use Rattle.std.specs.Str.{bytes_eq, is_utf8}
 use Rattle.board.specs.declared.whole.Board.{Board as TheBoard}
 use Rattle.board.specs.Seen.{described}
 use Rattle.board.specs.Texts.{board_of}
-use Rattle.command.specs.declared.fault.Fault.{Fault}
-use Rattle.command.specs.declared.fault.Fault.TheVariants.{Usage, Load, Board, Start, Size, Io}
-use Rattle.command.specs.declared.files.FileFault.{FileFault}
-use Rattle.command.specs.declared.files.FileFault.TheVariants as file
+use Rattle.command.specs.declared.error.Error.{Error}
+use Rattle.command.specs.declared.error.Error.TheVariants.{Usage, Load, Board, Start, Size, Io}
+use Rattle.command.specs.declared.files.FileError.{FileError}
+use Rattle.command.specs.declared.files.FileError.TheVariants as file
 use Rattle.command.specs.declared.request.RunRequest.{RunRequest}
 use Rattle.command.specs.Saving.{FailsToSave, Saves}
 use Rattle.command_line.specs.Asked.{Answer, usage, help, version, memory, text_of}
 use Rattle.debugger.specs.Sessions.{Sink}
-use Rattle.reference.specs.declared.fault.BoardFault.{BoardFault}
-use Rattle.reference.specs.declared.fault.BoardFault.TheVariants.{NotToml, OutOfMemory}
-use Rattle.reference.specs.declared.fault.LoadFault.{LoadFault}
-use Rattle.reference.specs.declared.fault.StartFault.{StartFault}
-use Rattle.reference.specs.declared.fault.StartFault.TheVariants.{NoMemory}
+use Rattle.reference.specs.declared.error.BoardError.{BoardError}
+use Rattle.reference.specs.declared.error.BoardError.TheVariants.{NotToml, OutOfMemory}
+use Rattle.reference.specs.declared.error.LoadError.{LoadError}
+use Rattle.reference.specs.declared.error.StartError.{StartError}
+use Rattle.reference.specs.declared.error.StartError.TheVariants.{NoMemory}
 use Rattle.reference.specs.declared.stop.Stop.{Stop}
 use Rattle.reference.specs.declared.stop.Stop.TheVariants as stop
 use Rattle.reference.specs.Boards.{Described}
@@ -29,13 +29,13 @@ use Rattle.reference.specs.Text.{stop_text}
 use Rattle.trace.specs.declared.selection.TraceSelection.{TraceSelection}
 use Rattle.trace.specs.Selection.{selected_trace}
 
-abbrev pub fault_status : Fault → ℕ
-fault_status Usage = 2
-fault_status (Load fault) = 3
-fault_status (Board fault) = 3
-fault_status (Start fault) = 3
-fault_status Size = 3
-fault_status Io = 5
+abbrev pub error_status : Error → ℕ
+error_status Usage = 2
+error_status (Load error) = 3
+error_status (Board error) = 3
+error_status (Start error) = 3
+error_status Size = 3
+error_status Io = 5
 
 abbrev pub stop_status : Stop → ℕ
 stop_status stop.StepLimit = 0
@@ -46,36 +46,36 @@ stop_status (stop.OutOfProfile why) = 4
 stop_status stop.ResetRequested = 4
 
 -- the board in the bytes of a file, which are text in UTF-8, or the first refusal
-abbrev pub board_in_file : List ℕ → Result Described BoardFault
+abbrev pub board_in_file : List ℕ → Result Described BoardError
 board_in_file bytes = if is_utf8 bytes then board_of bytes else Err NotToml
 
 -- a board that was read is the definition's, and so is a refusal, unless it's out of memory
-abbrev pub Reads : Result Described BoardFault → Result TheBoard BoardFault → Type 0
+abbrev pub Reads : Result Described BoardError → Result TheBoard BoardError → Type 0
 Reads read (Ok board) = read ≡ Ok (described board)
-Reads read (Err fault) = (read ≡ Err fault) ⊎ (fault ≡ OutOfMemory)
+Reads read (Err error) = (read ≡ Err error) ⊎ (error ≡ OutOfMemory)
 
 -- a run from a state ends with the reference machine's stop, and the whole text of the selected events went out; or a
 -- call of the writer failed, and what was put is a prefix of that text
-abbrev pub Traces : TraceSelection → ℕ → State → Gathered → Gathered → Result Stop Fault → Type 0
+abbrev pub Traces : TraceSelection → ℕ → State → Gathered → Gathered → Result Stop Error → Type 0
 Traces selection steps s old new (Ok why) =
     (why ≡ ending_of steps s) × SendsAll (selected_trace selection steps s) old new
-Traces selection steps s old new (Err fault) = (fault ≡ Io) × IsCut (selected_trace selection steps s) old new
+Traces selection steps s old new (Err error) = (error ≡ Io) × IsCut (selected_trace selection steps s) old new
 
 -- the same, and after the whole text the last state goes to its file; or a call of the file's writer failed
-abbrev pub Runs : RunRequest → State → Gathered → Gathered → Sink → Sink → Result Stop Fault → Type 0
+abbrev pub Runs : RunRequest → State → Gathered → Gathered → Sink → Sink → Result Stop Error → Type 0
 Runs run s old new file file' (Ok why) =
     Traces run.trace run.steps s old new (Ok why) × Saves (text_of run.state) (after run.steps s) file file'
-Runs run s old new file file' (Err fault) =
-    (Traces run.trace run.steps s old new (Err fault) × (file' ≡ file))
-    ⊎ ((fault ≡ Io) × SendsAll (selected_trace run.trace run.steps s) old new
+Runs run s old new file file' (Err error) =
+    (Traces run.trace run.steps s old new (Err error) × (file' ≡ file))
+    ⊎ ((error ≡ Io) × SendsAll (selected_trace run.trace run.steps s) old new
     × FailsToSave (text_of run.state) (after run.steps s) file file')
 
 -- a refusal, with which nothing is put
-abbrev pub Refuses : Fault → Gathered → Gathered → Sink → Sink → Result Stop Fault → Type 0
-Refuses fault old new file file' result = (result ≡ Err fault) × (new ≡ old) × (file' ≡ file)
+abbrev pub Refuses : Error → Gathered → Gathered → Sink → Sink → Result Stop Error → Type 0
+Refuses error old new file file' result = (result ≡ Err error) × (new ≡ old) × (file' ≡ file)
 
 -- a run from a start state, or out of memory for it, or the refusal of the start
-abbrev pub Starts : RunRequest → Result State StartFault → Gathered → Gathered → Sink → Sink → Result Stop Fault
+abbrev pub Starts : RunRequest → Result State StartError → Gathered → Gathered → Sink → Sink → Result Stop Error
     → Type 0
 Starts run (Ok s) old new file file' result =
     Runs run s old new file file' result ⊎ Refuses (Start NoMemory) old new file file' result
@@ -83,8 +83,8 @@ Starts run (Err refusal) old new file file' result = Refuses (Start refusal) old
 
 -- an image or a board that is refused is refused as the definition refuses it, the image first; out of memory for
 -- the board may take the place of every later refusal
-abbrev pub Executes : Result (List Segment) LoadFault → Result Described BoardFault → RunRequest → Gathered → Gathered
-    → Sink → Sink → Result Stop Fault → Type 0
+abbrev pub Executes : Result (List Segment) LoadError → Result Described BoardError → RunRequest → Gathered → Gathered
+    → Sink → Sink → Result Stop Error → Type 0
 Executes (Ok image) (Ok board) run old new file file' result =
     Starts run (start board image) old new file file' result ⊎ Refuses (Board OutOfMemory) old new file file' result
 Executes (Ok image) (Err refusal) run old new file file' result =
@@ -96,20 +96,20 @@ abbrev pub ending_status : Option (List ℕ) → Stop → ℕ
 ending_status None why = stop_status why
 ending_status (Some words) why = if bytes_eq (stop_text why) words then 0 else 1
 
--- the status of a stop or of a fault
-abbrev pub status_of : Option (List ℕ) → Result Stop Fault → ℕ
+-- the status of a stop or of an error
+abbrev pub status_of : Option (List ℕ) → Result Stop Error → ℕ
 status_of expected (Ok why) = ending_status expected why
-status_of expected (Err fault) = fault_status fault
+status_of expected (Err error) = error_status error
 
 -- an image is run on a board, its last state goes to its file, and the status is that of the end
-pub record GoesTo (image : Result (List Segment) LoadFault) (board : Result Described BoardFault) (run : RunRequest)
+pub record GoesTo (image : Result (List Segment) LoadError) (board : Result Described BoardError) (run : RunRequest)
     (old new : Gathered) (file file' : Sink) (status : ℕ) : Type 0 where
-  pub result : Result Stop Fault
+  pub result : Result Stop Error
   pub executed : Executes image board run old new file file' result
   pub is : status ≡ status_of (text_of run.expect) result
 
 -- the status is that of a run of the image on the board
-pub record RunsTo (image : Result (List Segment) LoadFault) (board : Result Described BoardFault) (run : RunRequest)
+pub record RunsTo (image : Result (List Segment) LoadError) (board : Result Described BoardError) (run : RunRequest)
     (status : ℕ) : Type 0 where
   pub old : Gathered
   pub new : Gathered
@@ -129,7 +129,7 @@ AnsweredBy version status = (status ≡ 0) ⊎ (status ≡ 5)
 AnsweredBy memory status = status ≡ 5
 
 -- the status of a file that isn't read
-abbrev pub file_status : FileFault → ℕ
+abbrev pub file_status : FileError → ℕ
 file_status file.Size = 3
 file_status (file.Read error) = 5
 

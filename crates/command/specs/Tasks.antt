@@ -10,12 +10,12 @@ use Rattle.command.specs.declared.request.Task.TheVariants.{Run, Report, Debug}
 use Rattle.command_line.specs.Asked.{Asked, AskedDebug, AskedReport, AskedRun, IsRefused, IsTaken, answer_of, asked, memory}
 use Rattle.command_line.specs.Asked.{text_of, usage}
 use Rattle.command_line.specs.Asked as asks
-use Rattle.command_line.specs.declared.words.WordsFault.{WordsFault}
+use Rattle.command_line.specs.declared.words.WordsError.{WordsError}
 use Rattle.command.specs.Reports.{ReportsTo}
 use Rattle.command.specs.Sessions.{SessionTo}
 use Rattle.command.specs.Statuses.{RunsTo}
-use Rattle.reference.specs.declared.fault.BoardFault.{BoardFault}
-use Rattle.reference.specs.declared.fault.LoadFault.{LoadFault}
+use Rattle.reference.specs.declared.error.BoardError.{BoardError}
+use Rattle.reference.specs.declared.error.LoadError.{LoadError}
 use Rattle.reference.specs.Boards.{Described}
 use Rattle.reference.specs.Images.{Segment}
 use Rattle.trace.specs.declared.selection.TraceSelection.{TraceSelection}
@@ -68,20 +68,20 @@ abbrev pub MayBeWrong : AskedRun → Type 0
 MayBeWrong a = (¬ IsSteps a.steps) ⊎ ((selection_asked a.trace ≡ None) ⊎ IsSome a.expect)
 
 -- the request is the run that is asked for, or a value in it is wrong, or memory ran out for the message
-abbrev pub AsksRun : AskedRun → Result Request WordsFault → Type 0
+abbrev pub AsksRun : AskedRun → Result Request WordsError → Type 0
 AsksRun a (Ok request) = (request.board.now ≡ a.board) × (request.image.now ≡ a.image) × IsRun a request.task
-AsksRun a (Err fault) = ((answer_of fault ≡ usage) × MayBeWrong a) ⊎ (answer_of fault ≡ memory)
+AsksRun a (Err error) = ((answer_of error ≡ usage) × MayBeWrong a) ⊎ (answer_of error ≡ memory)
 
 -- the request is the report that is asked for, or its steps are no number of steps, or memory ran out for the message
-abbrev pub AsksReport : AskedReport → Result Request WordsFault → Type 0
+abbrev pub AsksReport : AskedReport → Result Request WordsError → Type 0
 AsksReport a (Ok request) = (request.board.now ≡ a.board) × (request.image.now ≡ a.image) × IsReport a request.task
-AsksReport a (Err fault) = ((answer_of fault ≡ usage) × (¬ IsSteps a.steps)) ⊎ (answer_of fault ≡ memory)
+AsksReport a (Err error) = ((answer_of error ≡ usage) × (¬ IsSteps a.steps)) ⊎ (answer_of error ≡ memory)
 
-abbrev pub AsksDebug : AskedDebug → Result Request WordsFault → Type 0
+abbrev pub AsksDebug : AskedDebug → Result Request WordsError → Type 0
 AsksDebug a (Ok request) = (request.board.now ≡ a.board) × (request.image.now ≡ a.image) × (request.task ≡ Debug)
-AsksDebug a (Err fault) = ⊥
+AsksDebug a (Err error) = ⊥
 
-abbrev pub Asks : Asked → Result Request WordsFault → Type 0
+abbrev pub Asks : Asked → Result Request WordsError → Type 0
 Asks (asks.run a) result = AsksRun a result
 Asks (asks.report a) result = AsksReport a result
 Asks (asks.debug a) result = AsksDebug a result
@@ -95,14 +95,14 @@ MayRefuse (Some (asks.debug a)) = ⊥
 
 -- arguments that `clap` takes ask for the request, or have a wrong value. Others are answered as one of the errors
 -- that `clap` finds says; and out of memory may come in place of all
-abbrev pub Requests : List (List ℕ) → Result Request WordsFault → Type 0
+abbrev pub Requests : List (List ℕ) → Result Request WordsError → Type 0
 Requests words (Ok request) = IsTaken words × ((a : Asked) × (asked words ≡ Some a) × Asks a (Ok request))
-Requests words (Err fault) =
-    (answer_of fault ≡ memory)
-    ⊎ (IsRefused words fault ⊎ ((answer_of fault ≡ usage) × MayRefuse (asked words)))
+Requests words (Err error) =
+    (answer_of error ≡ memory)
+    ⊎ (IsRefused words error ⊎ ((answer_of error ≡ usage) × MayRefuse (asked words)))
 
 -- the status is that of what is asked for: the run, as it is asked for, the report or the session
-abbrev pub Performs : Result (List Segment) LoadFault → Result Described BoardFault → Task → ℕ → Type 0
+abbrev pub Performs : Result (List Segment) LoadError → Result Described BoardError → Task → ℕ → Type 0
 Performs image board (Run run) status = RunsTo image board run status
 Performs image board (Report steps) status = ReportsTo image board steps status
 Performs image board Debug status = SessionTo image board status

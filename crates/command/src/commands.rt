@@ -12,13 +12,13 @@ ghost use Rattle.std.specs.declared.io.ErrorKind.TheVariants as kind;
 
 use crate::debugging::debug;
 use crate::engine::go;
-use crate::fault::{Fault, tell};
-use crate::files::{FileFault, InputFile, read_file};
+use crate::error::{Error, tell};
+use crate::files::{FileError, InputFile, read_file};
 use crate::last_error::LastError;
 use crate::reporting::report;
 use crate::request::{Request, RunRequest, Task, read_words};
 use crate::state_file::StateFile;
-use command_line::WordsFault;
+use command_line::WordsError;
 use machine::{Buffered, In, Out, Over, Paged};
 use messages::{Escaped, Messages};
 use std::alloc::Global;
@@ -41,7 +41,7 @@ pub fn program<R: Files + AllocGlobal, I: Read + Drop, W: Write + Drop, E: Write
     let mut err = Messages::new(err);
     let status = match read_words(rt.alloc(), words) {
         Ok(request) => carry_out(rt, request, input, out, &mut err),
-        Err(fault) => answer(fault, out, &mut err),
+        Err(error) => answer(error, out, &mut err),
     };
     let _ = err.flush();
     status
@@ -49,29 +49,29 @@ pub fn program<R: Files + AllocGlobal, I: Read + Drop, W: Write + Drop, E: Write
 
 /// Writes the answer to arguments that name no run and no session. Returns 2; 0 for the version; 5
 /// where the version can't be written or memory ran out.
-pub fn answer<W: Write + Drop, E: Write>(fault: WordsFault, mut out: W, err: &mut E) -> u8
-    ensures { AnsweredBy (answer_of fault) result }
+pub fn answer<W: Write + Drop, E: Write>(error: WordsError, mut out: W, err: &mut E) -> u8
+    ensures { AnsweredBy (answer_of error) result }
 {
-    match fault {
-        WordsFault::Wrong(text) => {
-            let status = tell(Fault::Usage, err);
+    match error {
+        WordsError::Wrong(text) => {
+            let status = tell(Error::Usage, err);
             let _ = err.write_all(text.as_bytes());
             status
         }
-        WordsFault::Help(text) => {
+        WordsError::Help(text) => {
             let written = out.write_all(text.as_bytes());
-            let status = tell(Fault::Usage, err);
+            let status = tell(Error::Usage, err);
             if let Err(error) = written {
                 let _ = writeln!(err, "  standard output: {error}");
             }
             status
         }
-        WordsFault::Version(text) => match out.write_all(text.as_bytes()) {
+        WordsError::Version(text) => match out.write_all(text.as_bytes()) {
             Ok(()) => 0,
             Err(error) => tell_io("standard output", &error, err),
         },
-        WordsFault::OutOfMemory => {
-            let status = tell(Fault::Io, err);
+        WordsError::OutOfMemory => {
+            let status = tell(Error::Io, err);
             let _ = writeln!(err, "  no memory was found for the arguments");
             status
         }
@@ -88,11 +88,11 @@ fn carry_out<R: Files + AllocGlobal, I: Read + Drop, W: Write + Drop, E: Write>(
 ) -> u8 {
     let image = match read_file(rt, request.image) {
         Ok(bytes) => bytes,
-        Err(fault) => return tell_file("IMAGE", request.image, &fault, err),
+        Err(error) => return tell_file("IMAGE", request.image, &error, err),
     };
     let board = match read_file(rt, request.board) {
         Ok(bytes) => bytes,
-        Err(fault) => return tell_file("--board", request.board, &fault, err),
+        Err(error) => return tell_file("--board", request.board, &error, err),
     };
     let image = InputFile {
         path: request.image,
@@ -290,12 +290,12 @@ fn run_saving<R: Files + AllocGlobal, O: Out + Drop, E: Write, K: Ledger>(
 }
 
 /// Writes why the file of an argument isn't read, and returns the status.
-fn tell_file<E: Write>(argument: &str, path: &str, fault: &FileFault, err: &mut E) -> u8
-    ensures { result ≡ file_status fault.now }
+fn tell_file<E: Write>(argument: &str, path: &str, error: &FileError, err: &mut E) -> u8
+    ensures { result ≡ file_status error.now }
 {
-    match fault {
-        FileFault::Size => {
-            let status = tell(Fault::Size, err);
+    match error {
+        FileError::Size => {
+            let status = tell(Error::Size, err);
             let path = Escaped(path);
             let _ = writeln!(
                 err,
@@ -303,8 +303,8 @@ fn tell_file<E: Write>(argument: &str, path: &str, fault: &FileFault, err: &mut 
             );
             status
         }
-        FileFault::Read(error) => {
-            let status = tell(Fault::Io, err);
+        FileError::Read(error) => {
+            let status = tell(Error::Io, err);
             write_reason(argument, path, error, err);
             status
         }
@@ -328,7 +328,7 @@ pub fn refuse_words<E: Write>(error: &io::Error, err: &mut E) -> u8
     let mut err = Messages::new(err);
     match error.kind() {
         io::ErrorKind::InvalidData => {
-            let status = tell(Fault::Usage, &mut err);
+            let status = tell(Error::Usage, &mut err);
             let _ = writeln!(err, "  {error}");
             status
         }
@@ -340,7 +340,7 @@ pub fn refuse_words<E: Write>(error: &io::Error, err: &mut E) -> u8
 fn tell_io<E: Write>(name: &str, error: &io::Error, err: &mut E) -> u8
     ensures { result ≡ 5 }
 {
-    let status = tell(Fault::Io, err);
+    let status = tell(Error::Io, err);
     let _ = writeln!(err, "  {name}: {error}");
     status
 }

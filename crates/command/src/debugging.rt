@@ -6,8 +6,8 @@ ghost use Rattle.command.specs.Statuses.{board_in_file};
 ghost use Rattle.reference.specs.Images.{image_of};
 
 use crate::engine::board_of_file;
+use crate::error::{Error, tell};
 use crate::explanations::explain;
-use crate::fault::{Fault, tell};
 use crate::files::InputFile;
 use debugger::session;
 use elf::load;
@@ -30,16 +30,16 @@ pub fn debug<I: In, O: Out, E: Write>(
     ensures debugs { DebugsTo (image_of image.entry.bytes.now) (board_in_file board.entry.bytes.now)
         (record { left = I.left input.old; misses = I.misses input.old })
         (record { left = I.left input.new; misses = I.misses input.new })
-        (record { sink = record { written = O.written out.old; faults = O.faults out.old }; waits = O.waits out.old })
-        (record { sink = record { written = O.written out.new; faults = O.faults out.new }; waits = O.waits out.new })
+        (record { sink = record { written = O.written out.old; errors = O.errors out.old }; waits = O.waits out.old })
+        (record { sink = record { written = O.written out.new; errors = O.errors out.new }; waits = O.waits out.new })
         result }
     ensures quiet { result ≡ 0 → err.new ≡ err.old }
 {
     match hold_session(alloc, image.bytes, board.bytes, input, out) {
         Ok(()) => 0,
-        Err(fault) => {
-            let status = tell(fault, err);
-            let _ = explain(alloc, fault, image, board, err);
+        Err(error) => {
+            let status = tell(error, err);
+            let _ = explain(alloc, error, image, board, err);
             status
         }
     }
@@ -52,33 +52,33 @@ fn hold_session<I: In, O: Out>(
     board: &[u8],
     input: &mut I,
     out: &mut O,
-) -> Result<(), Fault>
+) -> Result<(), Error>
     ensures { Debugs (image_of image.now) (board_in_file board.now)
         (record { left = I.left input.old; misses = I.misses input.old })
         (record { left = I.left input.new; misses = I.misses input.new })
-        (record { sink = record { written = O.written out.old; faults = O.faults out.old }; waits = O.waits out.old })
-        (record { sink = record { written = O.written out.new; faults = O.faults out.new }; waits = O.waits out.new })
+        (record { sink = record { written = O.written out.old; errors = O.errors out.old }; waits = O.waits out.old })
+        (record { sink = record { written = O.written out.new; errors = O.errors out.new }; waits = O.waits out.new })
         result }
 {
-    let image = load(image).map_err(Fault::Load)?;
-    let board = board_of_file(alloc, board).map_err(Fault::Board)?;
-    let machine = Fast::new(alloc, &image, &board).map_err(Fault::Start)?;
+    let image = load(image).map_err(Error::Load)?;
+    let board = board_of_file(alloc, board).map_err(Error::Board)?;
+    let machine = Fast::new(alloc, &image, &board).map_err(Error::Start)?;
     talk_with(machine, input, out)
 }
 
 /// Holds a session of a machine.
-fn talk_with<I: In, O: Out>(machine: Fast, input: &mut I, out: &mut O) -> Result<(), Fault>
+fn talk_with<I: In, O: Out>(machine: Fast, input: &mut I, out: &mut O) -> Result<(), Error>
     requires { machine.broken ≡ false }
     ensures { Talked machine.state
         (record { left = I.left input.old; misses = I.misses input.old })
         (record { left = I.left input.new; misses = I.misses input.new })
-        (record { sink = record { written = O.written out.old; faults = O.faults out.old }; waits = O.waits out.old })
-        (record { sink = record { written = O.written out.new; faults = O.faults out.new }; waits = O.waits out.new })
+        (record { sink = record { written = O.written out.old; errors = O.errors out.old }; waits = O.waits out.old })
+        (record { sink = record { written = O.written out.new; errors = O.errors out.new }; waits = O.waits out.new })
         result }
 {
     let mut machine = machine;
     match session(&mut machine, input, out) {
         Ok(()) => Ok(()),
-        Err(_) => Err(Fault::Io),
+        Err(_) => Err(Error::Io),
     }
 }

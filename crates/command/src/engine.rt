@@ -8,12 +8,12 @@ ghost use Rattle.output.specs.Gathered.{gathered};
 ghost use Rattle.reference.specs.Images.{image_of};
 ghost use Rattle.reference.specs.Run.{after};
 
+use crate::error::{Error, stop_status, tell};
 use crate::expectation::{is_worded, words_in};
 use crate::explanations::explain;
-use crate::fault::{Fault, stop_status, tell};
 use crate::files::InputFile;
 use crate::request::RunRequest;
-use board::{Board, BoardFault, read_board};
+use board::{Board, BoardError, read_board};
 use debugger::write_state;
 use elf::load;
 use machine::{Fast, Out, Paged, Stop, TraceSelection};
@@ -24,7 +24,7 @@ use trace::lines::stop_line;
 
 /// Runs an image on a board for at most `run.steps` steps and writes its trace, as far as
 /// `run.trace` selects it, to `out`, and then, where `run.state` names a file, the state of the machine to
-/// `state`; or the refusal to `err`, the fault first and then its reason. Returns the exit status: 0 after
+/// `state`; or the refusal to `err`, the error first and then its reason. Returns the exit status: 0 after
 /// all steps or at a breakpoint, 3 for a refused image, board or start, or where memory runs out for the
 /// board or the machine, 4 at another stop, 5 where `out` or `state` failed. With an expectation the status
 /// is 0 at the stop that is expected, and 1 at another.
@@ -39,15 +39,15 @@ pub fn go<O: Out + Drop, S: Out, E: Write>(
 ) -> u8
     ensures goes { GoesTo (image_of image.entry.bytes.now) (board_in_file board.entry.bytes.now) run.entry
         (gathered out.old) (gathered out.new)
-        (record { written = S.written state.old; faults = S.faults state.old })
-        (record { written = S.written state.new; faults = S.faults state.new }) result }
+        (record { written = S.written state.old; errors = S.errors state.old })
+        (record { written = S.written state.new; errors = S.errors state.new }) result }
     ensures quiet { (result ≡ 0) ⊎ (result ≡ 4) → err.new ≡ err.old }
 {
     match execute(alloc, image.bytes, board.bytes, run, out, state) {
         Ok(stop) => end(stop, run.expect, err),
-        Err(fault) => {
-            let status = tell(fault, err);
-            let _ = explain(alloc, fault, image, board, err);
+        Err(error) => {
+            let status = tell(error, err);
+            let _ = explain(alloc, error, image, board, err);
             status
         }
     }
@@ -87,15 +87,15 @@ fn execute<O: Out + Drop, S: Out>(
     run: RunRequest<'_>,
     out: &mut Paged<O>,
     state: &mut S,
-) -> Result<Stop, Fault>
+) -> Result<Stop, Error>
     ensures { Executes (image_of image.now) (board_in_file board.now) run.entry
         (gathered out.old) (gathered out.new)
-        (record { written = S.written state.old; faults = S.faults state.old })
-        (record { written = S.written state.new; faults = S.faults state.new }) result }
+        (record { written = S.written state.old; errors = S.errors state.old })
+        (record { written = S.written state.new; errors = S.errors state.new }) result }
 {
-    let image = load(image).map_err(Fault::Load)?;
-    let board = board_of_file(alloc, board).map_err(Fault::Board)?;
-    let mut machine = Fast::new(alloc, &image, &board).map_err(Fault::Start)?;
+    let image = load(image).map_err(Error::Load)?;
+    let board = board_of_file(alloc, board).map_err(Error::Board)?;
+    let mut machine = Fast::new(alloc, &image, &board).map_err(Error::Start)?;
     run_and_save(&mut machine, run, out, state)
 }
 
@@ -105,11 +105,11 @@ fn run_and_save<O: Out + Drop, S: Out>(
     run: RunRequest<'_>,
     out: &mut Paged<O>,
     state: &mut S,
-) -> Result<Stop, Fault>
+) -> Result<Stop, Error>
     requires { machine.old.broken ≡ false }
     ensures { Runs run.entry machine.old.state (gathered out.old) (gathered out.new)
-        (record { written = S.written state.old; faults = S.faults state.old })
-        (record { written = S.written state.new; faults = S.faults state.new }) result }
+        (record { written = S.written state.old; errors = S.errors state.old })
+        (record { written = S.written state.new; errors = S.errors state.new }) result }
 {
     let stop = run_through(machine, run.trace, run.steps, out)?;
     save(machine, run.state, state)?;
@@ -117,16 +117,16 @@ fn run_and_save<O: Out + Drop, S: Out>(
 }
 
 /// Writes the state of a machine, where a file is named for it.
-fn save<S: Out>(machine: &Fast, path: Option<&str>, out: &mut S) -> Result<(), Fault>
+fn save<S: Out>(machine: &Fast, path: Option<&str>, out: &mut S) -> Result<(), Error>
     ensures { Saved (text_of path.entry) machine.now.state
-        (record { written = S.written out.old; faults = S.faults out.old })
-        (record { written = S.written out.new; faults = S.faults out.new }) result }
+        (record { written = S.written out.old; errors = S.errors out.old })
+        (record { written = S.written out.new; errors = S.errors out.new }) result }
 {
     match path {
         None => Ok(()),
         Some(_) => match write_state(machine, out) {
             Ok(()) => Ok(()),
-            Err(_) => Err(Fault::Io),
+            Err(_) => Err(Error::Io),
         },
     }
 }
@@ -137,7 +137,7 @@ fn run_through<O: Out + Drop>(
     selection: TraceSelection,
     steps: u64,
     out: &mut Paged<O>,
-) -> Result<Stop, Fault>
+) -> Result<Stop, Error>
     requires { machine.old.broken ≡ false }
     ensures traces { Traces selection steps machine.old.state (gathered out.old) (gathered out.new) result }
     ensures state { OnOk result (machine.new.state ≡ after steps machine.old.state) }
@@ -145,18 +145,18 @@ fn run_through<O: Out + Drop>(
     match machine.run_selected(selection, steps, out) {
         Ok(stop) => match out.flush() {
             Ok(()) => Ok(stop),
-            Err(_) => Err(Fault::Io),
+            Err(_) => Err(Error::Io),
         },
-        Err(_) => Err(Fault::Io),
+        Err(_) => Err(Error::Io),
     }
 }
 
 /// Returns the board that the bytes of a file describe.
-pub fn board_of_file(alloc: Global, bytes: &[u8]) -> Result<Board, BoardFault>
+pub fn board_of_file(alloc: Global, bytes: &[u8]) -> Result<Board, BoardError>
     ensures { Reads (board_in_file bytes.now) result }
 {
     match str::from_utf8(bytes) {
         Ok(text) => read_board(alloc, text),
-        Err(_) => Err(BoardFault::NotToml),
+        Err(_) => Err(BoardError::NotToml),
     }
 }

@@ -1,52 +1,52 @@
-//! Why a run is refused, for a person: lines after the fault's own.
+//! Why a run is refused, for a person: lines after the error's own.
 
 use crate::engine::board_of_file;
-use crate::fault::Fault;
+use crate::error::Error;
 use crate::files::InputFile;
 use messages::Escaped;
 use reasons::{write_board_reason, write_image_reason, write_start_reason};
-use reference::fault::StartFault;
+use reference::error::StartError;
 use std::alloc::Global;
 use std::io;
 use std::io::Write;
 
-/// Writes the file of a fault and what is wrong in it: a field, a key or an event, its value, and
+/// Writes the file of an error and what is wrong in it: a field, a key or an event, its value, and
 /// what it takes.
 pub fn explain<E: Write>(
     alloc: Global,
-    fault: Fault,
+    error: Error,
     image: InputFile<'_>,
     board: InputFile<'_>,
     err: &mut E,
 ) -> io::Result<()> {
-    match fault {
-        Fault::Load(fault) => {
+    match error {
+        Error::Load(error) => {
             write_path(image.path, err)?;
-            write_image_reason(err, image.bytes, fault)
+            write_image_reason(err, image.bytes, error)
         }
-        Fault::Board(fault) => {
+        Error::Board(error) => {
             write_path(board.path, err)?;
-            write_board_reason(alloc, err, board.bytes, fault)
+            write_board_reason(alloc, err, board.bytes, error)
         }
-        Fault::Start(fault) => {
+        Error::Start(error) => {
             write_path(image.path, err)?;
-            explain_start(alloc, fault, image.bytes, board.bytes, err)
+            explain_start(alloc, error, image.bytes, board.bytes, err)
         }
-        Fault::Usage | Fault::Size | Fault::Io => Ok(()),
+        Error::Usage | Error::Size | Error::Io => Ok(()),
     }
 }
 
 /// Writes why a machine of a board doesn't start with an image.
 fn explain_start<E: Write>(
     alloc: Global,
-    fault: StartFault,
+    error: StartError,
     image: &[u8],
     board: &[u8],
     err: &mut E,
 ) -> io::Result<()> {
     match board_of_file(alloc, board) {
-        Ok(board) => write_start_reason(err, image, &board.layout, fault),
-        Err(_) => writeln!(err, "{fault}"),
+        Ok(board) => write_start_reason(err, image, &board.layout, error),
+        Err(_) => writeln!(err, "{error}"),
     }
 }
 

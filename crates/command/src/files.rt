@@ -72,7 +72,7 @@ pub struct InputFile<'a> {
 
 /// Why a file isn't read.
 #[derive(Drop)]
-pub enum FileFault {
+pub enum FileError {
     /// It has more than 16 MiB.
     Size,
     /// The system refuses, or memory ran out.
@@ -80,20 +80,20 @@ pub enum FileFault {
 }
 
 /// Returns the bytes of a file, at most 16 MiB.
-pub fn read_file<R: Files + AllocGlobal>(rt: &R, path: &str) -> Result<Vec<u8>, FileFault>
+pub fn read_file<R: Files + AllocGlobal>(rt: &R, path: &str) -> Result<Vec<u8>, FileError>
     ensures { IfOk result (λ bytes. vec_len bytes ≤ most_bytes) }
 {
     let mut bytes = Vec::new(rt.alloc());
     let file = match fs::open(rt, path) {
         Ok(file) => file,
-        Err(error) => return Err(FileFault::Read(error)),
+        Err(error) => return Err(FileError::Read(error)),
     };
     match file.take(LIMIT + 1).read_to_end(&mut bytes) {
         Ok(_) => {}
-        Err(error) => return Err(FileFault::Read(error)),
+        Err(error) => return Err(FileError::Read(error)),
     }
     if bytes.len() as u64 > LIMIT {
-        return Err(FileFault::Size);
+        return Err(FileError::Size);
     }
     Ok(bytes)
 }

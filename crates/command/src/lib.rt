@@ -5,21 +5,21 @@
 mod commands;
 mod debugging;
 mod engine;
+mod error;
 mod expectation;
 mod explanations;
-mod fault;
 mod files;
 mod last_error;
 mod reporting;
 mod request;
 mod state_file;
 
-pub use command_line::WordsFault;
+pub use command_line::WordsError;
 pub use commands::{answer, program, refuse_words};
 pub use debugging::debug;
 pub use engine::go;
+pub use error::{Error, tell};
 pub use explanations::explain;
-pub use fault::{Fault, tell};
-pub use files::{FileFault, InputFile, read_file, words};
+pub use files::{FileError, InputFile, read_file, words};
 pub use reporting::report;
 pub use request::{Request, RunRequest, Task, read_words};

@@ -3,16 +3,16 @@
 ghost use Rattle.std.specs.Prelude.{◌≡◌, ◌⊎◌, Err, IfErr};
 ghost use Rattle.command.specs.Reports.{ReportsTo, Surveys, SurveysImage};
 ghost use Rattle.command.specs.Statuses.{board_in_file};
-ghost use Rattle.command.specs.declared.fault.Fault.TheVariants.{Io, Start};
-ghost use Rattle.reference.specs.declared.fault.StartFault.TheVariants.{NoMemory};
+ghost use Rattle.command.specs.declared.error.Error.TheVariants.{Io, Start};
+ghost use Rattle.reference.specs.declared.error.StartError.TheVariants.{NoMemory};
 ghost use Rattle.reference.specs.Images.{image_of};
 
 use crate::engine::board_of_file;
+use crate::error::{Error, stop_status, tell};
 use crate::explanations::explain;
-use crate::fault::{Fault, stop_status, tell};
 use crate::files::InputFile;
 use elf::load;
-use machine::{Fast, Layout, StartFault, Stop};
+use machine::{Fast, Layout, StartError, Stop};
 use report::{Report, write_page};
 use std::alloc::Global;
 use std::io;
@@ -25,7 +25,7 @@ use symbols::Symbols;
 const PAGE_BYTES: usize = 0x20_0000;
 
 /// Runs an image on a board for at most `steps` steps, and writes a page about the run to `out`, or the
-/// refusal to `err`, the fault first and then its reason. Returns the exit status: 0 after all steps or at a
+/// refusal to `err`, the error first and then its reason. Returns the exit status: 0 after all steps or at a
 /// breakpoint, 3 for a refused image, board or start, or where memory runs out before the run, 4 at another
 /// stop, 5 where `out` failed.
 pub fn report<W: Write, E: Write>(
@@ -41,9 +41,9 @@ pub fn report<W: Write, E: Write>(
 {
     match survey_image(alloc, image, board, steps, out) {
         Ok(stop) => stop_status(stop),
-        Err(fault) => {
-            let status = tell(fault, err);
-            let _ = explain(alloc, fault, image, board, err);
+        Err(error) => {
+            let status = tell(error, err);
+            let _ = explain(alloc, error, image, board, err);
             status
         }
     }
@@ -56,13 +56,13 @@ fn survey_image<W: Write>(
     board: InputFile<'_>,
     steps: u64,
     out: &mut W,
-) -> Result<Stop, Fault>
+) -> Result<Stop, Error>
     ensures surveys { SurveysImage (image_of image.entry.bytes.now) (board_in_file board.entry.bytes.now) steps result }
-    ensures untouched { IfErr result (λ fault. (fault ≡ Io) ⊎ (out.new ≡ out.old)) }
+    ensures untouched { IfErr result (λ error. (error ≡ Io) ⊎ (out.new ≡ out.old)) }
 {
-    let loaded = load(image.bytes).map_err(Fault::Load)?;
-    let read = board_of_file(alloc, board.bytes).map_err(Fault::Board)?;
-    let machine = Fast::new(alloc, &loaded, &read).map_err(Fault::Start)?;
+    let loaded = load(image.bytes).map_err(Error::Load)?;
+    let read = board_of_file(alloc, board.bytes).map_err(Error::Board)?;
+    let machine = Fast::new(alloc, &loaded, &read).map_err(Error::Start)?;
     survey_machine(alloc, machine, &read.layout, image, board, steps, out)
 }
 
@@ -76,19 +76,19 @@ fn survey_machine<W: Write>(
     board: InputFile<'_>,
     steps: u64,
     out: &mut W,
-) -> Result<Stop, Fault>
+) -> Result<Stop, Error>
     ensures surveys { Surveys steps machine.state result ⊎ (result ≡ Err (Start NoMemory)) }
-    ensures untouched { IfErr result (λ fault. (fault ≡ Io) ⊎ (out.new ≡ out.old)) }
+    ensures untouched { IfErr result (λ error. (error ≡ Io) ⊎ (out.new ≡ out.old)) }
 {
     let Ok(mut survey) = Survey::new(alloc, layout) else {
-        return Err(Fault::Start(StartFault::NoMemory));
+        return Err(Error::Start(StartError::NoMemory));
     };
     let Ok(symbols) = Symbols::read(alloc, image.bytes) else {
-        return Err(Fault::Start(StartFault::NoMemory));
+        return Err(Error::Start(StartError::NoMemory));
     };
     let mut page = Vec::new(alloc);
     if page.reserve(PAGE_BYTES).is_err() {
-        return Err(Fault::Start(StartFault::NoMemory));
+        return Err(Error::Start(StartError::NoMemory));
     }
     let mut machine = machine;
     let stop = survey_run(&mut machine, steps, &mut survey);
@@ -103,7 +103,7 @@ fn survey_machine<W: Write>(
     };
     match put_page(&run, &mut page, out) {
         Ok(()) => Ok(stop),
-        Err(_) => Err(Fault::Io),
+        Err(_) => Err(Error::Io),
     }
 }
 

@@ -5,7 +5,7 @@ ghost use Rattle.command.specs.Tasks.{AsksReport, AsksRun, IsSteps, Requests, nu
 ghost use Rattle.command_line.specs.Asked.{answer_of, memory, report_of, run_of, text_of, usage};
 
 use crate::expectation::is_stop;
-use command_line::{MOST_STEPS, ReportWords, RunWords, Words, WordsFault, words_of};
+use command_line::{MOST_STEPS, ReportWords, RunWords, Words, WordsError, words_of};
 use machine::TraceSelection;
 use messages::Escaped;
 use std::alloc::Global;
@@ -46,7 +46,7 @@ pub struct RunRequest<'a> {
 
 /// Reads the arguments; the first one is the program's name.
 #[tactic(auto, using(crate::proofs::Asking::run_asked, crate::proofs::Asking::report_asked, crate::proofs::Asking::debug_asked, crate::proofs::Asking::not_taken))]
-pub fn read_words<'a>(alloc: Global, words: &'a [String]) -> Result<Request<'a>, WordsFault>
+pub fn read_words<'a>(alloc: Global, words: &'a [String]) -> Result<Request<'a>, WordsError>
     ensures { Requests (map string_bytes words.entry.now) result }
 {
     match words_of(alloc, words) {
@@ -57,12 +57,12 @@ pub fn read_words<'a>(alloc: Global, words: &'a [String]) -> Result<Request<'a>,
             image: debug.image,
             task: Task::Debug,
         }),
-        Err(fault) => Err(fault),
+        Err(error) => Err(error),
     }
 }
 
 /// Reads the values of a run.
-fn run_request<'a>(alloc: Global, run: RunWords<'a>) -> Result<Request<'a>, WordsFault>
+fn run_request<'a>(alloc: Global, run: RunWords<'a>) -> Result<Request<'a>, WordsError>
     ensures { AsksRun (run_of run.entry) result }
 {
     let Some(steps) = steps_in(run.steps) else {
@@ -94,7 +94,7 @@ fn run_request<'a>(alloc: Global, run: RunWords<'a>) -> Result<Request<'a>, Word
 }
 
 /// Reads the values of a report.
-fn report_request<'a>(alloc: Global, report: ReportWords<'a>) -> Result<Request<'a>, WordsFault>
+fn report_request<'a>(alloc: Global, report: ReportWords<'a>) -> Result<Request<'a>, WordsError>
     ensures { AsksReport (report_of report.entry) result }
 {
     let Some(steps) = steps_in(report.steps) else {
@@ -159,13 +159,13 @@ const STOPS_ADVICE: &str = "\
 --expect takes the words of a stop line after `stop`: steps, breakpoint N (N from 0 to 255), reset, lockup,
 or unpredictable or outofprofile and a name.";
 
-/// Returns the fault of an option's value that isn't allowed, with what is.
-fn wrong_value(alloc: Global, value: &str, option: &str, advice: &str) -> WordsFault
+/// Returns the error of an option's value that isn't allowed, with what is.
+fn wrong_value(alloc: Global, value: &str, option: &str, advice: &str) -> WordsError
     ensures { (answer_of result ≡ usage) ⊎ (answer_of result ≡ memory) }
 {
     let value = Escaped(value);
     match format!(in alloc; "error: invalid value '{value}' for '{option}'\n{advice}\n") {
-        Ok(text) => WordsFault::Wrong(text),
-        Err(_) => WordsFault::OutOfMemory,
+        Ok(text) => WordsError::Wrong(text),
+        Err(_) => WordsError::OutOfMemory,
     }
 }

@@ -11,7 +11,7 @@ use Rattle.clap.specs.declared.error.kind.ErrorKind.TheVariants as kind
 use Rattle.command_line.specs.Asked.{Reads, Refuses, Takes, answer_to, asked_in}
 use Rattle.command_line.specs.Commands.{marm}
 use Rattle.command_line.specs.declared.words.Words.{Words}
-use Rattle.command_line.specs.declared.words.WordsFault.{WordsFault}
+use Rattle.command_line.specs.declared.words.WordsError.{WordsError}
 
 pub simple : is_simple marm ≡ true
 simple = refl
@@ -19,29 +19,29 @@ simple = refl
 pub simple_and_free : is_simple_and_free marm ≡ true
 simple_and_free = refl
 
-pub taken : (words : List Text) (rows : Option (Text × List Row)) (result : Result Words WordsFault)
+pub taken : (words : List Text) (rows : Option (Text × List Row)) (result : Result Words WordsError)
     → fault_of marm words ≡ [] → rows ≡ subcommand_of marm words → Reads (asked_in rows) result → Takes words result
 taken words rows (Ok asked) none same h = (none, ap asked_in (sym same) ∙ h)
-taken words rows (Err fault) none same h = inr (inr (ap asked_in (sym same) ∙ h.0, h.1))
+taken words rows (Err error) none same h = inr (inr (ap asked_in (sym same) ∙ h.0, h.1))
 
-by_kind : (words : List Text) (k : ErrorKind) (fault : WordsFault) → IsAmong k (fault_of marm words) → Refuses k fault
-    → Takes words (Err fault)
-by_kind words k fault among (inl same) = inr (inl (k, among, same))
-by_kind words k fault among (inr wanting) = inl wanting
+by_kind : (words : List Text) (k : ErrorKind) (error : WordsError) → IsAmong k (fault_of marm words) → Refuses k error
+    → Takes words (Err error)
+by_kind words k error among (inl same) = inr (inl (k, among, same))
+by_kind words k error among (inr wanting) = inl wanting
 
-by_memory : (words : List Text) (k : ErrorKind) (fault : WordsFault) → k ≡ kind.OutOfMemory → Refuses k fault
-    → Takes words (Err fault)
-by_memory words k fault e (inl same) = inl (same ∙ ap answer_to e)
-by_memory words k fault e (inr wanting) = inl wanting
+by_memory : (words : List Text) (k : ErrorKind) (error : WordsError) → k ≡ kind.OutOfMemory → Refuses k error
+    → Takes words (Err error)
+by_memory words k error e (inl same) = inl (same ∙ ap answer_to e)
+by_memory words k error e (inr wanting) = inl wanting
 
-by_kinds : (words : List Text) (e : Error) (fault : WordsFault) → HasKind (fault_of marm words) e
-    → Refuses (kind_of e) fault → Takes words (Err fault)
-by_kinds words e fault (inl wanting) h = by_memory words (kind_of e) fault wanting h
-by_kinds words e fault (inr among) h = by_kind words (kind_of e) fault among h
+by_kinds : (words : List Text) (e : Error) (error : WordsError) → HasKind (fault_of marm words) e
+    → Refuses (kind_of e) error → Takes words (Err error)
+by_kinds words e error (inl wanting) h = by_memory words (kind_of e) error wanting h
+by_kinds words e error (inr among) h = by_kind words (kind_of e) error among h
 
-pub refused : (words : List Text) (app : App) (e : Error) (fault : WordsFault) → app ≡ marm
-    → (is_simple_and_free app ≡ true → HasKind (fault_of app words) e) → Refuses (kind_of e) fault
-    → Takes words (Err fault)
-refused words app e fault is fails h =
+pub refused : (words : List Text) (app : App) (e : Error) (error : WordsError) → app ≡ marm
+    → (is_simple_and_free app ≡ true → HasKind (fault_of app words) e) → Refuses (kind_of e) error
+    → Takes words (Err error)
+refused words app e error is fails h =
     let failed : HasKind (fault_of app words) e = fails (ap is_simple_and_free is ∙ simple_and_free) in
-    by_kinds words e fault (subst (λ (a : App). HasKind (fault_of a words) e) is failed) h
+    by_kinds words e error (subst (λ (a : App). HasKind (fault_of a words) e) is failed) h

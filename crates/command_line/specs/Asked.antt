@@ -13,8 +13,8 @@ use Rattle.command_line.specs.declared.words.ReportWords.{ReportWords}
 use Rattle.command_line.specs.declared.words.RunWords.{RunWords}
 use Rattle.command_line.specs.declared.words.Words.{Words}
 use Rattle.command_line.specs.declared.words.Words.TheVariants as words
-use Rattle.command_line.specs.declared.words.WordsFault.{WordsFault}
-use Rattle.command_line.specs.declared.words.WordsFault.TheVariants.{Wrong, Help, Version, OutOfMemory}
+use Rattle.command_line.specs.declared.words.WordsError.{WordsError}
+use Rattle.command_line.specs.declared.words.WordsError.TheVariants.{Wrong, Help, Version, OutOfMemory}
 
 -- the arguments of a run
 pub record AskedRun : Type 0 where
@@ -133,33 +133,33 @@ answer_to kind.DisplayHelpOnMissingArgumentOrSubcommand = help
 answer_to kind.DisplayVersion = version
 answer_to kind.OutOfMemory = memory
 
--- the answer that a fault leads to
-abbrev pub answer_of : WordsFault → Answer
+-- the answer that an error leads to
+abbrev pub answer_of : WordsError → Answer
 answer_of (Wrong text) = usage
 answer_of (Help text) = help
 answer_of (Version text) = version
 answer_of OutOfMemory = memory
 
 -- the answer to an error, or out of memory for its text
-abbrev pub Refuses : ErrorKind → WordsFault → Type 0
-Refuses k fault = (answer_of fault ≡ answer_to k) ⊎ (answer_of fault ≡ memory)
+abbrev pub Refuses : ErrorKind → WordsError → Type 0
+Refuses k error = (answer_of error ≡ answer_to k) ⊎ (answer_of error ≡ memory)
 
--- the values of a subcommand's matches, or a usage fault where one that is needed has none
-abbrev pub Reads : Option Asked → Result Words WordsFault → Type 0
+-- the values of a subcommand's matches, or a usage error where one that is needed has none
+abbrev pub Reads : Option Asked → Result Words WordsError → Type 0
 Reads asks (Ok words) = asks ≡ Some (asked_of words)
-Reads asks (Err fault) = (asks ≡ None) × (answer_of fault ≡ usage)
+Reads asks (Err error) = (asks ≡ None) × (answer_of error ≡ usage)
 
 -- `clap` takes the arguments
 abbrev pub IsTaken : List Text → Type 0
 IsTaken words = fault_of marm words ≡ []
 
 -- the answer is that to one of the errors that `clap` finds in the arguments
-abbrev pub IsRefused : List Text → WordsFault → Type 0
-IsRefused words fault = (k : ErrorKind) × IsAmong k (fault_of marm words) × (answer_of fault ≡ answer_to k)
+abbrev pub IsRefused : List Text → WordsError → Type 0
+IsRefused words error = (k : ErrorKind) × IsAmong k (fault_of marm words) × (answer_of error ≡ answer_to k)
 
 -- arguments that `clap` takes are read as its matches say. Others are answered as one of the errors that `clap` finds
 -- says; and out of memory may come in place of all
-abbrev pub Takes : List Text → Result Words WordsFault → Type 0
+abbrev pub Takes : List Text → Result Words WordsError → Type 0
 Takes words (Ok taken) = IsTaken words × (asked words ≡ Some (asked_of taken))
-Takes words (Err fault) =
-    (answer_of fault ≡ memory) ⊎ (IsRefused words fault ⊎ ((asked words ≡ None) × (answer_of fault ≡ usage)))
+Takes words (Err error) =
+    (answer_of error ≡ memory) ⊎ (IsRefused words error ⊎ ((asked words ≡ None) × (answer_of error ≡ usage)))

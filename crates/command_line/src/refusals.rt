@@ -6,25 +6,25 @@ ghost use Rattle.command_line.specs.Asked.{Refuses, answer_of, memory, usage};
 
 use crate::commands::marm;
 use crate::texts::{COMMANDS_ADVICE, DASH_ADVICE, DASH_TIP, STEPS_ADVICE};
-use crate::words::WordsFault;
+use crate::words::WordsError;
 use clap::Error;
 use clap::error::ErrorKind;
 use messages::Escaped;
 use std::alloc::{AllocError, Global};
 
-/// Returns the fault of an error that `clap` finds in arguments, with its text.
-pub fn fault_of(alloc: Global, error: &Error, words: &[String]) -> WordsFault
+/// Returns the answer to an error that `clap` finds in arguments, with its text.
+pub fn error_of(alloc: Global, error: &Error, words: &[String]) -> WordsError
     ensures { Refuses (kind_of error.now) result }
 {
     let Ok(text) = text_of(alloc, error, words) else {
-        return WordsFault::OutOfMemory;
+        return WordsError::OutOfMemory;
     };
     match error.kind() {
-        ErrorKind::OutOfMemory => WordsFault::OutOfMemory,
+        ErrorKind::OutOfMemory => WordsError::OutOfMemory,
         ErrorKind::DisplayHelp | ErrorKind::DisplayHelpOnMissingArgumentOrSubcommand => {
-            WordsFault::Help(text)
+            WordsError::Help(text)
         }
-        ErrorKind::DisplayVersion => WordsFault::Version(text),
+        ErrorKind::DisplayVersion => WordsError::Version(text),
         ErrorKind::ValueValidation => advised(text, STEPS_ADVICE),
         ErrorKind::InvalidSubcommand => advised(text, COMMANDS_ADVICE),
         ErrorKind::UnknownArgument => advised_of_dash(text),
@@ -37,7 +37,7 @@ pub fn fault_of(alloc: Global, error: &Error, words: &[String]) -> WordsFault
         | ErrorKind::MissingRequiredArgument
         | ErrorKind::MissingSubcommand
         | ErrorKind::Io
-        | ErrorKind::Format => WordsFault::Wrong(text),
+        | ErrorKind::Format => WordsError::Wrong(text),
     }
 }
 
@@ -71,25 +71,25 @@ fn shown(alloc: Global, words: &[String]) -> Result<Vec<String>, AllocError> {
     Ok(shown)
 }
 
-/// Returns the fault of an error whose text doesn't say what to write instead.
-fn advised(text: String, advice: &str) -> WordsFault
+/// Returns the answer to an error whose text doesn't say what to write instead.
+fn advised(text: String, advice: &str) -> WordsError
     ensures { (answer_of result ≡ usage) ⊎ (answer_of result ≡ memory) }
 {
     let mut text = text;
     match text.push_str(advice) {
-        Ok(()) => WordsFault::Wrong(text),
-        Err(_) => WordsFault::OutOfMemory,
+        Ok(()) => WordsError::Wrong(text),
+        Err(_) => WordsError::OutOfMemory,
     }
 }
 
-/// Returns the fault of a word that isn't taken. `clap` says of one that begins with `-` that it can be
+/// Returns the answer to a word that isn't taken. `clap` says of one that begins with `-` that it can be
 /// a value, which is so for an image alone.
-fn advised_of_dash(text: String) -> WordsFault
+fn advised_of_dash(text: String) -> WordsError
     ensures { (answer_of result ≡ usage) ⊎ (answer_of result ≡ memory) }
 {
     if text.as_str().contains(DASH_TIP) {
         advised(text, DASH_ADVICE)
     } else {
-        WordsFault::Wrong(text)
+        WordsError::Wrong(text)
     }
 }

@@ -5,7 +5,7 @@ ghost use Rattle.clap.specs.Words.{first_of, found_of, rows_of, subcommand_rows_
 ghost use Rattle.command_line.specs.Asked.{Reads, Takes, asked_in, debug_with, report_with, run_with};
 
 use crate::commands::marm;
-use crate::refusals::fault_of;
+use crate::refusals::error_of;
 use clap::ArgMatches;
 use std::alloc::Global;
 
@@ -56,7 +56,7 @@ pub enum Words<'a> {
 
 /// Why the arguments name nothing of these.
 #[derive(Drop)]
-pub enum WordsFault {
+pub enum WordsError {
     /// They are wrong: why, and the usage.
     Wrong(String),
     /// They ask for help: its text.
@@ -69,20 +69,20 @@ pub enum WordsFault {
 
 /// Returns what the arguments name; the first one is the program's name.
 #[tactic(auto, using(crate::proofs::Parsing::taken, crate::proofs::Parsing::refused, crate::proofs::Parsing::simple, crate::proofs::Parsing::simple_and_free))]
-pub fn words_of<'a>(alloc: Global, words: &'a [String]) -> Result<Words<'a>, WordsFault>
+pub fn words_of<'a>(alloc: Global, words: &'a [String]) -> Result<Words<'a>, WordsError>
     ensures { Takes (map string_bytes words.entry.now) result }
 {
     let Ok(command) = marm(alloc) else {
-        return Err(WordsFault::OutOfMemory);
+        return Err(WordsError::OutOfMemory);
     };
     match command.try_get_matches_from(words) {
         Ok(matches) => words_in(alloc, &matches),
-        Err(error) => Err(fault_of(alloc, &error, words)),
+        Err(error) => Err(error_of(alloc, &error, words)),
     }
 }
 
 /// Returns what the matches of the program name.
-fn words_in<'a>(alloc: Global, matches: &ArgMatches<'a>) -> Result<Words<'a>, WordsFault>
+fn words_in<'a>(alloc: Global, matches: &ArgMatches<'a>) -> Result<Words<'a>, WordsError>
     ensures { Reads (asked_in (subcommand_rows_of matches.now)) result }
 {
     match matches.subcommand() {
@@ -94,15 +94,15 @@ fn words_in<'a>(alloc: Global, matches: &ArgMatches<'a>) -> Result<Words<'a>, Wo
             } else if name == "debug" {
                 debug_words(alloc, matches)
             } else {
-                Err(WordsFault::Wrong(String::new(alloc)))
+                Err(WordsError::Wrong(String::new(alloc)))
             }
         }
-        None => Err(WordsFault::Wrong(String::new(alloc))),
+        None => Err(WordsError::Wrong(String::new(alloc))),
     }
 }
 
 /// Returns the values of the arguments of `report`. `clap` has found all of them.
-fn report_words<'a>(alloc: Global, report: &ArgMatches<'a>) -> Result<Words<'a>, WordsFault>
+fn report_words<'a>(alloc: Global, report: &ArgMatches<'a>) -> Result<Words<'a>, WordsError>
     ensures { Reads (report_with (first_of (codes "board") (rows_of (found_of report.now)))
         (first_of (codes "steps") (rows_of (found_of report.now)))
         (first_of (codes "image") (rows_of (found_of report.now)))) result }
@@ -117,23 +117,23 @@ fn report_words<'a>(alloc: Global, report: &ArgMatches<'a>) -> Result<Words<'a>,
             steps,
             image,
         })),
-        _ => Err(WordsFault::Wrong(String::new(alloc))),
+        _ => Err(WordsError::Wrong(String::new(alloc))),
     }
 }
 
 /// Returns the values of the arguments of `debug`. `clap` has found both.
-fn debug_words<'a>(alloc: Global, debug: &ArgMatches<'a>) -> Result<Words<'a>, WordsFault>
+fn debug_words<'a>(alloc: Global, debug: &ArgMatches<'a>) -> Result<Words<'a>, WordsError>
     ensures { Reads (debug_with (first_of (codes "board") (rows_of (found_of debug.now)))
         (first_of (codes "image") (rows_of (found_of debug.now)))) result }
 {
     match (value_of(debug, "board"), value_of(debug, "image")) {
         (Some(board), Some(image)) => Ok(Words::Debug(DebugWords { board, image })),
-        _ => Err(WordsFault::Wrong(String::new(alloc))),
+        _ => Err(WordsError::Wrong(String::new(alloc))),
     }
 }
 
 /// Returns the values of the arguments of `run`. `clap` has found those that a run needs.
-fn run_words<'a>(alloc: Global, run: &ArgMatches<'a>) -> Result<Words<'a>, WordsFault>
+fn run_words<'a>(alloc: Global, run: &ArgMatches<'a>) -> Result<Words<'a>, WordsError>
     ensures { Reads (run_with (first_of (codes "board") (rows_of (found_of run.now)))
         (first_of (codes "steps") (rows_of (found_of run.now)))
         (first_of (codes "image") (rows_of (found_of run.now))) (rows_of (found_of run.now))) result }
@@ -151,7 +151,7 @@ fn run_words<'a>(alloc: Global, run: &ArgMatches<'a>) -> Result<Words<'a>, Words
             expect: value_of(run, "expect"),
             state: value_of(run, "state"),
         })),
-        _ => Err(WordsFault::Wrong(String::new(alloc))),
+        _ => Err(WordsError::Wrong(String::new(alloc))),
     }
 }
 

@@ -7,8 +7,8 @@ use Rattle.std.specs.Io.KnownBytes.{IsAtEnd, Keeps}
 use Rattle.std.proofs.KnownBytes.{Appends-kept, Consumes-nil, Consumes-trans, Consumes-kept}
 use Rattle.debugger.proofs.Telling.{none_told, told_on, cut_on, cut_before}
 use Rattle.debugger.specs.Answers.{Piece}
-use Rattle.debugger.specs.declared.sessions.SessionFault.{SessionFault}
-use Rattle.debugger.specs.declared.sessions.SessionFault.TheVariants.{Read, Write}
+use Rattle.debugger.specs.declared.sessions.SessionError.{SessionError}
+use Rattle.debugger.specs.declared.sessions.SessionError.TheVariants.{Read, Write}
 use Rattle.debugger.specs.Sessions.{AreSoFar, Ends, FailsOnce, FailsToRead, FailsToWrite, Hears, Holds, Kept, KeepsPut}
 use Rattle.debugger.specs.Sessions.{NothingWaits, SendsRest, Sessions, Sink, Source, TakesNext, Talk, TellsAll}
 use Rattle.debugger.specs.Sessions.{TellsAllThenFails, TellsPart, after_bytes, all_answers, answers, is_line_feed}
@@ -256,7 +256,7 @@ so_far_of_end s given l ps (inr (inl (shut, so_far))) = inl so_far
 so_far_of_end s given l ps (inr (inr (count, so_far))) = inl so_far
 
 -- a session that has ended sends what waits
-pub ended : (old new : Whole) (i l : Source) (a b c : Sink) (waits : List ℕ) (result : Result (Unit {0}) SessionFault)
+pub ended : (old new : Whole) (i l : Source) (a b c : Sink) (waits : List ℕ) (result : Result (Unit {0}) SessionError)
     → Holds old new i l a b → SendsRest b c waits result
     → Sessions old new i l a c result × NothingWaits waits result
 ended old new i l a b c waits (Ok done) h sends = (
@@ -285,8 +285,8 @@ ended old new i l a b c waits (Err Write) h sends = (
 
 -- the reader failed, or what waits couldn't be sent before it was called
 pub not_taken : (n : ℕ) (k : Kept) (old new : Whole) (i j l : Source) (a b c : Sink) (waits : List ℕ)
-    (fault : SessionFault) → Heard n k old new i j a b → TakesNext j l b c waits (Err fault)
-    → Sessions old new i l a c (Err fault) × NothingWaits waits (Err fault)
+    (error : SessionError) → Heard n k old new i j a b → TakesNext j l b c waits (Err error)
+    → Sessions old new i l a c (Err error) × NothingWaits waits (Err error)
 not_taken n k old new i j l a b c waits Read h takes = (
   missed n k old new i j l a c (heard_kept n k old new i j a b c h takes.2) takes.0 takes.1,
   takes.3,

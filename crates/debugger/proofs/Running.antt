@@ -5,7 +5,7 @@ use Rattle.debugger.proofs.Telling.{Told, one_more, rest_cut, cut_before, cut_on
 use Rattle.debugger.specs.Answers.{Piece, answer, end_piece, ends_at, reply, run_on, run_pieces, step_piece}
 use Rattle.debugger.specs.Sessions.{Sink, TellsAll, TellsPart}
 use Rattle.debugger_commands.specs.declared.commands.Command.{Command}
-use Rattle.debugger_commands.specs.declared.commands.LineFault.{LineFault}
+use Rattle.debugger_commands.specs.declared.commands.LineError.{LineError}
 use Rattle.debugger_commands.specs.Commands.{steps_of, task_steps_of}
 use Rattle.debugger_commands.specs.Texts.{end_text}
 use Rattle.machine.specs.Whole.{Whole}
@@ -96,7 +96,7 @@ later_cut breakpoints n left old mid new a b c goes same first part =
     (subst (λ (ps : List Piece). TellsPart ps mid new b c) rest part))
 
 -- a command that makes no step has its reply
-pub reply_cut : (breakpoints : List ℕ) (asked : Result Command LineFault) (old new : Whole) (a b : Sink)
+pub reply_cut : (breakpoints : List ℕ) (asked : Result Command LineError) (old new : Whole) (a b : Sink)
     → steps_of asked ≡ None → task_steps_of asked ≡ None → TellsPart (reply old.state breakpoints asked) old new a b
     → TellsPart (answer old.state breakpoints asked) old new a b
 reply_cut breakpoints asked old new a b none no_task part = rw (none, no_task) part

@@ -21,7 +21,7 @@ none_told m a = record { went = Appends-nil a.written; stands = refl; quiet = re
 
 -- one piece was cut
 pub one_cut : (p : Piece) (old new : Whole) (a b : Sink) → IsCutShort a.written b.written p.text
-    → new ≡ record old { state = p.state } → b.faults ≡ a.faults + 1 → TellsPart (p ∷ []) old new a b
+    → new ≡ record old { state = p.state } → b.errors ≡ a.errors + 1 → TellsPart (p ∷ []) old new a b
 one_cut p old new a b cut stands failed =
     record { done = []; piece = p; others = []; among = refl; stands = stands; cut = cut; failed = failed }
 

@@ -3,10 +3,10 @@ use Rattle.std.specs.Prelude.{ℕ, zero, suc, ◌+◌, ◌-◌, Bool, true, fals
 use Rattle.std.specs.Prelude.{◌∷◌, ◌++◌, codes, Option, Some, None, Result, Ok, Err}
 use Rattle.debugger_commands.specs.declared.commands.Command.{Command}
 use Rattle.debugger_commands.specs.declared.commands.Command.TheVariants as command
-use Rattle.debugger_commands.specs.declared.commands.LineFault.{LineFault}
+use Rattle.debugger_commands.specs.declared.commands.LineError.{LineError}
 use Rattle.debugger_commands.specs.Breakpoints.{breakpoint_text, has}
 use Rattle.debugger_commands.specs.Commands.{steps_of, task_steps_of}
-use Rattle.debugger_commands.specs.Texts.{decision_text, end_text, fault_text, general_lines, memory_text, region_lines}
+use Rattle.debugger_commands.specs.Texts.{decision_text, end_text, error_text, general_lines, memory_text, region_lines}
 use Rattle.debugger_commands.specs.Texts.{register_line}
 use Rattle.machine.specs.declared.readers.RegValues.{RegValues}
 use Rattle.machine.specs.Foresight.{is_instruction_next}
@@ -101,8 +101,8 @@ task_pieces n s =
 -- ---- all commands
 
 -- the text of an answer that makes no step; `quit` has none
-abbrev pub reply_text : State → List ℕ → Result Command LineFault → List ℕ
-reply_text s breakpoints (Err why) = fault_text why
+abbrev pub reply_text : State → List ℕ → Result Command LineError → List ℕ
+reply_text s breakpoints (Err why) = error_text why
 reply_text s breakpoints (Ok (command.Run n)) = []
 reply_text s breakpoints (Ok (command.Task n)) = []
 reply_text s breakpoints (Ok (command.Break a)) = breakpoint_text breakpoints a
@@ -113,14 +113,14 @@ reply_text s breakpoints (Ok (command.Explain a privileged kind)) =
     decision_text (decision_of s.bus.system.mpu a kind privileged (is_below_zero s.bus.system.nvic))
 reply_text s breakpoints (Ok command.Quit) = []
 
-abbrev pub reply : State → List ℕ → Result Command LineFault → List Piece
+abbrev pub reply : State → List ℕ → Result Command LineError → List Piece
 reply s breakpoints asked = record { state = s; text = reply_text s breakpoints asked } ∷ []
 
-abbrev pub answer_by : State → List ℕ → Result Command LineFault → Option ℕ → Option ℕ → List Piece
+abbrev pub answer_by : State → List ℕ → Result Command LineError → Option ℕ → Option ℕ → List Piece
 answer_by s breakpoints asked (Some n) task = run_pieces breakpoints n s
 answer_by s breakpoints asked None (Some n) = task_pieces n s
 answer_by s breakpoints asked None None = reply s breakpoints asked
 
 -- the answer to a line
-abbrev pub answer : State → List ℕ → Result Command LineFault → List Piece
+abbrev pub answer : State → List ℕ → Result Command LineError → List Piece
 answer s breakpoints asked = answer_by s breakpoints asked (steps_of asked) (task_steps_of asked)

@@ -2,8 +2,8 @@
 use Rattle.std.specs.Prelude.{◌≡◌, ◌⊎◌, ℕ, ◌+◌, ◌-◌, ◌^◌, Bool, true, false, not, ◌==◌, if◌then◌else◌, List, [], ◌∷◌}
 use Rattle.std.specs.Prelude.{◌++◌, length, Option, Some, None, Result, Ok, Err}
 use Rattle.std.specs.Io.KnownBytes.{Appends, Consumes, IsAtEnd, Keeps}
-use Rattle.debugger.specs.declared.sessions.SessionFault.{SessionFault}
-use Rattle.debugger.specs.declared.sessions.SessionFault.TheVariants.{Read, Write}
+use Rattle.debugger.specs.declared.sessions.SessionError.{SessionError}
+use Rattle.debugger.specs.declared.sessions.SessionError.TheVariants.{Read, Write}
 use Rattle.debugger.specs.Answers.{Piece, answer}
 use Rattle.debugger_commands.specs.Breakpoints.{breakpoints_after}
 use Rattle.debugger_commands.specs.Commands.{command_in, quits}
@@ -78,7 +78,7 @@ talk s k = record { state = s; breakpoints = k.breakpoints; line = k.line; is_op
 -- what is kept, and whether the session goes on, after a byte that was answered
 abbrev pub GoesOn : {E : Type 0} → Talk → Kept → Result Bool E → Type 0
 GoesOn t k (Ok goes_on) = (k ≡ record { breakpoints = t.breakpoints; line = t.line }) × (goes_on ≡ t.is_open)
-GoesOn t k (Err fault) = Unit {0}
+GoesOn t k (Err error) = Unit {0}
 
 -- ---- all bytes; none is read after `quit`
 
@@ -99,13 +99,13 @@ all_answers s given = answers (opened s) given ++ said_at_end (after_bytes (open
 -- a writer: the bytes that it has taken, where they are known, and how many of its calls failed
 pub record Sink : Type 0 where
   pub written : Option (List ℕ)
-  pub faults : ℕ
+  pub errors : ℕ
 
 -- all pieces went out, and the machine is in the state of the last one
 pub record TellsAll (pieces : List Piece) (old new : Whole) (before after : Sink) : Type 0 where
   pub went : Appends before.written after.written (texts pieces)
   pub stands : new ≡ record old { state = last_state old.state pieces }
-  pub quiet : after.faults ≡ before.faults
+  pub quiet : after.errors ≡ before.errors
 
 -- a call failed in one of the pieces: those before it went out, and a prefix of it, and the machine is in its state
 pub record TellsPart (pieces : List Piece) (old new : Whole) (before after : Sink) : Type 0 where
@@ -115,17 +115,17 @@ pub record TellsPart (pieces : List Piece) (old new : Whole) (before after : Sin
   pub among : pieces ≡ done ++ piece ∷ others
   pub stands : new ≡ record old { state = piece.state }
   pub cut : IsCutAfter before.written after.written (texts done) piece.text
-  pub failed : after.faults ≡ before.faults + 1
+  pub failed : after.errors ≡ before.errors + 1
 
 -- all pieces were put, and a call failed after them; the machine is in the state of the last one
 pub record TellsAllThenFails (pieces : List Piece) (old new : Whole) (before after : Sink) : Type 0 where
   pub put : Appends before.written after.written (texts pieces)
   pub stands : new ≡ record old { state = last_state old.state pieces }
-  pub failed : after.faults ≡ before.faults + 1
+  pub failed : after.errors ≡ before.errors + 1
 
 abbrev pub Tells : {A E : Type 0} → List Piece → Whole → Whole → Sink → Sink → Result A E → Type 0
 Tells pieces old new before after (Ok done) = TellsAll pieces old new before after
-Tells pieces old new before after (Err fault) = TellsPart pieces old new before after
+Tells pieces old new before after (Err error) = TellsPart pieces old new before after
 
 -- ---- a whole session
 
@@ -146,41 +146,41 @@ GivesNext before after None = Hears [] before after × IsAtEnd after.left
 
 abbrev pub GivesByte : {E : Type 0} → Source → Source → Result (Option ℕ) E → Type 0
 GivesByte before after (Ok next) = GivesNext before after next
-GivesByte before after (Err fault) = Keeps before.left after.left × (after.misses ≡ before.misses + 1)
+GivesByte before after (Err error) = Keeps before.left after.left × (after.misses ≡ before.misses + 1)
 
 -- what was put stays the same, and no call of the writer failed; or one did
 abbrev pub KeepsPut : Sink → Sink → Type 0
-KeepsPut before after = Keeps before.written after.written × (after.faults ≡ before.faults)
+KeepsPut before after = Keeps before.written after.written × (after.errors ≡ before.errors)
 
 abbrev pub FailsOnce : Sink → Sink → Type 0
-FailsOnce before after = Keeps before.written after.written × (after.faults ≡ before.faults + 1)
+FailsOnce before after = Keeps before.written after.written × (after.errors ≡ before.errors + 1)
 
 -- what waits is sent before a call of the reader that may wait
 abbrev pub SendsBefore : {E : Type 0} → Bool → Sink → Sink → List ℕ → Result (Unit {0}) E → Type 0
 SendsBefore may_wait out out' waits (Ok done) = KeepsPut out out' × (may_wait ≡ true → waits ≡ [])
-SendsBefore may_wait out out' waits (Err fault) = FailsOnce out out'
+SendsBefore may_wait out out' waits (Err error) = FailsOnce out out'
 
 -- One byte, or the end of the input. What waits to be sent is sent before a call of the reader that may wait, so that
 -- nothing waits where that call fails; where it can't be sent, the reader isn't called.
-abbrev pub TakesNext : Source → Source → Sink → Sink → List ℕ → Result (Option ℕ) SessionFault → Type 0
+abbrev pub TakesNext : Source → Source → Sink → Sink → List ℕ → Result (Option ℕ) SessionError → Type 0
 TakesNext before after out out' waits (Ok next) = GivesNext before after next × KeepsPut out out'
 TakesNext before after out out' waits (Err Read) =
     Keeps before.left after.left × (after.misses ≡ before.misses + 1) × KeepsPut out out' × (waits ≡ [])
 TakesNext before after out out' waits (Err Write) = (after ≡ before) × FailsOnce out out'
 
 -- what waits is sent before a session ends
-abbrev pub SendsRest : Sink → Sink → List ℕ → Result (Unit {0}) SessionFault → Type 0
+abbrev pub SendsRest : Sink → Sink → List ℕ → Result (Unit {0}) SessionError → Type 0
 SendsRest out out' waits (Ok done) = KeepsPut out out' × (waits ≡ [])
 SendsRest out out' waits (Err Read) = ⊥
 SendsRest out out' waits (Err Write) = FailsOnce out out'
 
 -- nothing waits to be sent after a session, unless its writer failed
-abbrev pub NothingWaits : List ℕ → Result (Unit {0}) SessionFault → Type 0
+abbrev pub NothingWaits : List ℕ → Result (Unit {0}) SessionError → Type 0
 NothingWaits waits (Ok done) = waits ≡ []
 NothingWaits waits (Err Read) = waits ≡ []
 NothingWaits waits (Err Write) = Unit {0}
 
--- why a session ends with no fault: the input is at its end, and then a last line counts; `quit`; or 2^64 - 1 bytes
+-- why a session ends with no error: the input is at its end, and then a last line counts; `quit`; or 2^64 - 1 bytes
 abbrev pub Ends : State → List ℕ → Source → List Piece → Type 0
 Ends s given after pieces =
     (IsAtEnd after.left × (pieces ≡ all_answers s given))
@@ -219,7 +219,7 @@ pub record FailsToWrite (old new : Whole) (before after : Source) (out out' : Si
   pub heard : Hears given before after
   pub told : TellsPart (all_answers old.state given) old new out out' ⊎ FailsToHandOn given old new after out out'
 
-abbrev pub Sessions : Whole → Whole → Source → Source → Sink → Sink → Result (Unit {0}) SessionFault → Type 0
+abbrev pub Sessions : Whole → Whole → Source → Source → Sink → Sink → Result (Unit {0}) SessionError → Type 0
 Sessions old new before after out out' (Ok done) = Holds old new before after out out'
 Sessions old new before after out out' (Err Read) = FailsToRead old new before after out out'
 Sessions old new before after out out' (Err Write) = FailsToWrite old new before after out out'

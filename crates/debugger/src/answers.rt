@@ -6,7 +6,7 @@ ghost use Rattle.debugger.specs.Sessions.{Tells};
 
 use debugger_commands::{Breakpoints, end_text};
 use machine::{
-    CodeLines, Decider, DueTicks, IoFault, Levels, LineRoom, Machine, Out, is_instruction,
+    CodeLines, Decider, DueTicks, IoError, Levels, LineRoom, Machine, Out, is_instruction,
 };
 
 /// Makes a step and writes its lines.
@@ -14,12 +14,12 @@ pub fn write_step<D: Decider, C: CodeLines, L: Levels, U: DueTicks, W: Out>(
     machine: &mut Machine<D, C, L, U>,
     room: &mut LineRoom,
     out: &mut W,
-) -> Result<(), IoFault>
-    ensures { Tells (step_piece machine.old.state ∷ []) machine.old machine.new (record { written = W.written out.old; faults = W.faults out.old }) (record { written = W.written out.new; faults = W.faults out.new }) result }
+) -> Result<(), IoError>
+    ensures { Tells (step_piece machine.old.state ∷ []) machine.old machine.new (record { written = W.written out.old; errors = W.errors out.old }) (record { written = W.written out.new; errors = W.errors out.new }) result }
 {
     match machine.write_step(room, out) {
         Ok(()) => Ok(()),
-        Err(fault) => Err(fault),
+        Err(error) => Err(error),
     }
 }
 
@@ -47,13 +47,13 @@ fn ends_at<D: Decider, C: CodeLines, L: Levels, U: DueTicks>(
 fn put_end<D: Decider, C: CodeLines, L: Levels, U: DueTicks, W: Out>(
     machine: &Machine<D, C, L, U>,
     out: &mut W,
-) -> Result<(), IoFault>
-    ensures { Tells (end_piece machine.now.state ∷ []) machine.now machine.now (record { written = W.written out.old; faults = W.faults out.old }) (record { written = W.written out.new; faults = W.faults out.new }) result }
+) -> Result<(), IoError>
+    ensures { Tells (end_piece machine.now.state ∷ []) machine.now machine.now (record { written = W.written out.old; errors = W.errors out.old }) (record { written = W.written out.new; errors = W.errors out.new }) result }
 {
     let page = end_text(machine.stop(), machine.regs().pc);
     match out.put_all(page.as_slice()) {
         Ok(()) => Ok(()),
-        Err(fault) => Err(fault),
+        Err(error) => Err(error),
     }
 }
 
@@ -65,8 +65,8 @@ fn run_on<D: Decider, C: CodeLines, L: Levels, U: DueTicks, W: Out>(
     steps: u32,
     room: &mut LineRoom,
     out: &mut W,
-) -> Result<(), IoFault>
-    ensures { Tells (run_on breakpoints.now steps machine.old.state) machine.old machine.new (record { written = W.written out.old; faults = W.faults out.old }) (record { written = W.written out.new; faults = W.faults out.new }) result }
+) -> Result<(), IoError>
+    ensures { Tells (run_on breakpoints.now steps machine.old.state) machine.old machine.new (record { written = W.written out.old; errors = W.errors out.old }) (record { written = W.written out.new; errors = W.errors out.new }) result }
 {
     let mut left = steps;
     'steps: while left > 0 {
@@ -75,13 +75,13 @@ fn run_on<D: Decider, C: CodeLines, L: Levels, U: DueTicks, W: Out>(
         }
         match write_step(machine, room, out) {
             Ok(()) => {}
-            Err(fault) => return Err(fault),
+            Err(error) => return Err(error),
         }
         left -= 1;
     }
     match put_end(machine, out) {
         Ok(()) => Ok(()),
-        Err(fault) => Err(fault),
+        Err(error) => Err(error),
     }
 }
 
@@ -92,8 +92,8 @@ pub fn run<D: Decider, C: CodeLines, L: Levels, U: DueTicks, W: Out>(
     breakpoints: &Breakpoints,
     steps: u32,
     out: &mut W,
-) -> Result<(), IoFault>
-    ensures { Tells (run_pieces breakpoints.now steps machine.old.state) machine.old machine.new (record { written = W.written out.old; faults = W.faults out.old }) (record { written = W.written out.new; faults = W.faults out.new }) result }
+) -> Result<(), IoError>
+    ensures { Tells (run_pieces breakpoints.now steps machine.old.state) machine.old machine.new (record { written = W.written out.old; errors = W.errors out.old }) (record { written = W.written out.new; errors = W.errors out.new }) result }
 {
     if machine.stop().is_some() {
         return put_end(machine, out);
@@ -101,7 +101,7 @@ pub fn run<D: Decider, C: CodeLines, L: Levels, U: DueTicks, W: Out>(
     let mut room = LineRoom::new();
     match write_step(machine, &mut room, out) {
         Ok(()) => {}
-        Err(fault) => return Err(fault),
+        Err(error) => return Err(error),
     }
     match run_on(
         machine,
@@ -111,6 +111,6 @@ pub fn run<D: Decider, C: CodeLines, L: Levels, U: DueTicks, W: Out>(
         out,
     ) {
         Ok(()) => Ok(()),
-        Err(fault) => Err(fault),
+        Err(error) => Err(error),
     }
 }

@@ -8,5 +8,5 @@ mod state;
 mod tasks;
 mod texts;
 
-pub use sessions::{SessionFault, session};
+pub use sessions::{SessionError, session};
 pub use state::write_state;

@@ -9,15 +9,15 @@ use crate::answers::run;
 use crate::tasks::run_task;
 use crate::texts::{memory_text, regions_text, registers_text};
 use debugger_commands::{
-    Answer, Breakpoints, Command, LineFault, Listener, decision_text, fault_text, quits, read_line,
+    Answer, Breakpoints, Command, LineError, Listener, decision_text, error_text, quits, read_line,
     steps_of, task_steps_of,
 };
-use machine::{CodeLines, Decider, DueTicks, In, IoFault, Levels, Machine, Out};
+use machine::{CodeLines, Decider, DueTicks, In, IoError, Levels, Machine, Out};
 use std::marker::Model;
 
 /// Why a session ends before its input does.
 #[derive(Clone, Copy)]
-pub enum SessionFault {
+pub enum SessionError {
     /// The reader failed.
     Read,
     /// The writer failed.
@@ -54,7 +54,7 @@ impl Debugger {
     fn reply<D: Decider, C: CodeLines, L: Levels, U: DueTicks>(
         &mut self,
         machine: &Machine<D, C, L, U>,
-        asked: Result<Command, LineFault>,
+        asked: Result<Command, LineError>,
     ) -> Answer
         ensures text { result ≡ reply_text machine.now.state self.old.breakpoints asked }
         ensures kept { self.new ≡ record self.old { breakpoints = breakpoints_after self.old.breakpoints asked } }
@@ -68,7 +68,7 @@ impl Debugger {
             Ok(Command::Explain(address, privileged, kind)) => {
                 decision_text(&machine.explain(address, privileged, kind))
             }
-            Err(fault) => fault_text(fault),
+            Err(error) => error_text(error),
         }
     }
 
@@ -76,10 +76,10 @@ impl Debugger {
     fn answer<D: Decider, C: CodeLines, L: Levels, U: DueTicks, W: Out>(
         &mut self,
         machine: &mut Machine<D, C, L, U>,
-        asked: Result<Command, LineFault>,
+        asked: Result<Command, LineError>,
         out: &mut W,
-    ) -> Result<(), IoFault>
-        ensures told { Tells (answer machine.old.state self.old.breakpoints asked) machine.old machine.new (record { written = W.written out.old; faults = W.faults out.old }) (record { written = W.written out.new; faults = W.faults out.new }) result }
+    ) -> Result<(), IoError>
+        ensures told { Tells (answer machine.old.state self.old.breakpoints asked) machine.old machine.new (record { written = W.written out.old; errors = W.errors out.old }) (record { written = W.written out.new; errors = W.errors out.new }) result }
         ensures kept { self.new ≡ record self.old { breakpoints = breakpoints_after self.old.breakpoints asked } }
     {
         match steps_of(asked) {
@@ -93,7 +93,7 @@ impl Debugger {
         let page = self.reply(machine, asked);
         match out.put_all(page.as_slice()) {
             Ok(()) => Ok(()),
-            Err(fault) => Err(fault),
+            Err(error) => Err(error),
         }
     }
 
@@ -102,15 +102,15 @@ impl Debugger {
         &mut self,
         machine: &mut Machine<D, C, L, U>,
         out: &mut W,
-    ) -> Result<bool, IoFault>
-        ensures told { Tells (line_said (talk machine.old.state self.old)) machine.old machine.new (record { written = W.written out.old; faults = W.faults out.old }) (record { written = W.written out.new; faults = W.faults out.new }) result }
+    ) -> Result<bool, IoError>
+        ensures told { Tells (line_said (talk machine.old.state self.old)) machine.old machine.new (record { written = W.written out.old; errors = W.errors out.old }) (record { written = W.written out.new; errors = W.errors out.new }) result }
         ensures kept { GoesOn (after_line (talk machine.old.state self.old)) self.new result }
     {
         let asked = read_line(self.listener.line());
         self.listener.clear();
         match self.answer(machine, asked, out) {
             Ok(()) => Ok(!quits(asked)),
-            Err(fault) => Err(fault),
+            Err(error) => Err(error),
         }
     }
 
@@ -120,14 +120,14 @@ impl Debugger {
         machine: &mut Machine<D, C, L, U>,
         byte: u8,
         out: &mut W,
-    ) -> Result<bool, IoFault>
-        ensures told { Tells (said (talk machine.old.state self.old) byte) machine.old machine.new (record { written = W.written out.old; faults = W.faults out.old }) (record { written = W.written out.new; faults = W.faults out.new }) result }
+    ) -> Result<bool, IoError>
+        ensures told { Tells (said (talk machine.old.state self.old) byte) machine.old machine.new (record { written = W.written out.old; errors = W.errors out.old }) (record { written = W.written out.new; errors = W.errors out.new }) result }
         ensures kept { GoesOn (next (talk machine.old.state self.old) byte) self.new result }
     {
         if byte == b'\n' {
             match self.answer_line(machine, out) {
                 Ok(goes_on) => Ok(goes_on),
-                Err(fault) => Err(fault),
+                Err(error) => Err(error),
             }
         } else {
             self.listener.push(byte);
@@ -140,15 +140,15 @@ impl Debugger {
         &mut self,
         machine: &mut Machine<D, C, L, U>,
         out: &mut W,
-    ) -> Result<(), IoFault>
-        ensures { Tells (said_at_end (talk machine.old.state self.old)) machine.old machine.new (record { written = W.written out.old; faults = W.faults out.old }) (record { written = W.written out.new; faults = W.faults out.new }) result }
+    ) -> Result<(), IoError>
+        ensures { Tells (said_at_end (talk machine.old.state self.old)) machine.old machine.new (record { written = W.written out.old; errors = W.errors out.old }) (record { written = W.written out.new; errors = W.errors out.new }) result }
     {
         if self.listener.is_empty() {
             return Ok(());
         }
         match self.answer_line(machine, out) {
             Ok(_) => Ok(()),
-            Err(fault) => Err(fault),
+            Err(error) => Err(error),
         }
     }
 }
@@ -160,8 +160,8 @@ pub fn session<D: Decider, C: CodeLines, L: Levels, U: DueTicks, I: In, W: Out>(
     machine: &mut Machine<D, C, L, U>,
     reader: &mut I,
     out: &mut W,
-) -> Result<(), SessionFault>
-    ensures talked { Sessions machine.old machine.new (record { left = I.left reader.old; misses = I.misses reader.old }) (record { left = I.left reader.new; misses = I.misses reader.new }) (record { written = W.written out.old; faults = W.faults out.old }) (record { written = W.written out.new; faults = W.faults out.new }) result }
+) -> Result<(), SessionError>
+    ensures talked { Sessions machine.old machine.new (record { left = I.left reader.old; misses = I.misses reader.old }) (record { left = I.left reader.new; misses = I.misses reader.new }) (record { written = W.written out.old; errors = W.errors out.old }) (record { written = W.written out.new; errors = W.errors out.new }) result }
     ensures sent { NothingWaits (W.waits out.new) result }
 {
     let mut debugger = Debugger::new();
@@ -172,33 +172,33 @@ pub fn session<D: Decider, C: CodeLines, L: Levels, U: DueTicks, I: In, W: Out>(
             Ok(None) => {
                 return match debugger.finish(machine, out) {
                     Ok(()) => send_rest(out),
-                    Err(_) => Err(SessionFault::Write),
+                    Err(_) => Err(SessionError::Write),
                 };
             }
-            Err(fault) => return Err(fault),
+            Err(error) => return Err(error),
         };
         match debugger.hear(machine, byte, out) {
             Ok(true) => {}
             Ok(false) => return send_rest(out),
-            Err(_) => return Err(SessionFault::Write),
+            Err(_) => return Err(SessionError::Write),
         }
     }
     send_rest(out)
 }
 
 /// Sends what waits, before a session ends.
-fn send_rest<W: Out>(out: &mut W) -> Result<(), SessionFault>
-    ensures { SendsRest (record { written = W.written out.old; faults = W.faults out.old }) (record { written = W.written out.new; faults = W.faults out.new }) (W.waits out.new) result }
+fn send_rest<W: Out>(out: &mut W) -> Result<(), SessionError>
+    ensures { SendsRest (record { written = W.written out.old; errors = W.errors out.old }) (record { written = W.written out.new; errors = W.errors out.new }) (W.waits out.new) result }
 {
     match out.hand_on() {
         Ok(()) => Ok(()),
-        Err(_) => Err(SessionFault::Write),
+        Err(_) => Err(SessionError::Write),
     }
 }
 
 /// Sends what waits, if the next call of the reader may wait.
-fn send_before<I: In, W: Out>(reader: &I, out: &mut W) -> Result<(), IoFault>
-    ensures { SendsBefore (I.may_wait reader.now) (record { written = W.written out.old; faults = W.faults out.old }) (record { written = W.written out.new; faults = W.faults out.new }) (W.waits out.new) result }
+fn send_before<I: In, W: Out>(reader: &I, out: &mut W) -> Result<(), IoError>
+    ensures { SendsBefore (I.may_wait reader.now) (record { written = W.written out.old; errors = W.errors out.old }) (record { written = W.written out.new; errors = W.errors out.new }) (W.waits out.new) result }
 {
     if reader.may_wait() {
         return out.hand_on();
@@ -207,21 +207,21 @@ fn send_before<I: In, W: Out>(reader: &I, out: &mut W) -> Result<(), IoFault>
 }
 
 /// Returns the next byte of the input, None at its end. Sends what waits before a call of the reader that may wait.
-fn take_next<I: In, W: Out>(reader: &mut I, out: &mut W) -> Result<Option<u8>, SessionFault>
-    ensures { TakesNext (record { left = I.left reader.old; misses = I.misses reader.old }) (record { left = I.left reader.new; misses = I.misses reader.new }) (record { written = W.written out.old; faults = W.faults out.old }) (record { written = W.written out.new; faults = W.faults out.new }) (W.waits out.new) result }
+fn take_next<I: In, W: Out>(reader: &mut I, out: &mut W) -> Result<Option<u8>, SessionError>
+    ensures { TakesNext (record { left = I.left reader.old; misses = I.misses reader.old }) (record { left = I.left reader.new; misses = I.misses reader.new }) (record { written = W.written out.old; errors = W.errors out.old }) (record { written = W.written out.new; errors = W.errors out.new }) (W.waits out.new) result }
 {
     match send_before(reader, out) {
         Ok(()) => {}
-        Err(_) => return Err(SessionFault::Write),
+        Err(_) => return Err(SessionError::Write),
     }
     match take_byte(reader) {
         Ok(byte) => Ok(byte),
-        Err(_) => Err(SessionFault::Read),
+        Err(_) => Err(SessionError::Read),
     }
 }
 
 /// Returns the next byte of the input, None at its end.
-fn take_byte<I: In>(reader: &mut I) -> Result<Option<u8>, IoFault>
+fn take_byte<I: In>(reader: &mut I) -> Result<Option<u8>, IoError>
     ensures given { GivesByte (record { left = I.left reader.old; misses = I.misses reader.old }) (record { left = I.left reader.new; misses = I.misses reader.new }) result }
     ensures failed { OnErr result (I.may_wait reader.old ≡ true) }
 {
@@ -229,6 +229,6 @@ fn take_byte<I: In>(reader: &mut I) -> Result<Option<u8>, IoFault>
     match reader.take(&mut room) {
         Ok(0) => Ok(None),
         Ok(_) => Ok(Some(room[0])),
-        Err(fault) => Err(fault),
+        Err(error) => Err(error),
     }
 }

@@ -7,7 +7,7 @@ ghost use Rattle.reference.specs.declared.exception.TheConstants.{EXCEPTIONS};
 
 use crate::texts::{regions_text, registers_text};
 use debugger_commands::{Answer, put_register};
-use machine::{CodeLines, Decider, DueTicks, IoFault, Levels, Machine, Out, StatusRegister};
+use machine::{CodeLines, Decider, DueTicks, IoError, Levels, Machine, Out, StatusRegister};
 use reference::exception::EXCEPTIONS;
 use trace::page::Page;
 
@@ -113,8 +113,8 @@ fn put_active<D: Decider, C: CodeLines, L: Levels, U: DueTicks>(
 pub fn write_state<D: Decider, C: CodeLines, L: Levels, U: DueTicks, W: Out>(
     machine: &Machine<D, C, L, U>,
     out: &mut W,
-) -> Result<(), IoFault>
-    ensures { Put (W.written out.old) (W.written out.new) (W.faults out.old) (W.faults out.new)
+) -> Result<(), IoError>
+    ensures { Put (W.written out.old) (W.written out.new) (W.errors out.old) (W.errors out.new)
         (state_text machine.now.state) result }
 {
     let mut page = StatePage::new();

@@ -7,7 +7,7 @@ ghost use Rattle.debugger.specs.Sessions.{Tells};
 use crate::answers::write_step;
 use crate::texts::task_text;
 use machine::{
-    CodeLines, Decider, DueTicks, IoFault, Levels, LineRoom, Machine, Out, TaskEnd, end_of_task,
+    CodeLines, Decider, DueTicks, IoError, Levels, LineRoom, Machine, Out, TaskEnd, end_of_task,
     is_instruction,
 };
 
@@ -16,13 +16,13 @@ fn put_task_end<D: Decider, C: CodeLines, L: Levels, U: DueTicks, W: Out>(
     machine: &Machine<D, C, L, U>,
     end: TaskEnd,
     out: &mut W,
-) -> Result<(), IoFault>
-    ensures { Tells (task_piece machine.now.state end ∷ []) machine.now machine.now (record { written = W.written out.old; faults = W.faults out.old }) (record { written = W.written out.new; faults = W.faults out.new }) result }
+) -> Result<(), IoError>
+    ensures { Tells (task_piece machine.now.state end ∷ []) machine.now machine.now (record { written = W.written out.old; errors = W.errors out.old }) (record { written = W.written out.new; errors = W.errors out.new }) result }
 {
     let page = task_text(end);
     match out.put_all(page.as_slice()) {
         Ok(()) => Ok(()),
-        Err(fault) => Err(fault),
+        Err(error) => Err(error),
     }
 }
 
@@ -32,8 +32,8 @@ fn task_on<D: Decider, C: CodeLines, L: Levels, U: DueTicks, W: Out>(
     machine: &mut Machine<D, C, L, U>,
     steps: u32,
     out: &mut W,
-) -> Result<(), IoFault>
-    ensures { Tells (task_on steps machine.old.state) machine.old machine.new (record { written = W.written out.old; faults = W.faults out.old }) (record { written = W.written out.new; faults = W.faults out.new }) result }
+) -> Result<(), IoError>
+    ensures { Tells (task_on steps machine.old.state) machine.old machine.new (record { written = W.written out.old; errors = W.errors out.old }) (record { written = W.written out.new; errors = W.errors out.new }) result }
 {
     let mut room = LineRoom::new();
     let mut left = steps;
@@ -43,14 +43,14 @@ fn task_on<D: Decider, C: CodeLines, L: Levels, U: DueTicks, W: Out>(
         }
         match write_step(machine, &mut room, out) {
             Ok(()) => {}
-            Err(fault) => return Err(fault),
+            Err(error) => return Err(error),
         }
         left -= 1;
     }
     let end = end_of_task(machine.stop(), left > 0);
     match put_task_end(machine, end, out) {
         Ok(()) => Ok(()),
-        Err(fault) => Err(fault),
+        Err(error) => Err(error),
     }
 }
 
@@ -60,8 +60,8 @@ pub fn run_task<D: Decider, C: CodeLines, L: Levels, U: DueTicks, W: Out>(
     machine: &mut Machine<D, C, L, U>,
     steps: u32,
     out: &mut W,
-) -> Result<(), IoFault>
-    ensures { Tells (task_pieces steps machine.old.state) machine.old machine.new (record { written = W.written out.old; faults = W.faults out.old }) (record { written = W.written out.new; faults = W.faults out.new }) result }
+) -> Result<(), IoError>
+    ensures { Tells (task_pieces steps machine.old.state) machine.old machine.new (record { written = W.written out.old; errors = W.errors out.old }) (record { written = W.written out.new; errors = W.errors out.new }) result }
 {
     if machine.stop().is_none() && !machine.is_task() {
         return put_task_end(machine, TaskEnd::NotTask, out);

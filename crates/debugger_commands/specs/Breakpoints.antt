@@ -4,7 +4,7 @@ use Rattle.std.specs.Prelude.{Ok, Err}
 use Rattle.std.specs.List.{list_any}
 use Rattle.debugger_commands.specs.declared.commands.Command.{Command}
 use Rattle.debugger_commands.specs.declared.commands.Command.TheVariants as command
-use Rattle.debugger_commands.specs.declared.commands.LineFault.{LineFault}
+use Rattle.debugger_commands.specs.declared.commands.LineError.{LineError}
 use Rattle.reference.specs.Text.{line_feed}
 
 -- how many breakpoints can be set at most
@@ -27,7 +27,7 @@ breakpoint_text breakpoints a =
     else codes "error 3" ++ line_feed
 
 -- the breakpoints after a command
-abbrev pub breakpoints_after : List ℕ → Result Command LineFault → List ℕ
+abbrev pub breakpoints_after : List ℕ → Result Command LineError → List ℕ
 breakpoints_after breakpoints (Err why) = breakpoints
 breakpoints_after breakpoints (Ok (command.Run n)) = breakpoints
 breakpoints_after breakpoints (Ok (command.Task n)) = breakpoints

@@ -3,8 +3,8 @@ use Rattle.std.specs.Prelude.{ℕ, ◌-◌, Bool, true, false, if◌then◌else�
 use Rattle.std.specs.Prelude.{Result, Ok, Err}
 use Rattle.debugger_commands.specs.declared.commands.Command.{Command}
 use Rattle.debugger_commands.specs.declared.commands.Command.TheVariants as command
-use Rattle.debugger_commands.specs.declared.commands.LineFault.{LineFault}
-use Rattle.debugger_commands.specs.declared.commands.LineFault.TheVariants as fault
+use Rattle.debugger_commands.specs.declared.commands.LineError.{LineError}
+use Rattle.debugger_commands.specs.declared.commands.LineError.TheVariants as error
 use Rattle.debugger_commands.specs.declared.commands.Name.{Name}
 use Rattle.debugger_commands.specs.declared.commands.Name.TheVariants as name
 use Rattle.debugger_commands.specs.Words.{TwoWords, ThreeWords, first_word, more_words, one_word, two_words}
@@ -42,63 +42,63 @@ kind_of text =
     else None
 
 -- a command that takes no word
-abbrev pub alone : Command → Option (List ℕ) → Result Command LineFault
+abbrev pub alone : Command → Option (List ℕ) → Result Command LineError
 alone c None = Ok c
-alone c (Some more) = Err fault.Command
+alone c (Some more) = Err error.Command
 
 -- a command from its words; it is refused where a word isn't a number or letter that is allowed there
-abbrev pub run_of : Option ℕ → Result Command LineFault
-run_of None = Err fault.Word
+abbrev pub run_of : Option ℕ → Result Command LineError
+run_of None = Err error.Word
 run_of (Some n) = Ok (command.Run n)
 
-abbrev pub task_of : Option ℕ → Result Command LineFault
-task_of None = Err fault.Word
+abbrev pub task_of : Option ℕ → Result Command LineError
+task_of None = Err error.Word
 task_of (Some n) = Ok (command.Task n)
 
-abbrev pub break_of : Option ℕ → Result Command LineFault
-break_of None = Err fault.Word
+abbrev pub break_of : Option ℕ → Result Command LineError
+break_of None = Err error.Word
 break_of (Some a) = Ok (command.Break a)
 
-abbrev pub memory_of : Option ℕ → Option ℕ → Result Command LineFault
+abbrev pub memory_of : Option ℕ → Option ℕ → Result Command LineError
 memory_of (Some a) (Some n) = Ok (command.Memory a (n - 1))
-memory_of (Some a) None = Err fault.Word
-memory_of None n = Err fault.Word
+memory_of (Some a) None = Err error.Word
+memory_of None n = Err error.Word
 
-abbrev pub explain_of : Option ℕ → Option Bool → Option Kind → Result Command LineFault
+abbrev pub explain_of : Option ℕ → Option Bool → Option Kind → Result Command LineError
 explain_of (Some a) (Some privileged) (Some kind) = Ok (command.Explain a privileged kind)
-explain_of (Some a) (Some privileged) None = Err fault.Word
-explain_of (Some a) None kind = Err fault.Word
-explain_of None privileged kind = Err fault.Word
+explain_of (Some a) (Some privileged) None = Err error.Word
+explain_of (Some a) None kind = Err error.Word
+explain_of None privileged kind = Err error.Word
 
 -- run n: from 1 to 1,000,000 steps
-abbrev pub read_run : Option (List ℕ) → Result Command LineFault
-read_run None = Err fault.Command
+abbrev pub read_run : Option (List ℕ) → Result Command LineError
+read_run None = Err error.Command
 read_run (Some word) = run_of (number_within 1 1000000 word)
 
 -- task n: from 1 to 1,000,000 steps
-abbrev pub read_task : Option (List ℕ) → Result Command LineFault
-read_task None = Err fault.Command
+abbrev pub read_task : Option (List ℕ) → Result Command LineError
+read_task None = Err error.Command
 read_task (Some word) = task_of (number_within 1 1000000 word)
 
 -- break a
-abbrev pub read_break : Option (List ℕ) → Result Command LineFault
-read_break None = Err fault.Command
+abbrev pub read_break : Option (List ℕ) → Result Command LineError
+read_break None = Err error.Command
 read_break (Some word) = break_of (number word)
 
 -- mem a n: from 1 to 256 bytes
-abbrev pub read_memory : Option TwoWords → Result Command LineFault
-read_memory None = Err fault.Command
+abbrev pub read_memory : Option TwoWords → Result Command LineError
+read_memory None = Err error.Command
 read_memory (Some words) = memory_of (number words.first) (number_within 1 256 words.second)
 
 -- explain a p|u r|w|x
-abbrev pub read_explain : Option ThreeWords → Result Command LineFault
-read_explain None = Err fault.Command
+abbrev pub read_explain : Option ThreeWords → Result Command LineError
+read_explain None = Err error.Command
 read_explain (Some words) = explain_of (number words.first) (privilege_of words.others.first)
     (kind_of words.others.second)
 
 -- the command of a name, with the words after it
-abbrev pub command_of : Option Name → Option (List ℕ) → Result Command LineFault
-command_of None more = Err fault.Command
+abbrev pub command_of : Option Name → Option (List ℕ) → Result Command LineError
+command_of None more = Err error.Command
 command_of (Some name.Step) more = alone (command.Run 1) more
 command_of (Some name.Run) more = read_run (one_word more)
 command_of (Some name.Task) more = read_task (one_word more)
@@ -110,12 +110,12 @@ command_of (Some name.Explain) more = read_explain (three_words more)
 command_of (Some name.Quit) more = alone command.Quit more
 
 -- the command of a line, None where the line is too long
-unfoldable pub command_in : Option (List ℕ) → Result Command LineFault
-command_in None = Err fault.Command
+unfoldable pub command_in : Option (List ℕ) → Result Command LineError
+command_in None = Err error.Command
 command_in (Some line) = command_of (name_of (first_word line)) (more_words line)
 
 -- how many steps a run makes at most, where the command is `run` or `step`
-abbrev pub steps_of : Result Command LineFault → Option ℕ
+abbrev pub steps_of : Result Command LineError → Option ℕ
 steps_of (Err why) = None
 steps_of (Ok (command.Run n)) = Some n
 steps_of (Ok (command.Task n)) = None
@@ -127,7 +127,7 @@ steps_of (Ok (command.Explain a privileged kind)) = None
 steps_of (Ok command.Quit) = None
 
 -- how many steps of a task are made at most, where the command is `task`
-abbrev pub task_steps_of : Result Command LineFault → Option ℕ
+abbrev pub task_steps_of : Result Command LineError → Option ℕ
 task_steps_of (Err why) = None
 task_steps_of (Ok (command.Run n)) = None
 task_steps_of (Ok (command.Task n)) = Some n
@@ -139,7 +139,7 @@ task_steps_of (Ok (command.Explain a privileged kind)) = None
 task_steps_of (Ok command.Quit) = None
 
 -- whether a command ends the session
-abbrev pub quits : Result Command LineFault → Bool
+abbrev pub quits : Result Command LineError → Bool
 quits (Err why) = false
 quits (Ok (command.Run n)) = false
 quits (Ok (command.Task n)) = false

@@ -1,8 +1,8 @@
 -- The texts of answers (profile).
 use Rattle.std.specs.Prelude.{ℕ, zero, suc, Bool, true, false, List, [], ◌++◌, slice_index, codes, decimal, Option}
 use Rattle.std.specs.Prelude.{Some, None}
-use Rattle.debugger_commands.specs.declared.commands.LineFault.{LineFault}
-use Rattle.debugger_commands.specs.declared.commands.LineFault.TheVariants as fault
+use Rattle.debugger_commands.specs.declared.commands.LineError.{LineError}
+use Rattle.debugger_commands.specs.declared.commands.LineError.TheVariants as error
 use Rattle.instruction_set.specs.Words.{word_sum}
 use Rattle.reference.specs.declared.access.Decision.{Decision}
 use Rattle.reference.specs.declared.stop.Stop.{Stop}
@@ -74,6 +74,6 @@ abbrev pub end_text : ℕ → Option Stop → List ℕ
 end_text pc None = (codes "at " ++ hex_word pc) ++ line_feed
 end_text pc (Some why) = stop_line why
 
-abbrev pub fault_text : LineFault → List ℕ
-fault_text fault.Command = codes "error 1" ++ line_feed
-fault_text fault.Word = codes "error 2" ++ line_feed
+abbrev pub error_text : LineError → List ℕ
+error_text error.Command = codes "error 1" ++ line_feed
+error_text error.Word = codes "error 2" ++ line_feed

@@ -36,7 +36,7 @@ pub enum Command {
 
 /// Why a line is no command.
 #[derive(Clone, Copy)]
-pub enum LineFault {
+pub enum LineError {
     /// There is no such command, the number of words is wrong, or the line is too long.
     Command,
     /// A word isn't a number or a letter that is allowed there.
@@ -121,22 +121,22 @@ fn kind_of(text: &[u8]) -> Option<Kind>
 
 /// Returns the command of a line, which is None where it's too long.
 #[tactic(auto, unfolding(crate::specs::Commands::command_in))]
-pub fn read_line(line: Option<&[u8]>) -> Result<Command, LineFault>
+pub fn read_line(line: Option<&[u8]>) -> Result<Command, LineError>
     ensures { result ≡ command_in (option_map (λ l. l.now) line.entry) }
 {
     let Some(line) = line else {
-        return Err(LineFault::Command);
+        return Err(LineError::Command);
     };
     let name = name_of(first_word(line));
     read_command(name, more_words(line))
 }
 
 /// Returns the command of a name, with the words after it.
-fn read_command(name: Option<Name>, more: Option<&[u8]>) -> Result<Command, LineFault>
+fn read_command(name: Option<Name>, more: Option<&[u8]>) -> Result<Command, LineError>
     ensures { result ≡ command_of name (option_map (λ m. m.now) more.entry) }
 {
     let Some(name) = name else {
-        return Err(LineFault::Command);
+        return Err(LineError::Command);
     };
     match name {
         Name::Step => alone(Command::Run(1), more),
@@ -152,73 +152,73 @@ fn read_command(name: Option<Name>, more: Option<&[u8]>) -> Result<Command, Line
 }
 
 /// Returns a command that takes no word.
-fn alone(command: Command, more: Option<&[u8]>) -> Result<Command, LineFault>
+fn alone(command: Command, more: Option<&[u8]>) -> Result<Command, LineError>
     ensures { result ≡ alone command (option_map (λ m. m.now) more.entry) }
 {
     match more {
         None => Ok(command),
-        Some(_) => Err(LineFault::Command),
+        Some(_) => Err(LineError::Command),
     }
 }
 
 /// Reads the word after `run`.
-fn read_run(word: Option<&[u8]>) -> Result<Command, LineFault>
+fn read_run(word: Option<&[u8]>) -> Result<Command, LineError>
     ensures { result ≡ read_run (option_map (λ w. w.now) word.entry) }
 {
     let Some(word) = word else {
-        return Err(LineFault::Command);
+        return Err(LineError::Command);
     };
     match number_within(1, MOST_STEPS, word) {
         Some(steps) => Ok(Command::Run(steps)),
-        None => Err(LineFault::Word),
+        None => Err(LineError::Word),
     }
 }
 
 /// Reads the word after `task`.
-fn read_task(word: Option<&[u8]>) -> Result<Command, LineFault>
+fn read_task(word: Option<&[u8]>) -> Result<Command, LineError>
     ensures { result ≡ read_task (option_map (λ w. w.now) word.entry) }
 {
     let Some(word) = word else {
-        return Err(LineFault::Command);
+        return Err(LineError::Command);
     };
     match number_within(1, MOST_STEPS, word) {
         Some(steps) => Ok(Command::Task(steps)),
-        None => Err(LineFault::Word),
+        None => Err(LineError::Word),
     }
 }
 
 /// Reads the word after `break`.
-fn read_break(word: Option<&[u8]>) -> Result<Command, LineFault>
+fn read_break(word: Option<&[u8]>) -> Result<Command, LineError>
     ensures { result ≡ read_break (option_map (λ w. w.now) word.entry) }
 {
     let Some(word) = word else {
-        return Err(LineFault::Command);
+        return Err(LineError::Command);
     };
     match number(word) {
         Some(address) => Ok(Command::Break(address)),
-        None => Err(LineFault::Word),
+        None => Err(LineError::Word),
     }
 }
 
 /// Reads the words after `mem`.
-fn read_memory(words: Option<TwoWords<'_>>) -> Result<Command, LineFault>
+fn read_memory(words: Option<TwoWords<'_>>) -> Result<Command, LineError>
     ensures { result ≡ read_memory (option_map seen_two words.entry) }
 {
     let Some(words) = words else {
-        return Err(LineFault::Command);
+        return Err(LineError::Command);
     };
     match (number(words.first), number_within(1, 256, words.second)) {
         (Some(address), Some(count)) => Ok(Command::Memory(address, (count - 1) as u8)),
-        _ => Err(LineFault::Word),
+        _ => Err(LineError::Word),
     }
 }
 
 /// Reads the words after `explain`.
-fn read_explain(words: Option<ThreeWords<'_>>) -> Result<Command, LineFault>
+fn read_explain(words: Option<ThreeWords<'_>>) -> Result<Command, LineError>
     ensures { result ≡ read_explain (option_map seen_three words.entry) }
 {
     let Some(words) = words else {
-        return Err(LineFault::Command);
+        return Err(LineError::Command);
     };
     let address = number(words.first);
     let privileged = privilege_of(words.others.first);
@@ -227,12 +227,12 @@ fn read_explain(words: Option<ThreeWords<'_>>) -> Result<Command, LineFault>
         (Some(address), Some(privileged), Some(kind)) => {
             Ok(Command::Explain(address, privileged, kind))
         }
-        _ => Err(LineFault::Word),
+        _ => Err(LineError::Word),
     }
 }
 
 /// Returns how many steps a run makes at most, where the command is `run` or `step`.
-pub fn steps_of(asked: Result<Command, LineFault>) -> Option<u32>
+pub fn steps_of(asked: Result<Command, LineError>) -> Option<u32>
     ensures { result ≡ steps_of asked }
 {
     match asked {
@@ -242,7 +242,7 @@ pub fn steps_of(asked: Result<Command, LineFault>) -> Option<u32>
 }
 
 /// Returns how many steps of a task are made at most, where the command is `task`.
-pub fn task_steps_of(asked: Result<Command, LineFault>) -> Option<u32>
+pub fn task_steps_of(asked: Result<Command, LineError>) -> Option<u32>
     ensures { result ≡ task_steps_of asked }
 {
     match asked {
@@ -252,7 +252,7 @@ pub fn task_steps_of(asked: Result<Command, LineFault>) -> Option<u32>
 }
 
 /// Returns whether a line ends the session.
-pub fn quits(asked: Result<Command, LineFault>) -> bool
+pub fn quits(asked: Result<Command, LineError>) -> bool
     ensures { result ≡ quits asked }
 {
     matches!(asked, Ok(Command::Quit))

@@ -10,9 +10,9 @@ mod texts;
 mod words;
 
 pub use breakpoints::Breakpoints;
-pub use commands::{Command, LineFault, quits, read_line, steps_of, task_steps_of};
+pub use commands::{Command, LineError, quits, read_line, steps_of, task_steps_of};
 pub use listener::Listener;
 pub use texts::{
-    Answer, byte_address, decision_text, end_text, fault_text, put_byte, put_generals, put_region,
+    Answer, byte_address, decision_text, end_text, error_text, put_byte, put_generals, put_region,
     put_register,
 };

@@ -1,11 +1,11 @@
 //! The texts of answers, and the parts of those that show a machine.
 
 ghost use Rattle.std.specs.Prelude.{◌≡◌, ◌+◌, ◌≤◌, [], ◌++◌, codes, decimal, length};
-ghost use Rattle.debugger_commands.specs.Texts.{byte_text, decision_text, end_text, fault_text, general_lines, grant_text, region_line, region_name, register_line, spaced, value_text, words_line};
+ghost use Rattle.debugger_commands.specs.Texts.{byte_text, decision_text, end_text, error_text, general_lines, grant_text, region_line, region_name, register_line, spaced, value_text, words_line};
 ghost use Rattle.instruction_set.specs.Words.{word_sum};
 ghost use Rattle.reference.specs.Text.{line_feed};
 
-use crate::commands::LineFault;
+use crate::commands::LineError;
 use reference::access::Decision;
 use reference::stop::Stop;
 use trace::page::Page;
@@ -137,14 +137,14 @@ pub fn decision_text(decision: &Decision) -> Answer
     page
 }
 
-/// Returns the line of a fault.
-pub fn fault_text(fault: LineFault) -> Answer
-    ensures { result ≡ fault_text fault }
+/// Returns the line of an error.
+pub fn error_text(error: LineError) -> Answer
+    ensures { result ≡ error_text error }
 {
     let mut page = Answer::new();
-    match fault {
-        LineFault::Command => page.put(b"error 1\n"),
-        LineFault::Word => page.put(b"error 2\n"),
+    match error {
+        LineError::Command => page.put(b"error 1\n"),
+        LineError::Word => page.put(b"error 2\n"),
     }
     page
 }

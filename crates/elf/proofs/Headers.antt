@@ -2,20 +2,20 @@
 -- headers that are left.
 use Rattle.std.proofs.Common.{◌≡◌, ℕ, suc, ◌+◌, ◌-◌, ◌*◌, ◌<◌, Bool, true, false, not, if◌then◌else◌, List, [], ◌∷◌}
 use Rattle.std.proofs.Common.{◌++◌, length, Result, Ok, Err, nat_lt, refl, sym, ap, ◌∙◌, arith, append_assoc}
-use Rattle.reference.specs.declared.fault.LoadFault.{LoadFault}
-use Rattle.reference.specs.declared.fault.LoadFault.TheVariants.{SegmentOutsideFile}
+use Rattle.reference.specs.declared.error.LoadError.{LoadError}
+use Rattle.reference.specs.declared.error.LoadError.TheVariants.{SegmentOutsideFile}
 use Rattle.reference.specs.Images.{Segment, program_header_size, segments_of, in_front, is_segment, segment_at}
 use Rattle.reference.specs.Images.{segment_end}
 use Rattle.elf.specs.Segment.{segment_in}
 
 -- the segments that are read, or the first refusal
 abbrev Read : Type 0
-Read = Result (List Segment) LoadFault
+Read = Result (List Segment) LoadError
 
 -- segments, followed by those that are read after them
 abbrev pub after : List Segment → Read → Read
 after done (Ok rest) = Ok (done ++ rest)
-after done (Err fault) = Err fault
+after done (Err error) = Err error
 
 -- the segments of the headers from an index on
 abbrev pub left_from : List ℕ → ℕ → ℕ → ℕ → Read
@@ -23,9 +23,9 @@ left_from file table count index =
     segments_of file (table + program_header_size * index) (count - index)
 
 -- one segment that is read, followed by the later ones
-abbrev joined : Result Segment LoadFault → Read → Read
+abbrev joined : Result Segment LoadError → Read → Read
 joined (Ok segment) rest = in_front segment rest
-joined (Err fault) rest = Err fault
+joined (Err error) rest = Err error
 
 -- what the header at a place adds to the segments of the later headers, by whether it is of a segment
 abbrev header_if : Bool → List ℕ → ℕ → Read → Read
@@ -37,16 +37,16 @@ header_if is_of_segment file at rest =
 abbrev with_header : List ℕ → ℕ → Read → Read
 with_header file at rest = header_if (is_segment file at) file at rest
 
-joined-if : (outside : Bool) (segment : Segment) (fault : LoadFault) (rest : Read) →
-    joined (if outside then Err fault else Ok segment) rest
-    ≡ (if outside then Err fault else in_front segment rest)
-joined-if true segment fault rest = refl
-joined-if false segment fault rest = refl
+joined-if : (outside : Bool) (segment : Segment) (error : LoadError) (rest : Read) →
+    joined (if outside then Err error else Ok segment) rest
+    ≡ (if outside then Err error else in_front segment rest)
+joined-if true segment error rest = refl
+joined-if false segment error rest = refl
 
 after-in_front : (done : List Segment) (segment : Segment) (rest : Read) →
     after done (in_front segment rest) ≡ after (done ++ segment ∷ []) rest
 after-in_front done segment (Ok rest) = ap Ok (sym (append_assoc done (segment ∷ []) rest))
-after-in_front done segment (Err fault) = refl
+after-in_front done segment (Err error) = refl
 
 -- the header at an index, and the later ones
 left_from-next : (file : List ℕ) (table count index : ℕ) → index < count →
@@ -82,16 +82,16 @@ of_segment file at rest one =
 
 -- a header whose segment is refused
 pub refused : (file : List ℕ) (table count index : ℕ)
-    (done : List Segment) (all : Read) (fault : LoadFault) →
+    (done : List Segment) (all : Read) (error : LoadError) →
     index < count → is_segment file (table + program_header_size * index) ≡ true →
-    segment_in file (table + program_header_size * index) ≡ Err fault →
-    after done (left_from file table count index) ≡ all → all ≡ Err fault
-refused file table count index done all fault below one outside whole =
+    segment_in file (table + program_header_size * index) ≡ Err error →
+    after done (left_from file table count index) ≡ all → all ≡ Err error
+refused file table count index done all error below one outside whole =
     let at : ℕ = table + program_header_size * index in
     let rest : Read = left_from file table count (index + 1) in
     sym whole
     ∙ ap (after done) (left_from-next file table count index below ∙ of_segment file at rest one)
-    ∙ ap (λ (read : Result Segment LoadFault). after done (joined read rest)) outside
+    ∙ ap (λ (read : Result Segment LoadError). after done (joined read rest)) outside
 
 -- a header whose segment is taken
 pub taken : (file : List ℕ) (table count index : ℕ)
@@ -104,6 +104,6 @@ taken file table count index done all segment below one inside whole =
     let at : ℕ = table + program_header_size * index in
     let rest : Read = left_from file table count (index + 1) in
     sym (after-in_front done segment rest)
-    ∙ ap (λ (read : Result Segment LoadFault). after done (joined read rest)) (sym inside)
+    ∙ ap (λ (read : Result Segment LoadError). after done (joined read rest)) (sym inside)
     ∙ ap (after done) (sym (left_from-next file table count index below ∙ of_segment file at rest one))
     ∙ whole

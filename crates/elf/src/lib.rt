@@ -14,7 +14,7 @@ pub use image::{Image, MOST_SEGMENTS, Segment};
 use number::{halfword, word};
 use overlap::have_overlap;
 use program_header::{PROGRAM_HEADER_SIZE, image_of_headers};
-pub use reference::fault::LoadFault;
+pub use reference::error::LoadError;
 
 // "ELF Header": its size, then the places of its fields.
 const ELF_HEADER_SIZE: usize = 52;
@@ -45,24 +45,24 @@ const EM_ARM: u16 = 40;
 /// Returns the image that an ELF file holds, or why the machine doesn't take the file: the first
 /// refusal in the order in which the file is checked.
 #[tactic(auto, unfolding(reference::specs::Images::image_of))]
-pub fn load(bytes: &[u8]) -> Result<Image<'_>, LoadFault>
+pub fn load(bytes: &[u8]) -> Result<Image<'_>, LoadError>
     ensures image { result ≡ image_of bytes.now }
     ensures apart { IfOk result (λ image. AreAllApart image) }
 {
     if bytes.len() < ELF_HEADER_SIZE {
-        return Err(LoadFault::Truncated);
+        return Err(LoadError::Truncated);
     }
     if !has_magic(bytes) {
-        return Err(LoadFault::NotElf);
+        return Err(LoadError::NotElf);
     }
     if !is_32_bit_little(bytes) {
-        return Err(LoadFault::NotElf32Little);
+        return Err(LoadError::NotElf32Little);
     }
     if halfword(bytes, E_TYPE) != ET_EXEC {
-        return Err(LoadFault::NotExecutable);
+        return Err(LoadError::NotExecutable);
     }
     if halfword(bytes, E_MACHINE) != EM_ARM {
-        return Err(LoadFault::NotArm);
+        return Err(LoadError::NotArm);
     }
     image_of_table(bytes)
 }
@@ -85,28 +85,28 @@ fn is_32_bit_little(file: &[u8]) -> bool
 // Returns the image of the program header table. Where a file has none, the size of a program
 // header isn't checked.
 #[tactic(auto, using(crate::proofs::Overlaps::none_apart))]
-fn image_of_table(file: &[u8]) -> Result<Image<'_>, LoadFault>
+fn image_of_table(file: &[u8]) -> Result<Image<'_>, LoadError>
     requires { ELF_HEADER_SIZE ≤ length file.now }
     ensures image { result ≡ table_of file.now }
     ensures apart { IfOk result (λ image. AreAllApart image) }
 {
     let count = halfword(file, E_PHNUM) as usize;
     if count > MOST_SEGMENTS {
-        return Err(LoadFault::TooManySegments);
+        return Err(LoadError::TooManySegments);
     }
     if count == 0 {
         return Ok(Image::empty());
     }
     if halfword(file, E_PHENTSIZE) as usize != PROGRAM_HEADER_SIZE {
-        return Err(LoadFault::HeaderSize);
+        return Err(LoadError::HeaderSize);
     }
     let table = word(file, E_PHOFF) as usize;
     if table + PROGRAM_HEADER_SIZE * count > file.len() {
-        return Err(LoadFault::Truncated);
+        return Err(LoadError::Truncated);
     }
     let image = image_of_headers(file, table, count)?;
     if have_overlap(image.segments()) {
-        return Err(LoadFault::SegmentOverlap);
+        return Err(LoadError::SegmentOverlap);
     }
     Ok(image)
 }

@@ -7,7 +7,7 @@ ghost use Rattle.elf.specs.Segment.{Gives, segment_in, segment_of};
 use crate::image::{Image, MOST_SEGMENTS, Segment};
 use crate::number::word;
 use arrayvec::ArrayVec;
-use reference::fault::LoadFault;
+use reference::error::LoadError;
 
 // A program header's size, and the places of its fields.
 pub const PROGRAM_HEADER_SIZE: usize = 32;
@@ -24,7 +24,7 @@ const P_FILESZ: usize = 16;
 const PT_LOAD: u32 = 1;
 
 // The segments of `count` program headers from `table` on.
-pub fn image_of_headers(file: &[u8], table: usize, count: usize) -> Result<Image<'_>, LoadFault>
+pub fn image_of_headers(file: &[u8], table: usize, count: usize) -> Result<Image<'_>, LoadError>
     requires few { count ≤ MOST_SEGMENTS }
     requires within { table + PROGRAM_HEADER_SIZE * count ≤ length file.now }
     ensures { result ≡ segments_of file.now table count }
@@ -49,14 +49,14 @@ fn is_segment(file: &[u8], at: usize) -> bool
 }
 
 // The segment of the program header at a place of the file, where its bytes lie in the file.
-fn segment_of_header(file: &[u8], at: usize) -> Result<Segment<'_>, LoadFault>
+fn segment_of_header(file: &[u8], at: usize) -> Result<Segment<'_>, LoadError>
     requires { at + PROGRAM_HEADER_SIZE ≤ length file.now }
     ensures { Gives segment_of result (segment_in file.now at) }
 {
     let offset = word(file, at + P_OFFSET) as usize;
     let end = offset + word(file, at + P_FILESZ) as usize;
     if end > file.len() {
-        return Err(LoadFault::SegmentOutsideFile);
+        return Err(LoadError::SegmentOutsideFile);
     }
     Ok(Segment {
         address: word(file, at + P_PADDR),

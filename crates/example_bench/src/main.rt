@@ -4,7 +4,7 @@
 
 use board::{Board, read_board};
 use elf::{Image, load};
-use machine::{Event, Events, Fast, Place, PlaceFault, event_line};
+use machine::{Event, Events, Fast, Place, PlaceError, event_line};
 use reference::event::EventKind;
 use std::alloc::Global;
 use std::io::Write;
@@ -68,7 +68,7 @@ fn test_store<W: Write>(
 
 /// Puts a store into flash, and lets unprivileged code read and fetch from flash and write the first 256
 /// bytes of RAM.
-fn set_up(machine: &mut Fast, address: u32) -> Result<(), PlaceFault> {
+fn set_up(machine: &mut Fast, address: u32) -> Result<(), PlaceError> {
     machine.place(Place::Word(0x100, 0xBE00_6001))?; // STR R1, [R0]; BKPT 0
     machine.place(Place::Reg(0, address))?;
     machine.place(Place::Reg(1, 7))?;

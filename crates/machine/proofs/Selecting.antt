@@ -5,8 +5,8 @@ use Rattle.std.proofs.lemmas.List.{append-nil}
 use Rattle.std.specs.Io.KnownBytes.{Appends}
 use Rattle.std.proofs.KnownBytes.{Appends-trans}
 use Rattle.machine.proofs.Running.{continues, cut_after, events_more, over, prefix_of}
-use Rattle.machine.specs.declared.whole.RunFault.{RunFault}
-use Rattle.machine.specs.declared.whole.RunFault.TheVariants.{Write, Broken}
+use Rattle.machine.specs.declared.whole.RunError.{RunError}
+use Rattle.machine.specs.declared.whole.RunError.TheVariants.{Write, Broken}
 use Rattle.machine.specs.Runs.{Fails, Leaves}
 use Rattle.machine.specs.Selected.{SelectedFails, SelectedLeaves}
 use Rattle.machine.specs.Whole.{Whole}
@@ -155,10 +155,10 @@ leaves_all n s steps old new last left = record {
   ];
 }
 
-pub fails_all : (n : ℕ) (old new : Whole) (put put' : Option (List ℕ)) (faults faults' : ℕ)
-    (result : Result Stop RunFault) → IfErr result (SelectedFails which.All n old new put put' faults faults')
-    → IfErr result (Fails n old new put put' faults faults')
-fails_all n old new put put' faults faults' (Ok stop) fails = fails
-fails_all n old new put put' faults faults' (Err (Write steps)) fails =
+pub fails_all : (n : ℕ) (old new : Whole) (put put' : Option (List ℕ)) (errors errors' : ℕ)
+    (result : Result Stop RunError) → IfErr result (SelectedFails which.All n old new put put' errors errors')
+    → IfErr result (Fails n old new put put' errors errors')
+fails_all n old new put put' errors errors' (Ok stop) fails = fails
+fails_all n old new put put' errors errors' (Err (Write steps)) fails =
     (leaves_all n old.state steps put put' new.state fails.0, fails.1, fails.2)
-fails_all n old new put put' faults faults' (Err Broken) fails = fails
+fails_all n old new put put' errors errors' (Err Broken) fails = fails

@@ -1,8 +1,8 @@
 -- What a run that a writer cut short leaves.
 use Rattle.std.specs.Prelude.{◌≡◌, ◌⊎◌, ℕ, ◌+◌, ◌-◌, ◌<◌, ◌≤◌, true, List, Option, None, IsSome}
 use Rattle.std.specs.Io.KnownBytes.{Keeps}
-use Rattle.machine.specs.declared.whole.RunFault.{RunFault}
-use Rattle.machine.specs.declared.whole.RunFault.TheVariants.{Write, Broken}
+use Rattle.machine.specs.declared.whole.RunError.{RunError}
+use Rattle.machine.specs.declared.whole.RunError.TheVariants.{Write, Broken}
 use Rattle.output.specs.Output.{IsCutAfter}
 use Rattle.machine.specs.Whole.{Whole}
 use Rattle.reference.specs.Run.{after, events_of, ending_of}
@@ -28,8 +28,8 @@ pub record Leaves (n : ℕ) (s : State) (steps : ℕ) (old new : Option (List �
   pub state : last ≡ after steps s
   pub cut : CutInStep s steps old new ⊎ CutInStop n s steps old new
 
--- a run that failed: the writer counted a fault in it, or it was broken before and nothing was done
-abbrev pub Fails : ℕ → Whole → Whole → Option (List ℕ) → Option (List ℕ) → ℕ → ℕ → RunFault → Type 0
-Fails n old new written written' faults faults' (Write steps) =
-    Leaves n old.state steps written written' new.state × (new.broken ≡ true) × (faults' ≡ faults + 1)
-Fails n old new written written' faults faults' Broken = (new ≡ old) × Keeps written written' × (faults' ≡ faults)
+-- a run that failed: the writer counted an error in it, or it was broken before and nothing was done
+abbrev pub Fails : ℕ → Whole → Whole → Option (List ℕ) → Option (List ℕ) → ℕ → ℕ → RunError → Type 0
+Fails n old new written written' errors errors' (Write steps) =
+    Leaves n old.state steps written written' new.state × (new.broken ≡ true) × (errors' ≡ errors + 1)
+Fails n old new written written' errors errors' Broken = (new ≡ old) × Keeps written written' × (errors' ≡ errors)

@@ -1,8 +1,8 @@
 -- What a run that writes a selection of its events leaves where a writer cuts it short.
 use Rattle.std.specs.Prelude.{◌≡◌, ◌⊎◌, ℕ, ◌+◌, ◌-◌, ◌<◌, ◌≤◌, true, List, Option, None, IsSome}
 use Rattle.std.specs.Io.KnownBytes.{Keeps}
-use Rattle.machine.specs.declared.whole.RunFault.{RunFault}
-use Rattle.machine.specs.declared.whole.RunFault.TheVariants.{Write, Broken}
+use Rattle.machine.specs.declared.whole.RunError.{RunError}
+use Rattle.machine.specs.declared.whole.RunError.TheVariants.{Write, Broken}
 use Rattle.machine.specs.Whole.{Whole}
 use Rattle.output.specs.Output.{IsCutAfter}
 use Rattle.reference.specs.Run.{after, events_of, ending_of}
@@ -33,11 +33,11 @@ pub record SelectedLeaves (selection : TraceSelection) (n : ℕ) (s : State) (st
   pub state : last ≡ after steps s
   pub cut : SelectedCutInStep selection s steps old new ⊎ SelectedCutInEnd selection n s steps old new
 
--- a run that failed: the writer counted a fault in it, or it was broken before and nothing was done
-abbrev pub SelectedFails : TraceSelection → ℕ → Whole → Whole → Option (List ℕ) → Option (List ℕ) → ℕ → ℕ → RunFault
+-- a run that failed: the writer counted an error in it, or it was broken before and nothing was done
+abbrev pub SelectedFails : TraceSelection → ℕ → Whole → Whole → Option (List ℕ) → Option (List ℕ) → ℕ → ℕ → RunError
     → Type 0
-SelectedFails selection n old new written written' faults faults' (Write steps) =
+SelectedFails selection n old new written written' errors errors' (Write steps) =
     SelectedLeaves selection n old.state steps written written' new.state × (new.broken ≡ true)
-    × (faults' ≡ faults + 1)
-SelectedFails selection n old new written written' faults faults' Broken =
-    (new ≡ old) × Keeps written written' × (faults' ≡ faults)
+    × (errors' ≡ errors + 1)
+SelectedFails selection n old new written written' errors errors' Broken =
+    (new ≡ old) × Keeps written written' × (errors' ≡ errors)

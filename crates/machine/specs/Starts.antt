@@ -1,30 +1,30 @@
 -- How a started machine, or one with a placed value, relates to the definition.
 use Rattle.std.specs.Prelude.{◌≡◌, false, Result, Ok, Err, IsOk}
 use Rattle.machine.specs.Whole.{Whole}
-use Rattle.reference.specs.declared.fault.PlaceFault.{PlaceFault}
-use Rattle.reference.specs.declared.fault.StartFault.{StartFault}
-use Rattle.reference.specs.declared.fault.StartFault.TheVariants.{SegmentOutsideMemory, NoMemory}
+use Rattle.reference.specs.declared.error.PlaceError.{PlaceError}
+use Rattle.reference.specs.declared.error.StartError.{StartError}
+use Rattle.reference.specs.declared.error.StartError.TheVariants.{SegmentOutsideMemory, NoMemory}
 use Rattle.reference.specs.State.{State}
 
 -- a core is in the start state; an image is refused where the definition refuses it; and it's out of memory only where
 -- the definition refuses nothing
-abbrev pub StartsAt : Result State StartFault → Result State StartFault → Type 0
+abbrev pub StartsAt : Result State StartError → Result State StartError → Type 0
 StartsAt read (Ok s) = read ≡ Ok s
 StartsAt read (Err SegmentOutsideMemory) = read ≡ Err SegmentOutsideMemory
 StartsAt read (Err NoMemory) = IsOk read
 
 -- likewise for a machine, whose writer hasn't failed
-abbrev pub Starts : Result State StartFault → Result Whole StartFault → Type 0
+abbrev pub Starts : Result State StartError → Result Whole StartError → Type 0
 Starts read (Ok m) = (read ≡ Ok m.state) × (m.broken ≡ false)
 Starts read (Err SegmentOutsideMemory) = read ≡ Err SegmentOutsideMemory
 Starts read (Err NoMemory) = IsOk read
 
 -- a value was placed as the definition says, or refused as it says, and then nothing changed
-abbrev pub PlacesAt : Result State PlaceFault → State → State → Result (Unit {0}) PlaceFault → Type 0
+abbrev pub PlacesAt : Result State PlaceError → State → State → Result (Unit {0}) PlaceError → Type 0
 PlacesAt read old new (Ok done) = read ≡ Ok new
-PlacesAt read old new (Err fault) = (read ≡ Err fault) × (new ≡ old)
+PlacesAt read old new (Err error) = (read ≡ Err error) × (new ≡ old)
 
 -- likewise for a machine
-abbrev pub Places : Result State PlaceFault → Whole → Whole → Result (Unit {0}) PlaceFault → Type 0
+abbrev pub Places : Result State PlaceError → Whole → Whole → Result (Unit {0}) PlaceError → Type 0
 Places read old new (Ok done) = (read ≡ Ok new.state) × (new.broken ≡ old.broken)
-Places read old new (Err fault) = (read ≡ Err fault) × (new ≡ old)
+Places read old new (Err error) = (read ≡ Err error) × (new ≡ old)

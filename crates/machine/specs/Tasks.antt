@@ -1,8 +1,8 @@
 -- What a run of a task leaves. What a task is, and how a run of it ends, is in Tasks of the crate `task_laws`.
 use Rattle.std.specs.Prelude.{◌≡◌, ℕ, ◌+◌, ◌≤◌, Bool, true, false, if◌then◌else◌, List, Option, Some, None}
 use Rattle.std.specs.Io.KnownBytes.{Appends, Keeps}
-use Rattle.machine.specs.declared.whole.RunFault.{RunFault}
-use Rattle.machine.specs.declared.whole.RunFault.TheVariants.{Write, Broken}
+use Rattle.machine.specs.declared.whole.RunError.{RunError}
+use Rattle.machine.specs.declared.whole.RunError.TheVariants.{Write, Broken}
 use Rattle.machine.specs.Runs.{CutInStep}
 use Rattle.machine.specs.Whole.{Whole}
 use Rattle.reference.specs.declared.stop.Stop.{Stop}
@@ -47,15 +47,15 @@ pub record TaskIsCut (n : ℕ) (s : State) (old new : Option (List ℕ)) (last :
   pub cut : CutInStep s steps old new
 
 -- a run that failed: a task ran, and its run was cut short; or the machine was broken before, and nothing was done
-abbrev pub TaskFails : ℕ → Whole → Whole → Option (List ℕ) → Option (List ℕ) → RunFault → Type 0
+abbrev pub TaskFails : ℕ → Whole → Whole → Option (List ℕ) → Option (List ℕ) → RunError → Type 0
 TaskFails n old new written written' (Write steps) =
     (is_task old.state ≡ true) × TaskIsCut n old.state written written' new.state steps × (new.broken ≡ true)
 TaskFails n old new written written' Broken = (new ≡ old) × Keeps written written'
 
 -- the writer failed once in a run that it cut short, and never in one that did nothing
-abbrev pub CountsFaults : ℕ → ℕ → RunFault → Type 0
-CountsFaults faults faults' (Write steps) = faults' ≡ faults + 1
-CountsFaults faults faults' Broken = faults' ≡ faults
+abbrev pub CountsErrors : ℕ → ℕ → RunError → Type 0
+CountsErrors errors errors' (Write steps) = errors' ≡ errors + 1
+CountsErrors errors errors' Broken = errors' ≡ errors
 
 -- why a run ended, by the stop of the machine and by whether steps of the limit are left
 abbrev pub end_of : Option Stop → Bool → TaskEnd

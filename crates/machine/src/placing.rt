@@ -13,24 +13,24 @@ use instruction_set::operands::SpecialRegister;
 use instruction_set::registers::Register;
 use instruction_set::size::Size;
 use reference::access::{Access, Answer, Kind, Request};
-use reference::fault::PlaceFault;
+use reference::error::PlaceError;
 use reference::map::is_in_ppb;
 use reference::place::Place;
 
 impl<D: Decider, C: CodeLines, L: Levels, U: DueTicks> Processor<D, C, L, U> {
     /// Puts a value into a register or a word.
     #[tactic(auto, unfolding(reference::specs::Places::place))]
-    pub fn place(&mut self, value: Place) -> Result<(), PlaceFault>
+    pub fn place(&mut self, value: Place) -> Result<(), PlaceError>
         ensures { PlacesAt (place self.old value) self.old self.new result }
     {
         if !is_word_aligned(value) {
-            return Err(PlaceFault::NotAligned);
+            return Err(PlaceError::NotAligned);
         }
         if !self.is_there(value) {
-            return Err(PlaceFault::NoSuchPlace);
+            return Err(PlaceError::NoSuchPlace);
         }
         if self.stop().is_some() || self.is_in_entry() || self.registers().is_handler() {
-            return Err(PlaceFault::Stopped);
+            return Err(PlaceError::Stopped);
         }
         self.take(value)
     }
@@ -50,7 +50,7 @@ impl<D: Decider, C: CodeLines, L: Levels, U: DueTicks> Processor<D, C, L, U> {
     }
 
     /// Puts a value into a register or a word that exists.
-    fn take(&mut self, value: Place) -> Result<(), PlaceFault>
+    fn take(&mut self, value: Place) -> Result<(), PlaceError>
         requires { is_there self.old.bus.memory value ≡ true }
         ensures { PlacesAt (taken self.old value) self.old self.new result }
     {
@@ -71,25 +71,25 @@ impl<D: Decider, C: CodeLines, L: Levels, U: DueTicks> Processor<D, C, L, U> {
     }
 
     /// Writes a special register as MSR by privileged code in Thread mode does.
-    fn take_special(&mut self, number: u8, value: u32) -> Result<(), PlaceFault>
+    fn take_special(&mut self, number: u8, value: u32) -> Result<(), PlaceError>
         ensures { PlacesAt (special_taken self.old (special_of number) value) self.old self.new result }
     {
         let Some(special) = SpecialRegister::of(number) else {
-            return Err(PlaceFault::NoSuchPlace);
+            return Err(PlaceError::NoSuchPlace);
         };
         self.set_special(special, value);
         Ok(())
     }
 
     /// Stores a word to the Private Peripheral Bus, as privileged code does. No rule decides it.
-    fn take_register(&mut self, address: u32, value: u32) -> Result<(), PlaceFault>
+    fn take_register(&mut self, address: u32, value: u32) -> Result<(), PlaceError>
         requires { is_in_ppb address ≡ true }
         ensures { PlacesAt (taken self.old (Word address value)) self.old self.new result }
     {
         match self.carry_out(&store_of(address, value)) {
             Answer::Value(_) => Ok(()),
-            Answer::Error => Err(PlaceFault::NoSuchPlace),
-            Answer::Stop(why) => Err(PlaceFault::Refused(why)),
+            Answer::Error => Err(PlaceError::NoSuchPlace),
+            Answer::Stop(why) => Err(PlaceError::Refused(why)),
         }
     }
 }

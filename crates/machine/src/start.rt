@@ -12,7 +12,7 @@ use access::{Bus, CodeLines, CodeMemory, Decider, DueTicks, Levels, System};
 use board::Board;
 use elf::{Image, Segment};
 use reference::board::Layout;
-use reference::fault::StartFault;
+use reference::error::StartError;
 use reference::map::RAM_BASE;
 use regs::Regs;
 use space::{Space, is_within};
@@ -25,18 +25,18 @@ pub fn start_core<D: Decider, C: CodeLines, L: Levels, U: DueTicks>(
     alloc: Global,
     image: &Image<'_>,
     board: &Board,
-) -> Result<Processor<D, C, L, U>, StartFault>
+) -> Result<Processor<D, C, L, U>, StartError>
     ensures { StartsAt (start (described board.now) image.now) result }
 {
     if !are_placed(&board.layout, image.segments()) {
-        return Err(StartFault::SegmentOutsideMemory);
+        return Err(StartError::SegmentOutsideMemory);
     }
     let Ok(mut space) = Space::blank(alloc, &board.layout) else {
-        return Err(StartFault::NoMemory);
+        return Err(StartError::NoMemory);
     };
     let mut script = Vec::new(alloc);
     if script.extend_from_slice(board.events.as_slice()).is_err() {
-        return Err(StartFault::NoMemory);
+        return Err(StartError::NoMemory);
     }
     load_segments(&mut space, image.segments());
     let regs = Regs::reset(space.vector(0), space.vector(1));
@@ -49,7 +49,7 @@ pub fn start_core<D: Decider, C: CodeLines, L: Levels, U: DueTicks>(
     );
     let bytes = board.layout.flash_size as usize + board.layout.ram_size as usize;
     let Ok(memory) = CodeMemory::new(alloc, space, bytes) else {
-        return Err(StartFault::NoMemory);
+        return Err(StartError::NoMemory);
     };
     Ok(Processor::new(regs, Bus::new(memory, system)))
 }

@@ -33,9 +33,9 @@ pub fn run_task_core<D: Decider, C: CodeLines, L: Levels, U: DueTicks, W: Out>(
     out: &mut W,
 ) -> Result<TaskEnd, u64>
     ensures end { IfOk result (TaskRuns limit core.old (W.written out.old) (W.written out.new) core.new) }
-    ensures quiet { OnOk result (W.faults out.new ≡ W.faults out.old) }
+    ensures quiet { OnOk result (W.errors out.new ≡ W.errors out.old) }
     ensures cut { IfErr result (TaskIsCut limit core.old (W.written out.old) (W.written out.new) core.new) }
-    ensures fault { IfErr result (λ steps. W.faults out.new ≡ W.faults out.old + 1) }
+    ensures error { IfErr result (λ steps. W.errors out.new ≡ W.errors out.old + 1) }
 {
     let mut room = LineRoom::new();
     let mut made = 0;

@@ -5,7 +5,7 @@ ghost use Rattle.board.specs.Seen.{described};
 ghost use Rattle.machine.specs.Runs.{Fails};
 ghost use Rattle.machine.specs.Selected.{SelectedFails};
 ghost use Rattle.machine.specs.Starts.{Starts, Places};
-ghost use Rattle.machine.specs.Tasks.{CountsFaults, TaskEnds, TaskFails};
+ghost use Rattle.machine.specs.Tasks.{CountsErrors, TaskEnds, TaskFails};
 ghost use Rattle.reference.specs.Memory.{byte_at};
 ghost use Rattle.reference.specs.Places.{place};
 ghost use Rattle.reference.specs.Priorities.{is_below_zero, is_in};
@@ -37,11 +37,11 @@ use decode::Reread;
 use elf::Image;
 use mpu::MpuRegs;
 use output::{
-    AllEvents, ConsoleBytes, ExceptionEvents, IoFault, LineRoom, NoEvents, Out, RefusedEvents, View,
+    AllEvents, ConsoleBytes, ExceptionEvents, IoError, LineRoom, NoEvents, Out, RefusedEvents, View,
 };
 use reference::access::{Decision, Kind};
+use reference::error::{PlaceError, StartError};
 use reference::event::MOST_EVENTS;
-use reference::fault::{PlaceFault, StartFault};
 use reference::place::Place;
 use reference::stop::Stop;
 use reference::system::StatusRegister;
@@ -53,7 +53,7 @@ use trace::sink::{Events, Sink};
 
 /// Why a run failed.
 #[derive(Clone, Copy)]
-pub enum RunFault {
+pub enum RunError {
     /// One call of the writer failed in this run, which made `steps` steps.
     Write { steps: u64 },
     /// The writer failed in an earlier run.
@@ -89,7 +89,7 @@ impl<D: Decider, C: CodeLines, L: Levels, U: DueTicks> Machine<D, C, L, U> {
     ghost use Rattle.machine.specs.Values.{execution_of, values_of};
 
     /// Makes the machine of a board, with an image in its memory, before the first step.
-    pub fn new(alloc: Global, image: &Image<'_>, board: &Board) -> Result<Self, StartFault>
+    pub fn new(alloc: Global, image: &Image<'_>, board: &Board) -> Result<Self, StartError>
         ensures { Starts (start (described board.now) image.now) result }
     {
         let core = start_core(alloc, image, board)?;
@@ -124,24 +124,24 @@ impl<D: Decider, C: CodeLines, L: Levels, U: DueTicks> Machine<D, C, L, U> {
 
     /// Makes a step and writes its lines. `room` is a buffer for one line, the same at each step. On an error
     /// a prefix of the lines went out.
-    pub fn write_step<W: Out>(&mut self, room: &mut LineRoom, out: &mut W) -> Result<(), IoFault>
+    pub fn write_step<W: Out>(&mut self, room: &mut LineRoom, out: &mut W) -> Result<(), IoError>
         ensures state { self.new ≡ record self.old { state = (step self.old.state).state } }
-        ensures put { Put (W.written out.old) (W.written out.new) (W.faults out.old) (W.faults out.new) (lines (step self.old.state).events) result }
+        ensures put { Put (W.written out.old) (W.written out.new) (W.errors out.old) (W.errors out.new) (lines (step self.old.state).events) result }
     {
         write_step(&mut self.core, out, room)
     }
 
     /// Makes at most `limit` steps, up to the first stop, and writes their trace.
-    pub fn run<W: Out>(&mut self, limit: u64, out: &mut W) -> Result<Stop, RunFault>
+    pub fn run<W: Out>(&mut self, limit: u64, out: &mut W) -> Result<Stop, RunError>
         // The whole trace of the reference machine went out, and the machine is in its state.
         ensures written { OnOk result (Appends (W.written out.old) (W.written out.new) (trace limit self.old.state)) }
         ensures state { OnOk result (self.new ≡ record self.old { state = after limit self.old.state }) }
         ensures stop { IfOk result (λ stop. stop ≡ ending_of limit self.old.state) }
-        ensures quiet { OnOk result (W.faults out.new ≡ W.faults out.old) }
+        ensures quiet { OnOk result (W.errors out.new ≡ W.errors out.old) }
 
         // Otherwise the writer failed in this run, or in an earlier one.
-        ensures fault { IfErr result (Fails limit self.old self.new (W.written out.old) (W.written out.new) (W.faults out.old) (W.faults out.new)) }
-        ensures broken { (result ≡ Err RunFault.Broken) ↔ (self.old.broken ≡ true) }
+        ensures error { IfErr result (Fails limit self.old self.new (W.written out.old) (W.written out.new) (W.errors out.old) (W.errors out.new)) }
+        ensures broken { (result ≡ Err RunError.Broken) ↔ (self.old.broken ≡ true) }
     {
         self.run_view::<AllEvents, W>(limit, out)
     }
@@ -153,16 +153,16 @@ impl<D: Decider, C: CodeLines, L: Levels, U: DueTicks> Machine<D, C, L, U> {
         selection: TraceSelection,
         limit: u64,
         out: &mut W,
-    ) -> Result<Stop, RunFault>
+    ) -> Result<Stop, RunError>
         // The selected text of the reference machine's run went out, and the machine is in its state.
         ensures written { OnOk result (Appends (W.written out.old) (W.written out.new) (selected_trace selection limit self.old.state)) }
         ensures state { OnOk result (self.new ≡ record self.old { state = after limit self.old.state }) }
         ensures stop { IfOk result (λ stop. stop ≡ ending_of limit self.old.state) }
-        ensures quiet { OnOk result (W.faults out.new ≡ W.faults out.old) }
+        ensures quiet { OnOk result (W.errors out.new ≡ W.errors out.old) }
 
         // Otherwise the writer failed in this run, or in an earlier one.
-        ensures fault { IfErr result (SelectedFails selection limit self.old self.new (W.written out.old) (W.written out.new) (W.faults out.old) (W.faults out.new)) }
-        ensures broken { (result ≡ Err RunFault.Broken) ↔ (self.old.broken ≡ true) }
+        ensures error { IfErr result (SelectedFails selection limit self.old self.new (W.written out.old) (W.written out.new) (W.errors out.old) (W.errors out.new)) }
+        ensures broken { (result ≡ Err RunError.Broken) ↔ (self.old.broken ≡ true) }
     {
         match selection {
             TraceSelection::All => self.run_view::<AllEvents, W>(limit, out),
@@ -175,22 +175,22 @@ impl<D: Decider, C: CodeLines, L: Levels, U: DueTicks> Machine<D, C, L, U> {
 
     /// Makes at most `limit` steps, up to the first stop, and writes those of their events that the view has, and
     /// then the line of the stop.
-    fn run_view<V: View, W: Out>(&mut self, limit: u64, out: &mut W) -> Result<Stop, RunFault>
+    fn run_view<V: View, W: Out>(&mut self, limit: u64, out: &mut W) -> Result<Stop, RunError>
         ensures written { OnOk result (Appends (W.written out.old) (W.written out.new) (selected_trace V.SELECTION limit self.old.state)) }
         ensures state { OnOk result (self.new ≡ record self.old { state = after limit self.old.state }) }
         ensures stop { IfOk result (λ stop. stop ≡ ending_of limit self.old.state) }
-        ensures quiet { OnOk result (W.faults out.new ≡ W.faults out.old) }
-        ensures fault { IfErr result (SelectedFails V.SELECTION limit self.old self.new (W.written out.old) (W.written out.new) (W.faults out.old) (W.faults out.new)) }
-        ensures broken { (result ≡ Err RunFault.Broken) ↔ (self.old.broken ≡ true) }
+        ensures quiet { OnOk result (W.errors out.new ≡ W.errors out.old) }
+        ensures error { IfErr result (SelectedFails V.SELECTION limit self.old self.new (W.written out.old) (W.written out.new) (W.errors out.old) (W.errors out.new)) }
+        ensures broken { (result ≡ Err RunError.Broken) ↔ (self.old.broken ≡ true) }
     {
         if self.broken {
-            return Err(RunFault::Broken);
+            return Err(RunError::Broken);
         }
         match run_core::<V, D, C, L, U, W>(&mut self.core, limit, out) {
             Ok(stop) => Ok(stop),
             Err(steps) => {
                 self.broken = true;
-                Err(RunFault::Write { steps })
+                Err(RunError::Write { steps })
             }
         }
     }
@@ -209,18 +209,18 @@ impl<D: Decider, C: CodeLines, L: Levels, U: DueTicks> Machine<D, C, L, U> {
     /// Fails with `Write` where the writer fails, with a prefix of the lines of the last step written, and
     /// the machine is broken from then on; and with `Broken` where it was broken before, and then
     /// nothing was done.
-    pub fn run_task<W: Out>(&mut self, limit: u64, out: &mut W) -> Result<TaskEnd, RunFault>
+    pub fn run_task<W: Out>(&mut self, limit: u64, out: &mut W) -> Result<TaskEnd, RunError>
         // The lines of its steps went out, the machine is in the state after them, and that is why they ended.
         ensures end { IfOk result (TaskEnds limit self.old self.new (W.written out.old) (W.written out.new)) }
-        ensures quiet { OnOk result (W.faults out.new ≡ W.faults out.old) }
+        ensures quiet { OnOk result (W.errors out.new ≡ W.errors out.old) }
 
         // Otherwise the writer failed in this run, or in an earlier one.
         ensures cut { IfErr result (TaskFails limit self.old self.new (W.written out.old) (W.written out.new)) }
-        ensures fault { IfErr result (CountsFaults (W.faults out.old) (W.faults out.new)) }
-        ensures broken { (result ≡ Err RunFault.Broken) ↔ (self.old.broken ≡ true) }
+        ensures error { IfErr result (CountsErrors (W.errors out.old) (W.errors out.new)) }
+        ensures broken { (result ≡ Err RunError.Broken) ↔ (self.old.broken ≡ true) }
     {
         if self.broken {
-            return Err(RunFault::Broken);
+            return Err(RunError::Broken);
         }
         if let Some(stop) = self.core.stop() {
             return Ok(TaskEnd::Stopped(stop));
@@ -232,7 +232,7 @@ impl<D: Decider, C: CodeLines, L: Levels, U: DueTicks> Machine<D, C, L, U> {
             Ok(end) => Ok(end),
             Err(steps) => {
                 self.broken = true;
-                Err(RunFault::Write { steps })
+                Err(RunError::Write { steps })
             }
         }
     }
@@ -254,7 +254,7 @@ impl<D: Decider, C: CodeLines, L: Levels, U: DueTicks> Machine<D, C, L, U> {
     }
 
     /// Puts a value into a register or a word, without a tick and without a line.
-    pub fn place(&mut self, value: Place) -> Result<(), PlaceFault>
+    pub fn place(&mut self, value: Place) -> Result<(), PlaceError>
         ensures { Places (place self.old.state value) self.old self.new result }
     {
         self.core.place(value)

@@ -48,5 +48,5 @@ passed_on cut cut' known known' room old new before now failed failed' (Ok given
       ap (λ n. n + failed) received.2,
       λ none some. still_ends cut known' new (received.3 none some),
     ))
-passed_on cut cut' known known' room old new before now failed failed' (Err fault) received passes same count =
+passed_on cut cut' known known' room old new before now failed failed' (Err error) received passes same count =
     rw (same, count) (still_keeps cut known known' old new received.0 passes, omega (arith, received.1))

@@ -16,19 +16,19 @@ use Rattle.trace.specs.Emission.{Emission}
 use Rattle.trace.specs.Selection.{last_printed, selected_text}
 
 -- one event more
-pub one_more : {O : Type 0} (written : O → Option (List ℕ)) (faults : O → ℕ) (name : ℕ) (old new : O)
+pub one_more : {O : Type 0} (written : O → Option (List ℕ)) (errors : O → ℕ) (name : ℕ) (old new : O)
     (items : List (O × Event)) (e : Event)
-    → emission written faults name new (items ++ (old, e) ∷ [])
-    ≡ record (emission written faults name old items) {
+    → emission written errors name new (items ++ (old, e) ∷ [])
+    ≡ record (emission written errors name old items) {
       events =
-          (emission written faults name old items).events ++ e ∷ [];
+          (emission written errors name old items).events ++ e ∷ [];
     }
-one_more written faults name old new [] e = refl
-one_more {O} written faults name old new (first ∷ later) e =
+one_more written errors name old new [] e = refl
+one_more {O} written errors name old new (first ∷ later) e =
     ap (λ (es : List Event). record {
       writer = name;
       written = written first.0;
-      faults = faults first.0;
+      errors = errors first.0;
       events = first.1 ∷ es;
     }) (map-append (λ (entry : O × Event). entry.1) later ((old, e) ∷ []))
 
@@ -76,9 +76,9 @@ text_more selection e event mid new before now false true so_far put = (
 )
 
 -- before the first event
-pub none_yet : {O : Type 0} (selection : TraceSelection) (written : O → Option (List ℕ)) (faults : O → ℕ) (name : ℕ)
-    (now : O) → WritesSoFar selection (emission written faults name now []) (written now) (faults now) false
-none_yet selection written faults name now = (rw (selected-nil selection) (Appends-nil (written now)), refl)
+pub none_yet : {O : Type 0} (selection : TraceSelection) (written : O → Option (List ℕ)) (errors : O → ℕ) (name : ℕ)
+    (now : O) → WritesSoFar selection (emission written errors name now []) (written now) (errors now) false
+none_yet selection written errors name now = (rw (selected-nil selection) (Appends-nil (written now)), refl)
 
 -- What a struct keeps of such facts is only that they hold. What was put can be found again: it is what the known bytes
 -- have grown by.
@@ -133,13 +133,13 @@ cut_found (Some xs) (Some ys) text cut =
     cut_at xs ys text (drop (length ys - length xs) text) (length ys - length xs)
     (∥∥₁_elim cut (search props) (grew_by xs ys text)) refl (∥∥₁_elim cut (search props) (is_left xs ys text))
 
-pub found : (selection : TraceSelection) (e : Emission) (now : Option (List ℕ)) (faults : ℕ) (failed : Bool)
-    → ∥ WritesSoFar selection e now faults failed ∥₁ → WritesSoFar selection e now faults failed
-found selection e now faults false so_far = (
+pub found : (selection : TraceSelection) (e : Emission) (now : Option (List ℕ)) (errors : ℕ) (failed : Bool)
+    → ∥ WritesSoFar selection e now errors failed ∥₁ → WritesSoFar selection e now errors failed
+found selection e now errors false so_far = (
   went_found e.written now (selected_text selection e.events) (∥∥₁_map so_far (λ w. w.0)),
   ∥∥₁_elim so_far (search props) (λ w. w.1),
 )
-found selection e now faults true so_far = (
+found selection e now errors true so_far = (
   cut_found e.written now (selected_text selection e.events) (∥∥₁_map so_far (λ w. w.0)),
   ∥∥₁_elim so_far (search props) (λ w. w.1),
 )
@@ -147,25 +147,25 @@ found selection e now faults true so_far = (
 -- what a sink has put so far
 abbrev Puts : {O : Type 0} → TraceSelection → (O → Option (List ℕ)) → (O → ℕ) → ℕ → O → List (O × Event) → Bool
     → Type 0
-Puts selection written faults name now items failed =
-    ∥ WritesSoFar selection (emission written faults name now items) (written now) (faults now) failed ∥₁
+Puts selection written errors name now items failed =
+    ∥ WritesSoFar selection (emission written errors name now items) (written now) (errors now) failed ∥₁
 
 -- one event more, whose text was put unless an earlier one failed
-pub one_text_more : {O : Type 0} (selection : TraceSelection) (written : O → Option (List ℕ)) (faults : O → ℕ)
+pub one_text_more : {O : Type 0} (selection : TraceSelection) (written : O → Option (List ℕ)) (errors : O → ℕ)
     (name : ℕ) (old new : O) (items later : List (O × Event)) (e : Event) (failed after : Bool)
-    → later ≡ items ++ (old, e) ∷ [] → Puts selection written faults name old items failed
-    → PutsUnless failed (written old) (written new) (faults old) (faults new) (selected_text selection (e ∷ [])) after
-    → Puts selection written faults name new later after
-one_text_more selection written faults name old new items later e failed after is so_far put =
-    rw (is, one_more written faults name old new items e)
-    (let before = emission written faults name old items in
+    → later ≡ items ++ (old, e) ∷ [] → Puts selection written errors name old items failed
+    → PutsUnless failed (written old) (written new) (errors old) (errors new) (selected_text selection (e ∷ [])) after
+    → Puts selection written errors name new later after
+one_text_more selection written errors name old new items later e failed after is so_far put =
+    rw (is, one_more written errors name old new items e)
+    (let before = emission written errors name old items in
     ∣ text_more selection before e _ _ _ _ _ _ (found selection before _ _ _ so_far) put ∣₁)
 
 -- the last byte that was printed, after one event more
-pub one_byte_more : {O : Type 0} (selection : TraceSelection) (written : O → Option (List ℕ)) (faults : O → ℕ)
+pub one_byte_more : {O : Type 0} (selection : TraceSelection) (written : O → Option (List ℕ)) (errors : O → ℕ)
     (name : ℕ) (old new : O) (items later : List (O × Event)) (e : Event) (last : Option ℕ)
     → later ≡ items ++ (old, e) ∷ []
-    → last ≡ last_printed selection ((emission written faults name old items).events ++ e ∷ [])
-    → last ≡ last_printed selection (emission written faults name new later).events
-one_byte_more selection written faults name old new items later e last is ends =
-    rw (is, one_more written faults name old new items e) ends
+    → last ≡ last_printed selection ((emission written errors name old items).events ++ e ∷ [])
+    → last ≡ last_printed selection (emission written errors name new later).events
+one_byte_more selection written errors name old new items later e last is ends =
+    rw (is, one_more written errors name old new items e) ends

@@ -32,7 +32,7 @@ passed_on start mid new waits bytes before now later (Ok taken) kept none same t
       (sym (append-nil waits))),
   rw same at took.2,
 )
-passed_on start mid new waits bytes before now later (Err fault) kept none same took =
+passed_on start mid new waits bytes before now later (Err error) kept none same took =
     (Keeps-trans start _ _ kept (append_known-kept mid new waits took.0), rw same at took.1)
 
 some_bytes : (old new : Option (List ℕ)) (text : List ℕ) → 0 < length text → Keeps old new → IsCutShort old new text

@@ -9,10 +9,10 @@ use Rattle.output.specs.declared.writer.Out.{Ghosts}
 pub record Gathered : Type 0 where
   pub went : Option (List ℕ)
   pub waits : List ℕ
-  pub faults : ℕ
+  pub errors : ℕ
 
 abbrev pub gathered : {O : Type 0} {out : Ghosts O} → Paged O out → Gathered
-gathered {out = out} p = record { went = out.written p.inner; waits = drop p.at p.page; faults = out.faults p.inner }
+gathered {out = out} p = record { went = out.written p.inner; waits = drop p.at p.page; errors = out.errors p.inner }
 
 -- the bytes that were put: they went out, or they wait
 abbrev pub put_so_far : Gathered → Option (List ℕ)
@@ -20,7 +20,7 @@ put_so_far g = append_known g.went g.waits
 
 -- the whole text went out, nothing waits, and no call failed
 abbrev pub SendsAll : List ℕ → Gathered → Gathered → Type 0
-SendsAll text old new = Appends (put_so_far old) new.went text × (new.waits ≡ []) × (new.faults ≡ old.faults)
+SendsAll text old new = Appends (put_so_far old) new.went text × (new.waits ≡ []) × (new.errors ≡ old.errors)
 
 -- known bytes grew by a prefix of a text
 pub record GrowsByPrefix (old new : Option (List ℕ)) (text : List ℕ) : Type 0 where
@@ -31,4 +31,4 @@ pub record GrowsByPrefix (old new : Option (List ℕ)) (text : List ℕ) : Type 
 
 -- one call failed, and what was put is a prefix of the text
 abbrev pub IsCut : List ℕ → Gathered → Gathered → Type 0
-IsCut text old new = GrowsByPrefix (put_so_far old) (put_so_far new) text × (new.faults ≡ old.faults + 1)
+IsCut text old new = GrowsByPrefix (put_so_far old) (put_so_far new) text × (new.errors ≡ old.errors + 1)

@@ -24,14 +24,14 @@ abbrev pub Took : {E : Type 0} → Option (List ℕ) → Option (List ℕ) → �
 Took old new before now bytes (Ok taken) =
     (taken ≤ length bytes) × Appends old new (take taken bytes)
     × (now ≡ (if took_none bytes taken then before + 1 else before))
-Took old new before now bytes (Err fault) = Keeps old new × (now ≡ before + 1)
+Took old new before now bytes (Err error) = Keeps old new × (now ≡ before + 1)
 
 -- a whole text: it went out and no call failed, or a proper prefix of it did and one call failed
 abbrev pub Put : {E : Type 0} → Option (List ℕ) → Option (List ℕ) → ℕ → ℕ → List ℕ → Result (Unit {0}) E → Type 0
 Put old new before now text (Ok done) = Appends old new text × (now ≡ before)
-Put old new before now text (Err fault) = IsCutShort old new text × (now ≡ before + 1)
+Put old new before now text (Err error) = IsCutShort old new text × (now ≡ before + 1)
 
 -- The bytes that waited were sent, and no call failed; or a call failed. Which bytes were put stays the same.
 abbrev pub HandsOn : {E : Type 0} → Option (List ℕ) → Option (List ℕ) → ℕ → ℕ → List ℕ → Result (Unit {0}) E → Type 0
 HandsOn old new before now waits (Ok done) = Keeps old new × (now ≡ before) × (waits ≡ [])
-HandsOn old new before now waits (Err fault) = Keeps old new × (now ≡ before + 1)
+HandsOn old new before now waits (Err error) = Keeps old new × (now ≡ before + 1)

@@ -4,7 +4,7 @@ ghost use Rattle.std.specs.Prelude.{◌≡◌, ◌+◌, ◌<◌, ◌≤◌, ◌=
 ghost use Rattle.std.specs.Io.KnownBytes.{prepend_known};
 ghost use Rattle.output.specs.Input.{Fills};
 
-use crate::writer::{In, IoFault};
+use crate::writer::{In, IoError};
 
 /// How many bytes are read ahead at most.
 const ROOM: usize = 4096;
@@ -50,7 +50,7 @@ impl<I: In + Drop> Buffered<I> {
     }
 
     /// Makes one call of the reader below for an empty buffer.
-    fn fill(&mut self) -> Result<(), IoFault>
+    fn fill(&mut self) -> Result<(), IoError>
         requires { self.old.at ≡ self.old.end }
         ensures filled { Fills (I.left self.old.inner) (I.left self.new.inner) (I.misses self.old.inner) (I.misses self.new.inner) (drop self.new.at (take self.new.end self.new.bytes)) result }
         ensures failed { OnErr result (I.may_wait self.old.inner ≡ true) }
@@ -62,7 +62,7 @@ impl<I: In + Drop> Buffered<I> {
                 self.end = given;
                 Ok(())
             }
-            Err(fault) => Err(fault),
+            Err(error) => Err(error),
         }
     }
 
@@ -90,11 +90,11 @@ impl<I: In + Drop> In for Buffered<I> {
 
     ghost may_wait = { λ b. (b.at == b.end) && I.may_wait b.inner };
 
-    fn take(&mut self, room: &mut [u8]) -> Result<usize, IoFault> {
+    fn take(&mut self, room: &mut [u8]) -> Result<usize, IoError> {
         if self.at == self.end {
             match self.fill() {
                 Ok(()) => {}
-                Err(fault) => return Err(fault),
+                Err(error) => return Err(error),
             }
         }
         Ok(self.give(room))

@@ -6,7 +6,7 @@ ghost use Rattle.output.specs.Input.{Received};
 ghost use Rattle.output.specs.Output.{Took};
 ghost use Rattle.output.specs.declared.cut.AtCut.TheVariants.{Fails, TakesNone};
 
-use crate::writer::{In, IoFault, Out};
+use crate::writer::{In, IoError, Out};
 
 /// What a call does after the last byte.
 #[derive(Clone, Copy)]
@@ -70,9 +70,9 @@ impl<T: Drop> Cut<T> {
 
 impl<O: Out + Drop> Cut<O> {
     /// Passes on as many of the bytes as are left to pass on.
-    fn put_front(&mut self, bytes: &[u8]) -> Result<usize, IoFault>
+    fn put_front(&mut self, bytes: &[u8]) -> Result<usize, IoError>
         requires { 0 < self.old.left }
-        ensures took { Took (O.written self.old.inner) (O.written self.new.inner) (O.faults self.old.inner) (O.faults self.new.inner) bytes.now result }
+        ensures took { Took (O.written self.old.inner) (O.written self.new.inner) (O.errors self.old.inner) (O.errors self.new.inner) bytes.now result }
         ensures passes { Passes self.old.left self.new.left result }
         ensures same { (self.new.at_cut ≡ self.old.at_cut) × (self.new.failed ≡ self.old.failed) }
     {
@@ -82,7 +82,7 @@ impl<O: Out + Drop> Cut<O> {
                 self.left -= taken;
                 Ok(taken)
             }
-            Err(fault) => Err(fault),
+            Err(error) => Err(error),
         }
     }
 }
@@ -90,12 +90,12 @@ impl<O: Out + Drop> Cut<O> {
 impl<O: Out + Drop> Out for Cut<O> {
     ghost written = { λ c. O.written c.inner };
 
-    ghost faults = { λ c. O.faults c.inner + c.failed };
+    ghost errors = { λ c. O.errors c.inner + c.failed };
 
     ghost waits = { λ c. O.waits c.inner };
 
-    fn put(&mut self, bytes: &[u8]) -> Result<usize, IoFault>
-        ensures took { Took (O.written self.old.inner) (O.written self.new.inner) (O.faults self.old.inner + self.old.failed) (O.faults self.new.inner + self.new.failed) bytes.now result }
+    fn put(&mut self, bytes: &[u8]) -> Result<usize, IoError>
+        ensures took { Took (O.written self.old.inner) (O.written self.new.inner) (O.errors self.old.inner + self.old.failed) (O.errors self.new.inner + self.new.failed) bytes.now result }
         ensures passes { self.old.failed < 2 ^ 64 - 1 → Passes self.old.left self.new.left result }
         ensures ends { self.old.failed < 2 ^ 64 - 1 → self.old.left ≡ 0 → 0 < length bytes.now → EndsAtCut self.old.at_cut result }
         ensures same { self.new.at_cut ≡ self.old.at_cut }
@@ -111,19 +111,19 @@ impl<O: Out + Drop> Out for Cut<O> {
         }
         self.failed += 1;
         match self.at_cut {
-            AtCut::Fails => Err(IoFault),
+            AtCut::Fails => Err(IoError),
             AtCut::TakesNone => Ok(0),
         }
     }
 
-    fn hand_on(&mut self) -> Result<(), IoFault> {
+    fn hand_on(&mut self) -> Result<(), IoError> {
         self.inner.hand_on()
     }
 }
 
 impl<I: In + Drop> Cut<I> {
     /// Takes as many bytes from the reader below as are left to pass on, and as there is room for.
-    fn take_front(&mut self, room: &mut [u8]) -> Result<usize, IoFault>
+    fn take_front(&mut self, room: &mut [u8]) -> Result<usize, IoError>
         requires { 0 < self.old.left }
         ensures received { Received (I.left self.old.inner) (I.left self.new.inner) (I.misses self.old.inner) (I.misses self.new.inner) room.new result }
         ensures passes { Passes self.old.left self.new.left result }
@@ -136,12 +136,12 @@ impl<I: In + Drop> Cut<I> {
                 self.left -= given;
                 Ok(given)
             }
-            Err(fault) => Err(fault),
+            Err(error) => Err(error),
         }
     }
 
     /// Fails, unless so many calls have failed that no more can be counted.
-    fn fail(&mut self, room: &mut [u8]) -> Result<usize, IoFault>
+    fn fail(&mut self, room: &mut [u8]) -> Result<usize, IoError>
         ensures received { Received (I.left self.old.inner) (I.left self.new.inner) (I.misses self.old.inner + self.old.failed) (I.misses self.new.inner + self.new.failed) room.new result }
         ensures ends { self.old.failed < 2 ^ 64 - 1 → EndsAtCut Fails result }
         ensures same { (self.new.left ≡ self.old.left) × (self.new.at_cut ≡ self.old.at_cut) }
@@ -150,7 +150,7 @@ impl<I: In + Drop> Cut<I> {
             return self.inner.take(room);
         }
         self.failed += 1;
-        Err(IoFault)
+        Err(IoError)
     }
 }
 
@@ -159,7 +159,7 @@ impl<I: In + Drop> In for Cut<I> {
 
     ghost misses = { λ c. I.misses c.inner + c.failed };
 
-    fn take(&mut self, room: &mut [u8]) -> Result<usize, IoFault>
+    fn take(&mut self, room: &mut [u8]) -> Result<usize, IoError>
         ensures received { Received (left_of self.old.at_cut self.old.left (I.left self.old.inner)) (left_of self.new.at_cut self.new.left (I.left self.new.inner)) (I.misses self.old.inner + self.old.failed) (I.misses self.new.inner + self.new.failed) room.new result }
         ensures passes { self.old.failed < 2 ^ 64 - 1 → Passes self.old.left self.new.left result }
         ensures ends { self.old.failed < 2 ^ 64 - 1 → self.old.left ≡ 0 → 0 < length room.new → EndsAtCut self.old.at_cut result }

@@ -7,7 +7,7 @@ ghost use Rattle.trace.specs.Selection.{last_printed, selected_text};
 
 use crate::history::History;
 use crate::view::View;
-use crate::writer::{IoFault, LineRoom, Out};
+use crate::writer::{IoError, LineRoom, Out};
 use reference::event::Event;
 use std::marker::PhantomData;
 use trace::selection::{TraceSelection, byte_of};
@@ -25,8 +25,8 @@ pub struct EventLines<'a, O: Out, V: View> {
     view: PhantomData<V>,
     // The writer before each event, and the event.
     history: History<O, Event>,
-    ghost writes: { ∥ WritesSoFar V.SELECTION (emission O.written O.faults out.ghost_name out.now history.items) (O.written out.now) (O.faults out.now) failed ∥₁ },
-    ghost ends: { last ≡ last_printed V.SELECTION (emission O.written O.faults out.ghost_name out.now history.items).events },
+    ghost writes: { ∥ WritesSoFar V.SELECTION (emission O.written O.errors out.ghost_name out.now history.items) (O.written out.now) (O.errors out.now) failed ∥₁ },
+    ghost ends: { last ≡ last_printed V.SELECTION (emission O.written O.errors out.ghost_name out.now history.items).events },
 }
 
 impl<'a, O: Out, V: View> EventLines<'a, O, V> {
@@ -35,7 +35,7 @@ impl<'a, O: Out, V: View> EventLines<'a, O, V> {
     pub fn new(out: &'a mut O, room: &'a mut LineRoom) -> EventLines<'a, O, V>
         ensures same_writer { result.out.ghost_name ≡ out.entry.ghost_name }
         ensures now { result.out.now ≡ out.old }
-        ensures empty { BeforeStep O.written O.faults result.out.ghost_name result.out.now result.history.items }
+        ensures empty { BeforeStep O.written O.errors result.out.ghost_name result.out.now result.history.items }
     {
         EventLines {
             out,
@@ -49,23 +49,23 @@ impl<'a, O: Out, V: View> EventLines<'a, O, V> {
 
     /// Returns whether the text of all events went out.
     #[inline(always)]
-    pub fn end(&self) -> Result<(), IoFault>
-        ensures { PutsText V.SELECTION (emission O.written O.faults self.now.out.ghost_name self.now.out.now self.now.history.items) (O.written self.now.out.now) (O.faults self.now.out.now) result }
+    pub fn end(&self) -> Result<(), IoError>
+        ensures { PutsText V.SELECTION (emission O.written O.errors self.now.out.ghost_name self.now.out.now self.now.history.items) (O.written self.now.out.now) (O.errors self.now.out.now) result }
     {
-        if self.failed { Err(IoFault) } else { Ok(()) }
+        if self.failed { Err(IoError) } else { Ok(()) }
     }
 
     /// Returns the last byte that the events printed, where the view writes the bytes themselves.
     #[inline(always)]
     pub fn last(&self) -> Option<u8>
-        ensures { result ≡ last_printed V.SELECTION (emission O.written O.faults self.now.out.ghost_name self.now.out.now self.now.history.items).events }
+        ensures { result ≡ last_printed V.SELECTION (emission O.written O.errors self.now.out.ghost_name self.now.out.now self.now.history.items).events }
     {
         self.last
     }
 }
 
 impl<'a, O: Out, V: View> Sink for EventLines<'a, O, V> {
-    ghost emitted = { λ l. emission O.written O.faults l.out.ghost_name l.out.now l.history.items };
+    ghost emitted = { λ l. emission O.written O.errors l.out.ghost_name l.out.now l.history.items };
 
     #[inline(always)]
     fn emit(&mut self, event: Event) {
@@ -85,7 +85,7 @@ fn put_unless<O: Out>(
     room: &mut LineRoom,
     event: &Event,
 ) -> bool
-    ensures { PutsUnless failed (O.written out.old) (O.written out.new) (O.faults out.old) (O.faults out.new) (selected_text selection (event.now ∷ [])) result }
+    ensures { PutsUnless failed (O.written out.old) (O.written out.new) (O.errors out.old) (O.errors out.new) (selected_text selection (event.now ∷ [])) result }
 {
     failed || put_selected(selection, out, room, event).is_err()
 }
@@ -97,8 +97,8 @@ fn put_selected<O: Out>(
     out: &mut O,
     room: &mut LineRoom,
     event: &Event,
-) -> Result<(), IoFault>
-    ensures { Put (O.written out.old) (O.written out.new) (O.faults out.old) (O.faults out.new) (selected_text selection (event.now ∷ [])) result }
+) -> Result<(), IoError>
+    ensures { Put (O.written out.old) (O.written out.new) (O.errors out.old) (O.errors out.new) (selected_text selection (event.now ∷ [])) result }
 {
     if !selection.selects(&event.what) {
         return Ok(());

@@ -16,4 +16,4 @@ pub use cut::Cut;
 pub use event_lines::EventLines;
 pub use paged::Paged;
 pub use view::{AllEvents, ConsoleBytes, ExceptionEvents, NoEvents, RefusedEvents, View};
-pub use writer::{In, IoFault, LinePage, LineRoom, Out, Over};
+pub use writer::{In, IoError, LinePage, LineRoom, Out, Over};

@@ -4,7 +4,7 @@ ghost use Rattle.std.specs.Prelude.{◌≡◌, ◌+◌, ◌≤◌, [], ◌++◌,
 ghost use Rattle.reference.specs.Text.{line};
 ghost use Rattle.std.specs.Io.KnownBytes.{append_known, Keeps};
 
-use crate::writer::{IoFault, LineRoom, Out};
+use crate::writer::{IoError, LineRoom, Out};
 use reference::event::Event;
 use trace::page::Page;
 
@@ -54,11 +54,11 @@ impl<O: Out + Drop> Paged<O> {
     /// Sends the page to the writer below unless it has room for a line. On an error a prefix of the page was
     /// sent, and the page still has the rest.
     #[inline(always)]
-    fn make_room(&mut self) -> Result<(), IoFault>
+    fn make_room(&mut self) -> Result<(), IoError>
         ensures known { Keeps (append_known (O.written self.old.inner) (drop self.old.at self.old.page)) (append_known (O.written self.new.inner) (drop self.new.at self.new.page)) }
         ensures room { OnOk result (length self.new.page + 64 ≤ 0x4000) }
-        ensures quiet { OnOk result (O.faults self.new.inner ≡ O.faults self.old.inner) }
-        ensures fault { OnErr result (O.faults self.new.inner ≡ O.faults self.old.inner + 1) }
+        ensures quiet { OnOk result (O.errors self.new.inner ≡ O.errors self.old.inner) }
+        ensures error { OnErr result (O.errors self.new.inner ≡ O.errors self.old.inner + 1) }
     {
         if self.page.len() > FULL {
             self.flush()
@@ -71,18 +71,18 @@ impl<O: Out + Drop> Paged<O> {
     /// still has the rest.
     #[cold]
     #[inline(never)]
-    pub fn flush(&mut self) -> Result<(), IoFault>
+    pub fn flush(&mut self) -> Result<(), IoError>
         ensures known { Keeps (append_known (O.written self.old.inner) (drop self.old.at self.old.page)) (append_known (O.written self.new.inner) (drop self.new.at self.new.page)) }
         ensures empty { OnOk result ((self.new.page ≡ []) × (self.new.at ≡ 0)) }
-        ensures quiet { OnOk result (O.faults self.new.inner ≡ O.faults self.old.inner) }
-        ensures fault { OnErr result (O.faults self.new.inner ≡ O.faults self.old.inner + 1) }
+        ensures quiet { OnOk result (O.errors self.new.inner ≡ O.errors self.old.inner) }
+        ensures error { OnErr result (O.errors self.new.inner ≡ O.errors self.old.inner + 1) }
     {
         'pieces: while self.at < self.page.len() {
             let (_, rest) = self.page.as_slice().split_at(self.at);
             match self.inner.put(rest) {
-                Ok(0) => return Err(IoFault),
+                Ok(0) => return Err(IoError),
                 Ok(taken) => self.at += taken,
-                Err(fault) => return Err(fault),
+                Err(error) => return Err(error),
             }
         }
         self.page.clear();
@@ -94,47 +94,47 @@ impl<O: Out + Drop> Paged<O> {
 impl<O: Out + Drop> Out for Paged<O> {
     ghost written = { λ p. append_known (O.written p.inner) (drop p.at p.page) };
 
-    ghost faults = { λ p. O.faults p.inner };
+    ghost errors = { λ p. O.errors p.inner };
 
     ghost waits = { λ p. O.waits p.inner ++ drop p.at p.page };
 
-    fn put(&mut self, bytes: &[u8]) -> Result<usize, IoFault> {
+    fn put(&mut self, bytes: &[u8]) -> Result<usize, IoError> {
         if bytes.len() <= ROOM - self.page.len() {
             self.page.put_slice(bytes);
             return Ok(bytes.len());
         }
         match self.flush() {
             Ok(()) => self.inner.put(bytes),
-            Err(fault) => Err(fault),
+            Err(error) => Err(error),
         }
     }
 
     #[inline(always)]
-    fn put_byte(&mut self, byte: u8) -> Result<(), IoFault> {
+    fn put_byte(&mut self, byte: u8) -> Result<(), IoError> {
         match self.make_room() {
             Ok(()) => {
                 self.page.put(&[byte]);
                 Ok(())
             }
-            Err(fault) => Err(fault),
+            Err(error) => Err(error),
         }
     }
 
     #[inline(always)]
-    fn put_line(&mut self, room: &mut LineRoom, event: &Event) -> Result<(), IoFault> {
+    fn put_line(&mut self, room: &mut LineRoom, event: &Event) -> Result<(), IoError> {
         match self.make_room() {
             Ok(()) => {
                 self.page.put_event(&mut room.digits, event);
                 Ok(())
             }
-            Err(fault) => Err(fault),
+            Err(error) => Err(error),
         }
     }
 
-    fn hand_on(&mut self) -> Result<(), IoFault> {
+    fn hand_on(&mut self) -> Result<(), IoError> {
         match self.flush() {
             Ok(()) => self.inner.hand_on(),
-            Err(fault) => Err(fault),
+            Err(error) => Err(error),
         }
     }
 }

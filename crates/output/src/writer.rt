@@ -36,7 +36,7 @@ impl LineRoom {
 /// A writer or a reader failed.
 #[derive(Clone, Copy, Debug, Error)]
 #[error("the writer or the reader failed")]
-pub struct IoFault;
+pub struct IoError;
 
 /// A writer that reports how many of the bytes it took. A contract sees the bytes that it has
 /// taken, where they are known, how many calls failed or took 0 bytes of a nonempty piece, and
@@ -44,42 +44,42 @@ pub struct IoFault;
 pub trait Out {
     ghost written: { Self → Option (List ℕ) };
 
-    ghost faults: { Self → ℕ };
+    ghost errors: { Self → ℕ };
 
     ghost waits: { Self → List ℕ };
 
     /// Takes a prefix of the bytes, and returns its length.
-    fn put(&mut self, bytes: &[u8]) -> Result<usize, IoFault>
-        ensures { Took (written self.old) (written self.new) (faults self.old) (faults self.new) bytes.now result };
+    fn put(&mut self, bytes: &[u8]) -> Result<usize, IoError>
+        ensures { Took (written self.old) (written self.new) (errors self.old) (errors self.new) bytes.now result };
 
     /// Puts all of the bytes, piece by piece. On an error a prefix of them went out.
-    fn put_all(&mut self, bytes: &[u8]) -> Result<(), IoFault>
-        ensures { Put (written self.old) (written self.new) (faults self.old) (faults self.new) bytes.now result }
+    fn put_all(&mut self, bytes: &[u8]) -> Result<(), IoError>
+        ensures { Put (written self.old) (written self.new) (errors self.old) (errors self.new) bytes.now result }
     {
         let mut rest = bytes;
         'pieces: while !rest.is_empty() {
             match self.put(rest) {
-                Ok(0) => return Err(IoFault),
+                Ok(0) => return Err(IoError),
                 Ok(taken) => {
                     let (_, behind) = rest.split_at(taken);
                     rest = behind;
                 }
-                Err(fault) => return Err(fault),
+                Err(error) => return Err(error),
             }
         }
         Ok(())
     }
 
     /// Puts a byte.
-    fn put_byte(&mut self, byte: u8) -> Result<(), IoFault>
-        ensures { Put (written self.old) (written self.new) (faults self.old) (faults self.new) (byte ∷ []) result }
+    fn put_byte(&mut self, byte: u8) -> Result<(), IoError>
+        ensures { Put (written self.old) (written self.new) (errors self.old) (errors self.new) (byte ∷ []) result }
     {
         self.put_all(&[byte])
     }
 
     /// Puts the line of an event. `room` is room for its text.
-    fn put_line(&mut self, room: &mut LineRoom, event: &Event) -> Result<(), IoFault>
-        ensures { Put (written self.old) (written self.new) (faults self.old) (faults self.new) (line event.now) result }
+    fn put_line(&mut self, room: &mut LineRoom, event: &Event) -> Result<(), IoError>
+        ensures { Put (written self.old) (written self.new) (errors self.old) (errors self.new) (line event.now) result }
     {
         room.page.clear();
         room.page.put_event(&mut room.digits, event);
@@ -88,8 +88,8 @@ pub trait Out {
     }
 
     /// Sends the bytes that wait. On an error some of them may still wait.
-    fn hand_on(&mut self) -> Result<(), IoFault>
-        ensures { HandsOn (written self.old) (written self.new) (faults self.old) (faults self.new) (waits self.new) result };
+    fn hand_on(&mut self) -> Result<(), IoError>
+        ensures { HandsOn (written self.old) (written self.new) (errors self.old) (errors self.new) (waits self.new) result };
 }
 
 /// A reader that reports how many bytes it returned. A contract sees the bytes that it has left,
@@ -103,7 +103,7 @@ pub trait In {
 
     /// Puts bytes at the front of the room, and returns how many: 0 at the end of the input, or
     /// where there is no room.
-    fn take(&mut self, room: &mut [u8]) -> Result<usize, IoFault>
+    fn take(&mut self, room: &mut [u8]) -> Result<usize, IoError>
         ensures received { Received (left self.old) (left self.new) (misses self.old) (misses self.new) room.new result }
         ensures failed { OnErr result (may_wait self.old ≡ true) };
 
@@ -153,11 +153,11 @@ impl<T: Drop, K: Ledger> Over<T, K> {
 impl<W: Write + Drop, K: Ledger> Out for Over<W, K> {
     ghost written = { λ o. W.contents o.inner };
 
-    ghost faults = { λ o. o.book.total };
+    ghost errors = { λ o. o.book.total };
 
     ghost waits = { λ _. [] };
 
-    fn put(&mut self, bytes: &[u8]) -> Result<usize, IoFault> {
+    fn put(&mut self, bytes: &[u8]) -> Result<usize, IoError> {
         match self.inner.write(bytes) {
             Ok(0) if !bytes.is_empty() => {
                 self.book.add(&mut self.share, 1);
@@ -166,12 +166,12 @@ impl<W: Write + Drop, K: Ledger> Out for Over<W, K> {
             Ok(taken) => Ok(taken),
             Err(_) => {
                 self.book.add(&mut self.share, 1);
-                Err(IoFault)
+                Err(IoError)
             }
         }
     }
 
-    fn hand_on(&mut self) -> Result<(), IoFault> {
+    fn hand_on(&mut self) -> Result<(), IoError> {
         Ok(())
     }
 }
@@ -181,12 +181,12 @@ impl<R: Read + Drop, K: Ledger> In for Over<R, K> {
 
     ghost misses = { λ o. o.book.total };
 
-    fn take(&mut self, room: &mut [u8]) -> Result<usize, IoFault> {
+    fn take(&mut self, room: &mut [u8]) -> Result<usize, IoError> {
         match self.inner.read(room) {
             Ok(given) => Ok(given),
             Err(_) => {
                 self.book.add(&mut self.share, 1);
-                Err(IoFault)
+                Err(IoError)
             }
         }
     }

@@ -1,41 +1,41 @@
 //! Why an image is refused: the field of the header and its value.
 
 use crate::header::{PROGRAM_HEADER_SIZE, ProgramHeader, halfword, header_count, word};
-use reference::fault::LoadFault;
+use reference::error::LoadError;
 use std::io;
 use std::io::Write;
 
 /// Writes why `load` refuses a file.
-pub fn write_image_reason<W: Write>(out: &mut W, file: &[u8], fault: LoadFault) -> io::Result<()> {
+pub fn write_image_reason<W: Write>(out: &mut W, file: &[u8], error: LoadError) -> io::Result<()> {
     let length = file.len();
-    match fault {
-        LoadFault::Truncated => write_truncated(out, file),
-        LoadFault::NotElf => write_magic(out, file),
-        LoadFault::NotElf32Little => write_class(out, file),
-        LoadFault::NotExecutable => {
+    match error {
+        LoadError::Truncated => write_truncated(out, file),
+        LoadError::NotElf => write_magic(out, file),
+        LoadError::NotElf32Little => write_class(out, file),
+        LoadError::NotExecutable => {
             let kind = halfword(file, 16);
             writeln!(
                 out,
                 "e_type is {kind}, where 2 is needed: link it, and not with -r, -shared or -pie"
             )
         }
-        LoadFault::NotArm => {
+        LoadError::NotArm => {
             let machine = halfword(file, 18);
             writeln!(out, "e_machine is {machine}, where 40 is needed: ARM")
         }
-        LoadFault::HeaderSize => {
+        LoadError::HeaderSize => {
             let size = halfword(file, 42);
             writeln!(out, "e_phentsize is {size}, where 32 is needed")
         }
-        LoadFault::SegmentOutsideFile => match outside(file) {
+        LoadError::SegmentOutsideFile => match outside(file) {
             Some(header) => write_outside(out, &header, length),
-            None => writeln!(out, "{fault}"),
+            None => writeln!(out, "{error}"),
         },
-        LoadFault::SegmentOverlap => match overlap(file) {
+        LoadError::SegmentOverlap => match overlap(file) {
             Some((one, other)) => write_overlap(out, &one, &other),
-            None => writeln!(out, "{fault}"),
+            None => writeln!(out, "{error}"),
         },
-        LoadFault::TooManySegments => {
+        LoadError::TooManySegments => {
             let count = header_count(file);
             writeln!(
                 out,

@@ -7,7 +7,7 @@ use crate::keys::{
     is_region_count, is_size,
 };
 use crate::problem::{Problem, write_problem};
-use reference::fault::BoardFault;
+use reference::error::BoardError;
 use std::alloc::Global;
 use std::io::Write;
 use std::{io, str};
@@ -18,13 +18,13 @@ pub fn write_board_reason<W: Write>(
     alloc: Global,
     out: &mut W,
     file: &[u8],
-    fault: BoardFault,
+    error: BoardError,
 ) -> io::Result<()> {
     let Ok(text) = str::from_utf8(file) else {
         return writeln!(out, "the file isn't a text in UTF-8");
     };
     match toml::table_from_str(alloc, text) {
-        Ok(document) => write_document_reason(out, &document, fault),
+        Ok(document) => write_document_reason(out, &document, error),
         Err(error) => {
             let message = error.message();
             let (line, column) = match error.span() {
@@ -40,7 +40,7 @@ pub fn write_board_reason<W: Write>(
 fn write_document_reason<W: Write>(
     out: &mut W,
     document: &Table,
-    fault: BoardFault,
+    error: BoardError,
 ) -> io::Result<()> {
     if let Some(problem) = numbers_problem(document) {
         write_problem(out, &problem)?;
@@ -55,7 +55,7 @@ fn write_document_reason<W: Write>(
             write!(out, "event {number}: ")?;
             write_problem(out, &problem)
         }
-        None => writeln!(out, "{fault}"),
+        None => writeln!(out, "{error}"),
     }
 }
 

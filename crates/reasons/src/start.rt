@@ -2,7 +2,7 @@
 
 use crate::header::{ProgramHeader, header_count};
 use reference::board::Layout;
-use reference::fault::StartFault;
+use reference::error::StartError;
 use reference::map::RAM_BASE;
 use std::io;
 use std::io::Write;
@@ -12,23 +12,23 @@ pub fn write_start_reason<W: Write>(
     out: &mut W,
     file: &[u8],
     layout: &Layout,
-    fault: StartFault,
+    error: StartError,
 ) -> io::Result<()> {
-    match fault {
-        StartFault::SegmentOutsideMemory => match outside(file, layout) {
+    match error {
+        StartError::SegmentOutsideMemory => match outside(file, layout) {
             Some(header) => write_outside(out, &header, layout),
-            None => writeln!(out, "{fault}"),
+            None => writeln!(out, "{error}"),
         },
-        StartFault::NoMemory => write_need(out, layout, fault),
+        StartError::NoMemory => write_need(out, layout, error),
     }
 }
 
 /// Writes how much memory a machine takes.
-fn write_need<W: Write>(out: &mut W, layout: &Layout, fault: StartFault) -> io::Result<()> {
+fn write_need<W: Write>(out: &mut W, layout: &Layout, error: StartError) -> io::Result<()> {
     let bytes = u64::from(layout.flash_size) + u64::from(layout.ram_size);
     writeln!(
         out,
-        "{fault}: flash and RAM take {bytes} bytes, and events and decoded instructions some more"
+        "{error}: flash and RAM take {bytes} bytes, and events and decoded instructions some more"
     )
 }
 

@@ -3,11 +3,11 @@
 use Rattle.std.specs.Prelude.{ℕ, zero, suc, ◌+◌, ◌*◌, ◌<◌, ◌≤◌, max, min, Bool, false, ◌&&◌, ◌||◌, not, nat_lt, ◌==◌}
 use Rattle.std.specs.Prelude.{if◌then◌else◌, List, [], ◌∷◌, length, slice_index, slice_range, Result, Ok, Err}
 use Rattle.std.specs.List.{AllPairs, list_any}
-use Rattle.reference.specs.declared.fault.LoadFault.{LoadFault}
+use Rattle.reference.specs.declared.error.LoadError.{LoadError}
 pub use Rattle.reference.specs.Memory.{number_in}
-use Rattle.reference.specs.declared.fault.LoadFault.TheVariants.{Truncated, NotElf, NotElf32Little, NotExecutable}
-use Rattle.reference.specs.declared.fault.LoadFault.TheVariants.{NotArm, HeaderSize, SegmentOutsideFile, SegmentOverlap}
-use Rattle.reference.specs.declared.fault.LoadFault.TheVariants.{TooManySegments}
+use Rattle.reference.specs.declared.error.LoadError.TheVariants.{Truncated, NotElf, NotElf32Little, NotExecutable}
+use Rattle.reference.specs.declared.error.LoadError.TheVariants.{NotArm, HeaderSize, SegmentOutsideFile, SegmentOverlap}
+use Rattle.reference.specs.declared.error.LoadError.TheVariants.{TooManySegments}
 
 -- bytes that are at an address before the first step
 pub record Segment : Type 0 where
@@ -89,12 +89,12 @@ segment_at file at = record {
 }
 
 -- one segment more, before the others
-abbrev pub in_front : Segment → Result (List Segment) LoadFault → Result (List Segment) LoadFault
+abbrev pub in_front : Segment → Result (List Segment) LoadError → Result (List Segment) LoadError
 in_front segment (Ok segments) = Ok (segment ∷ segments)
-in_front segment (Err fault) = Err fault
+in_front segment (Err error) = Err error
 
 -- the segments of n program headers from a place of the file on, in their order
-abbrev pub segments_of : List ℕ → ℕ → ℕ → Result (List Segment) LoadFault
+abbrev pub segments_of : List ℕ → ℕ → ℕ → Result (List Segment) LoadError
 segments_of file at zero = Ok []
 segments_of file at (suc n) =
     let rest = segments_of file (at + program_header_size) n in
@@ -129,12 +129,12 @@ unfoldable pub AreAllApart : List Segment → Type 0
 AreAllApart segments = AllPairs AreApart segments
 
 -- segments of which two share an address are refused
-abbrev pub without_overlap : Result (List Segment) LoadFault → Result (List Segment) LoadFault
+abbrev pub without_overlap : Result (List Segment) LoadError → Result (List Segment) LoadError
 without_overlap (Ok segments) = if have_overlap segments then Err SegmentOverlap else Ok segments
-without_overlap (Err fault) = Err fault
+without_overlap (Err error) = Err error
 
 -- the segments of the table, or the first refusal
-abbrev pub table_of : List ℕ → Result (List Segment) LoadFault
+abbrev pub table_of : List ℕ → Result (List Segment) LoadError
 table_of file =
     if nat_lt most_program_headers (e_phnum file) then Err TooManySegments
     else if e_phnum file == 0 then Ok []
@@ -143,7 +143,7 @@ table_of file =
     else without_overlap (segments_of file (e_phoff file) (e_phnum file))
 
 -- the image that a file holds, or the first refusal
-unfoldable pub image_of : List ℕ → Result (List Segment) LoadFault
+unfoldable pub image_of : List ℕ → Result (List Segment) LoadError
 image_of file =
     if nat_lt (length file) elf_header_size then Err Truncated
     else if not (has_magic file) then Err NotElf

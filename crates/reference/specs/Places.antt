@@ -10,8 +10,8 @@ use Rattle.reference.specs.declared.access.Answer.{Answer}
 use Rattle.reference.specs.declared.access.Answer.TheVariants as answer
 use Rattle.reference.specs.declared.access.Kind.TheVariants.{Store}
 use Rattle.reference.specs.declared.access.Request.{Request}
-use Rattle.reference.specs.declared.fault.PlaceFault.{PlaceFault}
-use Rattle.reference.specs.declared.fault.PlaceFault.TheVariants.{NotAligned, NoSuchPlace, Stopped, Refused}
+use Rattle.reference.specs.declared.error.PlaceError.{PlaceError}
+use Rattle.reference.specs.declared.error.PlaceError.TheVariants.{NotAligned, NoSuchPlace, Stopped, Refused}
 use Rattle.reference.specs.declared.place.Place.{Place}
 use Rattle.reference.specs.declared.place.Place.TheVariants.{Reg, Special, Word}
 use Rattle.reference.specs.Accesses.{BusAnswer, answered_by_bus}
@@ -37,18 +37,18 @@ with_special_placed s special value =
     with_exceptions (with_registers s (with_special s.registers special value))
     (with_mask s.bus.system.nvic special value)
 
-abbrev pub special_taken : State → Option SpecialRegister → ℕ → Result State PlaceFault
+abbrev pub special_taken : State → Option SpecialRegister → ℕ → Result State PlaceError
 special_taken s None value = Err NoSuchPlace
 special_taken s (Some special) value = Ok (with_special_placed s special value)
 
 -- a word that the Private Peripheral Bus took, or why not
-abbrev pub register_taken : State → Bus → Answer → Result State PlaceFault
+abbrev pub register_taken : State → Bus → Answer → Result State PlaceError
 register_taken s after (answer.Value value) = Ok (with_bus s after)
 register_taken s after answer.Error = Err NoSuchPlace
 register_taken s after (answer.Stop why) = Err (Refused why)
 
 -- the result of a store to the Private Peripheral Bus
-abbrev pub stored_in_ppb : State → BusAnswer → Result State PlaceFault
+abbrev pub stored_in_ppb : State → BusAnswer → Result State PlaceError
 stored_in_ppb s a = register_taken s a.bus a.answer
 
 -- a privileged store, which no rule decides
@@ -56,7 +56,7 @@ abbrev pub store_of : ℕ → ℕ → Request
 store_of address value = request Store true size.Word address value
 
 -- the state with the value in it, or a refusal; `place` below asks first whether the machine takes values now
-abbrev pub taken : State → Place → Result State PlaceFault
+abbrev pub taken : State → Place → Result State PlaceError
 taken s (Reg number value) = Ok (with_registers s (with_register s.registers number value))
 taken s (Special number value) = special_taken s (special_of number) value
 taken s (Word address value) =
@@ -66,7 +66,7 @@ taken s (Word address value) =
 
 -- the state with the value in its place, or the first refusal: `Stopped` is for a machine that has stopped, is in the
 -- entry phase, or is in Handler mode
-unfoldable pub place : State → Place → Result State PlaceFault
+unfoldable pub place : State → Place → Result State PlaceError
 place s p =
     if not (is_word_aligned p) then Err NotAligned
     else if not (is_there s.bus.memory p) then Err NoSuchPlace

@@ -3,8 +3,8 @@
 use Rattle.std.specs.Prelude.{ℕ, ◌+◌, ◌*◌, Bool, true, false, ◌&&◌, ◌||◌, if◌then◌else◌, List, [], ◌∷◌, length}
 use Rattle.std.specs.Prelude.{replicate, None, Result, Ok, Err, unwrap_or}
 use Rattle.instruction_set.specs.Registers.{reset_registers}
-use Rattle.reference.specs.declared.fault.StartFault.{StartFault}
-use Rattle.reference.specs.declared.fault.StartFault.TheVariants.{SegmentOutsideMemory}
+use Rattle.reference.specs.declared.error.StartError.{StartError}
+use Rattle.reference.specs.declared.error.StartError.TheVariants.{SegmentOutsideMemory}
 use Rattle.reference.specs.declared.script.ScriptedEvent.{ScriptedEvent}
 use Rattle.reference.specs.Boards.{Described, Numbers}
 use Rattle.reference.specs.Images.{Segment}
@@ -51,7 +51,7 @@ reset board m script = record {
 }
 
 -- the state before the first step, or the refusal of the image
-unfoldable pub start : Described → List Segment → Result State StartFault
+unfoldable pub start : Described → List Segment → Result State StartError
 start board image =
     if are_placed (blank board.numbers) image
     then Ok (reset board.numbers (image_loaded (blank board.numbers) image) board.script)

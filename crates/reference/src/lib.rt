@@ -6,10 +6,10 @@
 pub mod access;
 pub mod board;
 pub mod ending;
+pub mod error;
 pub mod event;
 pub mod exception;
 pub mod failure;
-pub mod fault;
 pub mod fault_status;
 pub mod map;
 pub mod mpu;

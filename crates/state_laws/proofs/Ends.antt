@@ -13,7 +13,7 @@ use Rattle.reference.specs.declared.access.Answer.{Answer}
 use Rattle.reference.specs.declared.access.Answer.TheVariants as answer
 use Rattle.reference.specs.declared.access.Request.{Request}
 use Rattle.reference.specs.declared.exception.TheConstants.{MOST_LINES}
-use Rattle.reference.specs.declared.fault.PlaceFault.{PlaceFault}
+use Rattle.reference.specs.declared.error.PlaceError.{PlaceError}
 use Rattle.reference.specs.declared.place.Place.{Place}
 use Rattle.reference.specs.declared.place.Place.TheVariants.{Reg, Special, Word}
 use Rattle.reference.specs.Accesses.{answered_by_bus, perform_all}
@@ -83,7 +83,7 @@ record IsGood (lines bits : ℕ) (s : State) : Type 0 where
   entry : s.entry ≡ None
   system : HasWhole lines bits s
 
-abbrev IsPlaced : ℕ → ℕ → Result State PlaceFault → Type 0
+abbrev IsPlaced : ℕ → ℕ → Result State PlaceError → Type 0
 IsPlaced lines bits = IfGiven (IsGood lines bits)
 
 special_placed : (lines bits : ℕ) (s : State) (special : Option SpecialRegister) (value : ℕ) → IsGood lines bits s →
@@ -143,7 +143,7 @@ place_keeps s p h =
     lead (place s p)
     (placed s.bus.system.nvic.lines s.bus.system.nvic.priority_bits s p h.registers (whole_state s h))
   where
-    lead : (r : Result State PlaceFault) → IsPlaced s.bus.system.nvic.lines s.bus.system.nvic.priority_bits r →
+    lead : (r : Result State PlaceError) → IsPlaced s.bus.system.nvic.lines s.bus.system.nvic.priority_bits r →
         IfGiven Invariant r
     lead (Ok after) w = record {
       registers = w.registers;

@@ -31,4 +31,4 @@ events_of items = map (λ entry. entry.1) items
 
 -- what a sink that has taken these events shows, over a survey that is borrowed under a name
 abbrev pub emission : ℕ → List (Unit {0} × Event) → Emission
-emission name items = record { writer = name; written = None; faults = 0; events = events_of items }
+emission name items = record { writer = name; written = None; errors = 0; events = events_of items }

@@ -7,7 +7,7 @@ use Rattle.reference.specs.declared.event.Event.{Event}
 pub record Emission : Type 0 where
   pub writer : ℕ
   pub written : Option (List ℕ)
-  pub faults : ℕ
+  pub errors : ℕ
   pub events : List Event
 
 -- the same sink, with these events

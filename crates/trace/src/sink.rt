@@ -20,7 +20,7 @@ pub trait Sink {
 pub type Events = Bounded<Event, MOST_EVENTS>;
 
 impl Sink for Bounded<Event, MOST_EVENTS> {
-    ghost emitted = { λ list. record { writer = 0; written = None; faults = 0; events = list.items } };
+    ghost emitted = { λ list. record { writer = 0; written = None; errors = 0; events = list.items } };
 
     #[inline(always)]
     fn emit(&mut self, event: Event) {

@@ -1,7 +1,7 @@
 //! Boards by their texts. The expected answers come from the rules of boards and of TOML, not from
 //! the reader.
 
-use board::{Board, BoardFault, Layout, ScriptedEvent, Signal, read_board};
+use board::{Board, BoardError, Layout, ScriptedEvent, Signal, read_board};
 use reference::board::SMALL_BOARD;
 use std::alloc::Global;
 use std::test::*;
@@ -44,9 +44,9 @@ fn text_of(alloc: Global, place: u32, line: &str, rest: &str) -> Option<String> 
 }
 
 /// The board of a text. A growth that is refused is tried again, once.
-fn read(alloc: Global, text: &str) -> Result<Board, BoardFault> {
+fn read(alloc: Global, text: &str) -> Result<Board, BoardError> {
     match read_board(alloc, text) {
-        Err(BoardFault::OutOfMemory) => read_board(alloc, text),
+        Err(BoardError::OutOfMemory) => read_board(alloc, text),
         answer => answer,
     }
 }
@@ -68,7 +68,7 @@ fn name(number: u8) -> &'static str {
 fn answer(alloc: Global, text: &str) -> &'static str {
     match read(alloc, text) {
         Ok(_) => "Taken",
-        Err(fault) => name(fault as u8),
+        Err(error) => name(error as u8),
     }
 }
 

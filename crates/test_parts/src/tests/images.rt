@@ -2,7 +2,7 @@
 //! files, not from the loader.
 
 use arrayvec::ArrayVec;
-use elf::{LoadFault, Segment, load};
+use elf::{LoadError, Segment, load};
 use std::test::*;
 use test_tables::{Rows, byte_at, check, number, numbers, pair, part};
 
@@ -48,17 +48,17 @@ fn edited(listing: &str, edits: &str) -> Option<File> {
 }
 
 /// The name of a refusal.
-fn name(fault: LoadFault) -> &'static str {
-    match fault {
-        LoadFault::Truncated => "Truncated",
-        LoadFault::NotElf => "NotElf",
-        LoadFault::NotElf32Little => "NotElf32Little",
-        LoadFault::NotExecutable => "NotExecutable",
-        LoadFault::NotArm => "NotArm",
-        LoadFault::HeaderSize => "HeaderSize",
-        LoadFault::SegmentOutsideFile => "SegmentOutsideFile",
-        LoadFault::SegmentOverlap => "SegmentOverlap",
-        LoadFault::TooManySegments => "TooManySegments",
+fn name(error: LoadError) -> &'static str {
+    match error {
+        LoadError::Truncated => "Truncated",
+        LoadError::NotElf => "NotElf",
+        LoadError::NotElf32Little => "NotElf32Little",
+        LoadError::NotExecutable => "NotExecutable",
+        LoadError::NotArm => "NotArm",
+        LoadError::HeaderSize => "HeaderSize",
+        LoadError::SegmentOutsideFile => "SegmentOutsideFile",
+        LoadError::SegmentOverlap => "SegmentOverlap",
+        LoadError::TooManySegments => "TooManySegments",
     }
 }
 
@@ -82,7 +82,7 @@ fn are_segments(segments: &[Segment<'_>], words: &str) -> bool {
 /// Returns whether a file is refused by this name, or is taken and has these segments.
 fn is_answered_so(file: &[u8], wanted: &str) -> bool {
     match load(file) {
-        Err(fault) => name(fault) == wanted,
+        Err(error) => name(error) == wanted,
         Ok(image) => match wanted.strip_prefix("taken") {
             Some(words) => are_segments(image.segments(), words),
             None => false,

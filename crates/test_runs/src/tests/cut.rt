@@ -3,7 +3,7 @@
 ghost use Rattle.std.specs.Prelude.{◌≡◌};
 
 use arrayvec::ArrayVec;
-use machine::{CodeLines, Decider, DueTicks, Levels, Machine, Over, RunFault, Stop, TaskEnd};
+use machine::{CodeLines, Decider, DueTicks, Levels, Machine, Over, RunError, Stop, TaskEnd};
 use std::io;
 use std::io::{Read, Write};
 use std::marker::Brand;
@@ -88,7 +88,7 @@ pub(super) fn run<D: Decider, C: CodeLines, L: Levels, U: DueTicks>(
     machine: &mut Machine<D, C, L, U>,
     steps: u32,
     out: &mut Cut,
-) -> Result<Stop, RunFault> {
+) -> Result<Stop, RunError> {
     run_over::<D, C, L, U, Brand>(machine, steps, out, Blank::new(1))
 }
 
@@ -97,7 +97,7 @@ fn run_over<D: Decider, C: CodeLines, L: Levels, U: DueTicks, K: Ledger>(
     steps: u32,
     out: &mut Cut,
     blank: Blank,
-) -> Result<Stop, RunFault>
+) -> Result<Stop, RunError>
     requires name { blank.name ≡ K.name }
     requires parts { blank.parts ≡ K.parts }
     requires some { blank.parts ≡ 1 }
@@ -111,7 +111,7 @@ pub(super) fn run_task<D: Decider, C: CodeLines, L: Levels, U: DueTicks>(
     machine: &mut Machine<D, C, L, U>,
     steps: u32,
     out: &mut Cut,
-) -> Result<TaskEnd, RunFault> {
+) -> Result<TaskEnd, RunError> {
     run_task_over::<D, C, L, U, Brand>(machine, steps, out, Blank::new(1))
 }
 
@@ -120,7 +120,7 @@ fn run_task_over<D: Decider, C: CodeLines, L: Levels, U: DueTicks, K: Ledger>(
     steps: u32,
     out: &mut Cut,
     blank: Blank,
-) -> Result<TaskEnd, RunFault>
+) -> Result<TaskEnd, RunError>
     requires name { blank.name ≡ K.name }
     requires parts { blank.parts ≡ K.parts }
     requires some { blank.parts ≡ 1 }

@@ -10,10 +10,10 @@ use super::machines::machine_with;
 use super::run::Run;
 use super::traces::TRACES;
 use arrayvec::ArrayVec;
-use debugger::{SessionFault, session};
+use debugger::{SessionError, session};
 use machine::{
     Ahead, BitLevels, Buffered, CodeLines, Counting, Decider, DueTicks, In, KeptDecisions,
-    KeptPriorities, Levels, Lines, Machine, Over, Paged, PlainLevels, Reread, RunFault, Search,
+    KeptPriorities, Levels, Lines, Machine, Over, Paged, PlainLevels, Reread, RunError, Search,
     Slow, Stop, Table, TaskEnd,
 };
 use std::alloc::Global;
@@ -59,7 +59,7 @@ pub(super) struct Ending {
 /// How a run ended, and what its writer took.
 #[derive(Drop)]
 struct Ended {
-    stop: Result<Stop, RunFault>,
+    stop: Result<Stop, RunError>,
     taken: Text,
 }
 
@@ -96,7 +96,7 @@ pub(super) fn run_task_cut<D: Decider, C: CodeLines, L: Levels, U: DueTicks>(
     machine: &mut Machine<D, C, L, U>,
     steps: u32,
     ending: Ending,
-) -> (Result<TaskEnd, RunFault>, Text) {
+) -> (Result<TaskEnd, RunError>, Text) {
     run_task_over::<D, C, L, U, Brand>(machine, steps, ending, Blank::new(1))
 }
 
@@ -105,7 +105,7 @@ fn run_task_over<D: Decider, C: CodeLines, L: Levels, U: DueTicks, K: Ledger>(
     steps: u32,
     ending: Ending,
     blank: Blank,
-) -> (Result<TaskEnd, RunFault>, Text)
+) -> (Result<TaskEnd, RunError>, Text)
     requires name { blank.name ≡ K.name }
     requires parts { blank.parts ≡ K.parts }
     requires some { blank.parts ≡ 1 }
@@ -204,11 +204,11 @@ fn breaks<D: Decider, C: CodeLines, L: Levels, U: DueTicks>(
     let tick = tick_at(trace, ending.at.left)?;
     let again = run_cut(&mut run.machine, steps, ending);
     Some(
-        matches!(cut.stop, Err(RunFault::Write { steps }) if steps == tick)
+        matches!(cut.stop, Err(RunError::Write { steps }) if steps == tick)
             && cut.taken.len() == ending.at.left
             && run.wanted.starts_with(cut.taken.as_slice())
             && run.machine.broken()
-            && matches!(again.stop, Err(RunFault::Broken))
+            && matches!(again.stop, Err(RunError::Broken))
             && again.taken.is_empty(),
     )
 }
@@ -292,7 +292,7 @@ struct Way {
 /// How a session ended, and what its writer took.
 #[derive(Drop)]
 struct Held {
-    ended: Result<(), SessionFault>,
+    ended: Result<(), SessionError>,
     calls: Calls,
 }
 
@@ -410,7 +410,7 @@ fn fails_to_write<D: Decider, C: CodeLines, L: Levels, U: DueTicks>(
     };
     let held = hold(&mut machine, way);
     Some(
-        matches!(held.ended, Err(SessionFault::Write))
+        matches!(held.ended, Err(SessionError::Write))
             && held.calls.text.as_slice() == &ANSWERS[..output.left.min(99)]
             && machine.regs().pc == 0xA
             && machine.stop().is_some() == (output.left >= 44),
@@ -434,8 +434,8 @@ fn fails_to_read<D: Decider, C: CodeLines, L: Levels, U: DueTicks>(
     let held = hold(&mut machine, way);
     let ends = match held.ended {
         Ok(()) => !input.fails,
-        Err(SessionFault::Read) => input.fails,
-        Err(SessionFault::Write) => false,
+        Err(SessionError::Read) => input.fails,
+        Err(SessionError::Write) => false,
     };
     Some(ends && held.calls.text.as_slice() == &ANSWERS[..wanted.min(99)])
 }

@@ -2,12 +2,12 @@
 
 use super::cut::{Cut, Short, Text, push_line};
 use super::elf_files::ElfFile;
-use board::BoardFault;
+use board::BoardError;
 use command::{
-    Fault, FileFault, InputFile, Task, WordsFault, answer, explain, program, read_file, read_words,
+    Error, FileError, InputFile, Task, WordsError, answer, explain, program, read_file, read_words,
     refuse_words, tell,
 };
-use machine::StartFault;
+use machine::StartError;
 use std::alloc::Global;
 use std::fs::OpenFile;
 use std::io::Read;
@@ -614,7 +614,7 @@ fn a_version_that_cannot_be_written_is_io(rt: HostRuntime) -> Result<(), Fail> {
 fn words_without_memory_are_io(rt: HostRuntime) {
     let mut out = Cut::whole();
     let mut err = Cut::whole();
-    let status = answer(WordsFault::OutOfMemory, &mut out, &mut err);
+    let status = answer(WordsError::OutOfMemory, &mut out, &mut err);
     assert!(rt; status == 5 && out.text.is_empty());
     let line = b"marm: io\n  no memory was found for the arguments\n";
     assert!(rt; err.text.as_slice() == line.as_slice());
@@ -628,8 +628,8 @@ fn words_that_cannot_be_read_are_io(rt: HostRuntime) {
     assert!(rt; err.text.as_slice() == b"marm: io\n  the arguments: out of memory\n".as_slice());
 }
 
-/// Returns whether the reason of a fault of the first image on the small board is this line.
-fn is_explained(alloc: Global, fault: Fault, line: &[u8]) -> bool {
+/// Returns whether the reason of an error of the first image on the small board is this line.
+fn is_explained(alloc: Global, error: Error, line: &[u8]) -> bool {
     let image = InputFile {
         path: IMAGE_PATH,
         bytes: &FIRST,
@@ -639,7 +639,7 @@ fn is_explained(alloc: Global, fault: Fault, line: &[u8]) -> bool {
         bytes: SMALL.as_bytes(),
     };
     let mut err = Cut::whole();
-    explain(alloc, fault, image, board, &mut err).is_ok() && err.text.as_slice() == line
+    explain(alloc, error, image, board, &mut err).is_ok() && err.text.as_slice() == line
 }
 
 #[test]
@@ -647,40 +647,40 @@ fn files_without_memory_are_explained(rt: HostRuntime) {
     assert!(rt;
         is_explained(
             rt.alloc(),
-            Fault::Board(BoardFault::OutOfMemory),
+            Error::Board(BoardError::OutOfMemory),
             b"  board.toml: no memory was found for the board\n"
         )
     );
     assert!(rt;
         is_explained(
             rt.alloc(),
-            Fault::Start(StartFault::NoMemory),
+            Error::Start(StartError::NoMemory),
             b"  image.elf: no memory was found for the machine: flash and RAM take 12288 bytes, and events and decoded instructions some more\n"
         )
     );
 }
 
-/// Returns whether a fault's line and status are these.
-fn is_told(fault: Fault, line: &[u8], status: u8) -> bool {
+/// Returns whether an error's line and status are these.
+fn is_told(error: Error, line: &[u8], status: u8) -> bool {
     let mut err = Cut::whole();
-    tell(fault, &mut err) == status && err.text.as_slice() == line
+    tell(error, &mut err) == status && err.text.as_slice() == line
 }
 
 #[test]
-fn each_fault_has_its_line(rt: HostRuntime) {
-    assert!(rt; is_told(Fault::Usage, b"marm: usage\n", 2));
-    assert!(rt; is_told(Fault::Size, b"marm: size\n", 3));
-    assert!(rt; is_told(Fault::Io, b"marm: io\n", 5));
+fn each_error_has_its_line(rt: HostRuntime) {
+    assert!(rt; is_told(Error::Usage, b"marm: usage\n", 2));
+    assert!(rt; is_told(Error::Size, b"marm: size\n", 3));
+    assert!(rt; is_told(Error::Io, b"marm: io\n", 5));
     assert!(rt;
         is_told(
-            Fault::Board(BoardFault::OutOfMemory),
+            Error::Board(BoardError::OutOfMemory),
             b"marm: board 7 OutOfMemory\n",
             3
         )
     );
     assert!(rt;
         is_told(
-            Fault::Start(StartFault::NoMemory),
+            Error::Start(StartError::NoMemory),
             b"marm: start 11 NoMemory\n",
             3
         )
@@ -695,8 +695,8 @@ fn read_big(rt: &HostRuntime, length: u64) -> io::Result<Option<usize>> {
     fs::create(rt, BIG)?.set_len(length)?;
     let read = match read_file(rt, BIG) {
         Ok(bytes) => Ok(Some(bytes.len())),
-        Err(FileFault::Size) => Ok(None),
-        Err(FileFault::Read(error)) => Err(error),
+        Err(FileError::Size) => Ok(None),
+        Err(FileError::Read(error)) => Err(error),
     };
     fs::remove_file(rt, BIG)?;
     read
@@ -733,8 +733,8 @@ fn a_large_file_is_named(rt: HostRuntime) -> Result<(), Fail> {
 
 #[test]
 fn files_that_cannot_be_read_are_io(rt: HostRuntime) {
-    assert!(rt; matches!(read_file(&rt, "missing.elf"), Err(FileFault::Read(_))));
-    assert!(rt; matches!(read_file(&rt, "."), Err(FileFault::Read(_))));
+    assert!(rt; matches!(read_file(&rt, "missing.elf"), Err(FileError::Read(_))));
+    assert!(rt; matches!(read_file(&rt, "."), Err(FileError::Read(_))));
 }
 
 /// The steps that a command line asks for: none where it is refused, or out of memory.

@@ -4,13 +4,13 @@
 
 use super::cut::Cut;
 use super::files::{FIRST, NO_INPUT};
-use board::{BoardFault, read_board};
-use command::{FileFault, Task, WordsFault, program, read_file, read_words, words};
+use board::{BoardError, read_board};
+use command::{FileError, Task, WordsError, program, read_file, read_words, words};
 use elf::{Image, load};
 use machine::{
     Ahead, BitLevels, Board, BoardLines, CodeLines, Counting, Decider, DueTicks, KeptDecisions,
     KeptPriorities, Levels, Machine, PlainLevels, RegionCount, Reread, ScriptedEvent, Search,
-    Signal, StartFault, Table,
+    Signal, StartError, Table,
 };
 use std::alloc::{AllocError, Global};
 use std::env::FillError;
@@ -23,7 +23,7 @@ use std::{fs, io};
 enum Answer {
     /// With all that it returns where there is memory.
     Whole,
-    /// With the fault for memory that ran out.
+    /// With the error for memory that ran out.
     Refused,
     /// With anything else.
     Wrong,
@@ -88,7 +88,7 @@ fn is_board(board: &Board) -> bool {
 fn reading(alloc: Global) -> Answer {
     match read_board(alloc, BOARD) {
         Ok(board) if is_board(&board) => Answer::Whole,
-        Err(BoardFault::OutOfMemory) => Answer::Refused,
+        Err(BoardError::OutOfMemory) => Answer::Refused,
         _ => Answer::Wrong,
     }
 }
@@ -128,8 +128,8 @@ fn start<D: Decider, C: CodeLines, L: Levels, U: DueTicks>(
                 Answer::Wrong
             }
         }
-        Err(StartFault::NoMemory) => Answer::Refused,
-        Err(StartFault::SegmentOutsideMemory) => Answer::Wrong,
+        Err(StartError::NoMemory) => Answer::Refused,
+        Err(StartError::SegmentOutsideMemory) => Answer::Wrong,
     }
 }
 
@@ -171,8 +171,8 @@ fn is_outside<D: Decider, C: CodeLines, L: Levels, U: DueTicks>(
     board: &Board,
 ) -> bool {
     match Machine::<D, C, L, U>::new(alloc, image, board) {
-        Ok(_) | Err(StartFault::NoMemory) => false,
-        Err(StartFault::SegmentOutsideMemory) => true,
+        Ok(_) | Err(StartError::NoMemory) => false,
+        Err(StartError::SegmentOutsideMemory) => true,
     }
 }
 
@@ -220,7 +220,7 @@ fn clear(rt: &HostRuntime) {
 fn reading_file(rt: &HostRuntime) -> Answer {
     match read_file(rt, IMAGE_PATH) {
         Ok(bytes) if bytes.as_slice() == FIRST.as_slice() => Answer::Whole,
-        Err(FileFault::Read(error)) if matches!(error.kind(), io::ErrorKind::OutOfMemory) => {
+        Err(FileError::Read(error)) if matches!(error.kind(), io::ErrorKind::OutOfMemory) => {
             Answer::Refused
         }
         _ => Answer::Wrong,
@@ -320,7 +320,7 @@ fn reading_words(alloc: Global, words: &[String]) -> Answer {
             }
             _ => Answer::Wrong,
         },
-        Err(WordsFault::OutOfMemory) => Answer::Refused,
+        Err(WordsError::OutOfMemory) => Answer::Refused,
         Err(_) => Answer::Wrong,
     }
 }

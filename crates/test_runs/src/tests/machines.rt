@@ -2,7 +2,7 @@
 
 use elf::load;
 use machine::{
-    Board, CodeLines, Decider, DueTicks, InterruptLine, Layout, Levels, Machine, Place, PlaceFault,
+    Board, CodeLines, Decider, DueTicks, InterruptLine, Layout, Levels, Machine, Place, PlaceError,
     RegionCount, SMALL_BOARD, ScriptedEvent, Signal,
 };
 use reference::exception::MOST_LINES;
@@ -114,7 +114,7 @@ pub(super) fn small_board(alloc: Global, text: &str) -> Result<Board, AllocError
 pub(super) fn place_vectors<D: Decider, C: CodeLines, L: Levels, U: DueTicks>(
     machine: &mut Machine<D, C, L, U>,
     address: u32,
-) -> Result<(), PlaceFault> {
+) -> Result<(), PlaceError> {
     'entries: for entry in 2..24_u32 {
         machine.place(Place::Word(4 * entry, address))?;
     }

@@ -5,7 +5,7 @@ use super::cut::{Cut, Text, push_line, run};
 use super::run::Run;
 use machine::{
     Ahead, BitLevels, BoardLines, CodeLines, Counting, Decider, DueTicks, Events, KeptDecisions,
-    KeptPriorities, Levels, Machine, Place, PlaceFault, PlainLevels, Reread, Search, Table,
+    KeptPriorities, Levels, Machine, Place, PlaceError, PlainLevels, Reread, Search, Table,
     stop_line,
 };
 use std::alloc::Global;
@@ -79,7 +79,7 @@ fn is_closed<D: Decider, C: CodeLines, L: Levels, U: DueTicks>(
         Place::Word(0x2000_0000, 0),
         Place::Word(0xE000_ED94, 0),
     ] {
-        closed &= matches!(machine.place(place), Err(PlaceFault::Stopped));
+        closed &= matches!(machine.place(place), Err(PlaceError::Stopped));
     }
     closed
 }

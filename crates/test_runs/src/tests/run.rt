@@ -21,7 +21,7 @@ use super::machines::{event, place, place_vectors, scripted};
 use instruction_set::unpredictable::UnpredictableCase;
 use machine::{
     Ahead, BitLevels, BoardLines, CodeLines, Counting, Decider, DueTicks, KeptDecisions,
-    KeptPriorities, Levels, Machine, PlaceFault, PlainLevels, RegValues, Reread, Search, Stop,
+    KeptPriorities, Levels, Machine, PlaceError, PlainLevels, RegValues, Reread, Search, Stop,
     Table, TaskEnd,
 };
 use reference::stop::LeftOut;
@@ -120,7 +120,7 @@ impl<D: Decider, C: CodeLines, L: Levels, U: DueTicks> Run<D, C, L, U> {
         let (why, place_of) = refused.split_once(' ')?;
         match self.machine.place(place(place_of)?) {
             Ok(()) => Some(false),
-            Err(fault) => Some(name_of(fault) == why),
+            Err(error) => Some(name_of(error) == why),
         }
     }
 }
@@ -136,15 +136,15 @@ fn end_of(end: TaskEnd) -> &'static str {
 }
 
 /// The name of a refusal, where it is one of these.
-fn name_of(fault: PlaceFault) -> &'static str {
-    match fault {
-        PlaceFault::NotAligned => "not-aligned",
-        PlaceFault::NoSuchPlace => "no-such-place",
-        PlaceFault::Stopped => "stopped",
-        PlaceFault::Refused(Stop::OutOfProfile(LeftOut::SleepOnExit)) => "sleeponexit",
-        PlaceFault::Refused(Stop::Unpredictable(UnpredictableCase::MpuControl)) => "mpu-control",
-        PlaceFault::Refused(Stop::Unpredictable(UnpredictableCase::MpuRegion)) => "mpu-region",
-        PlaceFault::Refused(_) => "another",
+fn name_of(error: PlaceError) -> &'static str {
+    match error {
+        PlaceError::NotAligned => "not-aligned",
+        PlaceError::NoSuchPlace => "no-such-place",
+        PlaceError::Stopped => "stopped",
+        PlaceError::Refused(Stop::OutOfProfile(LeftOut::SleepOnExit)) => "sleeponexit",
+        PlaceError::Refused(Stop::Unpredictable(UnpredictableCase::MpuControl)) => "mpu-control",
+        PlaceError::Refused(Stop::Unpredictable(UnpredictableCase::MpuRegion)) => "mpu-region",
+        PlaceError::Refused(_) => "another",
     }
 }
 

@@ -7,7 +7,7 @@ use super::cuts::{ALL, At, Ending, NOWHERE, run_task_cut};
 use super::machines::machine_with;
 use super::pairs::{Pairs, agree};
 use super::run::check_runs;
-use machine::{RunFault, Slow};
+use machine::{RunError, Slow};
 use std::test::*;
 use test_tables::check_between;
 
@@ -669,7 +669,7 @@ fn breaks(machine: &mut Slow, left: usize, fails: bool) -> bool {
     };
     let (end, text) = run_task_cut(machine, 3, ending);
     match end {
-        Err(RunFault::Write { steps }) => {
+        Err(RunError::Write { steps }) => {
             steps == cut_step(left) && got(&text, left) && machine.broken()
         }
         _ => false,
@@ -683,7 +683,7 @@ fn is_broken(machine: &mut Slow) -> bool {
         at: NOWHERE,
     };
     let (end, text) = run_task_cut(machine, 3, ending);
-    matches!(end, Err(RunFault::Broken)) && text.is_empty()
+    matches!(end, Err(RunError::Broken)) && text.is_empty()
 }
 
 /// Of two machines that are broken alike, one is run further, which changes nothing.

@@ -12,7 +12,7 @@ invariant-steps g l = record {
   shown : Appends (g.W.Out.written l.fn.out) (g.W.Out.written l.out)
       (selected_text g.V.View.SELECTION (events_of l.made l.fn.core));
   printed : l.last ≡ last_printed g.V.View.SELECTION (events_of l.made l.fn.core);
-  same : g.W.Out.faults l.out ≡ g.W.Out.faults l.fn.out;
+  same : g.W.Out.errors l.out ≡ g.W.Out.errors l.fn.out;
 }
 
 abbrev pub decreases-steps : goal.decreases-steps

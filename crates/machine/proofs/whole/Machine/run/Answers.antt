@@ -5,5 +5,5 @@ use Rattle.machine.proofs.whole.Machine.run.Goals as goal
 pub returns-clause-written : goal.returns-clause-written
 returns-clause-written g c = rw (all_traced c.args.limit c.args.self.now.state) at c.run_view.ensures.written
 
-pub returns-clause-fault : goal.returns-clause-fault
-returns-clause-fault g c = fails_all _ _ _ _ _ _ _ c.run_view.result c.run_view.ensures.fault
+pub returns-clause-error : goal.returns-clause-error
+returns-clause-error g c = fails_all _ _ _ _ _ _ _ c.run_view.result c.run_view.ensures.error

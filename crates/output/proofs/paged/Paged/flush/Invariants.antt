@@ -7,7 +7,7 @@ invariant-pieces g l = record {
   known : Keeps (append_known (g.O.Out.written l.fn.self.inner) (drop l.fn.self.at l.fn.self.page))
       (append_known (g.O.Out.written l.self.inner) (drop l.self.at l.self.page));
   within : l.self.at ≤ length l.self.page;
-  same : g.O.Out.faults l.self.inner ≡ g.O.Out.faults l.fn.self.inner;
+  same : g.O.Out.errors l.self.inner ≡ g.O.Out.errors l.fn.self.inner;
 }
 
 abbrev pub decreases-pieces : goal.decreases-pieces

@@ -5,7 +5,7 @@ use Rattle.output.proofs.writer.Out.put_all.Given as goal
 abbrev pub invariant-pieces : goal.invariant-pieces
 invariant-pieces g l = record {
   sent : Sent (g.Self.Out.written l.fn.self) (g.Self.Out.written l.self) l.bytes l.rest;
-  same : g.Self.Out.faults l.self ≡ g.Self.Out.faults l.fn.self;
+  same : g.Self.Out.errors l.self ≡ g.Self.Out.errors l.fn.self;
 }
 
 abbrev pub decreases-pieces : goal.decreases-pieces

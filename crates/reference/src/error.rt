@@ -5,7 +5,7 @@ use thiserror::Error;
 
 /// Why a file isn't an image that this machine takes. docs/FILES.md has the order of the tests.
 #[derive(Clone, Copy, Debug, Error)]
-pub enum LoadFault {
+pub enum LoadError {
     #[error("the file ends within the ELF header or the program headers")]
     Truncated = 1,
     #[error("the file doesn't begin with the ELF magic number")]
@@ -28,7 +28,7 @@ pub enum LoadFault {
 
 /// Why a text isn't a board that this machine takes. docs/FILES.md has the order of the tests.
 #[derive(Clone, Copy, Debug, Error)]
-pub enum BoardFault {
+pub enum BoardError {
     #[error("the text isn't TOML")]
     NotToml = 1,
     #[error("a key is missing")]
@@ -47,7 +47,7 @@ pub enum BoardFault {
 
 /// Why a machine doesn't start.
 #[derive(Clone, Copy, Debug, Error)]
-pub enum StartFault {
+pub enum StartError {
     #[error("a segment is neither wholly in flash nor wholly in RAM")]
     SegmentOutsideMemory = 10,
     #[error("no memory was found for the machine")]
@@ -56,7 +56,7 @@ pub enum StartFault {
 
 /// Why a value isn't placed.
 #[derive(Clone, Copy)]
-pub enum PlaceFault {
+pub enum PlaceError {
     /// The address of a word isn't a multiple of 4.
     NotAligned,
     /// There is no such register or address.
