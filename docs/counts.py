@@ -119,7 +119,7 @@ AUDIT_PARTS = {
     "patterns": "Patterns Rows RowOperands Decoding",
     "rows": "Short* Long*",
     "text": "Text",
-    "files": "Images Boards Start board/Texts board/Seen command/Statuses output/Gathered machine/Starts",
+    "files": "Images Boards Start board/Texts board/Reading command/Statuses output/Gathered machine/Starts",
 }
 
 # the enums and structs that the definitions name, beside all those of `reference` and `instruction_set`
@@ -127,8 +127,8 @@ AUDIT_ITEMS = {
     "crates/output/src/writer.rt": "Out",
     "crates/output/src/paged.rt": "Paged",
     "crates/command/src/error.rt": "Error",
-    "crates/machine/src/whole.rt": "RunError",
-    "crates/board/src/whole.rt": "Board",
+    "crates/machine/src/machine.rt": "RunError",
+    "crates/board/src/board.rt": "Board",
 }
 
 

@@ -1,3 +1,3 @@
-pub use Rattle.kept_code.specs.Lines
-pub mod Kept
+pub use Rattle.kept_code.specs.Instructions
+pub mod KeptAccesses
 pub mod Narrow

@@ -1,4 +1,4 @@
--- A script that was read is in order: no event is earlier than the one ahead of it, and each is on a line of the board.
+-- A script that was read is in order: no event is earlier than the one ahead of it, and each is on a interrupt of the board.
 use Rattle.std.proofs.Common.{◌≡◌, ℕ, ◌<◌, ◌≤◌, Bool, true, false, List, [], ◌∷◌, Option, Some, None, Result, Ok, Err}
 use Rattle.std.proofs.Common.{if◌then◌else◌, nat_lt, codes, refl, subst, arith}
 use Rattle.std.proofs.lemmas.Bool.Decides.{nat_tests}
@@ -10,7 +10,7 @@ use Rattle.reference.specs.declared.script.Signal.{Signal}
 use Rattle.reference.specs.declared.script.Signal.TheVariants.{Rise, Fall, Pulse, Nmi}
 use Rattle.reference.specs.Boards.{IsOfBoard, IsScriptFrom, is_tick}
 use Rattle.reference.specs.Time.{last_tick}
-use Rattle.board.specs.Texts.{◌>>=◌, change, event_in, in_front, line_keys, line_signal, nmi, nmi_keys, nmi_signal}
+use Rattle.board.specs.Texts.{◌>>=◌, change, event_in, in_front, interrupt_keys, interrupt_signal, nmi, nmi_keys, nmi_signal}
 use Rattle.board.specs.Texts.{number, of_kind, only, script_in, signal_in, timely_event, where_ok, word}
 
 -- both steps were taken
@@ -31,67 +31,67 @@ in_range ok (Ok m) n taken =
     let (passed, same) = only_if (ok m) taken in
     subst (λ n. ok n ≡ true) same passed
 
--- a change of a line of the board
-change_if : (lines line : ℕ) (rise fall pulse : Bool) (signal : Signal) → line < lines →
-    (if rise then Ok (Rise line) else if fall then Ok (Fall line) else if pulse then Ok (Pulse line)
+-- a change of a interrupt of the board
+change_if : (interrupts interrupt : ℕ) (rise fall pulse : Bool) (signal : Signal) → interrupt < interrupts →
+    (if rise then Ok (Rise interrupt) else if fall then Ok (Fall interrupt) else if pulse then Ok (Pulse interrupt)
     else Err OutOfRange)
-    ≡ Ok signal → IsOfBoard lines signal
-change_if lines line true fall pulse signal below taken =
-    let same : Rise line ≡ signal = cc in subst (IsOfBoard lines) same below
-change_if lines line false true pulse signal below taken =
-    let same : Fall line ≡ signal = cc in subst (IsOfBoard lines) same below
-change_if lines line false false true signal below taken =
-    let same : Pulse line ≡ signal = cc in subst (IsOfBoard lines) same below
-change_if lines line false false false signal below taken = cc
+    ≡ Ok signal → IsOfBoard interrupts signal
+change_if interrupts interrupt true fall pulse signal below taken =
+    let same : Rise interrupt ≡ signal = cc in subst (IsOfBoard interrupts) same below
+change_if interrupts interrupt false true pulse signal below taken =
+    let same : Fall interrupt ≡ signal = cc in subst (IsOfBoard interrupts) same below
+change_if interrupts interrupt false false true signal below taken =
+    let same : Pulse interrupt ≡ signal = cc in subst (IsOfBoard interrupts) same below
+change_if interrupts interrupt false false false signal below taken = cc
 
-line_is : (lines : ℕ) (event : Members) (signal : Signal) → line_signal lines event ≡ Ok signal → IsOfBoard lines signal
-unfolding line_signal
-line_is lines event signal taken =
-    let (line, at_line) = both (where_ok (λ n. nat_lt n lines) (number (get_member (codes "line") event))) _ signal
+interrupt_is : (interrupts : ℕ) (event : Members) (signal : Signal) → interrupt_signal interrupts event ≡ Ok signal → IsOfBoard interrupts signal
+unfolding interrupt_signal
+interrupt_is interrupts event signal taken =
+    let (interrupt, at_interrupt) = both (where_ok (λ n. nat_lt n interrupts) (number (get_member (codes "line") event))) _ signal
     taken in
-    let (name, at_name) = both (word (get_member (codes "what") event)) _ signal at_line.1 in
-    let (change, at_change) = both (change line name) _ signal at_name.1 in
-    let (known, at_known) = both (only line_keys event) _ signal at_change.1 in
+    let (name, at_name) = both (word (get_member (codes "what") event)) _ signal at_interrupt.1 in
+    let (change, at_change) = both (change interrupt name) _ signal at_name.1 in
+    let (known, at_known) = both (only interrupt_keys event) _ signal at_change.1 in
     let same : change ≡ signal = cc in
-    let passed : nat_lt line lines ≡ true =
-    in_range (λ n. nat_lt n lines) (number (get_member (codes "line") event)) line at_line.0 in
-    let below : line < lines = grind (arith, nat_tests) in
-    subst (IsOfBoard lines) same (change_if lines line _ _ _ change below at_change.0)
+    let passed : nat_lt interrupt interrupts ≡ true =
+    in_range (λ n. nat_lt n interrupts) (number (get_member (codes "line") event)) interrupt at_interrupt.0 in
+    let below : interrupt < interrupts = grind (arith, nat_tests) in
+    subst (IsOfBoard interrupts) same (change_if interrupts interrupt _ _ _ change below at_change.0)
 
-nmi_is : (lines : ℕ) (value : Option Bool) (signal : Signal) → nmi value ≡ Ok signal → IsOfBoard lines signal
-nmi_is lines None signal taken = cc
-nmi_is lines (Some false) signal taken = cc
-nmi_is lines (Some true) signal taken = let same : Nmi ≡ signal = cc in subst (IsOfBoard lines) same tt
+nmi_is : (interrupts : ℕ) (value : Option Bool) (signal : Signal) → nmi value ≡ Ok signal → IsOfBoard interrupts signal
+nmi_is interrupts None signal taken = cc
+nmi_is interrupts (Some false) signal taken = cc
+nmi_is interrupts (Some true) signal taken = let same : Nmi ≡ signal = cc in subst (IsOfBoard interrupts) same tt
 
-nmi_signal_is : (lines : ℕ) (value : Data) (event : Members) (signal : Signal) →
-    nmi_signal value event ≡ Ok signal → IsOfBoard lines signal
+nmi_signal_is : (interrupts : ℕ) (value : Data) (event : Members) (signal : Signal) →
+    nmi_signal value event ≡ Ok signal → IsOfBoard interrupts signal
 unfolding nmi_signal
-nmi_signal_is lines value event signal taken =
+nmi_signal_is interrupts value event signal taken =
     let (what, at_what) = both (nmi (as_bool value)) _ signal taken in
     let (known, at_known) = both (only nmi_keys event) _ signal at_what.1 in
     let same : what ≡ signal = cc in
-    subst (IsOfBoard lines) same (nmi_is lines (as_bool value) what at_what.0)
+    subst (IsOfBoard interrupts) same (nmi_is interrupts (as_bool value) what at_what.0)
 
-signal_is : (lines : ℕ) (event : Members) (value : Option Data) (signal : Signal) →
-    signal_in lines event value ≡ Ok signal → IsOfBoard lines signal
-signal_is lines event None signal taken = line_is lines event signal taken
-signal_is lines event (Some value) signal taken = nmi_signal_is lines value event signal taken
+signal_is : (interrupts : ℕ) (event : Members) (value : Option Data) (signal : Signal) →
+    signal_in interrupts event value ≡ Ok signal → IsOfBoard interrupts signal
+signal_is interrupts event None signal taken = interrupt_is interrupts event signal taken
+signal_is interrupts event (Some value) signal taken = nmi_signal_is interrupts value event signal taken
 
--- an event that was read applies in a tick of the clock, on a line of the board
+-- an event that was read applies in a tick of the clock, on a interrupt of the board
 abbrev IsRead : ℕ → ScriptedEvent → Type 0
-IsRead lines event = (event.at ≤ last_tick) × IsOfBoard lines event.what
+IsRead interrupts event = (event.at ≤ last_tick) × IsOfBoard interrupts event.what
 
-event_is : (lines : ℕ) (fields : Members) (event : ScriptedEvent) → event_in lines fields ≡ Ok event
-    → IsRead lines event
+event_is : (interrupts : ℕ) (fields : Members) (event : ScriptedEvent) → event_in interrupts fields ≡ Ok event
+    → IsRead interrupts event
 unfolding event_in
-event_is lines fields event taken =
+event_is interrupts fields event taken =
     let (at, at_tick) = both (where_ok is_tick (number (get_member (codes "at") fields))) _ event taken in
-    let (what, at_what) = both (signal_in lines fields (get_member (codes "nmi") fields)) _ event at_tick.1 in
+    let (what, at_what) = both (signal_in interrupts fields (get_member (codes "nmi") fields)) _ event at_tick.1 in
     let given : ScriptedEvent = record { at = at; what = what } in
     let same : given ≡ event = cc in
     let passed : is_tick at ≡ true = in_range is_tick (number (get_member (codes "at") fields)) at at_tick.0 in
     let last : at ≤ last_tick = grind (arith, nat_tests) in
-    subst (IsRead lines) same (last, signal_is lines fields (get_member (codes "nmi") fields) what at_what.0)
+    subst (IsRead interrupts) same (last, signal_is interrupts fields (get_member (codes "nmi") fields) what at_what.0)
 
 -- and it is no earlier than the tick that it was read behind
 timely_if : (late : Bool) (read event : ScriptedEvent) →
@@ -99,29 +99,29 @@ timely_if : (late : Bool) (read event : ScriptedEvent) →
 timely_if true read event taken = cc
 timely_if false read event taken = (refl, cc)
 
-timely_is : (lines before : ℕ) (value : Data) (event : ScriptedEvent) →
-    timely_event lines before value ≡ Ok event → (before ≤ event.at) × IsRead lines event
+timely_is : (interrupts before : ℕ) (value : Data) (event : ScriptedEvent) →
+    timely_event interrupts before value ≡ Ok event → (before ≤ event.at) × IsRead interrupts event
 unfolding timely_event
-timely_is lines before value event taken =
+timely_is interrupts before value event taken =
     let (fields, at_fields) = both (of_kind (as_table value)) _ event taken in
-    let (read, at_read) = both (event_in lines fields) _ event at_fields.1 in
+    let (read, at_read) = both (event_in interrupts fields) _ event at_fields.1 in
     let (late, same) = timely_if (nat_lt read.at before) read event at_read.1 in
     let after : before ≤ read.at = grind (arith, nat_tests) in
-    subst (λ event. (before ≤ event.at) × IsRead lines event) same (after, event_is lines fields read at_read.0)
+    subst (λ event. (before ≤ event.at) × IsRead interrupts event) same (after, event_is interrupts fields read at_read.0)
 
 front : (event : ScriptedEvent) (read : Result (List ScriptedEvent) BoardError) (events : List ScriptedEvent) →
     in_front event read ≡ Ok events → (others : List ScriptedEvent) × ((read ≡ Ok others) × (event ∷ others ≡ events))
 front event (Ok others) events taken = (others, (refl, cc))
 front event (Err error) events taken = cc
 
-pub script_is : (lines before : ℕ) (items : Items) (events : List ScriptedEvent) →
-    script_in lines before items ≡ Ok events → IsScriptFrom lines before events
+pub script_is : (interrupts before : ℕ) (items : Items) (events : List ScriptedEvent) →
+    script_in interrupts before items ≡ Ok events → IsScriptFrom interrupts before events
 unfolding script_in
-script_is lines before no_items events taken =
-    let same : [] ≡ events = cc in subst (IsScriptFrom lines before) same tt
-script_is lines before (item value values) events taken =
-    let (event, at_event) = both (timely_event lines before value) _ events taken in
-    let (others, at_others) = front event (script_in lines event.at values) events at_event.1 in
-    let is : (before ≤ event.at) × IsRead lines event = timely_is lines before value event at_event.0 in
-    subst (IsScriptFrom lines before) at_others.1
-    (is.0, is.1.0, is.1.1, script_is lines event.at values others at_others.0)
+script_is interrupts before no_items events taken =
+    let same : [] ≡ events = cc in subst (IsScriptFrom interrupts before) same tt
+script_is interrupts before (item value values) events taken =
+    let (event, at_event) = both (timely_event interrupts before value) _ events taken in
+    let (others, at_others) = front event (script_in interrupts event.at values) events at_event.1 in
+    let is : (before ≤ event.at) × IsRead interrupts event = timely_is interrupts before value event at_event.0 in
+    subst (IsScriptFrom interrupts before) at_others.1
+    (is.0, is.1.0, is.1.1, script_is interrupts event.at values others at_others.0)

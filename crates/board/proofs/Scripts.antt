@@ -25,47 +25,47 @@ after-in_front done event (Ok rest) = ap Ok (sym (append_assoc done (event ∷ [
 after-in_front done event (Err error) = refl
 
 -- the value at an index, and those after it
-script_in-next : (lines before : ℕ) (values : List Value) (index : ℕ) (value : Value) → index < length values →
+script_in-next : (interrupts before : ℕ) (values : List Value) (index : ℕ) (value : Value) → index < length values →
     value ≡ get_or values index value →
-    script_in lines before (items_view (drop index values))
-    ≡ (timely_event lines before (view value)
-    >>= (λ event. in_front event (script_in lines event.at (items_view (drop (index + 1) values)))))
+    script_in interrupts before (items_view (drop index values))
+    ≡ (timely_event interrupts before (view value)
+    >>= (λ event. in_front event (script_in interrupts event.at (items_view (drop (index + 1) values)))))
 unfolding script_in
-script_in-next lines before values index value below is = rw (items_view-drop values index value below, ← is)
+script_in-next interrupts before values index value below is = rw (items_view-drop values index value below, ← is)
 
 -- an event that is refused
-pub refused : (lines before : ℕ) (values : List Value) (index : ℕ) (value : Value)
+pub refused : (interrupts before : ℕ) (values : List Value) (index : ℕ) (value : Value)
     (done : List ScriptedEvent) (all : Read) (error : BoardError) →
-    index < length values → value ≡ get_or values index value → timely_event lines before (view value) ≡ Err error →
-    after done (script_in lines before (items_view (drop index values))) ≡ all → all ≡ Err error
-refused lines before values index value done all error below is outside whole =
+    index < length values → value ≡ get_or values index value → timely_event interrupts before (view value) ≡ Err error →
+    after done (script_in interrupts before (items_view (drop index values))) ≡ all → all ≡ Err error
+refused interrupts before values index value done all error below is outside whole =
     sym whole
-    ∙ ap (after done) (script_in-next lines before values index value below is)
+    ∙ ap (after done) (script_in-next interrupts before values index value below is)
     ∙ ap (λ (read : Result ScriptedEvent BoardError).
-    after done (read >>= (λ event. in_front event (script_in lines event.at (items_view (drop (index + 1) values))))))
+    after done (read >>= (λ event. in_front event (script_in interrupts event.at (items_view (drop (index + 1) values))))))
     outside
 
 -- an event that is taken
-pub taken : (lines before : ℕ) (values : List Value) (index : ℕ) (value : Value)
+pub taken : (interrupts before : ℕ) (values : List Value) (index : ℕ) (value : Value)
     (done : List ScriptedEvent) (all : Read) (event : ScriptedEvent) →
-    index < length values → value ≡ get_or values index value → timely_event lines before (view value) ≡ Ok event →
-    after done (script_in lines before (items_view (drop index values))) ≡ all →
-    after (done ++ event ∷ []) (script_in lines event.at (items_view (drop (index + 1) values))) ≡ all
-taken lines before values index value done all event below is inside whole =
-    sym (after-in_front done event (script_in lines event.at (items_view (drop (index + 1) values))))
+    index < length values → value ≡ get_or values index value → timely_event interrupts before (view value) ≡ Ok event →
+    after done (script_in interrupts before (items_view (drop index values))) ≡ all →
+    after (done ++ event ∷ []) (script_in interrupts event.at (items_view (drop (index + 1) values))) ≡ all
+taken interrupts before values index value done all event below is inside whole =
+    sym (after-in_front done event (script_in interrupts event.at (items_view (drop (index + 1) values))))
     ∙ ap (λ (read : Result ScriptedEvent BoardError).
-    after done (read >>= (λ event. in_front event (script_in lines event.at (items_view (drop (index + 1) values))))))
+    after done (read >>= (λ event. in_front event (script_in interrupts event.at (items_view (drop (index + 1) values))))))
     (sym inside)
-    ∙ ap (after done) (sym (script_in-next lines before values index value below is))
+    ∙ ap (after done) (sym (script_in-next interrupts before values index value below is))
     ∙ whole
 
 -- no value is left
-pub finished : (lines before : ℕ) (values : List Value) (index : ℕ) (done : List ScriptedEvent) (all : Read) →
-    length values ≤ index → after done (script_in lines before (items_view (drop index values))) ≡ all → all ≡ Ok done
+pub finished : (interrupts before : ℕ) (values : List Value) (index : ℕ) (done : List ScriptedEvent) (all : Read) →
+    length values ≤ index → after done (script_in interrupts before (items_view (drop index values))) ≡ all → all ≡ Ok done
 unfolding script_in
-finished lines before values index done all past whole =
+finished interrupts before values index done all past whole =
     let nothing : drop index values ≡ [] = drop_of_length-le values past in
-    sym whole ∙ ap (λ (left : List Value). after done (script_in lines before (items_view left))) nothing
+    sym whole ∙ ap (λ (left : List Value). after done (script_in interrupts before (items_view left))) nothing
     ∙ ap Ok (append-nil done)
 
 -- the count of the items is the length of the list

@@ -13,7 +13,7 @@ use Rattle.reference.specs.declared.script.ScriptedEvent.{ScriptedEvent}
 use Rattle.reference.specs.declared.script.Signal.{Signal}
 use Rattle.reference.specs.declared.script.Signal.TheVariants.{Rise, Fall, Pulse, Nmi}
 use Rattle.reference.specs.Boards.{Numbers, Described, is_whole_blocks, is_size, is_flash, is_priority_bits}
-use Rattle.reference.specs.Boards.{is_line_count}
+use Rattle.reference.specs.Boards.{is_interrupt_count}
 use Rattle.reference.specs.Boards.{is_region_count, default_regions, is_tick, first_tick, most_events}
 
 -- one check, and then another with its result
@@ -66,8 +66,8 @@ board_keys =
     codes "flash_base" ∷ codes "flash_size" ∷ codes "ram_size" ∷ codes "priority_bits" ∷ codes "lines" ∷ codes "regions"
     ∷ codes "event" ∷ []
 
-abbrev pub line_keys : List (List ℕ)
-line_keys = codes "at" ∷ codes "line" ∷ codes "what" ∷ []
+abbrev pub interrupt_keys : List (List ℕ)
+interrupt_keys = codes "at" ∷ codes "line" ∷ codes "what" ∷ []
 
 abbrev pub nmi_keys : List (List ℕ)
 nmi_keys = codes "at" ∷ codes "nmi" ∷ []
@@ -79,23 +79,23 @@ numbers_in document = do
   flash_size ← where_ok (is_flash flash_base) (number (get_member (codes "flash_size") document))
   ram_size ← where_ok is_size (number (get_member (codes "ram_size") document))
   priority_bits ← where_ok is_priority_bits (number (get_member (codes "priority_bits") document))
-  lines ← where_ok is_line_count (number (get_member (codes "lines") document))
+  interrupts ← where_ok is_interrupt_count (number (get_member (codes "lines") document))
   regions ← where_ok is_region_count (number_or default_regions (get_member (codes "regions") document))
   Ok (record {
     flash_base = flash_base;
     flash_size = flash_size;
     ram_size = ram_size;
     priority_bits = priority_bits;
-    lines = lines;
+    interrupts = interrupts;
     regions = regions;
   })
 
--- the signal on a line that a word names
+-- the signal on a interrupt that a word names
 abbrev pub change : ℕ → List ℕ → Result Signal BoardError
-change line name =
-    if bytes_eq name (codes "rise") then Ok (Rise line)
-    else if bytes_eq name (codes "fall") then Ok (Fall line)
-    else if bytes_eq name (codes "pulse") then Ok (Pulse line)
+change interrupt name =
+    if bytes_eq name (codes "rise") then Ok (Rise interrupt)
+    else if bytes_eq name (codes "fall") then Ok (Fall interrupt)
+    else if bytes_eq name (codes "pulse") then Ok (Pulse interrupt)
     else Err OutOfRange
 
 -- `nmi` is true
@@ -104,13 +104,13 @@ nmi None = Err WrongKind
 nmi (Some false) = Err OutOfRange
 nmi (Some true) = Ok Nmi
 
--- the signal of an event that names a line of the board
-unfoldable pub line_signal : ℕ → Members → Result Signal BoardError
-line_signal lines event = do
-  line ← where_ok (λ n. nat_lt n lines) (number (get_member (codes "line") event))
+-- the signal of an event that names a interrupt of the board
+unfoldable pub interrupt_signal : ℕ → Members → Result Signal BoardError
+interrupt_signal interrupts event = do
+  interrupt ← where_ok (λ n. nat_lt n interrupts) (number (get_member (codes "line") event))
   name ← word (get_member (codes "what") event)
-  signal ← change line name
-  known ← only line_keys event
+  signal ← change interrupt name
+  known ← only interrupt_keys event
   Ok signal
 
 -- the signal of an event with `nmi`
@@ -122,14 +122,14 @@ nmi_signal value event = do
 
 -- the signal of an event, by whether it has `nmi`
 abbrev pub signal_in : ℕ → Members → Option Data → Result Signal BoardError
-signal_in lines event None = line_signal lines event
-signal_in lines event (Some value) = nmi_signal value event
+signal_in interrupts event None = interrupt_signal interrupts event
+signal_in interrupts event (Some value) = nmi_signal value event
 
--- one event, on a board with that number of lines
+-- one event, on a board with that number of interrupts
 unfoldable pub event_in : ℕ → Members → Result ScriptedEvent BoardError
-event_in lines event = do
+event_in interrupts event = do
   at ← where_ok is_tick (number (get_member (codes "at") event))
-  what ← signal_in lines event (get_member (codes "nmi") event)
+  what ← signal_in interrupts event (get_member (codes "nmi") event)
   Ok (record { at = at; what = what })
 
 -- one event more, in front of those after it
@@ -139,17 +139,17 @@ in_front event (Err error) = Err error
 
 -- an event that is no earlier than a tick
 unfoldable pub timely_event : ℕ → ℕ → Data → Result ScriptedEvent BoardError
-timely_event lines before value = do
+timely_event interrupts before value = do
   fields ← of_kind (as_table value)
-  event ← event_in lines fields
+  event ← event_in interrupts fields
   if nat_lt event.at before then Err EventsOutOfOrder else Ok event
 
 -- the events of a list, the first of them no earlier than a tick
 unfoldable pub script_in : ℕ → ℕ → Items → Result (List ScriptedEvent) BoardError
-script_in lines before no_items = Ok []
-script_in lines before (item value others) = do
-  event ← timely_event lines before value
-  in_front event (script_in lines event.at others)
+script_in interrupts before no_items = Ok []
+script_in interrupts before (item value others) = do
+  event ← timely_event interrupts before value
+  in_front event (script_in interrupts event.at others)
 
 -- how many items a list has
 abbrev pub count : Items → ℕ
@@ -185,7 +185,7 @@ board_in document = do
   numbers ← numbers_in document
   known ← only board_keys document
   items ← events (get_member (codes "event") document)
-  script ← script_in numbers.lines first_tick items
+  script ← script_in numbers.interrupts first_tick items
   Ok (record { numbers = numbers; script = script })
 
 -- the board of what was parsed

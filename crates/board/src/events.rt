@@ -4,14 +4,14 @@ ghost use Rattle.std.specs.Prelude.{◌≡◌, ◌≤◌, ◌<◌, ◌++◌, ◌
 ghost use Rattle.toml.specs.Data.{get_member, as_table};
 ghost use Rattle.toml.specs.View.{table_view, view, items_view};
 ghost use Rattle.reference.specs.Boards.{IsScript, IsScriptFrom};
-ghost use Rattle.board.specs.Seen.{Answers, Gives};
-ghost use Rattle.board.specs.Texts.{are_tables, change, event_in, events, is_table, line_signal, nmi, nmi_signal, script_in, signal_in, timely_event};
+ghost use Rattle.board.specs.Reading.{Answers, Gives};
+ghost use Rattle.board.specs.Texts.{are_tables, change, event_in, events, is_table, interrupt_signal, nmi, nmi_signal, script_in, signal_in, timely_event};
 
-use crate::keys::{LINE_KEYS, NMI_KEYS, has_only};
+use crate::keys::{INTERRUPT_KEYS, NMI_KEYS, has_only};
 use crate::values::{find, number, word};
 use reference::error::BoardError;
-use reference::exception::MOST_LINES;
-use reference::script::{InterruptLine, ScriptedEvent, Signal};
+use reference::exception::MOST_INTERRUPTS;
+use reference::script::{InterruptNumber, ScriptedEvent, Signal};
 use std::alloc::Global;
 use toml::{Table, Value};
 
@@ -55,21 +55,21 @@ fn are_tables(values: &[Value]) -> bool
     true
 }
 
-// The events of a list of tables, on a board of `lines` lines. A refusal comes before out of
+// The events of a list of tables, on a board of `interrupts` interrupts. A refusal comes before out of
 // memory: where an event has no room, those after it are still checked.
 pub fn script_of(
     alloc: Global,
-    lines: u8,
+    interrupts: u8,
     values: &[Value],
 ) -> Result<Vec<ScriptedEvent>, BoardError>
-    requires { lines ≤ MOST_LINES }
-    ensures { Answers (λ events. events.items) result (script_in lines FIRST_TICK (items_view values.now)) }
+    requires { interrupts ≤ MOST_INTERRUPTS }
+    ensures { Answers (λ events. events.items) result (script_in interrupts FIRST_TICK (items_view values.now)) }
 {
     let mut events = Vec::new(alloc);
     let mut is_complete = true;
     let mut before = FIRST_TICK;
     'values: for value in values {
-        let ScriptedEvent { at, what } = timely_event(lines, before, value)?;
+        let ScriptedEvent { at, what } = timely_event(interrupts, before, value)?;
         before = at;
         is_complete = gather(&mut events, is_complete, ScriptedEvent { at, what });
     }
@@ -96,14 +96,14 @@ fn gather(events: &mut Vec<ScriptedEvent>, is_complete: bool, event: ScriptedEve
 
 // An event that is no earlier than a tick.
 #[tactic(auto, unfolding(crate::specs::Texts::timely_event))]
-fn timely_event(lines: u8, before: u64, value: &Value) -> Result<ScriptedEvent, BoardError>
-    requires { lines ≤ MOST_LINES }
-    ensures { result ≡ timely_event lines before (view value.now) }
+fn timely_event(interrupts: u8, before: u64, value: &Value) -> Result<ScriptedEvent, BoardError>
+    requires { interrupts ≤ MOST_INTERRUPTS }
+    ensures { result ≡ timely_event interrupts before (view value.now) }
 {
     let Some(fields) = value.as_table() else {
         return Err(BoardError::WrongKind);
     };
-    let event = event_of(lines, fields)?;
+    let event = event_of(interrupts, fields)?;
     if event.at < before {
         return Err(BoardError::EventsOutOfOrder);
     }
@@ -112,55 +112,55 @@ fn timely_event(lines: u8, before: u64, value: &Value) -> Result<ScriptedEvent, 
 
 // One event.
 #[tactic(auto, unfolding(crate::specs::Texts::event_in))]
-fn event_of(lines: u8, event: &Table) -> Result<ScriptedEvent, BoardError>
-    requires { lines ≤ MOST_LINES }
-    ensures { result ≡ event_in lines (table_view event.now) }
+fn event_of(interrupts: u8, event: &Table) -> Result<ScriptedEvent, BoardError>
+    requires { interrupts ≤ MOST_INTERRUPTS }
+    ensures { result ≡ event_in interrupts (table_view event.now) }
 {
     let at = number(find(event, "at"))?;
     if !(FIRST_TICK..=LAST_TICK).contains(&at) {
         return Err(BoardError::OutOfRange);
     }
-    let what = signal_of(lines, event, find(event, "nmi"))?;
+    let what = signal_of(interrupts, event, find(event, "nmi"))?;
     Ok(ScriptedEvent { at, what })
 }
 
 // The signal of an event, by whether it has `nmi`.
-fn signal_of(lines: u8, event: &Table, value: Option<&Value>) -> Result<Signal, BoardError>
-    requires { lines ≤ MOST_LINES }
-    ensures { result ≡ signal_in lines (table_view event.now) (option_map (λ v. view v.now) value.entry) }
+fn signal_of(interrupts: u8, event: &Table, value: Option<&Value>) -> Result<Signal, BoardError>
+    requires { interrupts ≤ MOST_INTERRUPTS }
+    ensures { result ≡ signal_in interrupts (table_view event.now) (option_map (λ v. view v.now) value.entry) }
 {
     match value {
-        None => line_signal(lines, event),
+        None => interrupt_signal(interrupts, event),
         Some(value) => nmi_signal(value, event),
     }
 }
 
-// The signal of an event that names a line of the board.
-#[tactic(auto, unfolding(crate::specs::Texts::line_signal))]
-fn line_signal(lines: u8, event: &Table) -> Result<Signal, BoardError>
-    requires { lines ≤ MOST_LINES }
-    ensures { result ≡ line_signal lines (table_view event.now) }
+// The signal of an event that names a interrupt of the board.
+#[tactic(auto, unfolding(crate::specs::Texts::interrupt_signal))]
+fn interrupt_signal(interrupts: u8, event: &Table) -> Result<Signal, BoardError>
+    requires { interrupts ≤ MOST_INTERRUPTS }
+    ensures { result ≡ interrupt_signal interrupts (table_view event.now) }
 {
-    let line = number(find(event, "line"))?;
-    if line >= u64::from(lines) {
+    let interrupt = number(find(event, "line"))?;
+    if interrupt >= u64::from(interrupts) {
         return Err(BoardError::OutOfRange);
     }
     let name = word(find(event, "what"))?;
-    let signal = change(InterruptLine::new(line as u8), name)?;
-    if !has_only(&LINE_KEYS, event) {
+    let signal = change(InterruptNumber::new(interrupt as u8), name)?;
+    if !has_only(&INTERRUPT_KEYS, event) {
         return Err(BoardError::UnknownKey);
     }
     Ok(signal)
 }
 
-// The signal on a line that a word names.
-fn change(line: InterruptLine, name: &str) -> Result<Signal, BoardError>
-    ensures { result ≡ change line name.now }
+// The signal on a interrupt that a word names.
+fn change(interrupt: InterruptNumber, name: &str) -> Result<Signal, BoardError>
+    ensures { result ≡ change interrupt name.now }
 {
     match name {
-        "rise" => Ok(Signal::Rise(line)),
-        "fall" => Ok(Signal::Fall(line)),
-        "pulse" => Ok(Signal::Pulse(line)),
+        "rise" => Ok(Signal::Rise(interrupt)),
+        "fall" => Ok(Signal::Fall(interrupt)),
+        "pulse" => Ok(Signal::Pulse(interrupt)),
         _ => Err(BoardError::OutOfRange),
     }
 }

@@ -18,8 +18,8 @@ pub const BOARD_KEYS: [&str; 7] = [
     "event",
 ];
 
-// The keys of an event on a line.
-pub const LINE_KEYS: [&str; 3] = ["at", "line", "what"];
+// The keys of an event on a interrupt.
+pub const INTERRUPT_KEYS: [&str; 3] = ["at", "line", "what"];
 
 // The keys of an event of NMI.
 pub const NMI_KEYS: [&str; 2] = ["at", "nmi"];

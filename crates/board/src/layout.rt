@@ -4,15 +4,15 @@ ghost use Rattle.std.specs.Prelude.{◌≡◌, ◌<◌, ◌≤◌, ◌+◌, ◌%
 ghost use Rattle.std.specs.Bool.{OnTrue};
 ghost use Rattle.reference.specs.Map.{ram_base};
 ghost use Rattle.toml.specs.View.{table_view};
-ghost use Rattle.reference.specs.Boards.{is_whole_blocks, is_size, is_flash, is_priority_bits, is_line_count, is_region_count, numbers_of};
+ghost use Rattle.reference.specs.Boards.{is_whole_blocks, is_size, is_flash, is_priority_bits, is_interrupt_count, is_region_count, numbers_of};
 ghost use Rattle.reference.specs.Regions.{region_number};
-ghost use Rattle.board.specs.Seen.{Gives};
+ghost use Rattle.board.specs.Reading.{Gives};
 ghost use Rattle.board.specs.Texts.{numbers_in, where_ok};
 
 use crate::values::{find, number, number_or};
 use reference::board::Layout;
 use reference::error::BoardError;
-use reference::exception::MOST_LINES;
+use reference::exception::MOST_INTERRUPTS;
 use reference::map::RAM_BASE;
 use reference::mpu::RegionCount;
 use toml::Table;
@@ -46,8 +46,8 @@ pub fn layout_of(document: &Table) -> Result<Layout, BoardError>
     if !is_priority_bits(priority_bits) {
         return Err(BoardError::OutOfRange);
     }
-    let lines = number(find(document, "lines"))?;
-    if !is_line_count(lines) {
+    let interrupts = number(find(document, "lines"))?;
+    if !is_interrupt_count(interrupts) {
         return Err(BoardError::OutOfRange);
     }
     let regions = number_or(find(document, "regions"), DEFAULT_REGIONS)?;
@@ -57,7 +57,7 @@ pub fn layout_of(document: &Table) -> Result<Layout, BoardError>
         flash_size: flash_size as u32,
         ram_size: ram_size as u32,
         priority_bits: priority_bits as u8,
-        lines: lines as u8,
+        interrupts: interrupts as u8,
         regions,
     })
 }
@@ -101,12 +101,12 @@ fn is_priority_bits(bits: u64) -> bool
     (3..=8).contains(&bits)
 }
 
-// Whether a board can have `lines` lines.
-fn is_line_count(lines: u64) -> bool
-    ensures test { result ≡ is_line_count lines }
-    ensures few { OnTrue result (lines ≤ MOST_LINES) }
+// Whether a board can have `interrupts` interrupts.
+fn is_interrupt_count(interrupts: u64) -> bool
+    ensures test { result ≡ is_interrupt_count interrupts }
+    ensures few { OnTrue result (interrupts ≤ MOST_INTERRUPTS) }
 {
-    lines <= u64::from(MOST_LINES)
+    interrupts <= u64::from(MOST_INTERRUPTS)
 }
 
 // The number of regions that the MPU can have.

@@ -1,4 +1,4 @@
-//! The reader of board files: the numbers of a board and the script of what happens on its lines,
+//! The reader of board files: the numbers of a board and the script of what happens on its interrupts,
 //! in TOML. README.md says what is proved.
 #![tactic(auto)]
 
@@ -8,25 +8,25 @@ ghost use Rattle.reference.specs.Boards.{IsScript};
 ghost use Rattle.reference.specs.Invariant.{IsBoard};
 ghost use Rattle.reference.specs.declared.error.BoardError.TheVariants.{OutOfMemory as Wanting};
 ghost use Rattle.board.specs.Texts.{board_in, board_of};
-ghost use Rattle.board.specs.Seen.{Answers, described};
+ghost use Rattle.board.specs.Reading.{Answers, described};
 
+mod board;
 mod events;
 mod keys;
 mod layout;
 mod values;
-mod whole;
 
+pub use board::Board;
 pub use events::MOST_SCRIPT_EVENTS;
 use events::{events, script_of};
 use keys::{BOARD_KEYS, has_only};
 use layout::layout_of;
 pub use reference::board::Layout;
 pub use reference::error::BoardError;
-pub use reference::script::{InterruptLine, ScriptedEvent, Signal};
+pub use reference::script::{InterruptNumber, ScriptedEvent, Signal};
 use std::alloc::Global;
 use toml::Table;
 use values::find;
-pub use whole::Board;
 
 /// Returns the board that a text describes, or why the machine doesn't take the text: the first
 /// refusal in the order in which a text is read. `OutOfMemory` may be returned in place of any other
@@ -35,7 +35,7 @@ pub use whole::Board;
 #[tactic(auto, unfolding(crate::specs::Texts::board_of))]
 pub fn read_board(alloc: Global, text: &str) -> Result<Board, BoardError>
     ensures answer { Answers described result (board_of text.now) ⊎ (result ≡ Err Wanting) }
-    ensures script { IfOk result (λ board. IsScript board.layout.lines board.events.items) }
+    ensures script { IfOk result (λ board. IsScript board.layout.interrupts board.events.items) }
     ensures board { IfOk result (λ board. IsBoard (described board)) }
 {
     let document = match toml::table_from_str(alloc, text) {
@@ -51,7 +51,7 @@ pub fn read_board(alloc: Global, text: &str) -> Result<Board, BoardError>
 #[tactic(auto, using(crate::proofs::Ordered::script_is, crate::proofs::Taken::is_board), unfolding(crate::specs::Texts::board_in))]
 pub fn board_of_table(alloc: Global, document: &Table) -> Result<Board, BoardError>
     ensures answer { Answers described result (board_in (table_view document.now)) }
-    ensures script { IfOk result (λ board. IsScript board.layout.lines board.events.items) }
+    ensures script { IfOk result (λ board. IsScript board.layout.interrupts board.events.items) }
     ensures board { IfOk result (λ board. IsBoard (described board)) }
 {
     let layout = layout_of(document)?;
@@ -59,6 +59,6 @@ pub fn board_of_table(alloc: Global, document: &Table) -> Result<Board, BoardErr
         return Err(BoardError::UnknownKey);
     }
     let values = events(find(document, "event"))?;
-    let events = script_of(alloc, layout.lines, values)?;
+    let events = script_of(alloc, layout.interrupts, values)?;
     Ok(Board { layout, events })
 }

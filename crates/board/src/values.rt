@@ -3,7 +3,7 @@
 ghost use Rattle.std.specs.Prelude.{◌≡◌, ◌<◌, ◌^◌, option_map, IfOk};
 ghost use Rattle.toml.specs.Data.{get_member};
 ghost use Rattle.toml.specs.View.{table_view, view};
-ghost use Rattle.board.specs.Seen.{Gives};
+ghost use Rattle.board.specs.Reading.{Gives};
 ghost use Rattle.board.specs.Texts.{number, number_or, whole, word};
 
 use reference::error::BoardError;

@@ -1,7 +1,7 @@
 //! How a clock counts: on each tick, or only where something is due.
 
 ghost use Rattle.std.specs.Prelude.{◌≡◌, ℕ, ◌+◌, ◌^◌, ◌<◌, ◌≤◌, Option, None, true, IfSome};
-ghost use Rattle.clock.specs.Kept.{is_before};
+ghost use Rattle.clock.specs.DueTicks.{is_before};
 ghost use Rattle.reference.specs.Time.{SysTick as Timer, counted, next_current, next_due, reset_systick};
 
 use crate::timer::SysTick;

@@ -1,23 +1,23 @@
-//! Time: the clock, SysTick, the external lines and the script of events (ARM DDI 0403, "System
+//! Time: the clock, SysTick, the external interrupts and the script of events (ARM DDI 0403, "System
 //! timer, SysTick"; the rest is this project's profile).
 #![tactic(auto)]
 
 ghost use Rattle.std.specs.Prelude.{◌≡◌, ℕ, ◌+◌, ◌^◌, ◌<◌, ◌≤◌, true, false};
-ghost use Rattle.clock.specs.Kept.{IsRight, IsQuiet};
+ghost use Rattle.clock.specs.DueTicks.{IsRight, IsQuiet};
 ghost use Rattle.reference.specs.Time.{time_after_tick, counted, timer_pends, tick_pends, script_due, event_applies_next, passed, is_high, start_time, csr, after_csr_read, with_csr, with_rvr, with_cvr_cleared, IsSetOf};
 
 mod ahead;
 mod due_ticks;
+mod interrupts;
 pub mod laws;
-mod lines;
 mod script;
 mod sets;
 mod timer;
 
 pub use ahead::Ahead;
 pub use due_ticks::{Counting, DueTicks};
-use lines::HighLines;
-pub use reference::script::{InterruptLine, ScriptedEvent, Signal};
+use interrupts::HighInterrupts;
+pub use reference::script::{InterruptNumber, ScriptedEvent, Signal};
 pub use sets::Due;
 use sets::NOTHING;
 use std::marker::Model;
@@ -32,7 +32,7 @@ mod tests;
 pub struct Clock<U: DueTicks> {
     ticks: u64,
     timer: U,
-    high: HighLines,
+    high: HighInterrupts,
     script: Vec<ScriptedEvent>,
     /// How many events of the script have applied.
     done: usize,
@@ -40,7 +40,7 @@ pub struct Clock<U: DueTicks> {
 
 impl<U: DueTicks> Model for Clock<U> {
     ghost use Rattle.std.specs.Prelude.{◌≤◌, ◌^◌, length, drop};
-    ghost use Rattle.clock.specs.Kept.{Kept};
+    ghost use Rattle.clock.specs.DueTicks.{Kept};
 
     ghost Value = { Kept };
 
@@ -66,7 +66,7 @@ impl<U: DueTicks> Clock<U> {
         Clock {
             ticks: 0,
             timer: U::fresh(script::script_due(script.as_slice())),
-            high: [false; lines::LINES],
+            high: [false; interrupts::INTERRUPTS],
             script,
             done: 0,
         }
@@ -81,11 +81,11 @@ impl<U: DueTicks> Clock<U> {
         self.ticks
     }
 
-    /// Returns whether a line is high.
-    pub fn high(&self, line: u8) -> bool
-        ensures { result ≡ is_high self.now.time line }
+    /// Returns whether a interrupt is high.
+    pub fn high(&self, interrupt: u8) -> bool
+        ensures { result ≡ is_high self.now.time interrupt }
     {
-        lines::is_high(&self.high, line)
+        interrupts::is_high(&self.high, interrupt)
     }
 
     /// Returns whether an event of the script applies in the next tick.
@@ -200,7 +200,7 @@ impl<U: DueTicks> Clock<U> {
         ensures right { IsRight self.new }
     {
         let count = script::due_count(self.ticks + 1, &self.script[self.done..]);
-        lines::take_events(&mut self.high, &self.script[self.done..self.done + count]);
+        interrupts::take_events(&mut self.high, &self.script[self.done..self.done + count]);
         self.done += count;
         self.count_on();
     }

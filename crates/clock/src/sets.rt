@@ -3,11 +3,11 @@
 ghost use Rattle.std.specs.Prelude.{◌≡◌, ◌==◌, ◌||◌, ◌<◌, ℕ};
 ghost use Rattle.std.specs.List.{list_any};
 ghost use Rattle.reference.specs.Priorities.{is_in_words};
-ghost use Rattle.reference.specs.Time.{pends, line_exception, timer_pends};
+ghost use Rattle.reference.specs.Time.{pends, interrupt_exception, timer_pends};
 
 use crate::timer::SysTick;
-use reference::exception::{FIRST_LINE, NMI, SYS_TICK};
-use reference::script::{InterruptLine, ScriptedEvent, Signal};
+use reference::exception::{FIRST_INTERRUPT, NMI, SYS_TICK};
+use reference::script::{InterruptNumber, ScriptedEvent, Signal};
 
 /// A set of exceptions: bit n mod 32 of word n / 32 says whether exception n is in it.
 pub type Due = [u32; 8];
@@ -31,16 +31,16 @@ fn put_signal(due: &mut Due, signal: Signal)
     ensures { (n : ℕ) → n < 256 → is_in_words due.new n ≡ (pends signal n || is_in_words due.old n) }
 {
     match signal {
-        Signal::Rise(line) | Signal::Pulse(line) => put(due, exception_of(line)),
+        Signal::Rise(interrupt) | Signal::Pulse(interrupt) => put(due, exception_of(interrupt)),
         Signal::Fall(_) => {}
         Signal::Nmi => put(due, NMI as u8),
     }
 }
 
-fn exception_of(line: InterruptLine) -> u8
-    ensures { result ≡ line_exception line }
+fn exception_of(interrupt: InterruptNumber) -> u8
+    ensures { result ≡ interrupt_exception interrupt }
 {
-    FIRST_LINE as u8 + line.number()
+    FIRST_INTERRUPT as u8 + interrupt.number()
 }
 
 /// Puts the exceptions that events pend into a set.

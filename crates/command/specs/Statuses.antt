@@ -1,8 +1,8 @@
 -- The exit statuses of the program, and what it writes.
 use Rattle.std.specs.Prelude.{◌≡◌, ◌⊎◌, ◌*◌, ◌^◌, ℕ, if◌then◌else◌, List, Option, Some, None, Result, Ok, Err}
 use Rattle.std.specs.Str.{bytes_eq, is_utf8}
-use Rattle.board.specs.declared.whole.Board.{Board as TheBoard}
-use Rattle.board.specs.Seen.{described}
+use Rattle.board.specs.declared.board.Board.{Board as TheBoard}
+use Rattle.board.specs.Reading.{described}
 use Rattle.board.specs.Texts.{board_of}
 use Rattle.command.specs.declared.error.Error.{Error}
 use Rattle.command.specs.declared.error.Error.TheVariants.{Usage, Load, Board, Start, Size, Io}

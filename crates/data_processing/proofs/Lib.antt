@@ -1,4 +1,4 @@
 pub mod Bits
-pub mod Parts
+pub mod FieldsOfWords
 pub mod Ranges
 pub mod Wide

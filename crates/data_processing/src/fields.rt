@@ -9,7 +9,7 @@ use regs::Regs;
 
 /// Returns the lowest `width` bits.
 #[inline]
-#[tactic(auto, using(crate::proofs::Parts::all_bits))]
+#[tactic(auto, using(crate::proofs::FieldsOfWords::all_bits))]
 fn low_bits(x: u32, width: u8) -> u32
     ensures { result ≡ x % 2 ^ width }
 {
@@ -18,7 +18,7 @@ fn low_bits(x: u32, width: u8) -> u32
 
 /// Returns x shifted right by `low`.
 #[inline]
-#[tactic(auto, using(crate::proofs::Parts::none_above))]
+#[tactic(auto, using(crate::proofs::FieldsOfWords::none_above))]
 fn down(x: u32, low: u8) -> u32
     ensures { result ≡ x / 2 ^ low }
 {
@@ -27,7 +27,7 @@ fn down(x: u32, low: u8) -> u32
 
 /// Returns x shifted left by `low`.
 #[inline]
-#[tactic(auto, using(crate::proofs::Parts::none_below))]
+#[tactic(auto, using(crate::proofs::FieldsOfWords::none_below))]
 fn up(x: u32, low: u8) -> u32
     ensures { result ≡ x * 2 ^ low % 2 ^ 32 }
 {
@@ -36,7 +36,7 @@ fn up(x: u32, low: u8) -> u32
 
 /// Returns a number of `width` bits, sign-extended to a word.
 #[inline]
-#[tactic(auto, using(crate::proofs::Parts::sign_lemmas))]
+#[tactic(auto, using(crate::proofs::FieldsOfWords::sign_lemmas))]
 fn sign_extended(width: u8, x: u32) -> u32
     requires { x < 2 ^ width }
     ensures { result ≡ sign_extended width x }
@@ -73,7 +73,7 @@ pub(crate) fn extract_field(operands: &ExtractField, regs: &mut Regs)
 
 /// Returns a word with 0 in place of a field.
 #[inline]
-#[tactic(auto, using(crate::proofs::Parts::field_part), unfolding(instruction_set::specs::Fields::cleared, instruction_set::specs::Words::bits))]
+#[tactic(auto, using(crate::proofs::FieldsOfWords::field_part), unfolding(instruction_set::specs::Fields::cleared, instruction_set::specs::Words::bits))]
 fn cleared(x: u32, low: u8, width: u8) -> u32
     ensures { result ≡ cleared x low width }
 {

@@ -5,14 +5,14 @@ use Rattle.std.proofs.Common.{length-append}
 use Rattle.std.proofs.lemmas.List.{append-nil}
 use Rattle.std.specs.Io.KnownBytes.{IsAtEnd, Keeps}
 use Rattle.std.proofs.KnownBytes.{Appends-kept, Consumes-nil, Consumes-trans, Consumes-kept}
-use Rattle.debugger.proofs.Telling.{none_told, told_on, cut_on, cut_before}
+use Rattle.debugger.proofs.Telling.{tells_none, tells_on, cut_on, cut_before}
 use Rattle.debugger.specs.Answers.{Piece}
 use Rattle.debugger.specs.declared.sessions.SessionError.{SessionError}
 use Rattle.debugger.specs.declared.sessions.SessionError.TheVariants.{Read, Write}
 use Rattle.debugger.specs.Sessions.{AreSoFar, Ends, FailsOnce, FailsToRead, FailsToWrite, Hears, Holds, Kept, KeepsPut}
 use Rattle.debugger.specs.Sessions.{NothingWaits, SendsRest, Sessions, Sink, Source, TakesNext, Talk, TellsAll}
 use Rattle.debugger.specs.Sessions.{TellsAllThenFails, TellsPart, after_bytes, all_answers, answers, is_line_feed}
-use Rattle.debugger.specs.Sessions.{last_state, next, opened, said, said_at_end, talk, texts}
+use Rattle.debugger.specs.Sessions.{last_state, next, opened, answered, answered_at_end, talk, texts}
 use Rattle.machine.specs.Whole.{Whole}
 use Rattle.reference.specs.State.{State}
 
@@ -30,7 +30,7 @@ was_open t x xs true e goes = (e, sym (ap (λ (u : Talk). u.is_open) (after_more
 was_open t x xs false e goes = absurd (let wrong : false ≡ true = rw e at goes in cc)
 
 answers_more : (t : Talk) (x : ℕ) (xs : List ℕ) → t.is_open ≡ true
-    → answers t (x ∷ xs) ≡ said t x ++ answers (next t x) xs
+    → answers t (x ∷ xs) ≡ answered t x ++ answers (next t x) xs
 unfolding answers
 answers_more t x xs e = rw e refl
 
@@ -53,27 +53,27 @@ after_snoc t (x ∷ xs) b goes =
     ∙ (after_snoc (next t x) xs b both.1 ∙ ap (λ (u : Talk). next u b) (sym (after_more t x xs both.0)))
 
 answers_snoc : (t : Talk) (xs : List ℕ) (b : ℕ) → (after_bytes t xs).is_open ≡ true
-    → answers t (xs ++ b ∷ []) ≡ answers t xs ++ said (after_bytes t xs) b
+    → answers t (xs ++ b ∷ []) ≡ answers t xs ++ answered (after_bytes t xs) b
 answers_snoc t [] b goes =
     let e : t.is_open ≡ true = sym (ap (λ (u : Talk). u.is_open) (after_none t)) ∙ goes in
-    answers_more t b [] e ∙ (ap (λ ps. said t b ++ ps) (answers_none (next t b)) ∙ (append-nil (said t b)
-    ∙ (ap (λ (u : Talk). said u b) (sym (after_none t))
-    ∙ ap (λ (ps : List Piece). ps ++ said (after_bytes t []) b) (sym (answers_none t)))))
+    answers_more t b [] e ∙ (ap (λ ps. answered t b ++ ps) (answers_none (next t b)) ∙ (append-nil (answered t b)
+    ∙ (ap (λ (u : Talk). answered u b) (sym (after_none t))
+    ∙ ap (λ (ps : List Piece). ps ++ answered (after_bytes t []) b) (sym (answers_none t)))))
 answers_snoc t (x ∷ xs) b goes =
     let both = was_open t x xs t.is_open refl goes in
-    answers_more t x (xs ++ b ∷ []) both.0 ∙ (ap (λ ps. said t x ++ ps) (answers_snoc (next t x) xs b both.1)
-    ∙ (sym (append_assoc (said t x) (answers (next t x) xs) (said (after_bytes (next t x) xs) b))
-    ∙ (ap (λ (u : Talk). (said t x ++ answers (next t x) xs) ++ said u b) (sym (after_more t x xs both.0))
-    ∙ ap (λ (ps : List Piece). ps ++ said (after_bytes t (x ∷ xs)) b) (sym (answers_more t x xs both.0)))))
+    answers_more t x (xs ++ b ∷ []) both.0 ∙ (ap (λ ps. answered t x ++ ps) (answers_snoc (next t x) xs b both.1)
+    ∙ (sym (append_assoc (answered t x) (answers (next t x) xs) (answered (after_bytes (next t x) xs) b))
+    ∙ (ap (λ (u : Talk). (answered t x ++ answers (next t x) xs) ++ answered u b) (sym (after_more t x xs both.0))
+    ∙ ap (λ (ps : List Piece). ps ++ answered (after_bytes t (x ∷ xs)) b) (sym (answers_more t x xs both.0)))))
 
 -- ---- a session after a byte
 
 next_state_by : (t : Talk) (byte : ℕ) (o : Bool) → is_line_feed byte ≡ o
-    → last_state t.state (said t byte) ≡ (next t byte).state
+    → last_state t.state (answered t byte) ≡ (next t byte).state
 next_state_by t byte true e = rw e refl
 next_state_by t byte false e = rw e refl
 
-next_state : (t : Talk) (byte : ℕ) → last_state t.state (said t byte) ≡ (next t byte).state
+next_state : (t : Talk) (byte : ℕ) → last_state t.state (answered t byte) ≡ (next t byte).state
 next_state t byte = next_state_by t byte (is_line_feed byte) refl
 
 talk_of : (t : Talk) (s : State) (k : Kept) → s ≡ t.state → k ≡ record { breakpoints = t.breakpoints; line = t.line }
@@ -86,7 +86,7 @@ pub record Heard (n : ℕ) (k : Kept) (old new : Whole) (before after : Source) 
   pub count : length given ≡ n
   pub hears : Hears given before after
   pub now : after_bytes (opened old.state) given ≡ talk new.state k
-  pub told : TellsAll (answers (opened old.state) given) old new out out'
+  pub tells : TellsAll (answers (opened old.state) given) old new out out'
 
 pub begun : (m : Whole) (k : Kept) (i : Source) (a : Sink) → k ≡ record { breakpoints = []; line = Some [] }
     → Heard 0 k m m i i a a
@@ -95,7 +95,7 @@ begun m k i a e = record {
   count = refl;
   hears = record { gave = Consumes-nil i.left; quiet = refl };
   now = rw e (after_none (opened m.state));
-  told = subst (λ (ps : List Piece). TellsAll ps m m a a) (sym (answers_none (opened m.state))) (none_told m a);
+  tells = subst (λ (ps : List Piece). TellsAll ps m m a a) (sym (answers_none (opened m.state))) (tells_none m a);
 }
 
 is_open : (n : ℕ) (k : Kept) (old new : Whole) (i j : Source) (a b : Sink) (h : Heard n k old new i j a b)
@@ -109,28 +109,28 @@ heard_more given more i j l x y = record {
 }
 
 -- what was said of the next byte, in the session's words
-said_now : (n : ℕ) (k : Kept) (old mid : Whole) (i j : Source) (a b : Sink) (byte : ℕ) (h : Heard n k old mid i j a b)
+answered_now : (n : ℕ) (k : Kept) (old mid : Whole) (i j : Source) (a b : Sink) (byte : ℕ) (h : Heard n k old mid i j a b)
     → answers (opened old.state) (h.given ++ byte ∷ []) ≡ answers (opened old.state) h.given
-    ++ said (talk mid.state k) byte
-said_now n k old mid i j a b byte h =
+    ++ answered (talk mid.state k) byte
+answered_now n k old mid i j a b byte h =
     answers_snoc (opened old.state) h.given byte (is_open n k old mid i j a b h)
-    ∙ ap (λ (t : Talk). answers (opened old.state) h.given ++ said t byte) h.now
+    ∙ ap (λ (t : Talk). answers (opened old.state) h.given ++ answered t byte) h.now
 
 next_now : (n : ℕ) (k : Kept) (old mid : Whole) (i j : Source) (a b : Sink) (byte : ℕ) (h : Heard n k old mid i j a b)
     → after_bytes (opened old.state) (h.given ++ byte ∷ []) ≡ next (talk mid.state k) byte
 next_now n k old mid i j a b byte h =
     after_snoc (opened old.state) h.given byte (is_open n k old mid i j a b h) ∙ ap (λ (t : Talk). next t byte) h.now
 
-said_all : (n : ℕ) (k : Kept) (old mid new : Whole) (i j : Source) (a b c : Sink) (byte : ℕ)
-    (h : Heard n k old mid i j a b) → TellsAll (said (talk mid.state k) byte) mid new b c
+answered_all : (n : ℕ) (k : Kept) (old mid new : Whole) (i j : Source) (a b c : Sink) (byte : ℕ)
+    (h : Heard n k old mid i j a b) → TellsAll (answered (talk mid.state k) byte) mid new b c
     → TellsAll (answers (opened old.state) (h.given ++ byte ∷ [])) old new a c
-said_all n k old mid new i j a b c byte h then =
-    subst (λ (ps : List Piece). TellsAll ps old new a c) (sym (said_now n k old mid i j a b byte h))
-    (told_on (answers (opened old.state) h.given) (said (talk mid.state k) byte) old mid new a b c h.told then)
+answered_all n k old mid new i j a b c byte h then =
+    subst (λ (ps : List Piece). TellsAll ps old new a c) (sym (answered_now n k old mid i j a b byte h))
+    (tells_on (answers (opened old.state) h.given) (answered (talk mid.state k) byte) old mid new a b c h.tells then)
 
 -- one byte more
 pub heard_on : (n : ℕ) (k k' : Kept) (old mid new : Whole) (i j l : Source) (a b c : Sink) (byte : ℕ)
-    → Heard n k old mid i j a b → Hears (byte ∷ []) j l → TellsAll (said (talk mid.state k) byte) mid new b c
+    → Heard n k old mid i j a b → Hears (byte ∷ []) j l → TellsAll (answered (talk mid.state k) byte) mid new b c
     → k' ≡ record {
       breakpoints = (next (talk mid.state k) byte).breakpoints;
       line = (next (talk mid.state k) byte).line;
@@ -143,33 +143,33 @@ heard_on n k k' old mid new i j l a b c byte h gave then kept goes = record {
   now = next_now n k old mid i j a b byte h
       ∙ talk_of (next (talk mid.state k) byte) new.state k'
       (ap (λ (m : Whole). m.state) then.stands ∙ next_state (talk mid.state k) byte) kept goes;
-  told = said_all n k old mid new i j a b c byte h then;
+  tells = answered_all n k old mid new i j a b c byte h then;
 }
 
 -- `quit`
 pub closed : (n : ℕ) (k : Kept) (old mid new : Whole) (i j l : Source) (a b c : Sink) (byte : ℕ)
-    → Heard n k old mid i j a b → Hears (byte ∷ []) j l → TellsAll (said (talk mid.state k) byte) mid new b c
+    → Heard n k old mid i j a b → Hears (byte ∷ []) j l → TellsAll (answered (talk mid.state k) byte) mid new b c
     → (next (talk mid.state k) byte).is_open ≡ false → Holds old new i l a c
 closed n k old mid new i j l a b c byte h gave then shut = record {
   given = h.given ++ byte ∷ [];
   heard = heard_more h.given (byte ∷ []) i j l h.hears gave;
   pieces = answers (opened old.state) (h.given ++ byte ∷ []);
   ends = inr (inl (ap (λ (t : Talk). t.is_open) (next_now n k old mid i j a b byte h) ∙ shut, refl));
-  told = said_all n k old mid new i j a b c byte h then;
+  tells = answered_all n k old mid new i j a b c byte h then;
 }
 
 -- the writer failed in the answer to a byte
 pub cut_at : (n : ℕ) (k : Kept) (old mid new : Whole) (i j l : Source) (a b c : Sink) (byte : ℕ)
-    → Heard n k old mid i j a b → Hears (byte ∷ []) j l → TellsPart (said (talk mid.state k) byte) mid new b c
+    → Heard n k old mid i j a b → Hears (byte ∷ []) j l → TellsPart (answered (talk mid.state k) byte) mid new b c
     → FailsToWrite old new i l a c
 cut_at n k old mid new i j l a b c byte h gave part = record {
   given = h.given ++ byte ∷ [];
   heard = heard_more h.given (byte ∷ []) i j l h.hears gave;
-  told = inl
+  tells = inl
       (cut_before (answers (opened old.state) (h.given ++ byte ∷ []))
-      (said_at_end (after_bytes (opened old.state) (h.given ++ byte ∷ []))) old new a c
-      (subst (λ (ps : List Piece). TellsPart ps old new a c) (sym (said_now n k old mid i j a b byte h))
-      (cut_on (answers (opened old.state) h.given) (said (talk mid.state k) byte) old mid new a b c h.told part)));
+      (answered_at_end (after_bytes (opened old.state) (h.given ++ byte ∷ []))) old new a c
+      (subst (λ (ps : List Piece). TellsPart ps old new a c) (sym (answered_now n k old mid i j a b byte h))
+      (cut_on (answers (opened old.state) h.given) (answered (talk mid.state k) byte) old mid new a b c h.tells part)));
 }
 
 nothing_more : (given : List ℕ) (i j l : Source) → Hears given i j → Hears [] j l → Hears given i l
@@ -177,27 +177,27 @@ nothing_more given i j l x y = subst (λ (bs : List ℕ). Hears bs i l) (append-
 
 -- the end of the input
 pub at_end : (n : ℕ) (k : Kept) (old mid new : Whole) (i j l : Source) (a b c : Sink) → Heard n k old mid i j a b
-    → Hears [] j l → IsAtEnd l.left → TellsAll (said_at_end (talk mid.state k)) mid new b c → Holds old new i l a c
+    → Hears [] j l → IsAtEnd l.left → TellsAll (answered_at_end (talk mid.state k)) mid new b c → Holds old new i l a c
 at_end n k old mid new i j l a b c h gave end then = record {
   given = h.given;
   heard = nothing_more h.given i j l h.hears gave;
   pieces = all_answers old.state h.given;
   ends = inl (end, refl);
-  told = told_on (answers (opened old.state) h.given) (said_at_end (after_bytes (opened old.state) h.given)) old mid new
-      a b c h.told
-      (subst (λ (t : Talk). TellsAll (said_at_end t) mid new b c) (sym h.now) then);
+  tells = tells_on (answers (opened old.state) h.given) (answered_at_end (after_bytes (opened old.state) h.given)) old mid new
+      a b c h.tells
+      (subst (λ (t : Talk). TellsAll (answered_at_end t) mid new b c) (sym h.now) then);
 }
 
 -- the writer failed in the answer to the last line
 pub cut_at_end : (n : ℕ) (k : Kept) (old mid new : Whole) (i j l : Source) (a b c : Sink) → Heard n k old mid i j a b
-    → Hears [] j l → TellsPart (said_at_end (talk mid.state k)) mid new b c → FailsToWrite old new i l a c
+    → Hears [] j l → TellsPart (answered_at_end (talk mid.state k)) mid new b c → FailsToWrite old new i l a c
 cut_at_end n k old mid new i j l a b c h gave part = record {
   given = h.given;
   heard = nothing_more h.given i j l h.hears gave;
-  told = inl
-      (cut_on (answers (opened old.state) h.given) (said_at_end (after_bytes (opened old.state) h.given)) old mid new
-      a b c h.told
-      (subst (λ (t : Talk). TellsPart (said_at_end t) mid new b c) (sym h.now) part));
+  tells = inl
+      (cut_on (answers (opened old.state) h.given) (answered_at_end (after_bytes (opened old.state) h.given)) old mid new
+      a b c h.tells
+      (subst (λ (t : Talk). TellsPart (answered_at_end t) mid new b c) (sym h.now) part));
 }
 
 -- the reader failed
@@ -207,7 +207,7 @@ missed n k old new i j l a b h keeps more = record {
   given = h.given;
   gave = Consumes-kept i.left j.left l.left h.given h.hears.gave keeps;
   missed = more ∙ ap (λ x. x + 1) h.hears.quiet;
-  told = h.told;
+  tells = h.tells;
 }
 
 -- 2^64 - 1 bytes
@@ -218,17 +218,17 @@ spent n k old new i j a b h all = record {
   heard = h.hears;
   pieces = answers (opened old.state) h.given;
   ends = inr (inr (h.count ∙ all, refl));
-  told = h.told;
+  tells = h.tells;
 }
 
 -- ---- what waits is sent
 
-told_kept : (ps : List Piece) (old new : Whole) (a b c : Sink) → TellsAll ps old new a b → KeepsPut b c
+tells_kept : (ps : List Piece) (old new : Whole) (a b c : Sink) → TellsAll ps old new a b → KeepsPut b c
     → TellsAll ps old new a c
-told_kept ps old new a b c told kept = record {
-  went = Appends-kept a.written b.written c.written (texts ps) told.went kept.0;
-  stands = told.stands;
-  quiet = kept.1 ∙ told.quiet;
+tells_kept ps old new a b c tells kept = record {
+  went = Appends-kept a.written b.written c.written (texts ps) tells.went kept.0;
+  stands = tells.stands;
+  quiet = kept.1 ∙ tells.quiet;
 }
 
 -- the session after n bytes, once what waits was sent
@@ -239,15 +239,15 @@ heard_kept n k old new i j a b c h kept = record {
   count = h.count;
   hears = h.hears;
   now = h.now;
-  told = told_kept (answers (opened old.state) h.given) old new a b c h.told kept;
+  tells = tells_kept (answers (opened old.state) h.given) old new a b c h.tells kept;
 }
 
 then_failed : (ps : List Piece) (old new : Whole) (a b c : Sink) → TellsAll ps old new a b → FailsOnce b c
     → TellsAllThenFails ps old new a c
-then_failed ps old new a b c told failed = record {
-  put = Appends-kept a.written b.written c.written (texts ps) told.went failed.0;
-  stands = told.stands;
-  failed = failed.1 ∙ ap (λ x. x + 1) told.quiet;
+then_failed ps old new a b c tells failed = record {
+  put = Appends-kept a.written b.written c.written (texts ps) tells.went failed.0;
+  stands = tells.stands;
+  failed = failed.1 ∙ ap (λ x. x + 1) tells.quiet;
 }
 
 so_far_of_end : (s : State) (given : List ℕ) (l : Source) (ps : List Piece) → Ends s given l ps → AreSoFar s given l ps
@@ -265,7 +265,7 @@ ended old new i l a b c waits (Ok done) h sends = (
     heard = h.heard;
     pieces = h.pieces;
     ends = h.ends;
-    told = told_kept h.pieces old new a b c h.told sends.0;
+    tells = tells_kept h.pieces old new a b c h.tells sends.0;
   },
   sends.1,
 )
@@ -274,10 +274,10 @@ ended old new i l a b c waits (Err Write) h sends = (
   record {
     given = h.given;
     heard = h.heard;
-    told = inr (record {
+    tells = inr (record {
       pieces = h.pieces;
       so_far = so_far_of_end old.state h.given l h.pieces h.ends;
-      told = then_failed h.pieces old new a b c h.told sends;
+      tells = then_failed h.pieces old new a b c h.tells sends;
     });
   },
   tt,
@@ -295,10 +295,10 @@ not_taken n k old new i j l a b c waits Write h takes = (
   record {
     given = h.given;
     heard = subst (λ (s : Source). Hears h.given i s) (sym takes.0) h.hears;
-    told = inr (record {
+    tells = inr (record {
       pieces = answers (opened old.state) h.given;
       so_far = inl refl;
-      told = then_failed (answers (opened old.state) h.given) old new a b c h.told takes.1;
+      tells = then_failed (answers (opened old.state) h.given) old new a b c h.tells takes.1;
     });
   },
   tt,

@@ -16,8 +16,8 @@ last-append s [] ys = refl
 last-append s (x ∷ xs) ys = last-append x.state xs ys
 
 -- no piece
-pub none_told : (m : Whole) (a : Sink) → TellsAll [] m m a a
-none_told m a = record { went = Appends-nil a.written; stands = refl; quiet = refl }
+pub tells_none : (m : Whole) (a : Sink) → TellsAll [] m m a a
+tells_none m a = record { went = Appends-nil a.written; stands = refl; quiet = refl }
 
 -- one piece was cut
 pub one_cut : (p : Piece) (old new : Whole) (a b : Sink) → IsCutShort a.written b.written p.text
@@ -26,9 +26,9 @@ one_cut p old new a b cut stands failed =
     record { done = []; piece = p; others = []; among = refl; stands = stands; cut = cut; failed = failed }
 
 -- some pieces went out, and then more
-pub told_on : (xs ys : List Piece) (old mid new : Whole) (a b c : Sink) → TellsAll xs old mid a b
+pub tells_on : (xs ys : List Piece) (old mid new : Whole) (a b c : Sink) → TellsAll xs old mid a b
     → TellsAll ys mid new b c → TellsAll (xs ++ ys) old new a c
-told_on xs ys old mid new a b c first then = record {
+tells_on xs ys old mid new a b c first then = record {
   went = rw texts-append (Appends-trans a.written b.written c.written (texts xs) (texts ys) first.went then.went);
   stands = rw (last-append old.state xs ys)
       (then.stands ∙ ap (λ (m : Whole). record m { state = last_state m.state ys }) first.stands);
@@ -47,7 +47,7 @@ cut_on xs ys old mid new a b c first then = record {
   cut = record {
     front = then.cut.front;
     byte = then.cut.byte;
-    behind = then.cut.behind;
+    later = then.cut.later;
     whole = then.cut.whole;
     went = rw (texts-append xs then.done, append_assoc)
         (Appends-trans a.written b.written c.written (texts xs) (texts then.done ++ then.cut.front) first.went
@@ -73,10 +73,10 @@ cut_before xs ys old new a b part = record {
 pub record Told (all rest : List Piece) (old new : Whole) (a b : Sink) : Type 0 where
   pub done : List Piece
   pub whole : done ++ rest ≡ all
-  pub told : TellsAll done old new a b
+  pub tells : TellsAll done old new a b
 
-pub nothing_told : (all : List Piece) (m : Whole) (a : Sink) → Told all all m m a a
-nothing_told all m a = record { done = []; whole = refl; told = none_told m a }
+pub tells_nothing : (all : List Piece) (m : Whole) (a : Sink) → Told all all m m a a
+tells_nothing all m a = record { done = []; whole = refl; tells = tells_none m a }
 
 -- one piece more
 pub one_more : (all rest : List Piece) (p : Piece) (old mid new : Whole) (a b c : Sink)
@@ -84,17 +84,17 @@ pub one_more : (all rest : List Piece) (p : Piece) (old mid new : Whole) (a b c 
 one_more all rest p old mid new a b c so_far then = record {
   done = so_far.done ++ p ∷ [];
   whole = append_assoc so_far.done (p ∷ []) rest ∙ so_far.whole;
-  told = told_on so_far.done (p ∷ []) old mid new a b c so_far.told then;
+  tells = tells_on so_far.done (p ∷ []) old mid new a b c so_far.tells then;
 }
 
 -- the last pieces
-pub all_told : (all rest : List Piece) (old mid new : Whole) (a b c : Sink) → Told all rest old mid a b
+pub tells_all : (all rest : List Piece) (old mid new : Whole) (a b c : Sink) → Told all rest old mid a b
     → TellsAll rest mid new b c → TellsAll all old new a c
-all_told all rest old mid new a b c so_far then =
-    rw (sym so_far.whole) (told_on so_far.done rest old mid new a b c so_far.told then)
+tells_all all rest old mid new a b c so_far then =
+    rw (sym so_far.whole) (tells_on so_far.done rest old mid new a b c so_far.tells then)
 
 -- the last pieces were cut
 pub rest_cut : (all rest : List Piece) (old mid new : Whole) (a b c : Sink) → Told all rest old mid a b
     → TellsPart rest mid new b c → TellsPart all old new a c
 rest_cut all rest old mid new a b c so_far then =
-    rw (sym so_far.whole) (cut_on so_far.done rest old mid new a b c so_far.told then)
+    rw (sym so_far.whole) (cut_on so_far.done rest old mid new a b c so_far.tells then)

@@ -45,13 +45,13 @@ abbrev pub opened : State → Talk
 opened s = record { state = s; breakpoints = []; line = Some []; is_open = true }
 
 -- the answer to the line
-abbrev pub line_said : Talk → List Piece
-line_said t = answer t.state t.breakpoints (command_in t.line)
+abbrev pub line_answered : Talk → List Piece
+line_answered t = answer t.state t.breakpoints (command_in t.line)
 
 -- after the answer to the line
 abbrev pub after_line : Talk → Talk
 after_line t = record {
-  state = last_state t.state (line_said t);
+  state = last_state t.state (line_answered t);
   breakpoints = breakpoints_after t.breakpoints (command_in t.line);
   line = Some [];
   is_open = not (quits (command_in t.line));
@@ -61,15 +61,15 @@ abbrev pub is_line_feed : ℕ → Bool
 is_line_feed byte = byte == 10
 
 -- a line feed ends the line, which is answered
-abbrev pub said : Talk → ℕ → List Piece
-said t byte = if is_line_feed byte then line_said t else []
+abbrev pub answered : Talk → ℕ → List Piece
+answered t byte = if is_line_feed byte then line_answered t else []
 
 abbrev pub next : Talk → ℕ → Talk
 next t byte = if is_line_feed byte then after_line t else record t { line = with_byte t.line byte }
 
 -- at the end of the input a last line without a line feed counts, if it has a byte
-abbrev pub said_at_end : Talk → List Piece
-said_at_end t = if is_empty t.line then [] else line_said t
+abbrev pub answered_at_end : Talk → List Piece
+answered_at_end t = if is_empty t.line then [] else line_answered t
 
 -- what is kept, with the machine's state, before a byte
 abbrev pub talk : State → Kept → Talk
@@ -88,11 +88,11 @@ after_bytes t (byte ∷ bytes) = if t.is_open then after_bytes (next t byte) byt
 
 unfoldable pub answers : Talk → List ℕ → List Piece
 answers t [] = []
-answers t (byte ∷ bytes) = if t.is_open then said t byte ++ answers (next t byte) bytes else []
+answers t (byte ∷ bytes) = if t.is_open then answered t byte ++ answers (next t byte) bytes else []
 
 -- the answers to an input that has ended
 abbrev pub all_answers : State → List ℕ → List Piece
-all_answers s given = answers (opened s) given ++ said_at_end (after_bytes (opened s) given)
+all_answers s given = answers (opened s) given ++ answered_at_end (after_bytes (opened s) given)
 
 -- ---- what of the pieces went out
 
@@ -193,14 +193,14 @@ pub record Holds (old new : Whole) (before after : Source) (out out' : Sink) : T
   pub heard : Hears given before after
   pub pieces : List Piece
   pub ends : Ends old.state given after pieces
-  pub told : TellsAll pieces old new out out'
+  pub tells : TellsAll pieces old new out out'
 
 -- the reader failed: what it returned before was read, and the whole lines are answered
 pub record FailsToRead (old new : Whole) (before after : Source) (out out' : Sink) : Type 0 where
   pub given : List ℕ
   pub gave : Consumes before.left after.left given
   pub missed : after.misses ≡ before.misses + 1
-  pub told : TellsAll (answers (opened old.state) given) old new out out'
+  pub tells : TellsAll (answers (opened old.state) given) old new out out'
 
 -- the pieces so far: the answers to what was read, at the end of the input that to a last line too
 abbrev pub AreSoFar : State → List ℕ → Source → List Piece → Type 0
@@ -211,13 +211,13 @@ AreSoFar s given after pieces =
 pub record FailsToHandOn (given : List ℕ) (old new : Whole) (after : Source) (out out' : Sink) : Type 0 where
   pub pieces : List Piece
   pub so_far : AreSoFar old.state given after pieces
-  pub told : TellsAllThenFails pieces old new out out'
+  pub tells : TellsAllThenFails pieces old new out out'
 
 -- the writer failed in the answers to what was read, or behind all of them
 pub record FailsToWrite (old new : Whole) (before after : Source) (out out' : Sink) : Type 0 where
   pub given : List ℕ
   pub heard : Hears given before after
-  pub told : TellsPart (all_answers old.state given) old new out out' ⊎ FailsToHandOn given old new after out out'
+  pub tells : TellsPart (all_answers old.state given) old new out out' ⊎ FailsToHandOn given old new after out out'
 
 abbrev pub Sessions : Whole → Whole → Source → Source → Sink → Sink → Result (Unit {0}) SessionError → Type 0
 Sessions old new before after out out' (Ok done) = Holds old new before after out out'

@@ -6,11 +6,11 @@ ghost use Rattle.debugger.specs.Sessions.{Tells};
 
 use debugger_commands::{Breakpoints, end_text};
 use machine::{
-    CodeLines, Decider, DueTicks, IoError, Levels, LineRoom, Machine, Out, is_instruction,
+    Decider, DueTicks, IoError, KeptCode, Levels, LineRoom, Machine, Out, is_instruction,
 };
 
 /// Makes a step and writes its lines.
-pub fn write_step<D: Decider, C: CodeLines, L: Levels, U: DueTicks, W: Out>(
+pub fn write_step<D: Decider, C: KeptCode, L: Levels, U: DueTicks, W: Out>(
     machine: &mut Machine<D, C, L, U>,
     room: &mut LineRoom,
     out: &mut W,
@@ -24,7 +24,7 @@ pub fn write_step<D: Decider, C: CodeLines, L: Levels, U: DueTicks, W: Out>(
 }
 
 /// Returns whether the next step is an instruction at a breakpoint.
-fn is_hit<D: Decider, C: CodeLines, L: Levels, U: DueTicks>(
+fn is_hit<D: Decider, C: KeptCode, L: Levels, U: DueTicks>(
     machine: &Machine<D, C, L, U>,
     breakpoints: &Breakpoints,
 ) -> bool
@@ -34,7 +34,7 @@ fn is_hit<D: Decider, C: CodeLines, L: Levels, U: DueTicks>(
 }
 
 /// Returns whether a run ends after a step: the machine has stopped, or a breakpoint is hit.
-fn ends_at<D: Decider, C: CodeLines, L: Levels, U: DueTicks>(
+fn ends_at<D: Decider, C: KeptCode, L: Levels, U: DueTicks>(
     machine: &Machine<D, C, L, U>,
     breakpoints: &Breakpoints,
 ) -> bool
@@ -44,7 +44,7 @@ fn ends_at<D: Decider, C: CodeLines, L: Levels, U: DueTicks>(
 }
 
 /// Writes where the machine is: its stop, or the address of the next instruction.
-fn put_end<D: Decider, C: CodeLines, L: Levels, U: DueTicks, W: Out>(
+fn put_end<D: Decider, C: KeptCode, L: Levels, U: DueTicks, W: Out>(
     machine: &Machine<D, C, L, U>,
     out: &mut W,
 ) -> Result<(), IoError>
@@ -59,7 +59,7 @@ fn put_end<D: Decider, C: CodeLines, L: Levels, U: DueTicks, W: Out>(
 
 /// Makes at most `steps` steps after the first one of a run, and writes their lines and where the
 /// machine is then.
-fn run_on<D: Decider, C: CodeLines, L: Levels, U: DueTicks, W: Out>(
+fn run_on<D: Decider, C: KeptCode, L: Levels, U: DueTicks, W: Out>(
     machine: &mut Machine<D, C, L, U>,
     breakpoints: &Breakpoints,
     steps: u32,
@@ -87,7 +87,7 @@ fn run_on<D: Decider, C: CodeLines, L: Levels, U: DueTicks, W: Out>(
 
 /// Makes at most `steps` steps, and writes their lines and where the machine is then. A machine that
 /// has stopped makes none.
-pub fn run<D: Decider, C: CodeLines, L: Levels, U: DueTicks, W: Out>(
+pub fn run<D: Decider, C: KeptCode, L: Levels, U: DueTicks, W: Out>(
     machine: &mut Machine<D, C, L, U>,
     breakpoints: &Breakpoints,
     steps: u32,

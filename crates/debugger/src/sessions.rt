@@ -2,7 +2,7 @@
 
 ghost use Rattle.std.specs.Prelude.{◌≡◌, [], true, Some, OnErr};
 ghost use Rattle.debugger.specs.Answers.{answer, reply_text};
-ghost use Rattle.debugger.specs.Sessions.{after_line, GivesByte, GoesOn, line_said, next, NothingWaits, said, said_at_end, SendsBefore, SendsRest, Sessions, TakesNext, talk, Tells};
+ghost use Rattle.debugger.specs.Sessions.{after_line, GivesByte, GoesOn, line_answered, next, NothingWaits, answered, answered_at_end, SendsBefore, SendsRest, Sessions, TakesNext, talk, Tells};
 ghost use Rattle.debugger_commands.specs.Breakpoints.{breakpoints_after};
 
 use crate::answers::run;
@@ -12,7 +12,7 @@ use debugger_commands::{
     Answer, Breakpoints, Command, LineError, Listener, decision_text, error_text, quits, read_line,
     steps_of, task_steps_of,
 };
-use machine::{CodeLines, Decider, DueTicks, In, IoError, Levels, Machine, Out};
+use machine::{Decider, DueTicks, In, IoError, KeptCode, Levels, Machine, Out};
 use std::marker::Model;
 
 /// Why a session ends before its input does.
@@ -51,7 +51,7 @@ impl Debugger {
     }
 
     /// Returns the answer to a line that makes no step.
-    fn reply<D: Decider, C: CodeLines, L: Levels, U: DueTicks>(
+    fn reply<D: Decider, C: KeptCode, L: Levels, U: DueTicks>(
         &mut self,
         machine: &Machine<D, C, L, U>,
         asked: Result<Command, LineError>,
@@ -73,13 +73,13 @@ impl Debugger {
     }
 
     /// Answers a line.
-    fn answer<D: Decider, C: CodeLines, L: Levels, U: DueTicks, W: Out>(
+    fn answer<D: Decider, C: KeptCode, L: Levels, U: DueTicks, W: Out>(
         &mut self,
         machine: &mut Machine<D, C, L, U>,
         asked: Result<Command, LineError>,
         out: &mut W,
     ) -> Result<(), IoError>
-        ensures told { Tells (answer machine.old.state self.old.breakpoints asked) machine.old machine.new (record { written = W.written out.old; errors = W.errors out.old }) (record { written = W.written out.new; errors = W.errors out.new }) result }
+        ensures tells { Tells (answer machine.old.state self.old.breakpoints asked) machine.old machine.new (record { written = W.written out.old; errors = W.errors out.old }) (record { written = W.written out.new; errors = W.errors out.new }) result }
         ensures kept { self.new ≡ record self.old { breakpoints = breakpoints_after self.old.breakpoints asked } }
     {
         match steps_of(asked) {
@@ -98,12 +98,12 @@ impl Debugger {
     }
 
     /// Answers the line that was read, and begins the next one. Returns whether the session goes on.
-    fn answer_line<D: Decider, C: CodeLines, L: Levels, U: DueTicks, W: Out>(
+    fn answer_line<D: Decider, C: KeptCode, L: Levels, U: DueTicks, W: Out>(
         &mut self,
         machine: &mut Machine<D, C, L, U>,
         out: &mut W,
     ) -> Result<bool, IoError>
-        ensures told { Tells (line_said (talk machine.old.state self.old)) machine.old machine.new (record { written = W.written out.old; errors = W.errors out.old }) (record { written = W.written out.new; errors = W.errors out.new }) result }
+        ensures tells { Tells (line_answered (talk machine.old.state self.old)) machine.old machine.new (record { written = W.written out.old; errors = W.errors out.old }) (record { written = W.written out.new; errors = W.errors out.new }) result }
         ensures kept { GoesOn (after_line (talk machine.old.state self.old)) self.new result }
     {
         let asked = read_line(self.listener.line());
@@ -115,13 +115,13 @@ impl Debugger {
     }
 
     /// Takes a byte of the input. Returns whether the session goes on.
-    fn hear<D: Decider, C: CodeLines, L: Levels, U: DueTicks, W: Out>(
+    fn hear<D: Decider, C: KeptCode, L: Levels, U: DueTicks, W: Out>(
         &mut self,
         machine: &mut Machine<D, C, L, U>,
         byte: u8,
         out: &mut W,
     ) -> Result<bool, IoError>
-        ensures told { Tells (said (talk machine.old.state self.old) byte) machine.old machine.new (record { written = W.written out.old; errors = W.errors out.old }) (record { written = W.written out.new; errors = W.errors out.new }) result }
+        ensures tells { Tells (answered (talk machine.old.state self.old) byte) machine.old machine.new (record { written = W.written out.old; errors = W.errors out.old }) (record { written = W.written out.new; errors = W.errors out.new }) result }
         ensures kept { GoesOn (next (talk machine.old.state self.old) byte) self.new result }
     {
         if byte == b'\n' {
@@ -136,12 +136,12 @@ impl Debugger {
     }
 
     /// Answers a last line without a line feed, if it has a byte.
-    fn finish<D: Decider, C: CodeLines, L: Levels, U: DueTicks, W: Out>(
+    fn finish<D: Decider, C: KeptCode, L: Levels, U: DueTicks, W: Out>(
         &mut self,
         machine: &mut Machine<D, C, L, U>,
         out: &mut W,
     ) -> Result<(), IoError>
-        ensures { Tells (said_at_end (talk machine.old.state self.old)) machine.old machine.new (record { written = W.written out.old; errors = W.errors out.old }) (record { written = W.written out.new; errors = W.errors out.new }) result }
+        ensures { Tells (answered_at_end (talk machine.old.state self.old)) machine.old machine.new (record { written = W.written out.old; errors = W.errors out.old }) (record { written = W.written out.new; errors = W.errors out.new }) result }
     {
         if self.listener.is_empty() {
             return Ok(());
@@ -156,7 +156,7 @@ impl Debugger {
 /// Reads commands, one a line, and writes their answers, up to `quit` or the end of the input. What waits to be
 /// sent is sent before a call of the reader that may wait, and at the end. Where the reader or the writer fails,
 /// the machine is in its state after the steps that were made.
-pub fn session<D: Decider, C: CodeLines, L: Levels, U: DueTicks, I: In, W: Out>(
+pub fn session<D: Decider, C: KeptCode, L: Levels, U: DueTicks, I: In, W: Out>(
     machine: &mut Machine<D, C, L, U>,
     reader: &mut I,
     out: &mut W,

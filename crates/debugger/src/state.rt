@@ -7,7 +7,7 @@ ghost use Rattle.reference.specs.declared.exception.TheConstants.{EXCEPTIONS};
 
 use crate::texts::{regions_text, registers_text};
 use debugger_commands::{Answer, put_register};
-use machine::{CodeLines, Decider, DueTicks, IoError, Levels, Machine, Out, StatusRegister};
+use machine::{Decider, DueTicks, IoError, KeptCode, Levels, Machine, Out, StatusRegister};
 use reference::exception::EXCEPTIONS;
 use trace::page::Page;
 
@@ -15,7 +15,7 @@ use trace::page::Page;
 type StatePage = Page<0x4000>;
 
 /// Appends the line of the clock.
-#[tactic(auto, using(debugger_commands::proofs::Parts::in_three))]
+#[tactic(auto, using(debugger_commands::proofs::Concatenation::in_three))]
 fn put_clock(page: &mut StatePage, ticks: u64)
     requires { length page.old ≤ 1024 }
     ensures text { page.new ≡ page.old ++ clock_line ticks }
@@ -28,7 +28,7 @@ fn put_clock(page: &mut StatePage, ticks: u64)
 
 /// Returns the lines of the registers of faults, of VTOR and of CCR.
 #[tactic(auto, unfolding(crate::specs::StateText::status_lines, reference::specs::Status::read_status))]
-fn status_text<D: Decider, C: CodeLines, L: Levels, U: DueTicks>(
+fn status_text<D: Decider, C: KeptCode, L: Levels, U: DueTicks>(
     machine: &Machine<D, C, L, U>,
 ) -> Answer
     ensures { result ≡ status_lines machine.now.state.bus.system.status }
@@ -77,7 +77,7 @@ fn put_number_if(page: &mut StatePage, number: u16, there: bool)
 
 /// Appends the line of the pending exceptions.
 #[tactic(auto, unfolding(crate::specs::StateText::numbers_below))]
-fn put_pending<D: Decider, C: CodeLines, L: Levels, U: DueTicks>(
+fn put_pending<D: Decider, C: KeptCode, L: Levels, U: DueTicks>(
     page: &mut StatePage,
     machine: &Machine<D, C, L, U>,
 )
@@ -94,7 +94,7 @@ fn put_pending<D: Decider, C: CodeLines, L: Levels, U: DueTicks>(
 
 /// Appends the line of the active exceptions.
 #[tactic(auto, unfolding(crate::specs::StateText::numbers_below))]
-fn put_active<D: Decider, C: CodeLines, L: Levels, U: DueTicks>(
+fn put_active<D: Decider, C: KeptCode, L: Levels, U: DueTicks>(
     page: &mut StatePage,
     machine: &Machine<D, C, L, U>,
 )
@@ -110,7 +110,7 @@ fn put_active<D: Decider, C: CodeLines, L: Levels, U: DueTicks>(
 
 /// Writes the state of a machine, a line for each value.
 #[tactic(auto, using(crate::proofs::Joining::in_six))]
-pub fn write_state<D: Decider, C: CodeLines, L: Levels, U: DueTicks, W: Out>(
+pub fn write_state<D: Decider, C: KeptCode, L: Levels, U: DueTicks, W: Out>(
     machine: &Machine<D, C, L, U>,
     out: &mut W,
 ) -> Result<(), IoError>

@@ -7,12 +7,12 @@ ghost use Rattle.debugger.specs.Sessions.{Tells};
 use crate::answers::write_step;
 use crate::texts::task_text;
 use machine::{
-    CodeLines, Decider, DueTicks, IoError, Levels, LineRoom, Machine, Out, TaskEnd, end_of_task,
+    Decider, DueTicks, IoError, KeptCode, Levels, LineRoom, Machine, Out, TaskEnd, end_of_task,
     is_instruction,
 };
 
 /// Writes why a run of a task ended.
-fn put_task_end<D: Decider, C: CodeLines, L: Levels, U: DueTicks, W: Out>(
+fn put_task_end<D: Decider, C: KeptCode, L: Levels, U: DueTicks, W: Out>(
     machine: &Machine<D, C, L, U>,
     end: TaskEnd,
     out: &mut W,
@@ -28,7 +28,7 @@ fn put_task_end<D: Decider, C: CodeLines, L: Levels, U: DueTicks, W: Out>(
 
 /// Makes at most `steps` steps, as long as they are Instruction steps, and writes their lines and why
 /// the run ended.
-fn task_on<D: Decider, C: CodeLines, L: Levels, U: DueTicks, W: Out>(
+fn task_on<D: Decider, C: KeptCode, L: Levels, U: DueTicks, W: Out>(
     machine: &mut Machine<D, C, L, U>,
     steps: u32,
     out: &mut W,
@@ -56,7 +56,7 @@ fn task_on<D: Decider, C: CodeLines, L: Levels, U: DueTicks, W: Out>(
 
 /// Makes at most `steps` steps of a task, and writes their lines and why the run ended. A machine that
 /// has stopped, or on which no task runs, makes none.
-pub fn run_task<D: Decider, C: CodeLines, L: Levels, U: DueTicks, W: Out>(
+pub fn run_task<D: Decider, C: KeptCode, L: Levels, U: DueTicks, W: Out>(
     machine: &mut Machine<D, C, L, U>,
     steps: u32,
     out: &mut W,

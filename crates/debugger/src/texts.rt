@@ -6,7 +6,7 @@ ghost use Rattle.debugger_commands.specs.Texts.{bytes_text, memory_text, region_
 ghost use Rattle.reference.specs.declared.mpu.TheConstants.{MOST_REGIONS};
 
 use debugger_commands::{Answer, byte_address, put_byte, put_generals, put_region, put_register};
-use machine::{CodeLines, Decider, DueTicks, Levels, Machine, RegValues, TaskEnd};
+use machine::{Decider, DueTicks, KeptCode, Levels, Machine, RegValues, TaskEnd};
 use reference::mpu::MOST_REGIONS;
 
 /// Appends the lines of the stack pointers, LR, PC and XPSR.
@@ -48,7 +48,7 @@ pub fn registers_text(values: &RegValues) -> Answer
 
 /// Appends the first bytes of memory from an address on.
 #[tactic(auto, unfolding(debugger_commands::specs::Texts::bytes_text))]
-fn put_bytes<D: Decider, C: CodeLines, L: Levels, U: DueTicks>(
+fn put_bytes<D: Decider, C: KeptCode, L: Levels, U: DueTicks>(
     page: &mut Answer,
     machine: &Machine<D, C, L, U>,
     address: u32,
@@ -65,7 +65,7 @@ fn put_bytes<D: Decider, C: CodeLines, L: Levels, U: DueTicks>(
 }
 
 /// Returns the line of `count` bytes of memory.
-pub fn memory_text<D: Decider, C: CodeLines, L: Levels, U: DueTicks>(
+pub fn memory_text<D: Decider, C: KeptCode, L: Levels, U: DueTicks>(
     machine: &Machine<D, C, L, U>,
     address: u32,
     count: u32,
@@ -83,7 +83,7 @@ pub fn memory_text<D: Decider, C: CodeLines, L: Levels, U: DueTicks>(
 
 /// Returns the lines of the regions that the board has.
 #[tactic(auto, unfolding(debugger_commands::specs::Texts::region_lines))]
-pub fn regions_text<D: Decider, C: CodeLines, L: Levels, U: DueTicks>(
+pub fn regions_text<D: Decider, C: KeptCode, L: Levels, U: DueTicks>(
     machine: &Machine<D, C, L, U>,
 ) -> Answer
     ensures { result ≡ region_lines machine.now.state.bus.system.mpu MOST_REGIONS }

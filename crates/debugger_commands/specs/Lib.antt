@@ -1,5 +1,5 @@
 pub mod Breakpoints
 pub mod Commands
-pub mod Seen
+pub mod TwoWords
 pub mod Texts
 pub mod Words

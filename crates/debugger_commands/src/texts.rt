@@ -100,7 +100,7 @@ fn put_region_name(page: &mut Answer, number: u8)
 }
 
 /// Appends the line of a region by its RBAR and RASR.
-#[tactic(auto, using(crate::proofs::Parts::in_three))]
+#[tactic(auto, using(crate::proofs::Concatenation::in_three))]
 fn put_region_words(page: &mut Answer, number: u8, rbar: u32, rasr: u32)
     requires { length page.old + 40 ≤ 1024 }
     ensures text { page.new ≡ page.old ++ words_line number rbar rasr }

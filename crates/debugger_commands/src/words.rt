@@ -2,7 +2,7 @@
 
 ghost use Rattle.std.specs.Prelude.{◌≡◌, ◌<◌, length, position, option_map, IfSome};
 ghost use Rattle.debugger_commands.specs.Words.{first_word, is_space, more_words, one_word, two_words, three_words};
-ghost use Rattle.debugger_commands.specs.Seen.{seen_two, seen_three};
+ghost use Rattle.debugger_commands.specs.TwoWords.{seen_two, seen_three};
 
 /// Two words.
 #[derive(Clone, Copy)]

@@ -1,2 +1,2 @@
-mod Room
+mod LineBounds
 mod Serving

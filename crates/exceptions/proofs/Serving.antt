@@ -12,8 +12,8 @@ use Rattle.reference.specs.State.{Bus}
 use Rattle.trace.specs.Emission.{Emission}
 
 -- what accesses leave behind lines and values that are there already
-abbrev pub behind : List Event → List ℕ → ListResult → ListResult
-behind events values all = record all { events = events ++ all.events; values = values ++ all.values }
+abbrev pub added_to : List Event → List ℕ → ListResult → ListResult
+added_to events values all = record all { events = events ++ all.events; values = values ++ all.values }
 
 -- the lines of one access, and its value or failure
 abbrev pub lines_by : ℕ → ℕ → Bus → Request → List Event
@@ -39,7 +39,7 @@ unfolding perform_all
 none_left exception tick b = refl
 
 followed_on : (events : List Event) (values : List ℕ) (lines : List Event) (after : Bus) (value : ℕ) (rest : ListResult)
-    → behind events values (followed lines after (Ok value) rest) ≡ behind (events ++ lines) (values ++ value ∷ []) rest
+    → added_to events values (followed lines after (Ok value) rest) ≡ added_to (events ++ lines) (values ++ value ∷ []) rest
 followed_on events values lines after value rest =
     rw (append_assoc events lines rest.events, append_assoc values (value ∷ []) rest.values) refl
 
@@ -48,8 +48,8 @@ pub one_more : (exception tick : ℕ) (b : Bus) (qs : List Request) (i value : �
     (events : List Event) (values : List ℕ) → i < length qs
     → (let q = get_or qs i d in
     value_by exception b q ≡ Ok value
-    → behind events values (perform_from exception tick b qs i)
-    ≡ behind (events ++ lines_by exception tick b q) (values ++ value ∷ [])
+    → added_to events values (perform_from exception tick b qs i)
+    ≡ added_to (events ++ lines_by exception tick b q) (values ++ value ∷ [])
     (perform_from exception tick (perform exception b q).bus qs (i + 1)))
 one_more exception tick b qs i value d events values below went =
     rw (drop-cons qs i d below, add-one, front, went)
@@ -61,7 +61,7 @@ one_more exception tick b qs i value d events values below went =
 pub ended_early : (exception tick : ℕ) (b : Bus) (qs : List Request) (i : ℕ) (d : Request) (why : Failure)
     (events : List Event) (values : List ℕ) (all : ListResult) → i < length qs
     → (let q = get_or qs i d in
-    value_by exception b q ≡ Err why → behind events values (perform_from exception tick b qs i) ≡ all
+    value_by exception b q ≡ Err why → added_to events values (perform_from exception tick b qs i) ≡ all
     → ((perform exception b q).bus ≡ all.bus) × (events ++ lines_by exception tick b q ≡ all.events)
     × (all.failure ≡ Some why))
 ended_early exception tick b qs i d why events values all below failed rest =
@@ -74,7 +74,7 @@ ended_early exception tick b qs i d why events values all below failed rest =
 -- no access is left
 pub all_served : (exception tick : ℕ) (b : Bus) (qs : List Request) (i : ℕ) (events : List Event)
     (values : List ℕ) (all : ListResult) → length qs ≤ i
-    → behind events values (perform_from exception tick b qs i) ≡ all
+    → added_to events values (perform_from exception tick b qs i) ≡ all
     → (b ≡ all.bus) × (events ≡ all.events) × (values ≡ all.values) × (all.failure ≡ None)
 all_served exception tick b qs i events values all past rest =
     let whole = rw (drop_of_length-le qs past, none_left, append-nil events, append-nil values) at rest in (
@@ -92,14 +92,14 @@ emitted_all start now all same whole = same ∙ ap (λ (es : List Event). record
 -- it took more events after those
 pub emitted_on : (start mid new : Emission) (more all : List Event) → new ≡ record mid { events = mid.events ++ more }
     → mid ≡ record start { events = mid.events } → mid.events ++ more ≡ all → new ≡ record start { events = all }
-emitted_on start mid new more all access_lines same whole =
-    access_lines ∙ ap (λ (m : Emission). record m { events = mid.events ++ more }) same
+emitted_on start mid new more all grown same whole =
+    grown ∙ ap (λ (m : Emission). record m { events = mid.events ++ more }) same
     ∙ ap (λ (es : List Event). record start { events = es }) whole
 
 -- and is still otherwise as it was at the start
 pub still_before : (start mid new : Emission) (events : List Event) → new ≡ record mid { events = events }
     → mid ≡ record start { events = mid.events } → new ≡ record start { events = new.events }
-still_before start mid new events access_lines same =
+still_before start mid new events grown same =
     let whole : new ≡ record start { events = events } =
-    access_lines ∙ ap (λ (m : Emission). record m { events = events }) same in
+    grown ∙ ap (λ (m : Emission). record m { events = events }) same in
     whole ∙ ap (λ (es : List Event). record start { events = es }) (sym (ap (λ (e : Emission). e.events) whole))

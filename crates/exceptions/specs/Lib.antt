@@ -1,2 +1,2 @@
-pub mod Room
+pub mod LineBounds
 pub mod Serving

@@ -1,14 +1,14 @@
 //! The accesses of a step, one by one, and their lines.
 
 ghost use Rattle.std.specs.Prelude.{◌≡◌, ◌+◌, ◌≤◌, ◌<◌, ◌^◌, ◌%◌, ◌++◌, length, IfOk};
-ghost use Rattle.exceptions.specs.Room.{lines_of, most_lines};
+ghost use Rattle.exceptions.specs.LineBounds.{lines_of, most_lines};
 ghost use Rattle.exceptions.specs.Serving.{Serves, done_lines};
 ghost use Rattle.instruction_set.specs.Sizes.{bytes_in};
 ghost use Rattle.reference.specs.Accesses.{accessed, access_lines, value_of, perform, perform_all};
 ghost use Rattle.reference.specs.declared.event.EventKind.TheVariants.{ConsoleByte};
 ghost use Rattle.trace.specs.Emission.{with_emitted};
 
-use access::{Bus, CodeLines, Decider, DueTicks, Levels, is_out};
+use access::{Bus, Decider, DueTicks, KeptCode, Levels, is_out};
 use bounded::Bounded;
 use reference::access::{Cause, DecidedAccess, MOST_REQUESTS, Performed, Request, Rule};
 use reference::event::{Event, EventKind, MOST_EVENTS};
@@ -25,7 +25,7 @@ pub type Values = Bounded<u32, MOST_REQUESTS>;
 /// `exception` is the number of the exception that runs. `values` becomes what they read. Its
 /// definition is `perform_all` of Accesses.antt; `served` of Step.antt is the rest of a step after it.
 #[inline(always)]
-pub fn serve<D: Decider, C: CodeLines, L: Levels, U: DueTicks, S: Sink>(
+pub fn perform_all<D: Decider, C: KeptCode, L: Levels, U: DueTicks, S: Sink>(
     exception: u16,
     bus: &mut Bus<D, C, L, U>,
     tick: u64,
@@ -53,7 +53,7 @@ pub fn serve<D: Decider, C: CodeLines, L: Levels, U: DueTicks, S: Sink>(
 
 /// Makes one access, and appends its lines. Most are to flash or RAM, by a rule that is kept.
 #[inline(always)]
-pub fn access<D: Decider, C: CodeLines, L: Levels, U: DueTicks, S: Sink>(
+pub fn access<D: Decider, C: KeptCode, L: Levels, U: DueTicks, S: Sink>(
     exception: u16,
     bus: &mut Bus<D, C, L, U>,
     tick: u64,
@@ -78,7 +78,7 @@ pub fn access<D: Decider, C: CodeLines, L: Levels, U: DueTicks, S: Sink>(
 /// of an access that never comes here in the host's registers.
 #[cold]
 #[inline(never)]
-fn access_whole<D: Decider, C: CodeLines, L: Levels, U: DueTicks, S: Sink>(
+fn access_whole<D: Decider, C: KeptCode, L: Levels, U: DueTicks, S: Sink>(
     exception: u16,
     bus: &mut Bus<D, C, L, U>,
     tick: u64,

@@ -9,7 +9,7 @@ ghost use Rattle.trace.specs.Emission.{with_emitted};
 use crate::accesses::{Requests, Values};
 use crate::faults::vector_fault;
 use crate::state::Core;
-use access::{CodeLines, Decider, DueTicks, Levels};
+use access::{Decider, DueTicks, KeptCode, Levels};
 use instruction_set::size::Size;
 use reference::access::{Access, Kind, Request};
 use reference::event::{Event, EventKind, MOST_EVENTS};
@@ -61,9 +61,9 @@ fn pushes(regs: &Regs) -> Requests
     )
 }
 
-impl<D: Decider, C: CodeLines, L: Levels, U: DueTicks> Core<D, C, L, U> {
+impl<D: Decider, C: KeptCode, L: Levels, U: DueTicks> Core<D, C, L, U> {
     /// Pushes the frame: a Stack step.
-    #[tactic(auto, using(crate::proofs::Room::pushed_lines, crate::proofs::Room::pushed_words), unfolding(reference::specs::ExceptionEntry::begin_entry))]
+    #[tactic(auto, using(crate::proofs::LineBounds::pushed_lines, crate::proofs::LineBounds::pushed_words), unfolding(reference::specs::ExceptionEntry::begin_entry))]
     pub fn begin_entry<S: Sink>(&mut self, events: &mut S)
         requires { (S.emitted events.old).events ≡ [] }
         ensures state { self.new ≡ (begin_entry self.old).state }
@@ -71,7 +71,7 @@ impl<D: Decider, C: CodeLines, L: Levels, U: DueTicks> Core<D, C, L, U> {
     {
         let requests = pushes(&self.regs);
         let mut values = Values::new();
-        let pushed = self.serve(events, requests.as_slice(), &mut values);
+        let pushed = self.perform_all(events, requests.as_slice(), &mut values);
         self.entry = Some(self.regs.exc_return());
         self.regs.reserve_frame();
         self.asleep = false;

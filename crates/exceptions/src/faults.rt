@@ -5,7 +5,7 @@ ghost use Rattle.reference.specs.Faults.{access_fault, fault_of as fault_of_acce
 ghost use Rattle.trace.specs.Emission.{with_emitted};
 
 use crate::state::Core;
-use access::{CodeLines, Decider, DueTicks, Levels};
+use access::{Decider, DueTicks, KeptCode, Levels};
 use reference::access::{Access, Cause, Kind};
 use reference::event::{Event, EventKind, MOST_EVENTS, RecordedFault};
 use reference::exception::{BUS_FAULT, Escalation, HARD_FAULT, MEM_MANAGE, SV_CALL, USAGE_FAULT};
@@ -105,7 +105,7 @@ pub fn usage_fault_of(fault: UsageFault) -> FaultEffect
     })
 }
 
-impl<D: Decider, C: CodeLines, L: Levels, U: DueTicks> Core<D, C, L, U> {
+impl<D: Decider, C: KeptCode, L: Levels, U: DueTicks> Core<D, C, L, U> {
     /// Sets the bits and the address of a fault.
     pub fn record(&mut self, fault: FaultEffect)
         ensures { self.new ≡ recorded self.old fault }

@@ -5,8 +5,8 @@
 ghost use Rattle.std.specs.Prelude.{◌≡◌, ◌^◌, ◌+◌};
 
 use reference::exception::{
-    BUS_FAULT, EXCEPTIONS, FIRST_LINE, HARD_FAULT, MEM_MANAGE, MOST_LINES, NMI, PEND_SV, SV_CALL,
-    SYS_TICK, USAGE_FAULT,
+    BUS_FAULT, EXCEPTIONS, FIRST_INTERRUPT, HARD_FAULT, MEM_MANAGE, MOST_INTERRUPTS, NMI, PEND_SV,
+    SV_CALL, SYS_TICK, USAGE_FAULT,
 };
 use reference::fault_status::{
     BFARVALID, DACCVIOL, DIVBYZERO, FORCED, IACCVIOL, IBUSERR, INVPC, INVSTATE, MMARVALID, MSTKERR,
@@ -17,7 +17,7 @@ use reference::fault_status::{
 pub fn exceptions_have_their_numbers()
     ensures faults { (NMI ≡ 2) × (HARD_FAULT ≡ 3) × (MEM_MANAGE ≡ 4) × (BUS_FAULT ≡ 5) × (USAGE_FAULT ≡ 6) }
     ensures calls { (SV_CALL ≡ 11) × (PEND_SV ≡ 14) × (SYS_TICK ≡ 15) }
-    ensures lines { (FIRST_LINE ≡ 16) × (MOST_LINES ≡ 240) × (EXCEPTIONS ≡ FIRST_LINE + MOST_LINES) }
+    ensures lines { (FIRST_INTERRUPT ≡ 16) × (MOST_INTERRUPTS ≡ 240) × (EXCEPTIONS ≡ FIRST_INTERRUPT + MOST_INTERRUPTS) }
 {}
 
 /// The bits of MMFSR, BFSR and UFSR in CFSR, and those of HFSR.

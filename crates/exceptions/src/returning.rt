@@ -13,7 +13,7 @@ ghost use Rattle.trace.specs.Emission.{with_emitted};
 use crate::accesses::{Requests, Values};
 use crate::entry::words_from;
 use crate::state::Core;
-use access::{CodeLines, Decider, DueTicks, Levels};
+use access::{Decider, DueTicks, KeptCode, Levels};
 use instruction_set::unpredictable::UnpredictableCase;
 use reference::access::Kind;
 use reference::event::{Event, EventKind, MOST_EVENTS};
@@ -77,7 +77,7 @@ fn pops(regs: &Regs, exc_return: u32) -> Requests
     )
 }
 
-impl<D: Decider, C: CodeLines, L: Levels, U: DueTicks> Core<D, C, L, U> {
+impl<D: Decider, C: KeptCode, L: Levels, U: DueTicks> Core<D, C, L, U> {
     /// Returns from an exception.
     #[tactic(auto, unfolding(reference::specs::ExceptionReturn::exception_return))]
     pub fn return_from<S: Sink>(&mut self, events: &mut S, exc_return: u32)
@@ -152,7 +152,7 @@ impl<D: Decider, C: CodeLines, L: Levels, U: DueTicks> Core<D, C, L, U> {
     }
 
     /// Pops the frame.
-    #[tactic(auto, using(crate::proofs::Room::popped_lines, crate::proofs::Room::popped_words), unfolding(reference::specs::ExceptionReturn::pop_stack))]
+    #[tactic(auto, using(crate::proofs::LineBounds::popped_lines, crate::proofs::LineBounds::popped_words), unfolding(reference::specs::ExceptionReturn::pop_stack))]
     fn pop_stack<S: Sink>(&mut self, events: &mut S, exc_return: u32)
         requires { length (S.emitted events.old).events + 9 ≤ MOST_EVENTS }
         ensures state { self.new ≡ (pop_stack self.old (S.emitted events.old).events exc_return).state }
@@ -160,7 +160,7 @@ impl<D: Decider, C: CodeLines, L: Levels, U: DueTicks> Core<D, C, L, U> {
     {
         let requests = pops(&self.regs, exc_return);
         let mut values = Values::new();
-        let served = self.serve(events, requests.as_slice(), &mut values);
+        let served = self.perform_all(events, requests.as_slice(), &mut values);
         match served {
             Ok(()) => self.unstack(events, exc_return, values.as_slice()),
             Err(failure) => {

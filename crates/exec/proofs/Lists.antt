@@ -117,10 +117,10 @@ pub listed_loaded : (list low place : ℕ) (values : List ℕ) (r : Registers) �
     (with_register r low (slice_index values place))
     ≡ loaded (registers_between list low 15) (drop place values) r
 listed_loaded list low place values r below has =
-    let behind : drop 1 (drop place values) ≡ drop (place + 1) values = drop-drop 1 place values in
+    let later : drop 1 (drop place values) ≡ drop (place + 1) values = drop-drop 1 place values in
     let first : slice_index (drop place values) 0 ≡ slice_index values place =
     let none : place + 0 ≡ place = omega arith in get_or-drop place values 0 0 ∙ ap (λ k. slice_index values k) none in
-    rw (listed list low 15 below has, loaded_one, behind, first) refl
+    rw (listed list low 15 below has, loaded_one, later, first) refl
 
 -- one that it hasn't takes none
 pub unlisted_loaded : (list low : ℕ) (values : List ℕ) (r : Registers) → low < 15 → is_bit list low ≡ false →

@@ -26,7 +26,7 @@ const LR: u8 = 14;
 /// Appends the accesses of a branch: the entry of the table for TBB and TBH.
 #[inline]
 #[tactic(auto, unfolding(reference::specs::Branches::branch_requests))]
-pub fn plan(
+pub fn wants(
     branch: &Branch,
     regs: &Regs,
     traps: Traps,

@@ -25,7 +25,7 @@ use regs::Regs;
 
 /// Appends the access of an exclusive.
 #[tactic(auto, unfolding(reference::specs::Exclusives::exclusive_requests))]
-pub fn plan(instruction: &Exclusive, regs: &Regs, requests: &mut Requests) -> Result<(), Failure>
+pub fn wants(instruction: &Exclusive, regs: &Regs, requests: &mut Requests) -> Result<(), Failure>
     requires { requests.old.items ≡ [] }
     ensures { planned requests.new result ≡ exclusive_requests instruction.now regs.now }
 {

@@ -18,7 +18,7 @@ pub use at_once::carry_out_at_once;
 pub use finishing::finish;
 pub use instruction_set::instruction::{CodedInstruction, Instruction};
 pub use one_access::{finish_single, single_access};
-pub use planning::{Requests, is_misplaced, plan};
+pub use planning::{Requests, is_misplaced, wants};
 pub use program_counter::move_on;
 pub use reference::access::Request;
 pub use reference::ending::Ending;

@@ -21,7 +21,7 @@ pub type Requests = Bounded<Request, MOST_REQUESTS>;
 /// condition fails it has none.
 #[inline]
 #[tactic(auto, unfolding(reference::specs::Operations::wants))]
-pub fn plan(
+pub fn wants(
     coded: &CodedInstruction,
     regs: &Regs,
     traps: Traps,
@@ -55,11 +55,11 @@ fn plan_family(
     ensures { planned requests.new result ≡ requests_of traps instruction.now regs.now }
 {
     match instruction {
-        Instruction::DataProcessing(i) => processing::plan(i, regs, traps, requests),
-        Instruction::LoadStore(i) => load_store::plan(i, regs, traps, requests),
-        Instruction::LoadStoreMultiple(i) => load_store_multiple::plan(i, regs, requests),
-        Instruction::Exclusive(i) => exclusives::plan(i, regs, requests),
-        Instruction::Branch(i) => branches::plan(i, regs, traps, requests),
+        Instruction::DataProcessing(i) => processing::wants(i, regs, traps, requests),
+        Instruction::LoadStore(i) => load_store::wants(i, regs, traps, requests),
+        Instruction::LoadStoreMultiple(i) => load_store_multiple::wants(i, regs, requests),
+        Instruction::Exclusive(i) => exclusives::wants(i, regs, requests),
+        Instruction::Branch(i) => branches::wants(i, regs, traps, requests),
         Instruction::System(_) => Ok(()),
     }
 }

@@ -3,6 +3,6 @@ pub mod Fetching
 mod Foreseen
 mod Loading
 pub mod Running
-mod Room
+mod StepBounds
 pub mod Selecting
 mod Tasking

@@ -41,9 +41,9 @@ pub none_made : (s : State) → after 0 s ≡ s
 unfolding after
 none_made s = refl
 
-pub none_told : (s : State) → lines (events_of 0 s) ≡ []
+pub none_shown : (s : State) → lines (events_of 0 s) ≡ []
 unfolding events_of lines
-none_told s = refl
+none_shown s = refl
 
 -- the lines of more events stand behind those of the first
 pub lines-append : (xs ys : List Event) → lines (xs ++ ys) ≡ lines xs ++ lines ys
@@ -51,9 +51,9 @@ unfolding lines
 lines-append [] ys = refl
 lines-append (x ∷ xs) ys = rw (lines-append xs ys, append_assoc) refl
 
-pub told_more : (n : ℕ) (s : State)
+pub shown_more : (n : ℕ) (s : State)
     → lines (events_of (n + 1) s) ≡ lines (events_of n s) ++ lines (step (after n s)).events
-told_more n s = rw (events_more n s) (lines-append (events_of n s) (step (after n s)).events)
+shown_more n s = rw (events_more n s) (lines-append (events_of n s) (step (after n s)).events)
 
 -- after a stop nothing changes any more
 pub after_stop : (m k : ℕ) (s : State) → IsSome (after m s).stop
@@ -75,11 +75,11 @@ over made limit s few (inr some) = let e : made + (limit - made) ≡ limit = ome
     rw e at (after_stop made (limit - made) s some)
 
 -- the lines of one step more went out
-pub told_on : (old mid new : Option (List ℕ)) (n : ℕ) (s core : State) (shown : List Event)
+pub shown_on : (old mid new : Option (List ℕ)) (n : ℕ) (s core : State) (shown : List Event)
     → Appends old mid (lines (events_of n s)) → Appends mid new (lines shown) → shown ≡ (step core).events
     → core ≡ after n s → Appends old new (lines (events_of (n + 1) s))
-told_on old mid new n s core shown told more same now =
-    rw (told_more n s, ← now, ← same) (Appends-trans old mid new (lines (events_of n s)) (lines shown) told more)
+shown_on old mid new n s core shown before_it more same now =
+    rw (shown_more n s, ← now, ← same) (Appends-trans old mid new (lines (events_of n s)) (lines shown) before_it more)
 
 pub not_some : (o : Option Stop) → is_some o ≡ false → o ≡ None
 not_some None e = refl
@@ -96,7 +96,7 @@ pub cut_after : (old mid new : Option (List ℕ)) (before text : List ℕ) → A
 cut_after old mid new before text went cut = record {
   front = cut.front;
   byte = cut.byte;
-  behind = cut.behind;
+  later = cut.later;
   whole = cut.whole;
   went = Appends-trans old mid new before cut.front went cut.went;
 }
@@ -139,14 +139,14 @@ lines_continue m n s few =
     let e : (m + 1) + (n - (m + 1)) ≡ n = omega arith in
     let all = continues (m + 1) (n - (m + 1)) s in
     let whole : events_of n s ≡ events_of (m + 1) s ++ all.others = rw e at all.whole in
-    (all.others, rw (whole, lines-append (events_of (m + 1) s) all.others, told_more m s, append_assoc) refl)
+    (all.others, rw (whole, lines-append (events_of (m + 1) s) all.others, shown_more m s, append_assoc) refl)
 
 -- what went out before a text that was cut short is a prefix of what begins so
-pub prefix_of : (old new : Option (List ℕ)) (before text behind all : List ℕ) → IsCutAfter old new before text
-    → all ≡ before ++ text ++ behind → GrowsByPrefix old new all
-prefix_of old new before text behind all cut e = record {
+pub prefix_of : (old new : Option (List ℕ)) (before text later all : List ℕ) → IsCutAfter old new before text
+    → all ≡ before ++ text ++ later → GrowsByPrefix old new all
+prefix_of old new before text later all cut e = record {
   front = before ++ cut.front;
-  behind = cut.byte ∷ (cut.behind ++ behind);
+  later = cut.byte ∷ (cut.later ++ later);
   whole = rw (e, cut.whole) (simp append_assoc refl);
   grew = cut.went;
 }

@@ -5,8 +5,8 @@ use Rattle.std.proofs.lemmas.List.{append-nil}
 use Rattle.std.specs.Io.KnownBytes.{Appends}
 use Rattle.std.proofs.KnownBytes.{Appends-trans}
 use Rattle.machine.proofs.Running.{continues, cut_after, events_more, over, prefix_of}
-use Rattle.machine.specs.declared.whole.RunError.{RunError}
-use Rattle.machine.specs.declared.whole.RunError.TheVariants.{Write, Broken}
+use Rattle.machine.specs.declared.machine.RunError.{RunError}
+use Rattle.machine.specs.declared.machine.RunError.TheVariants.{Write, Broken}
 use Rattle.machine.specs.Runs.{Fails, Leaves}
 use Rattle.machine.specs.Selected.{SelectedFails, SelectedLeaves}
 use Rattle.machine.specs.Whole.{Whole}

@@ -4,7 +4,7 @@ use Rattle.std.proofs.Common.{None, refl, sym, subst, arith, below_more}
 use Rattle.std.proofs.lemmas.Bool.Decides.{nat_tests}
 use Rattle.std.proofs.KnownBytes.{Appends-nil}
 use Rattle.std.specs.Io.KnownBytes.{Appends}
-use Rattle.machine.proofs.Running.{cut_after, none_made, none_told}
+use Rattle.machine.proofs.Running.{cut_after, none_made, none_shown}
 use Rattle.machine.specs.Tasks.{TaskIsCut, TaskRuns, end_of}
 use Rattle.output.specs.Output.{IsCutAfter, IsCutShort}
 use Rattle.reference.specs.declared.event.Event.{Event}
@@ -43,7 +43,7 @@ stopped_before n s old why e = record {
   few = omega arith;
   instructions = λ k below. absurd (let none : ⊥ = omega arith in none);
   state = sym (none_made s);
-  written = rw (none_told s) (Appends-nil old);
+  written = rw (none_shown s) (Appends-nil old);
   ends = e;
 }
 

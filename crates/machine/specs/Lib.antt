@@ -1,6 +1,6 @@
 pub use Rattle.task_laws.specs.Foresight
 pub use Rattle.trace.specs.Selection
-pub mod Room
+pub mod StepBounds
 pub mod Runs
 pub mod Selected
 pub mod Starts

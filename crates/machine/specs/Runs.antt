@@ -1,8 +1,8 @@
 -- What a run that a writer cut short leaves.
 use Rattle.std.specs.Prelude.{◌≡◌, ◌⊎◌, ℕ, ◌+◌, ◌-◌, ◌<◌, ◌≤◌, true, List, Option, None, IsSome}
 use Rattle.std.specs.Io.KnownBytes.{Keeps}
-use Rattle.machine.specs.declared.whole.RunError.{RunError}
-use Rattle.machine.specs.declared.whole.RunError.TheVariants.{Write, Broken}
+use Rattle.machine.specs.declared.machine.RunError.{RunError}
+use Rattle.machine.specs.declared.machine.RunError.TheVariants.{Write, Broken}
 use Rattle.output.specs.Output.{IsCutAfter}
 use Rattle.machine.specs.Whole.{Whole}
 use Rattle.reference.specs.Run.{after, events_of, ending_of}

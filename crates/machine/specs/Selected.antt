@@ -1,8 +1,8 @@
 -- What a run that writes a selection of its events leaves where a writer cuts it short.
 use Rattle.std.specs.Prelude.{◌≡◌, ◌⊎◌, ℕ, ◌+◌, ◌-◌, ◌<◌, ◌≤◌, true, List, Option, None, IsSome}
 use Rattle.std.specs.Io.KnownBytes.{Keeps}
-use Rattle.machine.specs.declared.whole.RunError.{RunError}
-use Rattle.machine.specs.declared.whole.RunError.TheVariants.{Write, Broken}
+use Rattle.machine.specs.declared.machine.RunError.{RunError}
+use Rattle.machine.specs.declared.machine.RunError.TheVariants.{Write, Broken}
 use Rattle.machine.specs.Whole.{Whole}
 use Rattle.output.specs.Output.{IsCutAfter}
 use Rattle.reference.specs.Run.{after, events_of, ending_of}

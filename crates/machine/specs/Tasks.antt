@@ -1,8 +1,8 @@
 -- What a run of a task leaves. What a task is, and how a run of it ends, is in Tasks of the crate `task_laws`.
 use Rattle.std.specs.Prelude.{◌≡◌, ℕ, ◌+◌, ◌≤◌, Bool, true, false, if◌then◌else◌, List, Option, Some, None}
 use Rattle.std.specs.Io.KnownBytes.{Appends, Keeps}
-use Rattle.machine.specs.declared.whole.RunError.{RunError}
-use Rattle.machine.specs.declared.whole.RunError.TheVariants.{Write, Broken}
+use Rattle.machine.specs.declared.machine.RunError.{RunError}
+use Rattle.machine.specs.declared.machine.RunError.TheVariants.{Write, Broken}
 use Rattle.machine.specs.Runs.{CutInStep}
 use Rattle.machine.specs.Whole.{Whole}
 use Rattle.reference.specs.declared.stop.Stop.{Stop}

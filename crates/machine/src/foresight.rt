@@ -8,7 +8,7 @@ ghost use Rattle.reference.specs.Step.{sleeps_on};
 ghost use Rattle.task_laws.specs.Foresight.{is_instruction, kind_after, next_kind_of};
 
 use crate::stepping::{CLOCK_END, Processor};
-use access::{CodeLines, Decider, DueTicks, Levels};
+use access::{Decider, DueTicks, KeptCode, Levels};
 use reference::access::{Decision, Kind};
 use task_laws::StepKind;
 
@@ -19,7 +19,7 @@ pub fn is_instruction(kind: Option<StepKind>) -> bool
     matches!(kind, Some(StepKind::Instruction))
 }
 
-impl<D: Decider, C: CodeLines, L: Levels, U: DueTicks> Processor<D, C, L, U> {
+impl<D: Decider, C: KeptCode, L: Levels, U: DueTicks> Processor<D, C, L, U> {
     /// Returns what the next step will do, None where it would only stop.
     pub fn next_kind(&self) -> Option<StepKind>
         ensures { result ≡ next_kind_of self.now }

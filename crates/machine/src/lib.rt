@@ -3,23 +3,24 @@
 
 pub mod foresight;
 pub mod laws;
+mod machine;
 mod placing;
 pub mod readers;
 mod run;
 mod start;
 mod stepping;
 mod task;
-mod whole;
 
 pub use access::{
-    Ahead, CodeLines, Counting, Decider, DueTicks, Levels, PlainLevels, Search, SysTick,
+    Ahead, Counting, Decider, DueTicks, KeptCode, Levels, PlainLevels, Search, SysTick,
 };
-pub use access_table::{KeptDecisions, Table};
-pub use bit_levels::{BitLevels, KeptPriorities};
-pub use board::{Board, InterruptLine, ScriptedEvent, Signal};
-pub use code_lines::{BoardLines, Lines};
+pub use board::{Board, InterruptNumber, ScriptedEvent, Signal};
 pub use decode::Reread;
+pub use decode_table::{BoardDecodeTable, Lines};
 pub use foresight::is_instruction;
+pub use machine::{Fast, Machine, RunError, Slow};
+pub use mpu_table::{KeptDecisions, Table};
+pub use nvic_levels::{BitLevels, KeptPriorities};
 pub use output::{Buffered, Cut, In, IoError, LineRoom, Out, Over, Paged};
 pub use readers::{Execution, RegValues};
 pub use reference::access::{Decision, Kind, Rule};
@@ -35,4 +36,3 @@ pub use task_laws::{StepKind, TaskEnd};
 pub use trace::lines::{Text, event_line, stop_line};
 pub use trace::selection::TraceSelection;
 pub use trace::sink::{Events, Sink};
-pub use whole::{Fast, Machine, RunError, Slow};

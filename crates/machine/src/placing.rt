@@ -8,7 +8,7 @@ ghost use Rattle.reference.specs.Map.{is_in_ppb};
 ghost use Rattle.reference.specs.Places.{place, is_there, is_word_aligned, special_taken, store_of, taken};
 
 use crate::stepping::Processor;
-use access::{CodeLines, Decider, DueTicks, Levels};
+use access::{Decider, DueTicks, KeptCode, Levels};
 use instruction_set::operands::SpecialRegister;
 use instruction_set::registers::Register;
 use instruction_set::size::Size;
@@ -17,7 +17,7 @@ use reference::error::PlaceError;
 use reference::map::is_in_ppb;
 use reference::place::Place;
 
-impl<D: Decider, C: CodeLines, L: Levels, U: DueTicks> Processor<D, C, L, U> {
+impl<D: Decider, C: KeptCode, L: Levels, U: DueTicks> Processor<D, C, L, U> {
     /// Puts a value into a register or a word.
     #[tactic(auto, unfolding(reference::specs::Places::place))]
     pub fn place(&mut self, value: Place) -> Result<(), PlaceError>

@@ -7,7 +7,7 @@ ghost use Rattle.reference.specs.Regions.{shown};
 ghost use Rattle.reference.specs.Status.{read_status};
 
 use crate::stepping::Processor;
-use access::{CodeLines, Decider, DueTicks, Levels, SysTick};
+use access::{Decider, DueTicks, KeptCode, Levels, SysTick};
 use mpu::MpuRegs;
 use reference::system::StatusRegister;
 
@@ -41,7 +41,7 @@ pub struct Execution {
     pub asleep: bool,
 }
 
-impl<D: Decider, C: CodeLines, L: Levels, U: DueTicks> Processor<D, C, L, U> {
+impl<D: Decider, C: KeptCode, L: Levels, U: DueTicks> Processor<D, C, L, U> {
     ghost use Rattle.machine.specs.Values.{execution_of, values_of};
 
     /// What the core runs.

@@ -1,14 +1,14 @@
 //! The start of a core (ARM DDI 0403, TakeReset()).
 
 ghost use Rattle.std.specs.Prelude.{◌≡◌, true, map};
-ghost use Rattle.board.specs.Seen.{described};
+ghost use Rattle.board.specs.Reading.{described};
 ghost use Rattle.machine.specs.Starts.{StartsAt};
 ghost use Rattle.reference.specs.Boards.{numbers_of};
 ghost use Rattle.reference.specs.Start.{start, blank, are_placed, is_placed, image_loaded, vector};
 ghost use Rattle.elf.specs.Segment.{segment_of};
 
 use crate::stepping::Processor;
-use access::{Bus, CodeLines, CodeMemory, Decider, DueTicks, Levels, System};
+use access::{Bus, CodeMemory, Decider, DueTicks, KeptCode, Levels, System};
 use board::Board;
 use elf::{Image, Segment};
 use reference::board::Layout;
@@ -21,7 +21,7 @@ use std::alloc::Global;
 /// Makes the core of a board, with an image in its memory, before the first step. The segments are
 /// checked before any memory is allocated.
 #[tactic(auto, unfolding(reference::specs::Start::start))]
-pub fn start_core<D: Decider, C: CodeLines, L: Levels, U: DueTicks>(
+pub fn start_core<D: Decider, C: KeptCode, L: Levels, U: DueTicks>(
     alloc: Global,
     image: &Image<'_>,
     board: &Board,
@@ -42,7 +42,7 @@ pub fn start_core<D: Decider, C: CodeLines, L: Levels, U: DueTicks>(
     let regs = Regs::reset(space.vector(0), space.vector(1));
     let system = System::reset(
         board.layout.flash_base,
-        board.layout.lines,
+        board.layout.interrupts,
         board.layout.priority_bits,
         board.layout.regions.number(),
         script,

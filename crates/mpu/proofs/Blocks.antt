@@ -21,8 +21,8 @@ in_block a x u some from to =
 pub before_block : (a x u : ℕ) → 0 < u → a < x / u * u → a / u < x / u
 before_block a x u some h = div_below a u (x / u) some h
 
-pub behind_block : (a x u : ℕ) → 0 < u → x / u * u + u ≤ a → x / u < a / u
-behind_block a x u some h =
+pub beyond_block : (a x u : ℕ) → 0 < u → x / u * u + u ≤ a → x / u < a / u
+beyond_block a x u some h =
     let e : suc (x / u) * u ≡ x / u * u + u = omega arith in
     le-div (suc (x / u)) a u some (rw e h)
 
@@ -49,14 +49,14 @@ outside_before r a s first e f h = lead (rw e at f)
         let b = before_block a r.base (2 ^ (size r.attributes + 1)) (pow_pos _) (rw g at h) in
         not_at _ _ (λ e. omega arith)
 
-pub outside_behind : (r : Region) (a s next : ℕ) → s ≡ size r.attributes
+pub outside_beyond : (r : Region) (a s next : ℕ) → s ≡ size r.attributes
     → next ≡ r.base / 2 ^ (s + 1) * 2 ^ (s + 1) + 2 ^ (s + 1) → next ≤ a → agrees r a ≡ false
-outside_behind r a s next e f h = lead (rw e at f)
+outside_beyond r a s next e f h = lead (rw e at f)
   where
     lead : next ≡ r.base / 2 ^ (size r.attributes + 1) * 2 ^ (size r.attributes + 1) + 2 ^ (size r.attributes + 1)
         → agrees r a ≡ false
     lead g =
-        let b = behind_block a r.base (2 ^ (size r.attributes + 1)) (pow_pos _) (rw g at h) in
+        let b = beyond_block a r.base (2 ^ (size r.attributes + 1)) (pow_pos _) (rw g at h) in
         not_at _ _ (λ e. omega arith)
 
 -- an address above the first of a block with which it doesn't agree is above the whole block

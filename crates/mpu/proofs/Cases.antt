@@ -79,11 +79,11 @@ and_regions m q before here r above f = lead (cases_lt (rank r) 5)
 
 -- ---- the first case that fits
 
-behind : (m : Mpu) (q : AccessQuery) (b : Bool) → is_background m.control q.privileged ≡ b → Missed m q 6
+beyond : (m : Mpu) (q : AccessQuery) (b : Bool) → is_background m.control q.privileged ≡ b → Missed m q 6
     → IsFirstFit m q (if b then record { rule = Background; granted = default_map q.address q.kind }
     else record { rule = NoRegion; granted = false })
-behind m q true e missed = record { fits = e; first = missed; granted = refl }
-behind m q false e missed = record {
+beyond m q true e missed = record { fits = e; first = missed; granted = refl }
+beyond m q false e missed = record {
   fits = tt;
   first = and_rule m q Background (λ h. omega arith) missed (both_ways _ e);
   granted = refl;
@@ -93,7 +93,7 @@ at_regions : (m : Mpu) (q : AccessQuery) (o : Option ℕ) → Missed m q 5 → I
     → IsFirstFit m q (by_owner m q.kind q.address q.privileged o)
 at_regions m q (Some k) missed owns = record { fits = owns; first = missed; granted = refl }
 at_regions m q None missed owns =
-    behind m q (is_background m.control q.privileged) refl
+    beyond m q (is_background m.control q.privileged) refl
     (and_regions m q missed (λ k other. let e = only_owner m q.address None (Some k) owns other in cc))
 
 -- the first of the tests before the regions that holds

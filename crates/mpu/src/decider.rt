@@ -13,21 +13,21 @@ use reference::access::{Decision, Kind, Rule};
 /// Decides each access by the MPU's registers as they were last loaded.
 pub trait Decider: Drop {
     /// Whether it decides as registers with this content say.
-    ghost stands_for: { Self → Mpu → Type 0 };
+    ghost decides_for: { Self → Mpu → Type 0 };
 
     /// Makes a decider with these registers.
     fn fresh(registers: &MpuRegs) -> Self
-        ensures { stands_for result registers.now };
+        ensures { decides_for result registers.now };
 
     /// Loads these registers: it decides by them from now on.
     fn reload(&mut self, registers: &MpuRegs)
-        ensures { stands_for self.new registers.now };
+        ensures { decides_for self.new registers.now };
 
     /// Returns the rule that decides an access of that kind to an address, by code of that
     /// privilege, and whether it grants it. `below_zero` says whether the execution priority is
     /// below 0.
     fn decide(&self, address: u32, kind: Kind, privileged: bool, below_zero: bool) -> Decision
-        ensures { (m : Mpu) → stands_for self.now m → result ≡ decision_of m address kind privileged below_zero };
+        ensures { (m : Mpu) → decides_for self.now m → result ≡ decision_of m address kind privileged below_zero };
 
     /// Decides as `decide` does, and may keep the decision for the addresses near this one.
     #[inline(always)]
@@ -38,8 +38,8 @@ pub trait Decider: Drop {
         privileged: bool,
         below_zero: bool,
     ) -> Decision
-        ensures value { (m : Mpu) → stands_for self.old m → result ≡ decision_of m address kind privileged below_zero }
-        ensures kept { (m : Mpu) → stands_for self.old m → stands_for self.new m }
+        ensures value { (m : Mpu) → decides_for self.old m → result ≡ decision_of m address kind privileged below_zero }
+        ensures kept { (m : Mpu) → decides_for self.old m → decides_for self.new m }
     {
         self.decide(address, kind, privileged, below_zero)
     }
@@ -48,7 +48,7 @@ pub trait Decider: Drop {
     /// execution priority isn't below 0, if that is kept.
     #[inline(always)]
     fn kept_rule(&self, address: u32, kind: Kind, privileged: bool) -> Option<Rule>
-        ensures { (m : Mpu) → stands_for self.now m → IfSome result (λ rule. decision_of m address kind privileged false ≡ record { rule = rule; granted = true }) }
+        ensures { (m : Mpu) → decides_for self.now m → IfSome result (λ rule. decision_of m address kind privileged false ≡ record { rule = rule; granted = true }) }
     {
         let _unused = (address, kind, privileged);
         None
@@ -59,7 +59,7 @@ pub trait Decider: Drop {
     fn span(&self, address: u32) -> Span
         ensures first { result.first ≤ address }
         ensures last { address ≤ result.last }
-        ensures alike { (m : Mpu) → stands_for self.now m → BelongTo m result.first result.last (owner m address) };
+        ensures alike { (m : Mpu) → decides_for self.now m → BelongTo m result.first result.last (owner m address) };
 }
 
 /// Keeps the registers, and searches the regions at each access, from the highest downward.
@@ -69,7 +69,7 @@ pub struct Search {
 }
 
 impl Decider for Search {
-    ghost stands_for = { λ s m. s.registers ≡ m };
+    ghost decides_for = { λ s m. s.registers ≡ m };
 
     fn fresh(registers: &MpuRegs) -> Self {
         Search {

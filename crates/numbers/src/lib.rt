@@ -6,8 +6,8 @@ ghost use Rattle.std.specs.Prelude.{◌≡◌, ◌^◌};
 
 use elf::MOST_SEGMENTS;
 use reference::exception::{
-    BUS_FAULT, EXCEPTIONS, FIRST_LINE, HARD_FAULT, MEM_MANAGE, MOST_LINES, NMI, PEND_SV, SV_CALL,
-    SYS_TICK, USAGE_FAULT,
+    BUS_FAULT, EXCEPTIONS, FIRST_INTERRUPT, HARD_FAULT, MEM_MANAGE, MOST_INTERRUPTS, NMI, PEND_SV,
+    SV_CALL, SYS_TICK, USAGE_FAULT,
 };
 use reference::fault_status::{
     BFARVALID, DACCVIOL, DIVBYZERO, FORCED, IACCVIOL, IBUSERR, INVPC, INVSTATE, MMARVALID, MSTKERR,
@@ -26,7 +26,7 @@ pub fn exceptions_are_numbered_as_in_the_manual()
     ensures sv_call { SV_CALL ≡ 11 }
     ensures pend_sv { PEND_SV ≡ 14 }
     ensures sys_tick { SYS_TICK ≡ 15 }
-    ensures first_line { FIRST_LINE ≡ 16 }
+    ensures first_line { FIRST_INTERRUPT ≡ 16 }
 {}
 
 /// The bits of CFSR that faults of memory accesses set (ARM DDI 0403, B3.2.15: MMFSR in bits 7 to 0, BFSR in bits 15
@@ -58,7 +58,7 @@ pub fn other_fault_bits_are_those_of_the_manual()
 
 /// What a machine can have at most, and where RAM begins (profile; RAM: ARM DDI 0403, B3.1, "The system address map").
 pub fn a_machine_has_the_sizes_of_the_profile()
-    ensures lines { MOST_LINES ≡ 240 }
+    ensures lines { MOST_INTERRUPTS ≡ 240 }
     ensures exceptions { EXCEPTIONS ≡ 256 }
     ensures regions { MOST_REGIONS ≡ 16 }
     ensures ram { RAM_BASE ≡ 2 ^ 29 }

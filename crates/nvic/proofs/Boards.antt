@@ -6,7 +6,7 @@ use Rattle.std.proofs.lemmas.List.{length-set, length-replicate}
 use Rattle.std.proofs.lemmas.Nat.{pow_pos}
 use Rattle.std.proofs.Math.Nat.{mul-div_left, zero-div, zero-mul}
 use Rattle.reference.specs.declared.exception.Masks.{Masks}
-use Rattle.reference.specs.declared.exception.TheConstants.{EXCEPTIONS, MOST_LINES}
+use Rattle.reference.specs.declared.exception.TheConstants.{EXCEPTIONS, MOST_INTERRUPTS}
 use Rattle.reference.specs.Invariant.{HasOnly}
 use Rattle.reference.specs.Priorities.{Nvic, is_in_words, is_exception, can_be_disabled, has_priority_byte, kept}
 use Rattle.reference.specs.Priorities.{with_member}
@@ -48,11 +48,11 @@ empty_set test = record {
   members = λ x e. absurd (both_ways _ (same_each EXCEPTIONS false x) e);
 }
 
-member_set : (lines : ℕ) (s : List Bool) (x : ℕ) (on : Bool)
-    → HasOnly (is_exception lines) s → HasOnly (is_exception lines) (with_member lines s x on)
-member_set lines s x on h =
-    cond_both (is_exception lines x) _ _ (HasOnly (is_exception lines))
-    (λ e. set_of (is_exception lines) s x on e h) (λ e. h)
+member_set : (interrupts : ℕ) (s : List Bool) (x : ℕ) (on : Bool)
+    → HasOnly (is_exception interrupts) s → HasOnly (is_exception interrupts) (with_member interrupts s x on)
+member_set interrupts s x on h =
+    cond_both (is_exception interrupts x) _ _ (HasOnly (is_exception interrupts))
+    (λ e. set_of (is_exception interrupts) s x on e h) (λ e. h)
 
 -- what was kept is kept
 pub kept_again : (bits b : ℕ) → kept bits (kept bits b) ≡ kept bits b
@@ -76,11 +76,11 @@ no_bytes bits = record {
 -- ---- the changes
 
 -- other sets, and the rest as it is
-with_sets : (n : Nvic) (pending enabled active : List Bool) → HasOnly (is_exception n.lines) pending
-    → HasOnly (can_be_disabled n.lines) enabled → HasOnly (is_exception n.lines) active → IsOfBoard n
+with_sets : (n : Nvic) (pending enabled active : List Bool) → HasOnly (is_exception n.interrupts) pending
+    → HasOnly (can_be_disabled n.interrupts) enabled → HasOnly (is_exception n.interrupts) active → IsOfBoard n
     → IsOfBoard (record n { pending = pending; enabled = enabled; active = active })
 with_sets n pending enabled active p e a h = record {
-  sets = record { pending = p; enabled = e; active = a; lines = h.sets.lines };
+  sets = record { pending = p; enabled = e; active = a; interrupts = h.sets.interrupts };
   priorities = h.priorities;
   basepri = h.basepri;
   group = h.group;
@@ -95,7 +95,7 @@ with_others n bytes group masks are small basepri h = record {
     pending = h.sets.pending;
     enabled = h.sets.enabled;
     active = h.sets.active;
-    lines = h.sets.lines;
+    interrupts = h.sets.interrupts;
   };
   priorities = are;
   basepri = basepri;
@@ -104,22 +104,22 @@ with_others n bytes group masks are small basepri h = record {
 
 pub pending_of_board : (n : Nvic) (x : ℕ) (on : Bool) → IsOfBoard n → IsOfBoard (with_pending n x on)
 pending_of_board n x on h =
-    with_sets n _ n.enabled n.active (member_set n.lines n.pending x on h.sets.pending) h.sets.enabled h.sets.active h
+    with_sets n _ n.enabled n.active (member_set n.interrupts n.pending x on h.sets.pending) h.sets.enabled h.sets.active h
 
 pub active_of_board : (n : Nvic) (x : ℕ) (on : Bool) → IsOfBoard n → IsOfBoard (with_active n x on)
 active_of_board n x on h =
-    with_sets n n.pending n.enabled _ h.sets.pending h.sets.enabled (member_set n.lines n.active x on h.sets.active) h
+    with_sets n n.pending n.enabled _ h.sets.pending h.sets.enabled (member_set n.interrupts n.active x on h.sets.active) h
 
 pub enabled_of_board : (n : Nvic) (x : ℕ) (on : Bool) → IsOfBoard n → IsOfBoard (with_enabled n x on)
 enabled_of_board n x on h =
-    cond_both (can_be_disabled n.lines x) _ _ IsOfBoard
+    cond_both (can_be_disabled n.interrupts x) _ _ IsOfBoard
     (λ e. with_sets n n.pending _ n.active h.sets.pending
-    (set_of (can_be_disabled n.lines) n.enabled x on e h.sets.enabled) h.sets.active h)
+    (set_of (can_be_disabled n.interrupts) n.enabled x on e h.sets.enabled) h.sets.active h)
     (λ e. h)
 
 pub priority_of_board : (n : Nvic) (x b : ℕ) → IsOfBoard n → IsOfBoard (with_priority n x b)
 priority_of_board n x b h =
-    cond_both (has_priority_byte n.lines x) _ _ IsOfBoard
+    cond_both (has_priority_byte n.interrupts x) _ _ IsOfBoard
     (λ e. with_others n _ n.group n.masks (set_kept n.priority_bits n.priorities x b h.priorities) h.group h.basepri h)
     (λ e. h)
 
@@ -152,13 +152,13 @@ due_of_board n due h =
     rw (due_is_pended n due (is_in_words due) (λ x small. refl))
     (pended_kept IsOfBoard (is_in_words due) (λ m x e g. pending_of_board m x true g) n h)
 
-pub reset_of_board : (lines bits : ℕ) → IsOfBoard (reset_nvic lines bits)
-reset_of_board lines bits = record {
+pub reset_of_board : (interrupts bits : ℕ) → IsOfBoard (reset_nvic interrupts bits)
+reset_of_board interrupts bits = record {
   sets = record {
-    pending = empty_set (is_exception (min lines MOST_LINES));
-    enabled = empty_set (can_be_disabled (min lines MOST_LINES));
-    active = empty_set (is_exception (min lines MOST_LINES));
-    lines = omega arith;
+    pending = empty_set (is_exception (min interrupts MOST_INTERRUPTS));
+    enabled = empty_set (can_be_disabled (min interrupts MOST_INTERRUPTS));
+    active = empty_set (is_exception (min interrupts MOST_INTERRUPTS));
+    interrupts = omega arith;
   };
   priorities = no_bytes bits;
   basepri = kept_none bits;

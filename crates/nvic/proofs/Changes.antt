@@ -10,7 +10,7 @@ use Rattle.instruction_set.specs.declared.operands.SpecialRegister.TheVariants.{
 use Rattle.instruction_set.specs.declared.operands.SpecialRegister.TheVariants.{BasepriMax, Faultmask, Control}
 use Rattle.instruction_set.specs.Words.{is_bit}
 use Rattle.reference.specs.declared.exception.TheConstants.{NMI, MEM_MANAGE, BUS_FAULT, USAGE_FAULT, SV_CALL, PEND_SV}
-use Rattle.reference.specs.declared.exception.TheConstants.{SYS_TICK, FIRST_LINE, EXCEPTIONS}
+use Rattle.reference.specs.declared.exception.TheConstants.{SYS_TICK, FIRST_INTERRUPT, EXCEPTIONS}
 use Rattle.reference.specs.declared.stop.Stop.{Stop}
 use Rattle.reference.specs.declared.system.ControlRegister.{ControlRegister}
 use Rattle.reference.specs.declared.system.ControlRegister.TheVariants.{Ictr, Cpuid, Icsr, Aircr, Shcsr, Stir}
@@ -86,7 +86,7 @@ module _ {P : Nvic → Type 0} (k : IsKept P) where
 
   pub triggered_kept : (n : Nvic) (value : ℕ) → P n → P (triggered n value)
   unfolding triggered
-  triggered_kept n value p = k.pending n (FIRST_LINE + value % 2 ^ 9) true p
+  triggered_kept n value p = k.pending n (FIRST_INTERRUPT + value % 2 ^ 9) true p
 
   -- ---- the registers of control and of the system handlers
 

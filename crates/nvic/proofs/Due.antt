@@ -36,11 +36,11 @@ put_other s x y true false h = refl
 put_other s x y false exists h = refl
 
 at_pending : (n : Nvic) (due : List ℕ) (x : ℕ)
-    → (with_due_at n due x).pending ≡ put n.pending x (is_in_words due x) (is_exception n.lines x)
+    → (with_due_at n due x).pending ≡ put n.pending x (is_in_words due x) (is_exception n.interrupts x)
 unfolding with_due_at
 at_pending n due x = split (is_in_words due x)
   where
-    split : (b : Bool) → (if b then with_pending n x true else n).pending ≡ put n.pending x b (is_exception n.lines x)
+    split : (b : Bool) → (if b then with_pending n x true else n).pending ≡ put n.pending x b (is_exception n.interrupts x)
     split true = refl
     split false = refl
 
@@ -78,8 +78,8 @@ below_rest n due (suc k) =
     let m = with_due_below n due k in
     at_rest m due k ∙ ap (λ (w : Nvic). record w { pending = (with_due_at m due k).pending }) (below_rest n due k)
 
-below_lines : (n : Nvic) (due : List ℕ) (k : ℕ) → (with_due_below n due k).lines ≡ n.lines
-below_lines n due k = ap (λ (w : Nvic). w.lines) (below_rest n due k)
+below_interrupts : (n : Nvic) (due : List ℕ) (k : ℕ) → (with_due_below n due k).interrupts ≡ n.interrupts
+below_interrupts n due k = ap (λ (w : Nvic). w.interrupts) (below_rest n due k)
 
 below_length : (n : Nvic) (due : List ℕ) (k : ℕ) → length (with_due_below n due k).pending ≡ length n.pending
 unfolding with_due_below
@@ -87,7 +87,7 @@ below_length n due zero = refl
 below_length n due (suc k) =
     let m = with_due_below n due k in
     ap length (at_pending m due k)
-    ∙ put_length m.pending k (is_in_words due k) (is_exception m.lines k)
+    ∙ put_length m.pending k (is_in_words due k) (is_exception m.interrupts k)
     ∙ below_length n due k
 
 -- those from k upward are left
@@ -98,11 +98,11 @@ below_left n due (suc k) y h =
     let m = with_due_below n due k in
     let apart : y ≡ k → ⊥ = λ e. omega arith in
     ap (λ s. is_in s y) (at_pending m due k)
-    ∙ put_other m.pending k y (is_in_words due k) (is_exception m.lines k) apart
+    ∙ put_other m.pending k y (is_in_words due k) (is_exception m.interrupts k) apart
     ∙ below_left n due k y (omega arith)
 
 abbrev after : Nvic → List ℕ → ℕ → Bool
-after n due y = is_in n.pending y || (is_in_words due y && is_exception n.lines y)
+after n due y = is_in n.pending y || (is_in_words due y && is_exception n.interrupts y)
 
 -- k is looked at
 below_here : (n : Nvic) (due : List ℕ) (k : ℕ) → k < length n.pending
@@ -113,9 +113,9 @@ below_here n due k h =
     let long = below_length n due k in
     let room : k < length m.pending = omega (arith, long) in
     ap (λ s. is_in s k) (at_pending m due k)
-    ∙ put_here m.pending k (is_in_words due k) (is_exception m.lines k) room
-    ∙ ap (λ b. b || (is_in_words due k && is_exception m.lines k)) (below_left n due k k (omega arith))
-    ∙ ap (λ l. is_in n.pending k || (is_in_words due k && is_exception l k)) (below_lines n due k)
+    ∙ put_here m.pending k (is_in_words due k) (is_exception m.interrupts k) room
+    ∙ ap (λ b. b || (is_in_words due k && is_exception m.interrupts k)) (below_left n due k k (omega arith))
+    ∙ ap (λ l. is_in n.pending k || (is_in_words due k && is_exception l k)) (below_interrupts n due k)
 
 kept_below : (n : Nvic) (due : List ℕ) (k y : ℕ) → y < k
     → is_in (with_due_below n due (suc k)).pending y ≡ is_in (with_due_below n due k).pending y
@@ -124,7 +124,7 @@ kept_below n due k y h =
     let m = with_due_below n due k in
     let apart : y ≡ k → ⊥ = λ e. omega arith in
     ap (λ s. is_in s y) (at_pending m due k)
-    ∙ put_other m.pending k y (is_in_words due k) (is_exception m.lines k) apart
+    ∙ put_other m.pending k y (is_in_words due k) (is_exception m.interrupts k) apart
 
 -- those below k are as they should be
 below_done : (n : Nvic) (due : List ℕ) (k : ℕ) → k ≤ length n.pending

@@ -57,5 +57,5 @@ pub record IsOfBoard (n : Nvic) : Type 0 where
 -- pending now: what was pending, and the exceptions of the board that are due; nothing else has changed
 pub record AddsDue (n : Nvic) (due : List ℕ) (m : Nvic) : Type 0 where
   pub pending : (x : ℕ) → x < EXCEPTIONS
-      → is_in m.pending x ≡ (is_in n.pending x || (is_in_words due x && is_exception n.lines x))
+      → is_in m.pending x ≡ (is_in n.pending x || (is_in_words due x && is_exception n.interrupts x))
   pub rest : m ≡ record n { pending = m.pending }

@@ -29,7 +29,7 @@ pub fn candidate_is_the_best_that_preempts()
 /// After a reset and after each change the sets hold exceptions of the board only, and each priority
 /// byte and BASEPRI have only bits that it keeps.
 pub fn changes_stay_on_the_board()
-    ensures reset { (lines bits : ℕ) → IsOfBoard (reset_nvic lines bits) }
+    ensures reset { (interrupts bits : ℕ) → IsOfBoard (reset_nvic interrupts bits) }
     ensures pending { (n : Nvic) (x : ℕ) (on : Bool) → IsOfBoard n → IsOfBoard (with_pending n x on) }
     ensures enabled { (n : Nvic) (x : ℕ) (on : Bool) → IsOfBoard n → IsOfBoard (with_enabled n x on) }
     ensures active { (n : Nvic) (x : ℕ) (on : Bool) → IsOfBoard n → IsOfBoard (with_active n x on) }

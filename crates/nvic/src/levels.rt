@@ -10,15 +10,15 @@ use reference::exception::{EXCEPTIONS, Escalation, HARD_FAULT, Masks, NMI, Prior
 
 /// The exceptions of a board: which are pending, enabled and active, their priorities, the masks.
 ///
-/// A `number` is that of an exception, as IPSR has it: 2 to 6, 11, 14, 15, and 16 + k for line k of
+/// A `number` is that of an exception, as IPSR has it: 2 to 6, 11, 14, 15, and 16 + k for interrupt k of
 /// the board. Any other number is accepted too: it's in no set, and nothing puts it into one.
 pub trait Levels: Drop {
     ghost content: { Self → Nvic };
 
-    /// Returns the state after a reset, on a board with `lines` lines (240 at most; the others are
+    /// Returns the state after a reset, on a board with `interrupts` interrupts (240 at most; the others are
     /// ignored) whose priority bytes keep their top `priority_bits` bits.
-    fn fresh(lines: u8, priority_bits: u8) -> Self
-        ensures { content result ≡ reset_nvic lines priority_bits };
+    fn fresh(interrupts: u8, priority_bits: u8) -> Self
+        ensures { content result ≡ reset_nvic interrupts priority_bits };
 
     /// Makes the exception pending.
     fn pend(&mut self, number: u16)
@@ -28,11 +28,11 @@ pub trait Levels: Drop {
     fn clear(&mut self, number: u16)
         ensures { content self.new ≡ with_pending (content self.old) number false };
 
-    /// Enables MemManage, BusFault, UsageFault or a line. The others always are enabled.
+    /// Enables MemManage, BusFault, UsageFault or a interrupt. The others always are enabled.
     fn enable(&mut self, number: u16)
         ensures { content self.new ≡ with_enabled (content self.old) number true };
 
-    /// Disables MemManage, BusFault, UsageFault or a line. The others don't change.
+    /// Disables MemManage, BusFault, UsageFault or a interrupt. The others don't change.
     fn disable(&mut self, number: u16)
         ensures { content self.new ≡ with_enabled (content self.old) number false };
 
@@ -90,9 +90,9 @@ pub trait Levels: Drop {
     fn masks(&self) -> Masks
         ensures { result ≡ (content self.now).masks };
 
-    /// Returns how many lines the board has, at most 240.
-    fn lines(&self) -> u8
-        ensures { result ≡ (content self.now).lines };
+    /// Returns how many interrupts the board has, at most 240.
+    fn interrupts(&self) -> u8
+        ensures { result ≡ (content self.now).interrupts };
 
     /// Returns how many of the top bits of a priority byte the board keeps.
     fn priority_bits(&self) -> u8
@@ -159,7 +159,7 @@ pub trait Levels: Drop {
         let mut found = false;
         #[tactic(auto, unfolding(reference::specs::Priorities::some_below))]
         'each: for number in 0..EXCEPTIONS {
-            found = found || (is_interrupt(self.lines(), number) && self.is_pending(number));
+            found = found || (is_interrupt(self.interrupts(), number) && self.is_pending(number));
         }
         found
     }

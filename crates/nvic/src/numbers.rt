@@ -5,7 +5,7 @@ ghost use Rattle.reference.specs.declared.exception.TheConstants.{EXCEPTIONS};
 ghost use Rattle.reference.specs.Priorities.{is_fixed as is_fixed_of, is_always_enabled as is_always_enabled_of, is_interrupt as is_interrupt_of, can_be_disabled as can_be_disabled_of, is_exception as is_exception_of, has_priority_byte as has_priority_byte_of, is_in_words as is_in_words_of};
 
 use reference::exception::{
-    FIRST_LINE, HARD_FAULT, MEM_MANAGE, NMI, PEND_SV, SV_CALL, SYS_TICK, USAGE_FAULT,
+    FIRST_INTERRUPT, HARD_FAULT, MEM_MANAGE, NMI, PEND_SV, SV_CALL, SYS_TICK, USAGE_FAULT,
 };
 
 /// Returns whether an exception's priority is fixed: that of NMI or HardFault.
@@ -24,37 +24,37 @@ pub fn is_always_enabled(number: u16) -> bool
     is_fixed(number) || matches!(number, SV_CALL | PEND_SV | SYS_TICK)
 }
 
-/// Returns whether an exception is an external interrupt, that of a line of the board.
+/// Returns whether an exception is an external interrupt, that of a interrupt of the board.
 #[inline]
-pub fn is_interrupt(lines: u8, number: u16) -> bool
-    ensures { result ≡ is_interrupt_of lines number }
+pub fn is_interrupt(interrupts: u8, number: u16) -> bool
+    ensures { result ≡ is_interrupt_of interrupts number }
 {
-    number >= FIRST_LINE && number - FIRST_LINE < lines as u16
+    number >= FIRST_INTERRUPT && number - FIRST_INTERRUPT < interrupts as u16
 }
 
 /// Returns whether an exception can be disabled: MemManage, BusFault, UsageFault or an interrupt of
 /// the board.
 #[inline]
-pub fn can_be_disabled(lines: u8, number: u16) -> bool
-    ensures { result ≡ can_be_disabled_of lines number }
+pub fn can_be_disabled(interrupts: u8, number: u16) -> bool
+    ensures { result ≡ can_be_disabled_of interrupts number }
 {
-    matches!(number, MEM_MANAGE..=USAGE_FAULT) || is_interrupt(lines, number)
+    matches!(number, MEM_MANAGE..=USAGE_FAULT) || is_interrupt(interrupts, number)
 }
 
 /// Returns whether an exception of the board has that number.
 #[inline]
-pub fn is_exception(lines: u8, number: u16) -> bool
-    ensures { result ≡ is_exception_of lines number }
+pub fn is_exception(interrupts: u8, number: u16) -> bool
+    ensures { result ≡ is_exception_of interrupts number }
 {
-    is_always_enabled(number) || can_be_disabled(lines, number)
+    is_always_enabled(number) || can_be_disabled(interrupts, number)
 }
 
 /// Returns whether an exception has a priority byte.
 #[inline]
-pub fn has_priority_byte(lines: u8, number: u16) -> bool
-    ensures { result ≡ has_priority_byte_of lines number }
+pub fn has_priority_byte(interrupts: u8, number: u16) -> bool
+    ensures { result ≡ has_priority_byte_of interrupts number }
 {
-    is_exception(lines, number) && !is_fixed(number)
+    is_exception(interrupts, number) && !is_fixed(number)
 }
 
 /// Returns whether a set of bits has a number: bit n mod 32 of word n / 32.

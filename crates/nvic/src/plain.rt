@@ -6,7 +6,7 @@ ghost use Rattle.reference.specs.Priorities.{priority_of as priority_of_number, 
 use crate::levels::Levels;
 use crate::numbers::{can_be_disabled, has_priority_byte, is_always_enabled, is_exception};
 use crate::priorities::{boosted, fixed_or, grouped, kept};
-use reference::exception::{EXCEPTIONS, Escalation, MOST_LINES, Masks, Priority};
+use reference::exception::{EXCEPTIONS, Escalation, MOST_INTERRUPTS, Masks, Priority};
 use std::marker::Model;
 
 /// The exceptions as plain sets. A contract sees them as the reference's `Nvic`.
@@ -18,7 +18,7 @@ pub struct PlainLevels {
     priorities: [u8; EXCEPTIONS as usize],
     group: u8,
     masks: Masks,
-    lines: u8,
+    interrupts: u8,
     priority_bits: u8,
     /// The number of pending exceptions.
     waiting: u16,
@@ -28,7 +28,7 @@ impl Model for PlainLevels {
     ghost use Rattle.std.specs.Prelude.{◌≡◌, ◌<◌, ◌≤◌};
     ghost use Rattle.nvic.specs.Waiting.{count_in};
     ghost use Rattle.reference.specs.Priorities.{Nvic};
-    ghost use Rattle.reference.specs.declared.exception.TheConstants.{MOST_LINES};
+    ghost use Rattle.reference.specs.declared.exception.TheConstants.{MOST_INTERRUPTS};
 
     ghost Value = { Nvic };
 
@@ -39,18 +39,18 @@ impl Model for PlainLevels {
       priorities = l.priorities;
       group = l.group;
       masks = l.masks;
-      lines = l.lines;
+      interrupts = l.interrupts;
       priority_bits = l.priority_bits;
     } };
 
-    ghost invariant = { λ l. (l.group < 8) × (l.lines ≤ MOST_LINES) × (l.waiting ≡ count_in l.pending) };
+    ghost invariant = { λ l. (l.group < 8) × (l.interrupts ≤ MOST_INTERRUPTS) × (l.waiting ≡ count_in l.pending) };
 }
 
 impl Levels for PlainLevels {
     ghost content = { λ l. l };
 
     #[tactic(auto, using(crate::proofs::Waiting::none_at_first))]
-    fn fresh(lines: u8, priority_bits: u8) -> Self {
+    fn fresh(interrupts: u8, priority_bits: u8) -> Self {
         PlainLevels {
             pending: [false; EXCEPTIONS as usize],
             enabled: [false; EXCEPTIONS as usize],
@@ -62,7 +62,7 @@ impl Levels for PlainLevels {
                 faultmask: false,
                 basepri: 0,
             },
-            lines: lines.min(MOST_LINES),
+            interrupts: interrupts.min(MOST_INTERRUPTS),
             priority_bits,
             waiting: 0,
         }
@@ -70,43 +70,43 @@ impl Levels for PlainLevels {
 
     #[inline]
     fn pend(&mut self, number: u16) {
-        if is_exception(self.lines, number) {
+        if is_exception(self.interrupts, number) {
             self.put(number as u8, true);
         }
     }
 
     fn clear(&mut self, number: u16) {
-        if is_exception(self.lines, number) {
+        if is_exception(self.interrupts, number) {
             self.put(number as u8, false);
         }
     }
 
     fn enable(&mut self, number: u16) {
-        if can_be_disabled(self.lines, number) {
+        if can_be_disabled(self.interrupts, number) {
             self.enabled[number as usize] = true;
         }
     }
 
     fn disable(&mut self, number: u16) {
-        if can_be_disabled(self.lines, number) {
+        if can_be_disabled(self.interrupts, number) {
             self.enabled[number as usize] = false;
         }
     }
 
     fn set_priority(&mut self, number: u16, byte: u8) {
-        if has_priority_byte(self.lines, number) {
+        if has_priority_byte(self.interrupts, number) {
             self.priorities[number as usize] = kept(self.priority_bits, byte);
         }
     }
 
     fn activate(&mut self, number: u16) {
-        if is_exception(self.lines, number) {
+        if is_exception(self.interrupts, number) {
             self.active[number as usize] = true;
         }
     }
 
     fn deactivate(&mut self, number: u16) {
-        if is_exception(self.lines, number) {
+        if is_exception(self.interrupts, number) {
             self.active[number as usize] = false;
         }
     }
@@ -158,8 +158,8 @@ impl Levels for PlainLevels {
         self.masks
     }
 
-    fn lines(&self) -> u8 {
-        self.lines
+    fn interrupts(&self) -> u8 {
+        self.interrupts
     }
 
     fn priority_bits(&self) -> u8 {
@@ -201,7 +201,7 @@ impl Levels for PlainLevels {
             priorities: self.priorities,
             group: self.group,
             masks: self.masks,
-            lines: self.lines,
+            interrupts: self.interrupts,
             priority_bits: self.priority_bits,
             waiting: self.waiting,
         }

@@ -38,19 +38,19 @@ cut_before : (old new : Option (List ℕ)) (text more : List ℕ) → IsCutShort
 cut_before old new text more cut = record {
   front = cut.front;
   byte = cut.byte;
-  behind = cut.behind ++ more;
-  whole = rw cut.whole (append_assoc cut.front (cut.byte ∷ cut.behind) more);
+  later = cut.later ++ more;
+  whole = rw cut.whole (append_assoc cut.front (cut.byte ∷ cut.later) more);
   went = cut.went;
 }
 
 -- a text that went out, and one after it that was cut short
-cut_behind : (old mid new : Option (List ℕ)) (text more : List ℕ) → Appends old mid text → IsCutShort mid new more
+cut_later : (old mid new : Option (List ℕ)) (text more : List ℕ) → Appends old mid text → IsCutShort mid new more
     → IsCutShort old new (text ++ more)
-cut_behind old mid new text more went cut = record {
+cut_later old mid new text more went cut = record {
   front = text ++ cut.front;
   byte = cut.byte;
-  behind = cut.behind;
-  whole = rw cut.whole (sym (append_assoc text cut.front (cut.byte ∷ cut.behind)));
+  later = cut.later;
+  whole = rw cut.whole (sym (append_assoc text cut.front (cut.byte ∷ cut.later)));
   went = Appends-trans old mid new text cut.front went cut.went;
 }
 
@@ -70,7 +70,7 @@ text_more selection e event mid new before now false false so_far put = (
   put.1 ∙ so_far.1,
 )
 text_more selection e event mid new before now false true so_far put = (
-  rw (selected-append selection e.events (event ∷ [])) (cut_behind e.written mid new _ _ so_far.0 put.0),
+  rw (selected-append selection e.events (event ∷ [])) (cut_later e.written mid new _ _ so_far.0 put.0),
   put.1
       ∙ ap (λ (n : ℕ). n + 1) so_far.1,
 )
@@ -91,17 +91,17 @@ went_found None new text went = tt
 went_found (Some xs) None text went = absurd (∥∥₁_elim went none_proves (λ w. w))
 went_found (Some xs) (Some ys) text went = ∥∥₁_elim went (search props) (λ w. w)
 
-no_byte : (front : List ℕ) (byte : ℕ) (behind : List ℕ) → [] ≡ front ++ byte ∷ behind → ⊥
-no_byte [] byte behind e = absurd cc
-no_byte (first ∷ front) byte behind e = absurd cc
+no_byte : (front : List ℕ) (byte : ℕ) (later : List ℕ) → [] ≡ front ++ byte ∷ later → ⊥
+no_byte [] byte later e = absurd cc
+no_byte (first ∷ front) byte later e = absurd cc
 
 cut_at : (xs ys text rest : List ℕ) (n : ℕ) → ys ≡ xs ++ take n text → rest ≡ drop n text → 0 < length rest
     → IsCutShort (Some xs) (Some ys) text
 cut_at xs ys text [] n grew is some = absurd (let wrong : 0 < 0 = some in omega arith)
-cut_at xs ys text (byte ∷ behind) n grew is some = record {
+cut_at xs ys text (byte ∷ later) n grew is some = record {
   front = take n text;
   byte = byte;
-  behind = behind;
+  later = later;
   whole = rw is (sym (take-append-drop n text));
   went = grew;
 }
@@ -116,18 +116,18 @@ front_of front rest = take-append-le (length front) front rest (omega arith)
     ∙ take_all (length front) front (omega arith)
 
 grew_by : (xs ys text : List ℕ) → IsCutShort (Some xs) (Some ys) text → ys ≡ xs ++ take (length ys - length xs) text
-grew_by xs ys text cut = rw (count_of xs ys text cut, cut.whole, front_of cut.front (cut.byte ∷ cut.behind)) cut.went
+grew_by xs ys text cut = rw (count_of xs ys text cut, cut.whole, front_of cut.front (cut.byte ∷ cut.later)) cut.went
 
 is_left : (xs ys text : List ℕ) → IsCutShort (Some xs) (Some ys) text → 0 < length (drop (length ys - length xs) text)
 is_left xs ys text cut =
     let n = count_of xs ys text cut in
-    let all : length text ≡ length cut.front + length (cut.byte ∷ cut.behind) =
-    ap length cut.whole ∙ length-append cut.front (cut.byte ∷ cut.behind) in
+    let all : length text ≡ length cut.front + length (cut.byte ∷ cut.later) =
+    ap length cut.whole ∙ length-append cut.front (cut.byte ∷ cut.later) in
     rw (n, length-drop) (omega (arith, all))
 
 cut_found : (old new : Option (List ℕ)) (text : List ℕ) → ∥ IsCutShort old new text ∥₁ → IsCutShort old new text
-cut_found None new [] cut = absurd (∥∥₁_elim cut none_proves (λ c. no_byte c.front c.byte c.behind c.whole))
-cut_found None new (byte ∷ behind) cut = record { front = []; byte = byte; behind = behind; whole = refl; went = tt }
+cut_found None new [] cut = absurd (∥∥₁_elim cut none_proves (λ c. no_byte c.front c.byte c.later c.whole))
+cut_found None new (byte ∷ later) cut = record { front = []; byte = byte; later = later; whole = refl; went = tt }
 cut_found (Some xs) None text cut = absurd (∥∥₁_elim cut none_proves (λ c. c.went))
 cut_found (Some xs) (Some ys) text cut =
     cut_at xs ys text (drop (length ys - length xs) text) (length ys - length xs)

@@ -37,10 +37,10 @@ passed_on start mid new waits bytes before now later (Err error) kept none same 
 
 some_bytes : (old new : Option (List ℕ)) (text : List ℕ) → 0 < length text → Keeps old new → IsCutShort old new text
 some_bytes old new [] some kept = absurd (let wrong : 0 < 0 = some in omega arith)
-some_bytes old new (byte ∷ behind) some kept = record {
+some_bytes old new (byte ∷ later) some kept = record {
   front = [];
   byte = byte;
-  behind = behind;
+  later = later;
   whole = refl;
   went = Appends-kept old old new [] (Appends-nil old) kept;
 }

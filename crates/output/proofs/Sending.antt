@@ -44,7 +44,7 @@ pub cut_short : (old new : Option (List ℕ)) (all rest : List ℕ) → Sent old
     → IsCutShort old new all
 cut_short old new all [] s l = absurd (let wrong : 0 < 0 = l in omega arith)
 cut_short old new all (byte ∷ rest) s l =
-    record { front = s.front; byte = byte; behind = rest; whole = s.whole; went = s.went }
+    record { front = s.front; byte = byte; later = rest; whole = s.whole; went = s.went }
 
 -- none of the bytes that are left was taken
 pub cut_by_none : (old mid new : Option (List ℕ)) (all rest : List ℕ) (taken : ℕ) → Sent old mid all rest

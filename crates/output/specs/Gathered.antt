@@ -25,8 +25,8 @@ SendsAll text old new = Appends (put_so_far old) new.went text × (new.waits ≡
 -- known bytes grew by a prefix of a text
 pub record GrowsByPrefix (old new : Option (List ℕ)) (text : List ℕ) : Type 0 where
   pub front : List ℕ
-  pub behind : List ℕ
-  pub whole : text ≡ front ++ behind
+  pub later : List ℕ
+  pub whole : text ≡ front ++ later
   pub grew : Appends old new front
 
 -- one call failed, and what was put is a prefix of the text

@@ -7,8 +7,8 @@ use Rattle.std.specs.Io.KnownBytes.{Appends, Keeps}
 pub record IsCutAfter (old new : Option (List ℕ)) (before text : List ℕ) : Type 0 where
   pub front : List ℕ
   pub byte : ℕ
-  pub behind : List ℕ
-  pub whole : text ≡ front ++ byte ∷ behind
+  pub later : List ℕ
+  pub whole : text ≡ front ++ byte ∷ later
   pub went : Appends old new (before ++ front)
 
 -- the same with nothing before it

@@ -61,8 +61,8 @@ pub trait Out {
             match self.put(rest) {
                 Ok(0) => return Err(IoError),
                 Ok(taken) => {
-                    let (_, behind) = rest.split_at(taken);
-                    rest = behind;
+                    let (_, later) = rest.split_at(taken);
+                    rest = later;
                 }
                 Err(error) => return Err(error),
             }

@@ -1,6 +1,6 @@
 //! The keys of a board and of its events, and what each takes.
 
-use reference::exception::MOST_LINES;
+use reference::exception::MOST_INTERRUPTS;
 use reference::mpu::RegionCount;
 
 /// A key, and the values that it takes.
@@ -110,8 +110,8 @@ pub fn is_priority_bits(bits: i64) -> bool {
 }
 
 /// Returns whether a board can have this many lines.
-pub fn is_line_count(lines: i64) -> bool {
-    (0..=i64::from(MOST_LINES)).contains(&lines)
+pub fn is_interrupt_count(lines: i64) -> bool {
+    (0..=i64::from(MOST_INTERRUPTS)).contains(&lines)
 }
 
 /// Returns whether an MPU can have this many regions.

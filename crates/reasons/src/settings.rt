@@ -3,7 +3,7 @@
 use crate::events::{EventProblem, event_with, events_problem};
 use crate::keys::{
     BOARD_KEY_NAMES, BOARD_KEYS, FLASH_BASE, FLASH_SIZE, Key, LINES, PRIORITY_BITS, RAM_SIZE,
-    REGIONS, is_flash_base, is_flash_size, is_line_count, is_priority_bits, is_ram_size,
+    REGIONS, is_flash_base, is_flash_size, is_interrupt_count, is_priority_bits, is_ram_size,
     is_region_count, is_size,
 };
 use crate::problem::{Problem, write_problem};
@@ -157,7 +157,7 @@ fn others_problem(document: &Table) -> Option<Problem<'_>> {
         Err(problem) => return Some(problem),
     }
     match integer(document, LINES) {
-        Ok((lines, _)) if is_line_count(lines) => {}
+        Ok((lines, _)) if is_interrupt_count(lines) => {}
         Ok((_, value)) => return Some(Problem::Value(LINES, value)),
         Err(problem) => return Some(problem),
     }

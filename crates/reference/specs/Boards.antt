@@ -1,8 +1,8 @@
--- What a board is (profile): its numbers, each with its range, and the script of what happens on its lines. What the
+-- What a board is (profile): its numbers, each with its range, and the script of what happens on its interrupts. What the
 -- text of a board means is defined in the crate `board`, over the `toml` crate's meaning of a document.
 use Rattle.std.specs.Prelude.{ℕ, ◌+◌, ◌%◌, ◌<◌, ◌≤◌, Bool, ◌&&◌, ◌||◌, nat_le, ◌==◌, List, [], ◌∷◌}
 use Rattle.reference.specs.declared.board.Layout.{Layout}
-use Rattle.reference.specs.declared.exception.TheConstants.{MOST_LINES}
+use Rattle.reference.specs.declared.exception.TheConstants.{MOST_INTERRUPTS}
 use Rattle.reference.specs.declared.script.ScriptedEvent.{ScriptedEvent}
 use Rattle.reference.specs.declared.script.Signal.{Signal}
 use Rattle.reference.specs.declared.script.Signal.TheVariants.{Rise, Fall, Pulse, Nmi}
@@ -16,7 +16,7 @@ pub record Numbers : Type 0 where
   pub flash_size : ℕ
   pub ram_size : ℕ
   pub priority_bits : ℕ
-  pub lines : ℕ
+  pub interrupts : ℕ
   pub regions : ℕ
 
 -- a board: its numbers, and its script in the order of the text
@@ -31,7 +31,7 @@ numbers_of layout = record {
   flash_size = layout.flash_size;
   ram_size = layout.ram_size;
   priority_bits = layout.priority_bits;
-  lines = layout.lines;
+  interrupts = layout.interrupts;
   regions = region_number layout.regions;
 }
 
@@ -66,9 +66,9 @@ is_flash base bytes = is_size bytes && nat_le (base + bytes) ram_base
 abbrev pub is_priority_bits : ℕ → Bool
 is_priority_bits bits = nat_le 3 bits && nat_le bits 8
 
--- a number of lines
-abbrev pub is_line_count : ℕ → Bool
-is_line_count lines = nat_le lines MOST_LINES
+-- a number of interrupts
+abbrev pub is_interrupt_count : ℕ → Bool
+is_interrupt_count interrupts = nat_le interrupts MOST_INTERRUPTS
 
 -- a number of MPU regions
 abbrev pub is_region_count : ℕ → Bool
@@ -82,19 +82,19 @@ default_regions = 8
 abbrev pub is_tick : ℕ → Bool
 is_tick tick = nat_le first_tick tick && nat_le tick last_tick
 
--- a signal is on a line that the board has, or it is NMI
+-- a signal is on a interrupt that the board has, or it is NMI
 abbrev pub IsOfBoard : ℕ → Signal → Type 0
-IsOfBoard lines (Rise line) = line < lines
-IsOfBoard lines (Fall line) = line < lines
-IsOfBoard lines (Pulse line) = line < lines
-IsOfBoard lines Nmi = Unit {0}
+IsOfBoard interrupts (Rise interrupt) = interrupt < interrupts
+IsOfBoard interrupts (Fall interrupt) = interrupt < interrupts
+IsOfBoard interrupts (Pulse interrupt) = interrupt < interrupts
+IsOfBoard interrupts Nmi = Unit {0}
 
 -- the events of a script that begins at the tick `before` or later: none is earlier than the event in front of it, none
--- is later than the clock's last tick, and each is on a line that the board has, or is NMI
+-- is later than the clock's last tick, and each is on a interrupt that the board has, or is NMI
 abbrev pub IsScriptFrom : ℕ → ℕ → List ScriptedEvent → Type 0
-IsScriptFrom lines before [] = Unit {0}
-IsScriptFrom lines before (event ∷ events) =
-    (before ≤ event.at) × (event.at ≤ last_tick) × IsOfBoard lines event.what × IsScriptFrom lines event.at events
+IsScriptFrom interrupts before [] = Unit {0}
+IsScriptFrom interrupts before (event ∷ events) =
+    (before ≤ event.at) × (event.at ≤ last_tick) × IsOfBoard interrupts event.what × IsScriptFrom interrupts event.at events
 
 abbrev pub IsScript : ℕ → List ScriptedEvent → Type 0
-IsScript lines events = IsScriptFrom lines first_tick events
+IsScript interrupts events = IsScriptFrom interrupts first_tick events

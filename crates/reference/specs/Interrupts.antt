@@ -5,14 +5,14 @@ use Rattle.std.specs.Prelude.{ℕ, zero, suc, ◌+◌, ◌-◌, ◌*◌, ◌/◌
 use Rattle.std.specs.Prelude.{if◌then◌else◌, slice_index, Option, Some, None}
 use Rattle.instruction_set.specs.Registers.{weighed}
 use Rattle.instruction_set.specs.Words.{is_bit}
-use Rattle.reference.specs.declared.exception.TheConstants.{FIRST_LINE, MOST_LINES}
+use Rattle.reference.specs.declared.exception.TheConstants.{FIRST_INTERRUPT, MOST_INTERRUPTS}
 use Rattle.reference.specs.declared.system.InterruptRegister.{InterruptRegister}
 use Rattle.reference.specs.declared.system.InterruptRegister.TheVariants.{Iser, Icer, Ispr, Icpr, Iabr}
 use Rattle.reference.specs.Priorities.{Nvic, is_in, is_enabled, with_enabled, with_pending, with_priority}
 
--- ICTR: the words of ISER that the board's lines need, less 1, and 0 where it has no line
+-- ICTR: the words of ISER that the board's interrupts need, less 1, and 0 where it has no interrupt
 abbrev pub ictr : Nvic → ℕ
-ictr n = (n.lines - 1) / 32
+ictr n = (n.interrupts - 1) / 32
 
 -- ISER, ICER, ISPR, ICPR and IABR: eight words each, with a bit for each interrupt
 
@@ -32,7 +32,7 @@ word_number word = word / 4 % 8
 
 -- the exception of bit 0 in word k
 abbrev pub first_exception : ℕ → ℕ
-first_exception k = FIRST_LINE + 32 * k
+first_exception k = FIRST_INTERRUPT + 32 * k
 
 -- whether a register reads 1 at exception x
 abbrev pub is_shown : Nvic → InterruptRegister → ℕ → Bool
@@ -50,7 +50,7 @@ shown_below n register x (suc bit) = shown_below n register x bit + weighed (is_
 unfoldable pub read_interrupts : Nvic → InterruptRegister → ℕ → ℕ
 read_interrupts n register k = shown_below n register (first_exception k) 32
 
--- what a 1 written to the bit of exception x does. After a 1 written to its bit of ICPR, a line that only stays high
+-- what a 1 written to the bit of exception x does. After a 1 written to its bit of ICPR, a interrupt that only stays high
 -- makes its interrupt pending again no sooner than when the interrupt is deactivated (profile)
 unfoldable pub with_one : Nvic → InterruptRegister → ℕ → Nvic
 with_one n Iser x = with_enabled n x true
@@ -78,7 +78,7 @@ ipr_base = 0xE000_E400
 -- the exception whose priority is the lowest byte of a word
 unfoldable pub interrupt_priority_at : ℕ → Option ℕ
 interrupt_priority_at word =
-    if nat_le ipr_base word && nat_lt word (ipr_base + MOST_LINES) then Some (FIRST_LINE + (word - ipr_base)) else None
+    if nat_le ipr_base word && nat_lt word (ipr_base + MOST_INTERRUPTS) then Some (FIRST_INTERRUPT + (word - ipr_base)) else None
 
 -- the priority bytes of four exceptions, x and those that follow, as a word; one that has no priority reads 0
 unfoldable pub read_priorities : Nvic → ℕ → ℕ
@@ -99,4 +99,4 @@ stir_address = 0xE000_EF00
 
 -- a write to STIR: the interrupt whose number is in bits 8:0 becomes pending
 unfoldable pub triggered : Nvic → ℕ → Nvic
-triggered n value = with_pending n (FIRST_LINE + value % 2 ^ 9) true
+triggered n value = with_pending n (FIRST_INTERRUPT + value % 2 ^ 9) true

@@ -2,8 +2,8 @@
 -- `state_laws`. A step is defined in every state, also in one without the invariant.
 use Rattle.std.specs.Prelude.{◌≡◌, ℕ, ◌+◌, ◌%◌, ◌^◌, ◌<◌, ◌≤◌, Bool, true, is_some, List, length, slice_index, None}
 use Rattle.instruction_set.specs.Registers.{Registers}
-use Rattle.reference.specs.declared.exception.TheConstants.{EXCEPTIONS, MOST_LINES}
-use Rattle.reference.specs.Boards.{Described, IsScript, IsScriptFrom, is_flash, is_line_count, is_region_count}
+use Rattle.reference.specs.declared.exception.TheConstants.{EXCEPTIONS, MOST_INTERRUPTS}
+use Rattle.reference.specs.Boards.{Described, IsScript, IsScriptFrom, is_flash, is_interrupt_count, is_region_count}
 use Rattle.reference.specs.Map.{ram_base}
 use Rattle.reference.specs.Memory.{Memory}
 use Rattle.reference.specs.Priorities.{Nvic, is_in, is_exception, can_be_disabled, kept, candidate}
@@ -42,18 +42,18 @@ pub record HasOnly (test : ℕ → Bool) (set : List Bool) : Type 0 where
   pub members : (x : ℕ) → is_in set x ≡ true → test x ≡ true
 
 -- only exceptions of the board are pending or active, only those that can be disabled are in the set of the enabled
--- ones, and the board has no more lines than there can be
+-- ones, and the board has no more interrupts than there can be
 pub record HasExceptionsOfBoard (n : Nvic) : Type 0 where
-  pub pending : HasOnly (is_exception n.lines) n.pending
-  pub enabled : HasOnly (can_be_disabled n.lines) n.enabled
-  pub active : HasOnly (is_exception n.lines) n.active
-  pub lines : n.lines ≤ MOST_LINES
+  pub pending : HasOnly (is_exception n.interrupts) n.pending
+  pub enabled : HasOnly (can_be_disabled n.interrupts) n.enabled
+  pub active : HasOnly (is_exception n.interrupts) n.active
+  pub interrupts : n.interrupts ≤ MOST_INTERRUPTS
 
--- the events that are still to come are a script, later than the clock, of a board with this number of lines, and
--- `high` has MOST_LINES elements
-pub record IsAhead (lines : ℕ) (t : Time) : Type 0 where
-  pub script : IsScriptFrom lines (t.ticks + 1) t.script
-  pub high : length t.high ≡ MOST_LINES
+-- the events that are still to come are a script, later than the clock, of a board with this number of interrupts, and
+-- `high` has MOST_INTERRUPTS elements
+pub record IsAhead (interrupts : ℕ) (t : Time) : Type 0 where
+  pub script : IsScriptFrom interrupts (t.ticks + 1) t.script
+  pub high : length t.high ≡ MOST_INTERRUPTS
 
 -- a word that is a multiple of 4
 pub record IsStackPointer (v : ℕ) : Type 0 where
@@ -89,7 +89,7 @@ pub record SystemInvariant (s : System) : Type 0 where
   pub timer : HasTimerBits s.time.systick
   pub priorities : KeepsTopBits s.nvic
   pub sets : HasExceptionsOfBoard s.nvic
-  pub script : IsAhead s.nvic.lines s.time
+  pub script : IsAhead s.nvic.interrupts s.time
   -- the MPU's registers are as `IsSound` says
   pub regions : IsSound s.mpu
 
@@ -103,10 +103,10 @@ pub record Invariant (s : State) : Type 0 where
 
 -- ---- the board that it needs
 
--- a board whose flash, number of lines and number of regions are in range, and whose script is sorted and names only
--- lines that the board has
+-- a board whose flash, number of interrupts and number of regions are in range, and whose script is sorted and names only
+-- interrupts that the board has
 pub record IsBoard (board : Described) : Type 0 where
   pub flash : is_flash board.numbers.flash_base board.numbers.flash_size ≡ true
-  pub lines : is_line_count board.numbers.lines ≡ true
+  pub interrupts : is_interrupt_count board.numbers.interrupts ≡ true
   pub regions : is_region_count board.numbers.regions ≡ true
-  pub script : IsScript board.numbers.lines board.script
+  pub script : IsScript board.numbers.interrupts board.script

@@ -14,7 +14,7 @@ use Rattle.reference.specs.declared.exception.Escalation.{Escalation}
 use Rattle.reference.specs.declared.exception.Escalation.TheVariants.{Itself, HardFault, Lockup}
 use Rattle.reference.specs.declared.exception.Masks.{Masks}
 use Rattle.reference.specs.declared.exception.TheConstants.{NMI, HARD_FAULT, MEM_MANAGE, USAGE_FAULT, SV_CALL, PEND_SV}
-use Rattle.reference.specs.declared.exception.TheConstants.{SYS_TICK, FIRST_LINE, MOST_LINES, EXCEPTIONS}
+use Rattle.reference.specs.declared.exception.TheConstants.{SYS_TICK, FIRST_INTERRUPT, MOST_INTERRUPTS, EXCEPTIONS}
 
 -- Each list has an element for every number below EXCEPTIONS, also for numbers that no exception has.
 pub record Nvic : Type 0 where
@@ -27,8 +27,8 @@ pub record Nvic : Type 0 where
   -- AIRCR.PRIGROUP
   pub group : ℕ
   pub masks : Masks
-  -- the board's: how many lines there are, and how many of the top bits of a priority byte are kept
-  pub lines : ℕ
+  -- the board's: how many interrupts there are, and how many of the top bits of a priority byte are kept
+  pub interrupts : ℕ
   pub priority_bits : ℕ
 
 -- NMI and HardFault have fixed priorities
@@ -39,22 +39,22 @@ is_fixed x = (x == NMI) || (x == HARD_FAULT)
 abbrev pub is_always_enabled : ℕ → Bool
 is_always_enabled x = is_fixed x || (x == SV_CALL) || (x == PEND_SV) || (x == SYS_TICK)
 
--- the external interrupts, one for each line of the board
+-- the external interrupts, one for each interrupt of the board
 abbrev pub is_interrupt : ℕ → ℕ → Bool
-is_interrupt lines x = nat_le FIRST_LINE x && nat_lt x (FIRST_LINE + lines)
+is_interrupt interrupts x = nat_le FIRST_INTERRUPT x && nat_lt x (FIRST_INTERRUPT + interrupts)
 
 -- these can be enabled and disabled: MemManage, BusFault and UsageFault by SHCSR, the interrupts by ISER and ICER
 abbrev pub can_be_disabled : ℕ → ℕ → Bool
-can_be_disabled lines x = (nat_le MEM_MANAGE x && nat_le x USAGE_FAULT) || is_interrupt lines x
+can_be_disabled interrupts x = (nat_le MEM_MANAGE x && nat_le x USAGE_FAULT) || is_interrupt interrupts x
 
 -- whether an exception of the board has that number; DebugMonitor belongs to the Debug extension and is left out
 -- (profile)
 abbrev pub is_exception : ℕ → ℕ → Bool
-is_exception lines x = is_always_enabled x || can_be_disabled lines x
+is_exception interrupts x = is_always_enabled x || can_be_disabled interrupts x
 
 -- whether it has a priority byte
 abbrev pub has_priority_byte : ℕ → ℕ → Bool
-has_priority_byte lines x = is_exception lines x && not (is_fixed x)
+has_priority_byte interrupts x = is_exception interrupts x && not (is_fixed x)
 
 -- whether x is in a set
 abbrev pub is_in : List Bool → ℕ → Bool
@@ -171,7 +171,7 @@ some_below test (suc x) = some_below test x || test x
 
 -- ICSR.ISRPENDING: whether an interrupt is pending; disabled interrupts count too (profile)
 unfoldable pub is_interrupt_pending : Nvic → Bool
-is_interrupt_pending n = some_below (λ x. is_interrupt n.lines x && is_in n.pending x) EXCEPTIONS
+is_interrupt_pending n = some_below (λ x. is_interrupt n.interrupts x && is_in n.pending x) EXCEPTIONS
 
 -- whether an exception other than x is active, for ICSR.RETTOBASE and ExceptionReturn()
 unfoldable pub is_other_active : Nvic → ℕ → Bool
@@ -179,19 +179,19 @@ is_other_active n x = some_below (λ y. not (y == x) && is_in n.active y) EXCEPT
 
 -- a set after x is put into it or taken out; it stays unchanged where no exception of the board has the number x
 abbrev pub with_member : ℕ → List Bool → ℕ → Bool → List Bool
-with_member lines set x on = if is_exception lines x then slice_set set x on else set
+with_member interrupts set x on = if is_exception interrupts x then slice_set set x on else set
 
 -- x becomes pending, or isn't pending any more
 abbrev pub with_pending : Nvic → ℕ → Bool → Nvic
-with_pending n x on = record n { pending = with_member n.lines n.pending x on }
+with_pending n x on = record n { pending = with_member n.interrupts n.pending x on }
 
 -- x becomes active, or isn't active any more
 abbrev pub with_active : Nvic → ℕ → Bool → Nvic
-with_active n x on = record n { active = with_member n.lines n.active x on }
+with_active n x on = record n { active = with_member n.interrupts n.active x on }
 
 -- x is enabled or disabled; nothing changes where x isn't one that can be (`can_be_disabled`)
 abbrev pub with_enabled : Nvic → ℕ → Bool → Nvic
-with_enabled n x on = if can_be_disabled n.lines x then record n { enabled = slice_set n.enabled x on } else n
+with_enabled n x on = if can_be_disabled n.interrupts x then record n { enabled = slice_set n.enabled x on } else n
 
 -- the top bits of a priority byte that the board keeps
 abbrev pub kept : ℕ → ℕ → ℕ
@@ -200,7 +200,7 @@ kept bits b = b / 2 ^ (8 - bits) * 2 ^ (8 - bits)
 -- the priority byte of x becomes b, of which the board keeps the top bits; nothing changes where x has none
 abbrev pub with_priority : Nvic → ℕ → ℕ → Nvic
 with_priority n x b =
-    if has_priority_byte n.lines x
+    if has_priority_byte n.interrupts x
     then record n { priorities = slice_set n.priorities x (kept n.priority_bits b) }
     else n
 
@@ -226,14 +226,14 @@ candidate_unmasked n = candidate (with_primask n false)
 
 -- after a reset: nothing is pending, enabled or active, every priority byte is 0, and nothing is masked
 abbrev pub reset_nvic : ℕ → ℕ → Nvic
-reset_nvic lines bits = record {
+reset_nvic interrupts bits = record {
   pending = replicate EXCEPTIONS false;
   enabled = replicate EXCEPTIONS false;
   active = replicate EXCEPTIONS false;
   priorities = replicate EXCEPTIONS 0;
   group = 0;
   masks = record { primask = false; faultmask = false; basepri = 0 };
-  lines = min lines MOST_LINES;
+  interrupts = min interrupts MOST_INTERRUPTS;
   priority_bits = bits;
 }
 

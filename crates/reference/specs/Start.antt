@@ -43,7 +43,7 @@ reset board m script = record {
   registers = reset_registers (vector m 0) (vector m 1);
   bus = record {
     memory = m;
-    system = reset_system board.flash_base board.lines board.priority_bits board.regions script;
+    system = reset_system board.flash_base board.interrupts board.priority_bits board.regions script;
   };
   asleep = false;
   entry = None;

@@ -8,7 +8,7 @@ use Rattle.instruction_set.specs.Sizes.{bytes_in, is_word}
 use Rattle.reference.specs.declared.access.Answer.{Answer}
 use Rattle.reference.specs.declared.access.Answer.TheVariants as answer
 use Rattle.reference.specs.declared.access.Request.{Request}
-use Rattle.reference.specs.declared.exception.TheConstants.{FIRST_LINE, EXCEPTIONS}
+use Rattle.reference.specs.declared.exception.TheConstants.{FIRST_INTERRUPT, EXCEPTIONS}
 use Rattle.reference.specs.declared.mpu.MpuStop.{MpuStop}
 use Rattle.reference.specs.declared.script.ScriptedEvent.{ScriptedEvent}
 use Rattle.reference.specs.declared.stop.LeftOut.TheVariants.{RegisterWidth}
@@ -33,12 +33,12 @@ pub record System : Type 0 where
   pub status : Status
   pub time : Time
 
--- the state after a reset, by what the board has: where flash begins, the number of lines, the number of priority bits,
+-- the state after a reset, by what the board has: where flash begins, the number of interrupts, the number of priority bits,
 -- the number of regions, and the script
 abbrev pub reset_system : ℕ → ℕ → ℕ → ℕ → List ScriptedEvent → System
-reset_system flash_base lines bits regions script = record {
+reset_system flash_base interrupts bits regions script = record {
   mpu = fresh regions;
-  nvic = reset_nvic lines bits;
+  nvic = reset_nvic interrupts bits;
   status = reset_status flash_base;
   time = start_time script;
 }
@@ -208,11 +208,11 @@ after_tick s = record s { nvic = with_pended s.nvic (tick_pends s.time); time = 
 
 -- ---- handlers
 
--- whether exception x is of a line of the board that is high
+-- whether exception x is an interrupt of the board whose input is high
 abbrev pub is_held : System → ℕ → Bool
-is_held s x = is_interrupt s.nvic.lines x && is_high s.time (x - FIRST_LINE)
+is_held s x = is_interrupt s.nvic.interrupts x && is_high s.time (x - FIRST_INTERRUPT)
 
--- DeActivate() but for FAULTMASK: exception x isn't active any more, and is pending if its line is high (profile)
+-- DeActivate() but for FAULTMASK: exception x isn't active any more, and is pending if its input is high (profile)
 unfoldable pub deactivated : System → ℕ → System
 deactivated s x =
     if is_held s x

@@ -1,12 +1,12 @@
--- Time: the clock, SysTick (ARM DDI 0403, "System timer, SysTick"), the lines of the external interrupts and the script
+-- Time: the clock, SysTick (ARM DDI 0403, "System timer, SysTick"), the interrupts of the external interrupts and the script
 -- of events. That each tick is one count of SysTick is this project's choice, and so is all that is said of the clock,
--- of lines and of scripts (profile).
+-- of interrupts and of scripts (profile).
 use Rattle.std.specs.Prelude.{ℕ, ◌+◌, ◌-◌, ◌%◌, ◌^◌, ◌<◌, min, Bool, true, false, ◌&&◌, ◌||◌, nat_le, ◌==◌, ◌≡◌}
 use Rattle.std.specs.Prelude.{if◌then◌else◌, List, [], ◌∷◌, take, drop, slice_set, slice_index_or, replicate}
 use Rattle.std.specs.List.{prefix_len, list_any}
 use Rattle.instruction_set.specs.Registers.{weighed}
 use Rattle.instruction_set.specs.Words.{is_bit}
-use Rattle.reference.specs.declared.exception.TheConstants.{NMI, SYS_TICK, FIRST_LINE, MOST_LINES}
+use Rattle.reference.specs.declared.exception.TheConstants.{NMI, SYS_TICK, FIRST_INTERRUPT, MOST_INTERRUPTS}
 use Rattle.reference.specs.declared.script.ScriptedEvent.{ScriptedEvent}
 use Rattle.reference.specs.declared.script.Signal.{Signal}
 use Rattle.reference.specs.declared.script.Signal.TheVariants.{Rise, Fall, Pulse, Nmi}
@@ -25,7 +25,7 @@ pub record Time : Type 0 where
   -- how many ticks have gone by
   pub ticks : ℕ
   pub systick : SysTick
-  -- for each line, whether it is high
+  -- for each interrupt, whether it is high
   pub high : List Bool
   -- the events that are still to come, in file order
   pub script : List ScriptedEvent
@@ -34,9 +34,9 @@ pub record Time : Type 0 where
 abbrev pub last_tick : ℕ
 last_tick = 2 ^ 48
 
--- the exception that a line makes pending
-abbrev pub line_exception : ℕ → ℕ
-line_exception line = FIRST_LINE + line
+-- the exception that a interrupt makes pending
+abbrev pub interrupt_exception : ℕ → ℕ
+interrupt_exception interrupt = FIRST_INTERRUPT + interrupt
 
 -- SysTick, one count
 
@@ -91,28 +91,28 @@ events_at tick script = take (due_count tick script) script
 abbrev pub events_after : ℕ → List ScriptedEvent → List ScriptedEvent
 events_after tick script = drop (due_count tick script) script
 
--- the lines after a signal
+-- the interrupts after a signal
 abbrev pub with_signal : List Bool → Signal → List Bool
-with_signal high (Rise line) = slice_set high line true
-with_signal high (Fall line) = slice_set high line false
-with_signal high (Pulse line) = high
+with_signal high (Rise interrupt) = slice_set high interrupt true
+with_signal high (Fall interrupt) = slice_set high interrupt false
+with_signal high (Pulse interrupt) = high
 with_signal high Nmi = high
 
--- the lines after events, one after another
+-- the interrupts after events, one after another
 abbrev pub with_events : List Bool → List ScriptedEvent → List Bool
 with_events high [] = high
 with_events high (e ∷ events) = with_events (with_signal high e.what) events
 
 -- whether a signal makes exception n pending
 abbrev pub pends : Signal → ℕ → Bool
-pends (Rise line) n = n == line_exception line
-pends (Fall line) n = false
-pends (Pulse line) n = n == line_exception line
+pends (Rise interrupt) n = n == interrupt_exception interrupt
+pends (Fall interrupt) n = false
+pends (Pulse interrupt) n = n == interrupt_exception interrupt
 pends Nmi n = n == NMI
 
--- whether a line is high
+-- whether a interrupt is high
 abbrev pub is_high : Time → ℕ → Bool
-is_high t line = slice_index_or t.high line false
+is_high t interrupt = slice_index_or t.high interrupt false
 
 -- A tick
 
@@ -137,7 +137,7 @@ tick_pends t n =
 
 -- time at the start
 abbrev pub start_time : List ScriptedEvent → Time
-start_time script = record { ticks = 0; systick = reset_systick; high = replicate MOST_LINES false; script = script }
+start_time script = record { ticks = 0; systick = reset_systick; high = replicate MOST_INTERRUPTS false; script = script }
 
 -- Not used by a step, but by the contracts of the crates nvic and clock: the rest of this file
 

@@ -1,7 +1,7 @@
 //! The numbers of a board, without its script.
 
 ghost use Rattle.std.specs.Prelude.{◌≡◌, ◌+◌, ◌%◌, ◌≤◌};
-ghost use Rattle.reference.specs.declared.exception.TheConstants.{MOST_LINES};
+ghost use Rattle.reference.specs.declared.exception.TheConstants.{MOST_INTERRUPTS};
 ghost use Rattle.reference.specs.Map.{ram_base};
 
 use crate::mpu::RegionCount;
@@ -17,8 +17,8 @@ pub struct Layout {
     pub ram_size: u32,
     /// How many of the top bits of a priority byte are kept, 3 to 8.
     pub priority_bits: u8,
-    /// How many external interrupt lines there are, 0 to 240.
-    pub lines: u8,
+    /// How many external interrupts there are, 0 to 240.
+    pub interrupts: u8,
     /// How many regions the MPU has.
     pub regions: RegionCount,
 
@@ -34,7 +34,7 @@ pub struct Layout {
     pub ghost ram_is_small: { ram_size ≤ 0x10_0000 },
     pub ghost bits_are_enough: { 3 ≤ priority_bits },
     pub ghost bits_are_few: { priority_bits ≤ 8 },
-    pub ghost lines_are_few: { lines ≤ MOST_LINES },
+    pub ghost interrupts_are_few: { interrupts ≤ MOST_INTERRUPTS },
 }
 
 /// The layout of the small board: 4 KiB of flash at 0 and 8 KiB of RAM.
@@ -43,6 +43,6 @@ pub const SMALL_BOARD: Layout = Layout {
     flash_size: 4096,
     ram_size: 8192,
     priority_bits: 4,
-    lines: 8,
+    interrupts: 8,
     regions: RegionCount::Eight,
 };

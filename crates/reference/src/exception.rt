@@ -29,11 +29,11 @@ pub const PEND_SV: u16 = 14;
 /// The number of SysTick.
 pub const SYS_TICK: u16 = 15;
 
-/// The number of the exception of external interrupt line 0. That of line k is k more.
-pub const FIRST_LINE: u16 = 16;
+/// The number of the exception of external interrupt 0. That of interrupt k is k more.
+pub const FIRST_INTERRUPT: u16 = 16;
 
-/// The most lines that a board can have here, of the 496 that the manual allows (profile).
-pub const MOST_LINES: u8 = 240;
+/// The most interrupts that a board can have here, of the 496 that the manual allows (profile).
+pub const MOST_INTERRUPTS: u8 = 240;
 
 /// One more than the greatest number of an exception here.
 pub const EXCEPTIONS: u16 = 256;

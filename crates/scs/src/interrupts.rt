@@ -5,17 +5,17 @@ ghost use Rattle.reference.specs.Interrupts.{ictr as ictr_of, interrupts_at as i
 
 use crate::bits::is_bit;
 use nvic::Levels;
-use reference::exception::{FIRST_LINE, MOST_LINES};
+use reference::exception::{FIRST_INTERRUPT, MOST_INTERRUPTS};
 use reference::system::InterruptRegister;
 
-// The address of the first byte of IPR. There is one byte for each interrupt line.
+// The address of the first byte of IPR. There is one byte for each interrupt.
 const IPR_BASE: u32 = 0xE000_E400;
 
 /// Reads ICTR.
 pub fn ictr<L: Levels>(levels: &L) -> u32
     ensures { result ≡ ictr_of (L.content levels.now) }
 {
-    u32::from(levels.lines().saturating_sub(1)) / 32
+    u32::from(levels.interrupts().saturating_sub(1)) / 32
 }
 
 /// Returns the register that has a word at this address, if it is one of these.
@@ -45,7 +45,7 @@ fn first_exception(word: u8) -> u16
     ensures value { result ≡ first_exception_of word }
     ensures small { result < 2 ^ 15 }
 {
-    FIRST_LINE + 32 * u16::from(word)
+    FIRST_INTERRUPT + 32 * u16::from(word)
 }
 
 /// Returns whether a register reads 1 at the bit of an exception.
@@ -129,9 +129,9 @@ pub fn write_interrupts<L: Levels>(
 pub fn interrupt_priority_at(word: u32) -> Option<u8>
     ensures { result ≡ interrupt_priority_at_of word }
 {
-    let end = IPR_BASE + u32::from(MOST_LINES);
+    let end = IPR_BASE + u32::from(MOST_INTERRUPTS);
     if IPR_BASE <= word && word < end {
-        Some((word - IPR_BASE) as u8 + FIRST_LINE as u8)
+        Some((word - IPR_BASE) as u8 + FIRST_INTERRUPT as u8)
     } else {
         None
     }
@@ -167,5 +167,5 @@ pub fn write_priorities<L: Levels>(levels: &mut L, first: u16, value: u32, count
 pub fn trigger<L: Levels>(levels: &mut L, value: u32)
     ensures { L.content levels.new ≡ triggered (L.content levels.old) value }
 {
-    levels.pend(FIRST_LINE + (value % 512) as u16);
+    levels.pend(FIRST_INTERRUPT + (value % 512) as u16);
 }

@@ -21,7 +21,7 @@ pub fn refused_access_changes_nothing()
 /// The system is sound after a reset, and stays so in each access, tick, MSR, CPS and return from an
 /// exception.
 pub fn system_stays_sound()
-    ensures reset { (flash_base lines bits regions : ℕ) (script : List TheEvent) → (regions ≡ 8) ⊎ (regions ≡ 16) → IsSortedFrom 1 script → IsSound (reset_system flash_base lines bits regions script) }
+    ensures reset { (flash_base interrupts bits regions : ℕ) (script : List TheEvent) → (regions ≡ 8) ⊎ (regions ≡ 16) → IsSortedFrom 1 script → IsSound (reset_system flash_base interrupts bits regions script) }
     ensures access { (x : ℕ) (s : System) (q : Request) → IsSound s → IsSound (system_access x s q).system }
     ensures tick { (s : System) → IsSound s → IsSound (after_tick s) }
     ensures msr { (privileged : Bool) (s : System) (special : SpecialRegister) (value : ℕ) → IsSound s → IsSound (with_nvic s (write_mask privileged s.nvic special value)) }

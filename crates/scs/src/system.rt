@@ -1,7 +1,7 @@
 //! The state of the System Control Space, accesses to it, and ticks.
 
 ghost use Rattle.std.specs.Prelude.{◌≡◌, ◌+◌, ◌^◌, ◌<◌, ◌≤◌, ◌⊎◌, ◌&&◌, ℕ, true, false, not, IfSome};
-ghost use Rattle.clock.specs.Kept.{IsRight};
+ghost use Rattle.clock.specs.DueTicks.{IsRight};
 ghost use Rattle.instruction_set.specs.Registers.{is_privileged};
 ghost use Rattle.instruction_set.specs.Sizes.{bytes_in};
 ghost use Rattle.reference.specs.Answers.{IsNarrow, LeavesUnlessDone};
@@ -27,7 +27,7 @@ use instruction_set::operands::{ChangeProcessorState, SpecialRegister};
 use mpu::{Decider, MpuRegister, MpuRegs, stop_of, uses_regions};
 use nvic::{Levels, Masks};
 use reference::access::{Access, Answer, Decision, Request, Rule};
-use reference::exception::FIRST_LINE;
+use reference::exception::FIRST_INTERRUPT;
 use reference::stop::{LeftOut, Stop};
 use reference::system::SystemRegister;
 use regs::Regs;
@@ -47,35 +47,35 @@ pub struct System<D: Decider, L: Levels, U: DueTicks> {
 }
 
 impl<D: Decider, L: Levels, U: DueTicks> Model for System<D, L, U> {
-    ghost use Rattle.clock.specs.Kept.{IsRight};
+    ghost use Rattle.clock.specs.DueTicks.{IsRight};
     ghost use Rattle.reference.specs.System.{System as SystemState};
 
     ghost Value = { SystemState };
 
     ghost view = { λ s. record { mpu = s.mpu; nvic = L.content s.levels; status = s.status; time = s.clock.time } };
 
-    ghost invariant = { λ s. D.stands_for s.decider s.mpu × IsRight s.clock };
+    ghost invariant = { λ s. D.decides_for s.decider s.mpu × IsRight s.clock };
 }
 
 impl<D: Decider, L: Levels, U: DueTicks> System<D, L, U> {
-    /// Returns the system after a reset: with flash at `flash_base`, `lines` external lines, of which
+    /// Returns the system after a reset: with flash at `flash_base`, `interrupts` external interrupts, of which
     /// the first 240 count, `priority_bits` bits of a priority, 8 or 16 regions, and a script.
     pub fn reset(
         flash_base: u32,
-        lines: u8,
+        interrupts: u8,
         priority_bits: u8,
         regions: u8,
         script: Vec<ScriptedEvent>,
     ) -> Self
         requires { (regions ≡ 8) ⊎ (regions ≡ 16) }
-        ensures { result ≡ reset_system flash_base lines priority_bits regions script.items }
+        ensures { result ≡ reset_system flash_base interrupts priority_bits regions script.items }
     {
         let mpu = MpuRegs::new(regions);
         let decider = D::fresh(&mpu);
         System {
             mpu,
             decider,
-            levels: L::fresh(lines, priority_bits),
+            levels: L::fresh(interrupts, priority_bits),
             status: Status::reset(flash_base),
             clock: Clock::new(script),
         }
@@ -141,7 +141,7 @@ impl<D: Decider, L: Levels, U: DueTicks> System<D, L, U> {
     /// Returns what decides accesses by the registers of the MPU.
     #[inline]
     pub fn decider(&self) -> &D
-        ensures { D.stands_for result.now self.now.mpu }
+        ensures { D.decides_for result.now self.now.mpu }
     {
         &self.decider
     }
@@ -255,7 +255,7 @@ impl<D: Decider, L: Levels, U: DueTicks> System<D, L, U> {
         self.levels.activate(number);
     }
 
-    /// Makes an exception inactive, and pending again where its line is high: `DeActivate()`.
+    /// Makes an exception inactive, and pending again where its interrupt is high: `DeActivate()`.
     #[tactic(auto, unfolding(reference::specs::System::deactivated))]
     pub fn deactivate(&mut self, number: u16)
         ensures { self.new ≡ deactivated self.old number }
@@ -267,13 +267,13 @@ impl<D: Decider, L: Levels, U: DueTicks> System<D, L, U> {
         }
     }
 
-    /// Returns whether an exception is an interrupt of the board whose line is high.
+    /// Returns whether an exception is an interrupt of the board whose interrupt is high.
     fn is_held(&self, number: u16) -> bool
         ensures { result ≡ spec.is_held self.now number }
     {
-        number >= FIRST_LINE
-            && number - FIRST_LINE < u16::from(self.levels.lines())
-            && self.clock.high((number - FIRST_LINE) as u8)
+        number >= FIRST_INTERRUPT
+            && number - FIRST_INTERRUPT < u16::from(self.levels.interrupts())
+            && self.clock.high((number - FIRST_INTERRUPT) as u8)
     }
 
     /// Sets FAULTMASK to 0.

@@ -1,7 +1,7 @@
 //! SYST_CSR, SYST_RVR and SYST_CVR.
 
 ghost use Rattle.std.specs.Prelude.{◌≡◌};
-ghost use Rattle.clock.specs.Kept.{IsRight};
+ghost use Rattle.clock.specs.DueTicks.{IsRight};
 ghost use Rattle.reference.specs.SysTickRegisters.{systick_at as systick_at_of, read_systick as read_systick_of, after_systick_read, write_systick as write_systick_of};
 
 use clock::{Clock, DueTicks};

@@ -18,38 +18,38 @@ use Rattle.state_laws.proofs.Systems.{IsWhole, parts_kept}
 
 -- what holds of the System Control Space, and of memory
 abbrev pub IsWholeBus : ℕ → ℕ → Bus → Type 0
-IsWholeBus lines bits b = IsWhole lines bits b.system × FlashEndsBelowRam b.memory
+IsWholeBus interrupts bits b = IsWhole interrupts bits b.system × FlashEndsBelowRam b.memory
 
-pub carried_whole : (lines bits x : ℕ) (b : Bus) (q : Request) → IsWholeBus lines bits b →
-    IsWholeBus lines bits (answered_by_bus x b q).bus
+pub carried_whole : (interrupts bits x : ℕ) (b : Bus) (q : Request) → IsWholeBus interrupts bits b →
+    IsWholeBus interrupts bits (answered_by_bus x b q).bus
 unfolding answered_by_bus
-carried_whole lines bits x b q h =
-    cond_both (is_probe q.access.kind) _ _ (λ (a : BusAnswer). IsWholeBus lines bits a.bus) (λ e. h)
-    (λ e. cond_both (is_in_ppb q.access.address) _ _ (λ (a : BusAnswer). IsWholeBus lines bits a.bus)
-    (λ f. (access_kept (parts_kept lines bits) x b.system q h.0, h.1))
+carried_whole interrupts bits x b q h =
+    cond_both (is_probe q.access.kind) _ _ (λ (a : BusAnswer). IsWholeBus interrupts bits a.bus) (λ e. h)
+    (λ e. cond_both (is_in_ppb q.access.address) _ _ (λ (a : BusAnswer). IsWholeBus interrupts bits a.bus)
+    (λ f. (access_kept (parts_kept interrupts bits) x b.system q h.0, h.1))
     (λ f. (h.0, space_apart b.memory b.system.time.ticks q h.1)))
 
-decided_whole : (lines bits x : ℕ) (b : Bus) (q : Request) (d : Decision) (granted : Bool) → d.granted ≡ granted →
-    IsWholeBus lines bits b → IsWholeBus lines bits (decided x b q d).bus
-decided_whole lines bits x b q d true e h = rw e (carried_whole lines bits x b q h)
-decided_whole lines bits x b q d false e h = rw e h
+decided_whole : (interrupts bits x : ℕ) (b : Bus) (q : Request) (d : Decision) (granted : Bool) → d.granted ≡ granted →
+    IsWholeBus interrupts bits b → IsWholeBus interrupts bits (decided x b q d).bus
+decided_whole interrupts bits x b q d true e h = rw e (carried_whole interrupts bits x b q h)
+decided_whole interrupts bits x b q d false e h = rw e h
 
-pub perform_whole : (lines bits x : ℕ) (b : Bus) (q : Request) → IsWholeBus lines bits b →
-    IsWholeBus lines bits (perform x b q).bus
+pub perform_whole : (interrupts bits x : ℕ) (b : Bus) (q : Request) → IsWholeBus interrupts bits b →
+    IsWholeBus interrupts bits (perform x b q).bus
 unfolding perform
-perform_whole lines bits x b q h = decided_whole lines bits x b q (decision b q) _ refl h
+perform_whole interrupts bits x b q h = decided_whole interrupts bits x b q (decision b q) _ refl h
 
-followed_whole : (lines bits : ℕ) (events : List Event) (after : Bus) (value : Result ℕ Failure) (rest : ListResult) →
-    IsWholeBus lines bits after → IsWholeBus lines bits rest.bus →
-    IsWholeBus lines bits (followed events after value rest).bus
-followed_whole lines bits events after (Ok value) rest first others = others
-followed_whole lines bits events after (Err why) rest first others = first
+followed_whole : (interrupts bits : ℕ) (events : List Event) (after : Bus) (value : Result ℕ Failure) (rest : ListResult) →
+    IsWholeBus interrupts bits after → IsWholeBus interrupts bits rest.bus →
+    IsWholeBus interrupts bits (followed events after value rest).bus
+followed_whole interrupts bits events after (Ok value) rest first others = others
+followed_whole interrupts bits events after (Err why) rest first others = first
 
-pub served_whole : (lines bits x tick : ℕ) (b : Bus) (qs : List Request) → IsWholeBus lines bits b →
-    IsWholeBus lines bits (perform_all x tick b qs).bus
+pub served_whole : (interrupts bits x tick : ℕ) (b : Bus) (qs : List Request) → IsWholeBus interrupts bits b →
+    IsWholeBus interrupts bits (perform_all x tick b qs).bus
 unfolding perform_all
-served_whole lines bits x tick b [] h = h
-served_whole lines bits x tick b (q ∷ qs) h =
-    let first = perform_whole lines bits x b q h in
-    followed_whole lines bits _ _ (value_of q (perform x b q).performed) _ first
-    (served_whole lines bits x tick (perform x b q).bus qs first)
+served_whole interrupts bits x tick b [] h = h
+served_whole interrupts bits x tick b (q ∷ qs) h =
+    let first = perform_whole interrupts bits x b q h in
+    followed_whole interrupts bits _ _ (value_of q (perform x b q).performed) _ first
+    (served_whole interrupts bits x tick (perform x b q).bus qs first)

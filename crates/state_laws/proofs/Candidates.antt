@@ -66,7 +66,7 @@ preempts_with n p more h = record {
 
 pub pending_calls : (n : Nvic) (x : ℕ) → Calls n → Calls (with_pending n x true)
 pending_calls n x h =
-    cond_both (is_exception n.lines x) _ _ (λ p. Calls (record n { pending = p }))
+    cond_both (is_exception n.interrupts x) _ _ (λ p. Calls (record n { pending = p }))
     (λ e. calls _ (preempts_with n (slice_set n.pending x true) (λ y f. grows n.pending x y f) (preempts n h)))
     (λ e. calls _ (preempts_with n n.pending (λ y f. f) (preempts n h)))
 
@@ -76,10 +76,10 @@ pended_calls n test h = pended_kept Calls test (λ m x e. pending_calls m x) n h
 -- ---- a fault
 
 -- x, which is enabled and preempts, becomes pending
-raised_calls : (n : Nvic) (x : ℕ) → length n.pending ≡ EXCEPTIONS → x < EXCEPTIONS → is_exception n.lines x ≡ true →
+raised_calls : (n : Nvic) (x : ℕ) → length n.pending ≡ EXCEPTIONS → x < EXCEPTIONS → is_exception n.interrupts x ≡ true →
     is_enabled n x ≡ true → group_priority n x < execution_priority n → Calls (with_pending n x true)
 raised_calls n x places small exists enabled above =
-    cond_both (is_exception n.lines x) _ _ (λ p. Calls (record n { pending = p }))
+    cond_both (is_exception n.interrupts x) _ _ (λ p. Calls (record n { pending = p }))
     (λ e. calls _ (record {
       number = x;
       ready = record {
@@ -97,7 +97,7 @@ Follows n x HardFault = Calls (with_pending n HARD_FAULT true)
 Follows n x Lockup = Unit {0}
 
 pub escalation_follows : (n : Nvic) (x : ℕ) → length n.pending ≡ EXCEPTIONS → x < EXCEPTIONS →
-    is_exception n.lines x ≡ true → Follows n x (escalation n x)
+    is_exception n.interrupts x ≡ true → Follows n x (escalation n x)
 unfolding escalation
 escalation_follows n x places small exists =
     cond_both (is_enabled n x && nat_lt (group_priority n x) (execution_priority n)) _ _ (Follows n x)

@@ -12,12 +12,12 @@ use Rattle.nvic.proofs.Systems.{placed_kept}
 use Rattle.reference.specs.declared.access.Answer.{Answer}
 use Rattle.reference.specs.declared.access.Answer.TheVariants as answer
 use Rattle.reference.specs.declared.access.Request.{Request}
-use Rattle.reference.specs.declared.exception.TheConstants.{MOST_LINES}
+use Rattle.reference.specs.declared.exception.TheConstants.{MOST_INTERRUPTS}
 use Rattle.reference.specs.declared.error.PlaceError.{PlaceError}
 use Rattle.reference.specs.declared.place.Place.{Place}
 use Rattle.reference.specs.declared.place.Place.TheVariants.{Reg, Special, Word}
 use Rattle.reference.specs.Accesses.{answered_by_bus, perform_all}
-use Rattle.reference.specs.Boards.{Described, is_line_count, is_region_count, IsScriptFrom}
+use Rattle.reference.specs.Boards.{Described, is_interrupt_count, is_region_count, IsScriptFrom}
 use Rattle.reference.specs.Images.{Segment}
 use Rattle.reference.specs.Invariant.{IsBoard, HasRegisters, SystemInvariant, Invariant}
 use Rattle.reference.specs.Map.{is_in_ppb}
@@ -41,79 +41,79 @@ use Rattle.state_laws.proofs.Ticks.{timely_at_start}
 
 -- ---- what is whole has the invariant, and the other way round
 
-sound : (lines bits : ℕ) (s : System) → IsWhole lines bits s → SystemInvariant s
-sound lines bits s h = record {
+sound : (interrupts bits : ℕ) (s : System) → IsWhole interrupts bits s → SystemInvariant s
+sound interrupts bits s h = record {
   clock = h.time.clock;
   timer = h.time.timer;
-  priorities = top_bits_of_board lines bits s.nvic h.nvic;
+  priorities = top_bits_of_board interrupts bits s.nvic h.nvic;
   sets = h.nvic.board.sets;
-  script = rw h.nvic.same_lines h.time.ahead;
+  script = rw h.nvic.same_interrupts h.time.ahead;
   regions = h.mpu;
 }
 
-whole : (s : System) → SystemInvariant s → IsWhole s.nvic.lines s.nvic.priority_bits s
+whole : (s : System) → SystemInvariant s → IsWhole s.nvic.interrupts s.nvic.priority_bits s
 whole s h = record {
   nvic = board_of s.nvic h.priorities h.sets;
   time = record { clock = h.clock; timer = h.timer; ahead = h.script };
   mpu = h.regions;
 }
 
-whole_state : (s : State) → Invariant s → HasWhole s.bus.system.nvic.lines s.bus.system.nvic.priority_bits s
+whole_state : (s : State) → Invariant s → HasWhole s.bus.system.nvic.interrupts s.bus.system.nvic.priority_bits s
 whole_state s h = (whole s.bus.system h.system, h.memory)
 
 -- ---- a step
 
 pub step_keeps : (s : State) → Invariant s → Invariant (step s).state
 step_keeps s h =
-    let lines = s.bus.system.nvic.lines in
+    let interrupts = s.bus.system.nvic.interrupts in
     let bits = s.bus.system.nvic.priority_bits in
-    let after = step_good lines bits s h.entry (record { registers = h.registers; bus = whole_state s h }) in
+    let after = step_good interrupts bits s h.entry (record { registers = h.registers; bus = whole_state s h }) in
     record {
       registers = after.good.registers;
       entry = after.called;
       memory = after.good.bus.1;
-      system = sound lines bits _ after.good.bus.0;
+      system = sound interrupts bits _ after.good.bus.0;
     }
 
 -- ---- a value that is placed
 
 -- what holds of the registers, of memory and of the System Control Space
-record IsGood (lines bits : ℕ) (s : State) : Type 0 where
+record IsGood (interrupts bits : ℕ) (s : State) : Type 0 where
   registers : HasRegisters s.registers
   entry : s.entry ≡ None
-  system : HasWhole lines bits s
+  system : HasWhole interrupts bits s
 
 abbrev IsPlaced : ℕ → ℕ → Result State PlaceError → Type 0
-IsPlaced lines bits = IfGiven (IsGood lines bits)
+IsPlaced interrupts bits = IfGiven (IsGood interrupts bits)
 
-special_placed : (lines bits : ℕ) (s : State) (special : Option SpecialRegister) (value : ℕ) → IsGood lines bits s →
-    IsPlaced lines bits (special_taken s special value)
-special_placed lines bits s None value h = tt
-special_placed lines bits s (Some special) value h = record {
+special_placed : (interrupts bits : ℕ) (s : State) (special : Option SpecialRegister) (value : ℕ) → IsGood interrupts bits s →
+    IsPlaced interrupts bits (special_taken s special value)
+special_placed interrupts bits s None value h = tt
+special_placed interrupts bits s (Some special) value h = record {
   registers = special_kept s.registers special value h.registers;
   entry = h.entry;
-  system = (placed_kept (parts_kept lines bits) s.bus.system special value h.system.0, h.system.1);
+  system = (placed_kept (parts_kept interrupts bits) s.bus.system special value h.system.0, h.system.1);
 }
 
-register_placed : (lines bits : ℕ) (s : State) (after : Bus) (a : Answer) → HasRegisters s.registers → s.entry ≡ None →
-    IsWholeBus lines bits after → IsPlaced lines bits (register_taken s after a)
-register_placed lines bits s after (answer.Value value) r out h = record { registers = r; entry = out; system = h }
-register_placed lines bits s after answer.Error r out h = tt
-register_placed lines bits s after (answer.Stop why) r out h = tt
+register_placed : (interrupts bits : ℕ) (s : State) (after : Bus) (a : Answer) → HasRegisters s.registers → s.entry ≡ None →
+    IsWholeBus interrupts bits after → IsPlaced interrupts bits (register_taken s after a)
+register_placed interrupts bits s after (answer.Value value) r out h = record { registers = r; entry = out; system = h }
+register_placed interrupts bits s after answer.Error r out h = tt
+register_placed interrupts bits s after (answer.Stop why) r out h = tt
 
-taken_placed : (lines bits : ℕ) (s : State) (p : Place) → IsGood lines bits s → IsPlaced lines bits (taken s p)
-taken_placed lines bits s (Reg number value) h =
+taken_placed : (interrupts bits : ℕ) (s : State) (p : Place) → IsGood interrupts bits s → IsPlaced interrupts bits (taken s p)
+taken_placed interrupts bits s (Reg number value) h =
     record {
       registers = register_kept writes_kept s.registers number value h.registers;
       entry = h.entry;
       system = h.system;
     }
-taken_placed lines bits s (Special number value) h = special_placed lines bits s (special_of number) value h
-taken_placed lines bits s (Word address value) h =
+taken_placed interrupts bits s (Special number value) h = special_placed interrupts bits s (special_of number) value h
+taken_placed interrupts bits s (Word address value) h =
     let a = answered_by_bus s.registers.exception s.bus (store_of address value) in
-    cond_both (is_in_ppb address) _ _ (IsPlaced lines bits)
-    (λ e. register_placed lines bits s a.bus a.answer h.registers h.entry
-    (carried_whole lines bits s.registers.exception s.bus (store_of address value) h.system))
+    cond_both (is_in_ppb address) _ _ (IsPlaced interrupts bits)
+    (λ e. register_placed interrupts bits s a.bus a.answer h.registers h.entry
+    (carried_whole interrupts bits s.registers.exception s.bus (store_of address value) h.system))
     (λ e. record {
       registers = h.registers;
       entry = h.entry;
@@ -125,14 +125,14 @@ no_entry stop None handler e = refl
 no_entry true (Some x) handler e = absurd (let w : ⊥ = cc in w)
 no_entry false (Some x) handler e = absurd (let w : ⊥ = cc in w)
 
-placed : (lines bits : ℕ) (s : State) (p : Place) → HasRegisters s.registers → HasWhole lines bits s →
-    IsPlaced lines bits (place s p)
+placed : (interrupts bits : ℕ) (s : State) (p : Place) → HasRegisters s.registers → HasWhole interrupts bits s →
+    IsPlaced interrupts bits (place s p)
 unfolding place
-placed lines bits s p r h =
-    cond_both (not (is_word_aligned p)) _ _ (IsPlaced lines bits) (λ e. tt)
-    (λ e. cond_both (not (is_there s.bus.memory p)) _ _ (IsPlaced lines bits) (λ f. tt)
-    (λ f. cond_both (is_some s.stop || is_some s.entry || is_handler s.registers) _ _ (IsPlaced lines bits) (λ g. tt)
-    (λ g. taken_placed lines bits s p (record {
+placed interrupts bits s p r h =
+    cond_both (not (is_word_aligned p)) _ _ (IsPlaced interrupts bits) (λ e. tt)
+    (λ e. cond_both (not (is_there s.bus.memory p)) _ _ (IsPlaced interrupts bits) (λ f. tt)
+    (λ f. cond_both (is_some s.stop || is_some s.entry || is_handler s.registers) _ _ (IsPlaced interrupts bits) (λ g. tt)
+    (λ g. taken_placed interrupts bits s p (record {
       registers = r;
       entry = no_entry (is_some s.stop) s.entry (is_handler s.registers) g;
       system = h;
@@ -141,9 +141,9 @@ placed lines bits s p r h =
 pub place_keeps : (s : State) (p : Place) → Invariant s → IfGiven Invariant (place s p)
 place_keeps s p h =
     lead (place s p)
-    (placed s.bus.system.nvic.lines s.bus.system.nvic.priority_bits s p h.registers (whole_state s h))
+    (placed s.bus.system.nvic.interrupts s.bus.system.nvic.priority_bits s p h.registers (whole_state s h))
   where
-    lead : (r : Result State PlaceError) → IsPlaced s.bus.system.nvic.lines s.bus.system.nvic.priority_bits r →
+    lead : (r : Result State PlaceError) → IsPlaced s.bus.system.nvic.interrupts s.bus.system.nvic.priority_bits r →
         IfGiven Invariant r
     lead (Ok after) w = record {
       registers = w.registers;
@@ -162,8 +162,8 @@ regions_known count e = split (count == 8) refl
     split true f = inl (grind (arith, nat_tests, f))
     split false f = inr (grind (arith, nat_tests, e, f))
 
-all_lines : (lines : ℕ) → is_line_count lines ≡ true → min lines MOST_LINES ≡ lines
-all_lines lines e = let few : lines ≤ MOST_LINES = grind (arith, nat_tests, e) in omega arith
+all_interrupts : (interrupts : ℕ) → is_interrupt_count interrupts ≡ true → min interrupts MOST_INTERRUPTS ≡ interrupts
+all_interrupts interrupts e = let few : interrupts ≤ MOST_INTERRUPTS = grind (arith, nat_tests, e) in omega arith
 
 pub start_gives : (board : Described) (image : List Segment) → IsBoard board → IfGiven Invariant (start board image)
 unfolding start
@@ -174,14 +174,14 @@ start_gives board image h =
       entry = λ stop entry. absurd (let w : ⊥ = cc in w);
       memory = start_apart board.numbers image h.flash;
       system =
-          sound (min board.numbers.lines MOST_LINES) board.numbers.priority_bits
-          (reset_system board.numbers.flash_base board.numbers.lines board.numbers.priority_bits board.numbers.regions
+          sound (min board.numbers.interrupts MOST_INTERRUPTS) board.numbers.priority_bits
+          (reset_system board.numbers.flash_base board.numbers.interrupts board.numbers.priority_bits board.numbers.regions
           board.script)
           (record {
-            nvic = board_at_reset board.numbers.lines board.numbers.priority_bits;
+            nvic = board_at_reset board.numbers.interrupts board.numbers.priority_bits;
             time =
-                timely_at_start (min board.numbers.lines MOST_LINES) board.script
-                (subst (λ lines. IsScriptFrom lines 1 board.script) (sym (all_lines board.numbers.lines h.lines))
+                timely_at_start (min board.numbers.interrupts MOST_INTERRUPTS) board.script
+                (subst (λ interrupts. IsScriptFrom interrupts 1 board.script) (sym (all_interrupts board.numbers.interrupts h.interrupts))
                 h.script);
             mpu = sound_at_reset board.numbers.regions (regions_known board.numbers.regions h.regions);
           });
@@ -191,13 +191,13 @@ start_gives board image h =
 -- ---- inside a step, outside the entry phase
 
 inside : (s : State) (b : Bus) (r : Registers) → s.entry ≡ None → HasRegisters r →
-    IsWholeBus s.bus.system.nvic.lines s.bus.system.nvic.priority_bits b →
+    IsWholeBus s.bus.system.nvic.interrupts s.bus.system.nvic.priority_bits b →
     Invariant (record s { registers = r; bus = b })
 inside s b r out registers h = record {
   registers = registers;
   entry = λ stop entry. none _ _ out entry;
   memory = h.1;
-  system = sound s.bus.system.nvic.lines s.bus.system.nvic.priority_bits b.system h.0;
+  system = sound s.bus.system.nvic.interrupts s.bus.system.nvic.priority_bits b.system h.0;
 }
 
 pub tick_keeps : (s : State) → TickKeeps s

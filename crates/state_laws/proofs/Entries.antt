@@ -48,31 +48,31 @@ some_none P x e = absurd (let w : ⊥ = cc in w)
 
 pub record IsFault (f : FaultEffect) : Type 0 where
   pub small : f.exception < EXCEPTIONS
-  pub exists : (lines : ℕ) → is_exception lines f.exception ≡ true
+  pub exists : (interrupts : ℕ) → is_exception interrupts f.exception ≡ true
 
 pub access_is : (kind : Kind) (cause : Cause) (address : ℕ) → IsFault (access_fault kind cause address)
-access_is Fetch cause.Mpu address = record { small = omega arith; exists = λ lines. refl }
-access_is Load cause.Mpu address = record { small = omega arith; exists = λ lines. refl }
-access_is Store cause.Mpu address = record { small = omega arith; exists = λ lines. refl }
-access_is Push cause.Mpu address = record { small = omega arith; exists = λ lines. refl }
-access_is Pop cause.Mpu address = record { small = omega arith; exists = λ lines. refl }
-access_is Vector cause.Mpu address = record { small = omega arith; exists = λ lines. refl }
-access_is Probe cause.Mpu address = record { small = omega arith; exists = λ lines. refl }
-access_is Fetch cause.Bus address = record { small = omega arith; exists = λ lines. refl }
-access_is Load cause.Bus address = record { small = omega arith; exists = λ lines. refl }
-access_is Store cause.Bus address = record { small = omega arith; exists = λ lines. refl }
-access_is Push cause.Bus address = record { small = omega arith; exists = λ lines. refl }
-access_is Pop cause.Bus address = record { small = omega arith; exists = λ lines. refl }
-access_is Vector cause.Bus address = record { small = omega arith; exists = λ lines. refl }
-access_is Probe cause.Bus address = record { small = omega arith; exists = λ lines. refl }
+access_is Fetch cause.Mpu address = record { small = omega arith; exists = λ interrupts. refl }
+access_is Load cause.Mpu address = record { small = omega arith; exists = λ interrupts. refl }
+access_is Store cause.Mpu address = record { small = omega arith; exists = λ interrupts. refl }
+access_is Push cause.Mpu address = record { small = omega arith; exists = λ interrupts. refl }
+access_is Pop cause.Mpu address = record { small = omega arith; exists = λ interrupts. refl }
+access_is Vector cause.Mpu address = record { small = omega arith; exists = λ interrupts. refl }
+access_is Probe cause.Mpu address = record { small = omega arith; exists = λ interrupts. refl }
+access_is Fetch cause.Bus address = record { small = omega arith; exists = λ interrupts. refl }
+access_is Load cause.Bus address = record { small = omega arith; exists = λ interrupts. refl }
+access_is Store cause.Bus address = record { small = omega arith; exists = λ interrupts. refl }
+access_is Push cause.Bus address = record { small = omega arith; exists = λ interrupts. refl }
+access_is Pop cause.Bus address = record { small = omega arith; exists = λ interrupts. refl }
+access_is Vector cause.Bus address = record { small = omega arith; exists = λ interrupts. refl }
+access_is Probe cause.Bus address = record { small = omega arith; exists = λ interrupts. refl }
 
 pub usage_is : (fault : UsageFault) → IsFault (usage_fault_of fault)
-usage_is UndefinedInstruction = record { small = omega arith; exists = λ lines. refl }
-usage_is InvalidState = record { small = omega arith; exists = λ lines. refl }
-usage_is InvalidReturn = record { small = omega arith; exists = λ lines. refl }
-usage_is NoCoprocessor = record { small = omega arith; exists = λ lines. refl }
-usage_is Unaligned = record { small = omega arith; exists = λ lines. refl }
-usage_is DivideByZero = record { small = omega arith; exists = λ lines. refl }
+usage_is UndefinedInstruction = record { small = omega arith; exists = λ interrupts. refl }
+usage_is InvalidState = record { small = omega arith; exists = λ interrupts. refl }
+usage_is InvalidReturn = record { small = omega arith; exists = λ interrupts. refl }
+usage_is NoCoprocessor = record { small = omega arith; exists = λ interrupts. refl }
+usage_is Unaligned = record { small = omega arith; exists = λ interrupts. refl }
+usage_is DivideByZero = record { small = omega arith; exists = λ interrupts. refl }
 
 -- ---- pushes and reads of vectors leave the System Control Space
 

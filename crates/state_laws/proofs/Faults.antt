@@ -39,54 +39,54 @@ use Rattle.state_laws.proofs.Candidates.{Calls, Follows, pending_calls, escalati
 use Rattle.state_laws.proofs.Entries.{IsCalled, IsFault, none, some_none, access_is, usage_is, perform_leaves}
 use Rattle.state_laws.proofs.Entries.{vector_apart, pushes_leave}
 
--- what holds of the core registers, and of the bus of a board with these lines and these bits of a priority
-pub record AreGood (lines bits : ℕ) (r : Registers) (b : Bus) : Type 0 where
+-- what holds of the core registers, and of the bus of a board with these interrupts and these bits of a priority
+pub record AreGood (interrupts bits : ℕ) (r : Registers) (b : Bus) : Type 0 where
   pub registers : HasRegisters r
-  pub bus : IsWholeBus lines bits b
+  pub bus : IsWholeBus interrupts bits b
 
 -- a state at the end of a step: an entry phase has a candidate, unless the machine has stopped
-pub record EndsGood (lines bits : ℕ) (s : State) : Type 0 where
-  pub good : AreGood lines bits s.registers s.bus
+pub record EndsGood (interrupts bits : ℕ) (s : State) : Type 0 where
+  pub good : AreGood interrupts bits s.registers s.bus
   pub called : IsCalled s
 
 -- what holds of the bus of a state
 abbrev pub HasWhole : ℕ → ℕ → State → Type 0
-HasWhole lines bits s = IsWholeBus lines bits s.bus
+HasWhole interrupts bits s = IsWholeBus interrupts bits s.bus
 
-module _ (lines bits : ℕ) where
+module _ (interrupts bits : ℕ) where
   -- what holds of a state, and of what a step makes of one
   abbrev pub IsGood : State → Type 0
-  IsGood s = AreGood lines bits s.registers s.bus
+  IsGood s = AreGood interrupts bits s.registers s.bus
 
   abbrev pub LeavesGood : Stepped → Type 0
-  LeavesGood step = EndsGood lines bits step.state
+  LeavesGood step = EndsGood interrupts bits step.state
 
   -- ---- one part changes
 
   pub with_registers_good : (s : State) (r : Registers) → HasRegisters r → IsGood s → IsGood (with_registers s r)
   with_registers_good s r new h = record { registers = new; bus = h.bus }
 
-  pub with_bus_good : (s : State) (b : Bus) → IsWholeBus lines bits b → IsGood s → IsGood (with_bus s b)
+  pub with_bus_good : (s : State) (b : Bus) → IsWholeBus interrupts bits b → IsGood s → IsGood (with_bus s b)
   with_bus_good s b new h = record { registers = h.registers; bus = new }
 
-  pub with_system_good : (s : State) (y : System) → IsWhole lines bits y → IsGood s → IsGood (with_system s y)
+  pub with_system_good : (s : State) (y : System) → IsWhole interrupts bits y → IsGood s → IsGood (with_system s y)
   with_system_good s y new h = with_bus_good s (with_system s y).bus (new, h.bus.1) h
 
   with_status_good : (s : State) (st : Status) → IsGood s → IsGood (with_status s st)
   with_status_good s st h =
       with_system_good s (with_status s st).bus.system
-      (with_status_kept (parts_kept lines bits) s.bus.system st h.bus.0) h
+      (with_status_kept (parts_kept interrupts bits) s.bus.system st h.bus.0) h
 
   pended_good : (s : State) (x : ℕ) → IsGood s → IsGood (pended s x)
   pended_good s x h =
-      with_system_good s (pended s x).bus.system (pending_kept (parts_kept lines bits) s.bus.system x true h.bus.0) h
+      with_system_good s (pended s x).bus.system (pending_kept (parts_kept interrupts bits) s.bus.system x true h.bus.0) h
 
   -- ---- the end of a step
 
-  pub out_good : (s : State) → s.entry ≡ None → IsGood s → EndsGood lines bits s
+  pub out_good : (s : State) → s.entry ≡ None → IsGood s → EndsGood interrupts bits s
   out_good s out h = record { good = h; called = λ stop entry. none _ _ out entry }
 
-  stop_good : (s : State) (why : Stop) → s.stop ≡ Some why → IsGood s → EndsGood lines bits s
+  stop_good : (s : State) (why : Stop) → s.stop ≡ Some why → IsGood s → EndsGood interrupts bits s
   stop_good s why is h = record { good = h; called = λ stop entry. some_none _ why (sym is ∙ stop) }
 
   -- ---- faults
@@ -106,7 +106,7 @@ module _ (lines bits : ℕ) where
   faulted_good s events f is h =
       escalated_good (recorded s f) events f.exception _
       (escalation_follows s.bus.system.nvic f.exception h.bus.0.nvic.board.sets.pending.places is.small
-      (is.exists s.bus.system.nvic.lines))
+      (is.exists s.bus.system.nvic.interrupts))
       (with_status_good s _ h)
 
   pub failed_good : (s : State) (events : List Event) (why : Failure) → IsGood s → LeavesGood (failed s events why)
@@ -145,7 +145,7 @@ module _ (lines bits : ℕ) where
       (rw (ap (λ (t : System). is_some (candidate t.nvic)) (pushes_leave s)) c)
       (record {
         registers = sp_kept writes_kept s.registers (frame_base (sp s.registers)) h.registers;
-        bus = served_whole lines bits s.registers.exception s.bus.system.time.ticks s.bus (pushes s.registers) h.bus;
+        bus = served_whole interrupts bits s.registers.exception s.bus.system.time.ticks s.bus (pushes s.registers) h.bus;
       })
 
   refused_good : (s : State) (events : List Event) (x : ℕ) → Calls s.bus.system.nvic → IsGood s →
@@ -163,7 +163,7 @@ module _ (lines bits : ℕ) where
   vector_good s events x e (Ok vector) small c h = record {
     good = record {
       registers = handler_kept s.registers x e vector small h.registers;
-      bus = (begun_kept (parts_kept lines bits) s.bus.system x h.bus.0, h.bus.1);
+      bus = (begun_kept (parts_kept interrupts bits) s.bus.system x h.bus.0, h.bus.1);
     };
     called = λ stop entry. absurd (let w : ⊥ = cc in w);
   }
@@ -180,7 +180,7 @@ module _ (lines bits : ℕ) where
       vector_good (with_bus s answer.bus) _ x e (value_of q answer.performed) small
       (rw (ap (λ (t : System). is_some (candidate t.nvic))
       (perform_leaves s.registers.exception s.bus q (vector_apart s x))) c)
-      (with_bus_good s answer.bus (perform_whole lines bits s.registers.exception s.bus q h.bus) h)
+      (with_bus_good s answer.bus (perform_whole interrupts bits s.registers.exception s.bus q h.bus) h)
 
   any_good : (s : State) (e : ℕ) (next : Option ℕ) → IsBelow EXCEPTIONS next → Calls s.bus.system.nvic → IsGood s →
       LeavesGood (taken_if_any s e next)
@@ -215,7 +215,7 @@ module _ (lines bits : ℕ) where
       let all = perform_all s.registers.exception s.bus.system.time.ticks s.bus (pops s.registers e) in
       read_good s events e all all.failure out
       (with_bus_good s all.bus
-      (served_whole lines bits s.registers.exception s.bus.system.time.ticks s.bus (pops s.registers e) h.bus) h)
+      (served_whole interrupts bits s.registers.exception s.bus.system.time.ticks s.bus (pops s.registers e) h.bus) h)
 
   chained_good : (s : State) (events : List Event) (e : ℕ) (next : Option ℕ) → candidate s.bus.system.nvic ≡ next →
       s.entry ≡ None → IsGood s → LeavesGood (chained s events e next)
@@ -234,5 +234,5 @@ module _ (lines bits : ℕ) where
       let ended = exception_ended s.bus.system s.registers.exception in
       cond_both (has_reserved_ones e) _ _ LeavesGood
       (λ ones. returned_good (with_system s ended) (before ++ return_line s e ∷ []) e (is_allowed s e) out
-      (with_system_good s ended (ended_kept (parts_kept lines bits) s.bus.system s.registers.exception h.bus.0) h))
+      (with_system_good s ended (ended_kept (parts_kept interrupts bits) s.bus.system s.registers.exception h.bus.0) h))
       (λ other. stop_good _ _ refl h)

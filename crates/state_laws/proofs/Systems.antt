@@ -10,20 +10,20 @@ use Rattle.state_laws.proofs.Sets.{HasBoard, board_kept}
 use Rattle.state_laws.proofs.Ticks.{IsTimely, with_timer, tick_timely}
 
 abbrev pub whole_parts : ℕ → ℕ → Parts
-whole_parts lines bits = record { nvic = HasBoard lines bits; time = IsTimely lines; mpu = IsSound }
+whole_parts interrupts bits = record { nvic = HasBoard interrupts bits; time = IsTimely interrupts; mpu = IsSound }
 
--- what holds of the System Control Space of a board with these lines and these bits of a priority
+-- what holds of the System Control Space of a board with these interrupts and these bits of a priority
 abbrev pub IsWhole : ℕ → ℕ → System → Type 0
-IsWhole lines bits = HasParts (whole_parts lines bits)
+IsWhole interrupts bits = HasParts (whole_parts interrupts bits)
 
-pub parts_kept : (lines bits : ℕ) → PartsAreKept (whole_parts lines bits)
-parts_kept lines bits = record {
-  nvic = board_kept lines bits;
-  read = λ t it h. with_timer lines t _ (read_bits t.systick it h.timer) h;
-  written = λ t it value h. with_timer lines t _ (write_bits t.systick it value h.timer) h;
+pub parts_kept : (interrupts bits : ℕ) → PartsAreKept (whole_parts interrupts bits)
+parts_kept interrupts bits = record {
+  nvic = board_kept interrupts bits;
+  read = λ t it h. with_timer interrupts t _ (read_bits t.systick it h.timer) h;
+  written = λ t it value h. with_timer interrupts t _ (write_bits t.systick it value h.timer) h;
   mpu = sound_after_write;
 }
 
-pub tick_whole : (lines bits : ℕ) (s : System) → s.time.ticks < last_tick → IsWhole lines bits s →
-    IsWhole lines bits (after_tick s)
-tick_whole lines bits s early h = tick_kept (parts_kept lines bits) s (tick_timely lines s.time early h.time) h
+pub tick_whole : (interrupts bits : ℕ) (s : System) → s.time.ticks < last_tick → IsWhole interrupts bits s →
+    IsWhole interrupts bits (after_tick s)
+tick_whole interrupts bits s early h = tick_kept (parts_kept interrupts bits) s (tick_timely interrupts s.time early h.time) h

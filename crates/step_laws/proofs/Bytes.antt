@@ -103,9 +103,9 @@ console_unrefused tick q true e = rw e (unrefused-cons _ [] refl unrefused-nil)
 console_unrefused tick q false e = rw e unrefused-nil
 
 -- the lines of an access end as it does
-pub told_ends : (tick : ℕ) (q : Request) (p : Performed) → EndIn (failure_in (value_of q p)) (access_lines tick q p)
-told_ends tick q (performed.Done rule value) = unrefused-cons _ _ refl (console_unrefused tick q _ refl)
-told_ends tick q (performed.Denied rule cause) = record {
+pub shown_ends : (tick : ℕ) (q : Request) (p : Performed) → EndIn (failure_in (value_of q p)) (access_lines tick q p)
+shown_ends tick q (performed.Done rule value) = unrefused-cons _ _ refl (console_unrefused tick q _ refl)
+shown_ends tick q (performed.Denied rule cause) = record {
   unrefused = [];
   refused = accessed tick q rule (Some cause);
   rule = rule;
@@ -113,7 +113,7 @@ told_ends tick q (performed.Denied rule cause) = record {
   none_refused = unrefused-nil;
   is_refusal = refl;
 }
-told_ends tick q (performed.Stop why) = unrefused-nil
+shown_ends tick q (performed.Stop why) = unrefused-nil
 
 -- ---- a list of accesses
 
@@ -136,6 +136,6 @@ pub served_well : (exception tick : ℕ) (b : Bus) (qs : List Request) →
 unfolding perform_all
 served_well exception tick b [] = record { ends = unrefused-nil; only = covered-same b.memory [] }
 served_well exception tick b (q ∷ qs) =
-    followed_well b.memory _ _ _ _ (told_ends tick q (perform exception b q).performed)
+    followed_well b.memory _ _ _ _ (shown_ends tick q (perform exception b q).performed)
     (perform_writes exception tick b q)
     (served_well exception tick (perform exception b q).bus qs)

@@ -21,7 +21,7 @@ use Rattle.reference.specs.State.{State, with_bus, with_system}
 use Rattle.step_laws.specs.AccessLaw.{OnlyCovered}
 use Rattle.step_laws.proofs.Lines.{unrefused-nil, unrefused-cons, unrefused-append, EndIn, failure_in, ends-append}
 use Rattle.step_laws.proofs.Lines.{covered-append, covered-more}
-use Rattle.step_laws.proofs.Bytes.{perform_writes, told_ends, ServedWell, served_well}
+use Rattle.step_laws.proofs.Bytes.{perform_writes, shown_ends, ServedWell, served_well}
 use Rattle.step_laws.proofs.Faults.{IsLawful, MayGoOn, at_first, goes_on_lawful, failed_unrefused, failed_lawful}
 use Rattle.step_laws.proofs.Faults.{vector_refused_lawful}
 
@@ -60,7 +60,7 @@ taken_lawful s e x =
     let answer = perform s.registers.exception s.bus q in
     vector_lawful s.bus.memory (with_bus s answer.bus) x e (access_lines s.bus.system.time.ticks q answer.performed) q
     answer.performed refl
-    (told_ends s.bus.system.time.ticks q answer.performed)
+    (shown_ends s.bus.system.time.ticks q answer.performed)
     (perform_writes s.registers.exception s.bus.system.time.ticks s.bus q)
 
 any_lawful : (s : State) (e : ℕ) (next : Option ℕ) → IsLawful s.bus.memory (taken_if_any s e next)

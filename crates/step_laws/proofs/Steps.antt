@@ -32,7 +32,7 @@ use Rattle.reference.specs.Time.{last_tick}
 use Rattle.step_laws.specs.AccessLaw.{OnlyCovered}
 use Rattle.step_laws.proofs.Lines.{unrefused-nil, unrefused-append, EndIn, failure_in, ends-append}
 use Rattle.step_laws.proofs.Lines.{covered-append, covered-same}
-use Rattle.step_laws.proofs.Bytes.{perform_writes, told_ends, ServedWell, served_well}
+use Rattle.step_laws.proofs.Bytes.{perform_writes, shown_ends, ServedWell, served_well}
 use Rattle.step_laws.proofs.Faults.{IsLawful, MayGoOn, at_first, goes_on_lawful, failed_unrefused, failed_lawful}
 use Rattle.step_laws.proofs.Faults.{supervisor_lawful}
 use Rattle.step_laws.proofs.Exceptions.{entry_lawful, vector_step_lawful, return_lawful}
@@ -122,7 +122,7 @@ fetch_leaves old s events q ready =
       ends =
           ends-append (failure_in (value_of q answer.performed)) events
           (access_lines s.bus.system.time.ticks q answer.performed) ready.unrefused
-          (told_ends s.bus.system.time.ticks q answer.performed);
+          (shown_ends s.bus.system.time.ticks q answer.performed);
       only =
           covered-append old s.bus.memory answer.bus.memory events
           (access_lines s.bus.system.time.ticks q answer.performed)

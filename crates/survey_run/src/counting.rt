@@ -8,7 +8,7 @@ ghost use Rattle.survey.specs.Surveys.{with_events};
 ghost use Rattle.survey_run.specs.Begun.{emission, events_of, no_moment, no_survey};
 
 use crate::history::History;
-use machine::{CodeLines, Decider, DueTicks, Levels, Machine};
+use machine::{Decider, DueTicks, KeptCode, Levels, Machine};
 use reference::event::Event;
 use std::marker::{Brand, PhantomData};
 use survey::{Moment, Survey};
@@ -59,7 +59,7 @@ impl<'a, K: Begun> CountedEvents<'a, K> {
 
     /// Makes a step of a machine, and counts its events.
     #[inline(always)]
-    pub fn take_step<D: Decider, C: CodeLines, L: Levels, U: DueTicks>(
+    pub fn take_step<D: Decider, C: KeptCode, L: Levels, U: DueTicks>(
         &mut self,
         machine: &mut Machine<D, C, L, U>,
     )

@@ -10,13 +10,13 @@ mod counting;
 mod history;
 
 use counting::{Begun, CountedEvents};
-use machine::{CodeLines, Decider, DueTicks, Levels, Machine, Stop};
+use machine::{Decider, DueTicks, KeptCode, Levels, Machine, Stop};
 use std::marker::Brand;
 use survey::{Moment, Survey};
 
 /// Makes at most `limit` steps, up to the first stop, and counts each of them. Writes nothing. Returns the stop,
 /// `StepLimit` where the machine hasn't stopped.
-pub fn survey_run<D: Decider, C: CodeLines, L: Levels, U: DueTicks>(
+pub fn survey_run<D: Decider, C: KeptCode, L: Levels, U: DueTicks>(
     machine: &mut Machine<D, C, L, U>,
     limit: u64,
     survey: &mut Survey,
@@ -38,7 +38,7 @@ pub fn survey_run<D: Decider, C: CodeLines, L: Levels, U: DueTicks>(
 
 /// Makes a step, and counts it.
 #[inline(always)]
-fn survey_step<D: Decider, C: CodeLines, L: Levels, U: DueTicks>(
+fn survey_step<D: Decider, C: KeptCode, L: Levels, U: DueTicks>(
     machine: &mut Machine<D, C, L, U>,
     survey: &mut Survey,
 )
@@ -53,7 +53,7 @@ fn survey_step<D: Decider, C: CodeLines, L: Levels, U: DueTicks>(
 
 /// Makes a step that begins so, and counts its events.
 #[inline(always)]
-fn count_step<K: Begun, D: Decider, C: CodeLines, L: Levels, U: DueTicks>(
+fn count_step<K: Begun, D: Decider, C: KeptCode, L: Levels, U: DueTicks>(
     machine: &mut Machine<D, C, L, U>,
     moment: &Moment,
     survey: &mut Survey,
@@ -70,7 +70,7 @@ fn count_step<K: Begun, D: Decider, C: CodeLines, L: Levels, U: DueTicks>(
 /// Returns what a survey takes from the state in which a step begins.
 #[inline]
 #[tactic(auto, unfolding(survey::specs::Surveys::moment_of))]
-fn moment_of<D: Decider, C: CodeLines, L: Levels, U: DueTicks>(
+fn moment_of<D: Decider, C: KeptCode, L: Levels, U: DueTicks>(
     machine: &Machine<D, C, L, U>,
 ) -> Moment
     ensures { result ≡ moment_of machine.now.state }

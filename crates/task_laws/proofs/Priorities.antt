@@ -6,7 +6,7 @@ use Rattle.instruction_set.specs.Sizes.{is_word}
 use Rattle.nvic.proofs.BelowZero.{below_zero}
 use Rattle.nvic.proofs.Changes.{pended_kept}
 use Rattle.reference.specs.declared.access.Request.{Request}
-use Rattle.reference.specs.declared.exception.TheConstants.{FIRST_LINE}
+use Rattle.reference.specs.declared.exception.TheConstants.{FIRST_INTERRUPT}
 use Rattle.reference.specs.declared.system.ControlRegister.TheVariants as control
 use Rattle.reference.specs.declared.system.SystemRegister.{SystemRegister}
 use Rattle.reference.specs.declared.system.SystemRegister.TheVariants as register
@@ -67,7 +67,7 @@ module _ (m : Mpu) (z : Bool) where
       (λ f. cond_both (is_store q.access.kind) _ _ (λ (a : SystemAnswer). Decides m z a.system)
       (λ g. record {
         mpu = d.mpu;
-        below_zero = pending_alike s.nvic (FIRST_LINE + q.value % 2 ^ 9) true ∙ d.below_zero;
+        below_zero = pending_alike s.nvic (FIRST_INTERRUPT + q.value % 2 ^ 9) true ∙ d.below_zero;
       })
       (λ g. d)))
 

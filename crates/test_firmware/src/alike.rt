@@ -5,7 +5,7 @@ ghost use Rattle.std.specs.Prelude.{◌≡◌};
 use board::Board;
 use debugger::session;
 use elf::load;
-use machine::{CodeLines, Decider, DueTicks, Fast, Levels, Machine, Over};
+use machine::{Decider, DueTicks, Fast, KeptCode, Levels, Machine, Over};
 use std::alloc::Global;
 use std::io;
 use std::io::Write;
@@ -69,7 +69,7 @@ fn answers_of(alloc: Global, board: &Board, commands: &[u8], image: &[u8]) -> Op
 }
 
 /// Holds a session of a machine, and returns its answers.
-fn talk<D: Decider, C: CodeLines, L: Levels, U: DueTicks>(
+fn talk<D: Decider, C: KeptCode, L: Levels, U: DueTicks>(
     alloc: Global,
     machine: &mut Machine<D, C, L, U>,
     commands: &[u8],
@@ -78,7 +78,7 @@ fn talk<D: Decider, C: CodeLines, L: Levels, U: DueTicks>(
 }
 
 /// Holds a session of a machine: makes the reader, whose ledger `blank` is of.
-fn hear<D: Decider, C: CodeLines, L: Levels, U: DueTicks, K: Ledger>(
+fn hear<D: Decider, C: KeptCode, L: Levels, U: DueTicks, K: Ledger>(
     alloc: Global,
     machine: &mut Machine<D, C, L, U>,
     commands: &[u8],
@@ -93,7 +93,7 @@ fn hear<D: Decider, C: CodeLines, L: Levels, U: DueTicks, K: Ledger>(
 }
 
 /// Holds a session of a machine, and returns its answers after those of `answers`.
-fn answer<D: Decider, C: CodeLines, L: Levels, U: DueTicks, J: Ledger, K: Ledger>(
+fn answer<D: Decider, C: KeptCode, L: Levels, U: DueTicks, J: Ledger, K: Ledger>(
     machine: &mut Machine<D, C, L, U>,
     input: &mut Over<&[u8], J>,
     answers: Vec<u8>,

@@ -6,7 +6,7 @@ use data_edges_sums::SUMS;
 use decode::{Decoded, decode, is_long};
 use edge_stops::STOPS;
 use edges::EDGES;
-use exec::{Failure, Requests, Traps, finish, plan};
+use exec::{Failure, Requests, Traps, finish, wants};
 use instruction_set::registers::Register;
 use instruction_set::unpredictable::UnpredictableCase;
 use lines::Case;
@@ -57,7 +57,7 @@ fn step(regs: &mut Regs, memory: &mut Memory) -> Result<Ending, Failure> {
         unaligned: false,
         divide_by_zero: false,
     };
-    plan(&coded, regs, traps, &mut requests)?;
+    wants(&coded, regs, traps, &mut requests)?;
     let mut values: ArrayVec<u32, 16> = ArrayVec::new();
     'requests: for request in requests.as_slice() {
         let _ = values.try_push(memory.carry_out(request));

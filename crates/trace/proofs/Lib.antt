@@ -1,5 +1,5 @@
 pub mod Pairs
-pub mod Parts
+pub mod PartsOfLines
 pub mod Lists
 pub mod Ticks
 pub mod Selecting

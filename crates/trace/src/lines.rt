@@ -31,7 +31,7 @@ const STOP_ROOM: usize = 40;
 pub type Text = Page<64>;
 
 /// Returns the line of an event.
-#[tactic(auto, using(crate::proofs::Parts::tick_and_tail))]
+#[tactic(auto, using(crate::proofs::PartsOfLines::tick_and_tail))]
 pub fn event_line(event: &Event) -> Text
     ensures { result ≡ line event.now }
 {
@@ -53,7 +53,7 @@ pub fn stop_line(stop: &Stop) -> Text
 impl<const ROOM: usize> Page<ROOM> {
     /// Appends the line of an event. Most are accesses, so these are tested for first.
     #[inline(always)]
-    #[tactic(auto, using(crate::proofs::Parts::tick_and_tail))]
+    #[tactic(auto, using(crate::proofs::PartsOfLines::tick_and_tail))]
     pub fn put_event(&mut self, digits: &mut LineDigits, event: &Event)
         requires { length self.old + 64 ≤ ROOM }
         ensures text { self.new ≡ self.old ++ line event.now }
@@ -123,7 +123,7 @@ impl<const ROOM: usize> Page<ROOM> {
 
     /// Appends the line of an access but for its tick. Most lines are of this kind.
     #[inline(always)]
-    #[tactic(auto, using(crate::proofs::Parts::head_and_rule))]
+    #[tactic(auto, using(crate::proofs::PartsOfLines::head_and_rule))]
     fn put_access(&mut self, digits: &mut LineDigits, decided: &DecidedAccess)
         requires { length self.old + TAIL_ROOM ≤ ROOM }
         ensures text { self.new ≡ self.old ++ tail (Accessed decided.now) }
@@ -134,7 +134,7 @@ impl<const ROOM: usize> Page<ROOM> {
     }
 
     /// Appends the line of any access but for its tick.
-    #[tactic(auto, using(crate::proofs::Parts::head_and_rule))]
+    #[tactic(auto, using(crate::proofs::PartsOfLines::head_and_rule))]
     fn put_any_access(&mut self, decided: DecidedAccess)
         requires { length self.old + TAIL_ROOM ≤ ROOM }
         ensures text { self.new ≡ self.old ++ tail (Accessed decided) }

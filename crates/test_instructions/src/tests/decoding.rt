@@ -3,16 +3,16 @@
 ghost use Rattle.std.specs.Prelude.{◌<◌};
 
 use assembled::{COPROCESSORS, LONG_CONTROL, LONG_DATA, LONG_OTHERS, SHORT, UNDEFINED};
-use code_lines::Lines;
-use decode::{CodeLines, Decoded, Reread, decode, is_long};
+use decode::{Decoded, KeptCode, Reread, decode, is_long};
+use decode_table::Lines;
+use operands::all_operands;
 use std::test::*;
 use stops::STOPS;
 use test_tables::{Rows, byte_at, check, halfword_at, numbers, part};
-use told::told_operands;
 
 mod assembled;
+mod operands;
 mod stops;
-mod told;
 
 /// The two halfwords in a line from that place on.
 fn halfwords_at(line: &str, place: usize) -> Option<(u16, u16)>
@@ -48,7 +48,7 @@ impl Rows for Coded {
         Some(
             length == coded.length.bytes()
                 && place == coded.place as u32
-                && told_operands(&coded.instruction) == Some([variant, a, b, c, d, e, f, g]),
+                && all_operands(&coded.instruction) == Some([variant, a, b, c, d, e, f, g]),
         )
     }
 }
@@ -149,7 +149,7 @@ fn lines_are_read_again(rt: HostRuntime) -> Result<(), Fail> {
 fn constant_of(decoded: &Decoded) -> Option<u32> {
     match decoded {
         Decoded::Instr(coded) => {
-            let [_, _, _, _, constant, _, _, _] = told_operands(&coded.instruction)?;
+            let [_, _, _, _, constant, _, _, _] = all_operands(&coded.instruction)?;
             Some(constant)
         }
         Decoded::Undefined | Decoded::NoCoprocessor | Decoded::Unpredictable(_, _) => None,

@@ -165,8 +165,8 @@ fn carry(part: &str, place: usize) -> Option<bool> {
 }
 
 /// Returns whether a word and a carry are those.
-fn is_word_and_carry(told: (u32, bool), wanted: &str) -> bool {
-    number_at(wanted, 0) == Some(told.0) && carry(wanted, 1) == Some(told.1)
+fn is_word_and_carry(operand: (u32, bool), wanted: &str) -> bool {
+    number_at(wanted, 0) == Some(operand.0) && carry(wanted, 1) == Some(operand.1)
 }
 
 /// Two words and a carry, and their sum.

@@ -8,7 +8,7 @@ use std::test::*;
 use test_tables::{Rows, check, part, word};
 
 /// How an access was decided: the rule's word, and its outcome.
-fn told(performed: Performed) -> (&'static str, &'static str) {
+fn words_of(performed: Performed) -> (&'static str, &'static str) {
     match performed {
         Performed::Done(rule, _) => (rule_word(rule), "ok"),
         Performed::Denied(rule, Cause::Mpu) => (rule_word(rule), "mpu"),
@@ -26,7 +26,7 @@ struct Accesses {
 impl Rows for Accesses {
     /// Returns whether the next access has the lines that its row says.
     fn holds(&mut self, row: &str) -> Option<bool> {
-        let (rule, outcome) = told(self.bus.perform(0, &request(part(row, 0))?));
+        let (rule, outcome) = words_of(self.bus.perform(0, &request(part(row, 0))?));
         let wanted = part(row, 1);
         Some(rule == word(wanted, 0) && outcome == word(wanted, 1))
     }

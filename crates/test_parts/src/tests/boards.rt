@@ -584,7 +584,7 @@ fn numbers(layout: Layout) -> [u32; 5] {
         layout.flash_size,
         layout.ram_size,
         layout.priority_bits as u32,
-        layout.lines as u32,
+        layout.interrupts as u32,
     ]
 }
 

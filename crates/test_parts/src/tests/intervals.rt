@@ -2,9 +2,9 @@
 
 use super::settings::{registers_of, write_pairs};
 use super::words::{ALL_KINDS, rule_word};
-use access_table::{KeptDecisions, Table};
 use clock::{Ahead, Clock, Due, ScriptedEvent, Signal};
 use mpu::{Decider, Decision, Kind, MpuRegs, Search};
+use mpu_table::{KeptDecisions, Table};
 use std::test::*;
 use test_tables::{Rows, check, number_at, part};
 

@@ -1,7 +1,7 @@
 //! Exceptions as sets of bits beside exceptions as plain sets: the same changes, the same answers.
 
-use bit_levels::BitLevels;
 use nvic::{Escalation, Levels, PlainLevels};
+use nvic_levels::BitLevels;
 use std::test::*;
 
 /// The next number of a fixed list.

@@ -1,6 +1,6 @@
 //! The registers of the MPU (ARM DDI 0403, "Protected Memory System Architecture, PMSAv7").
 
-use super::regions::{decision, is_told};
+use super::regions::{decision, is_decided};
 use super::settings::{setting, write_pairs};
 use super::words::is_number;
 use instruction_set::unpredictable::UnpredictableCase;
@@ -103,9 +103,9 @@ impl Rows for Reloaded {
         let registers = setting(part(row, 0))?;
         let access = part(row, 1);
         let mut search = Search::fresh(&MpuRegs::new(registers.count()));
-        let before = is_told(decision(&search, access)?, part(row, 2));
+        let before = is_decided(decision(&search, access)?, part(row, 2));
         search.reload(&registers);
-        let after = is_told(decision(&search, access)?, part(row, 3));
+        let after = is_decided(decision(&search, access)?, part(row, 3));
         let owner = registers.owner(number_at(access, 1)?);
         Some(before && after && owner == Some(byte_at(part(row, 4), 0)?))
     }

@@ -16,7 +16,7 @@ pub(super) fn decision(search: &Search, access: &str) -> Option<Decision> {
 }
 
 /// Returns whether that rule decided, and granted or refused it.
-pub(super) fn is_told(decision: Decision, wanted: &str) -> bool {
+pub(super) fn is_decided(decision: Decision, wanted: &str) -> bool {
     rule_word(decision.rule) == word(wanted, 0)
         && is_first(word(wanted, 1), "ok", "mpu") == Some(decision.granted)
 }
@@ -28,7 +28,7 @@ struct Decisions;
 impl Rows for Decisions {
     fn holds(&mut self, row: &str) -> Option<bool> {
         let search = Search::fresh(&setting(part(row, 0))?);
-        Some(is_told(decision(&search, part(row, 1))?, part(row, 2)))
+        Some(is_decided(decision(&search, part(row, 1))?, part(row, 2)))
     }
 }
 
@@ -150,8 +150,8 @@ fn access_permissions() -> Result<(), Fail> {
 /// switched on, and to none where it's switched off.
 fn is_eighth_so(search: &Search, first: u32, is_off: bool) -> bool {
     let wanted = if is_off { "none mpu" } else { "r0 ok" };
-    is_told(search.decide(first, Kind::Store, false, false), wanted)
-        && is_told(search.decide(first | 31, Kind::Store, false, false), wanted)
+    is_decided(search.decide(first, Kind::Store, false, false), wanted)
+        && is_decided(search.decide(first | 31, Kind::Store, false, false), wanted)
 }
 
 /// Regions with one eighth that is switched off.

@@ -8,7 +8,7 @@ use instruction_set::unpredictable::UnpredictableCase;
 use mpu::Search;
 use nvic::PlainLevels;
 use reference::access::{Access, Answer, Kind, Request};
-use reference::script::{InterruptLine, ScriptedEvent, Signal};
+use reference::script::{InterruptNumber, ScriptedEvent, Signal};
 use reference::stop::{LeftOut, Stop};
 use scs::System;
 use std::alloc::Global;
@@ -402,7 +402,7 @@ fn event(at: u64, what: Signal) -> ScriptedEvent {
 
 #[test]
 fn ticks_pend_what_they_bring(rt: HostRuntime) -> Result<(), Fail> {
-    let (first, second) = (InterruptLine::new(1), InterruptLine::new(2));
+    let (first, second) = (InterruptNumber::new(1), InterruptNumber::new(2));
     let mut script = Vec::new(rt.alloc());
     script.push(event(3, Signal::Pulse(first)))?;
     script.push(event(4, Signal::Rise(second)))?;

@@ -2,8 +2,8 @@
 //! (ARM DDI 0403, "System timer, SysTick") and from the rules of lines and scripts.
 
 use clock::{Clock, Counting, Due};
-use reference::exception::MOST_LINES;
-use reference::script::{InterruptLine, ScriptedEvent, Signal};
+use reference::exception::MOST_INTERRUPTS;
+use reference::script::{InterruptNumber, ScriptedEvent, Signal};
 use std::alloc::Global;
 use std::test::*;
 use test_tables::{Rows, byte_at, check, is_first, long_at, number, number_at, numbers, part};
@@ -25,10 +25,10 @@ fn set_of(numbers: &str) -> Option<Due> {
 }
 
 /// The line of this number.
-fn line(word: &str) -> Option<InterruptLine> {
+fn line(word: &str) -> Option<InterruptNumber> {
     let number = byte_at(word, 0)?;
-    if number < MOST_LINES {
-        Some(InterruptLine::new(number))
+    if number < MOST_INTERRUPTS {
+        Some(InterruptNumber::new(number))
     } else {
         None
     }

@@ -6,7 +6,7 @@ use super::machines::NO_SEGMENTS;
 use super::writers::run_gathered;
 use elf::load;
 use machine::{
-    Board, CodeLines, Decider, DueTicks, Fast, InterruptLine, Levels, Machine, Place, SMALL_BOARD,
+    Board, Decider, DueTicks, Fast, InterruptNumber, KeptCode, Levels, Machine, Place, SMALL_BOARD,
     ScriptedEvent, Signal, Slow,
 };
 use std::alloc::{AllocError, Global};
@@ -53,7 +53,7 @@ impl Numbers {
 
 /// An event on one of the eight lines, or an NMI.
 fn signal(numbers: &mut Numbers) -> Signal {
-    let line = InterruptLine::new(numbers.below(8) as u8);
+    let line = InterruptNumber::new(numbers.below(8) as u8);
     match numbers.below(8) {
         0 => Signal::Nmi,
         1 | 2 => Signal::Rise(line),
@@ -123,7 +123,7 @@ const SETTINGS: [(u32, u32, u32); 14] = [
 ];
 
 /// Places code, vectors into it, values in registers, and settings. A place that is refused stays.
-fn fill<D: Decider, C: CodeLines, L: Levels, U: DueTicks>(
+fn fill<D: Decider, C: KeptCode, L: Levels, U: DueTicks>(
     machine: &mut Machine<D, C, L, U>,
     numbers: &mut Numbers,
 ) {
@@ -148,7 +148,7 @@ fn fill<D: Decider, C: CodeLines, L: Levels, U: DueTicks>(
 }
 
 /// The trace of a machine over the image and the board of a seed.
-fn trace<D: Decider, C: CodeLines, L: Levels, U: DueTicks>(
+fn trace<D: Decider, C: KeptCode, L: Levels, U: DueTicks>(
     machine: &mut Machine<D, C, L, U>,
     alloc: Global,
     seed: u32,

@@ -3,7 +3,7 @@
 ghost use Rattle.std.specs.Prelude.{◌≡◌};
 
 use arrayvec::ArrayVec;
-use machine::{CodeLines, Decider, DueTicks, Levels, Machine, Over, RunError, Stop, TaskEnd};
+use machine::{Decider, DueTicks, KeptCode, Levels, Machine, Over, RunError, Stop, TaskEnd};
 use std::io;
 use std::io::{Read, Write};
 use std::marker::Brand;
@@ -84,7 +84,7 @@ impl Write for Cut {
 }
 
 /// A run of at most this number of steps.
-pub(super) fn run<D: Decider, C: CodeLines, L: Levels, U: DueTicks>(
+pub(super) fn run<D: Decider, C: KeptCode, L: Levels, U: DueTicks>(
     machine: &mut Machine<D, C, L, U>,
     steps: u32,
     out: &mut Cut,
@@ -92,7 +92,7 @@ pub(super) fn run<D: Decider, C: CodeLines, L: Levels, U: DueTicks>(
     run_over::<D, C, L, U, Brand>(machine, steps, out, Blank::new(1))
 }
 
-fn run_over<D: Decider, C: CodeLines, L: Levels, U: DueTicks, K: Ledger>(
+fn run_over<D: Decider, C: KeptCode, L: Levels, U: DueTicks, K: Ledger>(
     machine: &mut Machine<D, C, L, U>,
     steps: u32,
     out: &mut Cut,
@@ -107,7 +107,7 @@ fn run_over<D: Decider, C: CodeLines, L: Levels, U: DueTicks, K: Ledger>(
 }
 
 /// A run of a task, of at most this number of steps.
-pub(super) fn run_task<D: Decider, C: CodeLines, L: Levels, U: DueTicks>(
+pub(super) fn run_task<D: Decider, C: KeptCode, L: Levels, U: DueTicks>(
     machine: &mut Machine<D, C, L, U>,
     steps: u32,
     out: &mut Cut,
@@ -115,7 +115,7 @@ pub(super) fn run_task<D: Decider, C: CodeLines, L: Levels, U: DueTicks>(
     run_task_over::<D, C, L, U, Brand>(machine, steps, out, Blank::new(1))
 }
 
-fn run_task_over<D: Decider, C: CodeLines, L: Levels, U: DueTicks, K: Ledger>(
+fn run_task_over<D: Decider, C: KeptCode, L: Levels, U: DueTicks, K: Ledger>(
     machine: &mut Machine<D, C, L, U>,
     steps: u32,
     out: &mut Cut,

@@ -12,7 +12,7 @@ use super::traces::TRACES;
 use arrayvec::ArrayVec;
 use debugger::{SessionError, session};
 use machine::{
-    Ahead, BitLevels, Buffered, CodeLines, Counting, Decider, DueTicks, In, KeptDecisions,
+    Ahead, BitLevels, Buffered, Counting, Decider, DueTicks, In, KeptCode, KeptDecisions,
     KeptPriorities, Levels, Lines, Machine, Over, Paged, PlainLevels, Reread, RunError, Search,
     Slow, Stop, Table, TaskEnd,
 };
@@ -64,7 +64,7 @@ struct Ended {
 }
 
 /// A run into a writer that is cut.
-fn run_cut<D: Decider, C: CodeLines, L: Levels, U: DueTicks>(
+fn run_cut<D: Decider, C: KeptCode, L: Levels, U: DueTicks>(
     machine: &mut Machine<D, C, L, U>,
     steps: u32,
     ending: Ending,
@@ -72,7 +72,7 @@ fn run_cut<D: Decider, C: CodeLines, L: Levels, U: DueTicks>(
     run_over::<D, C, L, U, Brand>(machine, steps, ending, Blank::new(1))
 }
 
-fn run_over<D: Decider, C: CodeLines, L: Levels, U: DueTicks, K: Ledger>(
+fn run_over<D: Decider, C: KeptCode, L: Levels, U: DueTicks, K: Ledger>(
     machine: &mut Machine<D, C, L, U>,
     steps: u32,
     ending: Ending,
@@ -92,7 +92,7 @@ fn run_over<D: Decider, C: CodeLines, L: Levels, U: DueTicks, K: Ledger>(
 }
 
 /// A run of a task into a writer that is cut: how it ended, and what the writer took.
-pub(super) fn run_task_cut<D: Decider, C: CodeLines, L: Levels, U: DueTicks>(
+pub(super) fn run_task_cut<D: Decider, C: KeptCode, L: Levels, U: DueTicks>(
     machine: &mut Machine<D, C, L, U>,
     steps: u32,
     ending: Ending,
@@ -100,7 +100,7 @@ pub(super) fn run_task_cut<D: Decider, C: CodeLines, L: Levels, U: DueTicks>(
     run_task_over::<D, C, L, U, Brand>(machine, steps, ending, Blank::new(1))
 }
 
-fn run_task_over<D: Decider, C: CodeLines, L: Levels, U: DueTicks, K: Ledger>(
+fn run_task_over<D: Decider, C: KeptCode, L: Levels, U: DueTicks, K: Ledger>(
     machine: &mut Machine<D, C, L, U>,
     steps: u32,
     ending: Ending,
@@ -148,7 +148,7 @@ impl Rows for CutRuns {
 }
 
 /// A run that stands before its steps, and how many steps these are.
-fn before_steps<D: Decider, C: CodeLines, L: Levels, U: DueTicks>(
+fn before_steps<D: Decider, C: KeptCode, L: Levels, U: DueTicks>(
     alloc: Global,
     text: &str,
 ) -> Option<(Run<D, C, L, U>, u32)> {
@@ -169,7 +169,7 @@ fn before_steps<D: Decider, C: CodeLines, L: Levels, U: DueTicks>(
 }
 
 /// Returns whether a machine's run is cut after each byte of its trace, and takes it whole by single bytes.
-fn is_cut<D: Decider, C: CodeLines, L: Levels, U: DueTicks>(
+fn is_cut<D: Decider, C: KeptCode, L: Levels, U: DueTicks>(
     alloc: Global,
     text: &str,
 ) -> Option<bool> {
@@ -193,7 +193,7 @@ fn is_cut<D: Decider, C: CodeLines, L: Levels, U: DueTicks>(
 }
 
 /// Returns whether a run fails at the byte at which its writer is cut, and the machine is broken then.
-fn breaks<D: Decider, C: CodeLines, L: Levels, U: DueTicks>(
+fn breaks<D: Decider, C: KeptCode, L: Levels, U: DueTicks>(
     alloc: Global,
     text: &str,
     ending: Ending,
@@ -297,14 +297,14 @@ struct Held {
 }
 
 /// A session of `COMMANDS`.
-fn hold<D: Decider, C: CodeLines, L: Levels, U: DueTicks>(
+fn hold<D: Decider, C: KeptCode, L: Levels, U: DueTicks>(
     machine: &mut Machine<D, C, L, U>,
     way: Way,
 ) -> Held {
     hold_over::<D, C, L, U, Brand, Brand>(machine, way, Blank::new(1), Blank::new(1))
 }
 
-fn hold_over<D: Decider, C: CodeLines, L: Levels, U: DueTicks, J: Ledger, K: Ledger>(
+fn hold_over<D: Decider, C: KeptCode, L: Levels, U: DueTicks, J: Ledger, K: Ledger>(
     machine: &mut Machine<D, C, L, U>,
     way: Way,
     first: Blank,
@@ -343,7 +343,7 @@ fn hold_over<D: Decider, C: CodeLines, L: Levels, U: DueTicks, J: Ledger, K: Led
     }
 }
 
-fn gather<D: Decider, C: CodeLines, L: Levels, U: DueTicks, I: In + Drop, K: Ledger>(
+fn gather<D: Decider, C: KeptCode, L: Levels, U: DueTicks, I: In + Drop, K: Ledger>(
     machine: &mut Machine<D, C, L, U>,
     mut input: I,
     mut out: Paged<machine::Cut<Over<Calls, K>>>,
@@ -396,7 +396,7 @@ fn answered(read: usize) -> usize {
 
 /// Returns whether a session fails where its writer is cut: the last step is made once the line before it is
 /// answered.
-fn fails_to_write<D: Decider, C: CodeLines, L: Levels, U: DueTicks>(
+fn fails_to_write<D: Decider, C: KeptCode, L: Levels, U: DueTicks>(
     alloc: Global,
     output: At,
     gathers: bool,
@@ -418,7 +418,7 @@ fn fails_to_write<D: Decider, C: CodeLines, L: Levels, U: DueTicks>(
 }
 
 /// Returns whether a session ends as it is to where its reader is cut, with this number of bytes answered.
-fn fails_to_read<D: Decider, C: CodeLines, L: Levels, U: DueTicks>(
+fn fails_to_read<D: Decider, C: KeptCode, L: Levels, U: DueTicks>(
     alloc: Global,
     input: At,
     gathers: bool,

@@ -661,25 +661,25 @@ fn files_without_memory_are_explained(rt: HostRuntime) {
 }
 
 /// Returns whether an error's line and status are these.
-fn is_told(error: Error, line: &[u8], status: u8) -> bool {
+fn is_reported(error: Error, line: &[u8], status: u8) -> bool {
     let mut err = Cut::whole();
     tell(error, &mut err) == status && err.text.as_slice() == line
 }
 
 #[test]
 fn each_error_has_its_line(rt: HostRuntime) {
-    assert!(rt; is_told(Error::Usage, b"marm: usage\n", 2));
-    assert!(rt; is_told(Error::Size, b"marm: size\n", 3));
-    assert!(rt; is_told(Error::Io, b"marm: io\n", 5));
+    assert!(rt; is_reported(Error::Usage, b"marm: usage\n", 2));
+    assert!(rt; is_reported(Error::Size, b"marm: size\n", 3));
+    assert!(rt; is_reported(Error::Io, b"marm: io\n", 5));
     assert!(rt;
-        is_told(
+        is_reported(
             Error::Board(BoardError::OutOfMemory),
             b"marm: board 7 OutOfMemory\n",
             3
         )
     );
     assert!(rt;
-        is_told(
+        is_reported(
             Error::Start(StartError::NoMemory),
             b"marm: start 11 NoMemory\n",
             3

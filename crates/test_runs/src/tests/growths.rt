@@ -8,9 +8,9 @@ use board::{BoardError, read_board};
 use command::{FileError, Task, WordsError, program, read_file, read_words, words};
 use elf::{Image, load};
 use machine::{
-    Ahead, BitLevels, Board, BoardLines, CodeLines, Counting, Decider, DueTicks, KeptDecisions,
-    KeptPriorities, Levels, Machine, PlainLevels, RegionCount, Reread, ScriptedEvent, Search,
-    Signal, StartError, Table,
+    Ahead, BitLevels, Board, BoardDecodeTable, Counting, Decider, DueTicks, KeptCode,
+    KeptDecisions, KeptPriorities, Levels, Machine, PlainLevels, RegionCount, Reread,
+    ScriptedEvent, Search, Signal, StartError, Table,
 };
 use std::alloc::{AllocError, Global};
 use std::env::FillError;
@@ -77,7 +77,7 @@ fn is_board(board: &Board) -> bool {
         board.layout.flash_size,
         board.layout.ram_size,
     );
-    let counts = (board.layout.priority_bits, board.layout.lines);
+    let counts = (board.layout.priority_bits, board.layout.interrupts);
     sizes == (0, 4096, 8192)
         && counts == (4, 8)
         && matches!(board.layout.regions, RegionCount::Eight)
@@ -113,7 +113,7 @@ stop steps
 ";
 
 /// How a machine starts. It is whole where it writes the trace.
-fn start<D: Decider, C: CodeLines, L: Levels, U: DueTicks>(
+fn start<D: Decider, C: KeptCode, L: Levels, U: DueTicks>(
     alloc: Global,
     image: &Image<'_>,
     board: &Board,
@@ -152,7 +152,9 @@ fn growths_of_a_slow_machine(rt: HostRuntime) -> Result<(), Fail> {
 
 /// How a machine of the types of `Fast` starts.
 fn start_fast(alloc: Global, image: &Image<'_>, board: &Board) -> Answer {
-    start::<KeptDecisions<Table>, BoardLines, KeptPriorities<BitLevels>, Ahead>(alloc, image, board)
+    start::<KeptDecisions<Table>, BoardDecodeTable, KeptPriorities<BitLevels>, Ahead>(
+        alloc, image, board,
+    )
 }
 
 #[test]
@@ -165,7 +167,7 @@ fn growths_of_a_fast_machine(rt: HostRuntime) -> Result<(), Fail> {
 }
 
 /// Returns whether a machine refuses a segment that is outside of memory.
-fn is_outside<D: Decider, C: CodeLines, L: Levels, U: DueTicks>(
+fn is_outside<D: Decider, C: KeptCode, L: Levels, U: DueTicks>(
     alloc: Global,
     image: &Image<'_>,
     board: &Board,
@@ -185,11 +187,12 @@ fn growths_come_after_the_segments(rt: HostRuntime) -> Result<(), Fail> {
     bytes[0x42] = 0x30;
     let image = load(&bytes).ok().ok_or("an image")?;
     let slow = is_outside::<Search, Reread, PlainLevels, Counting>(rt.alloc(), &image, &board);
-    let fast = is_outside::<KeptDecisions<Table>, BoardLines, KeptPriorities<BitLevels>, Ahead>(
-        rt.alloc(),
-        &image,
-        &board,
-    );
+    let fast = is_outside::<
+        KeptDecisions<Table>,
+        BoardDecodeTable,
+        KeptPriorities<BitLevels>,
+        Ahead,
+    >(rt.alloc(), &image, &board);
     if slow && fast {
         Ok(())
     } else {

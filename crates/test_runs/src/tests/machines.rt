@@ -2,10 +2,10 @@
 
 use elf::load;
 use machine::{
-    Board, CodeLines, Decider, DueTicks, InterruptLine, Layout, Levels, Machine, Place, PlaceError,
-    RegionCount, SMALL_BOARD, ScriptedEvent, Signal,
+    Board, Decider, DueTicks, InterruptNumber, KeptCode, Layout, Levels, Machine, Place,
+    PlaceError, RegionCount, SMALL_BOARD, ScriptedEvent, Signal,
 };
-use reference::exception::MOST_LINES;
+use reference::exception::MOST_INTERRUPTS;
 use reference::mpu::MOST_REGIONS;
 use std::alloc::{AllocError, Global};
 use test_tables::{byte_at, number_at, word};
@@ -15,10 +15,10 @@ pub(super) static NO_SEGMENTS: [u8; 52] =
     *b"\x7fELF\x01\x01\x01\0\0\0\0\0\0\0\0\0\x02\0\x28\0\x01\0\0\0\0\0\0\0\x34\0\0\0\0\0\0\0\0\0\0\x05\x34\0\x20\0\0\0\0\0\0\0\0\0";
 
 /// The interrupt line that an event is on, if there can be one of its number.
-fn interrupt_line(line: &str) -> Option<InterruptLine> {
+fn interrupt_number(line: &str) -> Option<InterruptNumber> {
     let number = byte_at(line, 3)?;
-    if number < MOST_LINES {
-        Some(InterruptLine::new(number))
+    if number < MOST_INTERRUPTS {
+        Some(InterruptNumber::new(number))
     } else {
         None
     }
@@ -28,9 +28,9 @@ fn interrupt_line(line: &str) -> Option<InterruptLine> {
 fn signal(line: &str) -> Option<Signal> {
     match word(line, 2) {
         "nmi" => Some(Signal::Nmi),
-        "rise" => Some(Signal::Rise(interrupt_line(line)?)),
-        "fall" => Some(Signal::Fall(interrupt_line(line)?)),
-        "pulse" => Some(Signal::Pulse(interrupt_line(line)?)),
+        "rise" => Some(Signal::Rise(interrupt_number(line)?)),
+        "fall" => Some(Signal::Fall(interrupt_number(line)?)),
+        "pulse" => Some(Signal::Pulse(interrupt_number(line)?)),
         _ => None,
     }
 }
@@ -73,7 +73,7 @@ fn script(alloc: Global, text: &str) -> Result<Vec<ScriptedEvent>, AllocError> {
 /// The small board with the numbers of a line `board LINES REGIONS`, if there can be such a board.
 fn board_of(line: &str) -> Option<Layout> {
     let lines = byte_at(line, 1)?;
-    if lines > MOST_LINES {
+    if lines > MOST_INTERRUPTS {
         return None;
     }
     let regions = if byte_at(line, 2)? == MOST_REGIONS {
@@ -111,7 +111,7 @@ pub(super) fn small_board(alloc: Global, text: &str) -> Result<Board, AllocError
 }
 
 /// Places an address at each entry of the vector table from that of NMI to that of line 7.
-pub(super) fn place_vectors<D: Decider, C: CodeLines, L: Levels, U: DueTicks>(
+pub(super) fn place_vectors<D: Decider, C: KeptCode, L: Levels, U: DueTicks>(
     machine: &mut Machine<D, C, L, U>,
     address: u32,
 ) -> Result<(), PlaceError> {
@@ -122,7 +122,7 @@ pub(super) fn place_vectors<D: Decider, C: CodeLines, L: Levels, U: DueTicks>(
 }
 
 /// A machine of the small board with the events of these lines.
-pub(super) fn scripted<D: Decider, C: CodeLines, L: Levels, U: DueTicks>(
+pub(super) fn scripted<D: Decider, C: KeptCode, L: Levels, U: DueTicks>(
     alloc: Global,
     text: &str,
 ) -> Option<Machine<D, C, L, U>> {
@@ -132,7 +132,7 @@ pub(super) fn scripted<D: Decider, C: CodeLines, L: Levels, U: DueTicks>(
 }
 
 /// A machine of the small board with the values of these lines in their places.
-pub(super) fn machine_with<D: Decider, C: CodeLines, L: Levels, U: DueTicks>(
+pub(super) fn machine_with<D: Decider, C: KeptCode, L: Levels, U: DueTicks>(
     alloc: Global,
     text: &str,
 ) -> Option<Machine<D, C, L, U>> {

@@ -4,9 +4,9 @@
 use super::cut::{Cut, Text, push_line, run};
 use super::run::Run;
 use machine::{
-    Ahead, BitLevels, BoardLines, CodeLines, Counting, Decider, DueTicks, Events, KeptDecisions,
-    KeptPriorities, Levels, Machine, Place, PlaceError, PlainLevels, Reread, Search, Table,
-    stop_line,
+    Ahead, BitLevels, BoardDecodeTable, Counting, Decider, DueTicks, Events, KeptCode,
+    KeptDecisions, KeptPriorities, Levels, Machine, Place, PlaceError, PlainLevels, Reread, Search,
+    Table, stop_line,
 };
 use std::alloc::Global;
 use std::test::*;
@@ -22,15 +22,18 @@ impl Rows for Stops {
     fn holds(&mut self, text: &str) -> Option<bool> {
         Some(
             does_stop::<Search, Reread, PlainLevels, Counting>(self.alloc, text)?
-                && does_stop::<KeptDecisions<Table>, BoardLines, KeptPriorities<BitLevels>, Ahead>(
-                    self.alloc, text,
-                )?,
+                && does_stop::<
+                    KeptDecisions<Table>,
+                    BoardDecodeTable,
+                    KeptPriorities<BitLevels>,
+                    Ahead,
+                >(self.alloc, text)?,
         )
     }
 }
 
 /// Returns whether a machine that follows the lines of a row stops as the first of them says, and stays so.
-fn does_stop<D: Decider, C: CodeLines, L: Levels, U: DueTicks>(
+fn does_stop<D: Decider, C: KeptCode, L: Levels, U: DueTicks>(
     alloc: Global,
     text: &str,
 ) -> Option<bool> {
@@ -50,7 +53,7 @@ fn does_stop<D: Decider, C: CodeLines, L: Levels, U: DueTicks>(
 }
 
 /// Returns whether a machine repeats the stop of this line, and takes no place.
-fn stays<D: Decider, C: CodeLines, L: Levels, U: DueTicks>(
+fn stays<D: Decider, C: KeptCode, L: Levels, U: DueTicks>(
     machine: &mut Machine<D, C, L, U>,
     line: &[u8],
 ) -> Option<bool> {
@@ -68,7 +71,7 @@ fn stays<D: Decider, C: CodeLines, L: Levels, U: DueTicks>(
 }
 
 /// Returns whether each kind of place is refused, since the machine has stopped.
-fn is_closed<D: Decider, C: CodeLines, L: Levels, U: DueTicks>(
+fn is_closed<D: Decider, C: KeptCode, L: Levels, U: DueTicks>(
     machine: &mut Machine<D, C, L, U>,
 ) -> bool {
     let mut closed = true;

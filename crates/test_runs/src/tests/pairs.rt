@@ -4,7 +4,7 @@
 use super::cut::push_line;
 use super::run::Run;
 use machine::{
-    Ahead, BitLevels, BoardLines, CodeLines, Counting, Decider, DueTicks, KeptDecisions,
+    Ahead, BitLevels, BoardDecodeTable, Counting, Decider, DueTicks, KeptCode, KeptDecisions,
     KeptPriorities, Levels, Machine, Place, PlainLevels, RegValues, Reread, Search, Table,
 };
 use std::alloc::Global;
@@ -26,7 +26,7 @@ fn others(values: &RegValues) -> [u32; 9] {
 }
 
 /// Returns whether two machines have the same registers and regions.
-fn registers_agree<D: Decider, C: CodeLines, L: Levels, U: DueTicks>(
+fn registers_agree<D: Decider, C: KeptCode, L: Levels, U: DueTicks>(
     one: &Machine<D, C, L, U>,
     two: &Machine<D, C, L, U>,
 ) -> bool {
@@ -40,7 +40,7 @@ fn registers_agree<D: Decider, C: CodeLines, L: Levels, U: DueTicks>(
 }
 
 /// Returns whether two machines have the same bytes in a range of addresses, but for the word at `hidden`.
-fn bytes_agree<D: Decider, C: CodeLines, L: Levels, U: DueTicks>(
+fn bytes_agree<D: Decider, C: KeptCode, L: Levels, U: DueTicks>(
     one: &Machine<D, C, L, U>,
     two: &Machine<D, C, L, U>,
     hidden: Option<u32>,
@@ -56,7 +56,7 @@ fn bytes_agree<D: Decider, C: CodeLines, L: Levels, U: DueTicks>(
 }
 
 /// Returns whether two machines of the small board agree, but for the word at `hidden`.
-pub(super) fn agree<D: Decider, C: CodeLines, L: Levels, U: DueTicks>(
+pub(super) fn agree<D: Decider, C: KeptCode, L: Levels, U: DueTicks>(
     one: &Machine<D, C, L, U>,
     two: &Machine<D, C, L, U>,
     hidden: Option<u32>,
@@ -67,7 +67,7 @@ pub(super) fn agree<D: Decider, C: CodeLines, L: Levels, U: DueTicks>(
 }
 
 /// Returns whether a machine has a word at an address.
-fn has_word<D: Decider, C: CodeLines, L: Levels, U: DueTicks>(
+fn has_word<D: Decider, C: KeptCode, L: Levels, U: DueTicks>(
     machine: &Machine<D, C, L, U>,
     address: u32,
     value: u32,
@@ -81,7 +81,7 @@ fn has_word<D: Decider, C: CodeLines, L: Levels, U: DueTicks>(
 
 /// Runs of two machines, which may differ in the word at an address.
 #[derive(Drop)]
-struct Pair<D: Decider, C: CodeLines, L: Levels, U: DueTicks> {
+struct Pair<D: Decider, C: KeptCode, L: Levels, U: DueTicks> {
     one: Run<D, C, L, U>,
     two: Run<D, C, L, U>,
     /// The address of the word, where they differ.
@@ -93,7 +93,7 @@ struct Pair<D: Decider, C: CodeLines, L: Levels, U: DueTicks> {
     skips: bool,
 }
 
-impl<D: Decider, C: CodeLines, L: Levels, U: DueTicks> Pair<D, C, L, U> {
+impl<D: Decider, C: KeptCode, L: Levels, U: DueTicks> Pair<D, C, L, U> {
     /// Returns whether both machines follow a line, as `run` says. Besides, `hidden` and `visible` have an
     /// address, the word that is placed there in the first machine, and that in the second; and `first` and
     /// `second` a line that the first or the second machine alone writes.
@@ -147,7 +147,7 @@ impl<D: Decider, C: CodeLines, L: Levels, U: DueTicks> Pair<D, C, L, U> {
 }
 
 /// Returns whether two machines go as a text says.
-fn pair_goes<D: Decider, C: CodeLines, L: Levels, U: DueTicks>(
+fn pair_goes<D: Decider, C: KeptCode, L: Levels, U: DueTicks>(
     alloc: Global,
     text: &str,
     skips: bool,
@@ -181,9 +181,12 @@ impl Rows for Pairs {
         let (alloc, skips) = (self.alloc, self.skips);
         Some(
             pair_goes::<Search, Reread, PlainLevels, Counting>(alloc, text, skips)?
-                && pair_goes::<KeptDecisions<Table>, BoardLines, KeptPriorities<BitLevels>, Ahead>(
-                    alloc, text, skips,
-                )?,
+                && pair_goes::<
+                    KeptDecisions<Table>,
+                    BoardDecodeTable,
+                    KeptPriorities<BitLevels>,
+                    Ahead,
+                >(alloc, text, skips)?,
         )
     }
 }

@@ -20,7 +20,7 @@ use super::cut::{Cut, Text, push_line, run, run_task};
 use super::machines::{event, place, place_vectors, scripted};
 use instruction_set::unpredictable::UnpredictableCase;
 use machine::{
-    Ahead, BitLevels, BoardLines, CodeLines, Counting, Decider, DueTicks, KeptDecisions,
+    Ahead, BitLevels, BoardDecodeTable, Counting, Decider, DueTicks, KeptCode, KeptDecisions,
     KeptPriorities, Levels, Machine, PlaceError, PlainLevels, RegValues, Reread, Search, Stop,
     Table, TaskEnd,
 };
@@ -31,7 +31,7 @@ use test_tables::{Rows, byte_at, check_between, number, number_at, word};
 
 /// A run as far as its lines were followed.
 #[derive(Drop)]
-pub(super) struct Run<D: Decider, C: CodeLines, L: Levels, U: DueTicks> {
+pub(super) struct Run<D: Decider, C: KeptCode, L: Levels, U: DueTicks> {
     pub(super) machine: Machine<D, C, L, U>,
     /// What its steps wrote.
     pub(super) out: Cut,
@@ -49,7 +49,7 @@ impl Rows for Runs {
     fn holds(&mut self, text: &str) -> Option<bool> {
         Some(
             goes::<Search, Reread, PlainLevels, Counting>(self.alloc, text)?
-                && goes::<KeptDecisions<Table>, BoardLines, KeptPriorities<BitLevels>, Ahead>(
+                && goes::<KeptDecisions<Table>, BoardDecodeTable, KeptPriorities<BitLevels>, Ahead>(
                     self.alloc, text,
                 )?,
         )
@@ -57,7 +57,7 @@ impl Rows for Runs {
 }
 
 /// Returns whether a machine goes as a text says.
-fn goes<D: Decider, C: CodeLines, L: Levels, U: DueTicks>(
+fn goes<D: Decider, C: KeptCode, L: Levels, U: DueTicks>(
     alloc: Global,
     text: &str,
 ) -> Option<bool> {
@@ -78,7 +78,7 @@ pub(super) fn check_runs(alloc: Global, table: &str) -> Result<(), Fail> {
     check_between(table, "\n\n", &mut Runs { alloc })
 }
 
-impl<D: Decider, C: CodeLines, L: Levels, U: DueTicks> Run<D, C, L, U> {
+impl<D: Decider, C: KeptCode, L: Levels, U: DueTicks> Run<D, C, L, U> {
     /// A run of a machine of the small board with the events of these lines.
     pub(super) fn of(alloc: Global, text: &str) -> Option<Self> {
         Some(Run {
@@ -149,7 +149,7 @@ fn name_of(error: PlaceError) -> &'static str {
 }
 
 /// Returns whether a machine holds what a line says after its first word.
-fn holds<D: Decider, C: CodeLines, L: Levels, U: DueTicks>(
+fn holds<D: Decider, C: KeptCode, L: Levels, U: DueTicks>(
     machine: &Machine<D, C, L, U>,
     seen: &str,
 ) -> Option<bool> {
@@ -178,7 +178,7 @@ fn register(values: &RegValues, name: &str) -> Option<u32> {
 }
 
 /// Returns whether a byte is where `byte ADDRESS VALUE` says.
-pub(super) fn holds_byte<D: Decider, C: CodeLines, L: Levels, U: DueTicks>(
+pub(super) fn holds_byte<D: Decider, C: KeptCode, L: Levels, U: DueTicks>(
     machine: &Machine<D, C, L, U>,
     seen: &str,
 ) -> Option<bool> {
@@ -187,7 +187,7 @@ pub(super) fn holds_byte<D: Decider, C: CodeLines, L: Levels, U: DueTicks>(
 }
 
 /// Returns whether a region holds what `region NUMBER RBAR RASR` says.
-fn holds_region<D: Decider, C: CodeLines, L: Levels, U: DueTicks>(
+fn holds_region<D: Decider, C: KeptCode, L: Levels, U: DueTicks>(
     machine: &Machine<D, C, L, U>,
     seen: &str,
 ) -> Option<bool> {

@@ -5,7 +5,7 @@ ghost use Rattle.std.specs.Prelude.{◌≡◌};
 use super::cut::Cut;
 use super::run::Run;
 use machine::{
-    Ahead, BitLevels, BoardLines, CodeLines, Counting, Decider, DueTicks, KeptDecisions,
+    Ahead, BitLevels, BoardDecodeTable, Counting, Decider, DueTicks, KeptCode, KeptDecisions,
     KeptPriorities, Levels, Machine, Over, PlainLevels, Reread, Search, Table, TraceSelection,
 };
 use std::alloc::Global;
@@ -107,7 +107,7 @@ stop steps
 ];
 
 /// Returns whether a run with a selection writes this text, and the machine is as after each other one.
-fn writes<D: Decider, C: CodeLines, L: Levels, U: DueTicks>(
+fn writes<D: Decider, C: KeptCode, L: Levels, U: DueTicks>(
     alloc: Global,
     row: &Row,
 ) -> Option<bool> {
@@ -124,7 +124,7 @@ fn writes<D: Decider, C: CodeLines, L: Levels, U: DueTicks>(
 }
 
 /// Returns whether a machine holds what it has to after the steps.
-fn is_after<D: Decider, C: CodeLines, L: Levels, U: DueTicks>(
+fn is_after<D: Decider, C: KeptCode, L: Levels, U: DueTicks>(
     run: &mut Run<D, C, L, U>,
 ) -> Option<bool> {
     for line in AFTER.iter() {
@@ -136,7 +136,7 @@ fn is_after<D: Decider, C: CodeLines, L: Levels, U: DueTicks>(
 }
 
 /// Makes the steps, and returns whether the run ended well.
-fn run_selected<D: Decider, C: CodeLines, L: Levels, U: DueTicks>(
+fn run_selected<D: Decider, C: KeptCode, L: Levels, U: DueTicks>(
     machine: &mut Machine<D, C, L, U>,
     selection: TraceSelection,
     out: &mut Cut,
@@ -144,7 +144,7 @@ fn run_selected<D: Decider, C: CodeLines, L: Levels, U: DueTicks>(
     run_over::<D, C, L, U, Brand>(machine, selection, out, Blank::new(1))
 }
 
-fn run_over<D: Decider, C: CodeLines, L: Levels, U: DueTicks, K: Ledger>(
+fn run_over<D: Decider, C: KeptCode, L: Levels, U: DueTicks, K: Ledger>(
     machine: &mut Machine<D, C, L, U>,
     selection: TraceSelection,
     out: &mut Cut,
@@ -163,10 +163,12 @@ fn each_selection_writes_its_events(rt: HostRuntime) {
     for row in ROWS.iter() {
         let slow = writes::<Search, Reread, PlainLevels, Counting>(rt.alloc(), row);
         assert!(rt; slow == Some(true), "slow, beside {}", row.text);
-        let fast = writes::<KeptDecisions<Table>, BoardLines, KeptPriorities<BitLevels>, Ahead>(
-            rt.alloc(),
-            row,
-        );
+        let fast = writes::<
+            KeptDecisions<Table>,
+            BoardDecodeTable,
+            KeptPriorities<BitLevels>,
+            Ahead,
+        >(rt.alloc(), row);
         assert!(rt; fast == Some(true), "fast, beside {}", row.text);
     }
 }

@@ -14,7 +14,7 @@ const HIGH_FLASH: Layout = Layout {
     flash_size: 1024,
     ram_size: 1024,
     priority_bits: 3,
-    lines: 0,
+    interrupts: 0,
     regions: RegionCount::Eight,
 };
 

@@ -4,7 +4,7 @@ ghost use Rattle.std.specs.Prelude.{◌≡◌};
 
 use super::cut::Cut;
 use super::machines::machine_with;
-use machine::{CodeLines, Decider, DueTicks, Levels, Machine, Over, Paged, Slow};
+use machine::{Decider, DueTicks, KeptCode, Levels, Machine, Over, Paged, Slow};
 use std::alloc::{AllocError, Global};
 use std::io::Write;
 use std::marker::Brand;
@@ -28,7 +28,7 @@ fn got(out: &Cut, bytes: usize) -> bool {
 }
 
 /// A run whose lines are gathered: whether it ends, and whether the lines go out then.
-pub(super) fn run_gathered<D: Decider, C: CodeLines, L: Levels, U: DueTicks, W: Write + Drop>(
+pub(super) fn run_gathered<D: Decider, C: KeptCode, L: Levels, U: DueTicks, W: Write + Drop>(
     machine: &mut Machine<D, C, L, U>,
     steps: u64,
     out: W,
@@ -36,7 +36,7 @@ pub(super) fn run_gathered<D: Decider, C: CodeLines, L: Levels, U: DueTicks, W: 
     run_paged::<D, C, L, U, W, Brand>(machine, steps, out, Blank::new(1))
 }
 
-fn run_paged<D: Decider, C: CodeLines, L: Levels, U: DueTicks, W: Write + Drop, K: Ledger>(
+fn run_paged<D: Decider, C: KeptCode, L: Levels, U: DueTicks, W: Write + Drop, K: Ledger>(
     machine: &mut Machine<D, C, L, U>,
     steps: u64,
     out: W,
@@ -62,7 +62,7 @@ fn gathered_lines_go_out_in_the_end(rt: HostRuntime) -> Result<(), Fail> {
 }
 
 #[test]
-fn gathered_lines_that_are_cut_are_told(rt: HostRuntime) -> Result<(), Fail> {
+fn gathered_lines_that_are_cut_are_reported(rt: HostRuntime) -> Result<(), Fail> {
     let mut machine: Slow = machine_with(rt.alloc(), FIRST).ok_or("a machine")?;
     let (_, flushed, out) = run_gathered(&mut machine, 10, Cut::new(30, 512, true));
     assert!(rt; !flushed);

@@ -1,12 +1,12 @@
 use Rattle.std.proofs.Common.{◌≡◌, ◌⊎◌, inl, inr, true, ◌∙◌, sym, arith}
 use Rattle.debugger.proofs.Running.{run_cut, run_ends, run_more}
-use Rattle.debugger.proofs.Telling.{all_told, nothing_told, rest_cut}
+use Rattle.debugger.proofs.Telling.{tells_all, tells_nothing, rest_cut}
 use Rattle.debugger.specs.Answers.{ends_at}
 use Rattle.debugger.proofs.answers.run_on.Goals as goal
 use Rattle.debugger.proofs.answers.run_on.Goals.{else-steps-test, then-steps-test+then-ends_at}
 
 pub steps-init : goal.steps-init
-steps-init g c = nothing_told _ _ _
+steps-init g c = tells_nothing _ _ _
 
 pub returns-in-Err : goal.returns-in-Err
 returns-in-Err g c =
@@ -26,7 +26,7 @@ returns-in-Ok-put_end g c =
       | then-steps-test+then-ends_at w ↦ inr
           (sym w.ends_at.ensures ∙ w.if-ends_at.true)
     ] in
-    all_told _ _ _ _ _ _ _ _ (run_ends _ _ _ _ _ _ _ ends c.steps.invariant) c.in-Ok-put_end.ensures
+    tells_all _ _ _ _ _ _ _ _ (run_ends _ _ _ _ _ _ _ ends c.steps.invariant) c.in-Ok-put_end.ensures
 
 pub returns-in-Err-put_end : goal.returns-in-Err-put_end
 returns-in-Err-put_end g c =

@@ -27,7 +27,7 @@ returns-in-Ok-false g c =
     let took = rw c.in-Ok-Some.field-0-is at c.in-Ok-Some.ensures in
     let so_far = heard_kept _ _ _ _ _ _ _ _ _ c.calls.invariant took.1 in
     let sent = ended _ _ _ _ _ _ _ _ _
-    (closed _ _ _ _ _ _ _ _ _ _ _ _ so_far took.0 c.in-Ok-false.ensures.told
+    (closed _ _ _ _ _ _ _ _ _ _ _ _ so_far took.0 c.in-Ok-false.ensures.tells
     (sym c.in-Ok-false.ensures.kept.1 ∙ c.in-Ok-false.field-0-test)) c.send_rest-in-Ok-false.ensures in
     record { talked = sent.0; sent = sent.1 }
 
@@ -35,7 +35,7 @@ pub returns-in-Err-hear : goal.returns-in-Err-hear
 returns-in-Err-hear g c =
     let took = rw c.in-Ok-Some.field-0-is at c.in-Ok-Some.ensures in
     let so_far = heard_kept _ _ _ _ _ _ _ _ _ c.calls.invariant took.1 in
-    record { talked = cut_at _ _ _ _ _ _ _ _ _ _ _ _ so_far took.0 c.in-Err-hear.ensures.told; sent = tt }
+    record { talked = cut_at _ _ _ _ _ _ _ _ _ _ _ _ so_far took.0 c.in-Err-hear.ensures.tells; sent = tt }
 
 -- no byte was taken
 pub returns-in-Err : goal.returns-in-Err
@@ -47,7 +47,7 @@ pub calls-preserved : goal.calls-preserved
 calls-preserved g c =
     let took = rw c.in-Ok-Some.field-0-is at c.in-Ok-Some.ensures in
     let so_far = heard_kept _ _ _ _ _ _ _ _ _ c.calls.invariant took.1 in
-    heard_on _ _ _ _ _ _ _ _ _ _ _ _ _ so_far took.0 c.in-Ok-true.ensures.told c.in-Ok-true.ensures.kept.0
+    heard_on _ _ _ _ _ _ _ _ _ _ _ _ _ so_far took.0 c.in-Ok-true.ensures.tells c.in-Ok-true.ensures.kept.0
     (sym c.in-Ok-true.ensures.kept.1 ∙ c.in-Ok-true.field-0-test)
 
 -- 2^64 - 1 bytes

@@ -1,6 +1,6 @@
 use Rattle.std.proofs.Common.{◌≡◌, ◌⊎◌, inl, inr, true, false, Option, nat_lt, ◌∙◌, sym, ap, arith}
 use Rattle.debugger.proofs.Tasking.{task_cut, task_ends, task_more}
-use Rattle.debugger.proofs.Telling.{all_told, nothing_told, rest_cut}
+use Rattle.debugger.proofs.Telling.{tells_all, tells_nothing, rest_cut}
 use Rattle.machine.specs.Foresight.{is_instruction, is_instruction_next}
 use Rattle.machine.specs.Tasks.{end_of}
 use Rattle.reference.specs.declared.stop.Stop.{Stop}
@@ -8,7 +8,7 @@ use Rattle.debugger.proofs.tasks.task_on.Goals as goal
 use Rattle.debugger.proofs.tasks.task_on.Goals.{else-steps-test, then-steps-test+then-not-is_instruction}
 
 pub steps-init : goal.steps-init
-steps-init g c = nothing_told _ _ _
+steps-init g c = tells_nothing _ _ _
 
 pub returns-in-Err : goal.returns-in-Err
 returns-in-Err g c =
@@ -33,7 +33,7 @@ returns-in-Ok-put_task_end g c =
     ] in
     let same : c.end_of_task-end.result ≡ end_of c.steps.machine.state.stop (nat_lt 0 c.steps.left) =
     c.end_of_task-end.ensures ∙ ap (λ (o : Option Stop). end_of o (nat_lt 0 c.steps.left)) c.stop.ensures in
-    all_told _ _ _ _ _ _ _ _ (task_ends _ _ _ _ _ _ _ ends same c.steps.invariant) c.in-Ok-put_task_end.ensures
+    tells_all _ _ _ _ _ _ _ _ (task_ends _ _ _ _ _ _ _ ends same c.steps.invariant) c.in-Ok-put_task_end.ensures
 
 pub returns-in-Err-put_task_end : goal.returns-in-Err-put_task_end
 returns-in-Err-put_task_end g c =

@@ -1,6 +1,6 @@
 use Rattle.std.proofs.Common.{◌≡◌, ◌⊎◌, inl, inr, ◌∙◌, sym, refl, arith, true, false, ◌≤◌}
 use Rattle.std.proofs.KnownBytes.{Appends-nil}
-use Rattle.machine.proofs.Running.{none_made, none_told, after_on, told_on}
+use Rattle.machine.proofs.Running.{none_made, none_shown, after_on, shown_on}
 use Rattle.machine.proofs.Tasking.{instruction_on, ends_so, task_is_cut}
 use Rattle.machine.proofs.task.run_task_core.Goals as goal
 use Rattle.machine.proofs.task.run_task_core.Goals.{else-steps-test, then-steps-test+then-not-is_instruction}
@@ -11,7 +11,7 @@ steps-init g c = record {
   few = omega arith;
   core = sym (none_made c.args.core.now);
   made = λ k below. absurd (omega arith);
-  written = rw (none_told c.args.core.now) (Appends-nil _);
+  written = rw (none_shown c.args.core.now) (Appends-nil _);
   same = refl;
 }
 
@@ -22,7 +22,7 @@ steps-preserved g c =
       few = omega arith;
       core = c.write_step.ensures.state ∙ after_on _ _ _ c.steps.invariant.core;
       made = instruction_on _ _ _ c.steps.invariant.made c.steps.invariant.core next;
-      written = told_on _ _ _ _ _ _ _ c.steps.invariant.written c.in-Ok.ensures.put.0 refl c.steps.invariant.core;
+      written = shown_on _ _ _ _ _ _ _ c.steps.invariant.written c.in-Ok.ensures.put.0 refl c.steps.invariant.core;
       same = c.in-Ok.ensures.put.1 ∙ c.steps.invariant.same;
     }
 

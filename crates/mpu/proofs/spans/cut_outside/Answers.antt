@@ -1,5 +1,5 @@
 use Rattle.std.proofs.Common.{arith, ◌≤◌}
-use Rattle.mpu.proofs.Blocks.{outside_before, outside_behind, past_block, matches_outside}
+use Rattle.mpu.proofs.Blocks.{outside_before, outside_beyond, past_block, matches_outside}
 use Rattle.mpu.proofs.spans.cut_outside.Goals as goal
 
 pub overflow_cast-result-else-from-far : goal.overflow_cast-result-else-from-far
@@ -25,5 +25,5 @@ returns-else-from-far-clause-first c =
 pub returns-else-from-far-clause-alike : goal.returns-else-from-far-clause-alike
 returns-else-from-far-clause-alike c = λ a from to.
     matches_outside c.args.region a c.args.address
-    (outside_behind c.args.region a _ _ c.size.ensures.value c.block_of-far.ensures.next (omega arith))
+    (outside_beyond c.args.region a _ _ c.size.ensures.value c.block_of-far.ensures.next (omega arith))
     c.requires.outside

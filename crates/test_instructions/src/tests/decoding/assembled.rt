@@ -1,6 +1,6 @@
 //! Encodings and what they mean, of an assembler (LLVM's, for ARMv7-M), each with its text.
 //!
-//! A line has the two halfwords, and then ten numbers of what the text says: the number that `told.rt`
+//! A line has the two halfwords, and then ten numbers of what the text says: the number that `operands.rt`
 //! has for its shape, its length, its position in an IT block, and its operands in the order of their
 //! struct. An enum counts as its place in the enum, a carry that stays as 2. All numbers are
 //! hexadecimal.

@@ -6,4 +6,4 @@ use Rattle.nvic.proofs.levels.Levels.is_interrupt_pending.Given as goal
 abbrev pub invariant-each : goal.invariant-each
 invariant-each g l =
     let n = g.Self.Levels.content l.fn.self in
-    l.found ≡ some_below (λ x. is_interrupt n.lines x && is_in n.pending x) l.number
+    l.found ≡ some_below (λ x. is_interrupt n.interrupts x && is_in n.pending x) l.number

@@ -1,8 +1,0 @@
-use Rattle.bit_levels.proofs.First.{level_exactly, of_view}
-use Rattle.bit_levels.proofs.levels.BitLevels.level.Goals as goal
-
-pub returns : goal.returns
-returns c = rw (← c.self.view_is)
-    (λ x h. level_exactly _ c.self.inside.levels c.self.inside.held c.self.inside.enabled c.args.priority x
-    (of_view c.self.inside.levels c.self.inside.held c.self.inside.enabled c.self.inside.active c.self.inside.priorities
-    c.self.inside.group c.self.inside.masks c.self.inside.lines c.self.inside.bits c.self.invariant.2) h)

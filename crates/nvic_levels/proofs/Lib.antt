@@ -1,0 +1,7 @@
+pub mod Alike
+pub mod Bits
+pub mod First
+pub mod KeptLevels
+pub mod Lists
+pub mod Spaced
+pub mod Others

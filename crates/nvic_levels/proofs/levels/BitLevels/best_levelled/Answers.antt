@@ -1,0 +1,26 @@
+use Rattle.nvic_levels.proofs.First.{best_found, best_absent, of_view}
+use Rattle.nvic_levels.proofs.Spaced.{spaced}
+use Rattle.nvic_levels.proofs.levels.BitLevels.best_levelled.Goals as goal
+
+pub returns-in-Some : goal.returns-in-Some
+returns-in-Some c =
+    let nmi = rw (← c.self.view_is) at c.requires.nmi in
+    let fault = rw (← c.self.view_is) at c.requires.hard_fault in
+    let e = c.in-Some.ensures in
+    rw (c.from.ensures, ← c.self.view_is)
+    (best_found _ c.self.inside.levels c.self.inside.held c.self.inside.enabled e.0 c.in-Some.number
+    (of_view c.self.inside.levels c.self.inside.held c.self.inside.enabled c.self.inside.active c.self.inside.priorities
+    c.self.inside.group c.self.inside.masks c.self.inside.interrupts c.self.inside.bits c.self.invariant.2) nmi fault e.1
+    e.2)
+
+pub returns-in-None : goal.returns-in-None
+returns-in-None c =
+    let nmi = rw (← c.self.view_is) at c.requires.nmi in
+    let fault = rw (← c.self.view_is) at c.requires.hard_fault in
+    rw (← c.self.view_is) (best_absent _ c.self.inside.levels c.self.inside.held c.self.inside.enabled
+    (of_view c.self.inside.levels c.self.inside.held c.self.inside.enabled c.self.inside.active c.self.inside.priorities
+    c.self.inside.group c.self.inside.masks c.self.inside.interrupts c.self.inside.bits c.self.invariant.2) nmi fault
+    c.in-None.ensures)
+
+pub first_of-requires : goal.first_of-requires
+first_of-requires c = spaced _ _ _ _ _ c.self.invariant.2 c.self.invariant.3
