@@ -5,7 +5,7 @@ use nvic::{Escalation, Levels, Masks, PlainLevels};
 use std::test::*;
 use test_tables::{Rows, byte_at, check, halfword_at, is_first, part, word};
 
-/// After a reset, on a board of 8 lines whose priorities have 4 bits.
+/// After a reset, on a board of 8 interrupts whose priorities have 4 bits.
 fn after_reset() -> PlainLevels {
     PlainLevels::fresh(8, 4)
 }
@@ -309,7 +309,7 @@ impl Rows for Numbers {
 
 /// A number; whether it can be pending, active and enabled, whether it's enabled after a reset, and
 /// whether it still is once it's disabled; its priority after the byte FF; what the row is, all on a
-/// board of 8 lines.
+/// board of 8 interrupts.
 const NUMBERS: &str = "\
 0 | no no no | 00 | no exception
 1 | no no no | 00 | reset
@@ -325,8 +325,8 @@ C | no no no | 00 | behind SVCall
 E | yes yes yes | F0 | PendSV
 F | yes yes yes | F0 | SysTick
 10 | yes no no | F0 | line 0
-17 | yes no no | F0 | the last line of the board
-18 | no no no | 00 | a line that the board hasn't
+17 | yes no no | F0 | the last interrupt of the board
+18 | no no no | 00 | an interrupt that the board hasn't
 FF | no no no | 00 | the last number of a byte
 100 | no no no | 00 | the first number that has no place
 1FF | no no no | 00 | the last number of nine bits";

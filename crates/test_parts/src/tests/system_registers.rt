@@ -1,4 +1,4 @@
-//! The system registers (ARM DDI 0403, "System Control Space"), on a board with 8 lines, 4 priority
+//! The system registers (ARM DDI 0403, "System Control Space"), on a board with 8 interrupts, 4 priority
 //! bits, 8 regions and flash at 00000400.
 
 use super::words::request;
@@ -144,7 +144,7 @@ E000E300 00000000 | word | 0 00000000 | IABR0
 E000E31C 00000000 | word | 0 00000000 | IABR7
 E000E400 00000000 | any | 0 F0F0F0F0 | IPR0
 E000E404 00000000 | any | 0 F0F0F0F0 | IPR1
-E000E408 00000000 | any | 0 00000000 | IPR2, of lines that the board hasn't
+E000E408 00000000 | any | 0 00000000 | IPR2, of interrupts that the board hasn't
 E000E4EC 00000000 | any | 0 00000000 | IPR59
 E000E4F0 00000000 | any | 0 00000000 | beyond IPR
 E000ED00 000F0000 | word | 0 000F0000 | CPUID
@@ -269,7 +269,7 @@ L word E000ED04 00000000 p | 00411000 | exception 17 is the best
 S word E000E280 00000002 p | 0 | line 1 is cleared
 S word EF000000 00000000 p | 0 | an address that isn't a register's
 S word E000EF00 00000003 p | 0 | STIR: line 3
-S word E000EF00 00000008 p | 0 | STIR: a line that the board hasn't
+S word E000EF00 00000008 p | 0 | STIR: an interrupt that the board hasn't
 S word E000EF00 FFFFFE04 p | 0 | STIR takes bits 8:0: line 4
 L word E000E200 00000000 p | 00000018 | lines 3 and 4
 S byte E000EF00 00000003 p | register-width | STIR takes words
@@ -314,7 +314,7 @@ L halfword E000ED22 00000000 p | 0000A000 | its halfword
 L byte E000ED23 00000000 p | 000000A0 | its byte
 L byte E000ED1F 00000000 p | 00000030 | the priority of SVCall
 S byte E000E407 000000FF p | 0 | the priority of line 7
-S byte E000E408 000000FF p | 0 | of a line that the board hasn't
+S byte E000E408 000000FF p | 0 | of an interrupt that the board hasn't
 L word E000E404 00000000 p | F0000000 | that of line 7 alone
 S word E000ED24 00070000 p | 0 | the three faults are enabled
 L word E000ED24 00000000 p | 00070000 | they are
@@ -426,7 +426,7 @@ fn a_region_that_is_not_there(rt: HostRuntime) -> Result<(), Fail> {
     check(REGIONS, &mut Steps { system })
 }
 
-/// The same as `REGISTERS`, on a board with 240 lines, 8 priority bits and 16 regions.
+/// The same as `REGISTERS`, on a board with 240 interrupts, 8 priority bits and 16 regions.
 const FULL_SIZES: &str = "\
 E000E004 00000007 | word | 0 00000007 | ICTR
 E000E100 00000000 | word | 0 FFFFFFFF | ISER0
@@ -470,7 +470,7 @@ fn each_register_of_the_full_sizes(rt: HostRuntime) -> Result<(), Fail> {
     check(FULL_SIZES, &mut Registers { system })
 }
 
-/// Boards with some number of lines.
+/// Boards with some number of interrupts.
 #[derive(Drop)]
 struct Types {
     alloc: Global,
@@ -484,7 +484,7 @@ impl Rows for Types {
     }
 }
 
-/// How many lines the board has; ICTR.INTLINESNUM, the words of ISER that they need, less 1.
+/// How many interrupts the board has; ICTR.INTLINESNUM, the words of ISER that they need, less 1.
 const TYPES: &str = "\
 00 | 0
 01 | 0
