@@ -2,9 +2,9 @@
 
 ghost use Rattle.std.specs.Prelude.{◌≡◌, ◌<◌, ◌≤◌, [], length};
 ghost use Rattle.instruction_set.specs.declared.size.Size.TheVariants.{Word};
+ghost use Rattle.exceptions.specs.Serving.{GoesOnTo, StepsTo};
 ghost use Rattle.reference.specs.LoadStore.{request};
 ghost use Rattle.reference.specs.ExceptionEntry.{words_from as words_from_of, pushes as pushes_of, vector_read as vector_read_of, handler_entered, vector_refused, exception_taken, begin_entry, take_vector};
-ghost use Rattle.trace.specs.Emission.{with_emitted};
 
 use crate::accesses::{Requests, Values};
 use crate::faults::vector_fault;
@@ -66,8 +66,7 @@ impl<D: Decider, C: KeptCode, L: Levels, U: DueTicks> Core<D, C, L, U> {
     #[tactic(auto, using(crate::proofs::LineBounds::pushed_lines, crate::proofs::LineBounds::pushed_words), unfolding(reference::specs::ExceptionEntry::begin_entry))]
     pub fn begin_entry<S: Sink>(&mut self, events: &mut S)
         requires { (S.emitted events.old).events ≡ [] }
-        ensures state { self.new ≡ (begin_entry self.old).state }
-        ensures events { S.emitted events.new ≡ with_emitted (S.emitted events.old) ((begin_entry self.old).events) }
+        ensures { StepsTo S.emitted events.old events.new self.new (begin_entry self.old) }
     {
         let requests = pushes(&self.regs);
         let mut values = Values::new();
@@ -84,8 +83,7 @@ impl<D: Decider, C: KeptCode, L: Levels, U: DueTicks> Core<D, C, L, U> {
     #[tactic(auto, unfolding(reference::specs::ExceptionEntry::take_vector))]
     pub fn take_vector<S: Sink>(&mut self, events: &mut S, exc_return: u32)
         requires { (S.emitted events.old).events ≡ [] }
-        ensures state { self.new ≡ (take_vector self.old exc_return).state }
-        ensures events { S.emitted events.new ≡ with_emitted (S.emitted events.old) ((take_vector self.old exc_return).events) }
+        ensures { StepsTo S.emitted events.old events.new self.new (take_vector self.old exc_return) }
     {
         if let Some(exception) = self.candidate() {
             self.take_exception(events, exc_return, exception);
@@ -97,8 +95,7 @@ impl<D: Decider, C: KeptCode, L: Levels, U: DueTicks> Core<D, C, L, U> {
     fn take_exception<S: Sink>(&mut self, events: &mut S, exc_return: u32, exception: u16)
         requires empty { (S.emitted events.old).events ≡ [] }
         requires small { exception < 256 }
-        ensures state { self.new ≡ (exception_taken self.old exc_return exception).state }
-        ensures events { S.emitted events.new ≡ with_emitted (S.emitted events.old) ((exception_taken self.old exc_return exception).events) }
+        ensures { StepsTo S.emitted events.old events.new self.new (exception_taken self.old exc_return exception) }
     {
         let request = self.vector_read(exception);
         match self.access(events, &request) {
@@ -132,8 +129,7 @@ impl<D: Decider, C: KeptCode, L: Levels, U: DueTicks> Core<D, C, L, U> {
     )
         requires room { length (S.emitted events.old).events < MOST_EVENTS }
         requires small { exception < 256 }
-        ensures state { self.new ≡ (handler_entered self.old (S.emitted events.old).events exception exc_return vector).state }
-        ensures events { S.emitted events.new ≡ with_emitted (S.emitted events.old) ((handler_entered self.old (S.emitted events.old).events exception exc_return vector).events) }
+        ensures { GoesOnTo S.emitted events.old events.new self.new (λ es. handler_entered self.old es exception exc_return vector) }
     {
         events.emit(Event {
             tick: self.bus.system.ticks(),
@@ -149,8 +145,7 @@ impl<D: Decider, C: KeptCode, L: Levels, U: DueTicks> Core<D, C, L, U> {
     /// lockup.
     fn refuse_vector<S: Sink>(&mut self, events: &mut S, exception: u16)
         requires { length (S.emitted events.old).events < MOST_EVENTS }
-        ensures state { self.new ≡ (vector_refused self.old (S.emitted events.old).events exception).state }
-        ensures events { S.emitted events.new ≡ with_emitted (S.emitted events.old) ((vector_refused self.old (S.emitted events.old).events exception).events) }
+        ensures { GoesOnTo S.emitted events.old events.new self.new (λ es. vector_refused self.old es exception) }
     {
         self.record(vector_fault());
         if exception == NMI || exception == HARD_FAULT {

@@ -1,8 +1,8 @@
 //! What faults set and pend (ARM DDI 0403, "Fault behavior" and "Priority escalation"), and SVC.
 
 ghost use Rattle.std.specs.Prelude.{◌≡◌, ◌<◌, ◌++◌, ◌∷◌, [], length};
+ghost use Rattle.exceptions.specs.Serving.{GoesOnTo};
 ghost use Rattle.reference.specs.Faults.{access_fault, fault_of as fault_of_access, usage_fault_of as usage_fault_of_word, mem_manage as mem_manage_of, bus_fault as bus_fault_of, usage_fault as usage_fault_of_bit, vector_fault as vector_fault_of, fault_line as fault_line_of, recorded, pended_by_fault, forced, locked_up, escalated, faulted, failed, supervisor_called};
-ghost use Rattle.trace.specs.Emission.{with_emitted};
 
 use crate::state::Core;
 use access::{Decider, DueTicks, KeptCode, Levels};
@@ -136,8 +136,7 @@ impl<D: Decider, C: KeptCode, L: Levels, U: DueTicks> Core<D, C, L, U> {
     /// Makes an exception pending by a fault.
     pub fn pend_by_fault<S: Sink>(&mut self, events: &mut S, exception: u16)
         requires { length (S.emitted events.old).events < MOST_EVENTS }
-        ensures state { self.new ≡ (pended_by_fault self.old (S.emitted events.old).events exception).state }
-        ensures events { S.emitted events.new ≡ with_emitted (S.emitted events.old) ((pended_by_fault self.old (S.emitted events.old).events exception).events) }
+        ensures { GoesOnTo S.emitted events.old events.new self.new (λ es. pended_by_fault self.old es exception) }
     {
         events.emit(self.fault_line(exception));
         self.bus.system.pend(exception);
@@ -146,8 +145,7 @@ impl<D: Decider, C: KeptCode, L: Levels, U: DueTicks> Core<D, C, L, U> {
     /// Makes HardFault pending in place of a fault that can't be taken.
     fn force<S: Sink>(&mut self, events: &mut S)
         requires { length (S.emitted events.old).events < MOST_EVENTS }
-        ensures state { self.new ≡ (forced self.old (S.emitted events.old).events).state }
-        ensures events { S.emitted events.new ≡ with_emitted (S.emitted events.old) ((forced self.old (S.emitted events.old).events).events) }
+        ensures { GoesOnTo S.emitted events.old events.new self.new (forced self.old) }
     {
         self.bus.system.set_fault_bits(0, FORCED);
         self.pend_by_fault(events, HARD_FAULT);
@@ -156,8 +154,7 @@ impl<D: Decider, C: KeptCode, L: Levels, U: DueTicks> Core<D, C, L, U> {
     /// Stops the core by lockup.
     pub fn lock_up<S: Sink>(&mut self, events: &mut S)
         requires { length (S.emitted events.old).events < MOST_EVENTS }
-        ensures state { self.new ≡ (locked_up self.old (S.emitted events.old).events).state }
-        ensures events { S.emitted events.new ≡ with_emitted (S.emitted events.old) ((locked_up self.old (S.emitted events.old).events).events) }
+        ensures { GoesOnTo S.emitted events.old events.new self.new (locked_up self.old) }
     {
         events.emit(self.fault_line(0));
         self.end(Stop::Lockup);
@@ -168,8 +165,7 @@ impl<D: Decider, C: KeptCode, L: Levels, U: DueTicks> Core<D, C, L, U> {
     #[tactic(auto, unfolding(reference::specs::Faults::faulted))]
     pub fn raise<S: Sink>(&mut self, events: &mut S, fault: FaultEffect)
         requires { length (S.emitted events.old).events < MOST_EVENTS }
-        ensures state { self.new ≡ (faulted self.old (S.emitted events.old).events fault).state }
-        ensures events { S.emitted events.new ≡ with_emitted (S.emitted events.old) ((faulted self.old (S.emitted events.old).events fault).events) }
+        ensures { GoesOnTo S.emitted events.old events.new self.new (λ es. faulted self.old es fault) }
     {
         self.record(fault);
         match self.escalation(fault.exception) {
@@ -184,8 +180,7 @@ impl<D: Decider, C: KeptCode, L: Levels, U: DueTicks> Core<D, C, L, U> {
     #[inline(never)]
     pub fn fail<S: Sink>(&mut self, events: &mut S, failure: Failure)
         requires { length (S.emitted events.old).events < MOST_EVENTS }
-        ensures state { self.new ≡ (failed self.old (S.emitted events.old).events failure).state }
-        ensures events { S.emitted events.new ≡ with_emitted (S.emitted events.old) ((failed self.old (S.emitted events.old).events failure).events) }
+        ensures { GoesOnTo S.emitted events.old events.new self.new (λ es. failed self.old es failure) }
     {
         match failure {
             Failure::Refused(access, cause) => self.raise(events, fault_of(&access, cause)),
@@ -198,8 +193,7 @@ impl<D: Decider, C: KeptCode, L: Levels, U: DueTicks> Core<D, C, L, U> {
     #[tactic(auto, unfolding(reference::specs::Faults::supervisor_called))]
     pub fn call_supervisor<S: Sink>(&mut self, events: &mut S)
         requires { length (S.emitted events.old).events < MOST_EVENTS }
-        ensures state { self.new ≡ (supervisor_called self.old (S.emitted events.old).events).state }
-        ensures events { S.emitted events.new ≡ with_emitted (S.emitted events.old) ((supervisor_called self.old (S.emitted events.old).events).events) }
+        ensures { GoesOnTo S.emitted events.old events.new self.new (supervisor_called self.old) }
     {
         match self.escalation(SV_CALL) {
             Escalation::Itself => {

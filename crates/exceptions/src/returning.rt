@@ -2,13 +2,13 @@
 
 ghost use Rattle.std.specs.Prelude.{◌≡◌, ◌+◌, ◌<◌, ◌≤◌, length};
 ghost use Rattle.instruction_set.specs.Frames.{has_reserved_ones as has_reserved_ones_of, returns_to_thread as returns_to_thread_of};
+ghost use Rattle.exceptions.specs.Serving.{GoesOnTo};
 ghost use Rattle.reference.specs.declared.failure.Failure.TheVariants.{Usage};
 ghost use Rattle.reference.specs.declared.failure.UsageFault.TheVariants.{InvalidReturn};
 ghost use Rattle.reference.specs.ExceptionReturn.{is_allowed as is_allowed_of, exception_ended, with_entry, chained, pops as pops_of, returns_privileged as returns_privileged_of, pop_stack, fits_mode as fits_mode_of, unstacked, exception_return};
 ghost use Rattle.reference.specs.Faults.{failed};
 ghost use Rattle.reference.specs.Priorities.{candidate};
 ghost use Rattle.reference.specs.State.{with_system};
-ghost use Rattle.trace.specs.Emission.{with_emitted};
 
 use crate::accesses::{Requests, Values};
 use crate::entry::words_from;
@@ -82,8 +82,7 @@ impl<D: Decider, C: KeptCode, L: Levels, U: DueTicks> Core<D, C, L, U> {
     #[tactic(auto, unfolding(reference::specs::ExceptionReturn::exception_return))]
     pub fn return_from<S: Sink>(&mut self, events: &mut S, exc_return: u32)
         requires { length (S.emitted events.old).events + 10 ≤ MOST_EVENTS }
-        ensures state { self.new ≡ (exception_return self.old (S.emitted events.old).events exc_return).state }
-        ensures events { S.emitted events.new ≡ with_emitted (S.emitted events.old) ((exception_return self.old (S.emitted events.old).events exc_return).events) }
+        ensures { GoesOnTo S.emitted events.old events.new self.new (λ es. exception_return self.old es exc_return) }
     {
         events.emit(Event {
             tick: self.bus.system.ticks(),
@@ -131,8 +130,7 @@ impl<D: Decider, C: KeptCode, L: Levels, U: DueTicks> Core<D, C, L, U> {
     /// Begins the entry of the next exception, if there is one, or pops the frame.
     fn chain<S: Sink>(&mut self, events: &mut S, exc_return: u32)
         requires { length (S.emitted events.old).events + 9 ≤ MOST_EVENTS }
-        ensures state { self.new ≡ (chained self.old (S.emitted events.old).events exc_return (candidate self.old.bus.system.nvic)).state }
-        ensures events { S.emitted events.new ≡ with_emitted (S.emitted events.old) ((chained self.old (S.emitted events.old).events exc_return (candidate self.old.bus.system.nvic)).events) }
+        ensures { GoesOnTo S.emitted events.old events.new self.new (λ es. chained self.old es exc_return (candidate self.old.bus.system.nvic)) }
     {
         if self.candidate().is_some() {
             self.entry = Some(exc_return);
@@ -144,8 +142,7 @@ impl<D: Decider, C: KeptCode, L: Levels, U: DueTicks> Core<D, C, L, U> {
     /// Raises the fault of a return that isn't allowed, and begins an entry.
     fn refuse_return<S: Sink>(&mut self, events: &mut S, exc_return: u32)
         requires { length (S.emitted events.old).events < MOST_EVENTS }
-        ensures state { self.new ≡ (failed (with_entry self.old exc_return) (S.emitted events.old).events (Usage InvalidReturn)).state }
-        ensures events { S.emitted events.new ≡ with_emitted (S.emitted events.old) ((failed (with_entry self.old exc_return) (S.emitted events.old).events (Usage InvalidReturn)).events) }
+        ensures { GoesOnTo S.emitted events.old events.new self.new (λ es. failed (with_entry self.old exc_return) es (Usage InvalidReturn)) }
     {
         self.entry = Some(exc_return);
         self.fail(events, Failure::Usage(UsageFault::InvalidReturn));
@@ -155,8 +152,7 @@ impl<D: Decider, C: KeptCode, L: Levels, U: DueTicks> Core<D, C, L, U> {
     #[tactic(auto, using(crate::proofs::LineBounds::popped_lines, crate::proofs::LineBounds::popped_words), unfolding(reference::specs::ExceptionReturn::pop_stack))]
     fn pop_stack<S: Sink>(&mut self, events: &mut S, exc_return: u32)
         requires { length (S.emitted events.old).events + 9 ≤ MOST_EVENTS }
-        ensures state { self.new ≡ (pop_stack self.old (S.emitted events.old).events exc_return).state }
-        ensures events { S.emitted events.new ≡ with_emitted (S.emitted events.old) ((pop_stack self.old (S.emitted events.old).events exc_return).events) }
+        ensures { GoesOnTo S.emitted events.old events.new self.new (λ es. pop_stack self.old es exc_return) }
     {
         let requests = pops(&self.regs, exc_return);
         let mut values = Values::new();
@@ -175,8 +171,7 @@ impl<D: Decider, C: KeptCode, L: Levels, U: DueTicks> Core<D, C, L, U> {
     fn unstack<S: Sink>(&mut self, events: &mut S, exc_return: u32, frame: &[u32])
         requires room { length (S.emitted events.old).events < MOST_EVENTS }
         requires words { length frame.now ≡ 8 }
-        ensures state { self.new ≡ (unstacked self.old (S.emitted events.old).events exc_return frame.now).state }
-        ensures events { S.emitted events.new ≡ with_emitted (S.emitted events.old) ((unstacked self.old (S.emitted events.old).events exc_return frame.now).events) }
+        ensures { GoesOnTo S.emitted events.old events.new self.new (λ es. unstacked self.old es exc_return frame.now) }
     {
         if !fits_mode(exc_return, frame) {
             self.refuse_return(events, exc_return);
