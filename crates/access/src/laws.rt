@@ -11,5 +11,6 @@ ghost use Rattle.reference.specs.State.{Bus};
 /// An access that is refused, by a rule or by the bus, leaves memory, the system registers and time
 /// as they were.
 pub fn refused_access_changes_nothing()
-    ensures { (exception : ℕ) (bus : Bus) (request : Request) (rule : Rule) (cause : Cause) → (perform exception bus request).performed ≡ Denied rule cause → (perform exception bus request).bus ≡ bus }
+    ensures { (exception : ℕ) (bus : Bus) (request : Request) (rule : Rule) (cause : Cause)
+        → (perform exception bus request).performed ≡ Denied rule cause → (perform exception bus request).bus ≡ bus }
 {}

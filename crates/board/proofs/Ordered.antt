@@ -1,4 +1,5 @@
--- A script that was read is in order: no event is earlier than the one ahead of it, and each is on a interrupt of the board.
+-- A script that was read is in order: no event is earlier than the one ahead of it, and each is on an interrupt of the
+-- board.
 use Rattle.std.proofs.Common.{◌≡◌, ℕ, ◌<◌, ◌≤◌, Bool, true, false, List, [], ◌∷◌, Option, Some, None, Result, Ok, Err}
 use Rattle.std.proofs.Common.{if◌then◌else◌, nat_lt, codes, refl, subst, arith}
 use Rattle.std.proofs.lemmas.Bool.Decides.{nat_tests}
@@ -10,7 +11,8 @@ use Rattle.reference.specs.declared.script.Signal.{Signal}
 use Rattle.reference.specs.declared.script.Signal.TheVariants.{Rise, Fall, Pulse, Nmi}
 use Rattle.reference.specs.Boards.{IsOfBoard, IsScriptFrom, is_tick}
 use Rattle.reference.specs.Time.{last_tick}
-use Rattle.board.specs.Texts.{◌>>=◌, change, event_in, in_front, interrupt_keys, interrupt_signal, nmi, nmi_keys, nmi_signal}
+use Rattle.board.specs.Texts.{◌>>=◌, change, event_in, in_front, interrupt_keys, interrupt_signal, nmi, nmi_keys}
+use Rattle.board.specs.Texts.{nmi_signal}
 use Rattle.board.specs.Texts.{number, of_kind, only, script_in, signal_in, timely_event, where_ok, word}
 
 -- both steps were taken
@@ -31,7 +33,7 @@ in_range ok (Ok m) n taken =
     let (passed, same) = only_if (ok m) taken in
     subst (λ n. ok n ≡ true) same passed
 
--- a change of a interrupt of the board
+-- a change of an interrupt of the board
 change_if : (interrupts interrupt : ℕ) (rise fall pulse : Bool) (signal : Signal) → interrupt < interrupts →
     (if rise then Ok (Rise interrupt) else if fall then Ok (Fall interrupt) else if pulse then Ok (Pulse interrupt)
     else Err OutOfRange)
@@ -44,10 +46,12 @@ change_if interrupts interrupt false false true signal below taken =
     let same : Pulse interrupt ≡ signal = cc in subst (IsOfBoard interrupts) same below
 change_if interrupts interrupt false false false signal below taken = cc
 
-interrupt_is : (interrupts : ℕ) (event : Members) (signal : Signal) → interrupt_signal interrupts event ≡ Ok signal → IsOfBoard interrupts signal
+interrupt_is : (interrupts : ℕ) (event : Members) (signal : Signal) → interrupt_signal interrupts event ≡ Ok signal
+    → IsOfBoard interrupts signal
 unfolding interrupt_signal
 interrupt_is interrupts event signal taken =
-    let (interrupt, at_interrupt) = both (where_ok (λ n. nat_lt n interrupts) (number (get_member (codes "line") event))) _ signal
+    let (interrupt, at_interrupt) = both
+    (where_ok (λ n. nat_lt n interrupts) (number (get_member (codes "line") event))) _ signal
     taken in
     let (name, at_name) = both (word (get_member (codes "what") event)) _ signal at_interrupt.1 in
     let (change, at_change) = both (change interrupt name) _ signal at_name.1 in
@@ -77,7 +81,7 @@ signal_is : (interrupts : ℕ) (event : Members) (value : Option Data) (signal :
 signal_is interrupts event None signal taken = interrupt_is interrupts event signal taken
 signal_is interrupts event (Some value) signal taken = nmi_signal_is interrupts value event signal taken
 
--- an event that was read applies in a tick of the clock, on a interrupt of the board
+-- an event that was read applies in a tick of the clock, on an interrupt of the board
 abbrev IsRead : ℕ → ScriptedEvent → Type 0
 IsRead interrupts event = (event.at ≤ last_tick) × IsOfBoard interrupts event.what
 
@@ -107,7 +111,8 @@ timely_is interrupts before value event taken =
     let (read, at_read) = both (event_in interrupts fields) _ event at_fields.1 in
     let (late, same) = timely_if (nat_lt read.at before) read event at_read.1 in
     let after : before ≤ read.at = grind (arith, nat_tests) in
-    subst (λ event. (before ≤ event.at) × IsRead interrupts event) same (after, event_is interrupts fields read at_read.0)
+    subst (λ event. (before ≤ event.at) × IsRead interrupts event) same
+    (after, event_is interrupts fields read at_read.0)
 
 front : (event : ScriptedEvent) (read : Result (List ScriptedEvent) BoardError) (events : List ScriptedEvent) →
     in_front event read ≡ Ok events → (others : List ScriptedEvent) × ((read ≡ Ok others) × (event ∷ others ≡ events))

@@ -36,13 +36,15 @@ script_in-next interrupts before values index value below is = rw (items_view-dr
 -- an event that is refused
 pub refused : (interrupts before : ℕ) (values : List Value) (index : ℕ) (value : Value)
     (done : List ScriptedEvent) (all : Read) (error : BoardError) →
-    index < length values → value ≡ get_or values index value → timely_event interrupts before (view value) ≡ Err error →
+    index < length values → value ≡ get_or values index value → timely_event interrupts before (view value) ≡ Err error
+    →
     after done (script_in interrupts before (items_view (drop index values))) ≡ all → all ≡ Err error
 refused interrupts before values index value done all error below is outside whole =
     sym whole
     ∙ ap (after done) (script_in-next interrupts before values index value below is)
     ∙ ap (λ (read : Result ScriptedEvent BoardError).
-    after done (read >>= (λ event. in_front event (script_in interrupts event.at (items_view (drop (index + 1) values))))))
+    after done (read >>=
+    (λ event. in_front event (script_in interrupts event.at (items_view (drop (index + 1) values))))))
     outside
 
 -- an event that is taken
@@ -54,14 +56,16 @@ pub taken : (interrupts before : ℕ) (values : List Value) (index : ℕ) (value
 taken interrupts before values index value done all event below is inside whole =
     sym (after-in_front done event (script_in interrupts event.at (items_view (drop (index + 1) values))))
     ∙ ap (λ (read : Result ScriptedEvent BoardError).
-    after done (read >>= (λ event. in_front event (script_in interrupts event.at (items_view (drop (index + 1) values))))))
+    after done (read >>=
+    (λ event. in_front event (script_in interrupts event.at (items_view (drop (index + 1) values))))))
     (sym inside)
     ∙ ap (after done) (sym (script_in-next interrupts before values index value below is))
     ∙ whole
 
 -- no value is left
 pub finished : (interrupts before : ℕ) (values : List Value) (index : ℕ) (done : List ScriptedEvent) (all : Read) →
-    length values ≤ index → after done (script_in interrupts before (items_view (drop index values))) ≡ all → all ≡ Ok done
+    length values ≤ index → after done (script_in interrupts before (items_view (drop index values))) ≡ all → all
+    ≡ Ok done
 unfolding script_in
 finished interrupts before values index done all past whole =
     let nothing : drop index values ≡ [] = drop_of_length-le values past in

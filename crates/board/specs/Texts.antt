@@ -90,7 +90,7 @@ numbers_in document = do
     regions = regions;
   })
 
--- the signal on a interrupt that a word names
+-- the signal on an interrupt that a word names
 abbrev pub change : ℕ → List ℕ → Result Signal BoardError
 change interrupt name =
     if bytes_eq name (codes "rise") then Ok (Rise interrupt)
@@ -104,7 +104,7 @@ nmi None = Err WrongKind
 nmi (Some false) = Err OutOfRange
 nmi (Some true) = Ok Nmi
 
--- the signal of an event that names a interrupt of the board
+-- the signal of an event that names an interrupt of the board
 unfoldable pub interrupt_signal : ℕ → Members → Result Signal BoardError
 interrupt_signal interrupts event = do
   interrupt ← where_ok (λ n. nat_lt n interrupts) (number (get_member (codes "line") event))

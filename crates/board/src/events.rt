@@ -5,7 +5,8 @@ ghost use Rattle.toml.specs.Data.{get_member, as_table};
 ghost use Rattle.toml.specs.View.{table_view, view, items_view};
 ghost use Rattle.reference.specs.Boards.{IsScript, IsScriptFrom};
 ghost use Rattle.board.specs.Reading.{Answers, Gives};
-ghost use Rattle.board.specs.Texts.{are_tables, change, event_in, events, is_table, interrupt_signal, nmi, nmi_signal, script_in, signal_in, timely_event};
+ghost use Rattle.board.specs.Texts.{are_tables, change, event_in, events, is_table, interrupt_signal, nmi, nmi_signal};
+ghost use Rattle.board.specs.Texts.{script_in, signal_in, timely_event};
 
 use crate::keys::{INTERRUPT_KEYS, NMI_KEYS, has_only};
 use crate::values::{find, number, word};
@@ -135,7 +136,7 @@ fn signal_of(interrupts: u8, event: &Table, value: Option<&Value>) -> Result<Sig
     }
 }
 
-// The signal of an event that names a interrupt of the board.
+// The signal of an event that names an interrupt of the board.
 #[tactic(auto, unfolding(crate::specs::Texts::interrupt_signal))]
 fn interrupt_signal(interrupts: u8, event: &Table) -> Result<Signal, BoardError>
     requires { interrupts ≤ MOST_INTERRUPTS }
@@ -153,7 +154,7 @@ fn interrupt_signal(interrupts: u8, event: &Table) -> Result<Signal, BoardError>
     Ok(signal)
 }
 
-// The signal on a interrupt that a word names.
+// The signal on an interrupt that a word names.
 fn change(interrupt: InterruptNumber, name: &str) -> Result<Signal, BoardError>
     ensures { result ≡ change interrupt name.now }
 {

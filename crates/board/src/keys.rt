@@ -18,7 +18,7 @@ pub const BOARD_KEYS: [&str; 7] = [
     "event",
 ];
 
-// The keys of an event on a interrupt.
+// The keys of an event on an interrupt.
 pub const INTERRUPT_KEYS: [&str; 3] = ["at", "line", "what"];
 
 // The keys of an event of NMI.

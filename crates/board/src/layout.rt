@@ -4,7 +4,8 @@ ghost use Rattle.std.specs.Prelude.{◌≡◌, ◌<◌, ◌≤◌, ◌+◌, ◌%
 ghost use Rattle.std.specs.Bool.{OnTrue};
 ghost use Rattle.reference.specs.Map.{ram_base};
 ghost use Rattle.toml.specs.View.{table_view};
-ghost use Rattle.reference.specs.Boards.{is_whole_blocks, is_size, is_flash, is_priority_bits, is_interrupt_count, is_region_count, numbers_of};
+ghost use Rattle.reference.specs.Boards.{is_whole_blocks, is_size, is_flash, is_priority_bits, is_interrupt_count};
+ghost use Rattle.reference.specs.Boards.{is_region_count, numbers_of};
 ghost use Rattle.reference.specs.Regions.{region_number};
 ghost use Rattle.board.specs.Reading.{Gives};
 ghost use Rattle.board.specs.Texts.{numbers_in, where_ok};

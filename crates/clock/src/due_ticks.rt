@@ -33,7 +33,8 @@ pub trait DueTicks: Drop {
         requires known { since self.now ≤ now }
         requires bounded { now ≤ 2 ^ 48 }
         ensures answer { result ≡ is_before (now + 1) (due self.now) }
-        ensures passes { result ≡ true → systick_at self.now (now + 1) ≡ record (systick_at self.now now) { current = next_current (systick_at self.now now) } };
+        ensures passes { result ≡ true → systick_at self.now (now + 1)
+            ≡ record (systick_at self.now now) { current = next_current (systick_at self.now now) } };
 
     /// SysTick at a tick.
     fn systick(&self, now: u64) -> SysTick
@@ -47,7 +48,8 @@ pub trait DueTicks: Drop {
         requires bounded { now < 2 ^ 48 }
         ensures systick { systick_at self.new (now + 1) ≡ counted (systick_at self.old now) }
         ensures since { since self.new ≤ now + 1 }
-        ensures due { IfSome (due self.new) (λ tick. tick ≡ next_due (now + 1) (counted (systick_at self.old now)) next_event) };
+        ensures due { IfSome (due self.new)
+            (λ tick. tick ≡ next_due (now + 1) (counted (systick_at self.old now)) next_event) };
 
     /// Sets the state of SysTick at a tick. The script's next event is at `next_event`.
     fn set(&mut self, now: u64, systick: SysTick, next_event: u64)

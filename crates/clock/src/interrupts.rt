@@ -12,7 +12,7 @@ pub const INTERRUPTS: usize = MOST_INTERRUPTS as usize;
 /// For each interrupt, whether it is high.
 pub type HighInterrupts = [bool; INTERRUPTS];
 
-/// Returns whether a interrupt is high: never for a number from 240 on.
+/// Returns whether an interrupt is high: never for a number from 240 on.
 #[inline]
 pub fn is_high(high: &HighInterrupts, interrupt: u8) -> bool
     ensures { result ≡ slice_index_or high.now interrupt false }

@@ -4,7 +4,9 @@
 
 ghost use Rattle.std.specs.Prelude.{◌≡◌, ℕ, ◌+◌, ◌^◌, ◌<◌, ◌≤◌, true, false};
 ghost use Rattle.clock.specs.DueTicks.{IsRight, IsQuiet};
-ghost use Rattle.reference.specs.Time.{time_after_tick, counted, timer_pends, tick_pends, script_due, event_applies_next, passed, is_high, start_time, csr, after_csr_read, with_csr, with_rvr, with_cvr_cleared, IsSetOf};
+ghost use Rattle.reference.specs.Time.{time_after_tick, counted, timer_pends, tick_pends, script_due};
+ghost use Rattle.reference.specs.Time.{event_applies_next, passed, is_high, start_time, csr, after_csr_read, with_csr};
+ghost use Rattle.reference.specs.Time.{with_rvr, with_cvr_cleared, IsSetOf};
 
 mod ahead;
 mod due_ticks;
@@ -81,7 +83,7 @@ impl<U: DueTicks> Clock<U> {
         self.ticks
     }
 
-    /// Returns whether a interrupt is high.
+    /// Returns whether an interrupt is high.
     pub fn high(&self, interrupt: u8) -> bool
         ensures { result ≡ is_high self.now.time interrupt }
     {
@@ -128,7 +130,7 @@ impl<U: DueTicks> Clock<U> {
 
     /// Makes the next tick. Returns the exceptions that it pends.
     #[inline]
-    #[tactic(auto, using(crate::proofs::Quiet::right_tick, crate::proofs::Quiet::right_pends, crate::proofs::Quiet::right_stays))]
+    #[tactic(auto, using(crate::proofs::Quiet::right_tick, crate::proofs::Quiet::right_pends, crate::proofs::Quiet::right_stays),)]
     pub fn tick(&mut self) -> Due
         requires { self.old.time.ticks < 2 ^ 48 }
         ensures time { IsRight self.old → self.new.time ≡ time_after_tick self.old.time }
@@ -151,7 +153,7 @@ impl<U: DueTicks> Clock<U> {
 
     /// Makes the next tick if the due tick that is kept says that nothing is due at it. Returns whether it did.
     #[inline]
-    #[tactic(auto, using(crate::proofs::Quiet::right_tick, crate::proofs::Quiet::right_pends, crate::proofs::Quiet::right_stays))]
+    #[tactic(auto, using(crate::proofs::Quiet::right_tick, crate::proofs::Quiet::right_pends, crate::proofs::Quiet::right_stays),)]
     pub fn tick_quietly(&mut self) -> bool
         requires { self.old.time.ticks < 2 ^ 48 }
         ensures same { result ≡ false → self.new ≡ self.old }
@@ -209,7 +211,8 @@ impl<U: DueTicks> Clock<U> {
     #[inline]
     fn count_on(&mut self)
         requires { self.old.time.ticks < 2 ^ 48 }
-        ensures time { self.new.time ≡ record self.old.time { ticks = self.old.time.ticks + 1; systick = counted self.old.time.systick } }
+        ensures time { self.new.time
+            ≡ record self.old.time { ticks = self.old.time.ticks + 1; systick = counted self.old.time.systick } }
         ensures right { IsRight self.new }
     {
         let next_event = self.next_event();

@@ -45,7 +45,8 @@ fn exception_of(interrupt: InterruptNumber) -> u8
 
 /// Puts the exceptions that events pend into a set.
 pub fn put_events(due: &mut Due, events: &[ScriptedEvent])
-    ensures { (n : ℕ) → n < 256 → is_in_words due.new n ≡ (list_any (λ e. pends e.what n) events.now || is_in_words due.old n) }
+    ensures { (n : ℕ) → n < 256 → is_in_words due.new n
+        ≡ (list_any (λ e. pends e.what n) events.now || is_in_words due.old n) }
 {
     for event in events {
         put_signal(due, event.what);

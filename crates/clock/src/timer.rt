@@ -3,7 +3,8 @@
 ghost use Rattle.std.specs.Prelude.{◌≡◌, ◌&&◌, ◌^◌, ◌<◌, ◌≤◌};
 ghost use Rattle.clock.specs.Later.{current_after, later};
 ghost use Rattle.instruction_set.specs.Registers.{weighed as weighed_of};
-ghost use Rattle.reference.specs.Time.{counted, reaches_zero, csr as csr_of, after_csr_read, with_csr, with_rvr, with_cvr_cleared, reset_systick, timer_due};
+ghost use Rattle.reference.specs.Time.{counted, reaches_zero, csr as csr_of, after_csr_read, with_csr, with_rvr};
+ghost use Rattle.reference.specs.Time.{with_cvr_cleared, reset_systick, timer_due};
 
 use crate::script::NEVER;
 use std::marker::Model;
@@ -27,11 +28,13 @@ impl Model for SysTick {
 
     ghost Value = { Timer };
 
-    ghost view = { λ t. record { enable = t.enable; tickint = t.tickint; countflag = t.countflag; reload = t.reload; current = t.current } };
+    ghost view = { λ t. record
+        { enable = t.enable; tickint = t.tickint; countflag = t.countflag; reload = t.reload; current = t.current } };
 
     ghost invariant = { λ t. (t.reload < 2 ^ 24) × (t.current < 2 ^ 24) };
 
-    ghost inverse = { λ t. record { enable = t.enable; tickint = t.tickint; countflag = t.countflag; reload = t.reload; current = t.current } };
+    ghost inverse = { λ t. record
+        { enable = t.enable; tickint = t.tickint; countflag = t.countflag; reload = t.reload; current = t.current } };
 }
 
 impl SysTick {

@@ -7,7 +7,8 @@ use Rattle.command.specs.declared.request.Request.{Request}
 use Rattle.command.specs.declared.request.RunRequest.{RunRequest}
 use Rattle.command.specs.declared.request.Task.{Task}
 use Rattle.command.specs.declared.request.Task.TheVariants.{Run, Report, Debug}
-use Rattle.command_line.specs.Asked.{Asked, AskedDebug, AskedReport, AskedRun, IsRefused, IsTaken, answer_of, asked, memory}
+use Rattle.command_line.specs.Asked.{Asked, AskedDebug, AskedReport, AskedRun, IsRefused, IsTaken, answer_of, asked}
+use Rattle.command_line.specs.Asked.{memory}
 use Rattle.command_line.specs.Asked.{text_of, usage}
 use Rattle.command_line.specs.Asked as asks
 use Rattle.command_line.specs.declared.words.WordsError.{WordsError}

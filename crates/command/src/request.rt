@@ -1,7 +1,8 @@
 //! What the arguments of the program ask for.
 
 ghost use Rattle.std.specs.Prelude.{◌≡◌, ◌≤◌, ◌^◌, ◌⊎◌, IfSome, None, map, string_bytes};
-ghost use Rattle.command.specs.Tasks.{AsksReport, AsksRun, IsSteps, Requests, number_in, selection_asked, selection_named};
+ghost use Rattle.command.specs.Tasks.{AsksReport, AsksRun, IsSteps, Requests, number_in, selection_asked};
+ghost use Rattle.command.specs.Tasks.{selection_named};
 ghost use Rattle.command_line.specs.Asked.{answer_of, memory, report_of, run_of, text_of, usage};
 
 use crate::expectation::is_stop;
@@ -45,7 +46,7 @@ pub struct RunRequest<'a> {
 }
 
 /// Reads the arguments; the first one is the program's name.
-#[tactic(auto, using(crate::proofs::Asking::run_asked, crate::proofs::Asking::report_asked, crate::proofs::Asking::debug_asked, crate::proofs::Asking::not_taken))]
+#[tactic(auto, using(crate::proofs::Asking::run_asked, crate::proofs::Asking::report_asked, crate::proofs::Asking::debug_asked, crate::proofs::Asking::not_taken,),)]
 pub fn read_words<'a>(alloc: Global, words: &'a [String]) -> Result<Request<'a>, WordsError>
     ensures { Requests (map string_bytes words.entry.now) result }
 {

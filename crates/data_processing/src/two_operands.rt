@@ -1,7 +1,8 @@
 //! Operations on two operands: AND, BIC, ORR, ORN, EOR, ADD, ADC, SBC, SUB and RSB.
 
 ghost use Rattle.std.specs.Prelude.{◌≡◌};
-ghost use Rattle.instruction_set.specs.TwoOperands.{computed, with_immediate, with_shifted, data_immediate, data_register};
+ghost use Rattle.instruction_set.specs.TwoOperands.{computed, with_immediate, with_shifted, data_immediate};
+ghost use Rattle.instruction_set.specs.TwoOperands.{data_register};
 
 use crate::operands::{immediate_carry, shifted};
 use crate::results::{logical, summed, write};

@@ -109,7 +109,8 @@ heard_more given more i j l x y = record {
 }
 
 -- what was said of the next byte, in the session's words
-answered_now : (n : ℕ) (k : Kept) (old mid : Whole) (i j : Source) (a b : Sink) (byte : ℕ) (h : Heard n k old mid i j a b)
+answered_now : (n : ℕ) (k : Kept) (old mid : Whole) (i j : Source) (a b : Sink) (byte : ℕ)
+    (h : Heard n k old mid i j a b)
     → answers (opened old.state) (h.given ++ byte ∷ []) ≡ answers (opened old.state) h.given
     ++ answered (talk mid.state k) byte
 answered_now n k old mid i j a b byte h =
@@ -183,7 +184,8 @@ at_end n k old mid new i j l a b c h gave end then = record {
   heard = nothing_more h.given i j l h.hears gave;
   pieces = all_answers old.state h.given;
   ends = inl (end, refl);
-  tells = tells_on (answers (opened old.state) h.given) (answered_at_end (after_bytes (opened old.state) h.given)) old mid new
+  tells = tells_on (answers (opened old.state) h.given)
+      (answered_at_end (after_bytes (opened old.state) h.given)) old mid new
       a b c h.tells
       (subst (λ (t : Talk). TellsAll (answered_at_end t) mid new b c) (sym h.now) then);
 }
@@ -195,7 +197,8 @@ cut_at_end n k old mid new i j l a b c h gave part = record {
   given = h.given;
   heard = nothing_more h.given i j l h.hears gave;
   tells = inl
-      (cut_on (answers (opened old.state) h.given) (answered_at_end (after_bytes (opened old.state) h.given)) old mid new
+      (cut_on (answers (opened old.state) h.given)
+      (answered_at_end (after_bytes (opened old.state) h.given)) old mid new
       a b c h.tells
       (subst (λ (t : Talk). TellsPart (answered_at_end t) mid new b c) (sym h.now) part));
 }

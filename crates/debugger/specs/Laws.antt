@@ -8,8 +8,8 @@ use Rattle.reference.specs.Text.{lines}
 use Rattle.task_laws.specs.declared.task.TaskEnd.{TaskEnd}
 use Rattle.task_laws.specs.Tasks.{AreInstructions, Ends, is_task}
 
--- the pieces are those of a run of at most n steps: `steps` steps were made, each of them an Instruction step; their lines
--- come first and then why the run ended, and the machine is in the state after them
+-- the pieces are those of a run of at most n steps: `steps` steps were made, each of them an Instruction step; their
+-- lines come first and then why the run ended, and the machine is in the state after them
 pub record SaysHowItRan (n : ℕ) (s : State) (pieces : List Piece) : Type 0 where
   pub steps : ℕ
   pub end : TaskEnd

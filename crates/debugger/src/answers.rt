@@ -15,7 +15,9 @@ pub fn write_step<D: Decider, C: KeptCode, L: Levels, U: DueTicks, W: Out>(
     room: &mut LineRoom,
     out: &mut W,
 ) -> Result<(), IoError>
-    ensures { Tells (step_piece machine.old.state ∷ []) machine.old machine.new (record { written = W.written out.old; errors = W.errors out.old }) (record { written = W.written out.new; errors = W.errors out.new }) result }
+    ensures { Tells (step_piece machine.old.state ∷ []) machine.old machine.new
+        (record { written = W.written out.old; errors = W.errors out.old })
+        (record { written = W.written out.new; errors = W.errors out.new }) result }
 {
     match machine.write_step(room, out) {
         Ok(()) => Ok(()),
@@ -48,7 +50,9 @@ fn put_end<D: Decider, C: KeptCode, L: Levels, U: DueTicks, W: Out>(
     machine: &Machine<D, C, L, U>,
     out: &mut W,
 ) -> Result<(), IoError>
-    ensures { Tells (end_piece machine.now.state ∷ []) machine.now machine.now (record { written = W.written out.old; errors = W.errors out.old }) (record { written = W.written out.new; errors = W.errors out.new }) result }
+    ensures { Tells (end_piece machine.now.state ∷ []) machine.now machine.now
+        (record { written = W.written out.old; errors = W.errors out.old })
+        (record { written = W.written out.new; errors = W.errors out.new }) result }
 {
     let page = end_text(machine.stop(), machine.regs().pc);
     match out.put_all(page.as_slice()) {
@@ -66,7 +70,9 @@ fn run_on<D: Decider, C: KeptCode, L: Levels, U: DueTicks, W: Out>(
     room: &mut LineRoom,
     out: &mut W,
 ) -> Result<(), IoError>
-    ensures { Tells (run_on breakpoints.now steps machine.old.state) machine.old machine.new (record { written = W.written out.old; errors = W.errors out.old }) (record { written = W.written out.new; errors = W.errors out.new }) result }
+    ensures { Tells (run_on breakpoints.now steps machine.old.state) machine.old machine.new
+        (record { written = W.written out.old; errors = W.errors out.old })
+        (record { written = W.written out.new; errors = W.errors out.new }) result }
 {
     let mut left = steps;
     'steps: while left > 0 {
@@ -93,7 +99,9 @@ pub fn run<D: Decider, C: KeptCode, L: Levels, U: DueTicks, W: Out>(
     steps: u32,
     out: &mut W,
 ) -> Result<(), IoError>
-    ensures { Tells (run_pieces breakpoints.now steps machine.old.state) machine.old machine.new (record { written = W.written out.old; errors = W.errors out.old }) (record { written = W.written out.new; errors = W.errors out.new }) result }
+    ensures { Tells (run_pieces breakpoints.now steps machine.old.state) machine.old machine.new
+        (record { written = W.written out.old; errors = W.errors out.old })
+        (record { written = W.written out.new; errors = W.errors out.new }) result }
 {
     if machine.stop().is_some() {
         return put_end(machine, out);

@@ -2,7 +2,8 @@
 
 ghost use Rattle.std.specs.Prelude.{◌≡◌, [], true, Some, OnErr};
 ghost use Rattle.debugger.specs.Answers.{answer, reply_text};
-ghost use Rattle.debugger.specs.Sessions.{after_line, GivesByte, GoesOn, line_answered, next, NothingWaits, answered, answered_at_end, SendsBefore, SendsRest, Sessions, TakesNext, talk, Tells};
+ghost use Rattle.debugger.specs.Sessions.{after_line, GivesByte, GoesOn, line_answered, next, NothingWaits, answered};
+ghost use Rattle.debugger.specs.Sessions.{answered_at_end, SendsBefore, SendsRest, Sessions, TakesNext, talk, Tells};
 ghost use Rattle.debugger_commands.specs.Breakpoints.{breakpoints_after};
 
 use crate::answers::run;
@@ -79,7 +80,9 @@ impl Debugger {
         asked: Result<Command, LineError>,
         out: &mut W,
     ) -> Result<(), IoError>
-        ensures tells { Tells (answer machine.old.state self.old.breakpoints asked) machine.old machine.new (record { written = W.written out.old; errors = W.errors out.old }) (record { written = W.written out.new; errors = W.errors out.new }) result }
+        ensures tells { Tells (answer machine.old.state self.old.breakpoints asked) machine.old machine.new
+            (record { written = W.written out.old; errors = W.errors out.old })
+            (record { written = W.written out.new; errors = W.errors out.new }) result }
         ensures kept { self.new ≡ record self.old { breakpoints = breakpoints_after self.old.breakpoints asked } }
     {
         match steps_of(asked) {
@@ -103,7 +106,9 @@ impl Debugger {
         machine: &mut Machine<D, C, L, U>,
         out: &mut W,
     ) -> Result<bool, IoError>
-        ensures tells { Tells (line_answered (talk machine.old.state self.old)) machine.old machine.new (record { written = W.written out.old; errors = W.errors out.old }) (record { written = W.written out.new; errors = W.errors out.new }) result }
+        ensures tells { Tells (line_answered (talk machine.old.state self.old)) machine.old machine.new
+            (record { written = W.written out.old; errors = W.errors out.old })
+            (record { written = W.written out.new; errors = W.errors out.new }) result }
         ensures kept { GoesOn (after_line (talk machine.old.state self.old)) self.new result }
     {
         let asked = read_line(self.listener.line());
@@ -121,7 +126,9 @@ impl Debugger {
         byte: u8,
         out: &mut W,
     ) -> Result<bool, IoError>
-        ensures tells { Tells (answered (talk machine.old.state self.old) byte) machine.old machine.new (record { written = W.written out.old; errors = W.errors out.old }) (record { written = W.written out.new; errors = W.errors out.new }) result }
+        ensures tells { Tells (answered (talk machine.old.state self.old) byte) machine.old machine.new
+            (record { written = W.written out.old; errors = W.errors out.old })
+            (record { written = W.written out.new; errors = W.errors out.new }) result }
         ensures kept { GoesOn (next (talk machine.old.state self.old) byte) self.new result }
     {
         if byte == b'\n' {
@@ -141,7 +148,9 @@ impl Debugger {
         machine: &mut Machine<D, C, L, U>,
         out: &mut W,
     ) -> Result<(), IoError>
-        ensures { Tells (answered_at_end (talk machine.old.state self.old)) machine.old machine.new (record { written = W.written out.old; errors = W.errors out.old }) (record { written = W.written out.new; errors = W.errors out.new }) result }
+        ensures { Tells (answered_at_end (talk machine.old.state self.old)) machine.old machine.new
+            (record { written = W.written out.old; errors = W.errors out.old })
+            (record { written = W.written out.new; errors = W.errors out.new }) result }
     {
         if self.listener.is_empty() {
             return Ok(());
@@ -161,7 +170,11 @@ pub fn session<D: Decider, C: KeptCode, L: Levels, U: DueTicks, I: In, W: Out>(
     reader: &mut I,
     out: &mut W,
 ) -> Result<(), SessionError>
-    ensures talked { Sessions machine.old machine.new (record { left = I.left reader.old; misses = I.misses reader.old }) (record { left = I.left reader.new; misses = I.misses reader.new }) (record { written = W.written out.old; errors = W.errors out.old }) (record { written = W.written out.new; errors = W.errors out.new }) result }
+    ensures talked { Sessions machine.old machine.new
+        (record { left = I.left reader.old; misses = I.misses reader.old })
+        (record { left = I.left reader.new; misses = I.misses reader.new })
+        (record { written = W.written out.old; errors = W.errors out.old })
+        (record { written = W.written out.new; errors = W.errors out.new }) result }
     ensures sent { NothingWaits (W.waits out.new) result }
 {
     let mut debugger = Debugger::new();
@@ -188,7 +201,8 @@ pub fn session<D: Decider, C: KeptCode, L: Levels, U: DueTicks, I: In, W: Out>(
 
 /// Sends what waits, before a session ends.
 fn send_rest<W: Out>(out: &mut W) -> Result<(), SessionError>
-    ensures { SendsRest (record { written = W.written out.old; errors = W.errors out.old }) (record { written = W.written out.new; errors = W.errors out.new }) (W.waits out.new) result }
+    ensures { SendsRest (record { written = W.written out.old; errors = W.errors out.old })
+        (record { written = W.written out.new; errors = W.errors out.new }) (W.waits out.new) result }
 {
     match out.hand_on() {
         Ok(()) => Ok(()),
@@ -198,7 +212,8 @@ fn send_rest<W: Out>(out: &mut W) -> Result<(), SessionError>
 
 /// Sends what waits, if the next call of the reader may wait.
 fn send_before<I: In, W: Out>(reader: &I, out: &mut W) -> Result<(), IoError>
-    ensures { SendsBefore (I.may_wait reader.now) (record { written = W.written out.old; errors = W.errors out.old }) (record { written = W.written out.new; errors = W.errors out.new }) (W.waits out.new) result }
+    ensures { SendsBefore (I.may_wait reader.now) (record { written = W.written out.old; errors = W.errors out.old })
+        (record { written = W.written out.new; errors = W.errors out.new }) (W.waits out.new) result }
 {
     if reader.may_wait() {
         return out.hand_on();
@@ -208,7 +223,10 @@ fn send_before<I: In, W: Out>(reader: &I, out: &mut W) -> Result<(), IoError>
 
 /// Returns the next byte of the input, None at its end. Sends what waits before a call of the reader that may wait.
 fn take_next<I: In, W: Out>(reader: &mut I, out: &mut W) -> Result<Option<u8>, SessionError>
-    ensures { TakesNext (record { left = I.left reader.old; misses = I.misses reader.old }) (record { left = I.left reader.new; misses = I.misses reader.new }) (record { written = W.written out.old; errors = W.errors out.old }) (record { written = W.written out.new; errors = W.errors out.new }) (W.waits out.new) result }
+    ensures { TakesNext (record { left = I.left reader.old; misses = I.misses reader.old })
+        (record { left = I.left reader.new; misses = I.misses reader.new })
+        (record { written = W.written out.old; errors = W.errors out.old })
+        (record { written = W.written out.new; errors = W.errors out.new }) (W.waits out.new) result }
 {
     match send_before(reader, out) {
         Ok(()) => {}
@@ -222,7 +240,8 @@ fn take_next<I: In, W: Out>(reader: &mut I, out: &mut W) -> Result<Option<u8>, S
 
 /// Returns the next byte of the input, None at its end.
 fn take_byte<I: In>(reader: &mut I) -> Result<Option<u8>, IoError>
-    ensures given { GivesByte (record { left = I.left reader.old; misses = I.misses reader.old }) (record { left = I.left reader.new; misses = I.misses reader.new }) result }
+    ensures given { GivesByte (record { left = I.left reader.old; misses = I.misses reader.old })
+        (record { left = I.left reader.new; misses = I.misses reader.new }) result }
     ensures failed { OnErr result (I.may_wait reader.old ≡ true) }
 {
     let mut room = [0; 1];

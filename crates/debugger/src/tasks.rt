@@ -17,7 +17,9 @@ fn put_task_end<D: Decider, C: KeptCode, L: Levels, U: DueTicks, W: Out>(
     end: TaskEnd,
     out: &mut W,
 ) -> Result<(), IoError>
-    ensures { Tells (task_piece machine.now.state end ∷ []) machine.now machine.now (record { written = W.written out.old; errors = W.errors out.old }) (record { written = W.written out.new; errors = W.errors out.new }) result }
+    ensures { Tells (task_piece machine.now.state end ∷ []) machine.now machine.now
+        (record { written = W.written out.old; errors = W.errors out.old })
+        (record { written = W.written out.new; errors = W.errors out.new }) result }
 {
     let page = task_text(end);
     match out.put_all(page.as_slice()) {
@@ -33,7 +35,9 @@ fn task_on<D: Decider, C: KeptCode, L: Levels, U: DueTicks, W: Out>(
     steps: u32,
     out: &mut W,
 ) -> Result<(), IoError>
-    ensures { Tells (task_on steps machine.old.state) machine.old machine.new (record { written = W.written out.old; errors = W.errors out.old }) (record { written = W.written out.new; errors = W.errors out.new }) result }
+    ensures { Tells (task_on steps machine.old.state) machine.old machine.new
+        (record { written = W.written out.old; errors = W.errors out.old })
+        (record { written = W.written out.new; errors = W.errors out.new }) result }
 {
     let mut room = LineRoom::new();
     let mut left = steps;
@@ -61,7 +65,9 @@ pub fn run_task<D: Decider, C: KeptCode, L: Levels, U: DueTicks, W: Out>(
     steps: u32,
     out: &mut W,
 ) -> Result<(), IoError>
-    ensures { Tells (task_pieces steps machine.old.state) machine.old machine.new (record { written = W.written out.old; errors = W.errors out.old }) (record { written = W.written out.new; errors = W.errors out.new }) result }
+    ensures { Tells (task_pieces steps machine.old.state) machine.old machine.new
+        (record { written = W.written out.old; errors = W.errors out.old })
+        (record { written = W.written out.new; errors = W.errors out.new }) result }
 {
     if machine.stop().is_none() && !machine.is_task() {
         return put_task_end(machine, TaskEnd::NotTask, out);

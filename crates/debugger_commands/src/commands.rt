@@ -1,7 +1,9 @@
 //! The commands of a session, and how a line is read.
 
 ghost use Rattle.std.specs.Prelude.{◌≡◌, bytes_eq, option_map};
-ghost use Rattle.debugger_commands.specs.Commands.{alone, command_in, command_of, kind_of, name_of, privilege_of, quits, read_break, read_explain, read_memory, read_run, read_task, steps_of, task_steps_of};
+ghost use Rattle.debugger_commands.specs.Commands.{alone, command_in, command_of, kind_of, name_of, privilege_of};
+ghost use Rattle.debugger_commands.specs.Commands.{quits, read_break, read_explain, read_memory, read_run, read_task};
+ghost use Rattle.debugger_commands.specs.Commands.{steps_of, task_steps_of};
 ghost use Rattle.debugger_commands.specs.TwoWords.{seen_two, seen_three};
 
 use crate::numbers::{number, number_within};

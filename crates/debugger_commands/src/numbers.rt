@@ -1,7 +1,8 @@
 //! The numbers of a line: decimal, or hexadecimal after `0x`, at most 2^32 - 1.
 
 ghost use Rattle.std.specs.Prelude.{◌≡◌, ◌^◌, ◌<◌, ◌≤◌, IfSome};
-ghost use Rattle.debugger_commands.specs.Words.{digit, digits, if_word, in_range, number, number_within, shifted, with_digit};
+ghost use Rattle.debugger_commands.specs.Words.{digit, digits, if_word, in_range, number, number_within, shifted};
+ghost use Rattle.debugger_commands.specs.Words.{with_digit};
 
 /// Returns the value of a digit, hexadecimal or decimal.
 fn digit(is_hex: bool, byte: u8) -> Option<u8>

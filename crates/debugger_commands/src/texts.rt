@@ -1,7 +1,9 @@
 //! The texts of answers, and the parts of those that show a machine.
 
 ghost use Rattle.std.specs.Prelude.{◌≡◌, ◌+◌, ◌≤◌, [], ◌++◌, codes, decimal, length};
-ghost use Rattle.debugger_commands.specs.Texts.{byte_text, decision_text, end_text, error_text, general_lines, grant_text, region_line, region_name, register_line, spaced, value_text, words_line};
+ghost use Rattle.debugger_commands.specs.Texts.{byte_text, decision_text, end_text, error_text, general_lines};
+ghost use Rattle.debugger_commands.specs.Texts.{grant_text, region_line, region_name, register_line, spaced};
+ghost use Rattle.debugger_commands.specs.Texts.{value_text, words_line};
 ghost use Rattle.instruction_set.specs.Words.{word_sum};
 ghost use Rattle.reference.specs.Text.{line_feed};
 

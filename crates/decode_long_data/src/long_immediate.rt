@@ -3,7 +3,10 @@
 
 ghost use Rattle.std.specs.Prelude.{◌≡◌, ◌≢◌, ◌==◌, ◌<◌, ◌≤◌, ◌+◌, ◌-◌, ◌*◌, ◌^◌, ◌&&◌, ◌||◌, not, true, false, nat_lt};
 ghost use Rattle.encodings.specs.Masks.{by_masks};
-ghost use Rattle.instruction_set.specs.LongImmediate.{modified_immediate, compare_immediate_row, compares_sp, data_immediate_row, is_refused_destination, is_refused_first, logical_immediate_rows, move_immediate_row, sum_immediate_rows, takes_sp};
+ghost use Rattle.instruction_set.specs.LongImmediate.{modified_immediate, compare_immediate_row, compares_sp};
+ghost use Rattle.instruction_set.specs.LongImmediate.{data_immediate_row, is_refused_destination, is_refused_first};
+ghost use Rattle.instruction_set.specs.LongImmediate.{logical_immediate_rows, move_immediate_row, sum_immediate_rows};
+ghost use Rattle.instruction_set.specs.LongImmediate.{takes_sp};
 
 use encodings::operands::{flags_if, operand_of};
 use encodings::outcomes::{is_bad, long, unless_refused};

@@ -4,7 +4,8 @@
 
 ghost use Rattle.std.specs.Prelude.{◌≡◌, ◌≢◌, ◌==◌, ◌<◌, ◌≤◌, ◌+◌, ◌-◌, ◌*◌, ◌^◌, ◌&&◌, ◌||◌, not, true, false, nat_lt};
 ghost use Rattle.encodings.specs.Masks.{by_masks};
-ghost use Rattle.instruction_set.specs.LongMultiply.{divide_row, multiply_accumulate_row, multiply_long_row, multiply_wide_row, product_rows};
+ghost use Rattle.instruction_set.specs.LongMultiply.{divide_row, multiply_accumulate_row, multiply_long_row};
+ghost use Rattle.instruction_set.specs.LongMultiply.{multiply_wide_row, product_rows};
 
 use encodings::outcomes::{is_bad, long_unless};
 use encodings::rows;
@@ -69,7 +70,8 @@ fn multiply_accumulate(
     d: Register,
     m: Register,
 ) -> Decoded
-    ensures { result ≡ multiply_accumulate_row (record { operation = operation; destination = d; first = n; second = m; addend = a }) }
+    ensures { result ≡ multiply_accumulate_row
+        (record { operation = operation; destination = d; first = n; second = m; addend = a }) }
 {
     let refused = is_bad(n) || is_bad(a) || is_bad(d) || is_bad(m);
     let instruction = Instruction::DataProcessing(DataProcessing::MultiplyAccumulate(
@@ -94,7 +96,8 @@ fn multiply_long(
     high: Register,
     m: Register,
 ) -> Decoded
-    ensures { result ≡ multiply_long_row (record { signed = signed; accumulates = accumulates; low = low; high = high; first = n; second = m }) }
+    ensures { result ≡ multiply_long_row
+        (record { signed = signed; accumulates = accumulates; low = low; high = high; first = n; second = m }) }
 {
     let same = low.number() == high.number();
     let refused = is_bad(n) || is_bad(low) || is_bad(high) || is_bad(m) || same;

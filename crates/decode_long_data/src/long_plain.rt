@@ -5,7 +5,9 @@ ghost use Rattle.std.specs.Prelude.{◌≡◌, ◌≢◌, ◌==◌, ◌<◌, ◌
 ghost use Rattle.encodings.specs.Masks.{by_masks};
 ghost use Rattle.instruction_set.specs.declared.instruction.BlockPlace.TheVariants.{Anywhere};
 ghost use Rattle.instruction_set.specs.declared.unpredictable.UnpredictableCase.TheVariants.{BitField};
-ghost use Rattle.instruction_set.specs.LongPlain.{add_wide_row, address_wide_row, clear_field_row, extract_field_row, halfword, insert_field_row, move_top_row, move_wide_row, plain_rows, saturate_row};
+ghost use Rattle.instruction_set.specs.LongPlain.{add_wide_row, address_wide_row, clear_field_row, extract_field_row};
+ghost use Rattle.instruction_set.specs.LongPlain.{halfword, insert_field_row, move_top_row, move_wide_row, plain_rows};
+ghost use Rattle.instruction_set.specs.LongPlain.{saturate_row};
 ghost use Rattle.instruction_set.specs.Rows.{long, unless};
 
 use crate::long_immediate::is_refused_destination;
@@ -136,7 +138,8 @@ fn move_top(d: Register, imm16: u16) -> Decoded
 /// Returns SSAT or USAT, to `bits` bits.
 #[tactic(auto, unfolding(instruction_set::specs::LongPlain::saturate_row))]
 fn saturate(signed: bool, destination: Register, bits: u8, source: ShiftedRegister) -> Decoded
-    ensures { result ≡ saturate_row (record { signed = signed; destination = destination; bits = bits; source = source }) }
+    ensures { result ≡ saturate_row
+        (record { signed = signed; destination = destination; bits = bits; source = source }) }
 {
     let refused = is_bad(destination) || is_bad(source.register);
     let instruction = Instruction::DataProcessing(DataProcessing::Saturate(Saturate {
@@ -165,7 +168,8 @@ fn long_within(outside: bool, instruction: Instruction) -> Decoded
 fn extract_field(signed: bool, n: Register, d: Register, low: u8, width: u8) -> Decoded
     requires inside { low < 32 }
     requires narrow { width ≤ 32 }
-    ensures { result ≡ extract_field_row (record { signed = signed; destination = d; source = n; low = low; width = width }) }
+    ensures { result ≡ extract_field_row
+        (record { signed = signed; destination = d; source = n; low = low; width = width }) }
 {
     let instruction = Instruction::DataProcessing(DataProcessing::ExtractField(ExtractField {
         signed,

@@ -3,7 +3,8 @@
 
 ghost use Rattle.std.specs.Prelude.{◌≡◌, ◌≢◌, ◌==◌, ◌<◌, ◌≤◌, ◌+◌, ◌-◌, ◌*◌, ◌^◌, ◌&&◌, ◌||◌, not, true, false, nat_lt};
 ghost use Rattle.encodings.specs.Masks.{by_masks};
-ghost use Rattle.instruction_set.specs.LongRegister.{extend_wide_row, extended_size, rearrange_wide_row, register_rows, shift_by_register_row, shift_type_of};
+ghost use Rattle.instruction_set.specs.LongRegister.{extend_wide_row, extended_size, rearrange_wide_row, register_rows};
+ghost use Rattle.instruction_set.specs.LongRegister.{shift_by_register_row, shift_type_of};
 ghost use Rattle.instruction_set.specs.RowOperands.{flags_if};
 
 use encodings::operands::flags_if;
@@ -73,7 +74,8 @@ fn shift_type_of(bits: u32) -> ShiftType
 /// Returns a shift by a register.
 #[tactic(auto, unfolding(instruction_set::specs::LongRegister::shift_by_register_row))]
 fn shift_by_register(kind: u32, s: bool, n: Register, d: Register, m: Register) -> Decoded
-    ensures { result ≡ shift_by_register_row (record { shift_type = shift_type_of kind; flags = flags_if s; destination = d; source = n; amount = m }) }
+    ensures { result ≡ shift_by_register_row
+        (record { shift_type = shift_type_of kind; flags = flags_if s; destination = d; source = n; amount = m }) }
 {
     let instruction = Instruction::DataProcessing(DataProcessing::ShiftByRegister(
         ShiftByRegister {
@@ -97,7 +99,8 @@ fn extended_size(bit: u32) -> Size
 /// Returns SXTB, SXTH, UXTB or UXTH, after a rotation.
 #[tactic(auto, unfolding(instruction_set::specs::LongRegister::extend_wide_row))]
 fn extend_wide(signed: bool, size: Size, d: Register, m: Register, rotation: u8) -> Decoded
-    ensures { result ≡ extend_wide_row (record { signed = signed; size = size; destination = d; source = m; rotation = rotation }) }
+    ensures { result ≡ extend_wide_row
+        (record { signed = signed; size = size; destination = d; source = m; rotation = rotation }) }
 {
     let instruction = Instruction::DataProcessing(DataProcessing::Extend(Extend {
         signed,

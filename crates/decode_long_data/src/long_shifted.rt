@@ -3,7 +3,9 @@
 
 ghost use Rattle.std.specs.Prelude.{◌≡◌, ◌≢◌, ◌==◌, ◌<◌, ◌≤◌, ◌+◌, ◌-◌, ◌*◌, ◌^◌, ◌&&◌, ◌||◌, not, true, false, nat_lt};
 ghost use Rattle.encodings.specs.Masks.{by_masks};
-ghost use Rattle.instruction_set.specs.LongShifted.{compare_shifted_row, data_shifted_row, is_lsl_below, is_refused_move, logical_shifted_rows, move_not_shifted_row, move_shifted_row, sum_shifted_rows};
+ghost use Rattle.instruction_set.specs.LongShifted.{compare_shifted_row, data_shifted_row, is_lsl_below};
+ghost use Rattle.instruction_set.specs.LongShifted.{is_refused_move, logical_shifted_rows, move_not_shifted_row};
+ghost use Rattle.instruction_set.specs.LongShifted.{move_shifted_row, sum_shifted_rows};
 
 use crate::long_immediate::{compares_sp, is_refused_destination, is_refused_first, takes_sp};
 use encodings::operands::{flags_if, shifted};

@@ -3,7 +3,9 @@
 
 ghost use Rattle.std.specs.Prelude.{◌≡◌, ◌≢◌, ◌==◌, ◌<◌, ◌≤◌, ◌+◌, ◌-◌, ◌*◌, ◌^◌, ◌&&◌, ◌||◌, not, true, false, nat_lt};
 ghost use Rattle.encodings.specs.Masks.{by_masks};
-ghost use Rattle.instruction_set.specs.LongControl.{branch_wide_if_row, branch_wide_row, branch_with_link_row, conditional_offset, long_control_rows, long_hint_of, move_from_special_row, move_to_special_row, wide_offset};
+ghost use Rattle.instruction_set.specs.LongControl.{branch_wide_if_row, branch_wide_row, branch_with_link_row};
+ghost use Rattle.instruction_set.specs.LongControl.{conditional_offset, long_control_rows, long_hint_of};
+ghost use Rattle.instruction_set.specs.LongControl.{move_from_special_row, move_to_special_row, wide_offset};
 ghost use Rattle.instruction_set.specs.RowOperands.{plain_immediate};
 
 use encodings::operands::{hint, sign_extend};

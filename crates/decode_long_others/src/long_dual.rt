@@ -3,7 +3,9 @@
 
 ghost use Rattle.std.specs.Prelude.{◌≡◌, ◌≢◌, ◌==◌, ◌<◌, ◌≤◌, ◌+◌, ◌-◌, ◌*◌, ◌^◌, ◌&&◌, ◌||◌, not, true, false, nat_lt};
 ghost use Rattle.encodings.specs.Masks.{by_masks};
-ghost use Rattle.instruction_set.specs.LongDual.{dual_rows, is_refused_pair, load_dual_literal_row, load_dual_row, load_exclusive_row, store_dual_row, store_exclusive_row, table_branch_row};
+ghost use Rattle.instruction_set.specs.LongDual.{dual_rows, is_refused_pair, load_dual_literal_row, load_dual_row};
+ghost use Rattle.instruction_set.specs.LongDual.{load_exclusive_row, store_dual_row, store_exclusive_row};
+ghost use Rattle.instruction_set.specs.LongDual.{table_branch_row};
 ghost use Rattle.instruction_set.specs.RowOperands.{indexing_of};
 
 use encodings::operands::{byte_or_halfword, indexed, indexing_of, signed_offset, writes_back};

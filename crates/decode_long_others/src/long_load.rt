@@ -3,7 +3,10 @@
 
 ghost use Rattle.std.specs.Prelude.{◌≡◌, ◌≢◌, ◌==◌, ◌<◌, ◌≤◌, ◌+◌, ◌-◌, ◌*◌, ◌^◌, ◌&&◌, ◌||◌, not, true, false, nat_lt};
 ghost use Rattle.encodings.specs.Masks.{by_masks};
-ghost use Rattle.instruction_set.specs.LongLoad.{is_refused_load, load_at_row, load_indexed_row, load_literal_row, load_unprivileged_row, memory_hint_indexed_row, memory_hint_row, narrow_form, narrow_load_rows, place_of_load, word_form, word_load_rows};
+ghost use Rattle.instruction_set.specs.LongLoad.{is_refused_load, load_at_row, load_indexed_row, load_literal_row};
+ghost use Rattle.instruction_set.specs.LongLoad.{load_unprivileged_row, memory_hint_indexed_row, memory_hint_row};
+ghost use Rattle.instruction_set.specs.LongLoad.{narrow_form, narrow_load_rows, place_of_load, word_form};
+ghost use Rattle.instruction_set.specs.LongLoad.{word_load_rows};
 
 use encodings::operands::{
     at_offset, byte_or_halfword, indexed, indexing_of, signed_offset, writes_back,
@@ -198,7 +201,8 @@ fn load_unprivileged(form: LoadForm, t: Register, address: ImmediateAddress) -> 
 /// Returns a load at two registers.
 #[tactic(auto, unfolding(instruction_set::specs::LongLoad::load_indexed_row))]
 fn load_indexed(form: LoadForm, t: Register, n: Register, m: Register, shift: u8) -> Decoded
-    ensures { result ≡ load_indexed_row (record { form = form; target = t; address = record { base = n; index = m; shift = shift } }) }
+    ensures { result ≡ load_indexed_row
+        (record { form = form; target = t; address = record { base = n; index = m; shift = shift } }) }
 {
     let refused = is_bad(m) || is_refused_load(form.size, t);
     let place = place_of_load(form.size, t);

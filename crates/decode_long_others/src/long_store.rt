@@ -3,7 +3,8 @@
 
 ghost use Rattle.std.specs.Prelude.{◌≡◌, ◌≢◌, ◌==◌, ◌<◌, ◌≤◌, ◌+◌, ◌-◌, ◌*◌, ◌^◌, ◌&&◌, ◌||◌, not, true, false, nat_lt};
 ghost use Rattle.encodings.specs.Masks.{by_masks};
-ghost use Rattle.instruction_set.specs.LongStore.{is_refused_store, size_of, store_at_row, store_indexed_row, store_rows, store_unprivileged_row};
+ghost use Rattle.instruction_set.specs.LongStore.{is_refused_store, size_of, store_at_row, store_indexed_row};
+ghost use Rattle.instruction_set.specs.LongStore.{store_rows, store_unprivileged_row};
 
 use encodings::operands::{at_offset, indexed, indexing_of, signed_offset, writes_back};
 use encodings::outcomes::{is_bad, long_unless};
@@ -106,7 +107,8 @@ fn store_unprivileged(size: Size, t: Register, address: ImmediateAddress) -> Dec
 /// Returns a store at two registers.
 #[tactic(auto, unfolding(instruction_set::specs::LongStore::store_indexed_row))]
 fn store_indexed(size: Size, t: Register, n: Register, m: Register, shift: u8) -> Decoded
-    ensures { result ≡ store_indexed_row (record { size = size; target = t; address = record { base = n; index = m; shift = shift } }) }
+    ensures { result ≡ store_indexed_row
+        (record { size = size; target = t; address = record { base = n; index = m; shift = shift } }) }
 {
     let refused = is_bad(m) || is_refused_store(size, t);
     let instruction = Instruction::LoadStore(LoadStore::StoreRegister(StoreRegister {

@@ -2,7 +2,8 @@
 
 ghost use Rattle.std.specs.Prelude.{◌≡◌, ◌≢◌, ◌==◌, ◌<◌, ◌≤◌, ◌+◌, ◌-◌, ◌*◌, ◌^◌, ◌&&◌, ◌||◌, not, true, false, nat_lt};
 ghost use Rattle.encodings.specs.Masks.{by_masks};
-ghost use Rattle.instruction_set.specs.ShortData.{compare_registers_row, data_high_rows, data_low_rows, move_not_row, multiply_row, shift_register_row};
+ghost use Rattle.instruction_set.specs.ShortData.{compare_registers_row, data_high_rows, data_low_rows, move_not_row};
+ghost use Rattle.instruction_set.specs.ShortData.{multiply_row, shift_register_row};
 
 use crate::short_shifts::{data_number, data_registers};
 use encodings::operands::unshifted;

@@ -4,7 +4,10 @@
 
 ghost use Rattle.std.specs.Prelude.{◌≡◌, ◌≢◌, ◌==◌, ◌<◌, ◌≤◌, ◌+◌, ◌-◌, ◌*◌, ◌^◌, ◌&&◌, ◌||◌, not, true, false, nat_lt};
 ghost use Rattle.encodings.specs.Masks.{by_masks};
-ghost use Rattle.instruction_set.specs.ShortLoadStore.{load_list_row, load_literal_word_row, load_number_row, load_register_row, immediate_and_list_rows, literal_and_register_rows, store_list_row, store_number_row, store_register_row};
+ghost use Rattle.instruction_set.specs.ShortLoadStore.{load_list_row, load_literal_word_row, load_number_row};
+ghost use Rattle.instruction_set.specs.ShortLoadStore.{load_register_row, immediate_and_list_rows};
+ghost use Rattle.instruction_set.specs.ShortLoadStore.{literal_and_register_rows, store_list_row, store_number_row};
+ghost use Rattle.instruction_set.specs.ShortLoadStore.{store_register_row};
 
 use encodings::operands::{at_offset, is_above_lowest, is_in_list};
 use encodings::outcomes::{short, unless};

@@ -4,7 +4,10 @@
 ghost use Rattle.std.specs.Prelude.{◌≡◌, ◌≢◌, ◌==◌, ◌<◌, ◌≤◌, ◌+◌, ◌-◌, ◌*◌, ◌^◌, ◌&&◌, ◌||◌, not, true, false, nat_lt};
 ghost use Rattle.encodings.specs.Masks.{by_masks};
 ghost use Rattle.instruction_set.specs.RowOperands.{plain_immediate};
-ghost use Rattle.instruction_set.specs.ShortMiscellaneous.{address_row, adjusting_rows, breakpoint_row, change_state_row, compare_and_branch_row, controlling_rows, extend_row, if_then_row, is_one_bit, pop_row, push_row, rearrange_row, sp_number_row};
+ghost use Rattle.instruction_set.specs.ShortMiscellaneous.{address_row, adjusting_rows, breakpoint_row};
+ghost use Rattle.instruction_set.specs.ShortMiscellaneous.{change_state_row, compare_and_branch_row, controlling_rows};
+ghost use Rattle.instruction_set.specs.ShortMiscellaneous.{extend_row, if_then_row, is_one_bit, pop_row, push_row};
+ghost use Rattle.instruction_set.specs.ShortMiscellaneous.{rearrange_row, sp_number_row};
 
 use encodings::operands::{hint, plain_immediate};
 use encodings::outcomes::{last_only_if, placed, placed_unless, short, unless};

@@ -3,7 +3,8 @@
 
 ghost use Rattle.std.specs.Prelude.{◌≡◌, ◌≢◌, ◌==◌, ◌<◌, ◌≤◌, ◌+◌, ◌-◌, ◌*◌, ◌^◌, ◌&&◌, ◌||◌, not, true, false, nat_lt};
 ghost use Rattle.encodings.specs.Masks.{by_masks};
-ghost use Rattle.instruction_set.specs.ShortShifts.{compare_number_row, data_number_row, data_registers_row, move_low_row, move_number_row, shift_number_row, shifts_and_moves};
+ghost use Rattle.instruction_set.specs.ShortShifts.{compare_number_row, data_number_row, data_registers_row};
+ghost use Rattle.instruction_set.specs.ShortShifts.{move_low_row, move_number_row, shift_number_row, shifts_and_moves};
 
 use encodings::operands::{plain_immediate, unshifted};
 use encodings::outcomes::{placed, short};

@@ -3,7 +3,8 @@
 
 ghost use Rattle.std.specs.Prelude.{◌≡◌, ◌≢◌, ◌==◌, ◌<◌, ◌≤◌, ◌+◌, ◌-◌, ◌*◌, ◌^◌, ◌&&◌, ◌||◌, not, true, false, nat_lt};
 ghost use Rattle.encodings.specs.Masks.{by_masks};
-ghost use Rattle.instruction_set.specs.ShortSpecial.{add_high_row, branch_exchange_row, branch_link_exchange_row, compare_high_row, move_high_row, special_rows};
+ghost use Rattle.instruction_set.specs.ShortSpecial.{add_high_row, branch_exchange_row, branch_link_exchange_row};
+ghost use Rattle.instruction_set.specs.ShortSpecial.{compare_high_row, move_high_row, special_rows};
 
 use encodings::operands::unshifted;
 use encodings::outcomes::{last_only_if, placed, placed_unless, short, unless_refused};

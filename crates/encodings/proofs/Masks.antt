@@ -1,11 +1,13 @@
 -- A text fits a number where the number's bits under the text's mask are the text's value, and what rows mean by that.
-use Rattle.std.proofs.Common.{◌≡◌, ℕ, ◌+◌, ◌*◌, ◌/◌, ◌%◌, ◌^◌, ◌<◌, Bool, true, false, ◌&&◌, ◌==◌, if◌then◌else◌, List, [], ◌∷◌, ◌++◌, length, find, Option, Some, refl, sym, ap, ◌∙◌, arith, bit_and}
+use Rattle.std.proofs.Common.{◌≡◌, ℕ, ◌+◌, ◌*◌, ◌/◌, ◌%◌, ◌^◌, ◌<◌, Bool, true, false, ◌&&◌, ◌==◌, if◌then◌else◌, List}
+use Rattle.std.proofs.Common.{[], ◌∷◌, ◌++◌, length, find, Option, Some, refl, sym, ap, ◌∙◌, arith, bit_and}
 use Rattle.std.proofs.Math.Nat.{mod-lt}
 use Rattle.std.proofs.Math.Path.{fun_ext}
 use Rattle.std.proofs.Math.Pow.{split}
 use Rattle.std.proofs.lemmas.Bool.Decides.{nat_tests}
 use Rattle.std.proofs.lemmas.Nat.{and_block, and_mask, and_le_r, mod_low, pow_pos, shr_high}
-use Rattle.encodings.specs.Masks.{mask_bit, value_bit, mask_of, value_of, masked, by_text, excepted, chosen, outcome_of, by_masks, first_of}
+use Rattle.encodings.specs.Masks.{mask_bit, value_bit, mask_of, value_of, masked, by_text, excepted, chosen, outcome_of}
+use Rattle.encodings.specs.Masks.{by_masks, first_of}
 use Rattle.encodings.proofs.Places.{mask_bit_small, value_bit_small, digits_below}
 use Rattle.encodings.proofs.Runs.{field_is}
 use Rattle.instruction_set.specs.declared.instruction.Decoded.{Decoded}

@@ -1,5 +1,6 @@
 -- What a number means by the rows of a table, if one of them applies: each text as a mask and a value.
-use Rattle.std.specs.Prelude.{ℕ, ◌+◌, ◌*◌, ◌^◌, Bool, not, ◌&&◌, ◌==◌, nat_le, if◌then◌else◌, List, [], ◌∷◌, length, Option, Some, None, bit_and}
+use Rattle.std.specs.Prelude.{ℕ, ◌+◌, ◌*◌, ◌^◌, Bool, not, ◌&&◌, ◌==◌, nat_le, if◌then◌else◌, List, [], ◌∷◌, length}
+use Rattle.std.specs.Prelude.{Option, Some, None, bit_and}
 use Rattle.std.specs.List.{list_any, list_all}
 use Rattle.encodings.specs.Runs.{value_at}
 use Rattle.instruction_set.specs.declared.instruction.Decoded.{Decoded}

@@ -2,7 +2,9 @@
 
 ghost use Rattle.std.specs.Prelude.{◌≡◌, ◌==◌, ◌<◌, ◌^◌};
 ghost use Rattle.instruction_set.specs.LongImmediate.{operand_of};
-ghost use Rattle.instruction_set.specs.RowOperands.{writes_back, unshifted, shifted_by_number, plain_immediate, flags_if, at_offset, signed_offset, indexing_of, byte_or_halfword, hint_of};
+ghost use Rattle.instruction_set.specs.RowOperands.{writes_back, unshifted, shifted_by_number, plain_immediate};
+ghost use Rattle.instruction_set.specs.RowOperands.{flags_if, at_offset, signed_offset, indexing_of, byte_or_halfword};
+ghost use Rattle.instruction_set.specs.RowOperands.{hint_of};
 ghost use Rattle.instruction_set.specs.ShortLoadStore.{is_above_lowest};
 ghost use Rattle.instruction_set.specs.Words.{is_bit, negated, sign_extended};
 

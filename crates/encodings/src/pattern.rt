@@ -2,7 +2,8 @@
 
 ghost use Rattle.std.specs.Prelude.{◌≡◌, ◌==◌, ◌<◌, ◌≤◌, ◌^◌, ◌&&◌, ◌||◌, nat_le, not, length, [], ◌∷◌, IsTrue, Some};
 ghost use Rattle.encodings.specs.Runs.{has_field, value_at, width};
-ghost use Rattle.encodings.specs.Masks.{mask_bit, value_bit, mask_of, value_of, are_narrow, applies_by_masks, by_text, chosen};
+ghost use Rattle.encodings.specs.Masks.{mask_bit, value_bit, mask_of, value_of, are_narrow, applies_by_masks, by_text};
+ghost use Rattle.encodings.specs.Masks.{chosen};
 ghost use Rattle.instruction_set.specs.Patterns.{field, place_0, place_1, place_o, place_z};
 ghost use Rattle.instruction_set.specs.Rows.{as_printed};
 

@@ -39,7 +39,8 @@ unfolding perform_all
 none_left exception tick b = refl
 
 followed_on : (events : List Event) (values : List ℕ) (lines : List Event) (after : Bus) (value : ℕ) (rest : ListResult)
-    → added_to events values (followed lines after (Ok value) rest) ≡ added_to (events ++ lines) (values ++ value ∷ []) rest
+    → added_to events values (followed lines after (Ok value) rest)
+    ≡ added_to (events ++ lines) (values ++ value ∷ []) rest
 followed_on events values lines after value rest =
     rw (append_assoc events lines rest.events, append_assoc values (value ∷ []) rest.values) refl
 

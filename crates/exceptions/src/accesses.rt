@@ -36,9 +36,12 @@ pub fn perform_all<D: Decider, C: KeptCode, L: Levels, U: DueTicks, S: Sink>(
     requires room { length (S.emitted events.old).events + most_lines requests.now ≤ MOST_EVENTS }
     requires few { length requests.now ≤ MOST_REQUESTS }
     ensures bus { bus.new ≡ (perform_all exception tick bus.old requests.now).bus }
-    ensures events { S.emitted events.new ≡ with_emitted (S.emitted events.old) ((S.emitted events.old).events ++ (perform_all exception tick bus.old requests.now).events) }
+    ensures events { S.emitted events.new
+        ≡ with_emitted (S.emitted events.old)
+        ((S.emitted events.old).events ++ (perform_all exception tick bus.old requests.now).events) }
     ensures answer { Serves (perform_all exception tick bus.old requests.now) values.new result }
-    ensures room { length (S.emitted events.new).events ≤ length (S.emitted events.old).events + most_lines requests.now }
+    ensures room { length (S.emitted events.new).events
+        ≤ length (S.emitted events.old).events + most_lines requests.now }
     ensures whole { IfOk result (λ done. length values.new.items ≡ length requests.now) }
 {
     values.clear();
@@ -62,7 +65,10 @@ pub fn access<D: Decider, C: KeptCode, L: Levels, U: DueTicks, S: Sink>(
 ) -> Result<u32, Failure>
     requires { length (S.emitted events.old).events + lines_of request.now ≤ MOST_EVENTS }
     ensures bus { bus.new ≡ (perform exception bus.old request.now).bus }
-    ensures events { S.emitted events.new ≡ with_emitted (S.emitted events.old) ((S.emitted events.old).events ++ access_lines tick request.now (perform exception bus.old request.now).performed) }
+    ensures events { S.emitted events.new
+        ≡ with_emitted (S.emitted events.old)
+        ((S.emitted events.old).events ++ access_lines tick request.now
+        (perform exception bus.old request.now).performed) }
     ensures room { length (S.emitted events.new).events ≤ length (S.emitted events.old).events + lines_of request.now }
     ensures answer { result ≡ value_of request.now (perform exception bus.old request.now).performed }
     ensures narrow { IfOk result (λ value. value < 256 ^ bytes_in request.now.access.size) }
@@ -87,7 +93,9 @@ fn access_whole<D: Decider, C: KeptCode, L: Levels, U: DueTicks, S: Sink>(
 ) -> Result<u32, Failure>
     requires { length (S.emitted events.old).events + lines_of request ≤ MOST_EVENTS }
     ensures bus { bus.new ≡ (perform exception bus.old request).bus }
-    ensures events { S.emitted events.new ≡ with_emitted (S.emitted events.old) ((S.emitted events.old).events ++ access_lines tick request (perform exception bus.old request).performed) }
+    ensures events { S.emitted events.new
+        ≡ with_emitted (S.emitted events.old)
+        ((S.emitted events.old).events ++ access_lines tick request (perform exception bus.old request).performed) }
     ensures room { length (S.emitted events.new).events ≤ length (S.emitted events.old).events + lines_of request }
     ensures answer { result ≡ value_of request (perform exception bus.old request).performed }
     ensures narrow { IfOk result (λ value. value < 256 ^ bytes_in request.access.size) }
@@ -109,7 +117,8 @@ fn access_whole<D: Decider, C: KeptCode, L: Levels, U: DueTicks, S: Sink>(
 #[inline(always)]
 pub fn put_done<S: Sink>(events: &mut S, tick: u64, request: &Request, rule: Rule)
     requires { length (S.emitted events.old).events + lines_of request.now ≤ MOST_EVENTS }
-    ensures events { S.emitted events.new ≡ with_emitted (S.emitted events.old) ((S.emitted events.old).events ++ done_lines tick request.now rule) }
+    ensures events { S.emitted events.new
+        ≡ with_emitted (S.emitted events.old) ((S.emitted events.old).events ++ done_lines tick request.now rule) }
     ensures room { length (S.emitted events.new).events ≤ length (S.emitted events.old).events + lines_of request.now }
 {
     events.emit(accessed(tick, request, rule, None));

@@ -4,7 +4,9 @@ ghost use Rattle.std.specs.Prelude.{◌≡◌, ◌<◌, ◌≤◌, [], length};
 ghost use Rattle.instruction_set.specs.declared.size.Size.TheVariants.{Word};
 ghost use Rattle.exceptions.specs.Serving.{GoesOnTo, StepsTo};
 ghost use Rattle.reference.specs.LoadStore.{request};
-ghost use Rattle.reference.specs.ExceptionEntry.{words_from as words_from_of, pushes as pushes_of, vector_read as vector_read_of, handler_entered, vector_refused, exception_taken, begin_entry, take_vector};
+ghost use Rattle.reference.specs.ExceptionEntry.{words_from as words_from_of, pushes as pushes_of};
+ghost use Rattle.reference.specs.ExceptionEntry.{vector_read as vector_read_of, handler_entered, vector_refused};
+ghost use Rattle.reference.specs.ExceptionEntry.{exception_taken, begin_entry, take_vector};
 
 use crate::accesses::{Requests, Values};
 use crate::faults::vector_fault;
@@ -63,7 +65,7 @@ fn pushes(regs: &Regs) -> Requests
 
 impl<D: Decider, C: KeptCode, L: Levels, U: DueTicks> Core<D, C, L, U> {
     /// Pushes the frame: a Stack step.
-    #[tactic(auto, using(crate::proofs::LineBounds::pushed_lines, crate::proofs::LineBounds::pushed_words), unfolding(reference::specs::ExceptionEntry::begin_entry))]
+    #[tactic(auto, using(crate::proofs::LineBounds::pushed_lines, crate::proofs::LineBounds::pushed_words), unfolding(reference::specs::ExceptionEntry::begin_entry),)]
     pub fn begin_entry<S: Sink>(&mut self, events: &mut S)
         requires { (S.emitted events.old).events ≡ [] }
         ensures { StepsTo S.emitted events.old events.new self.new (begin_entry self.old) }
@@ -129,7 +131,8 @@ impl<D: Decider, C: KeptCode, L: Levels, U: DueTicks> Core<D, C, L, U> {
     )
         requires room { length (S.emitted events.old).events < MOST_EVENTS }
         requires small { exception < 256 }
-        ensures { GoesOnTo S.emitted events.old events.new self.new (λ es. handler_entered self.old es exception exc_return vector) }
+        ensures { GoesOnTo S.emitted events.old events.new self.new
+            (λ es. handler_entered self.old es exception exc_return vector) }
     {
         events.emit(Event {
             tick: self.bus.system.ticks(),

@@ -2,7 +2,12 @@
 
 ghost use Rattle.std.specs.Prelude.{◌≡◌, ◌<◌, ◌++◌, ◌∷◌, [], length};
 ghost use Rattle.exceptions.specs.Serving.{GoesOnTo};
-ghost use Rattle.reference.specs.Faults.{access_fault, fault_of as fault_of_access, usage_fault_of as usage_fault_of_word, mem_manage as mem_manage_of, bus_fault as bus_fault_of, usage_fault as usage_fault_of_bit, vector_fault as vector_fault_of, fault_line as fault_line_of, recorded, pended_by_fault, forced, locked_up, escalated, faulted, failed, supervisor_called};
+ghost use Rattle.reference.specs.Faults.{access_fault, fault_of as fault_of_access};
+ghost use Rattle.reference.specs.Faults.{usage_fault_of as usage_fault_of_word, mem_manage as mem_manage_of};
+ghost use Rattle.reference.specs.Faults.{bus_fault as bus_fault_of, usage_fault as usage_fault_of_bit};
+ghost use Rattle.reference.specs.Faults.{vector_fault as vector_fault_of, fault_line as fault_line_of, recorded};
+ghost use Rattle.reference.specs.Faults.{pended_by_fault, forced, locked_up, escalated, faulted, failed};
+ghost use Rattle.reference.specs.Faults.{supervisor_called};
 
 use crate::state::Core;
 use access::{Decider, DueTicks, KeptCode, Levels};

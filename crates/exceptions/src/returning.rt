@@ -1,11 +1,14 @@
 //! Exception return (ARM DDI 0403, `ExceptionReturn()`, `DeActivate()` and `PopStack()`).
 
 ghost use Rattle.std.specs.Prelude.{◌≡◌, ◌+◌, ◌<◌, ◌≤◌, length};
-ghost use Rattle.instruction_set.specs.Frames.{has_reserved_ones as has_reserved_ones_of, returns_to_thread as returns_to_thread_of};
+ghost use Rattle.instruction_set.specs.Frames.{has_reserved_ones as has_reserved_ones_of};
+ghost use Rattle.instruction_set.specs.Frames.{returns_to_thread as returns_to_thread_of};
 ghost use Rattle.exceptions.specs.Serving.{GoesOnTo};
 ghost use Rattle.reference.specs.declared.failure.Failure.TheVariants.{Usage};
 ghost use Rattle.reference.specs.declared.failure.UsageFault.TheVariants.{InvalidReturn};
-ghost use Rattle.reference.specs.ExceptionReturn.{is_allowed as is_allowed_of, exception_ended, with_entry, chained, pops as pops_of, returns_privileged as returns_privileged_of, pop_stack, fits_mode as fits_mode_of, unstacked, exception_return};
+ghost use Rattle.reference.specs.ExceptionReturn.{is_allowed as is_allowed_of, exception_ended, with_entry, chained};
+ghost use Rattle.reference.specs.ExceptionReturn.{pops as pops_of, returns_privileged as returns_privileged_of};
+ghost use Rattle.reference.specs.ExceptionReturn.{pop_stack, fits_mode as fits_mode_of, unstacked, exception_return};
 ghost use Rattle.reference.specs.Faults.{failed};
 ghost use Rattle.reference.specs.Priorities.{candidate};
 ghost use Rattle.reference.specs.State.{with_system};
@@ -130,7 +133,8 @@ impl<D: Decider, C: KeptCode, L: Levels, U: DueTicks> Core<D, C, L, U> {
     /// Begins the entry of the next exception, if there is one, or pops the frame.
     fn chain<S: Sink>(&mut self, events: &mut S, exc_return: u32)
         requires { length (S.emitted events.old).events + 9 ≤ MOST_EVENTS }
-        ensures { GoesOnTo S.emitted events.old events.new self.new (λ es. chained self.old es exc_return (candidate self.old.bus.system.nvic)) }
+        ensures { GoesOnTo S.emitted events.old events.new self.new
+            (λ es. chained self.old es exc_return (candidate self.old.bus.system.nvic)) }
     {
         if self.candidate().is_some() {
             self.entry = Some(exc_return);
@@ -142,14 +146,15 @@ impl<D: Decider, C: KeptCode, L: Levels, U: DueTicks> Core<D, C, L, U> {
     /// Raises the fault of a return that isn't allowed, and begins an entry.
     fn refuse_return<S: Sink>(&mut self, events: &mut S, exc_return: u32)
         requires { length (S.emitted events.old).events < MOST_EVENTS }
-        ensures { GoesOnTo S.emitted events.old events.new self.new (λ es. failed (with_entry self.old exc_return) es (Usage InvalidReturn)) }
+        ensures { GoesOnTo S.emitted events.old events.new self.new
+            (λ es. failed (with_entry self.old exc_return) es (Usage InvalidReturn)) }
     {
         self.entry = Some(exc_return);
         self.fail(events, Failure::Usage(UsageFault::InvalidReturn));
     }
 
     /// Pops the frame.
-    #[tactic(auto, using(crate::proofs::LineBounds::popped_lines, crate::proofs::LineBounds::popped_words), unfolding(reference::specs::ExceptionReturn::pop_stack))]
+    #[tactic(auto, using(crate::proofs::LineBounds::popped_lines, crate::proofs::LineBounds::popped_words), unfolding(reference::specs::ExceptionReturn::pop_stack),)]
     fn pop_stack<S: Sink>(&mut self, events: &mut S, exc_return: u32)
         requires { length (S.emitted events.old).events + 9 ≤ MOST_EVENTS }
         ensures { GoesOnTo S.emitted events.old events.new self.new (λ es. pop_stack self.old es exc_return) }

@@ -2,7 +2,9 @@
 
 ghost use Rattle.std.specs.Prelude.{◌≡◌, []};
 ghost use Rattle.exec.specs.Plans.{finished_as, planned};
-ghost use Rattle.reference.specs.Branches.{branch_requests, branch_effect, conditional_branch, with_link, branch_exchange, takes_branch, compare_and_branch, entry_address, table_branch, begun, if_then};
+ghost use Rattle.reference.specs.Branches.{branch_requests, branch_effect, conditional_branch, with_link};
+ghost use Rattle.reference.specs.Branches.{branch_exchange, takes_branch, compare_and_branch, entry_address};
+ghost use Rattle.reference.specs.Branches.{table_branch, begun, if_then};
 ghost use Rattle.reference.specs.ProgramCounter.{branches_by};
 
 use crate::load_store::{joined, transfer};

@@ -4,7 +4,8 @@ ghost use Rattle.std.specs.Prelude.{◌≡◌, []};
 ghost use Rattle.exec.specs.Plans.{planned, finished_as};
 ghost use Rattle.instruction_set.specs.Monitor.{with_mark, without_mark};
 ghost use Rattle.instruction_set.specs.Registers.{with_register};
-ghost use Rattle.reference.specs.Exclusives.{exclusive_requests, exclusive_effect, exclusive_access, exclusive_address, store_requests, store_status, passes};
+ghost use Rattle.reference.specs.Exclusives.{exclusive_requests, exclusive_effect, exclusive_access, exclusive_address};
+ghost use Rattle.reference.specs.Exclusives.{store_requests, store_status, passes};
 ghost use Rattle.reference.specs.LoadStore.{joined};
 ghost use Rattle.reference.specs.ProgramCounter.{moves_on};
 
@@ -89,7 +90,9 @@ fn plan_store(
 
 /// Marks the address of a load exclusive, and writes the value to its register.
 fn finish_load(operands: &LoadExclusive, regs: &mut Regs, values: &[u32])
-    ensures { regs.new ≡ with_register (with_mark regs.old (exclusive_address operands.now.base operands.now.offset regs.old) operands.now.size) operands.now.target (joined values.now) }
+    ensures { regs.new ≡ with_register
+        (with_mark regs.old (exclusive_address operands.now.base operands.now.offset regs.old) operands.now.size)
+        operands.now.target (joined values.now) }
 {
     let address = exclusive_address(operands.base, operands.offset, regs);
     regs.mark(address, operands.size);
@@ -98,7 +101,8 @@ fn finish_load(operands: &LoadExclusive, regs: &mut Regs, values: &[u32])
 
 /// Clears the mark, and writes the status of a store exclusive to its register.
 fn finish_store(operands: &StoreExclusive, regs: &mut Regs)
-    ensures { regs.new ≡ with_register (without_mark regs.old) operands.now.status (store_status (passes operands.now regs.old)) }
+    ensures { regs.new ≡ with_register (without_mark regs.old) operands.now.status
+        (store_status (passes operands.now regs.old)) }
 {
     let status = if passes(operands, regs) { 0 } else { 1 };
     regs.clear_mark();
@@ -126,7 +130,8 @@ fn passes(operands: &StoreExclusive, regs: &Regs) -> bool
 #[tactic(auto, unfolding(reference::specs::Exclusives::exclusive_access))]
 fn ask(access: Access, value: u32, requests: &mut Requests) -> Result<(), Failure>
     requires { requests.old.items ≡ [] }
-    ensures { planned requests.new result ≡ exclusive_access access.kind access.privileged access.size access.address value }
+    ensures { planned requests.new result
+        ≡ exclusive_access access.kind access.privileged access.size access.address value }
 {
     if access.address % access.size.bytes() != 0 {
         return Err(Failure::Usage(UsageFault::Unaligned));

@@ -68,7 +68,8 @@ fn plan_family(
 /// holds.
 #[inline(always)]
 pub fn goes_ahead(coded: &CodedInstruction, regs: &Regs) -> bool
-    ensures { result ≡ (not (is_misplaced coded.now.place regs.now.it_state) && is_carried_out coded.now.instruction regs.now) }
+    ensures { result ≡ (not
+        (is_misplaced coded.now.place regs.now.it_state) && is_carried_out coded.now.instruction regs.now) }
 {
     !is_misplaced(coded.place, regs) && is_carried_out(&coded.instruction, regs)
 }

@@ -3,7 +3,8 @@
 
 ghost use Rattle.std.specs.Prelude.{◌≡◌, ◌==◌};
 ghost use Rattle.exec.specs.Plans.{finished_as};
-ghost use Rattle.reference.specs.ProgramCounter.{moves_on, branches, branches_by, is_exception_return, exchanges, loads_into};
+ghost use Rattle.reference.specs.ProgramCounter.{moves_on, branches, branches_by, is_exception_return, exchanges};
+ghost use Rattle.reference.specs.ProgramCounter.{loads_into};
 
 use instruction_set::instruction::InstructionLength;
 use instruction_set::registers::Register;

@@ -22,7 +22,8 @@ SelectedCutInStep selection s steps old new =
 abbrev pub SelectedCutInEnd : TraceSelection → ℕ → State → ℕ → Option (List ℕ) → Option (List ℕ) → Type 0
 SelectedCutInEnd selection n s steps old new =
     ((steps ≡ n) ⊎ IsSome (after steps s).stop)
-    × IsCutAfter old new (selected_text selection (events_of n s)) (selected_end selection (events_of n s) (ending_of n s))
+    × IsCutAfter old new (selected_text selection (events_of n s))
+    (selected_end selection (events_of n s) (ending_of n s))
 
 -- a run of at most n steps from a state was cut short after `steps` of them: each of them was made, the machine is in
 -- the state after them, and what went out is a prefix of the selected trace

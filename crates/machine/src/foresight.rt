@@ -75,7 +75,8 @@ impl<D: Decider, C: KeptCode, L: Levels, U: DueTicks> Processor<D, C, L, U> {
     /// Returns the rule that would decide an access of one kind to an address now, by code of that
     /// privilege, and whether the rule would grant it.
     pub fn explain(&self, address: u32, privileged: bool, kind: Kind) -> Decision
-        ensures { result ≡ decision_of self.now.bus.system.mpu address kind privileged (is_below_zero self.now.bus.system.nvic) }
+        ensures { result ≡ decision_of self.now.bus.system.mpu address kind privileged
+            (is_below_zero self.now.bus.system.nvic) }
     {
         let system = &self.bus().system;
         let below_zero = system.levels().is_below_zero();

@@ -126,7 +126,8 @@ impl<D: Decider, C: KeptCode, L: Levels, U: DueTicks> Machine<D, C, L, U> {
     /// a prefix of the lines went out.
     pub fn write_step<W: Out>(&mut self, room: &mut LineRoom, out: &mut W) -> Result<(), IoError>
         ensures state { self.new ≡ record self.old { state = (step self.old.state).state } }
-        ensures put { Put (W.written out.old) (W.written out.new) (W.errors out.old) (W.errors out.new) (lines (step self.old.state).events) result }
+        ensures put { Put (W.written out.old) (W.written out.new) (W.errors out.old) (W.errors out.new)
+            (lines (step self.old.state).events) result }
     {
         write_step(&mut self.core, out, room)
     }
@@ -140,7 +141,9 @@ impl<D: Decider, C: KeptCode, L: Levels, U: DueTicks> Machine<D, C, L, U> {
         ensures quiet { OnOk result (W.errors out.new ≡ W.errors out.old) }
 
         // Otherwise the writer failed in this run, or in an earlier one.
-        ensures error { IfErr result (Fails limit self.old self.new (W.written out.old) (W.written out.new) (W.errors out.old) (W.errors out.new)) }
+        ensures error { IfErr result
+            (Fails limit self.old self.new (W.written out.old) (W.written out.new) (W.errors out.old)
+            (W.errors out.new)) }
         ensures broken { (result ≡ Err RunError.Broken) ↔ (self.old.broken ≡ true) }
     {
         self.run_view::<AllEvents, W>(limit, out)
@@ -155,13 +158,16 @@ impl<D: Decider, C: KeptCode, L: Levels, U: DueTicks> Machine<D, C, L, U> {
         out: &mut W,
     ) -> Result<Stop, RunError>
         // The selected text of the reference machine's run went out, and the machine is in its state.
-        ensures written { OnOk result (Appends (W.written out.old) (W.written out.new) (selected_trace selection limit self.old.state)) }
+        ensures written { OnOk result
+            (Appends (W.written out.old) (W.written out.new) (selected_trace selection limit self.old.state)) }
         ensures state { OnOk result (self.new ≡ record self.old { state = after limit self.old.state }) }
         ensures stop { IfOk result (λ stop. stop ≡ ending_of limit self.old.state) }
         ensures quiet { OnOk result (W.errors out.new ≡ W.errors out.old) }
 
         // Otherwise the writer failed in this run, or in an earlier one.
-        ensures error { IfErr result (SelectedFails selection limit self.old self.new (W.written out.old) (W.written out.new) (W.errors out.old) (W.errors out.new)) }
+        ensures error { IfErr result
+            (SelectedFails selection limit self.old self.new (W.written out.old) (W.written out.new) (W.errors out.old)
+            (W.errors out.new)) }
         ensures broken { (result ≡ Err RunError.Broken) ↔ (self.old.broken ≡ true) }
     {
         match selection {
@@ -176,11 +182,14 @@ impl<D: Decider, C: KeptCode, L: Levels, U: DueTicks> Machine<D, C, L, U> {
     /// Makes at most `limit` steps, up to the first stop, and writes those of their events that the view has, and
     /// then the line of the stop.
     fn run_view<V: View, W: Out>(&mut self, limit: u64, out: &mut W) -> Result<Stop, RunError>
-        ensures written { OnOk result (Appends (W.written out.old) (W.written out.new) (selected_trace V.SELECTION limit self.old.state)) }
+        ensures written { OnOk result
+            (Appends (W.written out.old) (W.written out.new) (selected_trace V.SELECTION limit self.old.state)) }
         ensures state { OnOk result (self.new ≡ record self.old { state = after limit self.old.state }) }
         ensures stop { IfOk result (λ stop. stop ≡ ending_of limit self.old.state) }
         ensures quiet { OnOk result (W.errors out.new ≡ W.errors out.old) }
-        ensures error { IfErr result (SelectedFails V.SELECTION limit self.old self.new (W.written out.old) (W.written out.new) (W.errors out.old) (W.errors out.new)) }
+        ensures error { IfErr result
+            (SelectedFails V.SELECTION limit self.old self.new (W.written out.old) (W.written out.new)
+            (W.errors out.old) (W.errors out.new)) }
         ensures broken { (result ≡ Err RunError.Broken) ↔ (self.old.broken ≡ true) }
     {
         if self.broken {
@@ -278,7 +287,8 @@ impl<D: Decider, C: KeptCode, L: Levels, U: DueTicks> Machine<D, C, L, U> {
     /// Returns the rule that would decide an access of one kind to an address now, by code of that
     /// privilege, and whether the rule would grant it.
     pub fn explain(&self, address: u32, privileged: bool, kind: Kind) -> Decision
-        ensures { result ≡ decision_of self.now.state.bus.system.mpu address kind privileged (is_below_zero self.now.state.bus.system.nvic) }
+        ensures { result ≡ decision_of self.now.state.bus.system.mpu address kind privileged
+            (is_below_zero self.now.state.bus.system.nvic) }
     {
         self.core.explain(address, privileged, kind)
     }

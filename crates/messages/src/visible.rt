@@ -2,7 +2,8 @@
 
 ghost use Rattle.std.specs.Prelude.{◌≡◌, ◌+◌, ◌<◌, ◌≤◌, ◌++◌, length};
 ghost use Rattle.std.specs.List.{list_any};
-ghost use Rattle.messages.specs.Visible.{is_hidden, is_in, hex_digit, hex_byte, short_escape, long_escape, escape, visible};
+ghost use Rattle.messages.specs.Visible.{is_hidden, is_in, hex_digit, hex_byte, short_escape, long_escape, escape};
+ghost use Rattle.messages.specs.Visible.{visible};
 
 use arrayvec::ArrayString;
 

@@ -8,7 +8,8 @@ use Rattle.reference.specs.declared.access.Rule.TheVariants.{NeverExecute, Vecto
 use Rattle.reference.specs.declared.access.Rule.TheVariants.{NegativePriority, Region, Background, NoRegion}
 use Rattle.reference.specs.Kinds.{is_vector}
 use Rattle.reference.specs.Regions.{Mpu, owner, is_on, IsOwner}
-use Rattle.reference.specs.Rules.{default_map, AccessQuery, Fits, IsFirstFit, rank, rule_grants, before_regions, by_owner}
+use Rattle.reference.specs.Rules.{default_map, AccessQuery, Fits, IsFirstFit, rank, rule_grants, before_regions}
+use Rattle.reference.specs.Rules.{by_owner}
 use Rattle.reference.specs.Rules.{first_of_two, decision_of, is_never_executed, is_ppb_data, is_off_below_zero}
 use Rattle.reference.specs.Rules.{is_background}
 use Rattle.mpu.proofs.Belonging.{only_owner, owner_is}

@@ -48,7 +48,9 @@ pub trait Decider: Drop {
     /// execution priority isn't below 0, if that is kept.
     #[inline(always)]
     fn kept_rule(&self, address: u32, kind: Kind, privileged: bool) -> Option<Rule>
-        ensures { (m : Mpu) → decides_for self.now m → IfSome result (λ rule. decision_of m address kind privileged false ≡ record { rule = rule; granted = true }) }
+        ensures { (m : Mpu) → decides_for self.now m
+            → IfSome result
+            (λ rule. decision_of m address kind privileged false ≡ record { rule = rule; granted = true }) }
     {
         let _unused = (address, kind, privileged);
         None

@@ -11,7 +11,8 @@ ghost use Rattle.reference.specs.declared.mpu.MpuRegister.{MpuRegister};
 #[tactic(auto, using(crate::proofs::Writes::sound_at_reset, crate::proofs::Writes::sound_after_write))]
 pub fn registers_stay_sound()
     ensures reset { (count : ℕ) → (count ≡ 8) ⊎ (count ≡ 16) → IsSound (fresh count) }
-    ensures writes { (m : Mpu) (register : MpuRegister) (value : ℕ) → IsSound m → IsSound (after_write m (write m register value)) }
+    ensures writes { (m : Mpu) (register : MpuRegister) (value : ℕ) → IsSound m
+        → IsSound (after_write m (write m register value)) }
 {}
 
 /// The owner of an address is exactly the enabled region of the greatest number that it lies in, or
@@ -24,5 +25,6 @@ pub fn owner_is_the_highest()
 /// The decision on an access is exactly that of the first rule that fits, in the order of `rank` of
 /// Rules.antt, and grants what that rule grants. So exactly one rule decides each access.
 pub fn decision_is_by_the_first_case()
-    ensures { (m : Mpu) (q : AccessQuery) (d : Decision) → IsFirstFit m q d ↔ (d ≡ decision_of m q.address q.kind q.privileged q.below_zero) }
+    ensures { (m : Mpu) (q : AccessQuery) (d : Decision)
+        → IsFirstFit m q d ↔ (d ≡ decision_of m q.address q.kind q.privileged q.below_zero) }
 {}

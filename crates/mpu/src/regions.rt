@@ -2,7 +2,8 @@
 
 ghost use Rattle.std.specs.Prelude.{◌≡◌, ◌<◌};
 ghost use Rattle.instruction_set.specs.Words.{is_bit};
-ghost use Rattle.reference.specs.Regions.{is_region_enabled, size, switched_off, permission, is_accepted, agrees, is_switched_off, matches};
+ghost use Rattle.reference.specs.Regions.{is_region_enabled, size, switched_off, permission, is_accepted, agrees};
+ghost use Rattle.reference.specs.Regions.{is_switched_off, matches};
 
 use reference::mpu::Region;
 

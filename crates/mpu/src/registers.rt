@@ -2,7 +2,9 @@
 
 ghost use Rattle.std.specs.Prelude.{◌≡◌, ◌+◌, ◌%◌, ◌<◌, ◌≤◌, ◌⊎◌, true, IfSome};
 ghost use Rattle.mpu.specs.Spans.{BelongTo};
-ghost use Rattle.reference.specs.Regions.{fresh, read, write, after_write, answered, shown, region as region_of, with_region_base, with_attributes, selected, write_mpu_ctrl, write_base, based, write_attributes, is_accepted, owner, mpu_register_at, stop_of};
+ghost use Rattle.reference.specs.Regions.{fresh, read, write, after_write, answered, shown, region as region_of};
+ghost use Rattle.reference.specs.Regions.{with_region_base, with_attributes, selected, write_mpu_ctrl, write_base};
+ghost use Rattle.reference.specs.Regions.{based, write_attributes, is_accepted, owner, mpu_register_at, stop_of};
 
 use crate::regions::{is_accepted, is_bit, matches};
 use crate::spans::{Span, cut};
@@ -224,7 +226,7 @@ impl MpuRegs {
 
     /// Returns the number of the highest region that an address lies in.
     #[inline]
-    #[tactic(auto, using(crate::proofs::Owner::found, crate::proofs::Owner::passed, crate::proofs::Owner::none_left), unfolding(reference::specs::Regions::owner))]
+    #[tactic(auto, using(crate::proofs::Owner::found, crate::proofs::Owner::passed, crate::proofs::Owner::none_left), unfolding(reference::specs::Regions::owner),)]
     pub fn owner(&self, address: u32) -> Option<u8>
         ensures value { result ≡ owner self.now address }
         ensures within { IfSome result (λ number. number < 16) }

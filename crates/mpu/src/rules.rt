@@ -3,7 +3,8 @@
 ghost use Rattle.std.specs.Prelude.{◌≡◌, ◌&&◌, not};
 ghost use Rattle.reference.specs.declared.access.Rule.TheVariants.{Region};
 ghost use Rattle.reference.specs.Regions.{is_on, permission, never_executes};
-ghost use Rattle.reference.specs.Rules.{default_map, is_executable, is_off_below_zero, before_regions, may_read, may_write, permission_grants, after_regions};
+ghost use Rattle.reference.specs.Rules.{default_map, is_executable, is_off_below_zero, before_regions, may_read};
+ghost use Rattle.reference.specs.Rules.{may_write, permission_grants, after_regions};
 
 use crate::regions::{is_bit, permission};
 use crate::registers::{ENABLE, HFNMIENA, PRIVDEFENA};

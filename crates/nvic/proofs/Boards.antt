@@ -104,11 +104,13 @@ with_others n bytes group masks are small basepri h = record {
 
 pub pending_of_board : (n : Nvic) (x : ℕ) (on : Bool) → IsOfBoard n → IsOfBoard (with_pending n x on)
 pending_of_board n x on h =
-    with_sets n _ n.enabled n.active (member_set n.interrupts n.pending x on h.sets.pending) h.sets.enabled h.sets.active h
+    with_sets n _ n.enabled n.active
+    (member_set n.interrupts n.pending x on h.sets.pending) h.sets.enabled h.sets.active h
 
 pub active_of_board : (n : Nvic) (x : ℕ) (on : Bool) → IsOfBoard n → IsOfBoard (with_active n x on)
 active_of_board n x on h =
-    with_sets n n.pending n.enabled _ h.sets.pending h.sets.enabled (member_set n.interrupts n.active x on h.sets.active) h
+    with_sets n n.pending n.enabled _ h.sets.pending h.sets.enabled
+    (member_set n.interrupts n.active x on h.sets.active) h
 
 pub enabled_of_board : (n : Nvic) (x : ℕ) (on : Bool) → IsOfBoard n → IsOfBoard (with_enabled n x on)
 enabled_of_board n x on h =

@@ -40,7 +40,8 @@ at_pending : (n : Nvic) (due : List ℕ) (x : ℕ)
 unfolding with_due_at
 at_pending n due x = split (is_in_words due x)
   where
-    split : (b : Bool) → (if b then with_pending n x true else n).pending ≡ put n.pending x b (is_exception n.interrupts x)
+    split : (b : Bool) → (if b then with_pending n x true else n).pending
+        ≡ put n.pending x b (is_exception n.interrupts x)
     split true = refl
     split false = refl
 

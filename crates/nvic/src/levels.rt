@@ -2,7 +2,16 @@
 
 ghost use Rattle.std.specs.Prelude.{◌≡◌, ◌+◌, ◌*◌, ◌<◌, true, false, min, nat_lt, slice_index, IfSome};
 ghost use Rattle.reference.specs.declared.exception.TheConstants.{EXCEPTIONS};
-ghost use Rattle.reference.specs.Priorities.{Nvic, is_in, is_enabled as is_enabled_of, best as best_of, is_interrupt_pending as is_interrupt_pending_of, is_other_active as is_other_active_of, highest_active, group_priority as group_priority_of, is_below_zero as is_below_zero_of, execution_priority as execution_priority_of, candidate as candidate_of, candidate_unmasked as candidate_unmasked_of, boosted as boosted_of, candidate_after as candidate_after_of, escalation, with_pending, with_active, with_enabled, with_priority, with_group, with_primask, with_faultmask, with_basepri, with_due, with_due_at, with_due_below, reset_nvic};
+ghost use Rattle.reference.specs.Priorities.{Nvic, is_in, is_enabled as is_enabled_of, best as best_of};
+ghost use Rattle.reference.specs.Priorities.{is_interrupt_pending as is_interrupt_pending_of};
+ghost use Rattle.reference.specs.Priorities.{is_other_active as is_other_active_of, highest_active};
+ghost use Rattle.reference.specs.Priorities.{group_priority as group_priority_of, is_below_zero as is_below_zero_of};
+ghost use Rattle.reference.specs.Priorities.{execution_priority as execution_priority_of, candidate as candidate_of};
+ghost use Rattle.reference.specs.Priorities.{candidate_unmasked as candidate_unmasked_of, boosted as boosted_of};
+ghost use Rattle.reference.specs.Priorities.{candidate_after as candidate_after_of, escalation, with_pending};
+ghost use Rattle.reference.specs.Priorities.{with_active, with_enabled, with_priority, with_group, with_primask};
+ghost use Rattle.reference.specs.Priorities.{with_faultmask, with_basepri, with_due, with_due_at, with_due_below};
+ghost use Rattle.reference.specs.Priorities.{reset_nvic};
 
 use crate::numbers::{is_empty, is_in_words, is_interrupt};
 use crate::priorities::{boosted, fixed_or, grouped};
@@ -28,11 +37,11 @@ pub trait Levels: Drop {
     fn clear(&mut self, number: u16)
         ensures { content self.new ≡ with_pending (content self.old) number false };
 
-    /// Enables MemManage, BusFault, UsageFault or a interrupt. The others always are enabled.
+    /// Enables MemManage, BusFault, UsageFault or an interrupt. The others always are enabled.
     fn enable(&mut self, number: u16)
         ensures { content self.new ≡ with_enabled (content self.old) number true };
 
-    /// Disables MemManage, BusFault, UsageFault or a interrupt. The others don't change.
+    /// Disables MemManage, BusFault, UsageFault or an interrupt. The others don't change.
     fn disable(&mut self, number: u16)
         ensures { content self.new ≡ with_enabled (content self.old) number false };
 
@@ -131,7 +140,8 @@ pub trait Levels: Drop {
     /// Pends the exceptions of one word that are due, after those of the words before it.
     fn pend_word(&mut self, due: &[u32; 8], word: u16)
         requires { word < 8 }
-        ensures { (n : Nvic) → content self.old ≡ with_due_below n due.now (word * 32) → content self.new ≡ with_due_below n due.now ((word + 1) * 32) }
+        ensures { (n : Nvic) → content self.old ≡ with_due_below n due.now (word * 32) → content self.new
+            ≡ with_due_below n due.now ((word + 1) * 32) }
     {
         #[tactic(auto, unfolding(reference::specs::Priorities::with_due_below))]
         'each: for number in word * 32..(word + 1) * 32 {
@@ -199,7 +209,8 @@ pub trait Levels: Drop {
 
     /// Returns the execution priority under these masks.
     fn priority_under(&self, masks: Masks) -> Priority
-        ensures { result ≡ min (highest_active (content self.now) EXCEPTIONS) (boosted_of (content self.now).group masks) }
+        ensures { result ≡ min (highest_active (content self.now) EXCEPTIONS)
+            (boosted_of (content self.now).group masks) }
     {
         let held = self.active_priority();
         let masked = boosted(self.group(), masks);
@@ -225,7 +236,8 @@ pub trait Levels: Drop {
     /// Returns whether an exception preempts: its group priority is a lower number than the execution
     /// priority.
     fn preempts(&self, number: u16) -> bool
-        ensures { result ≡ nat_lt (group_priority_of (content self.now) number) (execution_priority_of (content self.now)) }
+        ensures { result ≡ nat_lt (group_priority_of (content self.now) number)
+            (execution_priority_of (content self.now)) }
     {
         let limit = self.execution_priority();
         self.group_priority(number).is_below(limit)

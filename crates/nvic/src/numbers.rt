@@ -2,7 +2,10 @@
 
 ghost use Rattle.std.specs.Prelude.{◌≡◌, ◌+◌, ◌<◌, ◌≤◌, ℕ, true, false};
 ghost use Rattle.reference.specs.declared.exception.TheConstants.{EXCEPTIONS};
-ghost use Rattle.reference.specs.Priorities.{is_fixed as is_fixed_of, is_always_enabled as is_always_enabled_of, is_interrupt as is_interrupt_of, can_be_disabled as can_be_disabled_of, is_exception as is_exception_of, has_priority_byte as has_priority_byte_of, is_in_words as is_in_words_of};
+ghost use Rattle.reference.specs.Priorities.{is_fixed as is_fixed_of, is_always_enabled as is_always_enabled_of};
+ghost use Rattle.reference.specs.Priorities.{is_interrupt as is_interrupt_of, can_be_disabled as can_be_disabled_of};
+ghost use Rattle.reference.specs.Priorities.{is_exception as is_exception_of};
+ghost use Rattle.reference.specs.Priorities.{has_priority_byte as has_priority_byte_of, is_in_words as is_in_words_of};
 
 use reference::exception::{
     FIRST_INTERRUPT, HARD_FAULT, MEM_MANAGE, NMI, PEND_SV, SV_CALL, SYS_TICK, USAGE_FAULT,
@@ -24,7 +27,7 @@ pub fn is_always_enabled(number: u16) -> bool
     is_fixed(number) || matches!(number, SV_CALL | PEND_SV | SYS_TICK)
 }
 
-/// Returns whether an exception is an external interrupt, that of a interrupt of the board.
+/// Returns whether an exception is an external interrupt, that of an interrupt of the board.
 #[inline]
 pub fn is_interrupt(interrupts: u8, number: u16) -> bool
     ensures { result ≡ is_interrupt_of interrupts number }

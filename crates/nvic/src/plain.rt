@@ -1,7 +1,10 @@
 //! The exceptions as plain sets, which are searched exception by exception.
 
 ghost use Rattle.std.specs.Prelude.{◌≡◌, ◌<◌, slice_set};
-ghost use Rattle.reference.specs.Priorities.{priority_of as priority_of_number, group_priority as group_priority_of, is_ready as is_ready_of, highest_active as least_active_of, execution_priority as execution_priority_of, better_of as better_of_both, with_ready as with_ready_of};
+ghost use Rattle.reference.specs.Priorities.{priority_of as priority_of_number, group_priority as group_priority_of};
+ghost use Rattle.reference.specs.Priorities.{is_ready as is_ready_of, highest_active as least_active_of};
+ghost use Rattle.reference.specs.Priorities.{execution_priority as execution_priority_of, better_of as better_of_both};
+ghost use Rattle.reference.specs.Priorities.{with_ready as with_ready_of};
 
 use crate::levels::Levels;
 use crate::numbers::{can_be_disabled, has_priority_byte, is_always_enabled, is_exception};

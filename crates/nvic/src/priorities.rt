@@ -1,7 +1,8 @@
 //! Priority bytes, and the priorities that they represent.
 
 ghost use Rattle.std.specs.Prelude.{◌≡◌, ◌<◌};
-ghost use Rattle.reference.specs.Priorities.{kept as kept_of, grouped as grouped_of, fixed_or as fixed_or_of, of_byte, boosted as boosted_of};
+ghost use Rattle.reference.specs.Priorities.{kept as kept_of, grouped as grouped_of, fixed_or as fixed_or_of, of_byte};
+ghost use Rattle.reference.specs.Priorities.{boosted as boosted_of};
 
 use reference::exception::{HARD_FAULT, Masks, NMI, Priority};
 

@@ -61,7 +61,8 @@ least_of_pending n x on = highest_alike n (with_member n.interrupts n.pending x 
 pub least_of_enabled : (n : Nvic) (x : ℕ) (on : Bool)
     → highest_active (with_enabled n x on) EXCEPTIONS ≡ highest_active n EXCEPTIONS
 least_of_enabled n x on =
-    cond_both (can_be_disabled n.interrupts x) _ _ (λ (m : Nvic). highest_active m EXCEPTIONS ≡ highest_active n EXCEPTIONS)
+    cond_both (can_be_disabled n.interrupts x) _ _
+    (λ (m : Nvic). highest_active m EXCEPTIONS ≡ highest_active n EXCEPTIONS)
     (λ e. highest_alike n n.pending (slice_set n.enabled x on) n.masks EXCEPTIONS) (λ e. refl)
 
 pub least_of_masks : (n : Nvic) (m : Masks)

@@ -51,20 +51,22 @@ impl Model for BitLevels {
       priority_bits = l.bits;
     } };
 
-    ghost invariant = { λ l. (l.group < 8) × (l.interrupts ≤ MOST_INTERRUPTS) × IsKept l.levels l.held l.enabled l.priorities × AreKeptBytes l.bits l.priorities };
+    ghost invariant = { λ l. (l.group < 8) × (l.interrupts ≤ MOST_INTERRUPTS)
+        × IsKept l.levels l.held l.enabled l.priorities × AreKeptBytes l.bits l.priorities };
 }
 
 impl BitLevels {
     /// Returns the set of the exceptions that are pending and enabled and have a priority byte, NMI
     /// and HardFault excepted.
     pub fn level(&self, priority: u8) -> &Set
-        ensures { (x : _) → x < 256 → is_in_words result.now x ≡ (is_ready self.now x && not (is_fixed x) && (slice_index self.now.priorities x == priority)) }
+        ensures { (x : _) → x < 256 → is_in_words result.now x
+            ≡ (is_ready self.now x && not (is_fixed x) && (slice_index self.now.priorities x == priority)) }
     {
         &self.levels[priority as usize]
     }
 
     /// Makes an exception pending, or not pending any more, in the set where it belongs.
-    #[tactic(auto, using(crate::proofs::KeptLevels::kept_levelled, crate::proofs::KeptLevels::kept_held, crate::proofs::KeptLevels::seen_levelled, crate::proofs::KeptLevels::seen_held))]
+    #[tactic(auto, using(crate::proofs::KeptLevels::kept_levelled, crate::proofs::KeptLevels::kept_held, crate::proofs::KeptLevels::seen_levelled, crate::proofs::KeptLevels::seen_held,),)]
     fn put(&mut self, number: u8, on: bool)
         ensures { self.new ≡ record self.old { pending = slice_set self.old.pending number on } }
     {
@@ -187,7 +189,7 @@ impl Levels for BitLevels {
         }
     }
 
-    #[tactic(auto, using(crate::proofs::Lists::put_back, crate::proofs::Lists::now_out, nvic::proofs::Boards::kept_again))]
+    #[tactic(auto, using(crate::proofs::Lists::put_back, crate::proofs::Lists::now_out, nvic::proofs::Boards::kept_again),)]
     fn set_priority(&mut self, number: u16, byte: u8) {
         if !has_priority_byte(self.interrupts, number) {
             return;

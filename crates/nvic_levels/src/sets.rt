@@ -42,7 +42,8 @@ pub fn put(set: &mut Set, number: u8, on: bool)
 /// Puts an exception into the set of a priority byte, or takes it out.
 #[tactic(auto, using(crate::proofs::Bits::put_level))]
 pub fn put_at(sets: &mut Sets, priority: u8, number: u8, on: bool)
-    ensures { (p : ℕ) (y : ℕ) → y < 256 → is_in_words (level sets.new p) y ≡ (if (p == priority) && (y == number) then on else is_in_words (level sets.old p) y) }
+    ensures { (p : ℕ) (y : ℕ) → y < 256 → is_in_words (level sets.new p) y
+        ≡ (if (p == priority) && (y == number) then on else is_in_words (level sets.old p) y) }
 {
     let mut set = sets[priority as usize];
     put(&mut set, number, on);

@@ -10,8 +10,8 @@ Received old new before now room (Ok given) =
     × (given ≡ 0 → 0 < length room → IsAtEnd new)
 Received old new before now room (Err error) = Keeps old new × (now ≡ before + 1)
 
--- One call for an empty buffer. On Ok, the buffer holds the bytes that were returned, none only at the end of the input.
--- On Err, it's still empty.
+-- One call for an empty buffer. On Ok, the buffer holds the bytes that were returned, none only at the end of the
+-- input. On Err, it's still empty.
 abbrev pub Fills : {E : Type 0} → Option (List ℕ) → Option (List ℕ) → ℕ → ℕ → List ℕ → Result (Unit {0}) E → Type 0
 Fills old new before now held (Ok done) = Consumes old new held × (now ≡ before) × (held ≡ [] → IsAtEnd new)
 Fills old new before now held (Err error) = Keeps old new × (now ≡ before + 1) × (held ≡ [])

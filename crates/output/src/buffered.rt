@@ -52,7 +52,8 @@ impl<I: In + Drop> Buffered<I> {
     /// Makes one call of the reader below for an empty buffer.
     fn fill(&mut self) -> Result<(), IoError>
         requires { self.old.at ≡ self.old.end }
-        ensures filled { Fills (I.left self.old.inner) (I.left self.new.inner) (I.misses self.old.inner) (I.misses self.new.inner) (drop self.new.at (take self.new.end self.new.bytes)) result }
+        ensures filled { Fills (I.left self.old.inner) (I.left self.new.inner) (I.misses self.old.inner)
+            (I.misses self.new.inner) (drop self.new.at (take self.new.end self.new.bytes)) result }
         ensures failed { OnErr result (I.may_wait self.old.inner ≡ true) }
     {
         self.at = 0;
@@ -69,7 +70,8 @@ impl<I: In + Drop> Buffered<I> {
     /// Copies bytes of the buffer to the front of the room, and returns how many.
     fn give(&mut self, room: &mut [u8]) -> usize
         ensures within { result ≤ length room.new }
-        ensures bytes { drop self.old.at (take self.old.end self.old.bytes) ≡ take result room.new ++ drop self.new.at (take self.new.end self.new.bytes) }
+        ensures bytes { drop self.old.at (take self.old.end self.old.bytes)
+            ≡ take result room.new ++ drop self.new.at (take self.new.end self.new.bytes) }
         ensures none { result ≡ 0 → 0 < length room.new → drop self.new.at (take self.new.end self.new.bytes) ≡ [] }
         ensures same { self.new.inner ≡ self.old.inner }
     {

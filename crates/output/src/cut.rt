@@ -72,7 +72,8 @@ impl<O: Out + Drop> Cut<O> {
     /// Passes on as many of the bytes as are left to pass on.
     fn put_front(&mut self, bytes: &[u8]) -> Result<usize, IoError>
         requires { 0 < self.old.left }
-        ensures took { Took (O.written self.old.inner) (O.written self.new.inner) (O.errors self.old.inner) (O.errors self.new.inner) bytes.now result }
+        ensures took { Took (O.written self.old.inner) (O.written self.new.inner) (O.errors self.old.inner)
+            (O.errors self.new.inner) bytes.now result }
         ensures passes { Passes self.old.left self.new.left result }
         ensures same { (self.new.at_cut ≡ self.old.at_cut) × (self.new.failed ≡ self.old.failed) }
     {
@@ -95,9 +96,11 @@ impl<O: Out + Drop> Out for Cut<O> {
     ghost waits = { λ c. O.waits c.inner };
 
     fn put(&mut self, bytes: &[u8]) -> Result<usize, IoError>
-        ensures took { Took (O.written self.old.inner) (O.written self.new.inner) (O.errors self.old.inner + self.old.failed) (O.errors self.new.inner + self.new.failed) bytes.now result }
+        ensures took { Took (O.written self.old.inner) (O.written self.new.inner)
+            (O.errors self.old.inner + self.old.failed) (O.errors self.new.inner + self.new.failed) bytes.now result }
         ensures passes { self.old.failed < 2 ^ 64 - 1 → Passes self.old.left self.new.left result }
-        ensures ends { self.old.failed < 2 ^ 64 - 1 → self.old.left ≡ 0 → 0 < length bytes.now → EndsAtCut self.old.at_cut result }
+        ensures ends { self.old.failed < 2 ^ 64 - 1 → self.old.left ≡ 0 → 0 < length bytes.now
+            → EndsAtCut self.old.at_cut result }
         ensures same { self.new.at_cut ≡ self.old.at_cut }
     {
         if self.left > 0 {
@@ -125,7 +128,8 @@ impl<I: In + Drop> Cut<I> {
     /// Takes as many bytes from the reader below as are left to pass on, and as there is room for.
     fn take_front(&mut self, room: &mut [u8]) -> Result<usize, IoError>
         requires { 0 < self.old.left }
-        ensures received { Received (I.left self.old.inner) (I.left self.new.inner) (I.misses self.old.inner) (I.misses self.new.inner) room.new result }
+        ensures received { Received (I.left self.old.inner) (I.left self.new.inner) (I.misses self.old.inner)
+            (I.misses self.new.inner) room.new result }
         ensures passes { Passes self.old.left self.new.left result }
         ensures same { (self.new.at_cut ≡ self.old.at_cut) × (self.new.failed ≡ self.old.failed) }
     {
@@ -142,7 +146,8 @@ impl<I: In + Drop> Cut<I> {
 
     /// Fails, unless so many calls have failed that no more can be counted.
     fn fail(&mut self, room: &mut [u8]) -> Result<usize, IoError>
-        ensures received { Received (I.left self.old.inner) (I.left self.new.inner) (I.misses self.old.inner + self.old.failed) (I.misses self.new.inner + self.new.failed) room.new result }
+        ensures received { Received (I.left self.old.inner) (I.left self.new.inner)
+            (I.misses self.old.inner + self.old.failed) (I.misses self.new.inner + self.new.failed) room.new result }
         ensures ends { self.old.failed < 2 ^ 64 - 1 → EndsAtCut Fails result }
         ensures same { (self.new.left ≡ self.old.left) × (self.new.at_cut ≡ self.old.at_cut) }
     {
@@ -160,9 +165,12 @@ impl<I: In + Drop> In for Cut<I> {
     ghost misses = { λ c. I.misses c.inner + c.failed };
 
     fn take(&mut self, room: &mut [u8]) -> Result<usize, IoError>
-        ensures received { Received (left_of self.old.at_cut self.old.left (I.left self.old.inner)) (left_of self.new.at_cut self.new.left (I.left self.new.inner)) (I.misses self.old.inner + self.old.failed) (I.misses self.new.inner + self.new.failed) room.new result }
+        ensures received { Received (left_of self.old.at_cut self.old.left (I.left self.old.inner))
+            (left_of self.new.at_cut self.new.left (I.left self.new.inner)) (I.misses self.old.inner + self.old.failed)
+            (I.misses self.new.inner + self.new.failed) room.new result }
         ensures passes { self.old.failed < 2 ^ 64 - 1 → Passes self.old.left self.new.left result }
-        ensures ends { self.old.failed < 2 ^ 64 - 1 → self.old.left ≡ 0 → 0 < length room.new → EndsAtCut self.old.at_cut result }
+        ensures ends { self.old.failed < 2 ^ 64 - 1 → self.old.left ≡ 0 → 0 < length room.new
+            → EndsAtCut self.old.at_cut result }
         ensures same { self.new.at_cut ≡ self.old.at_cut }
     {
         if self.left > 0 {

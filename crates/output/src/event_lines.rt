@@ -25,8 +25,10 @@ pub struct EventLines<'a, O: Out, V: View> {
     view: PhantomData<V>,
     // The writer before each event, and the event.
     history: History<O, Event>,
-    ghost writes: { ∥ WritesSoFar V.SELECTION (emission O.written O.errors out.ghost_name out.now history.items) (O.written out.now) (O.errors out.now) failed ∥₁ },
-    ghost ends: { last ≡ last_printed V.SELECTION (emission O.written O.errors out.ghost_name out.now history.items).events },
+    ghost writes: { ∥ WritesSoFar V.SELECTION (emission O.written O.errors out.ghost_name out.now history.items)
+        (O.written out.now) (O.errors out.now) failed ∥₁ },
+    ghost ends: { last ≡ last_printed V.SELECTION
+        (emission O.written O.errors out.ghost_name out.now history.items).events },
 }
 
 impl<'a, O: Out, V: View> EventLines<'a, O, V> {
@@ -50,7 +52,9 @@ impl<'a, O: Out, V: View> EventLines<'a, O, V> {
     /// Returns whether the text of all events went out.
     #[inline(always)]
     pub fn end(&self) -> Result<(), IoError>
-        ensures { PutsText V.SELECTION (emission O.written O.errors self.now.out.ghost_name self.now.out.now self.now.history.items) (O.written self.now.out.now) (O.errors self.now.out.now) result }
+        ensures { PutsText V.SELECTION
+            (emission O.written O.errors self.now.out.ghost_name self.now.out.now self.now.history.items)
+            (O.written self.now.out.now) (O.errors self.now.out.now) result }
     {
         if self.failed { Err(IoError) } else { Ok(()) }
     }
@@ -58,7 +62,8 @@ impl<'a, O: Out, V: View> EventLines<'a, O, V> {
     /// Returns the last byte that the events printed, where the view writes the bytes themselves.
     #[inline(always)]
     pub fn last(&self) -> Option<u8>
-        ensures { result ≡ last_printed V.SELECTION (emission O.written O.errors self.now.out.ghost_name self.now.out.now self.now.history.items).events }
+        ensures { result ≡ last_printed V.SELECTION
+            (emission O.written O.errors self.now.out.ghost_name self.now.out.now self.now.history.items).events }
     {
         self.last
     }
@@ -85,7 +90,8 @@ fn put_unless<O: Out>(
     room: &mut LineRoom,
     event: &Event,
 ) -> bool
-    ensures { PutsUnless failed (O.written out.old) (O.written out.new) (O.errors out.old) (O.errors out.new) (selected_text selection (event.now ∷ [])) result }
+    ensures { PutsUnless failed (O.written out.old) (O.written out.new) (O.errors out.old) (O.errors out.new)
+        (selected_text selection (event.now ∷ [])) result }
 {
     failed || put_selected(selection, out, room, event).is_err()
 }
@@ -98,7 +104,8 @@ fn put_selected<O: Out>(
     room: &mut LineRoom,
     event: &Event,
 ) -> Result<(), IoError>
-    ensures { Put (O.written out.old) (O.written out.new) (O.errors out.old) (O.errors out.new) (selected_text selection (event.now ∷ [])) result }
+    ensures { Put (O.written out.old) (O.written out.new) (O.errors out.old) (O.errors out.new)
+        (selected_text selection (event.now ∷ [])) result }
 {
     if !selection.selects(&event.what) {
         return Ok(());

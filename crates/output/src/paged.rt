@@ -55,7 +55,8 @@ impl<O: Out + Drop> Paged<O> {
     /// sent, and the page still has the rest.
     #[inline(always)]
     fn make_room(&mut self) -> Result<(), IoError>
-        ensures known { Keeps (append_known (O.written self.old.inner) (drop self.old.at self.old.page)) (append_known (O.written self.new.inner) (drop self.new.at self.new.page)) }
+        ensures known { Keeps (append_known (O.written self.old.inner) (drop self.old.at self.old.page))
+            (append_known (O.written self.new.inner) (drop self.new.at self.new.page)) }
         ensures room { OnOk result (length self.new.page + 64 ≤ 0x4000) }
         ensures quiet { OnOk result (O.errors self.new.inner ≡ O.errors self.old.inner) }
         ensures error { OnErr result (O.errors self.new.inner ≡ O.errors self.old.inner + 1) }
@@ -72,7 +73,8 @@ impl<O: Out + Drop> Paged<O> {
     #[cold]
     #[inline(never)]
     pub fn flush(&mut self) -> Result<(), IoError>
-        ensures known { Keeps (append_known (O.written self.old.inner) (drop self.old.at self.old.page)) (append_known (O.written self.new.inner) (drop self.new.at self.new.page)) }
+        ensures known { Keeps (append_known (O.written self.old.inner) (drop self.old.at self.old.page))
+            (append_known (O.written self.new.inner) (drop self.new.at self.new.page)) }
         ensures empty { OnOk result ((self.new.page ≡ []) × (self.new.at ≡ 0)) }
         ensures quiet { OnOk result (O.errors self.new.inner ≡ O.errors self.old.inner) }
         ensures error { OnErr result (O.errors self.new.inner ≡ O.errors self.old.inner + 1) }

@@ -79,7 +79,8 @@ pub trait Out {
 
     /// Puts the line of an event. `room` is room for its text.
     fn put_line(&mut self, room: &mut LineRoom, event: &Event) -> Result<(), IoError>
-        ensures { Put (written self.old) (written self.new) (errors self.old) (errors self.new) (line event.now) result }
+        ensures { Put (written self.old) (written self.new) (errors self.old) (errors self.new)
+            (line event.now) result }
     {
         room.page.clear();
         room.page.put_event(&mut room.digits, event);
@@ -89,7 +90,8 @@ pub trait Out {
 
     /// Sends the bytes that wait. On an error some of them may still wait.
     fn hand_on(&mut self) -> Result<(), IoError>
-        ensures { HandsOn (written self.old) (written self.new) (errors self.old) (errors self.new) (waits self.new) result };
+        ensures { HandsOn (written self.old) (written self.new) (errors self.old) (errors self.new)
+            (waits self.new) result };
 }
 
 /// A reader that reports how many bytes it returned. A contract sees the bytes that it has left,
@@ -104,7 +106,8 @@ pub trait In {
     /// Puts bytes at the front of the room, and returns how many: 0 at the end of the input, or
     /// where there is no room.
     fn take(&mut self, room: &mut [u8]) -> Result<usize, IoError>
-        ensures received { Received (left self.old) (left self.new) (misses self.old) (misses self.new) room.new result }
+        ensures received { Received (left self.old) (left self.new) (misses self.old)
+            (misses self.new) room.new result }
         ensures failed { OnErr result (may_wait self.old ≡ true) };
 
     /// Returns false only where the next call of `take` neither waits for input nor fails.

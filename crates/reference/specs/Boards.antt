@@ -1,5 +1,5 @@
--- What a board is (profile): its numbers, each with its range, and the script of what happens on its interrupts. What the
--- text of a board means is defined in the crate `board`, over the `toml` crate's meaning of a document.
+-- What a board is (profile): its numbers, each with its range, and the script of what happens on its interrupts. What
+-- the text of a board means is defined in the crate `board`, over the `toml` crate's meaning of a document.
 use Rattle.std.specs.Prelude.{ℕ, ◌+◌, ◌%◌, ◌<◌, ◌≤◌, Bool, ◌&&◌, ◌||◌, nat_le, ◌==◌, List, [], ◌∷◌}
 use Rattle.reference.specs.declared.board.Layout.{Layout}
 use Rattle.reference.specs.declared.exception.TheConstants.{MOST_INTERRUPTS}
@@ -82,7 +82,7 @@ default_regions = 8
 abbrev pub is_tick : ℕ → Bool
 is_tick tick = nat_le first_tick tick && nat_le tick last_tick
 
--- a signal is on a interrupt that the board has, or it is NMI
+-- a signal is on an interrupt that the board has, or it is NMI
 abbrev pub IsOfBoard : ℕ → Signal → Type 0
 IsOfBoard interrupts (Rise interrupt) = interrupt < interrupts
 IsOfBoard interrupts (Fall interrupt) = interrupt < interrupts
@@ -90,11 +90,12 @@ IsOfBoard interrupts (Pulse interrupt) = interrupt < interrupts
 IsOfBoard interrupts Nmi = Unit {0}
 
 -- the events of a script that begins at the tick `before` or later: none is earlier than the event in front of it, none
--- is later than the clock's last tick, and each is on a interrupt that the board has, or is NMI
+-- is later than the clock's last tick, and each is on an interrupt that the board has, or is NMI
 abbrev pub IsScriptFrom : ℕ → ℕ → List ScriptedEvent → Type 0
 IsScriptFrom interrupts before [] = Unit {0}
 IsScriptFrom interrupts before (event ∷ events) =
-    (before ≤ event.at) × (event.at ≤ last_tick) × IsOfBoard interrupts event.what × IsScriptFrom interrupts event.at events
+    (before ≤ event.at) × (event.at ≤ last_tick) × IsOfBoard interrupts event.what
+    × IsScriptFrom interrupts event.at events
 
 abbrev pub IsScript : ℕ → List ScriptedEvent → Type 0
 IsScript interrupts events = IsScriptFrom interrupts first_tick events

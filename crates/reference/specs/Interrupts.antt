@@ -50,8 +50,8 @@ shown_below n register x (suc bit) = shown_below n register x bit + weighed (is_
 unfoldable pub read_interrupts : Nvic → InterruptRegister → ℕ → ℕ
 read_interrupts n register k = shown_below n register (first_exception k) 32
 
--- what a 1 written to the bit of exception x does. After a 1 written to its bit of ICPR, a interrupt that only stays high
--- makes its interrupt pending again no sooner than when the interrupt is deactivated (profile)
+-- what a 1 written to the bit of exception x does. After a 1 written to its bit of ICPR, an interrupt that only stays
+-- high makes its interrupt pending again no sooner than when the interrupt is deactivated (profile)
 unfoldable pub with_one : Nvic → InterruptRegister → ℕ → Nvic
 with_one n Iser x = with_enabled n x true
 with_one n Icer x = with_enabled n x false
@@ -78,7 +78,8 @@ ipr_base = 0xE000_E400
 -- the exception whose priority is the lowest byte of a word
 unfoldable pub interrupt_priority_at : ℕ → Option ℕ
 interrupt_priority_at word =
-    if nat_le ipr_base word && nat_lt word (ipr_base + MOST_INTERRUPTS) then Some (FIRST_INTERRUPT + (word - ipr_base)) else None
+    if nat_le ipr_base word && nat_lt word (ipr_base + MOST_INTERRUPTS) then Some
+    (FIRST_INTERRUPT + (word - ipr_base)) else None
 
 -- the priority bytes of four exceptions, x and those that follow, as a word; one that has no priority reads 0
 unfoldable pub read_priorities : Nvic → ℕ → ℕ

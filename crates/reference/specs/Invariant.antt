@@ -103,8 +103,8 @@ pub record Invariant (s : State) : Type 0 where
 
 -- ---- the board that it needs
 
--- a board whose flash, number of interrupts and number of regions are in range, and whose script is sorted and names only
--- interrupts that the board has
+-- a board whose flash, number of interrupts and number of regions are in range, and whose script is sorted and names
+-- only interrupts that the board has
 pub record IsBoard (board : Described) : Type 0 where
   pub flash : is_flash board.numbers.flash_base board.numbers.flash_size ≡ true
   pub interrupts : is_interrupt_count board.numbers.interrupts ≡ true

@@ -33,8 +33,8 @@ pub record System : Type 0 where
   pub status : Status
   pub time : Time
 
--- the state after a reset, by what the board has: where flash begins, the number of interrupts, the number of priority bits,
--- the number of regions, and the script
+-- the state after a reset, by what the board has: where flash begins, the number of interrupts, the number of priority
+-- bits, the number of regions, and the script
 abbrev pub reset_system : ℕ → ℕ → ℕ → ℕ → List ScriptedEvent → System
 reset_system flash_base interrupts bits regions script = record {
   mpu = fresh regions;

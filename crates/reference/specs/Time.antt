@@ -1,6 +1,6 @@
--- Time: the clock, SysTick (ARM DDI 0403, "System timer, SysTick"), the interrupts of the external interrupts and the script
--- of events. That each tick is one count of SysTick is this project's choice, and so is all that is said of the clock,
--- of interrupts and of scripts (profile).
+-- Time: the clock, SysTick (ARM DDI 0403, "System timer, SysTick"), the interrupts of the external interrupts and the
+-- script of events. That each tick is one count of SysTick is this project's choice, and so is all that is said of the
+-- clock, of interrupts and of scripts (profile).
 use Rattle.std.specs.Prelude.{ℕ, ◌+◌, ◌-◌, ◌%◌, ◌^◌, ◌<◌, min, Bool, true, false, ◌&&◌, ◌||◌, nat_le, ◌==◌, ◌≡◌}
 use Rattle.std.specs.Prelude.{if◌then◌else◌, List, [], ◌∷◌, take, drop, slice_set, slice_index_or, replicate}
 use Rattle.std.specs.List.{prefix_len, list_any}
@@ -34,7 +34,7 @@ pub record Time : Type 0 where
 abbrev pub last_tick : ℕ
 last_tick = 2 ^ 48
 
--- the exception that a interrupt makes pending
+-- the exception that an interrupt makes pending
 abbrev pub interrupt_exception : ℕ → ℕ
 interrupt_exception interrupt = FIRST_INTERRUPT + interrupt
 
@@ -110,7 +110,7 @@ pends (Fall interrupt) n = false
 pends (Pulse interrupt) n = n == interrupt_exception interrupt
 pends Nmi n = n == NMI
 
--- whether a interrupt is high
+-- whether an interrupt is high
 abbrev pub is_high : Time → ℕ → Bool
 is_high t interrupt = slice_index_or t.high interrupt false
 
@@ -137,7 +137,12 @@ tick_pends t n =
 
 -- time at the start
 abbrev pub start_time : List ScriptedEvent → Time
-start_time script = record { ticks = 0; systick = reset_systick; high = replicate MOST_INTERRUPTS false; script = script }
+start_time script = record {
+  ticks = 0;
+  systick = reset_systick;
+  high = replicate MOST_INTERRUPTS false;
+  script = script;
+}
 
 -- Not used by a step, but by the contracts of the crates nvic and clock: the rest of this file
 

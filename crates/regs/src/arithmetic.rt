@@ -3,7 +3,12 @@
 
 ghost use Rattle.std.specs.Prelude.{◌≡◌, ◌<◌, not};
 ghost use Rattle.std.specs.Ordering.{int_eq};
-ghost use Rattle.instruction_set.specs.Arithmetic.{add_with_carry as sum_of, unsigned_sum as unsigned_sum_of, sum_result, signed_sum, signed, shift_c as shift_of, lsl_c as lsl_of, lsr_c as lsr_of, asr_c as asr_of, ror_c as ror_of, rrx_c as rrx_of, rotated as rotated_of, decode_imm_shift as decoded_shift, replicated as replicated_of, expand_imm as expanded};
+ghost use Rattle.instruction_set.specs.Arithmetic.{add_with_carry as sum_of, unsigned_sum as unsigned_sum_of};
+ghost use Rattle.instruction_set.specs.Arithmetic.{sum_result, signed_sum, signed, shift_c as shift_of};
+ghost use Rattle.instruction_set.specs.Arithmetic.{lsl_c as lsl_of, lsr_c as lsr_of, asr_c as asr_of, ror_c as ror_of};
+ghost use Rattle.instruction_set.specs.Arithmetic.{rrx_c as rrx_of, rotated as rotated_of};
+ghost use Rattle.instruction_set.specs.Arithmetic.{decode_imm_shift as decoded_shift, replicated as replicated_of};
+ghost use Rattle.instruction_set.specs.Arithmetic.{expand_imm as expanded};
 ghost use Rattle.instruction_set.specs.Words.{is_bit};
 
 pub use instruction_set::shift::{Shift, ShiftType};

@@ -1,7 +1,11 @@
 //! Conditions and the IT block (ARM DDI 0403, "Conditional execution" and "ITSTATE").
 
 ghost use Rattle.std.specs.Prelude.{◌≡◌};
-ghost use Rattle.instruction_set.specs.Arithmetic.{condition_holds as holds_of, base_condition as base_of, condition_passed as passed_of, in_it_block as in_block_of, last_in_it_block as last_in_block_of, current_condition as current_of, it_advance as advanced, same as same_of};
+ghost use Rattle.instruction_set.specs.Arithmetic.{condition_holds as holds_of, base_condition as base_of};
+ghost use Rattle.instruction_set.specs.Arithmetic.{condition_passed as passed_of, in_it_block as in_block_of};
+ghost use Rattle.instruction_set.specs.Arithmetic.{last_in_it_block as last_in_block_of};
+ghost use Rattle.instruction_set.specs.Arithmetic.{current_condition as current_of, it_advance as advanced};
+ghost use Rattle.instruction_set.specs.Arithmetic.{same as same_of};
 
 use crate::{Flags, Regs};
 

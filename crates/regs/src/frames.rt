@@ -2,7 +2,12 @@
 //! `ExceptionTaken()` and `PopStack()`).
 
 ghost use Rattle.std.specs.Prelude.{◌≡◌, ◌<◌, length};
-ghost use Rattle.instruction_set.specs.Frames.{exc_return as exc_return_of, returns_to_handler as returns_to_handler_of, returns_on_psp as returns_on_psp_of, frame_base, frame as words_of, with_frame, in_handler, frame_pointer, above_frame as above_frame_of, frame_word as frame_word_of, general_popped, it_of as it_of_word, popped};
+ghost use Rattle.instruction_set.specs.Frames.{exc_return as exc_return_of};
+ghost use Rattle.instruction_set.specs.Frames.{returns_to_handler as returns_to_handler_of};
+ghost use Rattle.instruction_set.specs.Frames.{returns_on_psp as returns_on_psp_of, frame_base, frame as words_of};
+ghost use Rattle.instruction_set.specs.Frames.{with_frame, in_handler, frame_pointer, above_frame as above_frame_of};
+ghost use Rattle.instruction_set.specs.Frames.{frame_word as frame_word_of, general_popped, it_of as it_of_word};
+ghost use Rattle.instruction_set.specs.Frames.{popped};
 ghost use Rattle.instruction_set.specs.Registers.{sp};
 
 use crate::{Regs, flags_of, weighed};

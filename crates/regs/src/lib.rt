@@ -3,7 +3,12 @@
 #![tactic(auto)]
 
 ghost use Rattle.std.specs.Prelude.{◌≡◌, ◌<◌, ◌≤◌, ◌-◌, ◌*◌, ◌/◌, ◌^◌};
-ghost use Rattle.instruction_set.specs.Registers.{register as register_of, with_register, with_pc, with_exchange, sp as sp_of, is_handler as is_handler_of, is_privileged as is_privileged_of, apsr as apsr_of, flags_of, xpsr as xpsr_of, control as control_of, weighed as weighed_of, uses_psp as uses_psp_of, with_sp, stack_pointer, reset_registers, control_written};
+ghost use Rattle.instruction_set.specs.Registers.{register as register_of, with_register, with_pc, with_exchange};
+ghost use Rattle.instruction_set.specs.Registers.{sp as sp_of, is_handler as is_handler_of};
+ghost use Rattle.instruction_set.specs.Registers.{is_privileged as is_privileged_of, apsr as apsr_of, flags_of};
+ghost use Rattle.instruction_set.specs.Registers.{xpsr as xpsr_of, control as control_of, weighed as weighed_of};
+ghost use Rattle.instruction_set.specs.Registers.{uses_psp as uses_psp_of, with_sp, stack_pointer, reset_registers};
+ghost use Rattle.instruction_set.specs.Registers.{control_written};
 ghost use Rattle.instruction_set.specs.Words.{word_sum};
 
 use instruction_set::registers::Marked;

@@ -1,5 +1,6 @@
 -- Two texts against one another, and the laws of the rows by computing on the texts alone.
-use Rattle.std.proofs.Common.{◌≡◌, ℕ, Bool, true, false, not, ◌&&◌, ◌||◌, ◌==◌, List, [], ◌∷◌, length, refl, ap, arith, sym, ◌∙◌, inl, inr, bit_and, bit_or}
+use Rattle.std.proofs.Common.{◌≡◌, ℕ, Bool, true, false, not, ◌&&◌, ◌||◌, ◌==◌, List, [], ◌∷◌, length, refl, ap, arith}
+use Rattle.std.proofs.Common.{sym, ◌∙◌, inl, inr, bit_and, bit_or}
 use Rattle.std.specs.List.{list_any, list_all, All, AllPairs}
 use Rattle.std.proofs.lemmas.Bool.{and_parts, and_right, or_cases, eqb-true, both_ways}
 use Rattle.std.proofs.lemmas.Bool.Decides.{nat_tests}

@@ -59,7 +59,8 @@ cps_sound privileged s o h = sound _ (cps_kept parts_kept s privileged o (parts 
 pub deactivated_sound : (s : System) (x : ℕ) → IsSound s → IsSound (deactivated s x)
 deactivated_sound s x h = sound _ (deactivated_kept parts_kept s x (parts s h))
 
-pub reset_sound : (flash_base interrupts bits regions : ℕ) (script : List ScriptedEvent) → (regions ≡ 8) ⊎ (regions ≡ 16)
+pub reset_sound : (flash_base interrupts bits regions : ℕ) (script : List ScriptedEvent) → (regions ≡ 8)
+    ⊎ (regions ≡ 16)
     → IsSortedFrom 1 script → IsSound (reset_system flash_base interrupts bits regions script)
 reset_sound flash_base interrupts bits regions script known sorted = record {
   mpu = sound_at_reset regions known;

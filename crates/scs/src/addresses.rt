@@ -2,7 +2,8 @@
 
 ghost use Rattle.std.specs.Prelude.{◌≡◌, ◌<◌, ◌%◌, ◌^◌};
 ghost use Rattle.instruction_set.specs.Sizes.{bytes_in};
-ghost use Rattle.reference.specs.System.{register_at as register_at_of, has_width as has_width_of, first_byte as first_byte_of, part_of as part_of_word, in_place as in_place_of};
+ghost use Rattle.reference.specs.System.{register_at as register_at_of, has_width as has_width_of};
+ghost use Rattle.reference.specs.System.{first_byte as first_byte_of, part_of as part_of_word, in_place as in_place_of};
 
 use crate::control::control_at;
 use crate::handlers::handler_priority_at;

@@ -1,7 +1,9 @@
 //! ICTR, CPUID, ICSR, AIRCR, SHCSR and STIR.
 
 ghost use Rattle.std.specs.Prelude.{◌≡◌};
-ghost use Rattle.reference.specs.Control.{control_at as control_at_of, rettobase as rettobase_of, icsr as icsr_of, set_or_cleared, write_icsr as write_icsr_of, write_aircr as write_aircr_of, read_control as read_control_of, write_control as write_control_of};
+ghost use Rattle.reference.specs.Control.{control_at as control_at_of, rettobase as rettobase_of, icsr as icsr_of};
+ghost use Rattle.reference.specs.Control.{set_or_cleared, write_icsr as write_icsr_of, write_aircr as write_aircr_of};
+ghost use Rattle.reference.specs.Control.{read_control as read_control_of, write_control as write_control_of};
 ghost use Rattle.scs.specs.Writes.{after_write, answered};
 
 use crate::bits::{is_bit, weighed};
@@ -60,7 +62,8 @@ pub fn write_control<L: Levels>(
     register: ControlRegister,
     value: u32,
 ) -> Result<(), Stop>
-    ensures state { L.content levels.new ≡ after_write (L.content levels.old) (write_control_of (L.content levels.old) register value) }
+    ensures state { L.content levels.new
+        ≡ after_write (L.content levels.old) (write_control_of (L.content levels.old) register value) }
     ensures answer { result ≡ answered (write_control_of (L.content levels.old) register value) }
 {
     match register {
@@ -110,7 +113,8 @@ fn set_or_clear<L: Levels>(levels: &mut L, number: u16, set: bool, clear: bool)
 /// Writes ICSR; a set bit and its clear bit together stop.
 #[tactic(auto, unfolding(reference::specs::Control::write_icsr))]
 fn write_icsr<L: Levels>(levels: &mut L, value: u32) -> Result<(), Stop>
-    ensures state { L.content levels.new ≡ after_write (L.content levels.old) (write_icsr_of (L.content levels.old) value) }
+    ensures state { L.content levels.new
+        ≡ after_write (L.content levels.old) (write_icsr_of (L.content levels.old) value) }
     ensures answer { result ≡ answered (write_icsr_of (L.content levels.old) value) }
 {
     if is_bit(value, 28) && is_bit(value, 27) || is_bit(value, 26) && is_bit(value, 25) {
@@ -125,7 +129,8 @@ fn write_icsr<L: Levels>(levels: &mut L, value: u32) -> Result<(), Stop>
 /// Writes AIRCR: PRIGROUP, or a request that stops.
 #[tactic(auto, unfolding(reference::specs::Control::write_aircr))]
 fn write_aircr<L: Levels>(levels: &mut L, value: u32) -> Result<(), Stop>
-    ensures state { L.content levels.new ≡ after_write (L.content levels.old) (write_aircr_of (L.content levels.old) value) }
+    ensures state { L.content levels.new
+        ≡ after_write (L.content levels.old) (write_aircr_of (L.content levels.old) value) }
     ensures answer { result ≡ answered (write_aircr_of (L.content levels.old) value) }
 {
     if value >> 16 != VECTKEY {

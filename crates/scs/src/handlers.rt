@@ -1,7 +1,12 @@
 //! SHPR1 to SHPR3, and SHCSR.
 
 ghost use Rattle.std.specs.Prelude.{◌≡◌, ◌<◌, ◌^◌};
-ghost use Rattle.reference.specs.Handlers.{handler_priority_at as handler_priority_at_of, handlers_active as handlers_active_of, handlers_pending as handlers_pending_of, handlers_enabled as handlers_enabled_of, with_handlers_pending, with_handlers_enabled, read_shcsr as read_shcsr_of, write_shcsr as write_shcsr_of};
+ghost use Rattle.reference.specs.Handlers.{handler_priority_at as handler_priority_at_of};
+ghost use Rattle.reference.specs.Handlers.{handlers_active as handlers_active_of};
+ghost use Rattle.reference.specs.Handlers.{handlers_pending as handlers_pending_of};
+ghost use Rattle.reference.specs.Handlers.{handlers_enabled as handlers_enabled_of, with_handlers_pending};
+ghost use Rattle.reference.specs.Handlers.{with_handlers_enabled, read_shcsr as read_shcsr_of};
+ghost use Rattle.reference.specs.Handlers.{write_shcsr as write_shcsr_of};
 ghost use Rattle.reference.specs.Priorities.{with_pending, with_enabled};
 ghost use Rattle.scs.specs.Writes.{after_write, answered};
 
@@ -115,7 +120,8 @@ fn set_handlers_enabled<L: Levels>(levels: &mut L, value: u32)
 /// Writes SHCSR; a value with a changed active bit stops, and changes nothing.
 #[tactic(auto, unfolding(reference::specs::Handlers::write_shcsr))]
 pub fn write_shcsr<L: Levels>(levels: &mut L, value: u32) -> Result<(), Stop>
-    ensures state { L.content levels.new ≡ after_write (L.content levels.old) (write_shcsr_of (L.content levels.old) value) }
+    ensures state { L.content levels.new
+        ≡ after_write (L.content levels.old) (write_shcsr_of (L.content levels.old) value) }
     ensures answer { result ≡ answered (write_shcsr_of (L.content levels.old) value) }
 {
     if value & ACTIVE != handlers_active(levels) {

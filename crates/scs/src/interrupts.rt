@@ -1,7 +1,14 @@
 //! ICTR, ISER, ICER, ISPR, ICPR, IABR, IPR and STIR.
 
 ghost use Rattle.std.specs.Prelude.{◌≡◌, ◌<◌, ◌^◌};
-ghost use Rattle.reference.specs.Interrupts.{ictr as ictr_of, interrupts_at as interrupts_at_of, word_number as word_number_of, first_exception as first_exception_of, is_shown as is_shown_of, with_one, with_bit as with_bit_of, read_interrupts as read_interrupts_of, write_interrupts as write_interrupts_of, interrupt_priority_at as interrupt_priority_at_of, read_priorities as read_priorities_of, write_priorities as write_priorities_of, triggered};
+ghost use Rattle.reference.specs.Interrupts.{ictr as ictr_of, interrupts_at as interrupts_at_of};
+ghost use Rattle.reference.specs.Interrupts.{word_number as word_number_of, first_exception as first_exception_of};
+ghost use Rattle.reference.specs.Interrupts.{is_shown as is_shown_of, with_one, with_bit as with_bit_of};
+ghost use Rattle.reference.specs.Interrupts.{read_interrupts as read_interrupts_of};
+ghost use Rattle.reference.specs.Interrupts.{write_interrupts as write_interrupts_of};
+ghost use Rattle.reference.specs.Interrupts.{interrupt_priority_at as interrupt_priority_at_of};
+ghost use Rattle.reference.specs.Interrupts.{read_priorities as read_priorities_of};
+ghost use Rattle.reference.specs.Interrupts.{write_priorities as write_priorities_of, triggered};
 
 use crate::bits::is_bit;
 use nvic::Levels;

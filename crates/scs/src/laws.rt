@@ -15,16 +15,20 @@ ghost use Rattle.scs.specs.Laws.{IsSound};
 /// An access that is a bus error or stops changes nothing in the system.
 #[tactic(auto, using(crate::proofs::Refusals::system_keeps))]
 pub fn refused_access_changes_nothing()
-    ensures { (x : ℕ) (s : System) (q : Request) → LeavesUnlessDone (system_access x s q).answer s (system_access x s q).system }
+    ensures { (x : ℕ) (s : System) (q : Request)
+        → LeavesUnlessDone (system_access x s q).answer s (system_access x s q).system }
 {}
 
 /// The system is sound after a reset, and stays so in each access, tick, MSR, CPS and return from an
 /// exception.
 pub fn system_stays_sound()
-    ensures reset { (flash_base interrupts bits regions : ℕ) (script : List TheEvent) → (regions ≡ 8) ⊎ (regions ≡ 16) → IsSortedFrom 1 script → IsSound (reset_system flash_base interrupts bits regions script) }
+    ensures reset { (flash_base interrupts bits regions : ℕ) (script : List TheEvent) → (regions ≡ 8) ⊎ (regions ≡ 16)
+        → IsSortedFrom 1 script → IsSound (reset_system flash_base interrupts bits regions script) }
     ensures access { (x : ℕ) (s : System) (q : Request) → IsSound s → IsSound (system_access x s q).system }
     ensures tick { (s : System) → IsSound s → IsSound (after_tick s) }
-    ensures msr { (privileged : Bool) (s : System) (special : SpecialRegister) (value : ℕ) → IsSound s → IsSound (with_nvic s (write_mask privileged s.nvic special value)) }
-    ensures cps { (privileged : Bool) (s : System) (o : ChangeProcessorState) → IsSound s → IsSound (with_nvic s (change_state privileged s.nvic o)) }
+    ensures msr { (privileged : Bool) (s : System) (special : SpecialRegister) (value : ℕ) → IsSound s
+        → IsSound (with_nvic s (write_mask privileged s.nvic special value)) }
+    ensures cps { (privileged : Bool) (s : System) (o : ChangeProcessorState) → IsSound s
+        → IsSound (with_nvic s (change_state privileged s.nvic o)) }
     ensures deactivation { (s : System) (x : ℕ) → IsSound s → IsSound (deactivated s x) }
 {}

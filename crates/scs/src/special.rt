@@ -2,7 +2,12 @@
 
 ghost use Rattle.std.specs.Prelude.{◌≡◌};
 ghost use Rattle.reference.specs.Priorities.{kept as kept_of};
-ghost use Rattle.reference.specs.SpecialRegisters.{is_hidden as is_hidden_of, special_value as special_value_of, read_special as read_special_of, is_open as is_open_of, with_special, write_special as write_special_of, faultmask_written, is_tighter as is_tighter_of, basepri_max_written, with_mask as with_mask_of, write_mask as write_mask_of, change_state as change_state_of};
+ghost use Rattle.reference.specs.SpecialRegisters.{is_hidden as is_hidden_of, special_value as special_value_of};
+ghost use Rattle.reference.specs.SpecialRegisters.{read_special as read_special_of, is_open as is_open_of};
+ghost use Rattle.reference.specs.SpecialRegisters.{with_special, write_special as write_special_of, faultmask_written};
+ghost use Rattle.reference.specs.SpecialRegisters.{is_tighter as is_tighter_of, basepri_max_written};
+ghost use Rattle.reference.specs.SpecialRegisters.{with_mask as with_mask_of, write_mask as write_mask_of};
+ghost use Rattle.reference.specs.SpecialRegisters.{change_state as change_state_of};
 
 use instruction_set::operands::{ChangeProcessorState, SpecialRegister};
 use nvic::{Levels, Masks, Priority};

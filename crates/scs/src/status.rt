@@ -1,7 +1,9 @@
 //! VTOR, SCR, CCR, CFSR, HFSR, MMFAR and BFAR.
 
 ghost use Rattle.std.specs.Prelude.{◌≡◌};
-ghost use Rattle.reference.specs.Status.{has_parts as has_parts_of, status_at as status_at_of, reset_status, nonbasethrdena, usersetmpend, unalign_trp, div_0_trp, read_status, write_status, write_scr, write_ccr, with_fault_bits, with_mmfar, with_bfar};
+ghost use Rattle.reference.specs.Status.{has_parts as has_parts_of, status_at as status_at_of, reset_status};
+ghost use Rattle.reference.specs.Status.{nonbasethrdena, usersetmpend, unalign_trp, div_0_trp, read_status};
+ghost use Rattle.reference.specs.Status.{write_status, write_scr, write_ccr, with_fault_bits, with_mmfar, with_bfar};
 ghost use Rattle.scs.specs.Writes.{after_write, answered};
 
 use crate::bits::is_bit;

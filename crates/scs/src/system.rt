@@ -5,7 +5,8 @@ ghost use Rattle.clock.specs.DueTicks.{IsRight};
 ghost use Rattle.instruction_set.specs.Registers.{is_privileged};
 ghost use Rattle.instruction_set.specs.Sizes.{bytes_in};
 ghost use Rattle.reference.specs.Answers.{IsNarrow, LeavesUnlessDone};
-ghost use Rattle.reference.specs.System.{reset_system, after_tick, deactivated, after_read, register_written, register_access, system_access, with_nvic, mpu_written};
+ghost use Rattle.reference.specs.System.{reset_system, after_tick, deactivated, after_read, register_written};
+ghost use Rattle.reference.specs.System.{register_access, system_access, with_nvic, mpu_written};
 ghost use Rattle.reference.specs.System as spec;
 ghost use Rattle.reference.specs.Interrupts.{write_priorities as write_priorities_of};
 ghost use Rattle.reference.specs.Regions.{is_on, shown, write as write_mpu_of};
@@ -150,7 +151,8 @@ impl<D: Decider, L: Levels, U: DueTicks> System<D, L, U> {
     /// grants it.
     #[inline(always)]
     pub fn decide(&mut self, access: &Access) -> Decision
-        ensures value { result ≡ decision_of self.old.mpu access.now.address access.now.kind access.now.privileged (is_below_zero self.old.nvic) }
+        ensures value { result ≡ decision_of self.old.mpu access.now.address access.now.kind access.now.privileged
+            (is_below_zero self.old.nvic) }
         ensures same { self.new ≡ self.old }
     {
         let below_zero = self.levels.is_below_zero();
@@ -161,7 +163,9 @@ impl<D: Decider, L: Levels, U: DueTicks> System<D, L, U> {
     /// Returns the rule that grants an access at the current execution priority, if that is kept.
     #[inline(always)]
     pub fn kept_rule(&self, access: &Access) -> Option<Rule>
-        ensures { IfSome result (λ rule. decision_of self.now.mpu access.now.address access.now.kind access.now.privileged (is_below_zero self.now.nvic) ≡ record { rule = rule; granted = true }) }
+        ensures { IfSome result
+            (λ rule. decision_of self.now.mpu access.now.address access.now.kind access.now.privileged
+            (is_below_zero self.now.nvic) ≡ record { rule = rule; granted = true }) }
     {
         if self.levels.is_below_zero() {
             return None;
@@ -212,7 +216,8 @@ impl<D: Decider, L: Levels, U: DueTicks> System<D, L, U> {
     /// Writes a special register as MSR does, with the privilege of `regs`.
     pub fn write_special(&mut self, regs: &mut Regs, register: SpecialRegister, value: u32)
         ensures registers { regs.new ≡ special.write_special regs.old register value }
-        ensures system { self.new ≡ with_nvic self.old (special.write_mask (is_privileged regs.old) self.old.nvic register value) }
+        ensures system { self.new ≡ with_nvic self.old
+            (special.write_mask (is_privileged regs.old) self.old.nvic register value) }
     {
         special::write_mask(&mut self.levels, regs.is_privileged(), register, value);
         special::write_special(regs, register, value);
@@ -407,7 +412,10 @@ impl<D: Decider, L: Levels, U: DueTicks> System<D, L, U> {
 
     /// Writes priority bytes, as many as the access moves.
     fn write_priorities(&mut self, request: &Request, first: u8)
-        ensures { self.new ≡ with_nvic self.old (write_priorities_of self.old.nvic (first + spec.first_byte request.now.access.size request.now.access.address) request.now.value (bytes_in request.now.access.size)) }
+        ensures { self.new ≡ with_nvic self.old
+            (write_priorities_of self.old.nvic
+            (first + spec.first_byte request.now.access.size request.now.access.address) request.now.value
+            (bytes_in request.now.access.size)) }
     {
         let number = u16::from(first) + first_byte(request) as u16;
         write_priorities(
@@ -420,7 +428,8 @@ impl<D: Decider, L: Levels, U: DueTicks> System<D, L, U> {
 
     /// Writes a register of the MPU, and reloads the decider.
     fn write_mpu(&mut self, register: MpuRegister, value: u32) -> Result<(), Stop>
-        ensures system { self.new ≡ after_write self.old (mpu_written self.old (write_mpu_of self.old.mpu register value)) }
+        ensures system { self.new ≡ after_write self.old
+            (mpu_written self.old (write_mpu_of self.old.mpu register value)) }
         ensures answer { result ≡ answered (mpu_written self.old (write_mpu_of self.old.mpu register value)) }
     {
         match self.mpu.write_reg(register, value) {

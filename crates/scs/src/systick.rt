@@ -2,7 +2,8 @@
 
 ghost use Rattle.std.specs.Prelude.{◌≡◌};
 ghost use Rattle.clock.specs.DueTicks.{IsRight};
-ghost use Rattle.reference.specs.SysTickRegisters.{systick_at as systick_at_of, read_systick as read_systick_of, after_systick_read, write_systick as write_systick_of};
+ghost use Rattle.reference.specs.SysTickRegisters.{systick_at as systick_at_of, read_systick as read_systick_of};
+ghost use Rattle.reference.specs.SysTickRegisters.{after_systick_read, write_systick as write_systick_of};
 
 use clock::{Clock, DueTicks};
 use reference::system::SysTickRegister;
@@ -21,11 +22,12 @@ pub fn systick_at(word: u32) -> Option<SysTickRegister>
 }
 
 /// Reads a register; a read of SYST_CSR clears COUNTFLAG.
-#[tactic(auto, unfolding(reference::specs::SysTickRegisters::read_systick, reference::specs::SysTickRegisters::after_systick_read))]
+#[tactic(auto, unfolding(reference::specs::SysTickRegisters::read_systick, reference::specs::SysTickRegisters::after_systick_read),)]
 pub fn read_systick<U: DueTicks>(clock: &mut Clock<U>, register: SysTickRegister) -> u32
     requires { IsRight clock.old }
     ensures value { result ≡ read_systick_of clock.old.time.systick register }
-    ensures time { clock.new.time ≡ record clock.old.time { systick = after_systick_read clock.old.time.systick register } }
+    ensures time { clock.new.time
+        ≡ record clock.old.time { systick = after_systick_read clock.old.time.systick register } }
     ensures right { IsRight clock.new }
 {
     match register {
@@ -38,7 +40,8 @@ pub fn read_systick<U: DueTicks>(clock: &mut Clock<U>, register: SysTickRegister
 /// Writes a register.
 #[tactic(auto, unfolding(reference::specs::SysTickRegisters::write_systick))]
 pub fn write_systick<U: DueTicks>(clock: &mut Clock<U>, register: SysTickRegister, value: u32)
-    ensures time { clock.new.time ≡ record clock.old.time { systick = write_systick_of clock.old.time.systick register value } }
+    ensures time { clock.new.time
+        ≡ record clock.old.time { systick = write_systick_of clock.old.time.systick register value } }
     ensures right { IsRight clock.new }
 {
     match register {

@@ -39,7 +39,8 @@ pub perform_whole : (interrupts bits x : ℕ) (b : Bus) (q : Request) → IsWhol
 unfolding perform
 perform_whole interrupts bits x b q h = decided_whole interrupts bits x b q (decision b q) _ refl h
 
-followed_whole : (interrupts bits : ℕ) (events : List Event) (after : Bus) (value : Result ℕ Failure) (rest : ListResult) →
+followed_whole : (interrupts bits : ℕ) (events : List Event) (after : Bus) (value : Result ℕ Failure)
+    (rest : ListResult) →
     IsWholeBus interrupts bits after → IsWholeBus interrupts bits rest.bus →
     IsWholeBus interrupts bits (followed events after value rest).bus
 followed_whole interrupts bits events after (Ok value) rest first others = others

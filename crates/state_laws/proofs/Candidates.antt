@@ -76,7 +76,8 @@ pended_calls n test h = pended_kept Calls test (λ m x e. pending_calls m x) n h
 -- ---- a fault
 
 -- x, which is enabled and preempts, becomes pending
-raised_calls : (n : Nvic) (x : ℕ) → length n.pending ≡ EXCEPTIONS → x < EXCEPTIONS → is_exception n.interrupts x ≡ true →
+raised_calls : (n : Nvic) (x : ℕ) → length n.pending ≡ EXCEPTIONS → x < EXCEPTIONS → is_exception n.interrupts x ≡ true
+    →
     is_enabled n x ≡ true → group_priority n x < execution_priority n → Calls (with_pending n x true)
 raised_calls n x places small exists enabled above =
     cond_both (is_exception n.interrupts x) _ _ (λ p. Calls (record n { pending = p }))

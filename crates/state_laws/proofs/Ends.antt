@@ -86,7 +86,8 @@ record IsGood (interrupts bits : ℕ) (s : State) : Type 0 where
 abbrev IsPlaced : ℕ → ℕ → Result State PlaceError → Type 0
 IsPlaced interrupts bits = IfGiven (IsGood interrupts bits)
 
-special_placed : (interrupts bits : ℕ) (s : State) (special : Option SpecialRegister) (value : ℕ) → IsGood interrupts bits s →
+special_placed : (interrupts bits : ℕ) (s : State) (special : Option SpecialRegister) (value : ℕ)
+    → IsGood interrupts bits s →
     IsPlaced interrupts bits (special_taken s special value)
 special_placed interrupts bits s None value h = tt
 special_placed interrupts bits s (Some special) value h = record {
@@ -95,13 +96,15 @@ special_placed interrupts bits s (Some special) value h = record {
   system = (placed_kept (parts_kept interrupts bits) s.bus.system special value h.system.0, h.system.1);
 }
 
-register_placed : (interrupts bits : ℕ) (s : State) (after : Bus) (a : Answer) → HasRegisters s.registers → s.entry ≡ None →
+register_placed : (interrupts bits : ℕ) (s : State) (after : Bus) (a : Answer) → HasRegisters s.registers → s.entry
+    ≡ None →
     IsWholeBus interrupts bits after → IsPlaced interrupts bits (register_taken s after a)
 register_placed interrupts bits s after (answer.Value value) r out h = record { registers = r; entry = out; system = h }
 register_placed interrupts bits s after answer.Error r out h = tt
 register_placed interrupts bits s after (answer.Stop why) r out h = tt
 
-taken_placed : (interrupts bits : ℕ) (s : State) (p : Place) → IsGood interrupts bits s → IsPlaced interrupts bits (taken s p)
+taken_placed : (interrupts bits : ℕ) (s : State) (p : Place) → IsGood interrupts bits s
+    → IsPlaced interrupts bits (taken s p)
 taken_placed interrupts bits s (Reg number value) h =
     record {
       registers = register_kept writes_kept s.registers number value h.registers;
@@ -131,7 +134,8 @@ unfolding place
 placed interrupts bits s p r h =
     cond_both (not (is_word_aligned p)) _ _ (IsPlaced interrupts bits) (λ e. tt)
     (λ e. cond_both (not (is_there s.bus.memory p)) _ _ (IsPlaced interrupts bits) (λ f. tt)
-    (λ f. cond_both (is_some s.stop || is_some s.entry || is_handler s.registers) _ _ (IsPlaced interrupts bits) (λ g. tt)
+    (λ f. cond_both (is_some s.stop || is_some s.entry || is_handler s.registers) _ _ (IsPlaced interrupts bits)
+    (λ g. tt)
     (λ g. taken_placed interrupts bits s p (record {
       registers = r;
       entry = no_entry (is_some s.stop) s.entry (is_handler s.registers) g;
@@ -175,13 +179,15 @@ start_gives board image h =
       memory = start_apart board.numbers image h.flash;
       system =
           sound (min board.numbers.interrupts MOST_INTERRUPTS) board.numbers.priority_bits
-          (reset_system board.numbers.flash_base board.numbers.interrupts board.numbers.priority_bits board.numbers.regions
+          (reset_system board.numbers.flash_base board.numbers.interrupts board.numbers.priority_bits
+          board.numbers.regions
           board.script)
           (record {
             nvic = board_at_reset board.numbers.interrupts board.numbers.priority_bits;
             time =
                 timely_at_start (min board.numbers.interrupts MOST_INTERRUPTS) board.script
-                (subst (λ interrupts. IsScriptFrom interrupts 1 board.script) (sym (all_interrupts board.numbers.interrupts h.interrupts))
+                (subst (λ interrupts. IsScriptFrom interrupts 1 board.script)
+                (sym (all_interrupts board.numbers.interrupts h.interrupts))
                 h.script);
             mpu = sound_at_reset board.numbers.regions (regions_known board.numbers.regions h.regions);
           });

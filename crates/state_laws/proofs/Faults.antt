@@ -79,7 +79,8 @@ module _ (interrupts bits : ℕ) where
 
   pended_good : (s : State) (x : ℕ) → IsGood s → IsGood (pended s x)
   pended_good s x h =
-      with_system_good s (pended s x).bus.system (pending_kept (parts_kept interrupts bits) s.bus.system x true h.bus.0) h
+      with_system_good s (pended s x).bus.system
+      (pending_kept (parts_kept interrupts bits) s.bus.system x true h.bus.0) h
 
   -- ---- the end of a step
 
@@ -145,7 +146,8 @@ module _ (interrupts bits : ℕ) where
       (rw (ap (λ (t : System). is_some (candidate t.nvic)) (pushes_leave s)) c)
       (record {
         registers = sp_kept writes_kept s.registers (frame_base (sp s.registers)) h.registers;
-        bus = served_whole interrupts bits s.registers.exception s.bus.system.time.ticks s.bus (pushes s.registers) h.bus;
+        bus = served_whole interrupts bits s.registers.exception s.bus.system.time.ticks s.bus
+            (pushes s.registers) h.bus;
       })
 
   refused_good : (s : State) (events : List Event) (x : ℕ) → Calls s.bus.system.nvic → IsGood s →

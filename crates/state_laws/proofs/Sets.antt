@@ -67,7 +67,8 @@ enabled_kept : (interrupts bits : ℕ) (n : Nvic) (x : ℕ) (on : Bool) → HasB
     HasBoard interrupts bits (with_enabled n x on)
 enabled_kept interrupts bits n x on h =
     cond_both (can_be_disabled n.interrupts x) _ _ (λ m. IsOfBoard m → HasBoard interrupts bits m)
-    (λ e. same_bytes interrupts bits n _ refl refl refl refl h) (λ e. same_bytes interrupts bits n _ refl refl refl refl h)
+    (λ e. same_bytes interrupts bits n _ refl refl refl refl h)
+    (λ e. same_bytes interrupts bits n _ refl refl refl refl h)
     (enabled_of_board n x on h.board)
 
 priority_kept : (interrupts bits : ℕ) (n : Nvic) (x b : ℕ) → b < 2 ^ 8 → HasBoard interrupts bits n →
@@ -112,7 +113,8 @@ board_kept interrupts bits = record {
 no_byte : (b : ℕ) → b ≡ 0 → b < 2 ^ 8
 no_byte b e = omega arith
 
-pub board_at_reset : (interrupts bits : ℕ) → HasBoard (reset_nvic interrupts bits).interrupts bits (reset_nvic interrupts bits)
+pub board_at_reset : (interrupts bits : ℕ)
+    → HasBoard (reset_nvic interrupts bits).interrupts bits (reset_nvic interrupts bits)
 board_at_reset interrupts bits = record {
   same_interrupts = refl;
   same_bits = refl;

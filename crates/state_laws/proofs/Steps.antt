@@ -59,8 +59,11 @@ module _ (interrupts bits : ℕ) where
       out_good interrupts bits _ out
       (record {
         registers = write_special_kept s.registers special value h.registers;
-        bus =
-            (msr_kept (parts_kept interrupts bits) s.bus.system (is_privileged s.registers) special value h.bus.0, h.bus.1);
+        bus = (
+          msr_kept (parts_kept interrupts bits) s.bus.system
+              (is_privileged s.registers) special value h.bus.0,
+          h.bus.1,
+        );
       })
   ended_good s events (ending.ChangeState o) out h =
       out_good interrupts bits _ out
@@ -80,11 +83,13 @@ module _ (interrupts bits : ℕ) where
   -- ---- its accesses
 
   end_good : (s : State) (events : List Event) (i : CodedInstruction) (all : ListResult) (end : Option Failure) →
-      s.entry ≡ None → IsGood interrupts bits (with_bus s all.bus) → LeavesGood interrupts bits (served s events i all end)
+      s.entry ≡ None → IsGood interrupts bits (with_bus s all.bus)
+      → LeavesGood interrupts bits (served s events i all end)
   end_good s events i all None out h =
       finished_good (with_bus s all.bus) (events ++ all.events) (result_of i s.registers all.values)
       (result_kept writes_kept i s.registers all.values h.registers) out h
-  end_good s events i all (Some why) out h = failed_good interrupts bits (with_bus s all.bus) (events ++ all.events) why h
+  end_good s events i all (Some why) out h = failed_good interrupts bits (with_bus s all.bus)
+      (events ++ all.events) why h
 
   performed_good : (s : State) (events : List Event) (i : CodedInstruction) (qs : List Request) → s.entry ≡ None →
       IsGood interrupts bits s → LeavesGood interrupts bits (performed_all s events i qs)
@@ -122,7 +127,8 @@ module _ (interrupts bits : ℕ) where
   -- an access
   after_one : (s : State) (q : Request) → IsGood interrupts bits s →
       IsGood interrupts bits (with_bus s (perform s.registers.exception s.bus q).bus)
-  after_one s q h = with_bus_good interrupts bits s _ (perform_whole interrupts bits s.registers.exception s.bus q h.bus) h
+  after_one s q h = with_bus_good interrupts bits s _
+      (perform_whole interrupts bits s.registers.exception s.bus q h.bus) h
 
   second_good : (s : State) (events : List Event) (hw1 : ℕ) (answer : Result ℕ Failure) → s.entry ≡ None →
       IsGood interrupts bits s → LeavesGood interrupts bits (fetched_second s events hw1 answer)
@@ -137,12 +143,14 @@ module _ (interrupts bits : ℕ) where
       (λ long. second_good _ _ hw1 _ out (after_one s (fetching s.registers (word_sum s.registers.pc 2)) h))
       (λ short. executed_good s events Short _ out h)
 
-  first_good : (s : State) (events : List Event) (answer : Result ℕ Failure) → s.entry ≡ None → IsGood interrupts bits s →
+  first_good : (s : State) (events : List Event) (answer : Result ℕ Failure) → s.entry ≡ None → IsGood interrupts bits s
+      →
       LeavesGood interrupts bits (fetched_first s events answer)
   first_good s events (Ok hw1) out h = with_second_good s events hw1 out h
   first_good s events (Err why) out h = failed_good interrupts bits s events why h
 
-  instruction_good : (s : State) → s.entry ≡ None → IsGood interrupts bits s → LeavesGood interrupts bits (instruction s)
+  instruction_good : (s : State) → s.entry ≡ None → IsGood interrupts bits s
+      → LeavesGood interrupts bits (instruction s)
   unfolding instruction
   instruction_good s out h =
       cond_both s.registers.thumb _ _ (LeavesGood interrupts bits)
@@ -165,7 +173,8 @@ module _ (interrupts bits : ℕ) where
   unfolding after_tick
   tick_calls s c = pended_calls s.nvic (tick_pends s.time) c
 
-  running_good : (s : State) → s.stop ≡ None → IsCalled s → IsGood interrupts bits s → LeavesGood interrupts bits (running s)
+  running_good : (s : State) → s.stop ≡ None → IsCalled s → IsGood interrupts bits s
+      → LeavesGood interrupts bits (running s)
   running_good s going c h =
       cond_both (nat_le last_tick s.bus.system.time.ticks) _ _ (LeavesGood interrupts bits)
       (λ late. record { good = h; called = λ stop entry. some_none _ _ stop })

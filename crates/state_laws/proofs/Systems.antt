@@ -26,4 +26,5 @@ parts_kept interrupts bits = record {
 
 pub tick_whole : (interrupts bits : ℕ) (s : System) → s.time.ticks < last_tick → IsWhole interrupts bits s →
     IsWhole interrupts bits (after_tick s)
-tick_whole interrupts bits s early h = tick_kept (parts_kept interrupts bits) s (tick_timely interrupts s.time early h.time) h
+tick_whole interrupts bits s early h = tick_kept (parts_kept interrupts bits) s
+    (tick_timely interrupts s.time early h.time) h

@@ -22,7 +22,8 @@ pub record IsTimely (interrupts : ℕ) (t : Time) : Type 0 where
 
 -- ---- the script
 
-sorted : (interrupts tick : ℕ) (script : List ScriptedEvent) → IsScriptFrom interrupts tick script → IsSortedFrom tick script
+sorted : (interrupts tick : ℕ) (script : List ScriptedEvent) → IsScriptFrom interrupts tick script
+    → IsSortedFrom tick script
 sorted interrupts tick [] s = tt
 sorted interrupts tick (e ∷ events) s = (s.0, sorted interrupts e.at events s.3)
 
@@ -62,7 +63,8 @@ with_timer interrupts t timer bits h = record {
   ahead = record { script = h.ahead.script; high = h.ahead.high };
 }
 
-pub tick_timely : (interrupts : ℕ) (t : Time) → t.ticks < last_tick → IsTimely interrupts t → IsTimely interrupts (time_after_tick t)
+pub tick_timely : (interrupts : ℕ) (t : Time) → t.ticks < last_tick → IsTimely interrupts t
+    → IsTimely interrupts (time_after_tick t)
 unfolding time_after_tick
 tick_timely interrupts t early h = record {
   clock = omega arith;

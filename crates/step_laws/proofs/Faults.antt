@@ -28,7 +28,8 @@ use Rattle.reference.specs.Priorities.{is_fixed}
 use Rattle.reference.specs.State.{State, Stepped}
 use Rattle.reference.specs.Status.{Status, with_fault_bits}
 use Rattle.step_laws.specs.AccessLaw.{NoneRefused, IsLineOf, EndsRefused, OneRefusal, OnlyCovered}
-use Rattle.step_laws.proofs.Lines.{unrefused-nil, unrefused-cons, unrefused-append, LastRefused, EndIn, covered-more, covered-same}
+use Rattle.step_laws.proofs.Lines.{unrefused-nil, unrefused-cons, unrefused-append, LastRefused, EndIn, covered-more}
+use Rattle.step_laws.proofs.Lines.{covered-same}
 
 -- what holds of a step that began with this memory
 pub record IsLawful (old : Memory) (step : Stepped) : Type 0 where

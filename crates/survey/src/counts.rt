@@ -1,7 +1,8 @@
 //! Counters of accesses, by rule, privilege, kind and outcome.
 
 ghost use Rattle.std.specs.Prelude.{◌≡◌, ◌<◌, ◌+◌, length, replicate, IfOk};
-ghost use Rattle.survey.specs.Counts.{counted_at, kind_number, number_of, outcome_number, place_of, place_of_access, privilege_number, rule_number, way_of, with_access};
+ghost use Rattle.survey.specs.Counts.{counted_at, kind_number, number_of, outcome_number, place_of, place_of_access};
+ghost use Rattle.survey.specs.Counts.{privilege_number, rule_number, way_of, with_access};
 
 use reference::access::{Cause, DecidedAccess, Kind, Rule};
 use std::alloc::{AllocError, Global};

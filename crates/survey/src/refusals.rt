@@ -1,7 +1,8 @@
 //! The accesses that were refused.
 
 ghost use Rattle.std.specs.Prelude.{◌≡◌, ◌<◌, ◌≤◌, length, take, IfOk, None};
-ghost use Rattle.survey.specs.Refusals.{is_same, is_same_access, is_same_fault, with_decided, with_end, with_fault, with_refusal};
+ghost use Rattle.survey.specs.Refusals.{is_same, is_same_access, is_same_fault, with_decided, with_end, with_fault};
+ghost use Rattle.survey.specs.Refusals.{with_refusal};
 
 use crate::counts::place_of_access;
 use crate::refusal::Refusal;

@@ -2,7 +2,8 @@
 
 ghost use Rattle.std.specs.Prelude.{◌≡◌, ◌<◌, ◌≤◌, ◌+◌, ◌^◌, [], length, IfOk, replicate};
 ghost use Rattle.instruction_set.specs.Words.{is_bit};
-ghost use Rattle.survey.specs.Timeline.{begun, has_mark, joined, handled, joined_to, lane_in, mark_number, marked, ran, with_accessed_mark, with_column, with_handler, with_tick};
+ghost use Rattle.survey.specs.Timeline.{begun, has_mark, joined, handled, joined_to, lane_in, mark_number, marked, ran};
+ghost use Rattle.survey.specs.Timeline.{with_accessed_mark, with_column, with_handler, with_tick};
 
 use crate::mark::{MOST_LANES, Mark};
 use crate::moment::Moment;

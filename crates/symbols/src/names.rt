@@ -73,7 +73,8 @@ impl<'a> Symbols<'a> {
     /// no symbol covers the address, or where the name is no UTF-8.
     pub fn name_at(&self, address: u32) -> Option<(&'a str, u32)>
         ensures some { IfSome result (λ it. NamesAt self.now.strings.now self.now.list.items address it.0.now it.1) }
-        ensures none { MatchOption result (IsNamelessAt self.now.strings.now self.now.list.items address) (λ _. Unit {0}) }
+        ensures none { MatchOption result (IsNamelessAt self.now.strings.now self.now.list.items address)
+            (λ _. Unit {0}) }
     {
         match self.symbol_at(address) {
             None => None,

@@ -1,7 +1,8 @@
 //! Where the symbol table of a file and its string table are ("Section Header", "Symbol Table").
 
 ghost use Rattle.std.specs.Prelude.{◌≡◌, ◌+◌, ◌*◌, ◌≤◌, ◌<◌, length, IfSome};
-ghost use Rattle.symbols.specs.Tables.{e_shentsize, e_shnum, e_shoff, found_at, has_headers, is_elf, is_whole, linked, or_header, places_of, symbol_header};
+ghost use Rattle.symbols.specs.Tables.{e_shentsize, e_shnum, e_shoff, found_at, has_headers, is_elf, is_whole, linked};
+ghost use Rattle.symbols.specs.Tables.{or_header, places_of, symbol_header};
 ghost use Rattle.symbols.specs.Found.{AreInside};
 
 use crate::number::{halfword, word};

@@ -1,7 +1,8 @@
 //! The symbols of a table ("Symbol Table").
 
 ghost use Rattle.std.specs.Prelude.{◌≡◌, ◌+◌, ◌*◌, ◌≤◌, length, slice_index, IfOk, OnOk};
-ghost use Rattle.symbols.specs.Tables.{has_section, is_mapping, names_address, or_symbol, symbol_at, symbols_of, address_of};
+ghost use Rattle.symbols.specs.Tables.{has_section, is_mapping, names_address, or_symbol, symbol_at, symbols_of};
+ghost use Rattle.symbols.specs.Tables.{address_of};
 
 use crate::number::{halfword, word};
 use crate::places::SYMBOL_SIZE;

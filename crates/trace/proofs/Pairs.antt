@@ -1,5 +1,6 @@
 -- The table of the pairs of hexadecimal digits.
-use Rattle.std.proofs.Common.{◌≡◌, ℕ, zero, suc, ◌+◌, ◌-◌, ◌*◌, ◌/◌, ◌%◌, ◌^◌, ◌<◌, Bool, true, ◌&&◌, T, eqb, get_or, inl}
+use Rattle.std.proofs.Common.{◌≡◌, ℕ, zero, suc, ◌+◌, ◌-◌, ◌*◌, ◌/◌, ◌%◌, ◌^◌, ◌<◌, Bool, true, ◌&&◌, T, eqb, get_or}
+use Rattle.std.proofs.Common.{inl}
 use Rattle.std.proofs.Common.{inr, arith, eq-zero-or-pos, eqb→eq, refl}
 use lib.Ieee.Fits.{and_l, and_r}
 use Rattle.reference.specs.Text.{hex_digit}

@@ -15,7 +15,8 @@ use Rattle.reference.specs.State.{State}
 use Rattle.reference.specs.Text.{line, lines}
 use Rattle.trace.specs.declared.selection.TraceSelection.{TraceSelection}
 use Rattle.trace.specs.declared.selection.TraceSelection.TheVariants as which
-use Rattle.trace.specs.Selection.{byte_of, last_printed, printed, selected_events, selected_text, selected_trace, selects}
+use Rattle.trace.specs.Selection.{byte_of, last_printed, printed, selected_events, selected_text, selected_trace}
+use Rattle.trace.specs.Selection.{selects}
 use Rattle.trace.specs.Selection.{text_as, writes_bytes}
 
 -- the lines of more events follow those of the first

@@ -1,7 +1,8 @@
 //! The lines of events and of stops.
 
 ghost use Rattle.std.specs.Prelude.{◌≡◌, ◌+◌, ◌≤◌, ◌++◌, length, codes, decimal};
-ghost use Rattle.reference.specs.declared.event.EventKind.TheVariants.{Accessed, ConsoleByte, ReturnBegan, HandlerEntered, FaultRecorded};
+ghost use Rattle.reference.specs.declared.event.EventKind.TheVariants.{Accessed, ConsoleByte, ReturnBegan};
+ghost use Rattle.reference.specs.declared.event.EventKind.TheVariants.{HandlerEntered, FaultRecorded};
 ghost use Rattle.reference.specs.Text.{line, stop_line as line_of_stop, stop_text, outcome_text, rule_text, line_feed};
 ghost use Rattle.trace.specs.Tails.{access_head, tail};
 
@@ -149,7 +150,8 @@ impl<const ROOM: usize> Page<ROOM> {
     #[inline(always)]
     fn put_head(&mut self, digits: &mut LineDigits, decided: &DecidedAccess)
         requires { length self.old + HEAD_ROOM ≤ ROOM }
-        ensures text { self.new ≡ self.old ++ (access_head decided.now.access ++ (outcome_text decided.now.refused ++ codes " ")) }
+        ensures text { self.new ≡ self.old ++
+            (access_head decided.now.access ++ (outcome_text decided.now.refused ++ codes " ")) }
         ensures short { length self.new ≤ length self.old + HEAD_ROOM }
     {
         match decided.refused {
@@ -164,7 +166,8 @@ impl<const ROOM: usize> Page<ROOM> {
     #[tactic(auto, unfolding(crate::specs::Tails::access_head))]
     fn put_rare_head(&mut self, decided: DecidedAccess)
         requires { length self.old + HEAD_ROOM ≤ ROOM }
-        ensures text { self.new ≡ self.old ++ (access_head decided.access ++ (outcome_text decided.refused ++ codes " ")) }
+        ensures text { self.new ≡ self.old ++
+            (access_head decided.access ++ (outcome_text decided.refused ++ codes " ")) }
         ensures short { length self.new ≤ length self.old + HEAD_ROOM }
     {
         let access = &decided.access;

@@ -54,7 +54,8 @@ impl TraceSelection {
     /// byte was printed, or where the bytes themselves aren't written.
     #[inline(always)]
     pub fn last_after(self, before: Option<u8>, event: &Event) -> Option<u8>
-        ensures { (events : List Event) → before ≡ last_printed self events → result ≡ last_printed self (events ++ event.now ∷ []) }
+        ensures { (events : List Event) → before ≡ last_printed self events → result
+            ≡ last_printed self (events ++ event.now ∷ []) }
     {
         match self {
             TraceSelection::Console => byte_of(&event.what).or(before),
@@ -68,7 +69,8 @@ impl TraceSelection {
     /// Returns the last byte printed by some events and later ones, from the last one of each.
     #[inline(always)]
     pub fn last_of(self, before: Option<u8>, later: Option<u8>) -> Option<u8>
-        ensures { (events more : List Event) → before ≡ last_printed self events → later ≡ last_printed self more → result ≡ last_printed self (events ++ more) }
+        ensures { (events more : List Event) → before ≡ last_printed self events → later ≡ last_printed self more
+            → result ≡ last_printed self (events ++ more) }
     {
         match self {
             TraceSelection::Console => later.or(before),

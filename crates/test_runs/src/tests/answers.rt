@@ -53,11 +53,16 @@ out Arguments:
 out   <IMAGE>  The image: an ELF file for ARM of at most 16 MiB, linked to run
 out
 out Options:
-out       --board <FILE>   The board: a TOML file of at most 16 MiB with the memory sizes, the interrupt lines and the events
-out       --steps <N>      The most steps (instructions, halves of exception entries, idle ticks) to make, from 0 to 4294967296
-out       --trace <WHICH>  Which lines are written, before the line of the stop: all (the default), refused, exceptions, console or none
-out       --expect <STOP>  The words of the last line after `stop`, as \"breakpoint 0\": status 0 if the run ends so, and 1 if it doesn't
-out       --state <FILE>   A file for the state after the run: registers, clock, faults, regions and exceptions, a line for each value
+out       --board <FILE>   The board: a TOML file of at most 16 MiB with the memory sizes, the interrupt lines and the \
+events
+out       --steps <N>      The most steps (instructions, halves of exception entries, idle ticks) to make, from 0 to \
+4294967296
+out       --trace <WHICH>  Which lines are written, before the line of the stop: all (the default), refused, \
+exceptions, console or none
+out       --expect <STOP>  The words of the last line after `stop`, as \"breakpoint 0\": status 0 if the run ends so, \
+and 1 if it doesn't
+out       --state <FILE>   A file for the state after the run: registers, clock, faults, regions and exceptions, a \
+line for each value
 out   -h, --help           Print help
 out
 out The trace has one line for each access: its tick, kind, address, size in bytes, privilege, outcome,
@@ -124,11 +129,16 @@ out Arguments:
 out   <IMAGE>  The image: an ELF file for ARM of at most 16 MiB, linked to run
 out
 out Options:
-out       --board <FILE>   The board: a TOML file of at most 16 MiB with the memory sizes, the interrupt lines and the events
-out       --steps <N>      The most steps (instructions, halves of exception entries, idle ticks) to make, from 0 to 4294967296
-out       --trace <WHICH>  Which lines are written, before the line of the stop: all (the default), refused, exceptions, console or none
-out       --expect <STOP>  The words of the last line after `stop`, as \"breakpoint 0\": status 0 if the run ends so, and 1 if it doesn't
-out       --state <FILE>   A file for the state after the run: registers, clock, faults, regions and exceptions, a line for each value
+out       --board <FILE>   The board: a TOML file of at most 16 MiB with the memory sizes, the interrupt lines and the \
+events
+out       --steps <N>      The most steps (instructions, halves of exception entries, idle ticks) to make, from 0 to \
+4294967296
+out       --trace <WHICH>  Which lines are written, before the line of the stop: all (the default), refused, \
+exceptions, console or none
+out       --expect <STOP>  The words of the last line after `stop`, as \"breakpoint 0\": status 0 if the run ends so, \
+and 1 if it doesn't
+out       --state <FILE>   A file for the state after the run: registers, clock, faults, regions and exceptions, a \
+line for each value
 out   -h, --help           Print help
 out
 out The trace has one line for each access: its tick, kind, address, size in bytes, privilege, outcome,
@@ -164,8 +174,10 @@ out Arguments:
 out   <IMAGE>  The image: an ELF file for ARM of at most 16 MiB, linked to run
 out
 out Options:
-out       --board <FILE>  The board: a TOML file of at most 16 MiB with the memory sizes, the interrupt lines and the events
-out       --steps <N>     The most steps (instructions, halves of exception entries, idle ticks) to make, from 0 to 4294967296
+out       --board <FILE>  The board: a TOML file of at most 16 MiB with the memory sizes, the interrupt lines and the \
+events
+out       --steps <N>     The most steps (instructions, halves of exception entries, idle ticks) to make, from 0 to \
+4294967296
 out   -h, --help          Print help
 out
 out The page says which memory the code touched, by which rule or region, what was refused and by which
@@ -195,7 +207,8 @@ out Arguments:
 out   <IMAGE>  The image: an ELF file for ARM of at most 16 MiB, linked to run
 out
 out Options:
-out       --board <FILE>  The board: a TOML file of at most 16 MiB with the memory sizes, the interrupt lines and the events
+out       --board <FILE>  The board: a TOML file of at most 16 MiB with the memory sizes, the interrupt lines and the \
+events
 out   -h, --help          Print help
 out
 out Commands, one a line on standard input; numbers are decimal, or hexadecimal after 0x:
@@ -243,7 +256,8 @@ out Arguments:
 out   <IMAGE>  The image: an ELF file for ARM of at most 16 MiB, linked to run
 out
 out Options:
-out       --board <FILE>  The board: a TOML file of at most 16 MiB with the memory sizes, the interrupt lines and the events
+out       --board <FILE>  The board: a TOML file of at most 16 MiB with the memory sizes, the interrupt lines and the \
+events
 out   -h, --help          Print help
 out
 out Commands, one a line on standard input; numbers are decimal, or hexadecimal after 0x:

@@ -104,7 +104,8 @@ with line = \"0\"
 with what = \"rise\"
 ends 3
 err marm: board 3 WrongKind
-err   board.toml: event 1: line is \"0\", a string: it takes an integer from 0 to 7 (lines is 8); an integer has no point and no quotes
+err   board.toml: event 1: line is \"0\", a string: it takes an integer from 0 to 7 (lines is 8); an integer has no \
+point and no quotes
 
 a line in quotes, on a board without lines
 board flash_base = 0
@@ -224,20 +225,23 @@ board flash_size = 4096
 board ram_size = 1024.0
 ends 3
 err marm: board 3 WrongKind
-err   board.toml: ram_size is 1024.0, a float: it takes a multiple of 1024 from 1024 to 1048576; an integer has no point and no quotes
+err   board.toml: ram_size is 1024.0, a float: it takes a multiple of 1024 from 1024 to 1048576; an integer has no \
+point and no quotes
 
 a number with an exponent
 with regions = 8e0
 ends 3
 err marm: board 3 WrongKind
-err   board.toml: regions is 8.0, a float: it takes 8 or 16 (8 where the key is missing); an integer has no point and no quotes
+err   board.toml: regions is 8.0, a float: it takes 8 or 16 (8 where the key is missing); an integer has no point and \
+no quotes
 
 a number in quotes
 board flash_base = 0
 board flash_size = '4096'
 ends 3
 err marm: board 3 WrongKind
-err   board.toml: flash_size is \"4096\", a string: it takes a multiple of 1024 from 1024 to 1048576, with flash_base + flash_size at most 536870912; an integer has no point and no quotes
+err   board.toml: flash_size is \"4096\", a string: it takes a multiple of 1024 from 1024 to 1048576, with flash_base \
++ flash_size at most 536870912; an integer has no point and no quotes
 
 a truth value in place of a number
 board flash_base = false
@@ -256,7 +260,8 @@ with [[event]]
 with at = \"1\"
 ends 3
 err marm: board 3 WrongKind
-err   board.toml: event 1: at is \"1\", a string: it takes an integer from 1 to 281474976710656; an integer has no point and no quotes
+err   board.toml: event 1: at is \"1\", a string: it takes an integer from 1 to 281474976710656; an integer has no \
+point and no quotes
 
 a number in place of a word
 with [[event]]
@@ -286,13 +291,15 @@ a key with control characters, a quote and a backslash
 with \"a\\u001B[31m\\u007F\\u009B \\\"\\\\é\" = 1
 ends 3
 err marm: board 6 UnknownKey
-err   board.toml: \"a\\u001B[31m\\u007F\\u009B \\\"\\\\é\" is no key here: the keys are flash_base, flash_size, ram_size, priority_bits, lines, regions and event
+err   board.toml: \"a\\u001B[31m\\u007F\\u009B \\\"\\\\é\" is no key here: the keys are flash_base, flash_size, \
+ram_size, priority_bits, lines, regions and event
 
 a key with what a display hides: an override of direction, a separator, a soft hyphen, a mark of bytes
 with \"a\\u202Eb\\u2028c\\u00ADd\\uFEFFe\" = 1
 ends 3
 err marm: board 6 UnknownKey
-err   board.toml: \"a\\u202Eb\\u2028c\\u00ADd\\uFEFFe\" is no key here: the keys are flash_base, flash_size, ram_size, priority_bits, lines, regions and event
+err   board.toml: \"a\\u202Eb\\u2028c\\u00ADd\\uFEFFe\" is no key here: the keys are flash_base, flash_size, ram_size, \
+priority_bits, lines, regions and event
 
 a string with an override of direction
 with [[event]]
@@ -307,7 +314,8 @@ an empty key
 with \"\" = 1
 ends 3
 err marm: board 6 UnknownKey
-err   board.toml: \"\" is no key here: the keys are flash_base, flash_size, ram_size, priority_bits, lines, regions and event
+err   board.toml: \"\" is no key here: the keys are flash_base, flash_size, ram_size, priority_bits, lines, regions \
+and event
 
 a string of two lines, with control characters
 with [[event]]
@@ -348,7 +356,8 @@ fn too_many_events_are_counted(rt: HostRuntime) -> Result<(), Fail> {
     board.extend_from_slice(b"]\n")?;
     let ended = Ended::of(&rt, RUN_WORDS, &FIRST, board.as_slice(), NO_INPUT, 512)?;
     let err =
-        b"marm: board 4 OutOfRange\n  board.toml: event has 65537 tables: it takes a list of at most 65536 tables, each written as [[event]]\n";
+        b"marm: board 4 OutOfRange\n  board.toml: event has 65537 tables: it takes a list of at most 65536 tables, \
+each written as [[event]]\n";
     holds(ended.is(3, b"", err), "65537 events")
 }
 

@@ -289,14 +289,16 @@ a segment outside memory
 byte 42 30
 ends 3
 err marm: start 10 SegmentOutsideMemory
-err   image.elf: program header 0 has 12 bytes at 00300000 (p_paddr), and the board has 4096 bytes of flash at 00000000 and 8192 bytes of RAM at 20000000
+err   image.elf: program header 0 has 12 bytes at 00300000 (p_paddr), and the board has 4096 bytes of flash at \
+00000000 and 8192 bytes of RAM at 20000000
 
 a segment across flash's end
 byte 40 F8
 byte 41 F
 ends 3
 err marm: start 10 SegmentOutsideMemory
-err   image.elf: program header 0 has 12 bytes at 00000FF8 (p_paddr), and the board has 4096 bytes of flash at 00000000 and 8192 bytes of RAM at 20000000
+err   image.elf: program header 0 has 12 bytes at 00000FF8 (p_paddr), and the board has 4096 bytes of flash at \
+00000000 and 8192 bytes of RAM at 20000000
 
 a segment across the last address
 byte 40 FF
@@ -306,7 +308,8 @@ byte 43 FF
 byte 44 2
 ends 3
 err marm: start 10 SegmentOutsideMemory
-err   image.elf: program header 0 has 2 bytes at FFFFFFFF (p_paddr), and the board has 4096 bytes of flash at 00000000 and 8192 bytes of RAM at 20000000
+err   image.elf: program header 0 has 2 bytes at FFFFFFFF (p_paddr), and the board has 4096 bytes of flash at 00000000 \
+and 8192 bytes of RAM at 20000000
 
 erased flash
 byte 2C 0
@@ -356,7 +359,8 @@ a word in place of a number
 board flash_base = \"0\"
 ends 3
 err marm: board 3 WrongKind
-err   board.toml: flash_base is \"0\", a string: it takes a multiple of 1024, at least 0; an integer has no point and no quotes
+err   board.toml: flash_base is \"0\", a string: it takes a multiple of 1024, at least 0; an integer has no point and \
+no quotes
 
 an event on no line
 board flash_base = 0
@@ -397,7 +401,8 @@ board lines = 0
 board rom_size = 0
 ends 3
 err marm: board 6 UnknownKey
-err   board.toml: rom_size is no key here: the keys are flash_base, flash_size, ram_size, priority_bits, lines, regions and event
+err   board.toml: rom_size is no key here: the keys are flash_base, flash_size, ram_size, priority_bits, lines, \
+regions and event
 
 32 lines, of which the last one rises after the end
 board flash_base = 0
@@ -431,7 +436,8 @@ board flash_base = 0
 board flash_size = 1000
 ends 3
 err marm: board 4 OutOfRange
-err   board.toml: flash_size is 1000: it takes a multiple of 1024 from 1024 to 1048576, with flash_base + flash_size at most 536870912
+err   board.toml: flash_size is 1000: it takes a multiple of 1024 from 1024 to 1048576, with flash_base + flash_size \
+at most 536870912
 
 flash that begins where flash must have ended
 board flash_base = 536870912
@@ -655,7 +661,8 @@ fn files_without_memory_are_explained(rt: HostRuntime) {
         is_explained(
             rt.alloc(),
             Error::Start(StartError::NoMemory),
-            b"  image.elf: no memory was found for the machine: flash and RAM take 12288 bytes, and events and decoded instructions some more\n"
+            b"  image.elf: no memory was found for the machine: flash and RAM take 12288 bytes, and events and decoded \
+instructions some more\n"
         )
     );
 }

@@ -45,28 +45,33 @@ const HIDDEN: [(&str, u8, &str, &[&str], &str); 5] = [
     (
         "a command with a line feed and an override of direction",
         2,
-        "marm: usage\nerror: unrecognized subcommand 'frob\\u000Amarm: size\\u202E'\n\nUsage: marm <COMMAND>\n\nFor more information, try '--help'.\nThe commands are run, report, debug and help.\n",
+        "marm: usage\nerror: unrecognized subcommand 'frob\\u000Amarm: size\\u202E'\n\nUsage: marm <COMMAND>\n\nFor \
+more information, try '--help'.\nThe commands are run, report, debug and help.\n",
         &[],
         "frob\nmarm: size\u{202E}",
     ),
     (
         "a number with a line feed",
         2,
-        "marm: usage\nerror: invalid value '1\\u000A' for '--steps <N>': invalid digit found in string\n\nFor more information, try '--help'.\n--steps takes a decimal number from 0 to 4294967296.\n",
+        "marm: usage\nerror: invalid value '1\\u000A' for '--steps <N>': invalid digit found in string\n\nFor more \
+information, try '--help'.\n--steps takes a decimal number from 0 to 4294967296.\n",
         &["run", "--board=board.toml", "image.elf"],
         "--steps=1\n",
     ),
     (
         "a selection with a carriage return",
         2,
-        "marm: usage\nerror: invalid value 'all\\u000D' for '--trace <WHICH>'\n--trace takes all, refused, exceptions, console or none.\n",
+        "marm: usage\nerror: invalid value 'all\\u000D' for '--trace <WHICH>'\n--trace takes all, refused, exceptions, \
+console or none.\n",
         &["run", "--board=board.toml", "--steps=1", "image.elf"],
         "--trace=all\r",
     ),
     (
         "an expected stop with separators",
         2,
-        "marm: usage\nerror: invalid value 'steps\\u2028\\u2029' for '--expect <STOP>'\n--expect takes the words of a stop line after `stop`: steps, breakpoint N (N from 0 to 255), reset, lockup,\nor unpredictable or outofprofile and a name.\n",
+        "marm: usage\nerror: invalid value 'steps\\u2028\\u2029' for '--expect <STOP>'\n--expect takes the words of a \
+stop line after `stop`: steps, breakpoint N (N from 0 to 255), reset, lockup,\nor unpredictable or outofprofile and a \
+name.\n",
         &["run", "--board=board.toml", "--steps=1", "image.elf"],
         "--expect=steps\u{2028}\u{2029}",
     ),
@@ -98,7 +103,8 @@ const CUT: [(&str, usize, u8, &[&str], &str, &str); 3] = [
         2,
         &[],
         "marm: usage\nerror: unrecognized subcommand '",
-        "..'\n\nUsage: marm <COMMAND>\n\nFor more information, try '--help'.\nThe commands are run, report, debug and help.\n",
+        "..'\n\nUsage: marm <COMMAND>\n\nFor more information, try '--help'.\nThe commands are run, report, debug and \
+help.\n",
     ),
     (
         "a path",

@@ -4,8 +4,8 @@ use super::files::Ends;
 use std::test::*;
 use test_tables::check_between;
 
-/// Code alone at 60; or at FC, where MOVS R7, #60 is 2760 and LDM R7!, {R0, R1} CF03, which loads the words at 60. SVC 0
-/// is DF00, and its handler is at 200.
+/// Code alone at 60; or at FC, where MOVS R7, #60 is 2760 and LDM R7!, {R0, R1} CF03, which loads the words at 60. SVC
+/// 0 is DF00, and its handler is at 200.
 const STOPS: &str = "\
 BX R0, of which bit 0 is set
 vectors 61

@@ -10,7 +10,8 @@ returns-in-Some c =
     rw (c.from.ensures, ← c.self.view_is)
     (best_found _ c.self.inside.levels c.self.inside.held c.self.inside.enabled e.0 c.in-Some.number
     (of_view c.self.inside.levels c.self.inside.held c.self.inside.enabled c.self.inside.active c.self.inside.priorities
-    c.self.inside.group c.self.inside.masks c.self.inside.interrupts c.self.inside.bits c.self.invariant.2) nmi fault e.1
+    c.self.inside.group c.self.inside.masks c.self.inside.interrupts c.self.inside.bits c.self.invariant.2) nmi fault
+    e.1
     e.2)
 
 pub returns-in-None : goal.returns-in-None

@@ -12,7 +12,8 @@ returns-clause-received g c =
     (g.I.In.left mid.inner) (drop mid.at (take mid.end mid.bytes)) (g.I.In.misses old.inner)
     (g.I.In.misses mid.inner) =
     elim c.if-self.branch [
-      | then-self+in-Ok w ↦ rw w.self-is (filled (g.I.In.left old.inner) _ _ _ _ _ _ _ w.if-self.true w.in-Ok.ensures.filled.0
+      | then-self+in-Ok w ↦ rw w.self-is
+          (filled (g.I.In.left old.inner) _ _ _ _ _ _ _ w.if-self.true w.in-Ok.ensures.filled.0
           w.in-Ok.ensures.filled.1 w.in-Ok.ensures.filled.2)
       | else-self w ↦ rw w.self-is (has_some _ _ _ _ _ w.if-self.false old.order old.within)
     ] in
