@@ -2,22 +2,20 @@
 use Rattle.std.proofs.Common.{◌≡◌, ℕ, ◌+◌, ◌-◌, ◌<◌, ◌≤◌, Bool, true, false, ◌&&◌, ◌||◌, List, [], ◌∷◌, length, drop}
 use Rattle.std.proofs.Common.{map, get_or, refl, sym, ◌∙◌, add-one, arith, length-append, length-drop}
 use Rattle.std.proofs.Math.Seq.{drop-cons}
+use Rattle.std.proofs.lemmas.Bool.{and_parts}
 use Rattle.std.proofs.lemmas.Bool.Decides.{nat_tests}
 use Rattle.std.proofs.lemmas.List.{length-take}
 use Rattle.elf.specs.declared.image.Segment.{Segment as Lent}
 use Rattle.elf.specs.Segment.{segment_of}
 use Rattle.reference.specs.Images.{Segment}
 use Rattle.reference.specs.Memory.{Memory, is_in_flash, is_in_ram, is_within, overwritten, with_bytes}
+use Rattle.space.proofs.Blocks.{length-with_bytes}
 use Rattle.reference.specs.Start.{is_placed, are_placed, image_loaded}
 
 -- the segment at a place, and the later ones
 front : (segments : List Lent) (i : ℕ) (d : Lent) → i < length segments
     → map segment_of (drop i segments) ≡ segment_of (get_or segments i d) ∷ map segment_of (drop (i + 1) segments)
 front segments i d below = rw (add-one, drop-cons segments i d) refl
-
-both_true : (x y : Bool) → (x && y) ≡ true → (x ≡ true) × (y ≡ true)
-both_true true y e = (refl, e)
-both_true false y e = absurd cc
 
 first_false : (x y : Bool) → x ≡ false → (x && y) ≡ false
 first_false true y e = absurd cc
@@ -33,18 +31,13 @@ pub next_placed : (m : Memory) (segments : List Lent) (i : ℕ) (d : Lent) → i
     → are_placed m (map segment_of (drop i segments)) ≡ true
     → (is_placed m (segment_of (get_or segments i d)) ≡ true)
     × (are_placed m (map segment_of (drop (i + 1) segments)) ≡ true)
-next_placed m segments i d below placed = both_true _ _ (rw (front segments i d below) at placed)
+next_placed m segments i d below placed = and_parts _ _ (rw (front segments i d below) at placed)
 
 next_loaded : (m : Memory) (segments : List Lent) (i : ℕ) (d : Lent) → i < length segments
     → image_loaded m (map segment_of (drop i segments))
     ≡ image_loaded (overwritten m (get_or segments i d).address (get_or segments i d).bytes.now)
     (map segment_of (drop (i + 1) segments))
 next_loaded m segments i d below = rw (front segments i d below) refl
-
--- a block keeps its length
-length-with_bytes : (block bytes : List ℕ) (a : ℕ) → a + length bytes ≤ length block
-    → length (with_bytes block a bytes) ≡ length block
-length-with_bytes block bytes a fits = simp (length-append, length-take, length-drop) (omega arith)
 
 -- two memories whose blocks stand in the same places
 record AreAlike (m n : Memory) : Type 0 where

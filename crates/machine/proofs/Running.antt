@@ -14,7 +14,7 @@ use Rattle.reference.specs.Step.{step, unless_stopped}
 use Rattle.reference.specs.Text.{lines, line, stop_line}
 use Rattle.output.specs.Gathered.{GrowsByPrefix}
 use Rattle.output.specs.Output.{IsCutAfter, IsCutShort}
-use Rattle.machine.specs.Runs.{Leaves}
+use Rattle.trace.proofs.Selecting.{lines-append}
 
 -- a stopped machine makes no step
 step_stopped : (s : State) (why : Stop) → s.stop ≡ Some why → step s ≡ record { state = s; events = [] }
@@ -44,12 +44,6 @@ none_made s = refl
 pub none_shown : (s : State) → lines (events_of 0 s) ≡ []
 unfolding events_of lines
 none_shown s = refl
-
--- the lines of more events stand behind those of the first
-pub lines-append : (xs ys : List Event) → lines (xs ++ ys) ≡ lines xs ++ lines ys
-unfolding lines
-lines-append [] ys = refl
-lines-append (x ∷ xs) ys = rw (lines-append xs ys, append_assoc) refl
 
 pub shown_more : (n : ℕ) (s : State)
     → lines (events_of (n + 1) s) ≡ lines (events_of n s) ++ lines (step (after n s)).events
@@ -131,6 +125,47 @@ continues m (suc k) s =
       whole = rw (e, events_more (m + k) s, before.whole, append_assoc) refl;
     }
 
+-- what went out before a text that was cut short
+pub cut_after : (old mid new : Option (List ℕ)) (before text : List ℕ) → Appends old mid before
+    → IsCutShort mid new text → IsCutAfter old new before text
+cut_after old mid new before text went cut = record {
+  front = cut.front;
+  byte = cut.byte;
+  later = cut.later;
+  whole = cut.whole;
+  went = Appends-trans old mid new before cut.front went cut.went;
+}
+
+-- the machine stands behind all steps
+pub all_made : (limit n : ℕ) (s core : State) → n ≤ limit → core ≡ after n s → (n ≡ limit) ⊎ IsSome core.stop
+    → core ≡ after limit s
+all_made limit n s core few now ends =
+    let ends' : (n ≡ limit) ⊎ IsSome (after n s).stop = rw (← now) ends in now ∙ sym (over n limit s few ends').0
+
+-- the state behind one step more
+pub after_on : (n : ℕ) (s core : State) → core ≡ after n s → (step core).state ≡ after (n + 1) s
+after_on n s core now = rw (now, after_more n s) refl
+
+-- the stop that is returned is that of the whole run
+pub ends_so : (limit : ℕ) (s core : State) (shown : Stop) → shown ≡ unwrap_or core.stop StepLimit → core ≡ after limit s
+    → shown ≡ ending_of limit s
+ends_so limit s core shown same now = rw (← now) same
+
+-- the events of a run begin with those of its first steps
+pub record Continues (m k : ℕ) (s : State) : Type 0 where
+  pub others : List Event
+  pub whole : events_of (m + k) s ≡ events_of m s ++ others
+
+pub continues : (m k : ℕ) (s : State) → Continues m k s
+continues m zero s = record { others = []; whole = rw (add-zero, append-nil) refl }
+continues m (suc k) s =
+    let before = continues m k s in
+    let e : m + suc k ≡ (m + k) + 1 = omega arith in
+    record {
+      others = before.others ++ (step (after (m + k) s)).events;
+      whole = rw (e, events_more (m + k) s, before.whole, append_assoc) refl;
+    }
+
 -- the lines of a run begin with those of its first steps
 lines_continue : (m n : ℕ) (s : State) → m + 1 ≤ n
     → (others : List Event) × (lines (events_of n s) ≡ lines (events_of m s) ++ lines (step (after m s)).events
@@ -150,15 +185,3 @@ prefix_of old new before text later all cut e = record {
   whole = rw (e, cut.whole) (simp append_assoc refl);
   grew = cut.went;
 }
-
--- what a run that was cut short put is a prefix of the trace
-pub left_prefix : (n : ℕ) (s : State) (steps : ℕ) (old new : Option (List ℕ)) (last : State)
-    → Leaves n s steps old new last → GrowsByPrefix old new (trace n s)
-unfolding trace
-left_prefix n s steps old new last left = elim left.cut [
-  | inl in_step ↦
-      let few : steps - 1 + 1 ≤ n = omega (arith, in_step.0, left.few) in
-      let all = lines_continue (steps - 1) n s few in
-      prefix_of old new _ _ (lines all.0 ++ stop_line (ending_of n s)) _ in_step.1 (rw (all.1, append_assoc) refl)
-  | inr in_stop ↦ prefix_of old new _ _ [] _ in_stop.1 (rw append-nil refl)
-]

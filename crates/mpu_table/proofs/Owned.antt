@@ -1,6 +1,7 @@
 -- The intervals between sorted boundaries.
 use Rattle.std.proofs.Common.{◌≡◌, ℕ, zero, suc, ◌+◌, ◌-◌, ◌^◌, ◌<◌, ◌≤◌, ◌⊎◌, List, [], ◌∷◌, ◌++◌, length, get_or}
 use Rattle.std.proofs.Common.{take, drop, Option, arith, refl, sym, ap, ◌∙◌, inl, inr}
+use Rattle.std.proofs.Math.Seq.{take-append_seam}
 use Rattle.std.specs.Prelude.{IfSome}
 use Rattle.std.specs.List.{All, refill}
 use Rattle.std.specs.List.Sorted.{IsNonDecreasing, IsPermutation}
@@ -27,13 +28,9 @@ parts_sorted points sorted m moved parts k h a b order small clear =
     parts k h a b order small (All-permutation (λ x. (x ≤ a) ⊎ (b < x)) sorted points
     (IsPermutation-sym points sorted moved) clear)
 
-take_all : (ws rest : List ℕ) → take (length ws) (ws ++ rest) ≡ ws
-take_all [] rest = refl
-take_all (w ∷ ws) rest = ap (λ t. w ∷ t) (take_all ws rest)
-
 -- what a slice of a whole list leaves in it
 pub refilled : (xs ws : List ℕ) → length ws ≡ length xs → refill (length xs) xs ws ≡ ws
-refilled xs ws e = rw (← e) (take_all ws (drop (length ws) xs))
+refilled xs ws e = rw (← e) (take-append_seam ws (drop (length ws) xs))
 
 -- the default of an index in range is never read
 any_default : (xs : List ℕ) (k d : ℕ) → k < length xs → get_or xs k d ≡ get_or xs k 0

@@ -1,11 +1,12 @@
 -- The text of a step's selected events, put event by event.
 use Rattle.std.proofs.Common.{◌≡◌, ℕ, ◌+◌, ◌-◌, ◌<◌, Bool, true, false, List, [], ◌∷◌, ◌++◌, length, take, drop, Option}
 use Rattle.std.proofs.Common.{Some, None, refl, sym, ap, ◌∙◌, append_assoc, length-append}
-use Rattle.std.proofs.Common.{length-drop, take_all, arith}
+use Rattle.std.proofs.Common.{length-drop, arith}
 use Rattle.std.proofs.KnownBytes.{Appends-nil, Appends-trans}
+use Rattle.std.proofs.Math.Seq.{take-append_seam}
 use Rattle.std.proofs.Math.Logic.{∥∥₁_elim, ∥∥₁_map}
 use Rattle.std.proofs.Props.{props}
-use Rattle.std.proofs.lemmas.List.{map-append, take-append-drop, take-append-le}
+use Rattle.std.proofs.lemmas.List.{map-append, take-append-drop}
 use Rattle.std.specs.Io.KnownBytes.{Appends}
 use Rattle.output.specs.Emitting.{PutsUnless, WritesSoFar, emission}
 use Rattle.output.specs.Output.{IsCutShort}
@@ -111,12 +112,8 @@ count_of : (xs ys text : List ℕ) → (cut : IsCutShort (Some xs) (Some ys) tex
 count_of xs ys text cut = let e : length ys ≡ length xs + length cut.front =
     ap length cut.went ∙ length-append xs cut.front in omega (arith, e)
 
-front_of : (front rest : List ℕ) → take (length front) (front ++ rest) ≡ front
-front_of front rest = take-append-le (length front) front rest (omega arith)
-    ∙ take_all (length front) front (omega arith)
-
 grew_by : (xs ys text : List ℕ) → IsCutShort (Some xs) (Some ys) text → ys ≡ xs ++ take (length ys - length xs) text
-grew_by xs ys text cut = rw (count_of xs ys text cut, cut.whole, front_of cut.front (cut.byte ∷ cut.later)) cut.went
+grew_by xs ys text cut = rw (count_of xs ys text cut, cut.whole, take-append_seam cut.front (cut.byte ∷ cut.later)) cut.went
 
 is_left : (xs ys text : List ℕ) → IsCutShort (Some xs) (Some ys) text → 0 < length (drop (length ys - length xs) text)
 is_left xs ys text cut =

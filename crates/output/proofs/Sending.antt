@@ -14,9 +14,6 @@ pub record Sent (old new : Option (List ℕ)) (all rest : List ℕ) : Type 0 whe
   pub whole : all ≡ front ++ rest
   pub went : Appends old new front
 
-pub none_sent : (old : Option (List ℕ)) (all : List ℕ) → Sent old old all all
-none_sent old all = record { front = []; whole = refl; went = Appends-nil old }
-
 -- some bytes of the rest were taken
 pub some_sent : (old mid new : Option (List ℕ)) (all rest : List ℕ) (taken : ℕ) → Sent old mid all rest
     → Appends mid new (take taken rest) → Sent old new all (drop taken rest)
@@ -31,13 +28,6 @@ pub still_sent : (old mid new : Option (List ℕ)) (all rest : List ℕ) → Sen
     → Sent old new all rest
 still_sent old mid new all rest s k =
     record { front = s.front; whole = s.whole; went = Appends-kept old mid new s.front s.went k }
-
--- nothing is left
-pub all_sent : (old new : Option (List ℕ)) (all rest : List ℕ) → Sent old new all rest → length rest ≡ 0
-    → Appends old new all
-all_sent old new all [] s e = let whole : s.front ≡ all = sym (s.whole ∙ append-nil s.front) in
-    subst (Appends old new) whole s.went
-all_sent old new all (byte ∷ rest) s e = absurd (let wrong : suc (length rest) ≡ 0 = e in omega arith)
 
 -- a byte is left
 pub cut_short : (old new : Option (List ℕ)) (all rest : List ℕ) → Sent old new all rest → 0 < length rest
