@@ -1,4 +1,11 @@
 -- The bytes of a session, one after another.
+--
+-- - `Heard` is the invariant of the loop over bytes: those that were read, the answers to them, and the session then.
+-- - The definitions take the first byte apart and the loop adds a last one: `after_snoc` and `answers_snoc` say that
+--   the session and its answers after one byte more are those before it and the byte's own, as long as it is open.
+-- - `heard_on` makes the step of the loop. Each way out of it has one lemma: `closed` (quit), `cut_at` and
+--   `cut_at_end` (the writer failed), `at_end`, `missed` (the reader failed) and `spent`.
+-- - `heard_kept` and `ended` add what a writer that gathers bytes sends before the session waits, and at its end.
 use Rattle.std.proofs.Common.{◌≡◌, inl, inr, ℕ, ◌+◌, ◌-◌, ◌^◌, Bool, true, false, List, [], ◌∷◌}
 use Rattle.std.proofs.Common.{◌++◌, length, Result, Ok, Err, Some, refl, sym, ◌∙◌, ap, subst, append_assoc}
 use Rattle.std.proofs.Common.{length-append}

@@ -1,5 +1,11 @@
 -- If eight small changes of the exceptions keep a property, so does each write of a register or mask, each tick, and a
 -- handler that begins.
+--
+-- - `IsKept P` has a field for each small change. An instance proves these eight, and has all that follows.
+-- - A register of sets changes one bit after another: `one_kept`, `bit_kept`, then all by induction (`bits_kept`).
+-- - A register of control is a few small changes, each under a test: `cond_both` takes both branches.
+-- - A tick makes pending what a test says, one exception after another (`pended_below`), so `MayPend` asks for the
+--   one small change where the test holds.
 use Rattle.std.proofs.Common.{◌≡◌, ℕ, zero, suc, ◌+◌, ◌*◌, ◌/◌, ◌%◌, ◌^◌, ◌<◌, Bool, true, false, not, ◌&&◌, ◌||◌}
 use Rattle.std.proofs.Common.{◌==◌, nat_lt, bit_and, Result, Ok, Err, arith}
 use Rattle.std.proofs.lemmas.Bool.{cond_both}

@@ -1,4 +1,10 @@
 -- The first exception of the first level that isn't empty is the best one.
+--
+-- - `IsOf` joins the fields and the exceptions that a contract sees.
+-- - What is ready and not fixed is in the level of its priority byte (`in_its_level`), and what is in a level is
+--   ready and not fixed (`level_ready`). So the order by level and then by number is that of `ComesFirst`
+--   (`best_found`), and where all levels are empty nothing but a fixed exception can be ready (`best_absent`).
+-- - NMI and HardFault are in no level: `best_nmi` and `best_hard_fault`.
 use Rattle.std.proofs.Common.{◌≡◌, ℕ, ◌+◌, ◌<◌, ◌≤◌, ◌⊎◌, inl, inr, Bool, true, false, not, ◌&&◌, ◌||◌, ◌==◌, List}
 use Rattle.std.proofs.Common.{slice_index, Some, None, refl, sym, ◌∙◌, ap, subst, arith}
 use Rattle.std.proofs.Math.Bool.{or-true}

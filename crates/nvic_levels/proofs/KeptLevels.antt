@@ -1,4 +1,11 @@
 -- Each change keeps every pending exception in the set where it belongs.
+--
+-- - `IsKept` says where a pending exception is: in the level of its priority byte if it is enabled and not fixed, and
+--   otherwise in `held`.
+-- - Each kind of change has two lemmas. `kept_..` says that `IsKept` holds after it, `seen_..` that the pending
+--   exceptions, as a contract sees them, change by that one.
+-- - In each, an exception is the one that changes or another one: `lead` splits on `y == x`. What isn't waiting is in
+--   no set (`absent`, `free`), so moving its priority byte or its enabled bit moves nothing.
 use Rattle.std.proofs.Common.{◌≡◌, ℕ, ◌<◌, min, Bool, true, false, not, ◌&&◌, ◌||◌, ◌==◌, if◌then◌else◌, List, set}
 use Rattle.std.proofs.Common.{replicate, slice_index, slice_set, refl, sym, ◌∙◌, ap, arith}
 use Rattle.std.proofs.Math.Bool.{or-true, or-false}

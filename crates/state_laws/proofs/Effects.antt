@@ -1,4 +1,12 @@
 -- What each write of a core register keeps, each instruction keeps.
+--
+-- - `KeepsWrites P` lists the writes of registers that there are, and that each keeps P. An instance proves these
+--   alone.
+-- - The lemmas follow `effect` from the leaves up: a PC that moves on or branches, a register with flags, then the
+--   instructions of a family, then `effect_kept` for all.
+-- - In a family the first line splits the cases and the second is one proof for them: `search` with the rules of
+--   `writes`.
+-- - `Leaves` says besides that only code in Handler mode returns from an exception, so each case names its ending.
 use Rattle.std.proofs.Common.{ℕ, Bool, List, [], ◌∷◌, drop, slice_index, arith, ◌≡◌, ◌^◌, ◌<◌, true, ◌==◌, slice_set}
 use Rattle.std.proofs.Common.{Option}
 use Rattle.std.proofs.lemmas.Bool.{cond_both, and_parts}

@@ -1,4 +1,10 @@
 -- A start gives the invariant, and a value that was placed keeps it.
+--
+-- - `sound` and `whole` turn `SystemInvariant`, of which laws speak, into `IsWhole` for the board's numbers, which
+--   the walks prove, and back.
+-- - `step_keeps` is the walk of a step (`Steps`) between the two.
+-- - `place` refuses or writes one thing: `placed` splits on its tests, and each write is one that a walk has.
+-- - The last three lemmas are the same for parts of a step: a tick, an access, an instruction.
 use Rattle.std.proofs.Common.{◌≡◌, ◌⊎◌, inl, inr, ℕ, ◌≤◌, min, Bool, true, false, not, ◌||◌, ◌==◌, is_some, List}
 use Rattle.std.proofs.Common.{Option, Some, None, Result, Ok, Err, refl, sym, subst, arith}
 use Rattle.std.proofs.lemmas.Bool.{cond_both}

@@ -1,5 +1,11 @@
 -- A fault, its escalation, SVC, and the entry into a handler and the return from it keep what holds of the core
 -- registers and of the bus, and leave an entry phase that has a candidate.
+--
+-- - A phase begins with `AreGood` and ends the step with `EndsGood`, where an entry phase has a candidate besides.
+-- - One part of a state changes at a time: `with_registers_good`, `with_bus_good`, `with_system_good`.
+-- - A fault is taken, escalates or stops: `escalated_good` shows for each that what it makes pending becomes the
+--   candidate (`Follows`), so the entry phase that begins has one.
+-- - The lemmas follow the chapters Faults, ExceptionEntry and ExceptionReturn from their last phase up.
 use Rattle.std.proofs.Common.{ℕ, Bool, true, false, not, List, [], ◌∷◌, ◌++◌, Option, Some, None, Result, Ok, Err, ◌<◌}
 use Rattle.std.proofs.Common.{◌≡◌, is_some, refl, sym, ap, ◌∙◌}
 use Rattle.std.proofs.lemmas.Bool.{cond_both}

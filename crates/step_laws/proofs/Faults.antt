@@ -1,4 +1,12 @@
 -- A failure: what it leaves of the lines, and the line of its fault.
+--
+-- - A phase begins with `MayGoOn` (memory as the lines so far say, and none of them a refusal) and ends the step with
+--   `IsLawful`.
+-- - `line_of` and `forced_line` say what the line of a fault shows: the bits that were set for it, FORCED where it
+--   escalated.
+-- - A failure without an access adds the line of its fault to lines without a refusal (`fault_unrefused`); one of an
+--   access adds it right after the refusal (`refusal_ends`). Both are then carried through escalation
+--   (`escalated_..`), the record of the fault (`faulted_..`) and `failed`; a vector and SVC have lemmas of their own.
 use Rattle.std.proofs.Common.{◌≡◌, ◌⊎◌, inl, inr, ℕ, Bool, true, false, if◌then◌else◌, List, [], ◌∷◌, ◌++◌, bit_and}
 use Rattle.std.proofs.Common.{bit_or, Some, refl, sym, ◌∙◌, ap, subst, append_assoc}
 use Rattle.std.proofs.lemmas.Nat.{and_or_self, and_or_apart}

@@ -1,4 +1,11 @@
 -- The columns of a timeline, tick by tick: a bit of a column is what some tick made that the column stands for.
+--
+-- - A column is a number, and bit k of it a mark: `marked_bit` says what setting one changes.
+-- - `Joined` is the invariant of the loop that joins neighbours, and `some-append` joins what their ticks made.
+-- - `Fits` is what holds of the columns between ticks, for one bit; `Full` and `Begun` are the same where a column
+--   ends and where a tick begins. A tick goes from `Stands` by `Begun` to `Stands`: the last column takes it, or a
+--   new one, or the columns are joined first (`joined_full`, `halves`), so that there is room.
+-- - A mark within a tick sets a bit of the last column alone, and `final` of `Fits` takes it up.
 use Rattle.std.proofs.Common.{◌≡◌, inl, inr, ℕ, zero, suc, ◌+◌, ◌-◌, ◌*◌, ◌^◌, ◌<◌, ◌≤◌, min, max, Bool, true, false}
 use Rattle.std.proofs.Common.{cond, ◌||◌, ◌==◌, nat_lt, List, length, bit_or, refl, sym, ap, ◌∙◌, arith, get_or}
 use Rattle.std.proofs.Common.{set, add-zero, add-one}

@@ -1,5 +1,10 @@
 -- An access of unprivileged code, and a list of them, from two buses that differ only in memory, where the memories
 -- look the same to it: what is left differs only in memory again, and `Alike` holds of it.
+--
+-- - `granted_in`: a grant at the address of a request is one at each of its bytes. So a granted read reads bytes that
+--   look the same, and a granted write writes bytes that may be stored (`IsOpen`).
+-- - `space_alike`, `carried_alike`, `perform_alike` and `all_alike` go up by one layer each: flash and RAM, the bus,
+--   one access with its decision, a list. Each says that the second result is the first with another memory.
 use Rattle.std.proofs.Common.{◌≡◌, ◌⊎◌, inl, inr, ℕ, ◌+◌, Bool, true, false, not, List, [], ◌∷◌}
 use Rattle.std.proofs.Common.{Result, Ok, Err, refl, sym, ap, subst, ◌∙◌}
 use Rattle.std.proofs.lemmas.Bool.{or_right}
