@@ -130,7 +130,7 @@ impl<U: DueTicks> Clock<U> {
 
     /// Makes the next tick. Returns the exceptions that it pends.
     #[inline]
-    #[tactic(auto, using(crate::proofs::Quiet::right_tick, crate::proofs::Quiet::right_pends, crate::proofs::Quiet::right_stays),)]
+    #[tactic(auto, using(crate::proofs::Quiet::right_tick, crate::proofs::Quiet::right_pends, crate::proofs::Quiet::right_stays))]
     pub fn tick(&mut self) -> Due
         requires { self.old.time.ticks < 2 ^ 48 }
         ensures time { IsRight self.old → self.new.time ≡ time_after_tick self.old.time }
@@ -153,7 +153,7 @@ impl<U: DueTicks> Clock<U> {
 
     /// Makes the next tick if the due tick that is kept says that nothing is due at it. Returns whether it did.
     #[inline]
-    #[tactic(auto, using(crate::proofs::Quiet::right_tick, crate::proofs::Quiet::right_pends, crate::proofs::Quiet::right_stays),)]
+    #[tactic(auto, using(crate::proofs::Quiet::right_tick, crate::proofs::Quiet::right_pends, crate::proofs::Quiet::right_stays))]
     pub fn tick_quietly(&mut self) -> bool
         requires { self.old.time.ticks < 2 ^ 48 }
         ensures same { result ≡ false → self.new ≡ self.old }

@@ -46,7 +46,7 @@ pub struct RunRequest<'a> {
 }
 
 /// Reads the arguments; the first one is the program's name.
-#[tactic(auto, using(crate::proofs::Asking::run_asked, crate::proofs::Asking::report_asked, crate::proofs::Asking::debug_asked, crate::proofs::Asking::not_taken,),)]
+#[tactic(auto, using(crate::proofs::Asking::run_asked, crate::proofs::Asking::report_asked, crate::proofs::Asking::debug_asked, crate::proofs::Asking::not_taken))]
 pub fn read_words<'a>(alloc: Global, words: &'a [String]) -> Result<Request<'a>, WordsError>
     ensures { Requests (map string_bytes words.entry.now) result }
 {

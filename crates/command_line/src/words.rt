@@ -68,7 +68,7 @@ pub enum WordsError {
 }
 
 /// Returns what the arguments name; the first one is the program's name.
-#[tactic(auto, using(crate::proofs::Parsing::taken, crate::proofs::Parsing::refused, crate::proofs::Parsing::simple, crate::proofs::Parsing::simple_and_free,),)]
+#[tactic(auto, using(crate::proofs::Parsing::taken, crate::proofs::Parsing::refused, crate::proofs::Parsing::simple, crate::proofs::Parsing::simple_and_free))]
 pub fn words_of<'a>(alloc: Global, words: &'a [String]) -> Result<Words<'a>, WordsError>
     ensures { Takes (map string_bytes words.entry.now) result }
 {

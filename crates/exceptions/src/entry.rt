@@ -65,7 +65,7 @@ fn pushes(regs: &Regs) -> Requests
 
 impl<D: Decider, C: KeptCode, L: Levels, U: DueTicks> Core<D, C, L, U> {
     /// Pushes the frame: a Stack step.
-    #[tactic(auto, using(crate::proofs::LineBounds::pushed_lines, crate::proofs::LineBounds::pushed_words), unfolding(reference::specs::ExceptionEntry::begin_entry),)]
+    #[tactic(auto, using(crate::proofs::LineBounds::pushed_lines, crate::proofs::LineBounds::pushed_words), unfolding(reference::specs::ExceptionEntry::begin_entry))]
     pub fn begin_entry<S: Sink>(&mut self, events: &mut S)
         requires { (S.emitted events.old).events ≡ [] }
         ensures { StepsTo S.emitted events.old events.new self.new (begin_entry self.old) }

@@ -154,7 +154,7 @@ impl<D: Decider, C: KeptCode, L: Levels, U: DueTicks> Core<D, C, L, U> {
     }
 
     /// Pops the frame.
-    #[tactic(auto, using(crate::proofs::LineBounds::popped_lines, crate::proofs::LineBounds::popped_words), unfolding(reference::specs::ExceptionReturn::pop_stack),)]
+    #[tactic(auto, using(crate::proofs::LineBounds::popped_lines, crate::proofs::LineBounds::popped_words), unfolding(reference::specs::ExceptionReturn::pop_stack))]
     fn pop_stack<S: Sink>(&mut self, events: &mut S, exc_return: u32)
         requires { length (S.emitted events.old).events + 9 ≤ MOST_EVENTS }
         ensures { GoesOnTo S.emitted events.old events.new self.new (λ es. pop_stack self.old es exc_return) }

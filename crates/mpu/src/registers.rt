@@ -226,7 +226,7 @@ impl MpuRegs {
 
     /// Returns the number of the highest region that an address lies in.
     #[inline]
-    #[tactic(auto, using(crate::proofs::Owner::found, crate::proofs::Owner::passed, crate::proofs::Owner::none_left), unfolding(reference::specs::Regions::owner),)]
+    #[tactic(auto, using(crate::proofs::Owner::found, crate::proofs::Owner::passed, crate::proofs::Owner::none_left), unfolding(reference::specs::Regions::owner))]
     pub fn owner(&self, address: u32) -> Option<u8>
         ensures value { result ≡ owner self.now address }
         ensures within { IfSome result (λ number. number < 16) }

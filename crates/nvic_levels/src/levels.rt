@@ -66,7 +66,7 @@ impl BitLevels {
     }
 
     /// Makes an exception pending, or not pending any more, in the set where it belongs.
-    #[tactic(auto, using(crate::proofs::KeptLevels::kept_levelled, crate::proofs::KeptLevels::kept_held, crate::proofs::KeptLevels::seen_levelled, crate::proofs::KeptLevels::seen_held,),)]
+    #[tactic(auto, using(crate::proofs::KeptLevels::kept_levelled, crate::proofs::KeptLevels::kept_held, crate::proofs::KeptLevels::seen_levelled, crate::proofs::KeptLevels::seen_held))]
     fn put(&mut self, number: u8, on: bool)
         ensures { self.new ≡ record self.old { pending = slice_set self.old.pending number on } }
     {
@@ -189,7 +189,7 @@ impl Levels for BitLevels {
         }
     }
 
-    #[tactic(auto, using(crate::proofs::Lists::put_back, crate::proofs::Lists::now_out, nvic::proofs::Boards::kept_again),)]
+    #[tactic(auto, using(crate::proofs::Lists::put_back, crate::proofs::Lists::now_out, nvic::proofs::Boards::kept_again))]
     fn set_priority(&mut self, number: u16, byte: u8) {
         if !has_priority_byte(self.interrupts, number) {
             return;

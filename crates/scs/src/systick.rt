@@ -22,7 +22,7 @@ pub fn systick_at(word: u32) -> Option<SysTickRegister>
 }
 
 /// Reads a register; a read of SYST_CSR clears COUNTFLAG.
-#[tactic(auto, unfolding(reference::specs::SysTickRegisters::read_systick, reference::specs::SysTickRegisters::after_systick_read),)]
+#[tactic(auto, unfolding(reference::specs::SysTickRegisters::read_systick, reference::specs::SysTickRegisters::after_systick_read))]
 pub fn read_systick<U: DueTicks>(clock: &mut Clock<U>, register: SysTickRegister) -> u32
     requires { IsRight clock.old }
     ensures value { result ≡ read_systick_of clock.old.time.systick register }
