@@ -13,7 +13,7 @@ use reference::fault_status::{
     MUNSTKERR, NOCP, PRECISERR, STKERR, UNALIGNED, UNDEFINSTR, UNSTKERR, VECTTBL,
 };
 
-/// The numbers of the exceptions. Line 0 has number 16, and there are 240 lines at most (profile).
+/// The numbers of the exceptions. Interrupt 0 has number 16, and there are 240 interrupts at most (profile).
 pub fn exceptions_have_their_numbers()
     ensures faults { (NMI ≡ 2) × (HARD_FAULT ≡ 3) × (MEM_MANAGE ≡ 4) × (BUS_FAULT ≡ 5) × (USAGE_FAULT ≡ 6) }
     ensures calls { (SV_CALL ≡ 11) × (PEND_SV ≡ 14) × (SYS_TICK ≡ 15) }

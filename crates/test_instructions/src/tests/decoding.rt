@@ -4,7 +4,7 @@ ghost use Rattle.std.specs.Prelude.{◌<◌};
 
 use assembled::{COPROCESSORS, LONG_CONTROL, LONG_DATA, LONG_OTHERS, SHORT, UNDEFINED};
 use decode::{Decoded, KeptCode, Reread, decode, is_long};
-use decode_table::Lines;
+use decode_table::DecodeTable;
 use operands::all_operands;
 use std::test::*;
 use stops::STOPS;
@@ -138,9 +138,9 @@ fn lengths() -> Result<(), Fail> {
 
 #[test]
 fn lines_are_read_again(rt: HostRuntime) -> Result<(), Fail> {
-    let mut lines = Reread::fresh(rt.alloc(), 0x800).ok().ok_or("no memory")?;
-    lines.wrote(0x100, 4);
-    let decoded = lines.fetch(0x100, 0xDE00, 0);
+    let mut table = Reread::fresh(rt.alloc(), 0x800).ok().ok_or("no memory")?;
+    table.wrote(0x100, 4);
+    let decoded = table.fetch(0x100, 0xDE00, 0);
     assert!(rt; matches!(decoded, Decoded::Undefined), "UDF");
     Ok(())
 }
@@ -158,18 +158,18 @@ fn constant_of(decoded: &Decoded) -> Option<u32> {
 
 #[test]
 fn a_line_is_kept_until_it_is_written(rt: HostRuntime) -> Result<(), Fail> {
-    let mut lines = Lines::fresh(rt.alloc(), 0x800).ok().ok_or("no memory")?;
+    let mut table = DecodeTable::fresh(rt.alloc(), 0x800).ok().ok_or("no memory")?;
     assert!(rt;
-        constant_of(&lines.fetch(0x100, 0x2005, 0)) == Some(5),
+        constant_of(&table.fetch(0x100, 0x2005, 0)) == Some(5),
         "MOVS R0, #5"
     );
     assert!(rt;
-        constant_of(&lines.fetch(0x100, 0x2006, 0)) == Some(5),
+        constant_of(&table.fetch(0x100, 0x2006, 0)) == Some(5),
         "the line is kept"
     );
-    lines.wrote(0x100, 2);
+    table.wrote(0x100, 2);
     assert!(rt;
-        constant_of(&lines.fetch(0x100, 0x2006, 0)) == Some(6),
+        constant_of(&table.fetch(0x100, 0x2006, 0)) == Some(6),
         "MOVS R0, #6"
     );
     Ok(())

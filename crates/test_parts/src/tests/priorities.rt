@@ -359,7 +359,7 @@ fn are_highest(masks: Masks) -> bool {
 #[test]
 fn what_a_board_keeps(rt: HostRuntime) {
     let mut levels = PlainLevels::fresh(255, 3);
-    assert!(rt; levels.lines() == 240 && levels.priority_bits() == 3 && levels.group() == 0);
+    assert!(rt; levels.interrupts() == 240 && levels.priority_bits() == 3 && levels.group() == 0);
     levels.set_group(0xFD);
     assert!(rt; levels.group() == 5);
     levels.set_basepri(0xFF);

@@ -13,7 +13,7 @@ use arrayvec::ArrayVec;
 use debugger::{SessionError, session};
 use machine::{
     Ahead, BitLevels, Buffered, Counting, Decider, DueTicks, In, KeptCode, KeptDecisions,
-    KeptPriorities, Levels, Lines, Machine, Over, Paged, PlainLevels, Reread, RunError, Search,
+    KeptPriorities, Levels, DecodeTable, Machine, Over, Paged, PlainLevels, Reread, RunError, Search,
     Slow, Stop, Table, TaskEnd,
 };
 use std::alloc::Global;
@@ -140,7 +140,7 @@ impl Rows for CutRuns {
     fn holds(&mut self, text: &str) -> Option<bool> {
         Some(
             is_cut::<Search, Reread, PlainLevels, Counting>(self.alloc, text)?
-                && is_cut::<KeptDecisions<Table>, Lines, KeptPriorities<BitLevels>, Ahead>(
+                && is_cut::<KeptDecisions<Table>, DecodeTable, KeptPriorities<BitLevels>, Ahead>(
                     self.alloc, text,
                 )?,
         )
@@ -453,7 +453,7 @@ fn writers_of_sessions_are_cut_at_each_byte(rt: HostRuntime) -> Result<(), Fail>
             assert!(rt; slow == Some(true), "Slow, after {left}");
             let fast = fails_to_write::<
                 KeptDecisions<Table>,
-                Lines,
+                DecodeTable,
                 KeptPriorities<BitLevels>,
                 Ahead,
             >(alloc, at, *gathers);

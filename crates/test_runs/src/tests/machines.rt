@@ -70,10 +70,10 @@ fn script(alloc: Global, text: &str) -> Result<Vec<ScriptedEvent>, AllocError> {
     Ok(script)
 }
 
-/// The small board with the numbers of a line `board LINES REGIONS`, if there can be such a board.
+/// The small board with the numbers of a line `board INTERRUPTS REGIONS`, if there can be such a board.
 fn board_of(line: &str) -> Option<Layout> {
-    let lines = byte_at(line, 1)?;
-    if lines > MOST_INTERRUPTS {
+    let interrupts = byte_at(line, 1)?;
+    if interrupts > MOST_INTERRUPTS {
         return None;
     }
     let regions = if byte_at(line, 2)? == MOST_REGIONS {
@@ -86,7 +86,7 @@ fn board_of(line: &str) -> Option<Layout> {
         flash_size: 4096,
         ram_size: 8192,
         priority_bits: 4,
-        lines,
+        interrupts,
         regions,
     })
 }
