@@ -9,6 +9,7 @@ ghost use Rattle.board.specs.Texts.{are_tables, change, event_in, events, is_tab
 ghost use Rattle.board.specs.Texts.{script_in, signal_in, timely_event};
 
 use crate::keys::{INTERRUPT_KEYS, NMI_KEYS, has_only};
+use crate::ranges::{FIRST_TICK, is_tick};
 use crate::values::{find, number, word};
 use reference::error::BoardError;
 use reference::exception::MOST_INTERRUPTS;
@@ -18,11 +19,6 @@ use toml::{Table, Value};
 
 /// The most events that a board can have.
 pub const MOST_SCRIPT_EVENTS: usize = 65_536;
-
-// The least and the greatest tick that an event can have.
-const FIRST_TICK: u64 = 1;
-
-const LAST_TICK: u64 = 1 << 48;
 
 // The events of a board, which needn't have any: a list of tables, not too many.
 #[tactic(auto, using(crate::proofs::Scripts::count_is))]
@@ -118,7 +114,7 @@ fn event_of(interrupts: u8, event: &Table) -> Result<ScriptedEvent, BoardError>
     ensures { result ≡ event_in interrupts (table_view event.now) }
 {
     let at = number(find(event, "at"))?;
-    if !(FIRST_TICK..=LAST_TICK).contains(&at) {
+    if !is_tick(at) {
         return Err(BoardError::OutOfRange);
     }
     let what = signal_of(interrupts, event, find(event, "nmi"))?;
@@ -154,8 +150,8 @@ fn interrupt_signal(interrupts: u8, event: &Table) -> Result<Signal, BoardError>
     Ok(signal)
 }
 
-// The signal on an interrupt that a word names.
-fn change(interrupt: InterruptNumber, name: &str) -> Result<Signal, BoardError>
+/// Returns the signal on an interrupt that a word names, or OutOfRange where it names none.
+pub fn change(interrupt: InterruptNumber, name: &str) -> Result<Signal, BoardError>
     ensures { result ≡ change interrupt name.now }
 {
     match name {
@@ -178,8 +174,8 @@ fn nmi_signal(value: &Value, event: &Table) -> Result<Signal, BoardError>
     Ok(signal)
 }
 
-// The signal of NMI where `nmi` is true. Another value is refused.
-fn nmi(value: Option<bool>) -> Result<Signal, BoardError>
+/// Returns the signal of NMI where `nmi` is true, WrongKind where it is no boolean, and OutOfRange where it is false.
+pub fn nmi(value: Option<bool>) -> Result<Signal, BoardError>
     ensures { result ≡ nmi value }
 {
     match value {

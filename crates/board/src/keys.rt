@@ -7,7 +7,7 @@ ghost use Rattle.board.specs.Texts.{has_only};
 
 use toml::Table;
 
-// The keys of a board.
+/// The keys of a board.
 pub const BOARD_KEYS: [&str; 7] = [
     "flash_base",
     "flash_size",
@@ -18,13 +18,13 @@ pub const BOARD_KEYS: [&str; 7] = [
     "event",
 ];
 
-// The keys of an event on an interrupt.
+/// The keys of an event on an interrupt.
 pub const INTERRUPT_KEYS: [&str; 3] = ["at", "line", "what"];
 
-// The keys of an event of NMI.
+/// The keys of an event of NMI.
 pub const NMI_KEYS: [&str; 2] = ["at", "nmi"];
 
-// Whether a table has no other keys than these.
+/// Returns whether a table has no other keys than these.
 pub fn has_only(known: &[&str], table: &Table) -> bool
     ensures { result ≡ has_only (map (λ key. key.now) known.now) (table_view table.now) }
 {
@@ -36,8 +36,8 @@ pub fn has_only(known: &[&str], table: &Table) -> bool
     true
 }
 
-// Whether a key is one of these.
-fn is_known(known: &[&str], key: &str) -> bool
+/// Returns whether a key is one of these.
+pub fn is_known(known: &[&str], key: &str) -> bool
     ensures { result ≡ list_any (bytes_eq key.now) (map (λ key. key.now) known.now) }
 {
     'keys: for other in known {

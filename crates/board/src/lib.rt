@@ -12,21 +12,23 @@ ghost use Rattle.board.specs.Reading.{Answers, described};
 
 mod board;
 mod events;
-mod keys;
+pub mod keys;
 mod layout;
+pub mod ranges;
 mod values;
 
 pub use board::Board;
-pub use events::MOST_SCRIPT_EVENTS;
+pub use events::{MOST_SCRIPT_EVENTS, change, nmi};
 use events::{events, script_of};
 use keys::{BOARD_KEYS, has_only};
 use layout::layout_of;
+pub use layout::{DEFAULT_REGIONS, region_count};
 pub use reference::board::Layout;
 pub use reference::error::BoardError;
 pub use reference::script::{InterruptNumber, ScriptedEvent, Signal};
 use std::alloc::Global;
 use toml::Table;
-use values::find;
+pub use values::{find, number, word};
 
 /// Returns the board that a text describes, or why the machine doesn't take the text: the first
 /// refusal in the order in which a text is read. `OutOfMemory` may be returned in place of any other

@@ -9,14 +9,15 @@ ghost use Rattle.board.specs.Texts.{number, number_or, whole, word};
 use reference::error::BoardError;
 use toml::{Table, Value};
 
-// Returns the value at a key, if the table has the key.
+/// Returns the value at a key, if the table has the key.
 pub fn find<'a>(table: &'a Table, key: &str) -> Option<&'a Value>
     ensures { option_map (λ v. view v.now) result ≡ get_member key.now (table_view table.now) }
 {
     table.get(key)
 }
 
-// The whole number that a key has to have.
+/// Returns the whole number that a key has to have, or why its value isn't one: MissingKey, WrongKind where it is no
+/// integer, and OutOfRange where it is below 0.
 pub fn number(value: Option<&Value>) -> Result<u64, BoardError>
     ensures number { result ≡ number (option_map (λ v. view v.now) value.entry) }
     ensures small { IfOk result (λ n. n < 2 ^ 63) }
@@ -49,7 +50,7 @@ fn whole(integer: Option<i64>) -> Result<u64, BoardError>
     }
 }
 
-// The word that a key has to have.
+/// Returns the word that a key has to have, or why its value isn't one: MissingKey or WrongKind.
 pub fn word(value: Option<&Value>) -> Result<&str, BoardError>
     ensures { Gives (λ name. name.now) result (word (option_map (λ v. view v.now) value.entry)) }
 {

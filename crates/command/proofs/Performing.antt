@@ -1,6 +1,6 @@
 -- A status is that of a run or of a session.
 use Rattle.std.proofs.Common.{ℕ, List, Result}
-use Rattle.command.specs.declared.request.RunRequest.{RunRequest}
+use Rattle.command.specs.declared.job.RunOptions.{RunOptions}
 use Rattle.command.specs.Sessions.{DebugsTo, SessionTo, Writer}
 use Rattle.command.specs.Statuses.{GoesTo, RunsTo}
 use Rattle.debugger.specs.Sessions.{Sink, Source}
@@ -10,7 +10,7 @@ use Rattle.reference.specs.declared.error.LoadError.{LoadError}
 use Rattle.reference.specs.Boards.{Described}
 use Rattle.reference.specs.Images.{Segment}
 
-pub runs_to : (image : Result (List Segment) LoadError) (board : Result Described BoardError) (run : RunRequest)
+pub runs_to : (image : Result (List Segment) LoadError) (board : Result Described BoardError) (run : RunOptions)
     (old new : Gathered) (file file' : Sink) (status : ℕ) → GoesTo image board run old new file file' status
     → RunsTo image board run status
 runs_to image board run old new file file' status goes =

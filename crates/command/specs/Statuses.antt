@@ -8,7 +8,7 @@ use Rattle.command.specs.declared.error.Error.{Error}
 use Rattle.command.specs.declared.error.Error.TheVariants.{Usage, Load, Board, Start, Size, Io}
 use Rattle.command.specs.declared.files.FileError.{FileError}
 use Rattle.command.specs.declared.files.FileError.TheVariants as file
-use Rattle.command.specs.declared.request.RunRequest.{RunRequest}
+use Rattle.command.specs.declared.job.RunOptions.{RunOptions}
 use Rattle.command.specs.Saving.{FailsToSave, Saves}
 use Rattle.command_line.specs.Asked.{Answer, usage, help, version, memory, text_of}
 use Rattle.debugger.specs.Sessions.{Sink}
@@ -62,7 +62,7 @@ Traces selection steps s old new (Ok why) =
 Traces selection steps s old new (Err error) = (error ≡ Io) × IsCut (selected_trace selection steps s) old new
 
 -- the same, and after the whole text the last state goes to its file; or a call of the file's writer failed
-abbrev pub Runs : RunRequest → State → Gathered → Gathered → Sink → Sink → Result Stop Error → Type 0
+abbrev pub Runs : RunOptions → State → Gathered → Gathered → Sink → Sink → Result Stop Error → Type 0
 Runs run s old new file file' (Ok why) =
     Traces run.trace run.steps s old new (Ok why) × Saves (text_of run.state) (after run.steps s) file file'
 Runs run s old new file file' (Err error) =
@@ -75,7 +75,7 @@ abbrev pub Refuses : Error → Gathered → Gathered → Sink → Sink → Resul
 Refuses error old new file file' result = (result ≡ Err error) × (new ≡ old) × (file' ≡ file)
 
 -- a run from a start state, or out of memory for it, or the refusal of the start
-abbrev pub Starts : RunRequest → Result State StartError → Gathered → Gathered → Sink → Sink → Result Stop Error
+abbrev pub Starts : RunOptions → Result State StartError → Gathered → Gathered → Sink → Sink → Result Stop Error
     → Type 0
 Starts run (Ok s) old new file file' result =
     Runs run s old new file file' result ⊎ Refuses (Start NoMemory) old new file file' result
@@ -83,7 +83,7 @@ Starts run (Err refusal) old new file file' result = Refuses (Start refusal) old
 
 -- an image or a board that is refused is refused as the definition refuses it, the image first; out of memory for
 -- the board may take the place of every later refusal
-abbrev pub Executes : Result (List Segment) LoadError → Result Described BoardError → RunRequest → Gathered → Gathered
+abbrev pub Executes : Result (List Segment) LoadError → Result Described BoardError → RunOptions → Gathered → Gathered
     → Sink → Sink → Result Stop Error → Type 0
 Executes (Ok image) (Ok board) run old new file file' result =
     Starts run (start board image) old new file file' result ⊎ Refuses (Board OutOfMemory) old new file file' result
@@ -102,14 +102,14 @@ status_of expected (Ok why) = ending_status expected why
 status_of expected (Err error) = error_status error
 
 -- an image is run on a board, its last state goes to its file, and the status is that of the end
-pub record GoesTo (image : Result (List Segment) LoadError) (board : Result Described BoardError) (run : RunRequest)
+pub record GoesTo (image : Result (List Segment) LoadError) (board : Result Described BoardError) (run : RunOptions)
     (old new : Gathered) (file file' : Sink) (status : ℕ) : Type 0 where
   pub result : Result Stop Error
   pub executed : Executes image board run old new file file' result
   pub is : status ≡ status_of (text_of run.expect) result
 
 -- the status is that of a run of the image on the board
-pub record RunsTo (image : Result (List Segment) LoadError) (board : Result Described BoardError) (run : RunRequest)
+pub record RunsTo (image : Result (List Segment) LoadError) (board : Result Described BoardError) (run : RunOptions)
     (status : ℕ) : Type 0 where
   pub old : Gathered
   pub new : Gathered

@@ -3,10 +3,10 @@ use Rattle.std.specs.Prelude.{◌≡◌, ◌⊎◌, ℕ, ◌^◌, ◌≤◌, if�
 use Rattle.std.specs.Prelude.{codes}
 use Rattle.std.specs.Str.{bytes_eq}
 use Rattle.std.specs.Str.Parse.{IsNumeral, digits_value, without_leading_plus}
-use Rattle.command.specs.declared.request.Request.{Request}
-use Rattle.command.specs.declared.request.RunRequest.{RunRequest}
-use Rattle.command.specs.declared.request.Task.{Task}
-use Rattle.command.specs.declared.request.Task.TheVariants.{Run, Report, Debug}
+use Rattle.command.specs.declared.job.Job.{Job}
+use Rattle.command.specs.declared.job.RunOptions.{RunOptions}
+use Rattle.command.specs.declared.job.Task.{Task}
+use Rattle.command.specs.declared.job.Task.TheVariants.{Run, Report, Debug}
 use Rattle.command_line.specs.Asked.{Asked, AskedDebug, AskedReport, AskedRun, IsRefused, IsTaken, answer_of, asked}
 use Rattle.command_line.specs.Asked.{memory}
 use Rattle.command_line.specs.Asked.{text_of, usage}
@@ -46,7 +46,7 @@ selection_asked None = Some which.All
 selection_asked (Some text) = selection_named text
 
 -- the task is the run that is asked for
-pub record IsTheRun (a : AskedRun) (run : RunRequest) : Type 0 where
+pub record IsTheRun (a : AskedRun) (run : RunOptions) : Type 0 where
   pub steps : run.steps ≡ number_in a.steps
   pub bounded : run.steps ≤ 2 ^ 32
   pub trace : selection_asked a.trace ≡ Some run.trace
@@ -68,21 +68,21 @@ IsReport a Debug = ⊥
 abbrev pub MayBeWrong : AskedRun → Type 0
 MayBeWrong a = (¬ IsSteps a.steps) ⊎ ((selection_asked a.trace ≡ None) ⊎ IsSome a.expect)
 
--- the request is the run that is asked for, or a value in it is wrong, or memory ran out for the message
-abbrev pub AsksRun : AskedRun → Result Request WordsError → Type 0
-AsksRun a (Ok request) = (request.board.now ≡ a.board) × (request.image.now ≡ a.image) × IsRun a request.task
+-- the job is the run that is asked for, or a value in it is wrong, or memory ran out for the message
+abbrev pub AsksRun : AskedRun → Result Job WordsError → Type 0
+AsksRun a (Ok job) = (job.board.now ≡ a.board) × (job.image.now ≡ a.image) × IsRun a job.task
 AsksRun a (Err error) = ((answer_of error ≡ usage) × MayBeWrong a) ⊎ (answer_of error ≡ memory)
 
--- the request is the report that is asked for, or its steps are no number of steps, or memory ran out for the message
-abbrev pub AsksReport : AskedReport → Result Request WordsError → Type 0
-AsksReport a (Ok request) = (request.board.now ≡ a.board) × (request.image.now ≡ a.image) × IsReport a request.task
+-- the job is the report that is asked for, or its steps are no number of steps, or memory ran out for the message
+abbrev pub AsksReport : AskedReport → Result Job WordsError → Type 0
+AsksReport a (Ok job) = (job.board.now ≡ a.board) × (job.image.now ≡ a.image) × IsReport a job.task
 AsksReport a (Err error) = ((answer_of error ≡ usage) × (¬ IsSteps a.steps)) ⊎ (answer_of error ≡ memory)
 
-abbrev pub AsksDebug : AskedDebug → Result Request WordsError → Type 0
-AsksDebug a (Ok request) = (request.board.now ≡ a.board) × (request.image.now ≡ a.image) × (request.task ≡ Debug)
+abbrev pub AsksDebug : AskedDebug → Result Job WordsError → Type 0
+AsksDebug a (Ok job) = (job.board.now ≡ a.board) × (job.image.now ≡ a.image) × (job.task ≡ Debug)
 AsksDebug a (Err error) = ⊥
 
-abbrev pub Asks : Asked → Result Request WordsError → Type 0
+abbrev pub Asks : Asked → Result Job WordsError → Type 0
 Asks (asks.run a) result = AsksRun a result
 Asks (asks.report a) result = AsksReport a result
 Asks (asks.debug a) result = AsksDebug a result
@@ -94,11 +94,11 @@ MayRefuse (Some (asks.run a)) = MayBeWrong a
 MayRefuse (Some (asks.report a)) = ¬ IsSteps a.steps
 MayRefuse (Some (asks.debug a)) = ⊥
 
--- arguments that `clap` takes ask for the request, or have a wrong value. Others are answered as one of the errors
+-- arguments that `clap` takes ask for the job, or have a wrong value. Others are answered as one of the errors
 -- that `clap` finds says; and out of memory may come in place of all
-abbrev pub Requests : List (List ℕ) → Result Request WordsError → Type 0
-Requests words (Ok request) = IsTaken words × ((a : Asked) × (asked words ≡ Some a) × Asks a (Ok request))
-Requests words (Err error) =
+abbrev pub AsksFor : List (List ℕ) → Result Job WordsError → Type 0
+AsksFor words (Ok job) = IsTaken words × ((a : Asked) × (asked words ≡ Some a) × Asks a (Ok job))
+AsksFor words (Err error) =
     (answer_of error ≡ memory)
     ⊎ (IsRefused words error ⊎ ((answer_of error ≡ usage) × MayRefuse (asked words)))
 

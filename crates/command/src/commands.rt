@@ -11,15 +11,15 @@ ghost use Rattle.std.specs.IoError.{error_kind};
 ghost use Rattle.std.specs.declared.io.ErrorKind.TheVariants as kind;
 
 use crate::debugging::debug;
-use crate::engine::go;
 use crate::error::{Error, tell};
 use crate::files::{FileError, InputFile, read_file};
+use crate::job::{Job, RunOptions, Task, read_words};
 use crate::last_error::LastError;
 use crate::reporting::report;
-use crate::request::{Request, RunRequest, Task, read_words};
+use crate::running::go;
 use crate::state_file::StateFile;
 use command_line::WordsError;
-use machine::{Buffered, In, Out, Over, Paged};
+use machine::{Buffered, Over, Paged};
 use messages::{Escaped, Messages};
 use std::alloc::Global;
 use std::io;
@@ -40,7 +40,7 @@ pub fn program<R: Files + AllocGlobal, I: Read + Drop, W: Write + Drop, E: Write
 ) -> u8 {
     let mut err = Messages::new(err);
     let status = match read_words(rt.alloc(), words) {
-        Ok(request) => carry_out(rt, request, input, out, &mut err),
+        Ok(job) => do_job(rt, job, input, out, &mut err),
         Err(error) => answer(error, out, &mut err),
     };
     let _ = err.flush();
@@ -79,30 +79,30 @@ pub fn answer<W: Write + Drop, E: Write>(error: WordsError, mut out: W, err: &mu
 }
 
 /// Reads the image, then the board, and runs, reports or debugs the image.
-fn carry_out<R: Files + AllocGlobal, I: Read + Drop, W: Write + Drop, E: Write>(
+fn do_job<R: Files + AllocGlobal, I: Read + Drop, W: Write + Drop, E: Write>(
     rt: &R,
-    request: Request<'_>,
+    job: Job<'_>,
     input: I,
     out: W,
     err: &mut E,
 ) -> u8 {
-    let image = match read_file(rt, request.image) {
+    let image = match read_file(rt, job.image) {
         Ok(bytes) => bytes,
-        Err(error) => return tell_file("IMAGE", request.image, &error, err),
+        Err(error) => return tell_file("IMAGE", job.image, &error, err),
     };
-    let board = match read_file(rt, request.board) {
+    let board = match read_file(rt, job.board) {
         Ok(bytes) => bytes,
-        Err(error) => return tell_file("--board", request.board, &error, err),
+        Err(error) => return tell_file("--board", job.board, &error, err),
     };
     let image = InputFile {
-        path: request.image,
+        path: job.image,
         bytes: image.as_slice(),
     };
     let board = InputFile {
-        path: request.board,
+        path: job.board,
         bytes: board.as_slice(),
     };
-    perform(rt, request.task, image, board, input, out, err)
+    perform(rt, job.task, image, board, input, out, err)
 }
 
 /// Runs, reports or debugs an image on a board, as the task says.
@@ -118,30 +118,31 @@ fn perform<R: Files + AllocGlobal, I: Read + Drop, W: Write + Drop, E: Write>(
     ensures { Performs (image_of image.entry.bytes.now) (board_in_file board.entry.bytes.now) task.entry result }
 {
     match task {
-        Task::Run(asked) => run(rt, image, board, asked, out, err),
+        Task::Run(options) => run(rt, image, board, options, out, err),
         Task::Report(steps) => report_by(rt.alloc(), image, board, steps, out, err),
         Task::Debug => debug_by(rt.alloc(), image, board, input, out, err),
     }
 }
 
-/// Runs an image on a board: makes the blank of the ledger of `out`.
+/// Runs an image on a board: makes the blanks of the two ledgers.
 fn run<R: Files + AllocGlobal, W: Write + Drop, E: Write>(
     rt: &R,
     image: InputFile<'_>,
     board: InputFile<'_>,
-    asked: RunRequest<'_>,
+    options: RunOptions<'_>,
     out: W,
     err: &mut E,
 ) -> u8
-    ensures { RunsTo (image_of image.entry.bytes.now) (board_in_file board.entry.bytes.now) asked.entry result }
+    ensures { RunsTo (image_of image.entry.bytes.now) (board_in_file board.entry.bytes.now) options.entry result }
 {
-    run_files::<R, W, E, Brand>(rt, image, board, asked, out, err, Blank::new(1))
+    let (sent, saved) = (Blank::new(1), Blank::new(1));
+    run_files::<R, W, E, Brand, Brand>(rt, image, board, options, out, err, sent, saved)
 }
 
-/// Writes why standard output failed, if it did.
-fn tell_failed<E: Write>(error: Option<io::Error>, err: &mut E) {
+/// Writes why a stream failed, if it did.
+fn tell_failed<E: Write>(name: &str, error: Option<io::Error>, err: &mut E) {
     if let Some(error) = error {
-        let _ = writeln!(err, "  standard output: {error}");
+        let _ = writeln!(err, "  {name}: {error}");
     }
 }
 
@@ -158,11 +159,11 @@ fn report_by<W: Write + Drop, E: Write>(
 {
     let mut out = LastError::new(out);
     let status = report(alloc, image, board, steps, &mut out, err);
-    tell_failed(out.error(), err);
+    tell_failed("standard output", out.error(), err);
     status
 }
 
-/// Debugs an image on a board by the commands of a reader: makes the blank of its ledger.
+/// Debugs an image on a board by the commands of a reader: makes the blanks of the two ledgers.
 fn debug_by<I: Read + Drop, W: Write + Drop, E: Write>(
     alloc: Global,
     image: InputFile<'_>,
@@ -173,119 +174,82 @@ fn debug_by<I: Read + Drop, W: Write + Drop, E: Write>(
 ) -> u8
     ensures { SessionTo (image_of image.entry.bytes.now) (board_in_file board.entry.bytes.now) result }
 {
-    debug_from::<I, W, E, Brand>(alloc, image, board, input, out, err, Blank::new(1))
+    let (read, sent) = (Blank::new(1), Blank::new(1));
+    debug_files::<I, W, E, Brand, Brand>(alloc, image, board, input, out, err, read, sent)
 }
 
-/// Debugs an image on a board: reads ahead in `input`, and writes why it failed. `blank` counts the
-/// calls of `input` that fail.
-fn debug_from<I: Read + Drop, W: Write + Drop, E: Write, K: Ledger>(
+/// Debugs an image on a board: reads ahead in `input`, gathers what goes to `out`, and writes why one of them
+/// failed. `read` counts the calls of `input` that fail, and `sent` those of `out`.
+#[tactic(auto, using(crate::proofs::Performing::session_to))]
+fn debug_files<I: Read + Drop, W: Write + Drop, E: Write, J: Ledger, K: Ledger>(
     alloc: Global,
     image: InputFile<'_>,
     board: InputFile<'_>,
     input: I,
     out: W,
     err: &mut E,
-    blank: Blank,
+    read: Blank,
+    sent: Blank,
 ) -> u8
-    requires name { blank.name ≡ K.name }
-    requires parts { blank.parts ≡ K.parts }
-    requires some { blank.parts ≡ 1 }
+    requires read_name { read.name ≡ J.name }
+    requires read_parts { read.parts ≡ J.parts }
+    requires read_some { read.parts ≡ 1 }
+    requires sent_name { sent.name ≡ K.name }
+    requires sent_parts { sent.parts ≡ K.parts }
+    requires sent_some { sent.parts ≡ 1 }
     ensures { SessionTo (image_of image.entry.bytes.now) (board_in_file board.entry.bytes.now) result }
 {
-    let input = Over::new(LastError::new(input), blank);
-    let mut input: Buffered<Over<LastError<I>, K>> = Buffered::new(input);
-    let status = debug_to::<Buffered<Over<LastError<I>, K>>, W, E, Brand>(
-        alloc,
-        image,
-        board,
-        &mut input,
-        out,
+    let input = Over::new(LastError::new(input), read);
+    let mut input: Buffered<Over<LastError<I>, J>> = Buffered::new(input);
+    let mut out: Paged<Over<LastError<W>, K>> = Paged::new(Over::new(LastError::new(out), sent));
+    let status = debug(alloc, image, board, &mut input, &mut out, err);
+    tell_failed(
+        "standard output",
+        out.into_inner().into_inner().error(),
         err,
-        Blank::new(1),
     );
-    if let Some(error) = input.into_inner().into_inner().error() {
-        let _ = writeln!(err, "  standard input: {error}");
-    }
-    status
-}
-
-/// Debugs an image on a board: gathers what goes to `out`, and writes why it failed. `blank` counts the
-/// calls of `out` that fail.
-#[tactic(auto, using(crate::proofs::Performing::session_to))]
-fn debug_to<I: In, W: Write + Drop, E: Write, K: Ledger>(
-    alloc: Global,
-    image: InputFile<'_>,
-    board: InputFile<'_>,
-    input: &mut I,
-    out: W,
-    err: &mut E,
-    blank: Blank,
-) -> u8
-    requires name { blank.name ≡ K.name }
-    requires parts { blank.parts ≡ K.parts }
-    requires some { blank.parts ≡ 1 }
-    ensures { SessionTo (image_of image.entry.bytes.now) (board_in_file board.entry.bytes.now) result }
-{
-    let mut out: Paged<Over<LastError<W>, K>> = Paged::new(Over::new(LastError::new(out), blank));
-    let status = debug(alloc, image, board, input, &mut out, err);
-    tell_failed(out.into_inner().into_inner().error(), err);
-    status
-}
-
-/// Runs an image on a board: gathers what goes to `out`, and writes why it failed. `blank` counts the calls
-/// of `out` that fail.
-fn run_files<R: Files + AllocGlobal, W: Write + Drop, E: Write, K: Ledger>(
-    rt: &R,
-    image: InputFile<'_>,
-    board: InputFile<'_>,
-    asked: RunRequest<'_>,
-    out: W,
-    err: &mut E,
-    blank: Blank,
-) -> u8
-    requires name { blank.name ≡ K.name }
-    requires parts { blank.parts ≡ K.parts }
-    requires some { blank.parts ≡ 1 }
-    ensures { RunsTo (image_of image.entry.bytes.now) (board_in_file board.entry.bytes.now) asked.entry result }
-{
-    let mut out: Paged<Over<LastError<W>, K>> = Paged::new(Over::new(LastError::new(out), blank));
-    let status = run_saving::<R, Over<LastError<W>, K>, E, Brand>(
-        rt,
-        image,
-        board,
-        asked,
-        &mut out,
+    tell_failed(
+        "standard input",
+        input.into_inner().into_inner().error(),
         err,
-        Blank::new(1),
     );
-    tell_failed(out.into_inner().into_inner().error(), err);
     status
 }
 
-/// Runs an image on a board: makes an `Out` of the file for the state, and writes why it failed. `blank`
-/// counts the calls of the file that fail.
+/// Runs an image on a board: gathers what goes to `out`, makes an `Out` of the file for the state, and writes
+/// why one of them failed. `sent` counts the calls of `out` that fail, and `saved` those of the file.
 #[tactic(auto, using(crate::proofs::Performing::runs_to))]
-fn run_saving<R: Files + AllocGlobal, O: Out + Drop, E: Write, K: Ledger>(
+fn run_files<R: Files + AllocGlobal, W: Write + Drop, E: Write, J: Ledger, K: Ledger>(
     rt: &R,
     image: InputFile<'_>,
     board: InputFile<'_>,
-    asked: RunRequest<'_>,
-    out: &mut Paged<O>,
+    options: RunOptions<'_>,
+    out: W,
     err: &mut E,
-    blank: Blank,
+    sent: Blank,
+    saved: Blank,
 ) -> u8
-    requires name { blank.name ≡ K.name }
-    requires parts { blank.parts ≡ K.parts }
-    requires some { blank.parts ≡ 1 }
-    ensures { RunsTo (image_of image.entry.bytes.now) (board_in_file board.entry.bytes.now) asked.entry result }
+    requires sent_name { sent.name ≡ J.name }
+    requires sent_parts { sent.parts ≡ J.parts }
+    requires sent_some { sent.parts ≡ 1 }
+    requires saved_name { saved.name ≡ K.name }
+    requires saved_parts { saved.parts ≡ K.parts }
+    requires saved_some { saved.parts ≡ 1 }
+    ensures { RunsTo (image_of image.entry.bytes.now) (board_in_file board.entry.bytes.now) options.entry result }
 {
-    let path = asked.state.unwrap_or("");
+    let mut out: Paged<Over<LastError<W>, J>> = Paged::new(Over::new(LastError::new(out), sent));
+    let path = options.state.unwrap_or("");
     let file = LastError::new(StateFile::new(rt, path));
-    let mut state: Over<LastError<StateFile<'_, R>>, K> = Over::new(file, blank);
-    let status = go(rt.alloc(), image, board, asked, out, &mut state, err);
+    let mut state: Over<LastError<StateFile<'_, R>>, K> = Over::new(file, saved);
+    let status = go(rt.alloc(), image, board, options, &mut out, &mut state, err);
     if let Some(error) = state.into_inner().error() {
-        write_reason("--state", path, &error, err);
+        tell_path("--state", path, &error, err);
     }
+    tell_failed(
+        "standard output",
+        out.into_inner().into_inner().error(),
+        err,
+    );
     status
 }
 
@@ -305,14 +269,14 @@ fn tell_file<E: Write>(argument: &str, path: &str, error: &FileError, err: &mut 
         }
         FileError::Read(error) => {
             let status = tell(Error::Io, err);
-            write_reason(argument, path, error, err);
+            tell_path(argument, path, error, err);
             status
         }
     }
 }
 
 /// Writes what the system says of the file of an argument, or that its path is empty.
-fn write_reason<E: Write>(argument: &str, path: &str, error: &io::Error, err: &mut E) {
+fn tell_path<E: Write>(argument: &str, path: &str, error: &io::Error, err: &mut E) {
     let _ = if path.is_empty() {
         writeln!(err, "  {argument}: the path is empty")
     } else {

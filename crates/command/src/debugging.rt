@@ -5,10 +5,10 @@ ghost use Rattle.command.specs.Sessions.{Debugs, DebugsTo, Talked};
 ghost use Rattle.command.specs.Statuses.{board_in_file};
 ghost use Rattle.reference.specs.Images.{image_of};
 
-use crate::engine::board_of_file;
 use crate::error::{Error, tell};
-use crate::explanations::explain;
 use crate::files::InputFile;
+use crate::reason::write_reason;
+use crate::running::board_of_file;
 use debugger::session;
 use elf::load;
 use machine::{Fast, In, Out};
@@ -39,7 +39,7 @@ pub fn debug<I: In, O: Out, E: Write>(
         Ok(()) => 0,
         Err(error) => {
             let status = tell(error, err);
-            let _ = explain(alloc, error, image, board, err);
+            let _ = write_reason(alloc, error, image, board, err);
             status
         }
     }

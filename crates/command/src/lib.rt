@@ -4,22 +4,22 @@
 
 mod commands;
 mod debugging;
-mod engine;
 mod error;
 mod expectation;
-mod explanations;
 mod files;
+mod job;
 mod last_error;
+mod reason;
 mod reporting;
-mod request;
+mod running;
 mod state_file;
 
 pub use command_line::WordsError;
 pub use commands::{answer, program, refuse_words};
 pub use debugging::debug;
-pub use engine::go;
 pub use error::{Error, tell};
-pub use explanations::explain;
 pub use files::{FileError, InputFile, read_file, words};
+pub use job::{Job, RunOptions, Task, read_words};
+pub use reason::write_reason;
 pub use reporting::report;
-pub use request::{Request, RunRequest, Task, read_words};
+pub use running::go;

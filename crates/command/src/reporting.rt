@@ -7,10 +7,10 @@ ghost use Rattle.command.specs.declared.error.Error.TheVariants.{Io, Start};
 ghost use Rattle.reference.specs.declared.error.StartError.TheVariants.{NoMemory};
 ghost use Rattle.reference.specs.Images.{image_of};
 
-use crate::engine::board_of_file;
 use crate::error::{Error, stop_status, tell};
-use crate::explanations::explain;
 use crate::files::InputFile;
+use crate::reason::write_reason;
+use crate::running::board_of_file;
 use elf::load;
 use machine::{Fast, Layout, StartError, Stop};
 use report::{Report, write_page};
@@ -43,7 +43,7 @@ pub fn report<W: Write, E: Write>(
         Ok(stop) => stop_status(stop),
         Err(error) => {
             let status = tell(error, err);
-            let _ = explain(alloc, error, image, board, err);
+            let _ = write_reason(alloc, error, image, board, err);
             status
         }
     }

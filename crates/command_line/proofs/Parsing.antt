@@ -45,3 +45,5 @@ pub refused : (words : List Text) (app : App) (e : Error) (error : WordsError) �
 refused words app e error is fails h =
     let failed : HasKind (fault_of app words) e = fails (ap is_simple_and_free is ∙ simple_and_free) in
     by_kinds words e error (subst (λ (a : App). HasKind (fault_of a words) e) is failed) h
+
+pub ruleset parsing_lemmas = (taken, refused, simple, simple_and_free)

@@ -9,7 +9,6 @@ use Rattle.clap.specs.Walk.{Row, Text, first_of}
 use Rattle.clap.specs.declared.error.kind.ErrorKind.{ErrorKind}
 use Rattle.clap.specs.declared.error.kind.ErrorKind.TheVariants as kind
 use Rattle.command_line.specs.Commands.{marm}
-use Rattle.command_line.specs.declared.words.ReportWords.{ReportWords}
 use Rattle.command_line.specs.declared.words.RunWords.{RunWords}
 use Rattle.command_line.specs.declared.words.Words.{Words}
 use Rattle.command_line.specs.declared.words.Words.TheVariants as words
@@ -98,13 +97,11 @@ run_of r = record {
   state = text_of r.state;
 }
 
-abbrev pub report_of : ReportWords → AskedReport
-report_of r = record { board = r.board.now; steps = r.steps.now; image = r.image.now }
-
 abbrev pub asked_of : Words → Asked
 asked_of (words.Run r) = run (run_of r)
-asked_of (words.Report r) = report (report_of r)
-asked_of (words.Debug d) = debug (record { board = d.board.now; image = d.image.now })
+asked_of (words.Report board steps image) =
+    report (record { board = board.now; steps = steps.now; image = image.now })
+asked_of (words.Debug board image) = debug (record { board = board.now; image = image.now })
 
 -- how the program answers arguments that it doesn't take
 pub data Answer : Type 0 where

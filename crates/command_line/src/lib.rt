@@ -10,4 +10,4 @@ mod texts;
 mod words;
 
 pub use commands::MOST_STEPS;
-pub use words::{DebugWords, ReportWords, RunWords, Words, WordsError, words_of};
+pub use words::{RunWords, Words, WordsError, words_of};

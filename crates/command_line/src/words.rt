@@ -26,32 +26,20 @@ pub struct RunWords<'a> {
     pub state: Option<&'a str>,
 }
 
-/// The arguments of `report`.
-#[derive(Clone, Copy)]
-pub struct ReportWords<'a> {
-    /// The path of the board file.
-    pub board: &'a str,
-    /// How many steps, in digits.
-    pub steps: &'a str,
-    /// The path of the image file.
-    pub image: &'a str,
-}
-
-/// The arguments of `debug`.
-#[derive(Clone, Copy)]
-pub struct DebugWords<'a> {
-    /// The path of the board file.
-    pub board: &'a str,
-    /// The path of the image file.
-    pub image: &'a str,
-}
-
-/// A run, a report of one, or a session, as the arguments name it.
+/// A run, a report of one, or a session, as the arguments name it: the paths of the board file and of the image
+/// file, and how many steps, in digits.
 #[derive(Clone, Copy)]
 pub enum Words<'a> {
     Run(RunWords<'a>),
-    Report(ReportWords<'a>),
-    Debug(DebugWords<'a>),
+    Report {
+        board: &'a str,
+        steps: &'a str,
+        image: &'a str,
+    },
+    Debug {
+        board: &'a str,
+        image: &'a str,
+    },
 }
 
 /// Why the arguments name nothing of these.
@@ -68,7 +56,7 @@ pub enum WordsError {
 }
 
 /// Returns what the arguments name; the first one is the program's name.
-#[tactic(auto, using(crate::proofs::Parsing::taken, crate::proofs::Parsing::refused, crate::proofs::Parsing::simple, crate::proofs::Parsing::simple_and_free))]
+#[tactic(auto, using(crate::proofs::Parsing::parsing_lemmas))]
 pub fn words_of<'a>(alloc: Global, words: &'a [String]) -> Result<Words<'a>, WordsError>
     ensures { Takes (map string_bytes words.entry.now) result }
 {
@@ -112,11 +100,11 @@ fn report_words<'a>(alloc: Global, report: &ArgMatches<'a>) -> Result<Words<'a>,
         value_of(report, "steps"),
         value_of(report, "image"),
     ) {
-        (Some(board), Some(steps), Some(image)) => Ok(Words::Report(ReportWords {
+        (Some(board), Some(steps), Some(image)) => Ok(Words::Report {
             board,
             steps,
             image,
-        })),
+        }),
         _ => Err(WordsError::Wrong(String::new(alloc))),
     }
 }
@@ -127,7 +115,7 @@ fn debug_words<'a>(alloc: Global, debug: &ArgMatches<'a>) -> Result<Words<'a>, W
         (first_of (codes "image") (rows_of (found_of debug.now)))) result }
 {
     match (value_of(debug, "board"), value_of(debug, "image")) {
-        (Some(board), Some(image)) => Ok(Words::Debug(DebugWords { board, image })),
+        (Some(board), Some(image)) => Ok(Words::Debug { board, image }),
         _ => Err(WordsError::Wrong(String::new(alloc))),
     }
 }

@@ -11,36 +11,48 @@ mod overlap;
 mod program_header;
 
 pub use image::{Image, MOST_SEGMENTS, Segment};
-use number::{halfword, word};
+pub use number::{halfword, word};
 use overlap::have_overlap;
-use program_header::{PROGRAM_HEADER_SIZE, image_of_headers};
+pub use overlap::share_an_address;
+use program_header::image_of_headers;
+pub use program_header::{P_FILESZ, P_OFFSET, PROGRAM_HEADER_SIZE, is_segment, segment_of_header};
 pub use reference::error::LoadError;
 
-// "ELF Header": its size, then the places of its fields.
-const ELF_HEADER_SIZE: usize = 52;
+/// The size of the ELF header in bytes ("ELF Header").
+pub const ELF_HEADER_SIZE: usize = 52;
 
-const EI_CLASS: usize = 4;
+/// The place of the class in the file.
+pub const EI_CLASS: usize = 4;
 
-const EI_DATA: usize = 5;
+/// The place of the data encoding.
+pub const EI_DATA: usize = 5;
 
-const E_TYPE: usize = 16;
+/// The place of the type of file, a halfword.
+pub const E_TYPE: usize = 16;
 
-const E_MACHINE: usize = 18;
+/// The place of the machine, a halfword.
+pub const E_MACHINE: usize = 18;
 
-const E_PHOFF: usize = 28;
+/// The place of the place of the program header table, a word.
+pub const E_PHOFF: usize = 28;
 
-const E_PHENTSIZE: usize = 42;
+/// The place of the size of a program header, a halfword.
+pub const E_PHENTSIZE: usize = 42;
 
-const E_PHNUM: usize = 44;
+/// The place of the number of program headers, a halfword.
+pub const E_PHNUM: usize = 44;
 
-// "ELF Header": what the fields have to be.
-const ELFCLASS32: u8 = 1;
+/// The class that is taken: 32 bits.
+pub const ELFCLASS32: u8 = 1;
 
-const ELFDATA2LSB: u8 = 1;
+/// The data encoding that is taken: little endian.
+pub const ELFDATA2LSB: u8 = 1;
 
-const ET_EXEC: u16 = 2;
+/// The type of file that is taken: an executable.
+pub const ET_EXEC: u16 = 2;
 
-const EM_ARM: u16 = 40;
+/// The machine that is taken: ARM.
+pub const EM_ARM: u16 = 40;
 
 /// Returns the image that an ELF file holds, or why the machine doesn't take the file: the first
 /// refusal in the order in which the file is checked.

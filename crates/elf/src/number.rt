@@ -5,7 +5,7 @@ ghost use Rattle.reference.specs.Images.{number_in};
 
 use byteorder::{ByteOrder, LittleEndian};
 
-// The number in the two bytes at a place of the file.
+/// Returns the number in the two bytes at a place of the file.
 pub fn halfword(file: &[u8], at: usize) -> u16
     requires { at + 2 ≤ length file.now }
     ensures { result ≡ number_in file.now at 2 }
@@ -13,7 +13,7 @@ pub fn halfword(file: &[u8], at: usize) -> u16
     LittleEndian::read_u16(&file[at..])
 }
 
-// The number in the four bytes at a place of the file.
+/// Returns the number in the four bytes at a place of the file.
 pub fn word(file: &[u8], at: usize) -> u32
     requires { at + 4 ≤ length file.now }
     ensures { result ≡ number_in file.now at 4 }

@@ -35,8 +35,8 @@ fn is_overlapped(segment: &Segment<'_>, others: &[Segment<'_>]) -> bool
     false
 }
 
-// Whether two segments share an address.
-fn share_an_address(one: &Segment<'_>, other: &Segment<'_>) -> bool
+/// Returns whether two segments share an address.
+pub fn share_an_address(one: &Segment<'_>, other: &Segment<'_>) -> bool
     ensures { result ≡ share_an_address (segment_of one.now) (segment_of other.now) }
 {
     u64::from(one.address.max(other.address)) < target_end(one).min(target_end(other))

@@ -9,16 +9,18 @@ use crate::number::word;
 use arrayvec::ArrayVec;
 use reference::error::LoadError;
 
-// A program header's size, and the places of its fields.
+/// The size of a program header in bytes.
 pub const PROGRAM_HEADER_SIZE: usize = 32;
 
 const P_TYPE: usize = 0;
 
-const P_OFFSET: usize = 4;
+/// The place of the place of its bytes in the file, a word, from its beginning.
+pub const P_OFFSET: usize = 4;
 
 const P_PADDR: usize = 12;
 
-const P_FILESZ: usize = 16;
+/// The place of the number of its bytes in the file, a word, from its beginning.
+pub const P_FILESZ: usize = 16;
 
 // The type of a segment that is to be loaded.
 const PT_LOAD: u32 = 1;
@@ -39,17 +41,18 @@ pub fn image_of_headers(file: &[u8], table: usize, count: usize) -> Result<Image
     Ok(Image::new(segments))
 }
 
-// Whether the program header at a place of the file is of a segment: it is to be loaded, and has
-// bytes.
-fn is_segment(file: &[u8], at: usize) -> bool
+/// Returns whether the program header at a place of the file is of a segment: it is to be loaded, and has
+/// bytes.
+pub fn is_segment(file: &[u8], at: usize) -> bool
     requires { at + PROGRAM_HEADER_SIZE ≤ length file.now }
     ensures { result ≡ is_segment file.now at }
 {
     word(file, at + P_TYPE) == PT_LOAD && word(file, at + P_FILESZ) != 0
 }
 
-// The segment of the program header at a place of the file, where its bytes lie in the file.
-fn segment_of_header(file: &[u8], at: usize) -> Result<Segment<'_>, LoadError>
+/// Returns the segment of the program header at a place of the file, where its bytes lie in the file, and else
+/// SegmentOutsideFile.
+pub fn segment_of_header(file: &[u8], at: usize) -> Result<Segment<'_>, LoadError>
     requires { at + PROGRAM_HEADER_SIZE ≤ length file.now }
     ensures { Gives segment_of result (segment_in file.now at) }
 {

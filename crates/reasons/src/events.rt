@@ -1,11 +1,20 @@
 //! Why the script of a board is refused: the event by its place in the file, and its problem.
 
-use crate::keys::{
-    AT, BOARD_KEYS, EVENT, EVENT_TABLE, LINE_NAME, LINES, NMI, WHAT, is_change, is_tick,
-};
+ghost use Rattle.std.specs.Prelude.{◌≡◌, ◌≤◌, ◌<◌, codes, map, nat_lt, IfErr, IfOk};
+ghost use Rattle.toml.specs.Data.{get_member};
+ghost use Rattle.toml.specs.View.{table_view, view};
+ghost use Rattle.board.specs.Texts.{interrupt_signal, nmi_signal, number, only, signal_in, timely_event};
+ghost use Rattle.board.specs.Texts.{where_ok};
+ghost use Rattle.reference.specs.Boards.{is_tick};
+ghost use Rattle.reasons.specs.Problems.{Explained, Names, Passes, change_in, key_of, tick_of};
+
+use crate::keys::{AT, EVENT, EVENT_TABLE, LINE_NAME, NMI, WHAT};
 use crate::problem::Problem;
-use crate::settings::{integer, is_known, unknown};
-use board::MOST_SCRIPT_EVENTS;
+use crate::settings::{unknown, whole_number};
+use board::keys::{BOARD_KEYS, INTERRUPT_KEYS, NMI_KEYS, is_known};
+use board::ranges::{FIRST_TICK, is_tick};
+use board::{InterruptNumber, MOST_SCRIPT_EVENTS, change, find, nmi, number};
+use reference::exception::MOST_INTERRUPTS;
 use toml::{Table, Value};
 
 /// A problem of an event.
@@ -16,8 +25,10 @@ pub struct EventProblem<'a> {
     pub problem: Problem<'a>,
 }
 
-/// Returns the first problem of the script of a board.
-pub fn events_problem(document: &Table) -> Option<EventProblem<'_>> {
+/// Returns the first problem of the script of a board with this many lines.
+pub fn events_problem(document: &Table, lines: u64) -> Option<EventProblem<'_>>
+    requires { lines ≤ MOST_INTERRUPTS }
+{
     let value = document.get(EVENT.name)?;
     let Some(values) = value.as_array() else {
         return Some(EventProblem {
@@ -35,7 +46,7 @@ pub fn events_problem(document: &Table) -> Option<EventProblem<'_>> {
             problem: Problem::Events(values.len()),
         });
     }
-    script_problem(document, values)
+    script_problem(values, lines)
 }
 
 /// Returns the number of the first event, from 1, that has a key.
@@ -62,16 +73,13 @@ fn tables_problem(values: &[Value]) -> Option<EventProblem<'_>> {
     None
 }
 
-/// Returns the first problem of a list of tables.
-fn script_problem<'a>(document: &Table, values: &'a [Value]) -> Option<EventProblem<'a>> {
-    let lines = match integer(document, LINES) {
-        Ok((lines, _)) => lines,
-        Err(_) => 0,
-    };
-    let mut before = 1;
+/// Returns the first problem of a list of tables, on a board with this many lines.
+fn script_problem(values: &[Value], lines: u64) -> Option<EventProblem<'_>>
+    requires { lines ≤ MOST_INTERRUPTS }
+{
+    let mut before = FIRST_TICK;
     'values: for (index, value) in values.iter().enumerate() {
-        let fields = value.as_table()?;
-        match event_tick(fields, lines, before) {
+        match check_event(value, lines, before) {
             Ok(at) => before = at,
             Err(problem) => {
                 return Some(EventProblem {
@@ -85,60 +93,111 @@ fn script_problem<'a>(document: &Table, values: &'a [Value]) -> Option<EventProb
 }
 
 /// Returns the tick of an event, or what is wrong with the event.
-fn event_tick(fields: &Table, lines: i64, before: i64) -> Result<i64, Problem<'_>> {
-    let (at, value) = integer(fields, AT)?;
+#[tactic(auto, unfolding(board::specs::Texts::timely_event, board::specs::Texts::event_in))]
+fn check_event(value: &Value, lines: u64, before: u64) -> Result<u64, Problem<'_>>
+    requires { lines ≤ MOST_INTERRUPTS }
+    ensures { Explained result (tick_of (timely_event lines before (view value.now))) }
+{
+    let Some(fields) = value.as_table() else {
+        return Err(Problem::Kind(EVENT_TABLE, value));
+    };
+    let at = check_tick(fields)?;
+    check_signal(fields, lines)?;
+    if at < before {
+        return Err(Problem::Order(at, before));
+    }
+    Ok(at)
+}
+
+/// Returns the tick that an event names, or what is wrong with it.
+fn check_tick(fields: &Table) -> Result<u64, Problem<'_>>
+    ensures read { Explained result (where_ok is_tick (number (get_member (codes "at") (table_view fields.now)))) }
+    ensures names { IfErr result (λ problem. Names (codes "at") is_tick (key_of problem)) }
+{
+    let (at, value) = whole_number(fields, AT)?;
     if !is_tick(at) {
         return Err(Problem::Value(AT, value));
     }
-    let problem = match fields.get(NMI.name) {
-        Some(value) => nmi_problem(fields, value),
-        None => line_problem(fields, lines),
+    Ok(at)
+}
+
+/// Checks the signal of an event, by whether it has `nmi`.
+fn check_signal(fields: &Table, lines: u64) -> Result<(), Problem<'_>>
+    requires { lines ≤ MOST_INTERRUPTS }
+    ensures { Passes result
+        (signal_in lines (table_view fields.now) (get_member (codes "nmi") (table_view fields.now))) }
+{
+    match find(fields, NMI.name) {
+        Some(value) => check_nmi(fields, value),
+        None => check_line(fields, lines),
+    }
+}
+
+/// Checks an event with `nmi`.
+#[tactic(auto, using(crate::proofs::Numbers::nmi_lemmas), unfolding(board::specs::Texts::nmi_signal))]
+fn check_nmi<'a>(fields: &'a Table, value: &'a Value) -> Result<(), Problem<'a>>
+    ensures { Passes result (nmi_signal (view value.now) (table_view fields.now)) }
+{
+    match nmi(value.as_bool()) {
+        Ok(_) => check_keys(fields, &NMI_KEYS, "at and nmi"),
+        Err(_) if value.is_bool() => Err(Problem::Value(NMI, value)),
+        Err(_) => Err(Problem::Kind(NMI, value)),
+    }
+}
+
+/// Checks an event that names a line of the board.
+#[tactic(auto, unfolding(board::specs::Texts::interrupt_signal))]
+fn check_line(fields: &Table, lines: u64) -> Result<(), Problem<'_>>
+    requires { lines ≤ MOST_INTERRUPTS }
+    ensures { Passes result (interrupt_signal lines (table_view fields.now)) }
+{
+    let line = check_line_number(fields, lines)?;
+    check_change(fields, InterruptNumber::new(line as u8))?;
+    check_keys(fields, &INTERRUPT_KEYS, "at, line and what")
+}
+
+/// Returns the line that an event names, or what is wrong with it.
+#[tactic(auto, using(crate::proofs::Numbers::integer_lemmas))]
+fn check_line_number(fields: &Table, lines: u64) -> Result<u64, Problem<'_>>
+    ensures read { Explained result
+        (where_ok (λ n. nat_lt n lines) (number (get_member (codes "line") (table_view fields.now)))) }
+    ensures few { IfOk result (λ line. line < lines) }
+{
+    let Some(value) = find(fields, LINE_NAME) else {
+        return Err(Problem::Line(None, lines));
     };
-    match problem {
-        Some(problem) => Err(problem),
-        None if at < before => Err(Problem::Order(at, before)),
-        None => Ok(at),
+    match number(Some(value)) {
+        Ok(line) if line < lines => Ok(line),
+        Ok(_) | Err(_) => Err(Problem::Line(Some(value), lines)),
     }
 }
 
-/// Returns the problem of an event with `nmi`.
-fn nmi_problem<'a>(fields: &'a Table, value: &'a Value) -> Option<Problem<'a>> {
-    match value.as_bool() {
-        Some(true) => unknown_problem(fields, &["at", "nmi"], "at and nmi"),
-        Some(false) => Some(Problem::Value(NMI, value)),
-        None => Some(Problem::Kind(NMI, value)),
-    }
-}
-
-/// Returns the problem of an event on a line.
-fn line_problem(fields: &Table, lines: i64) -> Option<Problem<'_>> {
-    let line = fields.get(LINE_NAME);
-    match line.and_then(Value::as_integer) {
-        Some(number) if 0 <= number && number < lines => {}
-        Some(_) | None => return Some(Problem::Line(line, lines)),
-    }
-    let Some(value) = fields.get(WHAT.name) else {
-        return Some(Problem::Missing(WHAT));
+/// Checks the word that says what happens on a line.
+#[tactic(auto, using(crate::proofs::Numbers::no_change))]
+fn check_change(fields: &Table, line: InterruptNumber) -> Result<(), Problem<'_>>
+    ensures { Passes result (change_in line (table_view fields.now)) }
+{
+    let Some(value) = find(fields, WHAT.name) else {
+        return Err(Problem::Missing(WHAT));
     };
     match value.as_str() {
-        Some(word) if is_change(word) => {
-            unknown_problem(fields, &["at", "line", "what"], "at, line and what")
-        }
-        Some(_) => Some(Problem::Value(WHAT, value)),
-        None => Some(Problem::Kind(WHAT, value)),
+        Some(name) => match change(line, name) {
+            Ok(_) => Ok(()),
+            Err(_) => Err(Problem::Value(WHAT, value)),
+        },
+        None => Err(Problem::Kind(WHAT, value)),
     }
 }
 
-/// Returns the problem of the first key of an event that isn't known.
-fn unknown_problem<'a>(
-    fields: &'a Table,
-    known: &[&str],
-    names: &'static str,
-) -> Option<Problem<'a>> {
-    let name = unknown(fields, known)?;
-    if is_known(&BOARD_KEYS, name) && name != EVENT.name {
-        Some(Problem::Misplaced(name))
-    } else {
-        Some(Problem::Unknown(name, names))
+/// Checks that an event has no other keys than these.
+fn check_keys<'a>(fields: &'a Table, known: &[&str], names: &'static str) -> Result<(), Problem<'a>>
+    ensures { Passes result (only (map (λ key. key.now) known.now) (table_view fields.now)) }
+{
+    match unknown(fields, known) {
+        None => Ok(()),
+        Some(name) if is_known(&BOARD_KEYS, name) && name != EVENT.name => {
+            Err(Problem::Misplaced(name))
+        }
+        Some(name) => Err(Problem::Unknown(name, names)),
     }
 }

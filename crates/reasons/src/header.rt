@@ -1,71 +1,77 @@
-//! The fields of an ELF file (TIS ELF 1.2, "Object Files"), as a message shows them.
+//! The program headers of an ELF file (TIS ELF 1.2, "Object Files"), as a message shows them. Their fields and tests
+//! are those of the loader.
 
-/// The size of a program header that an ELF file of 32 bits has.
-pub const PROGRAM_HEADER_SIZE: usize = 32;
+ghost use Rattle.std.specs.Prelude.{◌≡◌, ◌+◌, ◌*◌, ◌≤◌, ◌<◌, length, IfSome};
+ghost use Rattle.elf.specs.Images.{e_phnum, e_phoff};
 
-/// Returns the two bytes at `at` as a number, or 0 where the file has ended.
-pub fn halfword(file: &[u8], at: usize) -> u16 {
-    match file.get(at..at.saturating_add(2)) {
-        Some([low, high]) => u16::from_le_bytes([*low, *high]),
-        _ => 0,
-    }
-}
+use elf::{
+    E_PHNUM, E_PHOFF, ELF_HEADER_SIZE, PROGRAM_HEADER_SIZE, Segment, halfword, is_segment,
+    segment_of_header, word,
+};
 
-/// Returns the four bytes at `at` as a number, or 0 where the file has ended.
-pub fn word(file: &[u8], at: usize) -> u32 {
-    match file.get(at..at.saturating_add(4)) {
-        Some([a, b, c, d]) => u32::from_le_bytes([*a, *b, *c, *d]),
-        _ => 0,
-    }
-}
-
-/// The fields of a program header.
+/// The program header table of a file: where it begins and ends, and how many headers it has.
 #[derive(Clone, Copy)]
-pub struct ProgramHeader {
-    /// Its position in the table, from 0.
-    pub index: u16,
-    pub kind: u32,
-    pub offset: u32,
-    pub address: u32,
-    pub size: u32,
+pub struct HeaderTable {
+    pub place: usize,
+    pub end: usize,
+    pub count: usize,
 }
 
-impl ProgramHeader {
-    /// Returns the program header at a position of the table.
-    pub fn at(file: &[u8], index: u16) -> Self {
-        let table = word(file, 28) as usize;
-        let at = table.saturating_add(PROGRAM_HEADER_SIZE * usize::from(index));
-        ProgramHeader {
-            index,
-            kind: word(file, at),
-            offset: word(file, at.saturating_add(4)),
-            address: word(file, at.saturating_add(12)),
-            size: word(file, at.saturating_add(16)),
-        }
-    }
+/// A segment of a file, and the position of its program header in the table, from 0.
+#[derive(Clone, Copy)]
+pub struct NumberedSegment<'a> {
+    pub index: usize,
+    pub segment: Segment<'a>,
+}
 
-    /// Returns whether it is of a segment with bytes.
-    pub fn is_segment(&self) -> bool {
-        self.kind == 1 && self.size > 0
-    }
-
-    /// Returns the place after its bytes in the file.
-    pub fn file_end(&self) -> u64 {
-        u64::from(self.offset) + u64::from(self.size)
-    }
-
-    /// Returns the address after its bytes, as a whole number.
-    pub fn target_end(&self) -> u64 {
-        u64::from(self.address) + u64::from(self.size)
-    }
-
-    /// Returns whether two segments have an address in common.
-    pub fn overlaps(&self, other: &ProgramHeader) -> bool {
-        u64::from(self.address) < other.target_end() && u64::from(other.address) < self.target_end()
+/// Returns the table that the ELF header of a file names, also where the file ends before it does.
+pub fn table_of(file: &[u8]) -> HeaderTable
+    requires { ELF_HEADER_SIZE ≤ length file.now }
+    ensures place { result.place ≡ e_phoff file.now }
+    ensures count { result.count ≡ e_phnum file.now }
+    ensures end { result.end ≡ result.place + PROGRAM_HEADER_SIZE * result.count }
+{
+    let place = word(file, E_PHOFF) as usize;
+    let count = halfword(file, E_PHNUM) as usize;
+    HeaderTable {
+        place,
+        end: place + PROGRAM_HEADER_SIZE * count,
+        count,
     }
 }
 
-/// Returns `e_phnum`, the number of program headers.
-pub fn header_count(file: &[u8]) -> u16 {
-    halfword(file, 44)
+/// Returns the table of a file that has all of it.
+pub fn whole_table(file: &[u8]) -> Option<HeaderTable>
+    ensures end { IfSome result (λ table. table.end ≡ table.place + PROGRAM_HEADER_SIZE * table.count) }
+    ensures within { IfSome result (λ table. table.end ≤ length file.now) }
+{
+    if file.len() < ELF_HEADER_SIZE {
+        return None;
+    }
+    let table = table_of(file);
+    if table.end > file.len() {
+        return None;
+    }
+    Some(table)
+}
+
+/// Returns the segment of the program header at a position of the table, where it is of one that lies in the
+/// file.
+pub fn segment_at<'a>(
+    file: &'a [u8],
+    table: HeaderTable,
+    index: usize,
+) -> Option<NumberedSegment<'a>>
+    requires one { index < table.count }
+    requires end { table.end ≡ table.place + PROGRAM_HEADER_SIZE * table.count }
+    requires within { table.end ≤ length file.now }
+{
+    let place = table.place + PROGRAM_HEADER_SIZE * index;
+    if !is_segment(file, place) {
+        return None;
+    }
+    match segment_of_header(file, place) {
+        Ok(segment) => Some(NumberedSegment { index, segment }),
+        Err(_) => None,
+    }
 }

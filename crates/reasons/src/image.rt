@@ -1,67 +1,63 @@
 //! Why an image is refused: the field of the header and its value.
 
-use crate::header::{PROGRAM_HEADER_SIZE, ProgramHeader, halfword, header_count, word};
-use reference::error::LoadError;
+ghost use Rattle.std.specs.Prelude.{◌≡◌, ◌+◌, ◌*◌, ◌≤◌, ◌<◌, length, IfSome};
+
+use crate::header::{HeaderTable, NumberedSegment, segment_at, table_of};
+use elf::{
+    E_MACHINE, E_PHENTSIZE, E_PHNUM, E_TYPE, EI_CLASS, EI_DATA, ELF_HEADER_SIZE, ELFCLASS32,
+    ELFDATA2LSB, EM_ARM, ET_EXEC, LoadError, MOST_SEGMENTS, P_FILESZ, P_OFFSET,
+    PROGRAM_HEADER_SIZE, halfword, is_segment, segment_of_header, share_an_address, word,
+};
 use std::io;
 use std::io::Write;
 
 /// Writes why `load` refuses a file.
 pub fn write_image_reason<W: Write>(out: &mut W, file: &[u8], error: LoadError) -> io::Result<()> {
     let length = file.len();
+    if length < ELF_HEADER_SIZE {
+        return writeln!(
+            out,
+            "the file has {length} bytes, and an ELF header has {ELF_HEADER_SIZE}"
+        );
+    }
     match error {
-        LoadError::Truncated => write_truncated(out, file),
         LoadError::NotElf => write_magic(out, file),
         LoadError::NotElf32Little => write_class(out, file),
         LoadError::NotExecutable => {
-            let kind = halfword(file, 16);
+            let kind = halfword(file, E_TYPE);
             writeln!(
                 out,
-                "e_type is {kind}, where 2 is needed: link it, and not with -r, -shared or -pie"
+                "e_type is {kind}, where {ET_EXEC} is needed: link it, and not with -r, -shared or -pie"
             )
         }
         LoadError::NotArm => {
-            let machine = halfword(file, 18);
-            writeln!(out, "e_machine is {machine}, where 40 is needed: ARM")
+            let machine = halfword(file, E_MACHINE);
+            writeln!(out, "e_machine is {machine}, where {EM_ARM} is needed: ARM")
         }
         LoadError::HeaderSize => {
-            let size = halfword(file, 42);
-            writeln!(out, "e_phentsize is {size}, where 32 is needed")
-        }
-        LoadError::SegmentOutsideFile => match outside(file) {
-            Some(header) => write_outside(out, &header, length),
-            None => writeln!(out, "{error}"),
-        },
-        LoadError::SegmentOverlap => match overlap(file) {
-            Some((one, other)) => write_overlap(out, &one, &other),
-            None => writeln!(out, "{error}"),
-        },
-        LoadError::TooManySegments => {
-            let count = header_count(file);
+            let size = halfword(file, E_PHENTSIZE);
             writeln!(
                 out,
-                "e_phnum is {count}, and at most 64 program headers are read"
+                "e_phentsize is {size}, where {PROGRAM_HEADER_SIZE} is needed"
             )
         }
+        LoadError::TooManySegments => {
+            let count = halfword(file, E_PHNUM);
+            writeln!(
+                out,
+                "e_phnum is {count}, and at most {MOST_SEGMENTS} program headers are read"
+            )
+        }
+        LoadError::Truncated | LoadError::SegmentOutsideFile | LoadError::SegmentOverlap => {
+            write_table_reason(out, file, error)
+        }
     }
-}
-
-/// Writes which headers end outside the file.
-fn write_truncated<W: Write>(out: &mut W, file: &[u8]) -> io::Result<()> {
-    let length = file.len();
-    if length < 52 {
-        return writeln!(out, "the file has {length} bytes, and an ELF header has 52");
-    }
-    let table = word(file, 28);
-    let size = PROGRAM_HEADER_SIZE * usize::from(header_count(file));
-    let end = (table as usize).saturating_add(size);
-    writeln!(
-        out,
-        "e_phoff is {table}: the program headers end at byte {end}, and the file has {length} bytes"
-    )
 }
 
 /// Writes the first four bytes.
-fn write_magic<W: Write>(out: &mut W, file: &[u8]) -> io::Result<()> {
+fn write_magic<W: Write>(out: &mut W, file: &[u8]) -> io::Result<()>
+    requires { ELF_HEADER_SIZE ≤ length file.now }
+{
     let magic = word(file, 0).swap_bytes();
     writeln!(
         out,
@@ -70,30 +66,69 @@ fn write_magic<W: Write>(out: &mut W, file: &[u8]) -> io::Result<()> {
 }
 
 /// Writes the class and the order of bytes.
-fn write_class<W: Write>(out: &mut W, file: &[u8]) -> io::Result<()> {
-    let [class, order] = halfword(file, 4).to_le_bytes();
+fn write_class<W: Write>(out: &mut W, file: &[u8]) -> io::Result<()>
+    requires { ELF_HEADER_SIZE ≤ length file.now }
+{
+    let (class, order) = (file[EI_CLASS], file[EI_DATA]);
     writeln!(
         out,
-        "e_ident[EI_CLASS] is {class} and e_ident[EI_DATA] is {order}, where 1 and 1 are needed: \
-         32 bits, little endian"
+        "e_ident[EI_CLASS] is {class} and e_ident[EI_DATA] is {order}, where {ELFCLASS32} and \
+         {ELFDATA2LSB} are needed: 32 bits, little endian"
     )
 }
 
-/// Returns the first segment whose bytes end outside the file.
-fn outside(file: &[u8]) -> Option<ProgramHeader> {
-    let length = file.len() as u64;
-    'headers: for index in 0..header_count(file) {
-        let header = ProgramHeader::at(file, index);
-        if header.is_segment() && header.file_end() > length {
-            return Some(header);
+/// Writes what is wrong with the program header table, or with the segments in it.
+fn write_table_reason<W: Write>(out: &mut W, file: &[u8], error: LoadError) -> io::Result<()>
+    requires { ELF_HEADER_SIZE ≤ length file.now }
+{
+    let length = file.len();
+    let table = table_of(file);
+    if table.end > length {
+        let (place, end) = (table.place, table.end);
+        return writeln!(
+            out,
+            "e_phoff is {place}: the program headers end at byte {end}, and the file has {length} bytes"
+        );
+    }
+    if let Some(index) = outside(file, table) {
+        return write_outside(out, file, table, index);
+    }
+    match overlap(file, table) {
+        Some((one, other)) => write_overlap(out, &one, &other),
+        None => writeln!(out, "{error}"),
+    }
+}
+
+/// Returns the position of the first program header whose segment doesn't lie in the file.
+fn outside(file: &[u8], table: HeaderTable) -> Option<usize>
+    requires end { table.end ≡ table.place + PROGRAM_HEADER_SIZE * table.count }
+    requires within { table.end ≤ length file.now }
+    ensures { IfSome result (λ index. index < table.count) }
+{
+    'headers: for index in 0..table.count {
+        let place = table.place + PROGRAM_HEADER_SIZE * index;
+        if is_segment(file, place) && segment_of_header(file, place).is_err() {
+            return Some(index);
         }
     }
     None
 }
 
-/// Writes where a segment's bytes end.
-fn write_outside<W: Write>(out: &mut W, header: &ProgramHeader, length: usize) -> io::Result<()> {
-    let (index, offset, size) = (header.index, header.offset, header.size);
+/// Writes where the bytes of the segment of a program header are.
+fn write_outside<W: Write>(
+    out: &mut W,
+    file: &[u8],
+    table: HeaderTable,
+    index: usize,
+) -> io::Result<()>
+    requires one { index < table.count }
+    requires end { table.end ≡ table.place + PROGRAM_HEADER_SIZE * table.count }
+    requires within { table.end ≤ length file.now }
+{
+    let length = file.len();
+    let place = table.place + PROGRAM_HEADER_SIZE * index;
+    let offset = word(file, place + P_OFFSET);
+    let size = word(file, place + P_FILESZ);
     writeln!(
         out,
         "program header {index}: p_offset is {offset} and p_filesz is {size}, and the file has \
@@ -101,24 +136,39 @@ fn write_outside<W: Write>(out: &mut W, header: &ProgramHeader, length: usize) -
     )
 }
 
-/// Returns the first two segments that have an address in common.
-fn overlap(file: &[u8]) -> Option<(ProgramHeader, ProgramHeader)> {
-    'headers: for index in 0..header_count(file) {
-        let header = ProgramHeader::at(file, index);
-        if let Some(other) = overlap_with(file, &header) {
-            return Some((header, other));
+/// Returns the first two segments that share an address.
+fn overlap<'a>(
+    file: &'a [u8],
+    table: HeaderTable,
+) -> Option<(NumberedSegment<'a>, NumberedSegment<'a>)>
+    requires end { table.end ≡ table.place + PROGRAM_HEADER_SIZE * table.count }
+    requires within { table.end ≤ length file.now }
+{
+    'headers: for index in 0..table.count {
+        if let Some(one) = segment_at(file, table, index)
+            && let Some(other) = overlap_with(file, table, &one)
+        {
+            return Some((one, other));
         }
     }
     None
 }
 
-/// Returns the first segment after another that has an address in common with it.
-fn overlap_with(file: &[u8], header: &ProgramHeader) -> Option<ProgramHeader> {
-    'headers: for index in 0..header_count(file) {
-        let other = ProgramHeader::at(file, index);
-        let are_segments = header.is_segment() && other.is_segment();
-        if index > header.index && are_segments && header.overlaps(&other) {
-            return Some(other);
+/// Returns the first segment after another that shares an address with it.
+fn overlap_with<'a>(
+    file: &'a [u8],
+    table: HeaderTable,
+    one: &NumberedSegment<'a>,
+) -> Option<NumberedSegment<'a>>
+    requires end { table.end ≡ table.place + PROGRAM_HEADER_SIZE * table.count }
+    requires within { table.end ≤ length file.now }
+{
+    'headers: for index in 0..table.count {
+        match segment_at(file, table, index) {
+            Some(other) if index > one.index && share_an_address(&one.segment, &other.segment) => {
+                return Some(other);
+            }
+            Some(_) | None => {}
         }
     }
     None
@@ -127,11 +177,19 @@ fn overlap_with(file: &[u8], header: &ProgramHeader) -> Option<ProgramHeader> {
 /// Writes the addresses of two segments.
 fn write_overlap<W: Write>(
     out: &mut W,
-    one: &ProgramHeader,
-    other: &ProgramHeader,
+    one: &NumberedSegment<'_>,
+    other: &NumberedSegment<'_>,
 ) -> io::Result<()> {
-    let (first, first_address, first_size) = (one.index, one.address, one.size);
-    let (second, second_address, second_size) = (other.index, other.address, other.size);
+    let (first, first_address, first_size) = (
+        one.index,
+        one.segment.address,
+        one.segment.bytes.len(),
+    );
+    let (second, second_address, second_size) = (
+        other.index,
+        other.segment.address,
+        other.segment.bytes.len(),
+    );
     writeln!(
         out,
         "program header {first} has {first_size} bytes at {first_address:08X}, and program header \

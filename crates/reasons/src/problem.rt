@@ -3,6 +3,7 @@
 use crate::keys::{EVENT, Key};
 use crate::text::write_key;
 use messages::Quoted;
+use reference::map::RAM_BASE;
 use std::io;
 use std::io::Write;
 use toml::Value;
@@ -19,7 +20,7 @@ pub enum Problem<'a> {
     /// The value of a key that takes an integer isn't one.
     Integer(Key, &'a Value),
     /// The line of an event, None where it's missing, isn't one of the board's, and how many it has.
-    Line(Option<&'a Value>, i64),
+    Line(Option<&'a Value>, u64),
     /// There are this many events, which is too many.
     Events(usize),
     /// A key isn't known, and which are.
@@ -27,9 +28,9 @@ pub enum Problem<'a> {
     /// A key of the board is in an event.
     Misplaced(&'a str),
     /// The tick of an event is below that of the event before it.
-    Order(i64, i64),
+    Order(u64, u64),
     /// Flash at this base, with this size, ends too high.
-    FlashEnd(i64, i64),
+    FlashEnd(u64, u64),
 }
 
 /// Writes a problem.
@@ -61,7 +62,7 @@ pub fn write_problem<W: Write>(out: &mut W, problem: &Problem<'_>) -> io::Result
         ),
         Problem::FlashEnd(base, size) => writeln!(
             out,
-            "flash_base is {base} and flash_size {size}: their sum is at most 536870912"
+            "flash_base is {base} and flash_size {size}: their sum is at most {RAM_BASE}"
         ),
     }
 }
@@ -92,7 +93,7 @@ fn write_integer<W: Write>(out: &mut W, key: Key, value: &Value) -> io::Result<(
 }
 
 /// Writes what is wrong with the line of an event on a board of this many lines.
-fn write_line<W: Write>(out: &mut W, value: Option<&Value>, lines: i64) -> io::Result<()> {
+fn write_line<W: Write>(out: &mut W, value: Option<&Value>, lines: u64) -> io::Result<()> {
     match value {
         None => write!(out, "the key line is missing")?,
         Some(value) if value.is_integer() => write!(out, "line is {value}")?,
@@ -109,7 +110,7 @@ fn write_line<W: Write>(out: &mut W, value: Option<&Value>, lines: i64) -> io::R
 }
 
 /// Writes which line an event takes on a board of this many lines.
-fn write_line_range<W: Write>(out: &mut W, lines: i64) -> io::Result<()> {
+fn write_line_range<W: Write>(out: &mut W, lines: u64) -> io::Result<()> {
     match lines {
         0 => write!(
             out,

@@ -1,13 +1,24 @@
 //! Why a board is refused: the key or the event, its value, and what it takes.
 
+ghost use Rattle.std.specs.Prelude.{◌≡◌, ◌⊎◌, ◌<◌, ◌≤◌, ◌^◌, codes, is_some, map, not, IfOk, IfErr};
+ghost use Rattle.toml.specs.Data.{get_member};
+ghost use Rattle.toml.specs.View.{table_view};
+ghost use Rattle.board.specs.Texts.{has_only, number, number_or, numbers_in, where_ok};
+ghost use Rattle.reference.specs.Boards.{default_regions, is_flash, is_interrupt_count, is_priority_bits};
+ghost use Rattle.reference.specs.Boards.{is_region_count};
+ghost use Rattle.reference.specs.Boards.{is_size, is_whole_blocks};
+ghost use Rattle.reasons.specs.Problems.{EndsTooHigh, Explained, Names, Reads, key_of, lines_of};
+
 use crate::events::{EventProblem, event_with, events_problem};
 use crate::keys::{
-    BOARD_KEY_NAMES, BOARD_KEYS, FLASH_BASE, FLASH_SIZE, Key, LINES, PRIORITY_BITS, RAM_SIZE,
-    REGIONS, is_flash_base, is_flash_size, is_interrupt_count, is_priority_bits, is_ram_size,
-    is_region_count, is_size,
+    BOARD_KEY_NAMES, FLASH_BASE, FLASH_SIZE, Key, LINES, PRIORITY_BITS, RAM_SIZE, REGIONS,
 };
 use crate::problem::{Problem, write_problem};
+use board::keys::{BOARD_KEYS, is_known};
+use board::ranges::{is_flash, is_interrupt_count, is_priority_bits, is_size, is_whole_blocks};
+use board::{DEFAULT_REGIONS, find, number, region_count};
 use reference::error::BoardError;
+use reference::exception::MOST_INTERRUPTS;
 use std::alloc::Global;
 use std::io::Write;
 use std::{io, str};
@@ -42,14 +53,17 @@ fn write_document_reason<W: Write>(
     document: &Table,
     error: BoardError,
 ) -> io::Result<()> {
-    if let Some(problem) = numbers_problem(document) {
-        write_problem(out, &problem)?;
-        return write_misplaced(out, document, &problem);
-    }
+    let lines = match check_numbers(document) {
+        Ok(lines) => lines,
+        Err(problem) => {
+            write_problem(out, &problem)?;
+            return write_misplaced(out, document, &problem);
+        }
+    };
     if let Some(name) = unknown(document, &BOARD_KEYS) {
         return write_problem(out, &Problem::Unknown(name, BOARD_KEY_NAMES));
     }
-    match events_problem(document) {
+    match events_problem(document, lines) {
         Some(EventProblem { number: 0, problem }) => write_problem(out, &problem),
         Some(EventProblem { number, problem }) => {
             write!(out, "event {number}: ")?;
@@ -108,88 +122,134 @@ fn position(file: &[u8], at: usize) -> (usize, usize) {
     (line, column)
 }
 
-/// Returns the integer at a key, or what is wrong with it.
-pub fn integer<'a>(table: &'a Table, key: Key) -> Result<(i64, &'a Value), Problem<'a>> {
-    match table.get(key.name) {
-        None => Err(Problem::Missing(key)),
-        Some(value) => match value.as_integer() {
-            None => Err(Problem::Integer(key, value)),
-            Some(number) => Ok((number, value)),
-        },
-    }
-}
-
-/// Returns the first problem of the six numbers, in the order in which they are read.
-fn numbers_problem(document: &Table) -> Option<Problem<'_>> {
-    match flash_problem(document) {
-        Some(problem) => Some(problem),
-        None => others_problem(document),
-    }
-}
-
-/// Returns the first problem of the two numbers of flash.
-fn flash_problem(document: &Table) -> Option<Problem<'_>> {
-    let (base, value) = match integer(document, FLASH_BASE) {
-        Ok(found) => found,
-        Err(problem) => return Some(problem),
+/// Returns the whole number at a key with its value, or what is wrong with it.
+#[tactic(auto, using(crate::proofs::Numbers::below_zero, crate::proofs::Numbers::no_integer))]
+pub fn whole_number<'a>(table: &'a Table, key: Key) -> Result<(u64, &'a Value), Problem<'a>>
+    ensures read { Reads key result (number (get_member key.name.now (table_view table.now))) }
+    ensures small { IfOk result (λ found. found.0 < 2 ^ 63) }
+{
+    let Some(value) = find(table, key.name) else {
+        return Err(Problem::Missing(key));
     };
-    if !is_flash_base(base) {
-        return Some(Problem::Value(FLASH_BASE, value));
-    }
-    match integer(document, FLASH_SIZE) {
-        Ok((size, _)) if is_flash_size(base, size) => None,
-        Ok((size, _)) if is_size(size) => Some(Problem::FlashEnd(base, size)),
-        Ok((_, value)) => Some(Problem::Value(FLASH_SIZE, value)),
-        Err(problem) => Some(problem),
+    match number(Some(value)) {
+        Ok(number) => Ok((number, value)),
+        Err(_) if value.is_integer() => Err(Problem::Value(key, value)),
+        Err(_) => Err(Problem::Integer(key, value)),
     }
 }
 
-/// Returns the first problem of the numbers after those of flash.
-fn others_problem(document: &Table) -> Option<Problem<'_>> {
-    match integer(document, RAM_SIZE) {
-        Ok((size, _)) if is_ram_size(size) => {}
-        Ok((_, value)) => return Some(Problem::Value(RAM_SIZE, value)),
-        Err(problem) => return Some(problem),
-    }
-    match integer(document, PRIORITY_BITS) {
-        Ok((bits, _)) if is_priority_bits(bits) => {}
-        Ok((_, value)) => return Some(Problem::Value(PRIORITY_BITS, value)),
-        Err(problem) => return Some(problem),
-    }
-    match integer(document, LINES) {
-        Ok((lines, _)) if is_interrupt_count(lines) => {}
-        Ok((_, value)) => return Some(Problem::Value(LINES, value)),
-        Err(problem) => return Some(problem),
-    }
-    regions_problem(document)
+/// Checks the six numbers in the order in which they are read. Returns the number of lines, or the first problem.
+#[tactic(auto, unfolding(board::specs::Texts::numbers_in))]
+fn check_numbers(document: &Table) -> Result<u64, Problem<'_>>
+    ensures read { Explained result (lines_of (numbers_in (table_view document.now))) }
+    ensures few { IfOk result (λ lines. lines ≤ MOST_INTERRUPTS) }
+{
+    let base = check_flash_base(document)?;
+    check_flash_size(document, base)?;
+    check_ram_size(document)?;
+    check_priority_bits(document)?;
+    let lines = check_lines(document)?;
+    check_regions(document)?;
+    Ok(lines)
 }
 
-/// Returns the problem of the number of regions, which may be missing.
-fn regions_problem(document: &Table) -> Option<Problem<'_>> {
-    document.get(REGIONS.name)?;
-    match integer(document, REGIONS) {
-        Ok((regions, _)) if is_region_count(regions) => None,
-        Ok((_, value)) => Some(Problem::Value(REGIONS, value)),
-        Err(problem) => Some(problem),
+/// Returns the base of flash, or what is wrong with it.
+fn check_flash_base(document: &Table) -> Result<u64, Problem<'_>>
+    ensures small { IfOk result (λ base. base < 2 ^ 63) }
+    ensures read { Explained result
+        (where_ok is_whole_blocks (number (get_member (codes "flash_base") (table_view document.now)))) }
+    ensures names { IfErr result (λ problem. Names (codes "flash_base") is_whole_blocks (key_of problem)) }
+{
+    let (base, value) = whole_number(document, FLASH_BASE)?;
+    if !is_whole_blocks(base) {
+        return Err(Problem::Value(FLASH_BASE, value));
     }
+    Ok(base)
+}
+
+/// Returns the size of flash at a base, or what is wrong with it.
+fn check_flash_size(document: &Table, base: u64) -> Result<u64, Problem<'_>>
+    requires { base < 2 ^ 63 }
+    ensures read { Explained result
+        (where_ok (is_flash base) (number (get_member (codes "flash_size") (table_view document.now)))) }
+    ensures names { IfErr result
+        (λ problem. Names (codes "flash_size") is_size (key_of problem) ⊎ EndsTooHigh base problem) }
+{
+    let (size, value) = whole_number(document, FLASH_SIZE)?;
+    if !is_size(size) {
+        return Err(Problem::Value(FLASH_SIZE, value));
+    }
+    if !is_flash(base, size) {
+        return Err(Problem::FlashEnd(base, size));
+    }
+    Ok(size)
+}
+
+/// Returns the size of RAM, or what is wrong with it.
+fn check_ram_size(document: &Table) -> Result<u64, Problem<'_>>
+    ensures read { Explained result
+        (where_ok is_size (number (get_member (codes "ram_size") (table_view document.now)))) }
+    ensures names { IfErr result (λ problem. Names (codes "ram_size") is_size (key_of problem)) }
+{
+    let (size, value) = whole_number(document, RAM_SIZE)?;
+    if !is_size(size) {
+        return Err(Problem::Value(RAM_SIZE, value));
+    }
+    Ok(size)
+}
+
+/// Returns the number of bits of a priority, or what is wrong with it.
+fn check_priority_bits(document: &Table) -> Result<u64, Problem<'_>>
+    ensures read { Explained result
+        (where_ok is_priority_bits (number (get_member (codes "priority_bits") (table_view document.now)))) }
+    ensures names { IfErr result (λ problem. Names (codes "priority_bits") is_priority_bits (key_of problem)) }
+{
+    let (bits, value) = whole_number(document, PRIORITY_BITS)?;
+    if !is_priority_bits(bits) {
+        return Err(Problem::Value(PRIORITY_BITS, value));
+    }
+    Ok(bits)
+}
+
+/// Returns the number of lines, or what is wrong with it.
+fn check_lines(document: &Table) -> Result<u64, Problem<'_>>
+    ensures few { IfOk result (λ lines. lines ≤ MOST_INTERRUPTS) }
+    ensures read { Explained result
+        (where_ok is_interrupt_count (number (get_member (codes "lines") (table_view document.now)))) }
+    ensures names { IfErr result (λ problem. Names (codes "lines") is_interrupt_count (key_of problem)) }
+{
+    let (lines, value) = whole_number(document, LINES)?;
+    if !is_interrupt_count(lines) {
+        return Err(Problem::Value(LINES, value));
+    }
+    Ok(lines)
+}
+
+/// Returns the number of regions, which is the default where the key is missing, or what is wrong with it.
+fn check_regions(document: &Table) -> Result<u64, Problem<'_>>
+    ensures read { Explained result
+        (where_ok is_region_count
+        (number_or default_regions (get_member (codes "regions") (table_view document.now)))) }
+    ensures names { IfErr result (λ problem. Names (codes "regions") is_region_count (key_of problem)) }
+{
+    if find(document, REGIONS.name).is_none() {
+        return Ok(DEFAULT_REGIONS);
+    }
+    let (regions, value) = whole_number(document, REGIONS)?;
+    if region_count(regions).is_err() {
+        return Err(Problem::Value(REGIONS, value));
+    }
+    Ok(regions)
 }
 
 /// Returns the first key of a table that isn't known.
-pub fn unknown<'a>(table: &'a Table, known: &[&str]) -> Option<&'a str> {
+pub fn unknown<'a>(table: &'a Table, known: &[&str]) -> Option<&'a str>
+    ensures { is_some result ≡ not (has_only (map (λ key. key.now) known.now) (table_view table.now)) }
+{
     'members: for (key, _value) in table.iter() {
         if !is_known(known, key.as_str()) {
             return Some(key.as_str());
         }
     }
     None
-}
-
-/// Returns whether a key is one of these.
-pub fn is_known(known: &[&str], key: &str) -> bool {
-    'keys: for other in known {
-        if key == *other {
-            return true;
-        }
-    }
-    false
 }

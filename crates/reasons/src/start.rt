@@ -1,9 +1,11 @@
 //! Why a machine doesn't start: the segment that is outside memory.
 
-use crate::header::{ProgramHeader, header_count};
+use crate::header::{NumberedSegment, segment_at, whole_table};
+use elf::Segment;
 use reference::board::Layout;
 use reference::error::StartError;
 use reference::map::RAM_BASE;
+use space::is_within;
 use std::io;
 use std::io::Write;
 
@@ -16,7 +18,7 @@ pub fn write_start_reason<W: Write>(
 ) -> io::Result<()> {
     match error {
         StartError::SegmentOutsideMemory => match outside(file, layout) {
-            Some(header) => write_outside(out, &header, layout),
+            Some(numbered) => write_outside(out, &numbered, layout),
             None => writeln!(out, "{error}"),
         },
         StartError::NoMemory => write_need(out, layout, error),
@@ -33,26 +35,40 @@ fn write_need<W: Write>(out: &mut W, layout: &Layout, error: StartError) -> io::
 }
 
 /// Returns the first segment that is neither wholly in flash nor wholly in RAM.
-fn outside(file: &[u8], layout: &Layout) -> Option<ProgramHeader> {
-    'headers: for index in 0..header_count(file) {
-        let header = ProgramHeader::at(file, index);
-        let is_placed = is_within(&header, layout.flash_base, layout.flash_size)
-            || is_within(&header, RAM_BASE, layout.ram_size);
-        if header.is_segment() && !is_placed {
-            return Some(header);
+fn outside<'a>(file: &'a [u8], layout: &Layout) -> Option<NumberedSegment<'a>> {
+    let table = whole_table(file)?;
+    'headers: for index in 0..table.count {
+        if let Some(numbered) = segment_at(file, table, index)
+            && !is_placed(&numbered.segment, layout)
+        {
+            return Some(numbered);
         }
     }
     None
 }
 
-/// Returns whether a segment lies wholly within a block of memory.
-fn is_within(header: &ProgramHeader, base: u32, size: u32) -> bool {
-    base <= header.address && header.target_end() <= u64::from(base) + u64::from(size)
+/// Returns whether a segment is wholly in flash or wholly in RAM.
+fn is_placed(segment: &Segment<'_>, layout: &Layout) -> bool {
+    let length = segment.bytes.len();
+    is_within(
+        layout.flash_base,
+        layout.flash_size as usize,
+        segment.address,
+        length,
+    ) || is_within(RAM_BASE, layout.ram_size as usize, segment.address, length)
 }
 
 /// Writes the addresses of a segment and of the memory.
-fn write_outside<W: Write>(out: &mut W, header: &ProgramHeader, layout: &Layout) -> io::Result<()> {
-    let (index, address, size) = (header.index, header.address, header.size);
+fn write_outside<W: Write>(
+    out: &mut W,
+    numbered: &NumberedSegment<'_>,
+    layout: &Layout,
+) -> io::Result<()> {
+    let (index, address, size) = (
+        numbered.index,
+        numbered.segment.address,
+        numbered.segment.bytes.len(),
+    );
     let (base, flash, ram) = (layout.flash_base, layout.flash_size, layout.ram_size);
     writeln!(
         out,

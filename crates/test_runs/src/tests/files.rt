@@ -4,7 +4,7 @@ use super::cut::{Cut, Short, Text, push_line};
 use super::elf_files::ElfFile;
 use board::BoardError;
 use command::{
-    Error, FileError, InputFile, Task, WordsError, answer, explain, program, read_file, read_words,
+    Error, FileError, InputFile, Task, WordsError, answer, program, read_file, read_words, write_reason,
     refuse_words, tell,
 };
 use machine::StartError;
@@ -645,7 +645,7 @@ fn is_explained(alloc: Global, error: Error, line: &[u8]) -> bool {
         bytes: SMALL.as_bytes(),
     };
     let mut err = Cut::whole();
-    explain(alloc, error, image, board, &mut err).is_ok() && err.text.as_slice() == line
+    write_reason(alloc, error, image, board, &mut err).is_ok() && err.text.as_slice() == line
 }
 
 #[test]
@@ -750,8 +750,8 @@ fn steps_of(alloc: Global, line: &str) -> Option<u64> {
     for word in line.split_whitespace() {
         words.push(word.to_string(alloc).ok()?).ok()?;
     }
-    let request = read_words(alloc, words.as_slice()).ok()?;
-    match request.task {
+    let job = read_words(alloc, words.as_slice()).ok()?;
+    match job.task {
         Task::Run(run) => Some(run.steps),
         Task::Report(steps) => Some(steps),
         Task::Debug => None,

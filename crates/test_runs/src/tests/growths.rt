@@ -316,9 +316,9 @@ fn ready_words(alloc: Global, words: &[&str]) -> Result<Vec<String>, AllocError>
 /// How the arguments of a run are read.
 fn reading_words(alloc: Global, words: &[String]) -> Answer {
     match read_words(alloc, words) {
-        Ok(request) => match request.task {
+        Ok(job) => match job.task {
             Task::Run(run)
-                if run.steps == 2 && request.board == BOARD_PATH && request.image == IMAGE_PATH => {
+                if run.steps == 2 && job.board == BOARD_PATH && job.image == IMAGE_PATH => {
                 Answer::Whole
             }
             _ => Answer::Wrong,

@@ -1,19 +1,19 @@
 //! What the arguments of the program ask for.
 
 ghost use Rattle.std.specs.Prelude.{◌≡◌, ◌≤◌, ◌^◌, ◌⊎◌, IfSome, None, map, string_bytes};
-ghost use Rattle.command.specs.Tasks.{AsksReport, AsksRun, IsSteps, Requests, number_in, selection_asked};
+ghost use Rattle.command.specs.Tasks.{AsksReport, AsksRun, IsSteps, AsksFor, number_in, selection_asked};
 ghost use Rattle.command.specs.Tasks.{selection_named};
-ghost use Rattle.command_line.specs.Asked.{answer_of, memory, report_of, run_of, text_of, usage};
+ghost use Rattle.command_line.specs.Asked.{answer_of, memory, run_of, text_of, usage};
 
 use crate::expectation::is_stop;
-use command_line::{MOST_STEPS, ReportWords, RunWords, Words, WordsError, words_of};
+use command_line::{MOST_STEPS, RunWords, Words, WordsError, words_of};
 use machine::TraceSelection;
 use messages::Escaped;
 use std::alloc::Global;
 
 /// A run or a session, as the arguments ask for it.
 #[derive(Clone, Copy)]
-pub struct Request<'a> {
+pub struct Job<'a> {
     /// The path of the board file.
     pub board: &'a str,
     /// The path of the image file.
@@ -25,7 +25,7 @@ pub struct Request<'a> {
 #[derive(Clone, Copy)]
 pub enum Task<'a> {
     /// Run it.
-    Run(RunRequest<'a>),
+    Run(RunOptions<'a>),
     /// Write a page about a run of at most this number of steps.
     Report(u64),
     /// Debug it by the commands on standard input.
@@ -34,7 +34,7 @@ pub enum Task<'a> {
 
 /// How an image is run.
 #[derive(Clone, Copy)]
-pub struct RunRequest<'a> {
+pub struct RunOptions<'a> {
     /// Which events are written.
     pub trace: TraceSelection,
     /// The most steps to make.
@@ -46,16 +46,22 @@ pub struct RunRequest<'a> {
 }
 
 /// Reads the arguments; the first one is the program's name.
-#[tactic(auto, using(crate::proofs::Asking::run_asked, crate::proofs::Asking::report_asked, crate::proofs::Asking::debug_asked, crate::proofs::Asking::not_taken))]
-pub fn read_words<'a>(alloc: Global, words: &'a [String]) -> Result<Request<'a>, WordsError>
-    ensures { Requests (map string_bytes words.entry.now) result }
+#[tactic(auto, using(crate::proofs::Asking::asked_lemmas))]
+pub fn read_words<'a>(alloc: Global, words: &'a [String]) -> Result<Job<'a>, WordsError>
+    ensures { AsksFor (map string_bytes words.entry.now) result }
 {
     match words_of(alloc, words) {
-        Ok(Words::Run(run)) => run_request(alloc, run),
-        Ok(Words::Report(report)) => report_request(alloc, report),
-        Ok(Words::Debug(debug)) => Ok(Request {
-            board: debug.board,
-            image: debug.image,
+        Ok(Words::Run(run)) => run_job(alloc, run),
+        Ok(
+            Words::Report {
+                board,
+                steps,
+                image,
+            },
+        ) => report_job(alloc, board, steps, image),
+        Ok(Words::Debug { board, image }) => Ok(Job {
+            board,
+            image,
             task: Task::Debug,
         }),
         Err(error) => Err(error),
@@ -63,7 +69,7 @@ pub fn read_words<'a>(alloc: Global, words: &'a [String]) -> Result<Request<'a>,
 }
 
 /// Reads the values of a run.
-fn run_request<'a>(alloc: Global, run: RunWords<'a>) -> Result<Request<'a>, WordsError>
+fn run_job<'a>(alloc: Global, run: RunWords<'a>) -> Result<Job<'a>, WordsError>
     ensures { AsksRun (run_of run.entry) result }
 {
     let Some(steps) = steps_in(run.steps) else {
@@ -82,10 +88,10 @@ fn run_request<'a>(alloc: Global, run: RunWords<'a>) -> Result<Request<'a>, Word
             return Err(wrong_value(alloc, words, "--expect <STOP>", STOPS_ADVICE));
         }
     }
-    Ok(Request {
+    Ok(Job {
         board: run.board,
         image: run.image,
-        task: Task::Run(RunRequest {
+        task: Task::Run(RunOptions {
             trace,
             steps,
             expect: run.expect,
@@ -95,16 +101,21 @@ fn run_request<'a>(alloc: Global, run: RunWords<'a>) -> Result<Request<'a>, Word
 }
 
 /// Reads the values of a report.
-fn report_request<'a>(alloc: Global, report: ReportWords<'a>) -> Result<Request<'a>, WordsError>
-    ensures { AsksReport (report_of report.entry) result }
+fn report_job<'a>(
+    alloc: Global,
+    board: &'a str,
+    steps: &'a str,
+    image: &'a str,
+) -> Result<Job<'a>, WordsError>
+    ensures { AsksReport (record { board = board.entry.now; steps = steps.entry.now; image = image.entry.now }) result }
 {
-    let Some(steps) = steps_in(report.steps) else {
-        return Err(wrong_value(alloc, report.steps, "--steps <N>", STEPS_ADVICE));
+    let Some(number) = steps_in(steps) else {
+        return Err(wrong_value(alloc, steps, "--steps <N>", STEPS_ADVICE));
     };
-    Ok(Request {
-        board: report.board,
-        image: report.image,
-        task: Task::Report(steps),
+    Ok(Job {
+        board,
+        image,
+        task: Task::Report(number),
     })
 }
 

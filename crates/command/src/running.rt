@@ -10,9 +10,9 @@ ghost use Rattle.reference.specs.Run.{after};
 
 use crate::error::{Error, stop_status, tell};
 use crate::expectation::{is_worded, words_in};
-use crate::explanations::explain;
 use crate::files::InputFile;
-use crate::request::RunRequest;
+use crate::job::RunOptions;
+use crate::reason::write_reason;
 use board::{Board, BoardError, read_board};
 use debugger::write_state;
 use elf::load;
@@ -32,7 +32,7 @@ pub fn go<O: Out + Drop, S: Out, E: Write>(
     alloc: Global,
     image: InputFile<'_>,
     board: InputFile<'_>,
-    run: RunRequest<'_>,
+    run: RunOptions<'_>,
     out: &mut Paged<O>,
     state: &mut S,
     err: &mut E,
@@ -47,7 +47,7 @@ pub fn go<O: Out + Drop, S: Out, E: Write>(
         Ok(stop) => end(stop, run.expect, err),
         Err(error) => {
             let status = tell(error, err);
-            let _ = explain(alloc, error, image, board, err);
+            let _ = write_reason(alloc, error, image, board, err);
             status
         }
     }
@@ -84,7 +84,7 @@ fn execute<O: Out + Drop, S: Out>(
     alloc: Global,
     image: &[u8],
     board: &[u8],
-    run: RunRequest<'_>,
+    run: RunOptions<'_>,
     out: &mut Paged<O>,
     state: &mut S,
 ) -> Result<Stop, Error>
@@ -102,7 +102,7 @@ fn execute<O: Out + Drop, S: Out>(
 /// Runs a machine, and then writes its state, where a file is named for it.
 fn run_and_save<O: Out + Drop, S: Out>(
     machine: &mut Fast,
-    run: RunRequest<'_>,
+    run: RunOptions<'_>,
     out: &mut Paged<O>,
     state: &mut S,
 ) -> Result<Stop, Error>

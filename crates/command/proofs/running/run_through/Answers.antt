@@ -1,6 +1,6 @@
 use Rattle.std.proofs.Common.{ap, Err, refl}
 use Rattle.command.proofs.Ends.{failed_cut}
-use Rattle.command.proofs.engine.run_through.Goals as goal
+use Rattle.command.proofs.running.run_through.Goals as goal
 
 pub returns-in-Err-clause-traces : goal.returns-in-Err-clause-traces
 returns-in-Err-clause-traces g c = (

@@ -1,8 +1,8 @@
 //! Why a run is refused, for a person: lines after the error's own.
 
-use crate::engine::board_of_file;
 use crate::error::Error;
 use crate::files::InputFile;
+use crate::running::board_of_file;
 use messages::Escaped;
 use reasons::{write_board_reason, write_image_reason, write_start_reason};
 use reference::error::StartError;
@@ -12,7 +12,7 @@ use std::io::Write;
 
 /// Writes the file of an error and what is wrong in it: a field, a key or an event, its value, and
 /// what it takes.
-pub fn explain<E: Write>(
+pub fn write_reason<E: Write>(
     alloc: Global,
     error: Error,
     image: InputFile<'_>,
@@ -30,14 +30,14 @@ pub fn explain<E: Write>(
         }
         Error::Start(error) => {
             write_path(image.path, err)?;
-            explain_start(alloc, error, image.bytes, board.bytes, err)
+            write_reason_of_start(alloc, error, image.bytes, board.bytes, err)
         }
         Error::Usage | Error::Size | Error::Io => Ok(()),
     }
 }
 
 /// Writes why a machine of a board doesn't start with an image.
-fn explain_start<E: Write>(
+fn write_reason_of_start<E: Write>(
     alloc: Global,
     error: StartError,
     image: &[u8],

@@ -1,0 +1,97 @@
+-- Which refusal of a board a problem explains, and which numbers the message for a key names.
+use Rattle.std.specs.Prelude.{◌≡◌, ℕ, ◌+◌, ◌&&◌, Bool, true, false, nat_le, if◌then◌else◌, List, codes}
+use Rattle.std.specs.Prelude.{Option, Some, None, is_some, Result, Ok, Err, IsOk}
+use Rattle.toml.specs.Data.{Members, as_integer, get_member}
+use Rattle.toml.specs.View.{view}
+use Rattle.board.specs.Texts.{◌>>=◌, change, word}
+use Rattle.reference.specs.Boards.{Numbers, is_region_count, is_size, is_whole_blocks}
+use Rattle.reference.specs.Map.{ram_base}
+use Rattle.reference.specs.declared.script.ScriptedEvent.{ScriptedEvent}
+use Rattle.reference.specs.declared.script.Signal.{Signal}
+use Rattle.reference.specs.declared.error.BoardError.{BoardError}
+use Rattle.reference.specs.declared.error.BoardError.TheVariants.{MissingKey, WrongKind, OutOfRange, EventsOutOfOrder}
+use Rattle.reference.specs.declared.error.BoardError.TheVariants.{UnknownKey}
+use Rattle.reasons.specs.declared.keys.Key.{Key}
+use Rattle.reasons.specs.declared.keys.Takes.{Takes}
+use Rattle.reasons.specs.declared.keys.Takes.TheVariants.{Integers, Blocks, RamSizes, FlashSizes, Regions, Tables}
+use Rattle.reasons.specs.declared.keys.Takes.TheVariants.{Words}
+use Rattle.reasons.specs.declared.problem.Problem.{Problem}
+use Rattle.reasons.specs.declared.problem.Problem.TheVariants.{Missing, Value, Kind, Integer, Line, Events, Unknown}
+use Rattle.reasons.specs.declared.problem.Problem.TheVariants.{Misplaced, Order, FlashEnd}
+
+-- the refusal that a problem explains
+abbrev pub refusal_of : Problem → BoardError
+refusal_of (Missing key) = MissingKey
+refusal_of (Value key value) = OutOfRange
+refusal_of (Kind key value) = WrongKind
+refusal_of (Integer key value) = WrongKind
+refusal_of (Line None lines) = MissingKey
+refusal_of (Line (Some value) lines) = if is_some (as_integer (view value.now)) then OutOfRange else WrongKind
+refusal_of (Events count) = OutOfRange
+refusal_of (Unknown name known) = UnknownKey
+refusal_of (Misplaced name) = UnknownKey
+refusal_of (Order at before) = EventsOutOfOrder
+refusal_of (FlashEnd base size) = OutOfRange
+
+-- the key whose message it is, where it is the message of one key
+abbrev pub key_of : Problem → Option Key
+key_of (Missing key) = Some key
+key_of (Value key value) = Some key
+key_of (Kind key value) = Some key
+key_of (Integer key value) = Some key
+key_of _ = None
+
+-- the numbers that the message for a key names. That flash of a size may end too high is a problem of its own
+abbrev pub takes : Takes → ℕ → Bool
+takes (Integers least most) n = nat_le least n && nat_le n most
+takes Blocks n = is_whole_blocks n
+takes RamSizes n = is_size n
+takes FlashSizes n = is_size n
+takes Regions n = is_region_count n
+takes Tables n = false
+takes (Words words) n = false
+
+-- a key has this name, and its message names just the numbers that a test takes
+pub record Shows (name : List ℕ) (test : ℕ → Bool) (key : Key) : Type 0 where
+  pub is_named : key.name.now ≡ name
+  pub has_range : (n : ℕ) → takes key.takes n ≡ test n
+
+-- a problem is one of the key with this name and this test
+abbrev pub Names : List ℕ → (ℕ → Bool) → Option Key → Type 0
+Names name test (Some key) = Shows name test key
+Names name test None = ⊥
+
+-- a problem is that flash of a size at this base ends too high, the size itself being one that flash can have
+abbrev pub EndsTooHigh : ℕ → Problem → Type 0
+EndsTooHigh base (FlashEnd other size) =
+    (other ≡ base) × (is_size size ≡ true) × (nat_le (base + size) ram_base ≡ false)
+EndsTooHigh base _ = ⊥
+
+-- a number is the one that is read, or a problem explains why none is read
+abbrev pub Explained : {A : Type 0} → Result A Problem → Result A BoardError → Type 0
+Explained (Ok found) read = read ≡ Ok found
+Explained (Err problem) read = read ≡ Err (refusal_of problem)
+
+-- likewise for a number beside its value, or a problem of its key
+abbrev pub Reads : {A : Type 0} → Key → Result (ℕ × A) Problem → Result ℕ BoardError → Type 0
+Reads key (Ok found) read = read ≡ Ok found.0
+Reads key (Err problem) read = (read ≡ Err (refusal_of problem)) × (key_of problem ≡ Some key)
+
+-- nothing is wrong where something is read, or a problem explains why nothing is
+abbrev pub Passes : {A : Type 0} → Result (Unit {0}) Problem → Result A BoardError → Type 0
+Passes (Ok nothing) read = IsOk read
+Passes (Err problem) read = read ≡ Err (refusal_of problem)
+
+-- the change of a line that the word of an event names
+abbrev pub change_in : ℕ → Members → Result Signal BoardError
+change_in line event = word (get_member (codes "what") event) >>= change line
+
+-- the tick of an event that is read
+abbrev pub tick_of : Result ScriptedEvent BoardError → Result ℕ BoardError
+tick_of (Ok event) = Ok event.at
+tick_of (Err error) = Err error
+
+-- the number of lines among the numbers that are read
+abbrev pub lines_of : Result Numbers BoardError → Result ℕ BoardError
+lines_of (Ok numbers) = Ok numbers.interrupts
+lines_of (Err error) = Err error
