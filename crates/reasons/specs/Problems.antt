@@ -39,7 +39,12 @@ key_of (Missing key) = Some key
 key_of (Value key value) = Some key
 key_of (Kind key value) = Some key
 key_of (Integer key value) = Some key
-key_of _ = None
+key_of (Line value lines) = None
+key_of (Events count) = None
+key_of (Unknown name known) = None
+key_of (Misplaced name) = None
+key_of (Order at before) = None
+key_of (FlashEnd base size) = None
 
 -- the numbers that the message for a key names. That flash of a size may end too high is a problem of its own
 abbrev pub takes : Takes → ℕ → Bool
@@ -65,7 +70,15 @@ Names name test None = ⊥
 abbrev pub EndsTooHigh : ℕ → Problem → Type 0
 EndsTooHigh base (FlashEnd other size) =
     (other ≡ base) × (is_size size ≡ true) × (nat_le (base + size) ram_base ≡ false)
-EndsTooHigh base _ = ⊥
+EndsTooHigh base (Missing key) = ⊥
+EndsTooHigh base (Value key value) = ⊥
+EndsTooHigh base (Kind key value) = ⊥
+EndsTooHigh base (Integer key value) = ⊥
+EndsTooHigh base (Line value lines) = ⊥
+EndsTooHigh base (Events count) = ⊥
+EndsTooHigh base (Unknown name known) = ⊥
+EndsTooHigh base (Misplaced name) = ⊥
+EndsTooHigh base (Order at before) = ⊥
 
 -- a number is the one that is read, or a problem explains why none is read
 abbrev pub Explained : {A : Type 0} → Result A Problem → Result A BoardError → Type 0
