@@ -1,8 +1,8 @@
 //! The debugger: a session of commands, one a line, over a machine.
 #![tactic(auto)]
 
-mod answers;
 pub mod laws;
+mod runs;
 mod sessions;
 mod state;
 mod tasks;

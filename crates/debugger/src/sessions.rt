@@ -6,11 +6,11 @@ ghost use Rattle.debugger.specs.Sessions.{after_line, GivesByte, GoesOn, line_an
 ghost use Rattle.debugger.specs.Sessions.{answered_at_end, SendsBefore, SendsRest, Sessions, TakesNext, talk, Tells};
 ghost use Rattle.debugger_commands.specs.Breakpoints.{breakpoints_after};
 
-use crate::answers::run;
+use crate::runs::run;
 use crate::tasks::run_task;
 use crate::texts::{memory_text, regions_text, registers_text};
 use debugger_commands::{
-    Answer, Breakpoints, Command, LineError, Listener, decision_text, error_text, quits, read_line,
+    Breakpoints, Command, LineError, Listener, Reply, decision_text, error_text, quits, read_line,
     steps_of, task_steps_of,
 };
 use machine::{Decider, DueTicks, In, IoError, KeptCode, Levels, Machine, Out};
@@ -56,12 +56,12 @@ impl Debugger {
         &mut self,
         machine: &Machine<D, C, L, U>,
         asked: Result<Command, LineError>,
-    ) -> Answer
+    ) -> Reply
         ensures text { result ≡ reply_text machine.now.state self.old.breakpoints asked }
         ensures kept { self.new ≡ record self.old { breakpoints = breakpoints_after self.old.breakpoints asked } }
     {
         match asked {
-            Ok(Command::Run(_) | Command::Task(_) | Command::Quit) => Answer::new(),
+            Ok(Command::Run(_) | Command::Task(_) | Command::Quit) => Reply::new(),
             Ok(Command::Break(address)) => self.breakpoints.set(address),
             Ok(Command::Regs) => registers_text(&machine.regs()),
             Ok(Command::Memory(address, last)) => memory_text(machine, address, last as u32 + 1),

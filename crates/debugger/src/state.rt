@@ -6,7 +6,7 @@ ghost use Rattle.output.specs.Output.{Put};
 ghost use Rattle.reference.specs.declared.exception.TheConstants.{EXCEPTIONS};
 
 use crate::texts::{regions_text, registers_text};
-use debugger_commands::{Answer, put_register};
+use debugger_commands::{Reply, put_register};
 use machine::{Decider, DueTicks, IoError, KeptCode, Levels, Machine, Out, StatusRegister};
 use reference::exception::EXCEPTIONS;
 use trace::page::Page;
@@ -30,10 +30,10 @@ fn put_clock(page: &mut StatePage, ticks: u64)
 #[tactic(auto, unfolding(crate::specs::StateText::status_lines, reference::specs::Status::read_status))]
 fn status_text<D: Decider, C: KeptCode, L: Levels, U: DueTicks>(
     machine: &Machine<D, C, L, U>,
-) -> Answer
+) -> Reply
     ensures { result ≡ status_lines machine.now.state.bus.system.status }
 {
-    let mut page = Answer::new();
+    let mut page = Reply::new();
     put_register(
         &mut page,
         b"CFSR",

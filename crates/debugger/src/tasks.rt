@@ -4,7 +4,7 @@ ghost use Rattle.std.specs.Prelude.{◌≡◌, [], ◌∷◌};
 ghost use Rattle.debugger.specs.Answers.{task_on, task_piece, task_pieces};
 ghost use Rattle.debugger.specs.Sessions.{Tells};
 
-use crate::answers::write_step;
+use crate::runs::write_step;
 use crate::texts::task_text;
 use machine::{
     Decider, DueTicks, IoError, KeptCode, Levels, LineRoom, Machine, Out, TaskEnd, end_of_task,

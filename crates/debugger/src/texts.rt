@@ -5,13 +5,13 @@ ghost use Rattle.debugger.specs.Answers.{core_lines, mask_lines, registers_text,
 ghost use Rattle.debugger_commands.specs.Texts.{bytes_text, memory_text, region_lines};
 ghost use Rattle.reference.specs.declared.mpu.TheConstants.{MOST_REGIONS};
 
-use debugger_commands::{Answer, byte_address, put_byte, put_generals, put_region, put_register};
+use debugger_commands::{Reply, byte_address, put_byte, put_generals, put_region, put_register};
 use machine::{Decider, DueTicks, KeptCode, Levels, Machine, RegValues, TaskEnd};
 use reference::mpu::MOST_REGIONS;
 
 /// Appends the lines of the stack pointers, LR, PC and XPSR.
 #[tactic(auto, unfolding(crate::specs::Answers::core_lines))]
-fn put_core(page: &mut Answer, values: &RegValues)
+fn put_core(page: &mut Reply, values: &RegValues)
     requires { length page.old ≤ 403 }
     ensures text { page.new ≡ page.old ++ core_lines values.now }
     ensures short { length page.new ≤ length page.old + 100 }
@@ -25,7 +25,7 @@ fn put_core(page: &mut Answer, values: &RegValues)
 
 /// Appends the lines of CONTROL and the masks.
 #[tactic(auto, unfolding(crate::specs::Answers::mask_lines))]
-fn put_masks(page: &mut Answer, values: &RegValues)
+fn put_masks(page: &mut Reply, values: &RegValues)
     requires { length page.old ≤ 503 }
     ensures { page.new ≡ page.old ++ mask_lines values.now }
 {
@@ -36,10 +36,10 @@ fn put_masks(page: &mut Answer, values: &RegValues)
 }
 
 /// Returns the lines of all registers.
-pub fn registers_text(values: &RegValues) -> Answer
+pub fn registers_text(values: &RegValues) -> Reply
     ensures { result ≡ registers_text values.now }
 {
-    let mut page = Answer::new();
+    let mut page = Reply::new();
     put_generals(&mut page, &values.general);
     put_core(&mut page, values);
     put_masks(&mut page, values);
@@ -49,7 +49,7 @@ pub fn registers_text(values: &RegValues) -> Answer
 /// Appends the first bytes of memory from an address on.
 #[tactic(auto, unfolding(debugger_commands::specs::Texts::bytes_text))]
 fn put_bytes<D: Decider, C: KeptCode, L: Levels, U: DueTicks>(
-    page: &mut Answer,
+    page: &mut Reply,
     machine: &Machine<D, C, L, U>,
     address: u32,
     count: u32,
@@ -69,11 +69,11 @@ pub fn memory_text<D: Decider, C: KeptCode, L: Levels, U: DueTicks>(
     machine: &Machine<D, C, L, U>,
     address: u32,
     count: u32,
-) -> Answer
+) -> Reply
     requires { count ≤ 256 }
     ensures { result ≡ memory_text machine.now.state.bus.memory address count }
 {
-    let mut page = Answer::new();
+    let mut page = Reply::new();
     page.put_word(address);
     page.put(b":");
     put_bytes(&mut page, machine, address, count);
@@ -85,10 +85,10 @@ pub fn memory_text<D: Decider, C: KeptCode, L: Levels, U: DueTicks>(
 #[tactic(auto, unfolding(debugger_commands::specs::Texts::region_lines))]
 pub fn regions_text<D: Decider, C: KeptCode, L: Levels, U: DueTicks>(
     machine: &Machine<D, C, L, U>,
-) -> Answer
+) -> Reply
     ensures { result ≡ region_lines machine.now.state.bus.system.mpu MOST_REGIONS }
 {
-    let mut page = Answer::new();
+    let mut page = Reply::new();
     'numbers: for number in 0..MOST_REGIONS {
         put_region(&mut page, number, machine.region(number));
     }
@@ -96,10 +96,10 @@ pub fn regions_text<D: Decider, C: KeptCode, L: Levels, U: DueTicks>(
 }
 
 /// Returns the line of the end of a run of a task.
-pub fn task_text(end: TaskEnd) -> Answer
+pub fn task_text(end: TaskEnd) -> Reply
     ensures { result ≡ task_text end }
 {
-    let mut page = Answer::new();
+    let mut page = Reply::new();
     match end {
         TaskEnd::Done => page.put(b"task done\n"),
         TaskEnd::Other => page.put(b"task other\n"),

@@ -3,7 +3,7 @@
 ghost use Rattle.std.specs.Prelude.{◌≡◌, []};
 ghost use Rattle.debugger_commands.specs.Breakpoints.{breakpoint_text, has, with_breakpoint};
 
-use crate::texts::Answer;
+use crate::texts::Reply;
 use arrayvec::ArrayVec;
 use std::marker::Model;
 
@@ -45,11 +45,11 @@ impl Breakpoints {
     }
 
     /// Sets a breakpoint, and returns the answer.
-    pub fn set(&mut self, address: u32) -> Answer
+    pub fn set(&mut self, address: u32) -> Reply
         ensures text { result ≡ breakpoint_text self.old address }
         ensures kept { self.new ≡ with_breakpoint self.old address }
     {
-        let mut page = Answer::new();
+        let mut page = Reply::new();
         if self.has(address) {
             page.put(b"ok\n");
         } else if self.addresses.len() < MOST_BREAKPOINTS {

@@ -13,6 +13,6 @@ pub use breakpoints::Breakpoints;
 pub use commands::{Command, LineError, quits, read_line, steps_of, task_steps_of};
 pub use listener::Listener;
 pub use texts::{
-    Answer, byte_address, decision_text, end_text, error_text, put_byte, put_generals, put_region,
+    Reply, byte_address, decision_text, end_text, error_text, put_byte, put_generals, put_region,
     put_register,
 };

@@ -13,10 +13,10 @@ use reference::stop::Stop;
 use trace::page::Page;
 
 /// Room for the longest answer that isn't a trace.
-pub type Answer = Page<1024>;
+pub type Reply = Page<1024>;
 
 /// Appends a value after the name of its register.
-fn put_value(page: &mut Answer, value: u32)
+fn put_value(page: &mut Reply, value: u32)
     requires { length page.old + 10 ≤ 1024 }
     ensures text { page.new ≡ page.old ++ value_text value }
     ensures grown { length page.new ≡ length page.old + 10 }
@@ -26,7 +26,7 @@ fn put_value(page: &mut Answer, value: u32)
 }
 
 /// Appends a space and the digits of a word.
-fn put_spaced(page: &mut Answer, word: u32)
+fn put_spaced(page: &mut Reply, word: u32)
     requires { length page.old + 9 ≤ 1024 }
     ensures text { page.new ≡ page.old ++ spaced word }
     ensures grown { length page.new ≡ length page.old + 9 }
@@ -36,7 +36,7 @@ fn put_spaced(page: &mut Answer, word: u32)
 }
 
 /// Appends the line of a register, whose name has at most 10 bytes.
-pub fn put_register(page: &mut Answer, name: &[u8], value: u32)
+pub fn put_register(page: &mut Reply, name: &[u8], value: u32)
     requires name { length name.now ≤ 10 }
     requires room { length page.old + 20 ≤ 1024 }
     ensures text { page.new ≡ page.old ++ register_line name.now value }
@@ -47,7 +47,7 @@ pub fn put_register(page: &mut Answer, name: &[u8], value: u32)
 }
 
 /// Appends the line of a general register.
-fn put_general(page: &mut Answer, number: usize, value: u32)
+fn put_general(page: &mut Reply, number: usize, value: u32)
     requires room { length page.old + 31 ≤ 1024 }
     ensures text { page.new ≡ page.old ++ register_line (codes "R" ++ decimal number) value }
     ensures short { length page.new ≤ length page.old + 31 }
@@ -59,7 +59,7 @@ fn put_general(page: &mut Answer, number: usize, value: u32)
 
 /// Appends the lines of R0 to R12.
 #[tactic(auto, unfolding(crate::specs::Texts::general_lines))]
-pub fn put_generals(page: &mut Answer, values: &[u32; 13])
+pub fn put_generals(page: &mut Reply, values: &[u32; 13])
     requires { page.old ≡ [] }
     ensures text { page.new ≡ general_lines values.now 13 }
     ensures short { length page.new ≤ 403 }
@@ -77,7 +77,7 @@ pub fn byte_address(address: u32, number: u32) -> u32
 }
 
 /// Appends a byte of memory, or that there is none.
-pub fn put_byte(page: &mut Answer, byte: Option<u8>)
+pub fn put_byte(page: &mut Reply, byte: Option<u8>)
     requires { length page.old + 3 ≤ 1024 }
     ensures text { page.new ≡ page.old ++ byte_text byte }
     ensures grown { length page.new ≡ length page.old + 3 }
@@ -92,7 +92,7 @@ pub fn put_byte(page: &mut Answer, byte: Option<u8>)
 }
 
 /// Appends the name of a region.
-fn put_region_name(page: &mut Answer, number: u8)
+fn put_region_name(page: &mut Reply, number: u8)
     requires { length page.old + 21 ≤ 1024 }
     ensures text { page.new ≡ page.old ++ region_name number }
     ensures short { length page.new ≤ length page.old + 21 }
@@ -103,7 +103,7 @@ fn put_region_name(page: &mut Answer, number: u8)
 
 /// Appends the line of a region by its RBAR and RASR.
 #[tactic(auto, using(crate::proofs::Concatenation::in_three))]
-fn put_region_words(page: &mut Answer, number: u8, rbar: u32, rasr: u32)
+fn put_region_words(page: &mut Reply, number: u8, rbar: u32, rasr: u32)
     requires { length page.old + 40 ≤ 1024 }
     ensures text { page.new ≡ page.old ++ words_line number rbar rasr }
     ensures short { length page.new ≤ length page.old + 40 }
@@ -114,7 +114,7 @@ fn put_region_words(page: &mut Answer, number: u8, rbar: u32, rasr: u32)
 }
 
 /// Appends the line of a region, where there is one of that number.
-pub fn put_region(page: &mut Answer, number: u8, words: Option<(u32, u32)>)
+pub fn put_region(page: &mut Reply, number: u8, words: Option<(u32, u32)>)
     requires { length page.old + 40 ≤ 1024 }
     ensures text { page.new ≡ page.old ++ region_line number words }
     ensures short { length page.new ≤ length page.old + 40 }
@@ -126,10 +126,10 @@ pub fn put_region(page: &mut Answer, number: u8, words: Option<(u32, u32)>)
 }
 
 /// Returns the line of a decision.
-pub fn decision_text(decision: &Decision) -> Answer
+pub fn decision_text(decision: &Decision) -> Reply
     ensures { result ≡ decision_text decision.now }
 {
-    let mut page = Answer::new();
+    let mut page = Reply::new();
     page.put_rule_word(decision.rule);
     if decision.granted {
         page.put(b" ok\n");
@@ -140,10 +140,10 @@ pub fn decision_text(decision: &Decision) -> Answer
 }
 
 /// Returns the line of an error.
-pub fn error_text(error: LineError) -> Answer
+pub fn error_text(error: LineError) -> Reply
     ensures { result ≡ error_text error }
 {
-    let mut page = Answer::new();
+    let mut page = Reply::new();
     match error {
         LineError::Command => page.put(b"error 1\n"),
         LineError::Word => page.put(b"error 2\n"),
@@ -152,10 +152,10 @@ pub fn error_text(error: LineError) -> Answer
 }
 
 /// Returns the line of a stop, or of the address of the next instruction.
-pub fn end_text(stop: Option<Stop>, pc: u32) -> Answer
+pub fn end_text(stop: Option<Stop>, pc: u32) -> Reply
     ensures { result ≡ end_text pc stop }
 {
-    let mut page = Answer::new();
+    let mut page = Reply::new();
     match stop {
         Some(stop) => page.put_stop(&stop),
         None => {

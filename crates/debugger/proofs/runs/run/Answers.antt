@@ -1,6 +1,6 @@
 use Rattle.std.proofs.Common.{◌≡◌, false, is_some}
 use Rattle.debugger.proofs.Running.{first_cut, later_cut}
-use Rattle.debugger.proofs.answers.run.Goals as goal
+use Rattle.debugger.proofs.runs.run.Goals as goal
 
 pub returns-in-Err : goal.returns-in-Err
 returns-in-Err g c =

@@ -1,6 +1,6 @@
 use Rattle.debugger.proofs.Telling.{Told}
 use Rattle.debugger.specs.Answers.{run_on}
-use Rattle.debugger.proofs.answers.run_on.Given as goal
+use Rattle.debugger.proofs.runs.run_on.Given as goal
 
 -- the pieces so far went out, and those of the steps that are left are still to come
 abbrev pub invariant-steps : goal.invariant-steps

@@ -3,7 +3,7 @@ use Rattle.debugger.proofs.Running.{end_same}
 use Rattle.debugger.proofs.Telling.{one_cut}
 use Rattle.debugger_commands.specs.Texts.{end_text}
 use Rattle.machine.specs.declared.readers.RegValues.{RegValues}
-use Rattle.debugger.proofs.answers.put_end.Goals as goal
+use Rattle.debugger.proofs.runs.put_end.Goals as goal
 
 pub returns-in-Err : goal.returns-in-Err
 returns-in-Err g c =

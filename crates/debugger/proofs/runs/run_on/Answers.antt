@@ -2,8 +2,8 @@ use Rattle.std.proofs.Common.{◌≡◌, ◌⊎◌, inl, inr, true, ◌∙◌, s
 use Rattle.debugger.proofs.Running.{run_cut, run_ends, run_more}
 use Rattle.debugger.proofs.Telling.{tells_all, tells_nothing, rest_cut}
 use Rattle.debugger.specs.Answers.{ends_at}
-use Rattle.debugger.proofs.answers.run_on.Goals as goal
-use Rattle.debugger.proofs.answers.run_on.Goals.{else-steps-test, then-steps-test+then-ends_at}
+use Rattle.debugger.proofs.runs.run_on.Goals as goal
+use Rattle.debugger.proofs.runs.run_on.Goals.{else-steps-test, then-steps-test+then-ends_at}
 
 pub steps-init : goal.steps-init
 steps-init g c = tells_nothing _ _ _
