@@ -125,57 +125,6 @@ continues m (suc k) s =
       whole = rw (e, events_more (m + k) s, before.whole, append_assoc) refl;
     }
 
--- what went out before a text that was cut short
-pub cut_after : (old mid new : Option (List ℕ)) (before text : List ℕ) → Appends old mid before
-    → IsCutShort mid new text → IsCutAfter old new before text
-cut_after old mid new before text went cut = record {
-  front = cut.front;
-  byte = cut.byte;
-  later = cut.later;
-  whole = cut.whole;
-  went = Appends-trans old mid new before cut.front went cut.went;
-}
-
--- the machine stands behind all steps
-pub all_made : (limit n : ℕ) (s core : State) → n ≤ limit → core ≡ after n s → (n ≡ limit) ⊎ IsSome core.stop
-    → core ≡ after limit s
-all_made limit n s core few now ends =
-    let ends' : (n ≡ limit) ⊎ IsSome (after n s).stop = rw (← now) ends in now ∙ sym (over n limit s few ends').0
-
--- the state behind one step more
-pub after_on : (n : ℕ) (s core : State) → core ≡ after n s → (step core).state ≡ after (n + 1) s
-after_on n s core now = rw (now, after_more n s) refl
-
--- the stop that is returned is that of the whole run
-pub ends_so : (limit : ℕ) (s core : State) (shown : Stop) → shown ≡ unwrap_or core.stop StepLimit → core ≡ after limit s
-    → shown ≡ ending_of limit s
-ends_so limit s core shown same now = rw (← now) same
-
--- the events of a run begin with those of its first steps
-pub record Continues (m k : ℕ) (s : State) : Type 0 where
-  pub others : List Event
-  pub whole : events_of (m + k) s ≡ events_of m s ++ others
-
-pub continues : (m k : ℕ) (s : State) → Continues m k s
-continues m zero s = record { others = []; whole = rw (add-zero, append-nil) refl }
-continues m (suc k) s =
-    let before = continues m k s in
-    let e : m + suc k ≡ (m + k) + 1 = omega arith in
-    record {
-      others = before.others ++ (step (after (m + k) s)).events;
-      whole = rw (e, events_more (m + k) s, before.whole, append_assoc) refl;
-    }
-
--- the lines of a run begin with those of its first steps
-lines_continue : (m n : ℕ) (s : State) → m + 1 ≤ n
-    → (others : List Event) × (lines (events_of n s) ≡ lines (events_of m s) ++ lines (step (after m s)).events
-    ++ lines others)
-lines_continue m n s few =
-    let e : (m + 1) + (n - (m + 1)) ≡ n = omega arith in
-    let all = continues (m + 1) (n - (m + 1)) s in
-    let whole : events_of n s ≡ events_of (m + 1) s ++ all.others = rw e at all.whole in
-    (all.others, rw (whole, lines-append (events_of (m + 1) s) all.others, shown_more m s, append_assoc) refl)
-
 -- what went out before a text that was cut short is a prefix of what begins so
 pub prefix_of : (old new : Option (List ℕ)) (before text later all : List ℕ) → IsCutAfter old new before text
     → all ≡ before ++ text ++ later → GrowsByPrefix old new all
