@@ -1,2 +1,3 @@
 mod Joining
+mod Listed
 pub mod Lists

@@ -1,5 +1,5 @@
 -- The registers of a list, one number after the other.
-use Rattle.std.proofs.Common.{◌≡◌, ℕ, suc, ◌+◌, ◌-◌, ◌<◌, true, false, List, [], ◌∷◌, ◌++◌, length, drop, slice_index}
+use Rattle.std.proofs.Common.{◌≡◌, ℕ, suc, ◌+◌, ◌-◌, ◌<◌, true, List, [], ◌∷◌, ◌++◌, length, drop, slice_index}
 use Rattle.std.proofs.Common.{refl, sym, ap, append_assoc, append-nil, ◌∙◌, arith}
 use Rattle.std.specs.List.{filter, range_with_len}
 use Rattle.std.proofs.lemmas.List.{drop-drop, get_or-drop}
@@ -7,7 +7,7 @@ use Rattle.instruction_set.specs.Registers.{Registers, with_register}
 use Rattle.instruction_set.specs.Words.{word_sum, is_bit}
 use Rattle.reference.specs.declared.access.Kind.{Kind}
 use Rattle.reference.specs.declared.access.Request.{Request}
-use Rattle.reference.specs.LoadStoreMultiple.{registers_below, registers_of, word_request, word_requests, loaded}
+use Rattle.reference.specs.LoadStoreMultiple.{registers_below, word_request, word_requests, loaded}
 
 -- the registers of a list from one number on, below another
 unfoldable pub registers_between : ℕ → ℕ → ℕ → List ℕ
@@ -35,14 +35,6 @@ listed list low top below has =
     let e : top - low ≡ suc (top - (low + 1)) = omega arith in
     rw (e, has) refl
 
--- one that it hasn't is passed over
-pub unlisted : (list low top : ℕ) → low < top → is_bit list low ≡ false
-    → registers_between list low top ≡ registers_between list (low + 1) top
-unfolding registers_between
-unlisted list low top below has =
-    let e : top - low ≡ suc (top - (low + 1)) = omega arith in
-    rw (e, has) refl
-
 -- ---- accesses
 
 -- what the first register makes
@@ -56,11 +48,6 @@ requests_of_one kind address n ns r = refl
 requests_of_none : (kind : Kind) (address : ℕ) (r : Registers) → word_requests kind address [] r ≡ []
 unfolding word_requests
 requests_of_none kind address r = refl
-
--- before the first register all accesses are to come
-pub first_request : (kind : Kind) (address list : ℕ) (r : Registers) →
-    word_requests kind address (registers_between list 0 16) r ≡ word_requests kind address (registers_of list) r
-first_request kind address list r = rw (from_0 list 16) refl
 
 -- no register comes after the last one, so no request
 pub last_request : (kind : Kind) (address list low : ℕ) (r : Registers) (items whole : List Request) → low ≡ 16 →
@@ -81,14 +68,6 @@ listed_request kind address list low r items below has =
     (append_assoc items (word_request kind address low r ∷ [])
     (word_requests kind (word_sum address 4) (registers_between list (low + 1) 16) r))
 
--- one that it hasn't makes none
-pub unlisted_request : (kind : Kind) (address list low : ℕ) (r : Registers) → low < 16 → is_bit list low ≡ false →
-    word_requests kind address (registers_between list (low + 1) 16) r
-    ≡ word_requests kind address (registers_between list low 16) r
-unlisted_request kind address list low r below has = rw (unlisted list low 16 below has) refl
-
-pub ruleset request_lemmas = (first_request, listed_request, unlisted_request)
-
 -- ---- values
 
 -- the first register is given the first value
@@ -98,18 +77,9 @@ unfolding loaded
 loaded_one n ns values r = refl
 
 -- no register takes none
-loaded_none : (values : List ℕ) (r : Registers) → loaded [] values r ≡ r
+pub loaded_none : (values : List ℕ) (r : Registers) → loaded [] values r ≡ r
 unfolding loaded
 loaded_none values r = refl
-
--- before the first register all are to be given their values
-pub first_loaded : (list : ℕ) (values : List ℕ) (r : Registers) →
-    loaded (registers_between list 0 15) (drop 0 values) r ≡ loaded (registers_below 15 list) values r
-first_loaded list values r = rw (from_0 list 15) refl
-
--- no register comes after the last one, so none is loaded
-pub last_loaded : (list : ℕ) (values : List ℕ) (r : Registers) → loaded (registers_between list 15 15) values r ≡ r
-last_loaded list values r = rw (from_top list 15, loaded_none) refl
 
 -- a register that the list has is given the next value
 pub listed_loaded : (list low place : ℕ) (values : List ℕ) (r : Registers) → low < 15 → is_bit list low ≡ true →
@@ -122,38 +92,9 @@ listed_loaded list low place values r below has =
     let none : place + 0 ≡ place = omega arith in get_or-drop place values 0 0 ∙ ap (λ k. slice_index values k) none in
     rw (listed list low 15 below has, loaded_one, later, first) refl
 
--- one that it hasn't takes none
-pub unlisted_loaded : (list low : ℕ) (values : List ℕ) (r : Registers) → low < 15 → is_bit list low ≡ false →
-    loaded (registers_between list (low + 1) 15) values r ≡ loaded (registers_between list low 15) values r
-unlisted_loaded list low values r below has = rw (unlisted list low 15 below has) refl
-
 -- ---- how many they are
-
--- before the first register all are left
-pub first_count : (list : ℕ) → length (registers_between list 0 15) ≡ length (registers_below 15 list)
-first_count list = rw (from_0 list 15) refl
-
--- no register comes after the last one, so the count is 0
-pub last_count : (list : ℕ) → length (registers_between list 15 15) ≡ 0
-last_count list = rw (from_top list 15) refl
 
 -- a register that the list has is one of those left
 pub listed_count : (list low : ℕ) → low < 15 → is_bit list low ≡ true →
     length (registers_between list low 15) ≡ length (registers_between list (low + 1) 15) + 1
 listed_count list low below has = rw (listed list low 15 below has) (omega arith)
-
--- one that it hasn't is none of them
-pub unlisted_count : (list low : ℕ) → low < 15 → is_bit list low ≡ false →
-    length (registers_between list (low + 1) 15) ≡ length (registers_between list low 15)
-unlisted_count list low below has = rw (unlisted list low 15 below has) refl
-
-pub ruleset loaded_lemmas = (
-  first_loaded,
-  last_loaded,
-  listed_loaded,
-  unlisted_loaded,
-  first_count,
-  last_count,
-  listed_count,
-  unlisted_count,
-)

@@ -194,9 +194,9 @@ impl<const ROOM: usize> Page<ROOM> {
         }
     }
 
-    /// Appends a rule and a line feed. The MPU is off, or a region below 10 decides, in most lines.
+    /// Appends a rule and a line feed. The MPU is off, or a region decides, in most lines.
     #[inline(always)]
-    #[tactic(auto, using(std::proofs::lemmas::Fmt::decimal_digit))]
+    #[tactic(auto, using(std::proofs::lemmas::Fmt::decimal_digit, crate::proofs::Ticks::from_ten))]
     fn put_rule(&mut self, rule: Rule)
         requires { length self.old + RULE_ROOM ≤ ROOM }
         ensures text { self.new ≡ self.old ++ (rule_text rule ++ line_feed) }
@@ -205,6 +205,9 @@ impl<const ROOM: usize> Page<ROOM> {
         match rule {
             Rule::MpuOff => self.put(b"off\n"),
             Rule::Region(number) if number < 10 => self.put(&[b'r', b'0' + number, b'\n']),
+            Rule::Region(number) if number < 20 => {
+                self.put(&[b'r', b'1', b'0' + (number - 10), b'\n']);
+            }
             _ => self.put_rare_rule(rule),
         }
     }

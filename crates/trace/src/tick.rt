@@ -1,6 +1,6 @@
 //! The tick at the head of each line, kept as its decimal digits.
 
-ghost use Rattle.std.specs.Prelude.{◌≡◌, ◌+◌, ◌-◌, ◌%◌, ◌≤◌, ◌++◌, length};
+ghost use Rattle.std.specs.Prelude.{◌≡◌, ◌+◌, ◌-◌, ◌%◌, ◌≤◌, ◌++◌, if◌then◌else◌, length};
 ghost use Rattle.std.specs.Fmt.{decimal};
 
 use crate::page::Page;
@@ -59,9 +59,39 @@ impl Tick {
         page.put(&[b'0' + (tick - self.first) as u8]);
     }
 
-    /// Makes the digits anew, for the ten ticks to which a tick belongs.
+    /// Takes the digits of the ten ticks to which a tick belongs. Where they are the next ten, most often one digit
+    /// alone is another.
     #[inline(never)]
     fn reset(&mut self, tick: u64)
+        ensures { self.new ≡ tick - tick % 10 }
+    {
+        if !self.count_up(tick) {
+            self.make(tick);
+        }
+    }
+
+    /// Counts the last of the digits up, where those of the next ten ticks differ in it alone and the tick is one of
+    /// them. Otherwise does nothing. Returns whether it did.
+    #[inline(always)]
+    fn count_up(&mut self, tick: u64) -> bool
+        ensures { self.new ≡ (if result then tick - tick % 10 else self.old) }
+    {
+        let count = self.count;
+        if count == 0 || self.front[count - 1] >= b'9' {
+            return false;
+        }
+        let Some(10..=19) = tick.checked_sub(self.first) else {
+            return false;
+        };
+        self.front[count - 1] += 1;
+        self.first += 10;
+        true
+    }
+
+    /// Makes the digits anew, for the ten ticks to which a tick belongs.
+    #[cold]
+    #[inline(never)]
+    fn make(&mut self, tick: u64)
         ensures { self.new ≡ tick - tick % 10 }
     {
         self.count = 0;
