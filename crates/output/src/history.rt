@@ -7,9 +7,9 @@ use std::marker::{Model, PhantomData};
 
 /// Pairs of values, in the order in which they were added.
 #[derive(Drop)]
-pub(crate) struct History<A, B> {
+pub struct History<A, B> {
     of: PhantomData<(A, B)>,
-    pub(crate) ghost items: { List (A × B) },
+    pub ghost items: { List (A × B) },
 }
 
 impl<A, B> Model for History<A, B> {
@@ -19,7 +19,7 @@ impl<A, B> Model for History<A, B> {
 impl<A, B> History<A, B> {
     /// Makes a list of no pairs.
     #[inline(always)]
-    pub(crate) fn new() -> History<A, B>
+    pub fn new() -> History<A, B>
         ensures { result.items ≡ [] }
     {
         History { of: PhantomData }
@@ -27,7 +27,7 @@ impl<A, B> History<A, B> {
 
     /// Returns the list with one pair more.
     #[inline(always)]
-    pub(crate) fn and(&self, first: &A, second: &B) -> History<A, B>
+    pub fn and(&self, first: &A, second: &B) -> History<A, B>
         ensures { result.items ≡ self.now.items ++ (first.now, second.now) ∷ [] }
     {
         History { of: PhantomData }

@@ -14,6 +14,7 @@ mod writer;
 pub use buffered::Buffered;
 pub use cut::Cut;
 pub use event_lines::EventLines;
+pub use history::History;
 pub use paged::Paged;
 pub use view::{AllEvents, ConsoleBytes, ExceptionEvents, NoEvents, RefusedEvents, View};
 pub use writer::{In, IoError, LinePage, LineRoom, Out, Over};

@@ -5,3 +5,4 @@ pub mod Columns
 pub mod CountedLines
 pub mod Times
 pub mod Lanes
+pub mod Regions

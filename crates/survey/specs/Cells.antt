@@ -1,7 +1,7 @@
 -- Which cells of a memory were touched, by whom and how. A cell is a block of 32, 64, .. 1,024 bytes.
-use Rattle.std.specs.Prelude.{ℕ, ◌+◌, ◌-◌, ◌*◌, ◌/◌, ◌^◌, Bool, true, ◌&&◌, nat_le, nat_lt, if◌then◌else◌, List}
+use Rattle.std.specs.Prelude.{◌≡◌, ℕ, ◌+◌, ◌-◌, ◌*◌, ◌/◌, ◌^◌, Bool, true, ◌&&◌, nat_le, nat_lt, if◌then◌else◌, List}
 use Rattle.std.specs.Prelude.{Option}
-use Rattle.std.specs.Prelude.{Some, None, slice_set, slice_index_or, false}
+use Rattle.std.specs.Prelude.{Some, None, replicate, slice_set, slice_index_or, false}
 use Rattle.instruction_set.specs.Sizes.{bytes_in}
 use Rattle.reference.specs.declared.access.Cause.{Cause}
 use Rattle.reference.specs.declared.access.DecidedAccess.{DecidedAccess}
@@ -32,6 +32,11 @@ width_of size =
     else if nat_le size (256 * 1024) then 8
     else if nat_le size (512 * 1024) then 9
     else 10
+
+-- the cells are those of a memory of `size` bytes from `base` on, and none was touched
+abbrev pub IsUntouched : ℕ → ℕ → Cells → Type 0
+IsUntouched base size c =
+    (c.base ≡ base) × (c.size ≡ size) × (c.width ≡ width_of size) × (c.marks ≡ replicate 8192 false)
 
 -- what an access does to the memory that it touches; a probe that is granted does nothing
 abbrev pub touch_of : Kind → Option Cause → Option Touch

@@ -9,3 +9,4 @@ pub mod CountLaw
 pub mod LineLaw
 pub mod SumLaw
 pub mod TimeLaw
+pub mod RegionLaw

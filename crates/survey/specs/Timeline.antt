@@ -1,6 +1,7 @@
 -- What ran when: the ticks of a run in at most 1,024 columns, each of which stands for 1, 2, 4, .. of them.
-use Rattle.std.specs.Prelude.{ℕ, zero, suc, ◌+◌, ◌-◌, ◌*◌, ◌^◌, min, Bool, ◌&&◌, ◌==◌, nat_le, nat_lt, if◌then◌else◌}
-use Rattle.std.specs.Prelude.{List, [], ◌∷◌, ◌++◌, length, slice_set, slice_index, Option, Some, None, bit_or}
+use Rattle.std.specs.Prelude.{◌≡◌, ℕ, zero, suc, ◌+◌, ◌-◌, ◌*◌, ◌^◌, min, Bool, ◌&&◌, ◌==◌, nat_le, nat_lt}
+use Rattle.std.specs.Prelude.{if◌then◌else◌, List, [], ◌∷◌, ◌++◌, length, replicate, slice_set, slice_index}
+use Rattle.std.specs.Prelude.{Option, Some, None, bit_or}
 use Rattle.instruction_set.specs.Words.{is_bit}
 use Rattle.reference.specs.declared.access.Cause.{Cause}
 use Rattle.reference.specs.declared.access.DecidedAccess.{DecidedAccess}
@@ -28,6 +29,11 @@ most_columns = 1024
 -- how many exceptions have lanes of their own at most
 abbrev pub most_lanes : ℕ
 most_lanes = 24
+
+-- no tick has begun, and no exception has a lane
+abbrev pub HasNoTicks : Timeline → Type 0
+HasNoTicks t =
+    (t.used ≡ 0) × (t.column_ticks ≡ 1) × (t.filled ≡ 1) × (t.handlers ≡ []) × (t.columns ≡ replicate 1024 0)
 
 -- Marks
 

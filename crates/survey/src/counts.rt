@@ -94,25 +94,6 @@ fn rule_number(rule: Rule) -> usize
     ensures value { result ≡ rule_number rule }
     ensures within { result < 263 }
 {
-    // Few tests, not a table of jumps, for the rules that decide most accesses.
-    if let Rule::Region(number) = rule {
-        7 + number as usize
-    } else if matches!(rule, Rule::MpuOff) {
-        3
-    } else if matches!(rule, Rule::Background) {
-        5
-    } else {
-        rare_number(rule)
-    }
-}
-
-/// Returns the number of a rule, likewise, for the rules that decide few accesses: out of the way of the others.
-#[cold]
-#[inline(never)]
-fn rare_number(rule: Rule) -> usize
-    ensures value { result ≡ rule_number rule }
-    ensures within { result < 263 }
-{
     match rule {
         Rule::NeverExecute => 0,
         Rule::VectorRead => 1,

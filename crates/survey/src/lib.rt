@@ -20,7 +20,7 @@ pub use cells::{Cells, MARKS, MOST_CELLS};
 pub use console::{Console, MOST_BYTES};
 pub use counts::{COUNTERS, Counts, WAYS};
 pub use mark::{MOST_LANES, Mark};
-pub use moment::Moment;
+pub use moment::{Moment, writes_system};
 pub use refusal::Refusal;
 pub use refusals::{MOST_ROWS, Refusals};
 pub use setting::{RegionSetting, Setting};

@@ -1,6 +1,11 @@
 //! What a survey takes from the state in which a step begins.
 
+ghost use Rattle.std.specs.Prelude.{◌≡◌};
+ghost use Rattle.survey.specs.RegionLaw.{writes_system};
+
 use mpu::MpuRegs;
+use reference::event::EventKind;
+use reference::map::is_in_ppb;
 
 /// What a survey takes from the state in which a step begins.
 #[derive(Clone, Copy)]
@@ -15,4 +20,23 @@ pub struct Moment {
     pub asleep: bool,
     /// The registers of the MPU: the settings of the regions.
     pub mpu: MpuRegs,
+}
+
+/// Returns whether an event is a write to the Private Peripheral Bus that was carried out. Without one a step leaves
+/// the registers of the MPU as they are.
+#[inline(always)]
+pub fn writes_system(what: &EventKind) -> bool
+    ensures { result ≡ writes_system what.now }
+{
+    match what {
+        EventKind::Accessed(decided) => {
+            decided.access.kind.is_write()
+                && is_in_ppb(decided.access.address)
+                && decided.refused.is_none()
+        }
+        EventKind::ConsoleByte(_) => false,
+        EventKind::ReturnBegan(_) => false,
+        EventKind::HandlerEntered(_) => false,
+        EventKind::FaultRecorded(_) => false,
+    }
 }

@@ -1,10 +1,11 @@
 //! A survey, and what one event adds to it.
 
-ghost use Rattle.std.specs.Prelude.{◌≡◌, IfOk, false, replicate};
-ghost use Rattle.survey.specs.Cells.{width_of};
+ghost use Rattle.std.specs.Prelude.{◌≡◌, IfOk, None, replicate};
+ghost use Rattle.survey.specs.Cells.{IsUntouched};
 ghost use Rattle.survey.specs.Surveys.{with_accessed, with_event, with_events, with_step_begun, with_step_end};
+ghost use Rattle.survey.specs.Timeline.{HasNoTicks};
 
-use crate::cells::{Cells, MARKS};
+use crate::cells::Cells;
 use crate::console::Console;
 use crate::counts::{COUNTERS, Counts};
 use crate::moment::Moment;
@@ -44,11 +45,15 @@ impl Survey {
     pub fn new(alloc: Global, layout: &Layout) -> Result<Self, AllocError>
         ensures counts { IfOk result (λ survey. survey.counts ≡ replicate COUNTERS 0) }
         ensures settings { IfOk result (λ survey. survey.settings.used ≡ 0) }
+        ensures others { IfOk result (λ survey. survey.settings.others ≡ 0) }
         ensures refusals { IfOk result (λ survey. survey.refusals.used ≡ 0) }
-        ensures flash { IfOk result (λ survey. survey.flash.marks ≡ replicate MARKS false) }
-        ensures ram { IfOk result (λ survey. survey.ram.marks ≡ replicate MARKS false) }
-        ensures timeline { IfOk result (λ survey. survey.timeline.used ≡ 0) }
+        ensures refused { IfOk result (λ survey. survey.refusals.number ≡ 0) }
+        ensures current { IfOk result (λ survey. survey.refusals.current ≡ None) }
+        ensures flash { IfOk result (λ survey. IsUntouched layout.now.flash_base layout.now.flash_size survey.flash) }
+        ensures ram { IfOk result (λ survey. IsUntouched RAM_BASE layout.now.ram_size survey.ram) }
+        ensures timeline { IfOk result (λ survey. HasNoTicks survey.timeline) }
         ensures console { IfOk result (λ survey. survey.console.number ≡ 0) }
+        ensures bytes { IfOk result (λ survey. survey.console.used ≡ 0) }
         ensures steps { IfOk result (λ survey. survey.steps ≡ 0) }
     {
         let counts = Counts::new(alloc)?;

@@ -1,10 +1,14 @@
--- A survey of one event more.
-use Rattle.std.proofs.Common.{◌≡◌, List, [], ◌∷◌, ◌++◌, refl}
+-- A survey of one event more, and the moment of the next step.
+use Rattle.std.proofs.Common.{◌≡◌, Bool, true, false, ◌||◌, List, [], ◌∷◌, ◌++◌, refl, sym, ap, ◌∙◌}
 use Rattle.std.proofs.lemmas.List.{map-append}
 use Rattle.reference.specs.declared.event.Event.{Event}
+use Rattle.reference.specs.State.{State}
+use Rattle.reference.specs.Step.{step}
+use Rattle.survey.proofs.Regions.{regions_stay}
+use Rattle.survey.specs.RegionLaw.{some_writes_system, writes_system}
 use Rattle.survey.specs.declared.moment.Moment.{Moment}
 use Rattle.survey.specs.declared.whole.Survey.{Survey}
-use Rattle.survey.specs.Surveys.{with_event, with_events}
+use Rattle.survey.specs.Surveys.{moment_of, with_event, with_events}
 use Rattle.survey_run.specs.Begun.{events_of}
 
 with_one_more : (m : Moment) (v : Survey) (es : List Event) (e : Event)
@@ -22,3 +26,29 @@ one_counted m moment v now new es later e same so_far one more =
 pub more_events : (items later : List (Unit {0} × Event)) (e : Event) → later ≡ items ++ (tt, e) ∷ []
     → events_of later ≡ events_of items ++ e ∷ []
 more_events items later e is = rw is (map-append (λ (entry : Unit {0} × Event). entry.1) items ((tt, e) ∷ []))
+
+-- whether one of the events writes, with one event more
+
+joined : (a x y z : Bool) → x ≡ (y || z) → (a || x) ≡ ((a || y) || z)
+joined true x y z e = refl
+joined false x y z e = e
+
+or_none : (a : Bool) → (a || false) ≡ a
+or_none true = refl
+or_none false = refl
+
+one_written : (es : List Event) (e : Event)
+    → some_writes_system (es ++ e ∷ []) ≡ (some_writes_system es || writes_system e.what)
+one_written [] e = or_none (writes_system e.what)
+one_written (first ∷ es) e = joined (writes_system first.what) _ _ _ (one_written es e)
+
+pub more_written : (before now : Bool) (es later : List Event) (e : Event) → before ≡ some_writes_system es
+    → now ≡ (before || writes_system e.what) → later ≡ es ++ e ∷ [] → now ≡ some_writes_system later
+more_written before now es later e so_far is more = rw (more, one_written es e, ← so_far) is
+
+-- after a step without such a write the registers of the MPU are those of its moment
+pub still_known : (s : State) (m : Moment) (wrote : Bool) → m ≡ moment_of s
+    → wrote ≡ some_writes_system (step s).events → wrote ≡ false → (step s).state.bus.system.mpu ≡ m.mpu
+unfolding moment_of
+still_known s m wrote is wrote_is none =
+    regions_stay s (sym wrote_is ∙ none) ∙ sym (ap (λ (n : Moment). n.mpu) is)

@@ -1,17 +1,18 @@
 //! A sink that counts each event as it comes.
 
-ghost use Rattle.std.specs.Prelude.{◌≡◌, []};
+ghost use Rattle.std.specs.Prelude.{◌≡◌, [], ◌||◌};
 ghost use Rattle.reference.specs.Step.{step};
+ghost use Rattle.survey.specs.RegionLaw.{some_writes_system, writes_system};
 ghost use Rattle.survey.specs.declared.moment.Moment.{Moment};
 ghost use Rattle.survey.specs.declared.whole.Survey.{Survey};
 ghost use Rattle.survey.specs.Surveys.{with_events};
 ghost use Rattle.survey_run.specs.Begun.{emission, events_of, no_moment, no_survey};
 
-use crate::history::History;
 use machine::{Decider, DueTicks, KeptCode, Levels, Machine};
-use reference::event::Event;
+use output::History;
+use reference::event::{Event, EventKind};
 use std::marker::{Brand, PhantomData};
-use survey::{Moment, Survey};
+use survey::{Moment, Survey, writes_system};
 use trace::sink::Sink;
 
 /// What a step begins with: a moment, and a survey. Contracts alone see it.
@@ -33,11 +34,14 @@ impl Begun for Brand {
 pub struct CountedEvents<'a, K: Begun> {
     survey: &'a mut Survey,
     moment: &'a Moment,
+    // Whether one of the events so far is a write to the Private Peripheral Bus that was carried out.
+    wrote_system: bool,
     begun: PhantomData<K>,
     // The events so far.
     history: History<(), Event>,
     ghost moment_is: { moment.now ≡ K.moment },
     ghost survey_is: { survey.now ≡ with_events K.moment K.survey (events_of history.items) },
+    ghost wrote_is: { wrote_system ≡ some_writes_system (events_of history.items) },
 }
 
 impl<'a, K: Begun> CountedEvents<'a, K> {
@@ -52,23 +56,27 @@ impl<'a, K: Begun> CountedEvents<'a, K> {
         CountedEvents {
             survey,
             moment,
+            wrote_system: false,
             begun: PhantomData,
             history: History::new(),
         }
     }
 
-    /// Makes a step of a machine, and counts its events.
+    /// Makes a step of a machine, and counts its events. Returns whether one of them is a write to the Private
+    /// Peripheral Bus that was carried out.
     #[inline(always)]
     pub fn take_step<D: Decider, C: KeptCode, L: Levels, U: DueTicks>(
         &mut self,
         machine: &mut Machine<D, C, L, U>,
-    )
+    ) -> bool
         requires { self.old.history.items ≡ [] }
         ensures same_survey { self.new.survey.ghost_name ≡ self.old.survey.ghost_name }
         ensures survey { self.new.survey.now ≡ with_events K.moment K.survey (step machine.old.state).events }
         ensures state { machine.new ≡ record machine.old { state = (step machine.old.state).state } }
+        ensures wrote { result ≡ some_writes_system (step machine.old.state).events }
     {
         machine.step_into(self);
+        self.wrote_system
     }
 }
 
@@ -79,6 +87,15 @@ impl<'a, K: Begun> Sink for CountedEvents<'a, K> {
     fn emit(&mut self, event: Event) {
         let history = self.history.and(&(), &event);
         self.survey.take(self.moment, event.tick, &event.what);
+        self.wrote_system = or_writes(self.wrote_system, &event.what);
         self.history = history;
     }
+}
+
+/// Returns whether an event, or one before it, is a write to the Private Peripheral Bus that was carried out.
+#[inline(always)]
+fn or_writes(before: bool, what: &EventKind) -> bool
+    ensures { result ≡ (before || writes_system what.now) }
+{
+    before || writes_system(what)
 }

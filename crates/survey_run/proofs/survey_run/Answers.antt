@@ -10,6 +10,7 @@ steps-init g c = record {
   few = omega arith;
   machine = none_made c.args.machine.now;
   counted = sym (none_surveyed c.args.machine.now.state c.args.survey.now);
+  moment = c.moment_of-moment.ensures;
 }
 
 pub steps-preserved : goal.steps-preserved
@@ -22,6 +23,7 @@ steps-preserved g c =
       counted =
           c.survey_step.ensures.survey
           ∙ surveyed_on _ _ _ _ _ now (not_some _ going) c.steps.invariant.counted;
+      moment = c.survey_step.ensures.moment;
     }
 
 pub returns-clause-state : goal.returns-clause-state

@@ -1,6 +1,6 @@
 use Rattle.std.proofs.Common.{◌≡◌, ◌-◌, ◌≤◌}
 use Rattle.reference.specs.Run.{after}
-use Rattle.survey.specs.Surveys.{surveyed}
+use Rattle.survey.specs.Surveys.{moment_of, surveyed}
 use Rattle.survey_run.proofs.survey_run.Given as goal
 
 abbrev pub invariant-steps : goal.invariant-steps
@@ -8,6 +8,7 @@ invariant-steps g l = record {
   few : l.made ≤ l.limit;
   machine : l.machine ≡ record l.fn.machine { state = after l.made l.fn.machine.state };
   counted : l.survey ≡ surveyed l.made l.fn.machine.state l.fn.survey;
+  moment : l.moment ≡ moment_of l.machine.state;
 }
 
 abbrev pub decreases-steps : goal.decreases-steps

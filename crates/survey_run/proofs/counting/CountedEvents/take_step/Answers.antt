@@ -8,3 +8,7 @@ returns-clause-same_survey g c = ap (λ (e : Emission). e.writer) c.step_into.en
 pub returns-clause-survey : goal.returns-clause-survey
 returns-clause-survey g c =
     rw (ap (λ (e : Emission). e.events) c.step_into.ensures.events) at c.step_into.new.events.survey_is
+
+pub returns-clause-wrote : goal.returns-clause-wrote
+returns-clause-wrote g c =
+    rw (ap (λ (e : Emission). e.events) c.step_into.ensures.events) at c.step_into.new.events.wrote_is

@@ -1,0 +1,418 @@
+-- A step leaves the registers of the MPU as they are, unless one of its events is a write to the Private Peripheral
+-- Bus that was carried out: an access, a list of them, a failure, an entry, a return, and the phases of a step from the
+-- last one up.
+use Rattle.std.proofs.Common.{◌≡◌, ℕ, nat_le, Bool, true, false, not, ◌||◌, ◌==◌, List, [], ◌∷◌, ◌++◌, ◌*◌, ◌/◌}
+use Rattle.std.proofs.Common.{Option, Some, None, Result, Ok, Err, refl, sym, ◌∙◌}
+use Rattle.std.proofs.lemmas.Bool.{cond_both, or_parts}
+use Rattle.std.proofs.lemmas.List.Folds.{list_any-append}
+use Rattle.instruction_set.specs.declared.instruction.CodedInstruction.{CodedInstruction}
+use Rattle.instruction_set.specs.declared.instruction.Decoded.{Decoded}
+use Rattle.instruction_set.specs.declared.instruction.Decoded.TheVariants as decoded
+use Rattle.instruction_set.specs.declared.instruction.InstructionLength.{InstructionLength}
+use Rattle.instruction_set.specs.declared.instruction.InstructionLength.TheVariants.{Short, Long}
+use Rattle.instruction_set.specs.Arithmetic.{condition_passed}
+use Rattle.instruction_set.specs.Decoding.{is_long}
+use Rattle.instruction_set.specs.Frames.{has_reserved_ones, popped_pc}
+use Rattle.instruction_set.specs.Words.{is_bit, word_sum}
+use Rattle.reference.specs.declared.access.Decision.{Decision}
+use Rattle.reference.specs.declared.access.Kind.{Kind}
+use Rattle.reference.specs.declared.access.Kind.TheVariants.{Fetch, Load, Store, Push, Pop, Vector, Probe}
+use Rattle.reference.specs.declared.access.Request.{Request}
+use Rattle.reference.specs.declared.access.Rule.{Rule}
+use Rattle.reference.specs.declared.ending.Ending.{Ending}
+use Rattle.reference.specs.declared.ending.Ending.TheVariants as ending
+use Rattle.reference.specs.declared.event.Event.{Event}
+use Rattle.reference.specs.declared.exception.Escalation.{Escalation}
+use Rattle.reference.specs.declared.exception.Escalation.TheVariants.{Itself, HardFault, Lockup}
+use Rattle.reference.specs.declared.exception.TheConstants.{NMI, SV_CALL}
+use Rattle.reference.specs.declared.failure.Failure.{Failure}
+use Rattle.reference.specs.declared.failure.Failure.TheVariants as failure
+use Rattle.reference.specs.declared.failure.UsageFault.{UsageFault}
+use Rattle.reference.specs.declared.failure.UsageFault.TheVariants.{InvalidReturn, InvalidState, NoCoprocessor}
+use Rattle.reference.specs.declared.failure.UsageFault.TheVariants.{UndefinedInstruction}
+use Rattle.reference.specs.declared.fault_status.FaultEffect.{FaultEffect}
+use Rattle.reference.specs.declared.stop.Stop.{Stop}
+use Rattle.reference.specs.declared.system.SystemRegister.{SystemRegister}
+use Rattle.reference.specs.declared.system.SystemRegister.TheVariants as register
+use Rattle.reference.specs.Accesses.{BusAnswer, ListResult, access_lines, answered_by_bus, decided, decision, followed}
+use Rattle.reference.specs.Accesses.{perform, perform_all, performed_by, value_of}
+use Rattle.reference.specs.ExceptionEntry.{begin_entry, entering, exception_taken, pushes, stacked, take_vector}
+use Rattle.reference.specs.ExceptionEntry.{taken_if_any, vector_read, vector_taken}
+use Rattle.reference.specs.ExceptionReturn.{chained, exception_ended, exception_return, fits_mode, frame_read}
+use Rattle.reference.specs.ExceptionReturn.{is_allowed, pop_stack, pops, return_line, returned, unstacked, with_entry}
+use Rattle.reference.specs.Faults.{escalated, failed, fault_of, faulted, recorded, supervisor_called}
+use Rattle.reference.specs.Faults.{supervisor_called_by, usage_fault_of}
+use Rattle.reference.specs.Kinds.{is_load, is_probe, is_store, is_write}
+use Rattle.reference.specs.Map.{is_in_ppb}
+use Rattle.reference.specs.Operations.{result_of}
+use Rattle.reference.specs.Priorities.{is_fixed}
+use Rattle.reference.specs.ProgramCounter.{Finished, moves_on}
+use Rattle.reference.specs.Regions.{Mpu}
+use Rattle.reference.specs.State.{Bus, State, Stepped, ticked, with_bus, with_registers, with_system}
+use Rattle.reference.specs.Step.{ended, executed, fetched_first, fetched_second, fetching, finished, instruction}
+use Rattle.reference.specs.Step.{performed_all, phase, planned, running, served, sleeps_on, step, unless_stopped}
+use Rattle.reference.specs.Step.{with_access_lines, with_second, without_meaning}
+use Rattle.reference.specs.System.{System, SystemAnswer, after_read, after_tick, deactivated, has_access, has_width}
+use Rattle.reference.specs.System.{is_held, register_access, register_at, register_written, replied, system_access}
+use Rattle.reference.specs.Time.{last_tick}
+use Rattle.survey.specs.RegionLaw.{RegionsStay, some_writes_system, writes_system}
+
+-- ---- events one after another
+
+none_first : (xs ys : List Event) → some_writes_system (xs ++ ys) ≡ false → some_writes_system xs ≡ false
+none_first xs ys e = (or_parts _ _ (sym (list_any-append (λ (event : Event). writes_system event.what) xs ys) ∙ e)).0
+
+none_later : (xs ys : List Event) → some_writes_system (xs ++ ys) ≡ false → some_writes_system ys ≡ false
+none_later xs ys e = (or_parts _ _ (sym (list_any-append (λ (event : Event). writes_system event.what) xs ys) ∙ e)).1
+
+-- ---- one access
+
+-- a store is a write
+store_writes : (k : Kind) → is_store k ≡ true → is_write k ≡ true
+store_writes Fetch e = absurd cc
+store_writes Load e = absurd cc
+store_writes Store e = refl
+store_writes Push e = absurd cc
+store_writes Pop e = absurd cc
+store_writes Vector e = absurd cc
+store_writes Probe e = absurd cc
+
+-- an access to the Private Peripheral Bus leaves these registers, unless its event is such a write
+abbrev SystemStays : ℕ → Request → Mpu → SystemAnswer → Type 0
+SystemStays tick q old r =
+    (rule : Rule) → some_writes_system (access_lines tick q (performed_by rule r.answer)) ≡ false → r.system.mpu ≡ old
+
+read_stays : (s : System) (it : SystemRegister) → (after_read s it).mpu ≡ s.mpu
+unfolding after_read
+read_stays s (register.SysTick it) = refl
+read_stays s (register.Interrupts it word) = refl
+read_stays s (register.Priorities first) = refl
+read_stays s (register.Control it) = refl
+read_stays s (register.Status it) = refl
+read_stays s (register.Mpu it) = refl
+read_stays s register.Unlisted = refl
+
+replied_stays : (tick : ℕ) (q : Request) (s : System) (r : Result System Stop) → is_write q.access.kind ≡ true
+    → is_in_ppb q.access.address ≡ true → SystemStays tick q s.mpu (replied s r)
+replied_stays tick q s (Ok after) writing there rule none = absurd cc
+replied_stays tick q s (Err why) writing there rule none = refl
+
+register_stays : (tick x : ℕ) (s : System) (q : Request) (it : SystemRegister) → is_in_ppb q.access.address ≡ true
+    → SystemStays tick q s.mpu (register_access x s q it)
+unfolding register_access
+register_stays tick x s q it there =
+    cond_both (not (has_access s q)) _ _ (SystemStays tick q s.mpu) (λ e rule none. refl)
+    (λ e. cond_both (not (has_width it q.access.size)) _ _ (SystemStays tick q s.mpu) (λ f rule none. refl)
+    (λ f. cond_both (is_store q.access.kind) _ _ (SystemStays tick q s.mpu)
+    (λ g. replied_stays tick q s (register_written s q it) (store_writes q.access.kind g) there)
+    (λ g rule none. read_stays s it)))
+
+system_stays : (tick x : ℕ) (s : System) (q : Request) → is_in_ppb q.access.address ≡ true
+    → SystemStays tick q s.mpu (system_access x s q)
+unfolding system_access
+system_stays tick x s q there =
+    cond_both (is_load q.access.kind || is_store q.access.kind) _ _ (SystemStays tick q s.mpu)
+    (λ e. register_stays tick x s q (register_at (q.access.address / 4 * 4)) there) (λ e rule none. refl)
+
+abbrev BusStays : ℕ → Request → Mpu → BusAnswer → Type 0
+BusStays tick q old a =
+    (rule : Rule) → some_writes_system (access_lines tick q (performed_by rule a.answer)) ≡ false
+    → a.bus.system.mpu ≡ old
+
+carried_stays : (exception tick : ℕ) (b : Bus) (q : Request)
+    → BusStays tick q b.system.mpu (answered_by_bus exception b q)
+unfolding answered_by_bus
+carried_stays exception tick b q =
+    cond_both (is_probe q.access.kind) _ _ (BusStays tick q b.system.mpu) (λ e rule none. refl)
+    (λ e. cond_both (is_in_ppb q.access.address) _ _ (BusStays tick q b.system.mpu)
+    (λ there. system_stays tick exception b.system q there) (λ away rule none. refl))
+
+decided_stays : (exception tick : ℕ) (b : Bus) (q : Request) (d : Decision) (granted : Bool) → d.granted ≡ granted
+    → some_writes_system (access_lines tick q (decided exception b q d).performed) ≡ false
+    → (decided exception b q d).bus.system.mpu ≡ b.system.mpu
+decided_stays exception tick b q d true e = rw e (carried_stays exception tick b q d.rule)
+decided_stays exception tick b q d false e = rw e (λ none. refl)
+
+access_stays : (exception tick : ℕ) (b : Bus) (q : Request)
+    → some_writes_system (access_lines tick q (perform exception b q).performed) ≡ false
+    → (perform exception b q).bus.system.mpu ≡ b.system.mpu
+unfolding perform
+access_stays exception tick b q = decided_stays exception tick b q (decision b q) _ refl
+
+-- ---- a list of accesses
+
+abbrev ListStays : Mpu → ListResult → Type 0
+ListStays old all = some_writes_system all.events ≡ false → all.bus.system.mpu ≡ old
+
+followed_stays : (old : Mpu) (events : List Event) (after : Bus) (value : Result ℕ Failure) (rest : ListResult)
+    → (some_writes_system events ≡ false → after.system.mpu ≡ old) → ListStays after.system.mpu rest
+    → ListStays old (followed events after value rest)
+followed_stays old events after (Ok value) rest first others none =
+    others (none_later events rest.events none) ∙ first (none_first events rest.events none)
+followed_stays old events after (Err why) rest first others none = first none
+
+list_stays : (exception tick : ℕ) (b : Bus) (qs : List Request)
+    → ListStays b.system.mpu (perform_all exception tick b qs)
+unfolding perform_all
+list_stays exception tick b [] none = refl
+list_stays exception tick b (q ∷ qs) none =
+    followed_stays b.system.mpu _ _ (value_of q (perform exception b q).performed) _
+    (access_stays exception tick b q) (list_stays exception tick (perform exception b q).bus qs) none
+
+-- ---- failures
+
+-- what holds of a step, and of a phase with its events so far, since these were the registers
+abbrev Stays : Mpu → Stepped → Type 0
+Stays old r = some_writes_system r.events ≡ false → r.state.bus.system.mpu ≡ old
+
+abbrev StaysSoFar : Mpu → State → List Event → Type 0
+StaysSoFar old s events = some_writes_system events ≡ false → s.bus.system.mpu ≡ old
+
+escalated_stays : (old : Mpu) (s : State) (events : List Event) (x : ℕ) (e : Escalation) → StaysSoFar old s events
+    → Stays old (escalated s events x e)
+escalated_stays old s events x Itself h none = h (none_first events _ none)
+escalated_stays old s events x HardFault h none = h (none_first events _ none)
+escalated_stays old s events x Lockup h none = h (none_first events _ none)
+
+faulted_stays : (old : Mpu) (s : State) (events : List Event) (f : FaultEffect) → StaysSoFar old s events
+    → Stays old (faulted s events f)
+unfolding faulted
+faulted_stays old s events f h = escalated_stays old (recorded s f) events f.exception _ h
+
+failed_stays : (old : Mpu) (s : State) (events : List Event) (why : Failure) → StaysSoFar old s events
+    → Stays old (failed s events why)
+failed_stays old s events (failure.Refused access cause) h = faulted_stays old s events (fault_of access cause) h
+failed_stays old s events (failure.Usage fault) h = faulted_stays old s events (usage_fault_of fault) h
+failed_stays old s events (failure.Stop why) h = h
+
+called_stays : (old : Mpu) (s : State) (events : List Event) (e : Escalation) → StaysSoFar old s events
+    → Stays old (supervisor_called_by s events e)
+called_stays old s events Itself h = h
+called_stays old s events HardFault h = escalated_stays old s events SV_CALL HardFault h
+called_stays old s events Lockup h = escalated_stays old s events SV_CALL Lockup h
+
+supervisor_stays : (old : Mpu) (s : State) (events : List Event) → StaysSoFar old s events
+    → Stays old (supervisor_called s events)
+unfolding supervisor_called
+supervisor_stays old s events h = called_stays old s events _ h
+
+-- ---- entry
+
+stacked_stays : (old : Mpu) (s : State) (all : ListResult) (end : Option Failure) → ListStays old all
+    → Stays old (stacked s all end)
+stacked_stays old s all None h = h
+stacked_stays old s all (Some why) h = failed_stays old (with_bus s all.bus) all.events why h
+
+entry_stays : (s : State) → Stays s.bus.system.mpu (begin_entry s)
+unfolding begin_entry
+entry_stays s =
+    let all = perform_all s.registers.exception s.bus.system.time.ticks s.bus (pushes s.registers) in
+    stacked_stays s.bus.system.mpu (entering s) all all.failure
+    (list_stays s.registers.exception s.bus.system.time.ticks s.bus (pushes s.registers))
+
+vector_stays : (old : Mpu) (s : State) (events : List Event) (x e : ℕ) (answer : Result ℕ Failure)
+    → StaysSoFar old s events → Stays old (vector_taken s events x e answer)
+vector_stays old s events x e (Ok vector) h = λ none. h (none_first events _ none)
+vector_stays old s events x e (Err (failure.Refused access cause)) h =
+    cond_both (is_fixed x) _ _ (Stays old) (λ fixed none. h (none_first events _ none))
+    (λ other none. h (none_first events _ none))
+vector_stays old s events x e (Err (failure.Usage fault)) h = failed_stays old s events (failure.Usage fault) h
+vector_stays old s events x e (Err (failure.Stop why)) h = h
+
+taken_stays : (s : State) (e x : ℕ) → Stays s.bus.system.mpu (exception_taken s e x)
+unfolding exception_taken
+taken_stays s e x =
+    let q = vector_read s x in
+    let answer = perform s.registers.exception s.bus q in
+    vector_stays s.bus.system.mpu (with_bus s answer.bus) (access_lines s.bus.system.time.ticks q answer.performed) x e
+    (value_of q answer.performed) (access_stays s.registers.exception s.bus.system.time.ticks s.bus q)
+
+any_stays : (s : State) (e : ℕ) (next : Option ℕ) → Stays s.bus.system.mpu (taken_if_any s e next)
+any_stays s e None = λ none. refl
+any_stays s e (Some x) = taken_stays s e x
+
+vector_step_stays : (s : State) (e : ℕ) → Stays s.bus.system.mpu (take_vector s e)
+unfolding take_vector
+vector_step_stays s e = any_stays s e _
+
+-- ---- return
+
+unstacked_stays : (old : Mpu) (s : State) (events : List Event) (e : ℕ) (frame : List ℕ) → StaysSoFar old s events
+    → Stays old (unstacked s events e frame)
+unfolding unstacked
+unstacked_stays old s events e frame h =
+    cond_both (not (fits_mode e frame)) _ _ (Stays old)
+    (λ is. failed_stays old (with_entry s e) events (failure.Usage InvalidReturn) h)
+    (λ is. cond_both (is_bit (popped_pc frame) 0) _ _ (Stays old) (λ odd. h) (λ even. h))
+
+-- events of accesses after others
+both_stay : (old : Mpu) (s after : State) (events : List Event) (all : ListResult) → StaysSoFar old s events
+    → ListStays s.bus.system.mpu all → after.bus.system.mpu ≡ all.bus.system.mpu
+    → StaysSoFar old after (events ++ all.events)
+both_stay old s after events all h served is none =
+    is ∙ served (none_later events all.events none) ∙ h (none_first events all.events none)
+
+read_frame_stays : (old : Mpu) (s : State) (events : List Event) (e : ℕ) (all : ListResult) (end : Option Failure)
+    → StaysSoFar old s events → ListStays s.bus.system.mpu all → Stays old (frame_read s events e all end)
+read_frame_stays old s events e all None h served =
+    unstacked_stays old (with_bus s all.bus) (events ++ all.events) e all.values
+    (both_stay old s (with_bus s all.bus) events all h served refl)
+read_frame_stays old s events e all (Some why) h served =
+    failed_stays old (with_entry (with_bus s all.bus) e) (events ++ all.events) why
+    (both_stay old s (with_bus s all.bus) events all h served refl)
+
+popped_stays : (old : Mpu) (s : State) (events : List Event) (e : ℕ) → StaysSoFar old s events
+    → Stays old (pop_stack s events e)
+unfolding pop_stack
+popped_stays old s events e h =
+    let all = perform_all s.registers.exception s.bus.system.time.ticks s.bus (pops s.registers e) in
+    read_frame_stays old s events e all all.failure h
+    (list_stays s.registers.exception s.bus.system.time.ticks s.bus (pops s.registers e))
+
+chained_stays : (old : Mpu) (s : State) (events : List Event) (e : ℕ) (next : Option ℕ) → StaysSoFar old s events
+    → Stays old (chained s events e next)
+chained_stays old s events e (Some x) h = h
+chained_stays old s events e None h = popped_stays old s events e h
+
+returned_stays : (old : Mpu) (s : State) (events : List Event) (e : ℕ) (allowed : Bool) → StaysSoFar old s events
+    → Stays old (returned s events e allowed)
+returned_stays old s events e true h = chained_stays old s events e _ h
+returned_stays old s events e false h =
+    failed_stays old (with_entry s e) events (failure.Usage InvalidReturn) h
+
+-- the end of a handler
+idle_stays : (t : System) (x : ℕ) → (deactivated t x).mpu ≡ t.mpu
+unfolding deactivated
+idle_stays t x = cond_both (is_held t x) _ _ (λ (u : System). u.mpu ≡ t.mpu) (λ e. refl) (λ e. refl)
+
+handler_stays : (t : System) (x : ℕ) → (exception_ended t x).mpu ≡ t.mpu
+handler_stays t x =
+    cond_both (x == NMI) _ _ (λ (u : System). u.mpu ≡ t.mpu) (λ e. idle_stays t x) (λ e. idle_stays t x)
+
+return_stays : (old : Mpu) (s : State) (before : List Event) (e : ℕ) → StaysSoFar old s before
+    → Stays old (exception_return s before e)
+unfolding exception_return
+return_stays old s before e h =
+    cond_both (has_reserved_ones e) _ _ (Stays old)
+    (λ ones. returned_stays old (with_system s (exception_ended s.bus.system s.registers.exception))
+    (before ++ return_line s e ∷ []) e (is_allowed s e)
+    (λ none. handler_stays s.bus.system s.registers.exception ∙ h (none_first before _ none)))
+    (λ other none. h (none_first before _ none))
+
+-- ---- an instruction
+
+ended_stays : (old : Mpu) (s : State) (events : List Event) (end : Ending) → StaysSoFar old s events
+    → Stays old (ended s events end)
+ended_stays old s events ending.Next h = h
+ended_stays old s events (ending.ReadSpecial o) h = h
+ended_stays old s events (ending.WriteSpecial special value) h = h
+ended_stays old s events (ending.ChangeState o) h = h
+ended_stays old s events ending.Sleep h = h
+ended_stays old s events (ending.SupervisorCall number) h = supervisor_stays old s events h
+ended_stays old s events (ending.Breakpoint number) h = h
+ended_stays old s events (ending.ExceptionReturn value) h = return_stays old s events value h
+
+finished_stays : (old : Mpu) (s : State) (events : List Event) (f : Finished) → StaysSoFar old s events
+    → Stays old (finished s events f)
+finished_stays old s events f h = ended_stays old (with_registers s f.registers) events f.ending h
+
+served_stays : (old : Mpu) (s : State) (events : List Event) (i : CodedInstruction) (all : ListResult)
+    (end : Option Failure) → StaysSoFar old s events → ListStays s.bus.system.mpu all
+    → Stays old (served s events i all end)
+served_stays old s events i all None h list =
+    finished_stays old (with_bus s all.bus) (events ++ all.events) (result_of i s.registers all.values)
+    (both_stay old s (with_bus s all.bus) events all h list refl)
+served_stays old s events i all (Some why) h list =
+    failed_stays old (with_bus s all.bus) (events ++ all.events) why
+    (both_stay old s (with_bus s all.bus) events all h list refl)
+
+performed_stays : (old : Mpu) (s : State) (events : List Event) (i : CodedInstruction) (qs : List Request)
+    → StaysSoFar old s events → Stays old (performed_all s events i qs)
+unfolding performed_all
+performed_stays old s events i qs h =
+    let all = perform_all s.registers.exception s.bus.system.time.ticks s.bus qs in
+    served_stays old s events i all all.failure h
+    (list_stays s.registers.exception s.bus.system.time.ticks s.bus qs)
+
+planned_stays : (old : Mpu) (s : State) (events : List Event) (i : CodedInstruction)
+    (asked : Result (List Request) Failure) → StaysSoFar old s events → Stays old (planned s events i asked)
+planned_stays old s events i (Ok qs) h = performed_stays old s events i qs h
+planned_stays old s events i (Err why) h = failed_stays old s events why h
+
+meaningless_stays : (old : Mpu) (s : State) (events : List Event) (length : InstructionLength) (fault : UsageFault)
+    → StaysSoFar old s events → Stays old (without_meaning s events length fault)
+meaningless_stays old s events length fault h =
+    cond_both (condition_passed s.registers.it_state s.registers.flags) _ _ (Stays old)
+    (λ passed. failed_stays old s events (failure.Usage fault) h)
+    (λ skipped. finished_stays old s events (moves_on length s.registers) h)
+
+executed_stays : (old : Mpu) (s : State) (events : List Event) (length : InstructionLength) (d : Decoded)
+    → StaysSoFar old s events → Stays old (executed s events length d)
+executed_stays old s events length (decoded.Instr i) h = planned_stays old s events i _ h
+executed_stays old s events length decoded.Undefined h =
+    meaningless_stays old s events length UndefinedInstruction h
+executed_stays old s events length decoded.NoCoprocessor h = meaningless_stays old s events length NoCoprocessor h
+executed_stays old s events length (decoded.Unpredictable place why) h = h
+
+-- ---- the fetches
+
+fetch_stays : (old : Mpu) (s : State) (events : List Event) (q : Request) → StaysSoFar old s events
+    → StaysSoFar old (with_bus s (perform s.registers.exception s.bus q).bus) (with_access_lines s events q)
+fetch_stays old s events q h none =
+    access_stays s.registers.exception s.bus.system.time.ticks s.bus q (none_later events _ none)
+    ∙ h (none_first events _ none)
+
+second_stays : (old : Mpu) (s : State) (events : List Event) (hw1 : ℕ) (answer : Result ℕ Failure)
+    → StaysSoFar old s events → Stays old (fetched_second s events hw1 answer)
+second_stays old s events hw1 (Ok hw2) h = executed_stays old s events Long _ h
+second_stays old s events hw1 (Err why) h = failed_stays old s events why h
+
+with_second_stays : (old : Mpu) (s : State) (events : List Event) (hw1 : ℕ) → StaysSoFar old s events
+    → Stays old (with_second s events hw1)
+unfolding with_second
+with_second_stays old s events hw1 h =
+    cond_both (is_long hw1) _ _ (Stays old)
+    (λ long. second_stays old _ _ hw1 _
+    (fetch_stays old s events (fetching s.registers (word_sum s.registers.pc 2)) h))
+    (λ short. executed_stays old s events Short _ h)
+
+first_stays : (old : Mpu) (s : State) (events : List Event) (answer : Result ℕ Failure) → StaysSoFar old s events
+    → Stays old (fetched_first s events answer)
+first_stays old s events (Ok hw1) h = with_second_stays old s events hw1 h
+first_stays old s events (Err why) h = failed_stays old s events why h
+
+instruction_stays : (s : State) → Stays s.bus.system.mpu (instruction s)
+unfolding instruction
+instruction_stays s =
+    let old = s.bus.system.mpu in
+    cond_both s.registers.thumb _ _ (Stays old)
+    (λ thumb. first_stays old _ _ _ (fetch_stays old s [] (fetching s.registers s.registers.pc) (λ none. refl)))
+    (λ arm. failed_stays old s [] (failure.Usage InvalidState) (λ none. refl))
+
+-- ---- the step
+
+phase_stays : (s : State) (entry next : Option ℕ) → Stays s.bus.system.mpu (phase s entry next)
+unfolding phase
+phase_stays s (Some e) next = vector_step_stays s e
+phase_stays s None (Some x) = entry_stays s
+phase_stays s None None =
+    cond_both (sleeps_on s) _ _ (Stays s.bus.system.mpu) (λ sleeps none. refl)
+    (λ wakes. instruction_stays (record s { asleep = false }))
+
+-- a tick leaves the registers
+tick_stays : (s : State) → (ticked s).bus.system.mpu ≡ s.bus.system.mpu
+unfolding after_tick
+tick_stays s = refl
+
+running_stays : (s : State) → Stays s.bus.system.mpu (running s)
+running_stays s =
+    cond_both (nat_le last_tick s.bus.system.time.ticks) _ _ (Stays s.bus.system.mpu) (λ late none. refl)
+    (λ early none. phase_stays (ticked s) s.entry _ none ∙ tick_stays s)
+
+stopped_stays : (s : State) (why : Option Stop) → Stays s.bus.system.mpu (unless_stopped s why)
+stopped_stays s None = running_stays s
+stopped_stays s (Some why) = λ none. refl
+
+pub regions_stay : RegionsStay
+unfolding step
+regions_stay s = stopped_stays s s.stop
