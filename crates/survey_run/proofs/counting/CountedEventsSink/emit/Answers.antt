@@ -9,5 +9,5 @@ invariant_of-self g c = record {
       c.args.self.now.survey_is c.take.ensures (more_events _ _ _ c.and-history.ensures);
   wrote_is =
       more_written _ _ _ _ _ c.args.self.now.wrote_is c.or_writes-self.ensures
-          (more_events _ _ _ c.and-history.ensures);
+      (more_events _ _ _ c.and-history.ensures);
 }
