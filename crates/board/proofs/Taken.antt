@@ -1,6 +1,7 @@
 -- A board that was read has the numbers and the script that a start needs.
 use Rattle.std.proofs.Common.{◌≡◌, ℕ, ◌+◌, ◌%◌, ◌≤◌, true, refl, arith}
 use Rattle.std.proofs.lemmas.Bool.Decides.{nat_tests}
+use Rattle.board.proofs.Ordered.{script_is}
 use Rattle.board.specs.declared.board.Board.{Board}
 use Rattle.board.specs.Reading.{described}
 use Rattle.reference.specs.declared.exception.TheConstants.{MOST_INTERRUPTS}
@@ -31,3 +32,5 @@ is_board board script = record {
   regions = known_regions board.layout.regions;
   script = script;
 }
+
+pub ruleset board_lemmas = (script_is, is_board)

@@ -50,7 +50,7 @@ pub fn read_board(alloc: Global, text: &str) -> Result<Board, BoardError>
 
 /// Returns the board that a parsed document describes, or the first refusal. `OutOfMemory` is
 /// returned only where nothing is refused.
-#[tactic(auto, using(crate::proofs::Ordered::script_is, crate::proofs::Taken::is_board), unfolding(crate::specs::Texts::board_in))]
+#[tactic(auto, using(crate::proofs::Taken::board_lemmas), unfolding(crate::specs::Texts::board_in))]
 pub fn board_of_table(alloc: Global, document: &Table) -> Result<Board, BoardError>
     ensures answer { Answers described result (board_in (table_view document.now)) }
     ensures script { IfOk result (λ board. IsScript board.layout.interrupts board.events.items) }
