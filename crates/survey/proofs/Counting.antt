@@ -17,7 +17,7 @@ use Rattle.reference.specs.State.{State}
 use Rattle.reference.specs.Step.{step}
 use Rattle.reference.specs.Step as steps
 use Rattle.survey.specs.declared.moment.Moment.{Moment}
-use Rattle.survey.specs.declared.whole.Survey.{Survey}
+use Rattle.survey.specs.declared.survey.Survey.{Survey}
 use Rattle.survey.specs.Counts.{counted_at, one_more, place_of, place_of_access}
 use Rattle.survey.specs.CountLaw.{CountsEvents, is_counted_at, events_at}
 use Rattle.survey.specs.Surveys.{moment_of, surveyed, unless_stopped, with_event, with_events, with_step}

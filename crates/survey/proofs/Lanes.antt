@@ -14,7 +14,7 @@ use Rattle.reference.specs.State.{State}
 use Rattle.reference.specs.Step.{step}
 use Rattle.survey.specs.declared.mark.Mark.{Mark}
 use Rattle.survey.specs.declared.moment.Moment.{Moment}
-use Rattle.survey.specs.declared.whole.Survey.{Survey}
+use Rattle.survey.specs.declared.survey.Survey.{Survey}
 use Rattle.survey.specs.Surveys.{moment_of, surveyed, unless_stopped, with_event, with_events, with_step}
 use Rattle.survey.specs.Surveys.{with_step_begun}
 use Rattle.survey.specs.TimeLaw.{BeginsWith, LanesStay}

@@ -15,7 +15,7 @@ use Rattle.reference.specs.State.{State}
 use Rattle.reference.specs.Step.{step}
 use Rattle.reference.specs.Step as steps
 use Rattle.survey.specs.declared.moment.Moment.{Moment}
-use Rattle.survey.specs.declared.whole.Survey.{Survey}
+use Rattle.survey.specs.declared.survey.Survey.{Survey}
 use Rattle.survey.specs.Counts.{counted_at, one_more, place_of_access}
 use Rattle.survey.specs.SumLaw.{OutcomesAddUp, SumCounts, any_access, chosen_in, counters, is_chosen, is_granted}
 use Rattle.survey.specs.SumLaw.{is_refused}

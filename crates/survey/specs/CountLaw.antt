@@ -10,7 +10,7 @@ use Rattle.reference.specs.declared.event.EventKind.TheVariants.{Accessed, Conso
 use Rattle.reference.specs.declared.event.EventKind.TheVariants.{FaultRecorded}
 use Rattle.reference.specs.Run.{events_of}
 use Rattle.reference.specs.State.{State}
-use Rattle.survey.specs.declared.whole.Survey.{Survey}
+use Rattle.survey.specs.declared.survey.Survey.{Survey}
 use Rattle.survey.specs.Counts.{number_of, place_of, place_of_access}
 use Rattle.survey.specs.Surveys.{surveyed}
 

@@ -11,7 +11,7 @@ use Rattle.reference.specs.Run.{after}
 use Rattle.reference.specs.State.{State}
 use Rattle.reference.specs.Step.{step}
 use Rattle.survey.specs.declared.moment.Moment.{Moment}
-use Rattle.survey.specs.declared.whole.Survey.{Survey}
+use Rattle.survey.specs.declared.survey.Survey.{Survey}
 use Rattle.survey.specs.Cells.{with_touch}
 use Rattle.survey.specs.Console.{with_byte}
 use Rattle.survey.specs.Counts.{one_more, with_access}

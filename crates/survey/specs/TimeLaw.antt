@@ -10,7 +10,7 @@ use Rattle.reference.specs.Run.{after}
 use Rattle.reference.specs.State.{State}
 use Rattle.reference.specs.Step.{step}
 use Rattle.survey.specs.declared.mark.Mark.{Mark}
-use Rattle.survey.specs.declared.whole.Survey.{Survey}
+use Rattle.survey.specs.declared.survey.Survey.{Survey}
 use Rattle.survey.specs.Surveys.{moment_of, surveyed}
 use Rattle.survey.specs.Timeline.{Timeline, has_mark, mark_number, mark_of_access, running_mark}
 

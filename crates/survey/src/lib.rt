@@ -12,9 +12,9 @@ mod refusal;
 mod refusals;
 mod setting;
 mod settings;
+mod survey;
 mod timeline;
 mod touch;
-mod whole;
 
 pub use cells::{Cells, MARKS, MOST_CELLS};
 pub use console::{Console, MOST_BYTES};
@@ -25,6 +25,6 @@ pub use refusal::Refusal;
 pub use refusals::{MOST_ROWS, Refusals};
 pub use setting::{RegionSetting, Setting};
 pub use settings::{MOST_SETTINGS, Settings};
+pub use survey::Survey;
 pub use timeline::{MOST_COLUMNS, Timeline};
 pub use touch::Touch;
-pub use whole::Survey;

@@ -7,7 +7,7 @@ use Rattle.reference.specs.State.{State}
 use Rattle.reference.specs.Step.{step}
 use Rattle.machine.proofs.Running.{after_more, after_stop, all_made}
 use Rattle.machine.specs.Whole.{Whole}
-use Rattle.survey.specs.declared.whole.Survey.{Survey}
+use Rattle.survey.specs.declared.survey.Survey.{Survey}
 use Rattle.survey.specs.Surveys.{surveyed, unless_stopped, with_made_step, with_step}
 
 pub none_made : (m : Whole) → m ≡ record m { state = after 0 m.state }

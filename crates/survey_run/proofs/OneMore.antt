@@ -7,7 +7,7 @@ use Rattle.reference.specs.Step.{step}
 use Rattle.survey.proofs.Regions.{regions_stay}
 use Rattle.survey.specs.RegionLaw.{some_writes_system, writes_system}
 use Rattle.survey.specs.declared.moment.Moment.{Moment}
-use Rattle.survey.specs.declared.whole.Survey.{Survey}
+use Rattle.survey.specs.declared.survey.Survey.{Survey}
 use Rattle.survey.specs.Surveys.{moment_of, with_event, with_events}
 use Rattle.survey_run.specs.Begun.{events_of}
 

@@ -4,7 +4,7 @@ use Rattle.reference.specs.declared.event.Event.{Event}
 use Rattle.reference.specs.Regions.{fresh}
 use Rattle.trace.specs.Emission.{Emission}
 use Rattle.survey.specs.declared.moment.Moment.{Moment}
-use Rattle.survey.specs.declared.whole.Survey.{Survey}
+use Rattle.survey.specs.declared.survey.Survey.{Survey}
 use Rattle.survey.specs.Cells.{Cells}
 
 abbrev pub no_moment : Moment

@@ -4,7 +4,7 @@ ghost use Rattle.std.specs.Prelude.{◌≡◌, [], ◌||◌};
 ghost use Rattle.reference.specs.Step.{step};
 ghost use Rattle.survey.specs.RegionLaw.{some_writes_system, writes_system};
 ghost use Rattle.survey.specs.declared.moment.Moment.{Moment};
-ghost use Rattle.survey.specs.declared.whole.Survey.{Survey};
+ghost use Rattle.survey.specs.declared.survey.Survey.{Survey};
 ghost use Rattle.survey.specs.Surveys.{with_events};
 ghost use Rattle.survey_run.specs.Begun.{emission, events_of, no_moment, no_survey};
 

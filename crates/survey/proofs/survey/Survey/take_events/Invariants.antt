@@ -1,6 +1,6 @@
 use Rattle.std.proofs.Common.{◌≡◌, drop}
 use Rattle.survey.specs.Surveys.{with_events}
-use Rattle.survey.proofs.whole.Survey.take_events.Given as goal
+use Rattle.survey.proofs.survey.Survey.take_events.Given as goal
 
 abbrev pub invariant-loop-event : goal.invariant-loop-event
 invariant-loop-event l =
