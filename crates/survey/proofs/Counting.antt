@@ -32,7 +32,7 @@ counted_one : (xs : List ℕ) (at place : ℕ) → place < length xs
     → get_or (counted_at xs at) place 0 ≡ cond (at == place) (one_more (get_or xs place 0)) (get_or xs place 0)
 counted_one xs at place below = grind (arith, common_steps, nat_tests)
 
-length_counted : (xs : List ℕ) (at : ℕ) → length (counted_at xs at) ≡ length xs
+pub length_counted : (xs : List ℕ) (at : ℕ) → length (counted_at xs at) ≡ length xs
 length_counted xs at = grind (arith, common_steps)
 
 -- what an event makes of a counter
@@ -86,7 +86,7 @@ events_counted m v place (e ∷ es) below small =
     }
 
 -- the events of two lists
-cond_then : (b : Bool) (x y : ℕ) → cond b (1 + (x + y)) (x + y) ≡ cond b (1 + x) x + y
+pub cond_then : (b : Bool) (x y : ℕ) → cond b (1 + (x + y)) (x + y) ≡ cond b (1 + x) x + y
 cond_then true x y = omega arith
 cond_then false x y = refl
 

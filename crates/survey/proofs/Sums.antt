@@ -14,6 +14,7 @@ use Rattle.reference.specs.Run.{after, events_of}
 use Rattle.reference.specs.State.{State}
 use Rattle.reference.specs.Step.{step}
 use Rattle.reference.specs.Step as steps
+use Rattle.survey.proofs.Counting.{cond_then, length_counted}
 use Rattle.survey.specs.declared.moment.Moment.{Moment}
 use Rattle.survey.specs.declared.survey.Survey.{Survey}
 use Rattle.survey.specs.Counts.{counted_at, one_more, place_of_access}
@@ -44,9 +45,6 @@ sum_set chosen from zero y (x ∷ xs) below = let e : from + 0 ≡ from = omega 
 sum_set chosen from (suc k) y (x ∷ xs) below =
     let e : from + suc k ≡ from + 1 + k = omega arith in
     let rest = sum_set chosen (from + 1) k y xs (omega (arith, below)) in rw e (omega (arith, rest))
-
-length_counted : (xs : List ℕ) (at : ℕ) → length (counted_at xs at) ≡ length xs
-length_counted xs at = grind (arith, common_steps)
 
 -- what events make of a sum
 record Added (chosen : ℕ → Bool) (v w : Survey) (k : ℕ) : Type 0 where
@@ -120,10 +118,6 @@ events_added chosen m v (e ∷ es) long small =
     }
 
 -- the events of two lists
-cond_then : (b : Bool) (x y : ℕ) → cond b (1 + (x + y)) (x + y) ≡ cond b (1 + x) x + y
-cond_then true x y = omega arith
-cond_then false x y = refl
-
 chosen_in-append : (chosen : ℕ → Bool) (xs ys : List Event)
     → chosen_in chosen (xs ++ ys) ≡ chosen_in chosen xs + chosen_in chosen ys
 chosen_in-append chosen [] ys = omega arith
