@@ -5,7 +5,7 @@ use Rattle.std.proofs.lemmas.List.{append-nil}
 use Rattle.debugger.specs.Answers.{Piece, step_piece, task_on, task_piece, task_text}
 use Rattle.debugger.specs.Laws.{TaskLaw}
 use Rattle.debugger.specs.Sessions.{last_state, texts}
-use Rattle.machine.proofs.Running.{after_more, none_made, tells_none, tells_more}
+use Rattle.machine.proofs.Running.{after_more, none_made, none_shown, shown_more}
 use Rattle.machine.specs.Foresight.{is_instruction_next}
 use Rattle.machine.specs.Tasks.{end_of}
 use Rattle.reference.specs.declared.stop.Stop.{Stop}
@@ -66,7 +66,7 @@ one_before all m s rest ran =
       ends = now.ends;
       state = ap (λ (u : State). last_state u later) (sym (after_more m s)) ∙ now.state;
       text = sym (append_assoc (lines (events_of m s)) (lines (step (after m s)).events) (texts later))
-          ∙ ap (λ (xs : List ℕ). xs ++ texts later) (sym (tells_more m s)) ∙ now.text;
+          ∙ ap (λ (xs : List ℕ). xs ++ texts later) (sym (shown_more m s)) ∙ now.text;
     }
 
 on_none : (s : State) → task_on zero s ≡ task_piece s (end_of s.stop false) ∷ []
@@ -115,5 +115,5 @@ task_law n s runs =
       instructions = now.instructions;
       ends = now.ends;
       state = ap (λ (u : State). last_state u (task_on n s)) (sym (none_made s)) ∙ now.state;
-      text = ap (λ (xs : List ℕ). xs ++ texts (task_on n s)) (sym (tells_none s)) ∙ now.text;
+      text = ap (λ (xs : List ℕ). xs ++ texts (task_on n s)) (sym (none_shown s)) ∙ now.text;
     })
