@@ -6,3 +6,4 @@ pub mod Running
 mod StepBounds
 pub mod Selecting
 mod Tasking
+pub mod Quiet

@@ -7,3 +7,4 @@ pub mod Starts
 pub mod Tasks
 pub mod Values
 pub mod Whole
+pub mod Quiet
