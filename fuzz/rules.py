@@ -2,6 +2,7 @@
 (docs/ROBUSTNESS.md)."""
 
 import re
+from pathlib import Path
 
 REFUSALS = {
     "load": "Truncated NotElf NotElf32Little NotExecutable NotArm HeaderSize SegmentOutsideFile SegmentOverlap"
@@ -14,9 +15,12 @@ NAMED += ["start 10 SegmentOutsideMemory", "start 11 NoMemory", "size"]
 # The first line on standard error, by the status.
 FIRST = {2: ["usage"], 3: NAMED, 5: ["io"]}
 
-UNPREDICTABLE = "encoding it-block empty-list registers stored-base immediate bit-field special-register load-pc"
-UNPREDICTABLE += " literal-pc mpu-region mpu-ctrl icsr exc-return popped-pc"
-LEFT_OUT = "exclusive-device unaligned-device register-width active-bit bfhfnmign sleeponexit aircr clock-end"
+# The names of stops, by the first word of their lines, as the tables of docs/STOPS.md have them.
+STOPS = {"unpredictable": [], "outofprofile": []}
+for part in (Path(__file__).parents[1] / "docs/STOPS.md").read_text().split("\n## ")[1:]:
+    kind = next((kind for kind in STOPS if f"stop {kind}" in part.split("\n|")[0]), None)
+    if kind:
+        STOPS[kind] += re.findall(r"^\| `([a-z-]+)` \|", part, re.M)
 
 # The lines of a trace, of a stop, and of the other answers of a debug session.
 WORD = "[0-9A-F]{8}"
@@ -24,8 +28,7 @@ RULE = "(?:xn|vec|ppb|off|neg|r1[0-5]|r[0-9]|bg|none)"
 ACCESS = f"[FLSKUVP] {WORD} [124] [pu] (?:ok|mpu|bus) {RULE}"
 LINE = f"[1-9][0-9]* (?:{ACCESS}|O [0-9A-F]{{2}}|R {WORD}|X [1-9][0-9]*|! [0-9]+ {WORD} {WORD})\n"
 QUIET = "stop (?:steps|breakpoint [0-9]+)\n"
-NAMES = [f"unpredictable {name}" for name in UNPREDICTABLE.split()]
-NAMES += [f"outofprofile {name}" for name in LEFT_OUT.split()]
+NAMES = [f"{kind} {name}" for kind, names in STOPS.items() for name in names]
 NAMED_STOP = f"stop (?:{'|'.join(['lockup', 'reset', *NAMES])})\n"
 REGISTER = f"(?:R[0-9]|R1[0-2]|MSP|PSP|LR|PC|XPSR|CONTROL|PRIMASK|FAULTMASK|BASEPRI) {WORD}\n"
 OTHER = f"at {WORD}\n|ok\n|error [123]\n|task (?:done|other|not)\n|{REGISTER}|r[0-9]+ {WORD} {WORD}\n"
