@@ -3,11 +3,30 @@
 ghost use Rattle.std.specs.Prelude.{◌≡◌, ◌-◌, [], ◌∷◌};
 ghost use Rattle.debugger.specs.Answers.{end_piece, ends_at, is_hit, run_on, run_pieces, step_piece};
 ghost use Rattle.debugger.specs.Sessions.{Tells};
+ghost use Rattle.output.specs.Output.{Put};
+ghost use Rattle.reference.specs.Step.{step};
+ghost use Rattle.reference.specs.Text.{lines};
+ghost use Rattle.trace.specs.Selection.{selected_text};
+ghost use Rattle.trace.specs.declared.selection.TraceSelection.{TraceSelection};
+ghost use Rattle.trace.specs.declared.selection.TraceSelection.TheVariants as which;
 
 use debugger_commands::{Breakpoints, end_text};
 use machine::{
-    Decider, DueTicks, IoError, KeptCode, Levels, LineRoom, Machine, Out, is_instruction,
+    Decider, DueTicks, IoError, KeptCode, Levels, LineRoom, Machine, Out, TraceSelection,
+    is_instruction,
 };
+use output::{EventLines, View};
+
+/// Every event of a step in a session. The type is the session's own, so that a run has a copy of the step to itself,
+/// which is then inlined into its loop.
+#[derive(Drop)]
+struct SteppedEvents;
+
+impl View for SteppedEvents {
+    ghost SELECTION = { which.All };
+
+    const SELECTION: TraceSelection = TraceSelection::All;
+}
 
 /// Makes a step and writes its lines.
 pub fn write_step<D: Decider, C: KeptCode, L: Levels, U: DueTicks, W: Out>(
@@ -19,10 +38,39 @@ pub fn write_step<D: Decider, C: KeptCode, L: Levels, U: DueTicks, W: Out>(
         (record { written = W.written out.old; errors = W.errors out.old })
         (record { written = W.written out.new; errors = W.errors out.new }) result }
 {
-    match machine.write_step(room, out) {
+    match put_step(machine, room, out) {
         Ok(()) => Ok(()),
         Err(error) => Err(error),
     }
+}
+
+/// Makes a step and writes its lines, as `Machine::write_step` does.
+fn put_step<D: Decider, C: KeptCode, L: Levels, U: DueTicks, W: Out>(
+    machine: &mut Machine<D, C, L, U>,
+    room: &mut LineRoom,
+    out: &mut W,
+) -> Result<(), IoError>
+    ensures state { machine.new ≡ record machine.old { state = (step machine.old.state).state } }
+    ensures put { Put (W.written out.old) (W.written out.new) (W.errors out.old) (W.errors out.new)
+        (lines (step machine.old.state).events) result }
+{
+    put_events(machine, room, out)
+}
+
+/// Makes a step and writes its events as the view has them: all.
+#[inline(always)]
+fn put_events<D: Decider, C: KeptCode, L: Levels, U: DueTicks, W: Out>(
+    machine: &mut Machine<D, C, L, U>,
+    room: &mut LineRoom,
+    out: &mut W,
+) -> Result<(), IoError>
+    ensures state { machine.new ≡ record machine.old { state = (step machine.old.state).state } }
+    ensures put { Put (W.written out.old) (W.written out.new) (W.errors out.old) (W.errors out.new)
+        (selected_text which.All (step machine.old.state).events) result }
+{
+    let mut lines = EventLines::<W, SteppedEvents>::new(out, room);
+    machine.step_into(&mut lines);
+    lines.end()
 }
 
 /// Returns whether the next step is an instruction at a breakpoint.
