@@ -158,7 +158,9 @@ fn constant_of(decoded: &Decoded) -> Option<u32> {
 
 #[test]
 fn a_line_is_kept_until_it_is_written(rt: HostRuntime) -> Result<(), Fail> {
-    let mut table = DecodeTable::fresh(rt.alloc(), 0x800).ok().ok_or("no memory")?;
+    let mut table = DecodeTable::fresh(rt.alloc(), 0x800)
+        .ok()
+        .ok_or("no memory")?;
     assert!(rt;
         constant_of(&table.fetch(0x100, 0x2005, 0)) == Some(5),
         "MOVS R0, #5"

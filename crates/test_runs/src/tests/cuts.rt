@@ -12,9 +12,9 @@ use super::traces::TRACES;
 use arrayvec::ArrayVec;
 use debugger::{SessionError, session};
 use machine::{
-    Ahead, BitLevels, Buffered, Counting, Decider, DueTicks, In, KeptCode, KeptDecisions,
-    KeptPriorities, Levels, DecodeTable, Machine, Over, Paged, PlainLevels, Reread, RunError, Search,
-    Slow, Stop, Table, TaskEnd,
+    Ahead, BitLevels, Buffered, Counting, Decider, DecodeTable, DueTicks, In, KeptCode,
+    KeptDecisions, KeptPriorities, Levels, Machine, Over, Paged, PlainLevels, Reread, RunError,
+    Search, Slow, Stop, Table, TaskEnd,
 };
 use std::alloc::Global;
 use std::io;

@@ -4,8 +4,8 @@ use super::cut::{Cut, Short, Text, push_line};
 use super::elf_files::ElfFile;
 use board::BoardError;
 use command::{
-    Error, FileError, InputFile, Task, WordsError, answer, program, read_file, read_words, write_reason,
-    refuse_words, tell,
+    Error, FileError, InputFile, Task, WordsError, answer, program, read_file, read_words,
+    refuse_words, tell, write_reason,
 };
 use machine::StartError;
 use std::alloc::Global;
