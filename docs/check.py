@@ -22,7 +22,8 @@ In a table with a column "Definition", "Function" or "Test", a chapter or a crat
 has to be: "Step `running`", "exec `plan`", "test_runs `short_runs`". The links of all pages are checked too. Without a
 page, the manual page docs/marm.1 is formatted too, by `groff -ww` and `man --warnings` where they are installed: each
 warning is an error. So is a file in crates/*/data that differs from the one of that name in examples/, or in the data of
-another crate.
+another crate, a command of the debugger that the help or docs/DEBUGGING.md leaves out, and a named stop that
+docs/STOPS.md or the images of test_runs leave out.
 """
 
 import fnmatch
@@ -219,7 +220,7 @@ class Repository:
         if patterns:
             return True
         above = os.path.dirname(page)
-        lowest = ("crates", "crates/reference", "crates/instruction_set")
+        lowest = ("crates", "crates/reference", "crates/platform", "crates/instruction_set")
         for base in ("", above, os.path.join(above, "src"), os.path.join(above, "specs"), *lowest):
             full = os.path.normpath(os.path.join(base, path))
             if full in self.files or full in self.folders:
@@ -363,7 +364,7 @@ def lists(repo):
     lost = []
     rows = {line.split("|")[1].strip() for line in read("docs/REFERENCE.md").split("\n") if line.startswith("|")}
     listed = {name for row in rows for name in row.split(", ")}
-    folders = ("crates/instruction_set/specs/", "crates/reference/specs/", "crates/task_laws/specs/")
+    folders = ("crates/instruction_set/specs/", "crates/platform/specs/", "crates/reference/specs/", "crates/task_laws/specs/")
     chapters = {os.path.basename(path)[:-5] for path in repo.files if path.startswith(folders)} - {"Lib"}
     lost += [("docs/REFERENCE.md", chapter) for chapter in sorted(chapters - listed)]
     lost += [("docs/REFERENCE.md", name) for name in sorted(listed - chapters) if re.match(r"^[A-Z]\w+$", name) and name != "File"]
@@ -389,6 +390,12 @@ def lists(repo):
 
 
 MANUAL_PAGE = "docs/marm.1"
+
+# where the help lists the debugger's commands
+HELP_OF_DEBUG = "crates/command_line/src/texts.rt"
+
+# the images that end at each named stop
+IMAGES_OF_STOPS = "crates/test_runs/src/tests/named_stops.rt"
 
 # what formats the manual page, and writes its warnings to standard error
 FORMATTERS = (["groff", "-ww", "-man", "-Tutf8", "-z", MANUAL_PAGE],
@@ -416,6 +423,30 @@ def manual_page():
             warnings = [f"{command[0]} ends with status {ended.returncode}"]
         found += warnings
     return found
+
+
+def debugger_commands():
+    """Returns which lists of the debugger's commands differ from the definition's words, or from each other."""
+    defined = re.findall(r'bytes_eq word \(codes "(\w+)"\)', read("crates/debugger_commands/specs/Commands.antt"))
+    text = read(HELP_OF_DEBUG).split("AFTER_DEBUG", 1)[1].split("\n\n")[0]
+    shown = re.findall(r"^  (\w+(?: [\w<>|]+)*)(?:  |$)", text, re.M)
+    rows = re.findall(r"^\| `([^`]+)`", read("docs/DEBUGGING.md").split("| Command |", 1)[1].split("\n\n")[0], re.M)
+    found = [] if [form.split()[0] for form in shown] == defined else [f"{HELP_OF_DEBUG}: not the commands of the definition"]
+    if [re.sub("[<>]", "", form) for form in shown] != [row.replace("\\|", "|") for row in rows]:
+        found.append(f"docs/DEBUGGING.md: not the commands of {HELP_OF_DEBUG}")
+    return found
+
+
+def stops():
+    """Returns which lists of the named stops leave one out: docs/STOPS.md, or the images of test_runs."""
+    text = read("crates/platform/specs/Text.antt")
+    defined = re.findall(r'^(?:unpredictable|left_out)_text \w+ = codes "([\w-]+)"', text, re.M)
+    parts = read("docs/STOPS.md").split("\n## ")
+    listed = [name for part in parts if " NAME`." in part for name in re.findall(r"^\| `([\w-]+)` \|", part, re.M)]
+    tested = re.findall(r"^out stop (?:unpredictable|outofprofile) ([\w-]+)", read(IMAGES_OF_STOPS), re.M)
+    found = [f"docs/STOPS.md: {name} (left out, or no stop)" for name in sorted(set(defined) ^ set(listed))]
+    untested = set(defined) - set(tested) - {"clock-end"}
+    return found + [f"{IMAGES_OF_STOPS}: no image for {name}" for name in sorted(untested)]
 
 
 def pages():
@@ -449,6 +480,8 @@ def of_repository(repo):
     for page, name in lists(repo):
         yield f"{page}:1: {name} (left out of its list, or not there)"
     yield from copies()
+    yield from debugger_commands()
+    yield from stops()
     for warning in manual_page():
         yield f"{MANUAL_PAGE}: {warning}"
 

@@ -46,6 +46,10 @@ def crates():
     return matches(r"^[a-z]\w*:", "crates.txt")
 
 
+# the crates of definitions, the lowest first
+DEFINITIONS = ("instruction_set", "platform", "reference")
+
+
 def crates_above(base):
     """Returns the crates that are built on a crate, with those that are built on them."""
     listed = dict(re.findall(r"^([a-z]\w*):(.*)$", text_of("crates.txt"), re.M))
@@ -64,7 +68,7 @@ def proved_above(base):
 
 
 def chapters():
-    paths = found("crates/reference/specs/*.antt", "crates/instruction_set/specs/*.antt")
+    paths = found(*(f"crates/{crate}/specs/*.antt" for crate in DEFINITIONS))
     return len([path for path in paths if not path.endswith("/Lib.antt")])
 
 
@@ -84,10 +88,12 @@ def overlaps(name):
 
 
 def spec(name):
-    """Returns the path of a file of definitions: `crate/Name`, or a chapter of `instruction_set` or of `reference`."""
+    """Returns the path of a file of definitions: `crate/Name`, or a chapter of one of `DEFINITIONS`."""
     crate, _, stem = name.rpartition("/")
-    is_lower = not crate and glob.glob(os.path.join(TOP, f"crates/instruction_set/specs/{stem}.antt"))
-    return f"crates/{crate or ('instruction_set' if is_lower else 'reference')}/specs/{stem}.antt"
+    if crate:
+        return f"crates/{crate}/specs/{stem}.antt"
+    return next(path for path in (f"crates/{each}/specs/{stem}.antt" for each in DEFINITIONS)
+                if glob.glob(os.path.join(TOP, path)))
 
 
 def lines_in(text):
@@ -109,7 +115,7 @@ def lines_of_item(path, name):
 AUDIT_PARTS = {
     "claim": "machine/Whole machine/Runs output/Output Run",
     "step": "State Step Operations ProgramCounter",
-    "access": "Map Memory Regions Rules Space Accesses",
+    "access": "Map Memory Regions Rules Outcomes Space Accesses",
     "words": "Words Arithmetic Sizes Kinds Registers Monitor",
     "priorities": "Priorities Time",
     "exceptions": "Faults Frames ExceptionEntry ExceptionReturn",
@@ -122,7 +128,7 @@ AUDIT_PARTS = {
     "files": "Images Boards Start board/Texts board/Reading command/Statuses output/Gathered machine/Starts",
 }
 
-# the enums and structs that the definitions name, beside all those of `reference` and `instruction_set`
+# the enums and structs that the definitions name, beside all those of `DEFINITIONS`
 AUDIT_ITEMS = {
     "crates/output/src/writer.rt": "Out",
     "crates/output/src/paged.rt": "Paged",
@@ -134,7 +140,7 @@ AUDIT_ITEMS = {
 
 def audit_lines(part):
     if part == "types":
-        types = lines_of("crates/reference/src/*.rt", "crates/instruction_set/src/*.rt")
+        types = lines_of(*(f"crates/{crate}/src/*.rt" for crate in DEFINITIONS))
         return types + sum(lines_of_item(*item) for item in AUDIT_ITEMS.items())
     return lines_of(*(spec(name) for name in AUDIT_PARTS[part].split()))
 
@@ -230,6 +236,8 @@ COUNTS = {
     "crates": crates,
     "above reference": lambda: len(crates_above("reference")),
     "proved above reference": lambda: proved_above("reference"),
+    "above platform": lambda: len(crates_above("platform")),
+    "proved above platform": lambda: proved_above("platform"),
     "above instruction_set": lambda: len(crates_above("instruction_set")),
     "chapters": chapters,
     "rows": lambda: rows("Short") + rows("Long"),
@@ -255,14 +263,14 @@ COUNTS = {
     "refused places": lambda: matches("^refused", "crates/test_runs/src/tests/places.rt"),
     "board texts": board_texts,
     "sessions": lambda: cases("test_runs", "sessions:SESSIONS"),
-    "answers": lambda: cases("test_runs", "answers"),
+    "answers": lambda: cases("test_runs", "answers:ANSWERS"),
     "mutations": lambda: mutations("crates/*/must-fail") + mutations("mutations/*"),
     "mutations in CI": lambda: mutations("crates/*/must-fail"),
     "other mutations": lambda: mutations("mutations/*"),
     "example_bench lines": lambda: len(text_of("crates/example_bench/src/main.rt").splitlines()),
     "firmware steps": steps_of_firmware,
     "audit lines": all_audit_lines,
-    "lines places": lambda: lines_of(spec("Places"), spec("Answers")),
+    "lines places": lambda: lines_of(spec("Places")),
 }
 
 for crate in ("test_instructions", "test_instructions/decoding", "test_runs", "test_parts", "test_parts/ticks"):

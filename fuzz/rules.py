@@ -2,7 +2,8 @@
 (docs/ROBUSTNESS.md)."""
 
 import re
-from pathlib import Path
+
+import pages
 
 REFUSALS = {
     "load": "Truncated NotElf NotElf32Little NotExecutable NotArm HeaderSize SegmentOutsideFile SegmentOverlap"
@@ -15,24 +16,31 @@ NAMED += ["start 10 SegmentOutsideMemory", "start 11 NoMemory", "size"]
 # The first line on standard error, by the status.
 FIRST = {2: ["usage"], 3: NAMED, 5: ["io"]}
 
-# The names of stops, by the first word of their lines, as the tables of docs/STOPS.md have them.
-STOPS = {"unpredictable": [], "outofprofile": []}
-for part in (Path(__file__).parents[1] / "docs/STOPS.md").read_text().split("\n## ")[1:]:
-    kind = next((kind for kind in STOPS if f"stop {kind}" in part.split("\n|")[0]), None)
-    if kind:
-        STOPS[kind] += re.findall(r"^\| `([a-z-]+)` \|", part, re.M)
-
-# The lines of a trace, of a stop, and of the other answers of a debug session.
+# The lines of a trace and of a stop.
 WORD = "[0-9A-F]{8}"
 RULE = "(?:xn|vec|ppb|off|neg|r1[0-5]|r[0-9]|bg|none)"
 ACCESS = f"[FLSKUVP] {WORD} [124] [pu] (?:ok|mpu|bus) {RULE}"
 LINE = f"[1-9][0-9]* (?:{ACCESS}|O [0-9A-F]{{2}}|R {WORD}|X [1-9][0-9]*|! [0-9]+ {WORD} {WORD})\n"
 QUIET = "stop (?:steps|breakpoint [0-9]+)\n"
-NAMES = [f"{kind} {name}" for kind, names in STOPS.items() for name in names]
+NAMES = [f"{kind} {name}" for kind, names in pages.stops().items() for name in names]
 NAMED_STOP = f"stop (?:{'|'.join(['lockup', 'reset', *NAMES])})\n"
-REGISTER = f"(?:R[0-9]|R1[0-2]|MSP|PSP|LR|PC|XPSR|CONTROL|PRIMASK|FAULTMASK|BASEPRI) {WORD}\n"
-OTHER = f"at {WORD}\n|ok\n|error [123]\n|task (?:done|other|not)\n|{REGISTER}|r[0-9]+ {WORD} {WORD}\n"
-OTHER += f"|{RULE} (?:ok|mpu)\n|{WORD}:(?: (?:[0-9A-F]{{2}}|--))+\n"
+
+# What is written in place of a name in a line of an answer: for other names eight digits.
+PARTS = {
+    "k": "[0-9]+",
+    "rule": RULE,
+    "bytes": "(?:[0-9A-F]{2}|--)(?: (?:[0-9A-F]{2}|--))*",
+    "name": "(?:R[0-9]|R1[0-2]|MSP|PSP|LR|PC|XPSR|CONTROL|PRIMASK|FAULTMASK|BASEPRI)",
+}
+
+
+def form(line):
+    """Returns the form of a line of an answer, in which a name in angle brackets is of a part."""
+    return re.sub("<([a-z]+)>", lambda name: PARTS.get(name[1], WORD), line) + "\n"
+
+
+# The other lines of a debug session: of its commands, and of a line that is none.
+OTHER = "|".join([*(form(line) for lines in pages.commands().values() for line in lines), "error [12]\n"])
 
 TRACE = {
     0: re.compile(f"(?:{LINE})*{QUIET}".encode()),

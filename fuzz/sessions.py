@@ -1,12 +1,13 @@
 """Debug sessions and arguments: numbers at the edges, lines of 79 to 82 bytes, many commands, other bytes."""
 
 import edits
+import pages
 
 NUMBERS = ["0", "1", "2", "16", "17", "50", "256", "257", "1000", "1000000", "1000001", "4294967295"]
 NUMBERS += ["4294967296", "0x0", "0xFFFFFFFF", "0x100000000", "0x20000000", "0x20001ffe", "0xE000ED94"]
 NUMBERS += ["0x", "0X10", "+5", "-1", "007", "1_0", "x", ""]
-WORDS = ["step", "run", "task", "break", "regs", "mem", "regions", "explain", "quit", "help"]
-WORDS += ["STEP", "steps", "\u00e9", "\ufeffstep"]
+COMMANDS = list(pages.commands())
+WORDS = [form.split()[0] for form in COMMANDS] + ["help", "STEP", "steps", "\u00e9", "\ufeffstep"]
 
 STEPS = ["0", "1", "10", "1000", "4294967296", "4294967297", "18446744073709551616", "-1", "0x10", ""]
 STEPS += ["1e3", " 1", "\u0661"]
@@ -24,19 +25,22 @@ def any_words(source):
     return " ".join(source.choice([source.choice(WORDS), number(source)]) for _ in range(source.randrange(5)))
 
 
-# The forms of a command: a few have numbers at random, and the last is any words.
-FORMS = [
-    lambda source: "step",
-    lambda source: "regs",
-    lambda source: "regions",
-    lambda source: f"run {number(source)}",
+def argument(source, name):
+    """Returns what a command takes in place of a name: one of its letters, mostly, or a number."""
+    return source.choice([*name.split("|") * 2, "P", "R"]) if "|" in name else number(source)
+
+
+def one_of(form):
+    """Returns what makes a command of a form of docs/DEBUGGING.md, as `explain a p|u r|w|x`."""
+    word, *names = form.split()
+    return lambda source: " ".join([word, *(argument(source, name) for name in names)])
+
+
+# The forms of a command: those of the page but the end of a session, some with other numbers, and any words.
+FORMS = [one_of(form) for form in COMMANDS if form != "quit"] + [
     lambda source: f"run {source.randrange(1, 2000)}",
-    lambda source: f"task {number(source)}",
-    lambda source: f"break {number(source)}",
     lambda source: f"break 0x{source.randrange(0, 0x400, 2):x}",
-    lambda source: f"mem {number(source)} {number(source)}",
     lambda source: f"mem 0x{0x20000000 + source.randrange(999):x} 9",
-    lambda source: f"explain {number(source)} {source.choice('puPUx')} {source.choice('rwxRp')}",
     any_words,
 ]
 

@@ -1,3 +1,2 @@
 pub use Rattle.kept_code.specs.Instructions
 pub mod KeptAccesses
-pub mod Narrow

@@ -4,13 +4,13 @@ use Rattle.std.proofs.Common.{◌≡◌, ℕ, ◌<◌, ◌≤◌, Bool, true, fa
 use Rattle.std.proofs.Common.{if◌then◌else◌, nat_lt, codes, refl, subst, arith}
 use Rattle.std.proofs.lemmas.Bool.Decides.{nat_tests}
 use Rattle.toml.specs.Data.{Data, Items, no_items, item, Members, get_member, as_bool, as_table}
-use Rattle.reference.specs.declared.error.BoardError.{BoardError}
-use Rattle.reference.specs.declared.error.BoardError.TheVariants.{OutOfRange, EventsOutOfOrder}
-use Rattle.reference.specs.declared.script.ScriptedEvent.{ScriptedEvent}
-use Rattle.reference.specs.declared.script.Signal.{Signal}
-use Rattle.reference.specs.declared.script.Signal.TheVariants.{Rise, Fall, Pulse, Nmi}
-use Rattle.reference.specs.Boards.{IsOfBoard, IsScriptFrom, is_tick}
-use Rattle.reference.specs.Time.{last_tick}
+use Rattle.platform.specs.declared.error.BoardError.{BoardError}
+use Rattle.platform.specs.declared.error.BoardError.TheVariants.{OutOfRange, EventsOutOfOrder}
+use Rattle.platform.specs.declared.script.ScriptedEvent.{ScriptedEvent}
+use Rattle.platform.specs.declared.script.Signal.{Signal}
+use Rattle.platform.specs.declared.script.Signal.TheVariants.{Rise, Fall, Pulse, Nmi}
+use Rattle.platform.specs.Boards.{IsOfBoard, IsScriptFrom, is_tick}
+use Rattle.platform.specs.Time.{last_tick}
 use Rattle.board.specs.Texts.{◌>>=◌, change, event_in, in_front, interrupt_keys, interrupt_signal, nmi, nmi_keys}
 use Rattle.board.specs.Texts.{nmi_signal}
 use Rattle.board.specs.Texts.{number, of_kind, only, script_in, signal_in, timely_event, where_ok, word}

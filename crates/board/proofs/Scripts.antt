@@ -6,8 +6,8 @@ use Rattle.std.proofs.lemmas.List.{append-nil}
 use Rattle.toml.proofs.Views.{items_view-drop}
 use Rattle.toml.specs.View.{view, items_view}
 use Rattle.toml.specs.declared.value.Value.{Value}
-use Rattle.reference.specs.declared.error.BoardError.{BoardError}
-use Rattle.reference.specs.declared.script.ScriptedEvent.{ScriptedEvent}
+use Rattle.platform.specs.declared.error.BoardError.{BoardError}
+use Rattle.platform.specs.declared.script.ScriptedEvent.{ScriptedEvent}
 use Rattle.board.specs.Texts.{◌>>=◌, count, in_front, script_in, timely_event}
 
 -- the events that are read, or the first refusal

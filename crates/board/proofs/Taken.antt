@@ -4,13 +4,13 @@ use Rattle.std.proofs.lemmas.Bool.Decides.{nat_tests}
 use Rattle.board.proofs.Ordered.{script_is}
 use Rattle.board.specs.declared.board.Board.{Board}
 use Rattle.board.specs.Reading.{described}
-use Rattle.reference.specs.declared.exception.TheConstants.{MOST_INTERRUPTS}
-use Rattle.reference.specs.declared.mpu.RegionCount.{RegionCount}
-use Rattle.reference.specs.declared.mpu.RegionCount.TheVariants.{Eight, Sixteen}
-use Rattle.reference.specs.Boards.{IsScript, is_flash, is_interrupt_count, is_region_count}
-use Rattle.reference.specs.Invariant.{IsBoard}
-use Rattle.reference.specs.Map.{ram_base}
-use Rattle.reference.specs.Regions.{region_number}
+use Rattle.platform.specs.declared.exception.TheConstants.{MOST_INTERRUPTS}
+use Rattle.platform.specs.declared.mpu.RegionCount.{RegionCount}
+use Rattle.platform.specs.declared.mpu.RegionCount.TheVariants.{Eight, Sixteen}
+use Rattle.platform.specs.Boards.{IsScript, is_flash, is_interrupt_count, is_region_count}
+use Rattle.platform.specs.SystemInvariant.{IsBoard}
+use Rattle.platform.specs.Map.{ram_base}
+use Rattle.platform.specs.Regions.{region_number}
 
 few_lines : (interrupts : ℕ) → interrupts ≤ MOST_INTERRUPTS → is_interrupt_count interrupts ≡ true
 few_lines interrupts few = grind (arith, nat_tests)

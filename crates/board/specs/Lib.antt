@@ -1,4 +1,4 @@
 -- What the clauses of the reader of boards cite, beside the reference's `Boards`.
-pub use Rattle.reference.specs.Boards
+pub use Rattle.platform.specs.Boards
 pub mod Texts
 pub mod Reading

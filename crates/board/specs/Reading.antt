@@ -1,9 +1,9 @@
 -- How the reader's values are read as those of the reference, and how a result relates to the definition.
 use Rattle.std.specs.Prelude.{◌≡◌, ◌⊎◌, Result, Ok, Err, IsOk}
-use Rattle.reference.specs.Boards.{Described, numbers_of}
+use Rattle.platform.specs.Boards.{Described, numbers_of}
 use Rattle.board.specs.declared.board.Board.{Board}
-use Rattle.reference.specs.declared.error.BoardError.{BoardError}
-use Rattle.reference.specs.declared.error.BoardError.TheVariants.{OutOfMemory}
+use Rattle.platform.specs.declared.error.BoardError.{BoardError}
+use Rattle.platform.specs.declared.error.BoardError.TheVariants.{OutOfMemory}
 
 -- a board, as the reference describes it
 abbrev pub described : Board → Described

@@ -6,15 +6,15 @@ use Rattle.std.specs.List.{list_any}
 use Rattle.toml.specs.Data.{Data, Items, no_items, item, Members, no_members, member, get_member, as_integer, as_str}
 use Rattle.toml.specs.Data.{as_bool, as_array, as_table}
 use Rattle.toml.specs.Parse.{parse_document}
-use Rattle.reference.specs.declared.error.BoardError.{BoardError}
-use Rattle.reference.specs.declared.error.BoardError.TheVariants.{NotToml, MissingKey, WrongKind, OutOfRange}
-use Rattle.reference.specs.declared.error.BoardError.TheVariants.{EventsOutOfOrder, UnknownKey}
-use Rattle.reference.specs.declared.script.ScriptedEvent.{ScriptedEvent}
-use Rattle.reference.specs.declared.script.Signal.{Signal}
-use Rattle.reference.specs.declared.script.Signal.TheVariants.{Rise, Fall, Pulse, Nmi}
-use Rattle.reference.specs.Boards.{Numbers, Described, is_whole_blocks, is_size, is_flash, is_priority_bits}
-use Rattle.reference.specs.Boards.{is_interrupt_count}
-use Rattle.reference.specs.Boards.{is_region_count, default_regions, is_tick, first_tick, most_events}
+use Rattle.platform.specs.declared.error.BoardError.{BoardError}
+use Rattle.platform.specs.declared.error.BoardError.TheVariants.{NotToml, MissingKey, WrongKind, OutOfRange}
+use Rattle.platform.specs.declared.error.BoardError.TheVariants.{EventsOutOfOrder, UnknownKey}
+use Rattle.platform.specs.declared.script.ScriptedEvent.{ScriptedEvent}
+use Rattle.platform.specs.declared.script.Signal.{Signal}
+use Rattle.platform.specs.declared.script.Signal.TheVariants.{Rise, Fall, Pulse, Nmi}
+use Rattle.platform.specs.Boards.{Numbers, Described, is_whole_blocks, is_size, is_flash, is_priority_bits}
+use Rattle.platform.specs.Boards.{is_interrupt_count}
+use Rattle.platform.specs.Boards.{is_region_count, default_regions, is_tick, first_tick, most_events}
 
 -- one check, and then another with its result
 infixl 10 ◌>>=◌

@@ -1,7 +1,7 @@
 //! A board as it was read.
 
-use reference::board::Layout;
-use reference::script::ScriptedEvent;
+use platform::board::Layout;
+use platform::script::ScriptedEvent;
 
 /// A board: its layout, and its script in the order of the text.
 #[derive(Drop)]

@@ -3,7 +3,7 @@
 ghost use Rattle.std.specs.Prelude.{◌≡◌, ◌≤◌, ◌<◌, ◌++◌, ◌∷◌, [], true, false, option_map, IfOk, IsOk, length};
 ghost use Rattle.toml.specs.Data.{get_member, as_table};
 ghost use Rattle.toml.specs.View.{table_view, view, items_view};
-ghost use Rattle.reference.specs.Boards.{IsScript, IsScriptFrom};
+ghost use Rattle.platform.specs.Boards.{IsScript, IsScriptFrom};
 ghost use Rattle.board.specs.Reading.{Answers, Gives};
 ghost use Rattle.board.specs.Texts.{are_tables, change, event_in, events, is_table, interrupt_signal, nmi, nmi_signal};
 ghost use Rattle.board.specs.Texts.{script_in, signal_in, timely_event};
@@ -11,9 +11,9 @@ ghost use Rattle.board.specs.Texts.{script_in, signal_in, timely_event};
 use crate::keys::{INTERRUPT_KEYS, NMI_KEYS, has_only};
 use crate::ranges::{FIRST_TICK, is_tick};
 use crate::values::{find, number, word};
-use reference::error::BoardError;
-use reference::exception::MOST_INTERRUPTS;
-use reference::script::{InterruptNumber, ScriptedEvent, Signal};
+use platform::error::BoardError;
+use platform::exception::MOST_INTERRUPTS;
+use platform::script::{InterruptNumber, ScriptedEvent, Signal};
 use std::alloc::Global;
 use toml::{Table, Value};
 

@@ -2,16 +2,16 @@
 
 ghost use Rattle.std.specs.Prelude.{◌≡◌, Ok};
 ghost use Rattle.toml.specs.View.{table_view};
-ghost use Rattle.reference.specs.Boards.{is_region_count, numbers_of};
-ghost use Rattle.reference.specs.Regions.{region_number};
+ghost use Rattle.platform.specs.Boards.{is_region_count, numbers_of};
+ghost use Rattle.platform.specs.Regions.{region_number};
 ghost use Rattle.board.specs.Reading.{Gives};
 ghost use Rattle.board.specs.Texts.{numbers_in, where_ok};
 
 use crate::ranges::{is_flash, is_interrupt_count, is_priority_bits, is_size, is_whole_blocks};
 use crate::values::{find, number, number_or};
-use reference::board::Layout;
-use reference::error::BoardError;
-use reference::mpu::RegionCount;
+use platform::board::Layout;
+use platform::error::BoardError;
+use platform::mpu::RegionCount;
 use toml::Table;
 
 /// How many regions there are where the text doesn't say it.

@@ -4,9 +4,9 @@
 
 ghost use Rattle.std.specs.Prelude.{◌≡◌, ◌⊎◌, Err, IfOk};
 ghost use Rattle.toml.specs.View.{table_view};
-ghost use Rattle.reference.specs.Boards.{IsScript};
-ghost use Rattle.reference.specs.Invariant.{IsBoard};
-ghost use Rattle.reference.specs.declared.error.BoardError.TheVariants.{OutOfMemory as Wanting};
+ghost use Rattle.platform.specs.Boards.{IsScript};
+ghost use Rattle.platform.specs.SystemInvariant.{IsBoard};
+ghost use Rattle.platform.specs.declared.error.BoardError.TheVariants.{OutOfMemory as Wanting};
 ghost use Rattle.board.specs.Texts.{board_in, board_of};
 ghost use Rattle.board.specs.Reading.{Answers, described};
 
@@ -23,9 +23,9 @@ use events::{events, script_of};
 use keys::{BOARD_KEYS, has_only};
 use layout::layout_of;
 pub use layout::{DEFAULT_REGIONS, region_count};
-pub use reference::board::Layout;
-pub use reference::error::BoardError;
-pub use reference::script::{InterruptNumber, ScriptedEvent, Signal};
+pub use platform::board::Layout;
+pub use platform::error::BoardError;
+pub use platform::script::{InterruptNumber, ScriptedEvent, Signal};
 use std::alloc::Global;
 use toml::Table;
 pub use values::{find, number, word};

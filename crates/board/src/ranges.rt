@@ -3,12 +3,12 @@
 
 ghost use Rattle.std.specs.Prelude.{◌≡◌, ◌<◌, ◌≤◌, ◌+◌, ◌%◌, ◌^◌};
 ghost use Rattle.std.specs.Bool.{OnTrue};
-ghost use Rattle.reference.specs.Map.{ram_base};
-ghost use Rattle.reference.specs.Boards.{is_flash, is_interrupt_count, is_priority_bits, is_size, is_tick};
-ghost use Rattle.reference.specs.Boards.{is_whole_blocks};
+ghost use Rattle.platform.specs.Map.{ram_base};
+ghost use Rattle.platform.specs.Boards.{is_flash, is_interrupt_count, is_priority_bits, is_size, is_tick};
+ghost use Rattle.platform.specs.Boards.{is_whole_blocks};
 
-use reference::exception::MOST_INTERRUPTS;
-use reference::map::RAM_BASE;
+use platform::exception::MOST_INTERRUPTS;
+use platform::map::RAM_BASE;
 
 /// Flash and RAM come in blocks of this many bytes.
 pub const BLOCK: u64 = 1024;

@@ -6,7 +6,7 @@ ghost use Rattle.toml.specs.View.{table_view, view};
 ghost use Rattle.board.specs.Reading.{Gives};
 ghost use Rattle.board.specs.Texts.{number, number_or, whole, word};
 
-use reference::error::BoardError;
+use platform::error::BoardError;
 use toml::{Table, Value};
 
 /// Returns the value at a key, if the table has the key.

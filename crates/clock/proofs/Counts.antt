@@ -4,8 +4,8 @@ use Rattle.std.proofs.Common.{arith, refl, sym, ap, ◌∙◌, inl, inr, add-one
 use Rattle.std.proofs.Math.Nat.{suc-mod, mod_self, mod-eq_of_lt, zero-mod}
 use Rattle.std.proofs.lemmas.Bool.{cases_lt, cond_both}
 use Rattle.std.proofs.lemmas.Bool.Decides.{nat_tests}
-use Rattle.clock.specs.Later.{from_zero, current_after, later}
-use Rattle.reference.specs.Time.{SysTick, next_current}
+use Rattle.clock.specs.AfterTicks.{from_zero, current_after, after_ticks}
+use Rattle.platform.specs.Time.{SysTick, next_current}
 
 -- one count of the counter
 abbrev counted_once : ℕ → ℕ → ℕ
@@ -84,8 +84,9 @@ current_next reload current n = lead (cases_lt n current)
             ∙ ap (counted_once reload) (sym (past n k))
 
 -- SysTick, whether it's enabled or not
-pub later_next : (t : SysTick) (n : ℕ) → later t (n + 1) ≡ record (later t n) { current = next_current (later t n) }
-later_next t n = ap (λ (c : ℕ). record t { current = c }) (split t.enable)
+pub after_next_tick : (t : SysTick) (n : ℕ)
+    → after_ticks t (n + 1) ≡ record (after_ticks t n) { current = next_current (after_ticks t n) }
+after_next_tick t n = ap (λ (c : ℕ). record t { current = c }) (split t.enable)
   where
     split : (on : Bool) → (if on then current_after t.reload t.current (n + 1) else t.current)
         ≡ (if on then counted_once t.reload (if on then current_after t.reload t.current n else t.current)
@@ -93,18 +94,19 @@ later_next t n = ap (λ (c : ℕ). record t { current = c }) (split t.enable)
     split true = current_next t.reload t.current n
     split false = refl
 
-pub later_none : (t : SysTick) → later t 0 ≡ t
-later_none t =
+pub after_no_ticks : (t : SysTick) → after_ticks t 0 ≡ t
+after_no_ticks t =
     ap (λ (c : ℕ). record t { current = c })
     (cond_both t.enable _ _ (λ c. c ≡ t.current) (λ e. grind (arith, nat_tests)) (λ e. refl))
 
 -- the next tick after some ticks since another one
-pub later_after : (t : SysTick) (since now : ℕ) → since ≤ now
-    → later t (now + 1 - since) ≡ record (later t (now - since)) { current = next_current (later t (now - since)) }
-later_after t since now h =
+pub after_tick_since : (t : SysTick) (since now : ℕ) → since ≤ now
+    → after_ticks t (now + 1 - since)
+    ≡ record (after_ticks t (now - since)) { current = next_current (after_ticks t (now - since)) }
+after_tick_since t since now h =
     let e : now + 1 - since ≡ now - since + 1 = omega arith in
-    rw e (later_next t (now - since))
+    rw e (after_next_tick t (now - since))
 
 -- none has passed at the tick itself
-pub later_now : (t : SysTick) (now : ℕ) → later t (now - now) ≡ t
-later_now t now = let e : now - now ≡ 0 = omega arith in rw e (later_none t)
+pub after_ticks_now : (t : SysTick) (now : ℕ) → after_ticks t (now - now) ≡ t
+after_ticks_now t now = let e : now - now ≡ 0 = omega arith in rw e (after_no_ticks t)

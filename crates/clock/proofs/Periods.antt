@@ -3,7 +3,7 @@ use Rattle.std.specs.Prelude.{ℕ, zero, suc, ◌-◌, ◌<◌, ◌≤◌, ◌�
 use Rattle.std.proofs.Common.{arith, ◌∙◌, add-one}
 use Rattle.std.proofs.lemmas.Grind.{common_steps}
 use Rattle.clock.specs.Laws.{counts, HasThePeriod}
-use Rattle.reference.specs.Time.{SysTick, counted}
+use Rattle.platform.specs.Time.{SysTick, counted}
 
 -- counting leaves ENABLE and RVR
 counts_keep : (k : ℕ) (t : SysTick) → ((counts k t).enable ≡ t.enable) × ((counts k t).reload ≡ t.reload)

@@ -5,8 +5,8 @@ use Rattle.std.proofs.Common.{arith, subst, sym, inl, inr}
 use Rattle.std.proofs.Math.Nat.{eq-or-lt_of_le}
 use Rattle.std.proofs.lemmas.Grind.{common_steps}
 use Rattle.clock.specs.Laws.{IsSortedFrom, AppliesThoseOfTheTick}
-use Rattle.reference.specs.declared.script.ScriptedEvent.{ScriptedEvent}
-use Rattle.reference.specs.Time.{events_at, events_after}
+use Rattle.platform.specs.declared.script.ScriptedEvent.{ScriptedEvent}
+use Rattle.platform.specs.Time.{events_at, events_after}
 
 -- the events that name a tick
 abbrev named : ℕ → List ScriptedEvent → List ScriptedEvent

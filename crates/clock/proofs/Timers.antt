@@ -1,11 +1,11 @@
 -- SYST_RVR and SYST_CVR keep to 24 bits: in a count, a read and a write.
 use Rattle.std.proofs.Common.{◌-◌, ◌^◌, ◌<◌, ℕ, ◌==◌, arith}
 use Rattle.std.proofs.lemmas.Bool.{cond_both}
-use Rattle.reference.specs.declared.system.SysTickRegister.{SysTickRegister}
-use Rattle.reference.specs.declared.system.SysTickRegister.TheVariants.{Csr, Rvr, Cvr}
-use Rattle.reference.specs.Invariant.{HasTimerBits}
-use Rattle.reference.specs.SysTickRegisters.{after_systick_read, write_systick}
-use Rattle.reference.specs.Time.{SysTick, counted}
+use Rattle.platform.specs.declared.system.SysTickRegister.{SysTickRegister}
+use Rattle.platform.specs.declared.system.SysTickRegister.TheVariants.{Csr, Rvr, Cvr}
+use Rattle.platform.specs.SystemInvariant.{HasTimerBits}
+use Rattle.platform.specs.SysTickRegisters.{after_systick_read, write_systick}
+use Rattle.platform.specs.Time.{SysTick, counted}
 
 pub counted_bits : (t : SysTick) → HasTimerBits t → HasTimerBits (counted t)
 counted_bits t h = record {

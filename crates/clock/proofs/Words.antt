@@ -6,7 +6,7 @@ use Rattle.std.proofs.lemmas.Bool.{eq-eqb}
 use Rattle.std.proofs.lemmas.Grind.{common_steps}
 use Rattle.std.proofs.lemmas.Nat.Bits.{bit_at_set_same, bit_at_set_other}
 use Rattle.instruction_set.specs.Words.{is_bit}
-use Rattle.reference.specs.Priorities.{is_in_words}
+use Rattle.platform.specs.Priorities.{is_in_words}
 
 -- a word with bit k set
 abbrev with_bit : ℕ → ℕ → ℕ

@@ -1,6 +1,6 @@
 -- What a clock keeps beside time itself.
 use Rattle.std.specs.Prelude.{ℕ, ◌+◌, ◌≡◌, Bool, true, false, nat_lt, Option, Some, None, IfSome}
-use Rattle.reference.specs.Time.{Time, due_of}
+use Rattle.platform.specs.Time.{Time, due_of}
 
 pub record Kept : Type 0 where
   pub time : Time

@@ -1,9 +1,9 @@
 -- What the laws of time say.
 use Rattle.std.specs.Prelude.{ℕ, zero, suc, ◌+◌, ◌-◌, ◌<◌, ◌≤◌, ◌≡◌, ◌⊎◌, true, false, ◌==◌, List, [], ◌∷◌}
 use Rattle.std.specs.List.{filter}
-use Rattle.reference.specs.declared.script.ScriptedEvent.{ScriptedEvent}
-use Rattle.reference.specs.Time.{Time, SysTick, time_after_tick, tick_pends, passed, counted, reaches_zero, due_of}
-use Rattle.reference.specs.Time.{due_count, events_at, events_after, last_tick}
+use Rattle.platform.specs.declared.script.ScriptedEvent.{ScriptedEvent}
+use Rattle.platform.specs.Time.{Time, SysTick, time_after_tick, tick_pends, passed, counted, reaches_zero, due_of}
+use Rattle.platform.specs.Time.{due_count, events_at, events_after, last_tick}
 
 -- a tick before what is due changes the clock and the counter alone and pends nothing, and what is due stays so
 abbrev pub QuietBeforeDue : Time → Type 0

@@ -2,8 +2,8 @@
 //! it's read.
 
 ghost use Rattle.std.specs.Prelude.{◌≡◌, ◌-◌, ◌≤◌, ◌^◌, Some};
-ghost use Rattle.clock.specs.Later.{later};
-ghost use Rattle.reference.specs.Time.{next_due};
+ghost use Rattle.clock.specs.AfterTicks.{after_ticks};
+ghost use Rattle.platform.specs.Time.{next_due};
 
 use crate::Clock;
 use crate::due_ticks::DueTicks;
@@ -30,13 +30,13 @@ impl Ahead {
 }
 
 impl DueTicks for Ahead {
-    ghost systick_at = { λ a now. later a.stored (now - a.since) };
+    ghost systick_at = { λ a now. after_ticks a.stored (now - a.since) };
 
     ghost since = { λ a. a.since };
 
     ghost due = { λ a. Some a.due };
 
-    #[tactic(auto, using(crate::proofs::Counts::later_none))]
+    #[tactic(auto, using(crate::proofs::Counts::after_no_ticks))]
     fn fresh(next_event: u64) -> Self {
         let stored = SysTick::reset();
         Ahead {
@@ -47,13 +47,13 @@ impl DueTicks for Ahead {
     }
 
     #[inline]
-    #[tactic(auto, using(crate::proofs::Counts::later_after))]
+    #[tactic(auto, using(crate::proofs::Counts::after_tick_since))]
     fn is_quiet_after(&self, now: u64) -> bool {
         now + 1 < self.due
     }
 
     fn systick(&self, now: u64) -> SysTick {
-        self.stored.later(now - self.since)
+        self.stored.after_ticks(now - self.since)
     }
 
     fn count(&mut self, now: u64, next_event: u64) {
@@ -62,7 +62,7 @@ impl DueTicks for Ahead {
         self.set(now + 1, systick, next_event);
     }
 
-    #[tactic(auto, using(crate::proofs::Counts::later_now))]
+    #[tactic(auto, using(crate::proofs::Counts::after_ticks_now))]
     fn set(&mut self, now: u64, systick: SysTick, next_event: u64) {
         self.stored = systick;
         self.since = now;

@@ -2,7 +2,7 @@
 
 ghost use Rattle.std.specs.Prelude.{◌≡◌, ℕ, ◌+◌, ◌^◌, ◌<◌, ◌≤◌, Option, None, true, IfSome};
 ghost use Rattle.clock.specs.DueTicks.{is_before};
-ghost use Rattle.reference.specs.Time.{SysTick as Timer, counted, next_current, next_due, reset_systick};
+ghost use Rattle.platform.specs.Time.{SysTick as Timer, counted, next_current, next_due, reset_systick};
 
 use crate::timer::SysTick;
 use std::marker::Model;
@@ -11,7 +11,7 @@ use std::marker::Model;
 /// something is due.
 pub trait DueTicks: Drop {
     ghost use Rattle.std.specs.Prelude.{ℕ, Option};
-    ghost use Rattle.reference.specs.Time.{SysTick as Timer};
+    ghost use Rattle.platform.specs.Time.{SysTick as Timer};
 
     /// SysTick after this many ticks, while no register is written and nothing is due.
     ghost systick_at: { Self → ℕ → Timer };

@@ -1,10 +1,10 @@
 //! Which external interrupts are high.
 
 ghost use Rattle.std.specs.Prelude.{◌≡◌, false, slice_index_or};
-ghost use Rattle.reference.specs.Time.{with_signal, with_events};
+ghost use Rattle.platform.specs.Time.{with_signal, with_events};
 
-use reference::exception::MOST_INTERRUPTS;
-use reference::script::{InterruptNumber, ScriptedEvent, Signal};
+use platform::exception::MOST_INTERRUPTS;
+use platform::script::{InterruptNumber, ScriptedEvent, Signal};
 
 /// How many interrupts there can be.
 pub const INTERRUPTS: usize = MOST_INTERRUPTS as usize;

@@ -2,8 +2,8 @@
 
 ghost use Rattle.std.specs.Prelude.{ℕ, List};
 ghost use Rattle.clock.specs.Laws.{QuietBeforeDue, HappensWhenDue, AppliesThoseOfTheTick, HasThePeriod};
-ghost use Rattle.reference.specs.declared.script.ScriptedEvent.{ScriptedEvent as TheEvent};
-ghost use Rattle.reference.specs.Time.{Time as TheTime, SysTick as Timer};
+ghost use Rattle.platform.specs.declared.script.ScriptedEvent.{ScriptedEvent as TheEvent};
+ghost use Rattle.platform.specs.Time.{Time as TheTime, SysTick as Timer};
 
 /// A tick before the one at which something is due changes the clock and the counter alone.
 pub fn ticks_are_quiet_before_what_is_due()

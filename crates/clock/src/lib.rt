@@ -4,9 +4,9 @@
 
 ghost use Rattle.std.specs.Prelude.{◌≡◌, ℕ, ◌+◌, ◌^◌, ◌<◌, ◌≤◌, true, false};
 ghost use Rattle.clock.specs.DueTicks.{IsRight, IsQuiet};
-ghost use Rattle.reference.specs.Time.{time_after_tick, counted, timer_pends, tick_pends, script_due};
-ghost use Rattle.reference.specs.Time.{event_applies_next, passed, is_high, start_time, csr, after_csr_read, with_csr};
-ghost use Rattle.reference.specs.Time.{with_rvr, with_cvr_cleared, IsSetOf};
+ghost use Rattle.platform.specs.Time.{time_after_tick, counted, timer_pends, tick_pends, script_due};
+ghost use Rattle.platform.specs.Time.{event_applies_next, passed, is_high, start_time, csr, after_csr_read, with_csr};
+ghost use Rattle.platform.specs.Time.{with_rvr, with_cvr_cleared, IsSetOf};
 
 mod ahead;
 mod due_ticks;
@@ -19,7 +19,7 @@ mod timer;
 pub use ahead::Ahead;
 pub use due_ticks::{Counting, DueTicks};
 use interrupts::HighInterrupts;
-pub use reference::script::{InterruptNumber, ScriptedEvent, Signal};
+pub use platform::script::{InterruptNumber, ScriptedEvent, Signal};
 pub use sets::Due;
 use sets::NOTHING;
 use std::marker::Model;
@@ -115,7 +115,7 @@ impl<U: DueTicks> Clock<U> {
     }
 
     /// Returns what the next tick pends, by the script and SysTick.
-    #[tactic(auto, unfolding(reference::specs::Time::tick_pends))]
+    #[tactic(auto, unfolding(platform::specs::Time::tick_pends))]
     fn due_next(&self) -> Due
         requires { self.now.time.ticks < 2 ^ 48 }
         ensures { IsSetOf result (tick_pends self.now.time) }
@@ -130,7 +130,7 @@ impl<U: DueTicks> Clock<U> {
 
     /// Makes the next tick. Returns the exceptions that it pends.
     #[inline]
-    #[tactic(auto, using(crate::proofs::Quiet::right_tick, crate::proofs::Quiet::right_pends, crate::proofs::Quiet::right_stays))]
+    #[tactic(auto, using(crate::proofs::Quiet::right_lemmas))]
     pub fn tick(&mut self) -> Due
         requires { self.old.time.ticks < 2 ^ 48 }
         ensures time { IsRight self.old → self.new.time ≡ time_after_tick self.old.time }
@@ -153,7 +153,7 @@ impl<U: DueTicks> Clock<U> {
 
     /// Makes the next tick if the due tick that is kept says that nothing is due at it. Returns whether it did.
     #[inline]
-    #[tactic(auto, using(crate::proofs::Quiet::right_tick, crate::proofs::Quiet::right_pends, crate::proofs::Quiet::right_stays))]
+    #[tactic(auto, using(crate::proofs::Quiet::right_lemmas))]
     pub fn tick_quietly(&mut self) -> bool
         requires { self.old.time.ticks < 2 ^ 48 }
         ensures same { result ≡ false → self.new ≡ self.old }
@@ -195,7 +195,7 @@ impl<U: DueTicks> Clock<U> {
     }
 
     /// Makes a tick in which events of the script may apply.
-    #[tactic(auto, unfolding(reference::specs::Time::time_after_tick))]
+    #[tactic(auto, unfolding(platform::specs::Time::time_after_tick))]
     fn count(&mut self)
         requires { self.old.time.ticks < 2 ^ 48 }
         ensures time { self.new.time ≡ time_after_tick self.old.time }

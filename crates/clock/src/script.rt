@@ -1,9 +1,9 @@
 //! When the next event of a script is due.
 
 ghost use Rattle.std.specs.Prelude.{◌≡◌, ◌≤◌, length};
-ghost use Rattle.reference.specs.Time.{due_count, script_due};
+ghost use Rattle.platform.specs.Time.{due_count, script_due};
 
-use reference::script::ScriptedEvent;
+use platform::script::ScriptedEvent;
 
 /// A tick that a clock never reaches.
 pub const NEVER: u64 = (1 << 48) + 1;

@@ -2,12 +2,12 @@
 
 ghost use Rattle.std.specs.Prelude.{◌≡◌, ◌==◌, ◌||◌, ◌<◌, ℕ};
 ghost use Rattle.std.specs.List.{list_any};
-ghost use Rattle.reference.specs.Priorities.{is_in_words};
-ghost use Rattle.reference.specs.Time.{pends, interrupt_exception, timer_pends};
+ghost use Rattle.platform.specs.Priorities.{is_in_words};
+ghost use Rattle.platform.specs.Time.{pends, interrupt_exception, timer_pends};
 
 use crate::timer::SysTick;
-use reference::exception::{FIRST_INTERRUPT, NMI, SYS_TICK};
-use reference::script::{InterruptNumber, ScriptedEvent, Signal};
+use platform::exception::{FIRST_INTERRUPT, NMI, SYS_TICK};
+use platform::script::{InterruptNumber, ScriptedEvent, Signal};
 
 /// A set of exceptions: bit n mod 32 of word n / 32 says whether exception n is in it.
 pub type Due = [u32; 8];

@@ -1,10 +1,11 @@
 //! SysTick (ARM DDI 0403, "System timer, SysTick"): its registers, and how it counts.
 
 ghost use Rattle.std.specs.Prelude.{◌≡◌, ◌&&◌, ◌^◌, ◌<◌, ◌≤◌};
-ghost use Rattle.clock.specs.Later.{current_after, later};
+ghost use Rattle.clock.specs.AfterTicks.{after_ticks, current_after};
 ghost use Rattle.instruction_set.specs.Registers.{weighed as weighed_of};
-ghost use Rattle.reference.specs.Time.{counted, reaches_zero, csr as csr_of, after_csr_read, with_csr, with_rvr};
-ghost use Rattle.reference.specs.Time.{with_cvr_cleared, reset_systick, timer_due};
+ghost use Rattle.platform.specs.Time as spec;
+ghost use Rattle.platform.specs.Time.{counted, reaches_zero, after_csr_read, with_csr, with_rvr};
+ghost use Rattle.platform.specs.Time.{with_cvr_cleared, reset_systick, timer_due};
 
 use crate::script::NEVER;
 use std::marker::Model;
@@ -24,7 +25,7 @@ pub struct SysTick {
 
 impl Model for SysTick {
     ghost use Rattle.std.specs.Prelude.{◌<◌, ◌^◌};
-    ghost use Rattle.reference.specs.Time.{SysTick as Timer};
+    ghost use Rattle.platform.specs.Time.{SysTick as Timer};
 
     ghost Value = { Timer };
 
@@ -84,15 +85,15 @@ impl SysTick {
         }
     }
 
-    /// Returns SysTick some ticks later, at none of which anything is due.
-    pub(crate) fn later(&self, ticks: u64) -> Self
-        ensures { result ≡ later self.now ticks }
+    /// Returns SysTick after some ticks, at none of which anything is due.
+    pub(crate) fn after_ticks(&self, ticks: u64) -> Self
+        ensures { result ≡ after_ticks self.now ticks }
     {
-        let mut later = *self;
+        let mut after = *self;
         if self.enable {
-            later.current = current_after(self.reload, self.current, ticks);
+            after.current = current_after(self.reload, self.current, ticks);
         }
-        later
+        after
     }
 
     /// Returns the tick at which the counter will go from 1 to 0, if no register is written before.
@@ -113,7 +114,7 @@ impl SysTick {
 
     /// Returns SYST_CSR, as a read finds it.
     pub fn csr(&self) -> u32
-        ensures { result ≡ csr_of self.now }
+        ensures { result ≡ spec.csr self.now }
     {
         weighed(self.enable, 1)
             + weighed(self.tickint, 1 << 1)

@@ -1,5 +1,5 @@
 -- What a run that failed put, and how files are read.
-use Rattle.std.proofs.Common.{◌≡◌, ◌⊎◌, inl, inr, ℕ, ◌+◌, Bool, true, false, List, Option, Result, Ok, Err, refl, sym}
+use Rattle.std.proofs.Common.{◌≡◌, ◌⊎◌, inl, inr, ℕ, ◌+◌, Bool, true, false, List, Result, Ok, Err, refl, sym}
 use Rattle.std.proofs.Common.{◌∙◌}
 use Rattle.std.specs.Str.{IsUtf8, is_utf8}
 use Rattle.std.proofs.lemmas.Str.{IsUtf8-from_is_utf8, is_utf8-from_IsUtf8}
@@ -13,20 +13,20 @@ use Rattle.machine.specs.declared.machine.RunError.TheVariants.{Write, Broken}
 use Rattle.machine.specs.Selected.{SelectedFails}
 use Rattle.machine.specs.Whole.{Whole}
 use Rattle.output.specs.Gathered.{GrowsByPrefix}
-use Rattle.reference.specs.declared.error.BoardError.{BoardError}
-use Rattle.reference.specs.declared.error.BoardError.TheVariants.{NotToml, OutOfMemory}
-use Rattle.reference.specs.Boards.{Described}
+use Rattle.output.specs.Output.{Writing}
+use Rattle.platform.specs.declared.error.BoardError.{BoardError}
+use Rattle.platform.specs.declared.error.BoardError.TheVariants.{NotToml, OutOfMemory}
+use Rattle.platform.specs.Boards.{Described}
 use Rattle.trace.specs.declared.selection.TraceSelection.{TraceSelection}
 use Rattle.trace.specs.Selection.{selected_trace}
 
 -- a run that failed in a machine whose writers hadn't failed before put a prefix of its text
-pub failed_cut : (selection : TraceSelection) (n : ℕ) (old new : Whole) (put put' : Option (List ℕ))
-    (errors errors' : ℕ) (error : RunError) → SelectedFails selection n old new put put' errors errors' error
-    → (error ≡ Broken → old.broken ≡ true) → old.broken ≡ false
-    → GrowsByPrefix put put' (selected_trace selection n old.state) × (errors' ≡ errors + 1)
-failed_cut selection n old new put put' errors errors' (Write steps) fails broken whole =
-    (selected_left_prefix selection n old.state steps put put' new.state fails.0, fails.2)
-failed_cut selection n old new put put' errors errors' Broken fails broken whole =
+pub failed_cut : (selection : TraceSelection) (n : ℕ) (old new : Whole) (out out' : Writing) (error : RunError)
+    → SelectedFails selection n old new out out' error → (error ≡ Broken → old.broken ≡ true) → old.broken ≡ false
+    → GrowsByPrefix out.written out'.written (selected_trace selection n old.state) × (out'.errors ≡ out.errors + 1)
+failed_cut selection n old new out out' (Write steps) fails broken whole =
+    (selected_left_prefix selection n old.state steps out out' new.state fails.0, fails.2)
+failed_cut selection n old new out out' Broken fails broken whole =
     absurd (let wrong : true ≡ false = sym (broken refl) ∙ whole in cc)
 
 -- what the reader of boards answers is what is read here

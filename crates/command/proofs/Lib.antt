@@ -1,5 +1,6 @@
 mod Asking
 mod Ends
+mod Expected
 mod Performing
 mod Talks
 mod Worded

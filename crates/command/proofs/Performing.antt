@@ -1,22 +1,23 @@
 -- A status is that of a run or of a session.
 use Rattle.std.proofs.Common.{ℕ, List, Result}
 use Rattle.command.specs.declared.job.RunOptions.{RunOptions}
-use Rattle.command.specs.Sessions.{DebugsTo, SessionTo, Writer}
+use Rattle.command.specs.Sessions.{DebugsTo, SessionTo}
 use Rattle.command.specs.Statuses.{GoesTo, RunsTo}
-use Rattle.debugger.specs.Sessions.{Sink, Source}
-use Rattle.output.specs.Gathered.{Gathered}
-use Rattle.reference.specs.declared.error.BoardError.{BoardError}
-use Rattle.reference.specs.declared.error.LoadError.{LoadError}
-use Rattle.reference.specs.Boards.{Described}
-use Rattle.reference.specs.Images.{Segment}
+use Rattle.output.specs.Input.{Reading}
+use Rattle.output.specs.Output.{Writing}
+use Rattle.platform.specs.declared.error.BoardError.{BoardError}
+use Rattle.platform.specs.declared.error.LoadError.{LoadError}
+use Rattle.platform.specs.Boards.{Described}
+use Rattle.platform.specs.Images.{Segment}
 
 pub runs_to : (image : Result (List Segment) LoadError) (board : Result Described BoardError) (run : RunOptions)
-    (old new : Gathered) (file file' : Sink) (status : ℕ) → GoesTo image board run old new file file' status
+    (old new file file' : Writing) (status : ℕ) → GoesTo image board run old new file file' status
     → RunsTo image board run status
 runs_to image board run old new file file' status goes =
     record { old = old; new = new; file = file; file' = file'; goes = goes }
 
-pub session_to : (image : Result (List Segment) LoadError) (board : Result Described BoardError) (before after : Source)
-    (out out' : Writer) (status : ℕ) → DebugsTo image board before after out out' status → SessionTo image board status
+pub session_to : (image : Result (List Segment) LoadError) (board : Result Described BoardError)
+    (before after : Reading) (out out' : Writing) (status : ℕ)
+    → DebugsTo image board before after out out' status → SessionTo image board status
 session_to image board before after out out' status debugs =
     record { before = before; after = after; out = out; out' = out'; debugs = debugs }

@@ -1,15 +1,7 @@
 -- The words in the line of a stop.
-use Rattle.std.proofs.Common.{◌≡◌, ℕ, ◌-◌, ◌<◌, List, [], ◌∷◌, ◌++◌, arith, ap, codes, drop, length, refl, take, true}
+use Rattle.std.proofs.Common.{◌≡◌, ℕ, ◌-◌, ◌<◌, List, [], ◌∷◌, ◌++◌, arith, ap, codes, drop, length, refl, take}
 use Rattle.std.proofs.lemmas.List.{length-append}
-use Rattle.std.proofs.lemmas.Slice.Eq.{bytes_eq-Decides}
-use Rattle.std.specs.Str.{bytes_eq}
-use Rattle.command.specs.Statuses.{IsStopText}
-use Rattle.reference.specs.declared.stop.Stop.{Stop}
-use Rattle.reference.specs.Text.{line_feed, stop_text}
-
--- a text that equals the words of a stop
-pub has_text : (why : Stop) (words : List ℕ) → bytes_eq (stop_text why) words ≡ true → IsStopText words
-has_text why words e = (why, (bytes_eq-Decides (stop_text why) words).0 e)
+use Rattle.platform.specs.Text.{line_feed}
 
 front : (words : List ℕ) → take (length words) (words ++ line_feed) ≡ words
 front [] = refl

@@ -3,14 +3,14 @@ use Rattle.std.specs.Prelude.{◌≡◌, ◌⊎◌, ℕ, List, None, Result, Ok,
 use Rattle.command.specs.declared.error.Error.{Error}
 use Rattle.command.specs.declared.error.Error.TheVariants.{Load, Board, Start, Io}
 use Rattle.command.specs.Statuses.{status_of}
-use Rattle.reference.specs.declared.error.BoardError.{BoardError}
-use Rattle.reference.specs.declared.error.BoardError.TheVariants.{OutOfMemory}
-use Rattle.reference.specs.declared.error.LoadError.{LoadError}
-use Rattle.reference.specs.declared.error.StartError.{StartError}
-use Rattle.reference.specs.declared.error.StartError.TheVariants.{NoMemory}
-use Rattle.reference.specs.declared.stop.Stop.{Stop}
-use Rattle.reference.specs.Boards.{Described}
-use Rattle.reference.specs.Images.{Segment}
+use Rattle.platform.specs.declared.error.BoardError.{BoardError}
+use Rattle.platform.specs.declared.error.BoardError.TheVariants.{OutOfMemory}
+use Rattle.platform.specs.declared.error.LoadError.{LoadError}
+use Rattle.platform.specs.declared.error.StartError.{StartError}
+use Rattle.platform.specs.declared.error.StartError.TheVariants.{NoMemory}
+use Rattle.platform.specs.declared.stop.Stop.{Stop}
+use Rattle.platform.specs.Boards.{Described}
+use Rattle.platform.specs.Images.{Segment}
 use Rattle.reference.specs.Run.{ending_of}
 use Rattle.reference.specs.Start.{start}
 use Rattle.reference.specs.State.{State}

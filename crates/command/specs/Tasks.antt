@@ -7,7 +7,7 @@ use Rattle.command.specs.declared.job.Job.{Job}
 use Rattle.command.specs.declared.job.RunOptions.{RunOptions}
 use Rattle.command.specs.declared.job.Task.{Task}
 use Rattle.command.specs.declared.job.Task.TheVariants.{Run, Report, Debug}
-use Rattle.command_line.specs.Asked.{Asked, AskedDebug, AskedReport, AskedRun, IsRefused, IsTaken, answer_of, asked}
+use Rattle.command_line.specs.Asked.{Asked, AskedDebug, AskedReport, AskedRun, IsRefused, IsTaken, asked, notice_of}
 use Rattle.command_line.specs.Asked.{memory}
 use Rattle.command_line.specs.Asked.{text_of, usage}
 use Rattle.command_line.specs.Asked as asks
@@ -15,10 +15,10 @@ use Rattle.command_line.specs.declared.words.WordsError.{WordsError}
 use Rattle.command.specs.Reports.{ReportsTo}
 use Rattle.command.specs.Sessions.{SessionTo}
 use Rattle.command.specs.Statuses.{RunsTo}
-use Rattle.reference.specs.declared.error.BoardError.{BoardError}
-use Rattle.reference.specs.declared.error.LoadError.{LoadError}
-use Rattle.reference.specs.Boards.{Described}
-use Rattle.reference.specs.Images.{Segment}
+use Rattle.platform.specs.declared.error.BoardError.{BoardError}
+use Rattle.platform.specs.declared.error.LoadError.{LoadError}
+use Rattle.platform.specs.Boards.{Described}
+use Rattle.platform.specs.Images.{Segment}
 use Rattle.trace.specs.declared.selection.TraceSelection.{TraceSelection}
 use Rattle.trace.specs.declared.selection.TraceSelection.TheVariants as which
 
@@ -71,12 +71,12 @@ MayBeWrong a = (¬ IsSteps a.steps) ⊎ ((selection_asked a.trace ≡ None) ⊎ 
 -- the job is the run that is asked for, or a value in it is wrong, or memory ran out for the message
 abbrev pub AsksRun : AskedRun → Result Job WordsError → Type 0
 AsksRun a (Ok job) = (job.board.now ≡ a.board) × (job.image.now ≡ a.image) × IsRun a job.task
-AsksRun a (Err error) = ((answer_of error ≡ usage) × MayBeWrong a) ⊎ (answer_of error ≡ memory)
+AsksRun a (Err error) = ((notice_of error ≡ usage) × MayBeWrong a) ⊎ (notice_of error ≡ memory)
 
 -- the job is the report that is asked for, or its steps are no number of steps, or memory ran out for the message
 abbrev pub AsksReport : AskedReport → Result Job WordsError → Type 0
 AsksReport a (Ok job) = (job.board.now ≡ a.board) × (job.image.now ≡ a.image) × IsReport a job.task
-AsksReport a (Err error) = ((answer_of error ≡ usage) × (¬ IsSteps a.steps)) ⊎ (answer_of error ≡ memory)
+AsksReport a (Err error) = ((notice_of error ≡ usage) × (¬ IsSteps a.steps)) ⊎ (notice_of error ≡ memory)
 
 abbrev pub AsksDebug : AskedDebug → Result Job WordsError → Type 0
 AsksDebug a (Ok job) = (job.board.now ≡ a.board) × (job.image.now ≡ a.image) × (job.task ≡ Debug)
@@ -94,13 +94,13 @@ MayRefuse (Some (asks.run a)) = MayBeWrong a
 MayRefuse (Some (asks.report a)) = ¬ IsSteps a.steps
 MayRefuse (Some (asks.debug a)) = ⊥
 
--- arguments that `clap` takes ask for the job, or have a wrong value. Others are answered as one of the errors
--- that `clap` finds says; and out of memory may come in place of all
+-- arguments that `clap` takes ask for the job, or have a wrong value. Others get the notice for one of the
+-- errors that `clap` finds; and out of memory may come in place of all
 abbrev pub AsksFor : List (List ℕ) → Result Job WordsError → Type 0
 AsksFor words (Ok job) = IsTaken words × ((a : Asked) × (asked words ≡ Some a) × Asks a (Ok job))
 AsksFor words (Err error) =
-    (answer_of error ≡ memory)
-    ⊎ (IsRefused words error ⊎ ((answer_of error ≡ usage) × MayRefuse (asked words)))
+    (notice_of error ≡ memory)
+    ⊎ (IsRefused words error ⊎ ((notice_of error ≡ usage) × MayRefuse (asked words)))
 
 -- the status is that of what is asked for: the run, as it is asked for, the report or the session
 abbrev pub Performs : Result (List Segment) LoadError → Result Described BoardError → Task → ℕ → Type 0

@@ -3,10 +3,10 @@
 ghost use Rattle.std.specs.Prelude.{◌≡◌, ◌≢◌};
 ghost use Rattle.command.specs.Reports.{ReportsTo};
 ghost use Rattle.command.specs.Sessions.{SessionTo};
-ghost use Rattle.command.specs.Statuses.{AnsweredBy, RunsTo, board_in_file, file_status};
+ghost use Rattle.command.specs.Statuses.{IsStatusOf, RunsTo, board_in_file, file_status};
 ghost use Rattle.command.specs.Tasks.{Performs};
-ghost use Rattle.command_line.specs.Asked.{answer_of};
-ghost use Rattle.reference.specs.Images.{image_of};
+ghost use Rattle.command_line.specs.Asked.{notice_of};
+ghost use Rattle.platform.specs.Images.{image_of};
 ghost use Rattle.std.specs.IoError.{error_kind};
 ghost use Rattle.std.specs.declared.io.ErrorKind.TheVariants as kind;
 
@@ -47,10 +47,10 @@ pub fn program<R: Files + AllocGlobal, I: Read + Drop, W: Write + Drop, E: Write
     status
 }
 
-/// Writes the answer to arguments that name no run and no session. Returns 2; 0 for the version; 5
+/// Writes the notice for arguments that name no run and no session. Returns 2; 0 for the version; 5
 /// where the version can't be written or memory ran out.
 pub fn answer<W: Write + Drop, E: Write>(error: WordsError, mut out: W, err: &mut E) -> u8
-    ensures { AnsweredBy (answer_of error) result }
+    ensures { IsStatusOf (notice_of error) result }
 {
     match error {
         WordsError::Wrong(text) => {

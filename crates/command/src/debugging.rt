@@ -3,7 +3,7 @@
 ghost use Rattle.std.specs.Prelude.{◌≡◌, false};
 ghost use Rattle.command.specs.Sessions.{Debugs, DebugsTo, Talked};
 ghost use Rattle.command.specs.Statuses.{board_in_file};
-ghost use Rattle.reference.specs.Images.{image_of};
+ghost use Rattle.platform.specs.Images.{image_of};
 
 use crate::error::{Error, tell};
 use crate::files::InputFile;
@@ -28,11 +28,7 @@ pub fn debug<I: In, O: Out, E: Write>(
     err: &mut E,
 ) -> u8
     ensures debugs { DebugsTo (image_of image.entry.bytes.now) (board_in_file board.entry.bytes.now)
-        (record { left = I.left input.old; misses = I.misses input.old })
-        (record { left = I.left input.new; misses = I.misses input.new })
-        (record { sink = record { written = O.written out.old; errors = O.errors out.old }; waits = O.waits out.old })
-        (record { sink = record { written = O.written out.new; errors = O.errors out.new }; waits = O.waits out.new })
-        result }
+        (I.reading input.old) (I.reading input.new) (O.writing out.old) (O.writing out.new) result }
     ensures quiet { result ≡ 0 → err.new ≡ err.old }
 {
     match hold_session(alloc, image.bytes, board.bytes, input, out) {
@@ -53,12 +49,8 @@ fn hold_session<I: In, O: Out>(
     input: &mut I,
     out: &mut O,
 ) -> Result<(), Error>
-    ensures { Debugs (image_of image.now) (board_in_file board.now)
-        (record { left = I.left input.old; misses = I.misses input.old })
-        (record { left = I.left input.new; misses = I.misses input.new })
-        (record { sink = record { written = O.written out.old; errors = O.errors out.old }; waits = O.waits out.old })
-        (record { sink = record { written = O.written out.new; errors = O.errors out.new }; waits = O.waits out.new })
-        result }
+    ensures { Debugs (image_of image.now) (board_in_file board.now) (I.reading input.old) (I.reading input.new)
+        (O.writing out.old) (O.writing out.new) result }
 {
     let image = load(image).map_err(Error::Load)?;
     let board = board_of_file(alloc, board).map_err(Error::Board)?;
@@ -69,12 +61,8 @@ fn hold_session<I: In, O: Out>(
 /// Holds a session of a machine.
 fn talk_with<I: In, O: Out>(machine: Fast, input: &mut I, out: &mut O) -> Result<(), Error>
     requires { machine.broken ≡ false }
-    ensures { Talked machine.state
-        (record { left = I.left input.old; misses = I.misses input.old })
-        (record { left = I.left input.new; misses = I.misses input.new })
-        (record { sink = record { written = O.written out.old; errors = O.errors out.old }; waits = O.waits out.old })
-        (record { sink = record { written = O.written out.new; errors = O.errors out.new }; waits = O.waits out.new })
-        result }
+    ensures { Talked machine.state (I.reading input.old) (I.reading input.new)
+        (O.writing out.old) (O.writing out.new) result }
 {
     let mut machine = machine;
     match session(&mut machine, input, out) {

@@ -3,7 +3,7 @@
 ghost use Rattle.std.specs.Prelude.{◌≡◌, ◌≤◌, ◌^◌, ◌⊎◌, IfSome, None, map, string_bytes};
 ghost use Rattle.command.specs.Tasks.{AsksReport, AsksRun, IsSteps, AsksFor, number_in, selection_asked};
 ghost use Rattle.command.specs.Tasks.{selection_named};
-ghost use Rattle.command_line.specs.Asked.{answer_of, memory, run_of, text_of, usage};
+ghost use Rattle.command_line.specs.Asked.{memory, notice_of, run_of, text_of, usage};
 
 use crate::expectation::is_stop;
 use command_line::{MOST_STEPS, RunWords, Words, WordsError, words_of};
@@ -173,7 +173,7 @@ or unpredictable or outofprofile and a name.";
 
 /// Returns the error of an option's value that isn't allowed, with what is.
 fn wrong_value(alloc: Global, value: &str, option: &str, advice: &str) -> WordsError
-    ensures { (answer_of result ≡ usage) ⊎ (answer_of result ≡ memory) }
+    ensures { (notice_of result ≡ usage) ⊎ (notice_of result ≡ memory) }
 {
     let value = Escaped(value);
     match format!(in alloc; "error: invalid value '{value}' for '{option}'\n{advice}\n") {

@@ -4,8 +4,8 @@ ghost use Rattle.std.specs.Prelude.{◌≡◌, ◌⊎◌, Err, IfErr};
 ghost use Rattle.command.specs.Reports.{ReportsTo, Surveys, SurveysImage};
 ghost use Rattle.command.specs.Statuses.{board_in_file};
 ghost use Rattle.command.specs.declared.error.Error.TheVariants.{Io, Start};
-ghost use Rattle.reference.specs.declared.error.StartError.TheVariants.{NoMemory};
-ghost use Rattle.reference.specs.Images.{image_of};
+ghost use Rattle.platform.specs.declared.error.StartError.TheVariants.{NoMemory};
+ghost use Rattle.platform.specs.Images.{image_of};
 
 use crate::error::{Error, stop_status, tell};
 use crate::files::InputFile;

@@ -5,7 +5,7 @@ ghost use Rattle.command.specs.Saving.{Saved};
 ghost use Rattle.command.specs.Statuses.{GoesTo, Executes, Reads, Runs, Traces, board_in_file, ending_status};
 ghost use Rattle.command_line.specs.Asked.{text_of};
 ghost use Rattle.output.specs.Gathered.{gathered};
-ghost use Rattle.reference.specs.Images.{image_of};
+ghost use Rattle.platform.specs.Images.{image_of};
 ghost use Rattle.reference.specs.Run.{after};
 
 use crate::error::{Error, stop_status, tell};
@@ -38,9 +38,7 @@ pub fn go<O: Out + Drop, S: Out, E: Write>(
     err: &mut E,
 ) -> u8
     ensures goes { GoesTo (image_of image.entry.bytes.now) (board_in_file board.entry.bytes.now) run.entry
-        (gathered out.old) (gathered out.new)
-        (record { written = S.written state.old; errors = S.errors state.old })
-        (record { written = S.written state.new; errors = S.errors state.new }) result }
+        (gathered out.old) (gathered out.new) (S.writing state.old) (S.writing state.new) result }
     ensures quiet { (result ≡ 0) ⊎ (result ≡ 4) → err.new ≡ err.old }
 {
     match execute(alloc, image.bytes, board.bytes, run, out, state) {
@@ -88,10 +86,8 @@ fn execute<O: Out + Drop, S: Out>(
     out: &mut Paged<O>,
     state: &mut S,
 ) -> Result<Stop, Error>
-    ensures { Executes (image_of image.now) (board_in_file board.now) run.entry
-        (gathered out.old) (gathered out.new)
-        (record { written = S.written state.old; errors = S.errors state.old })
-        (record { written = S.written state.new; errors = S.errors state.new }) result }
+    ensures { Executes (image_of image.now) (board_in_file board.now) run.entry (gathered out.old) (gathered out.new)
+        (S.writing state.old) (S.writing state.new) result }
 {
     let image = load(image).map_err(Error::Load)?;
     let board = board_of_file(alloc, board).map_err(Error::Board)?;
@@ -108,8 +104,7 @@ fn run_and_save<O: Out + Drop, S: Out>(
 ) -> Result<Stop, Error>
     requires { machine.old.broken ≡ false }
     ensures { Runs run.entry machine.old.state (gathered out.old) (gathered out.new)
-        (record { written = S.written state.old; errors = S.errors state.old })
-        (record { written = S.written state.new; errors = S.errors state.new }) result }
+        (S.writing state.old) (S.writing state.new) result }
 {
     let stop = run_through(machine, run.trace, run.steps, out)?;
     save(machine, run.state, state)?;
@@ -118,9 +113,7 @@ fn run_and_save<O: Out + Drop, S: Out>(
 
 /// Writes the state of a machine, where a file is named for it.
 fn save<S: Out>(machine: &Fast, path: Option<&str>, out: &mut S) -> Result<(), Error>
-    ensures { Saved (text_of path.entry) machine.now.state
-        (record { written = S.written out.old; errors = S.errors out.old })
-        (record { written = S.written out.new; errors = S.errors out.new }) result }
+    ensures { Saved (text_of path.entry) machine.now.state (S.writing out.old) (S.writing out.new) result }
 {
     match path {
         None => Ok(()),

@@ -8,7 +8,7 @@ use Rattle.clap.specs.Walk.{Row, Text}
 use Rattle.clap.specs.declared.error.Error.{Error}
 use Rattle.clap.specs.declared.error.kind.ErrorKind.{ErrorKind}
 use Rattle.clap.specs.declared.error.kind.ErrorKind.TheVariants as kind
-use Rattle.command_line.specs.Asked.{Reads, Refuses, Takes, answer_to, asked_in}
+use Rattle.command_line.specs.Asked.{Reads, Refuses, Takes, asked_in, notice_for}
 use Rattle.command_line.specs.Commands.{marm}
 use Rattle.command_line.specs.declared.words.Words.{Words}
 use Rattle.command_line.specs.declared.words.WordsError.{WordsError}
@@ -31,7 +31,7 @@ by_kind words k error among (inr wanting) = inl wanting
 
 by_memory : (words : List Text) (k : ErrorKind) (error : WordsError) → k ≡ kind.OutOfMemory → Refuses k error
     → Takes words (Err error)
-by_memory words k error e (inl same) = inl (same ∙ ap answer_to e)
+by_memory words k error e (inl same) = inl (same ∙ ap notice_for e)
 by_memory words k error e (inr wanting) = inl wanting
 
 by_kinds : (words : List Text) (e : Error) (error : WordsError) → HasKind (fault_of marm words) e

@@ -103,60 +103,60 @@ asked_of (words.Report board steps image) =
     report (record { board = board.now; steps = steps.now; image = image.now })
 asked_of (words.Debug board image) = debug (record { board = board.now; image = image.now })
 
--- how the program answers arguments that it doesn't take
-pub data Answer : Type 0 where
-  usage : Answer
-  help : Answer
-  version : Answer
-  memory : Answer
+-- what the program prints for arguments that it doesn't take
+pub data Notice : Type 0 where
+  usage : Notice
+  help : Notice
+  version : Notice
+  memory : Notice
 
--- the answer to each kind of error of `clap`
-abbrev pub answer_to : ErrorKind → Answer
-answer_to kind.InvalidValue = usage
-answer_to kind.UnknownArgument = usage
-answer_to kind.InvalidSubcommand = usage
-answer_to kind.NoEquals = usage
-answer_to kind.ValueValidation = usage
-answer_to kind.TooManyValues = usage
-answer_to kind.TooFewValues = usage
-answer_to kind.WrongNumberOfValues = usage
-answer_to kind.ArgumentConflict = usage
-answer_to kind.MissingRequiredArgument = usage
-answer_to kind.MissingSubcommand = usage
-answer_to kind.Io = usage
-answer_to kind.Format = usage
-answer_to kind.DisplayHelp = help
-answer_to kind.DisplayHelpOnMissingArgumentOrSubcommand = help
-answer_to kind.DisplayVersion = version
-answer_to kind.OutOfMemory = memory
+-- the notice for each kind of error of `clap`
+abbrev pub notice_for : ErrorKind → Notice
+notice_for kind.InvalidValue = usage
+notice_for kind.UnknownArgument = usage
+notice_for kind.InvalidSubcommand = usage
+notice_for kind.NoEquals = usage
+notice_for kind.ValueValidation = usage
+notice_for kind.TooManyValues = usage
+notice_for kind.TooFewValues = usage
+notice_for kind.WrongNumberOfValues = usage
+notice_for kind.ArgumentConflict = usage
+notice_for kind.MissingRequiredArgument = usage
+notice_for kind.MissingSubcommand = usage
+notice_for kind.Io = usage
+notice_for kind.Format = usage
+notice_for kind.DisplayHelp = help
+notice_for kind.DisplayHelpOnMissingArgumentOrSubcommand = help
+notice_for kind.DisplayVersion = version
+notice_for kind.OutOfMemory = memory
 
--- the answer that an error leads to
-abbrev pub answer_of : WordsError → Answer
-answer_of (Wrong text) = usage
-answer_of (Help text) = help
-answer_of (Version text) = version
-answer_of OutOfMemory = memory
+-- the notice that an error leads to
+abbrev pub notice_of : WordsError → Notice
+notice_of (Wrong text) = usage
+notice_of (Help text) = help
+notice_of (Version text) = version
+notice_of OutOfMemory = memory
 
--- the answer to an error, or out of memory for its text
+-- the notice for an error, or out of memory for its text
 abbrev pub Refuses : ErrorKind → WordsError → Type 0
-Refuses k error = (answer_of error ≡ answer_to k) ⊎ (answer_of error ≡ memory)
+Refuses k error = (notice_of error ≡ notice_for k) ⊎ (notice_of error ≡ memory)
 
 -- the values of a subcommand's matches, or a usage error where one that is needed has none
 abbrev pub Reads : Option Asked → Result Words WordsError → Type 0
 Reads asks (Ok words) = asks ≡ Some (asked_of words)
-Reads asks (Err error) = (asks ≡ None) × (answer_of error ≡ usage)
+Reads asks (Err error) = (asks ≡ None) × (notice_of error ≡ usage)
 
 -- `clap` takes the arguments
 abbrev pub IsTaken : List Text → Type 0
 IsTaken words = fault_of marm words ≡ []
 
--- the answer is that to one of the errors that `clap` finds in the arguments
+-- the notice is that for one of the errors that `clap` finds in the arguments
 abbrev pub IsRefused : List Text → WordsError → Type 0
-IsRefused words error = (k : ErrorKind) × IsAmong k (fault_of marm words) × (answer_of error ≡ answer_to k)
+IsRefused words error = (k : ErrorKind) × IsAmong k (fault_of marm words) × (notice_of error ≡ notice_for k)
 
--- arguments that `clap` takes are read as its matches say. Others are answered as one of the errors that `clap` finds
--- says; and out of memory may come in place of all
+-- arguments that `clap` takes are read as its matches say. Others get the notice for one of the errors that `clap`
+-- finds; and out of memory may come in place of all
 abbrev pub Takes : List Text → Result Words WordsError → Type 0
 Takes words (Ok taken) = IsTaken words × (asked words ≡ Some (asked_of taken))
 Takes words (Err error) =
-    (answer_of error ≡ memory) ⊎ (IsRefused words error ⊎ ((asked words ≡ None) × (answer_of error ≡ usage)))
+    (notice_of error ≡ memory) ⊎ (IsRefused words error ⊎ ((asked words ≡ None) × (notice_of error ≡ usage)))

@@ -10,4 +10,5 @@ mod texts;
 mod words;
 
 pub use commands::MOST_STEPS;
+pub use texts::AFTER_DEBUG;
 pub use words::{RunWords, Words, WordsError, words_of};

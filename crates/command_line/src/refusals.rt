@@ -2,7 +2,7 @@
 
 ghost use Rattle.std.specs.Prelude.{◌≡◌, ◌⊎◌};
 ghost use Rattle.clap.specs.Values.{kind_of};
-ghost use Rattle.command_line.specs.Asked.{Refuses, answer_of, memory, usage};
+ghost use Rattle.command_line.specs.Asked.{Refuses, memory, notice_of, usage};
 
 use crate::commands::marm;
 use crate::texts::{COMMANDS_ADVICE, DASH_ADVICE, DASH_TIP, STEPS_ADVICE};
@@ -12,7 +12,7 @@ use clap::error::ErrorKind;
 use messages::Escaped;
 use std::alloc::{AllocError, Global};
 
-/// Returns the answer to an error that `clap` finds in arguments, with its text.
+/// Returns the notice for an error that `clap` finds in arguments, with its text.
 pub fn error_of(alloc: Global, error: &Error, words: &[String]) -> WordsError
     ensures { Refuses (kind_of error.now) result }
 {
@@ -71,9 +71,9 @@ fn shown(alloc: Global, words: &[String]) -> Result<Vec<String>, AllocError> {
     Ok(shown)
 }
 
-/// Returns the answer to an error whose text doesn't say what to write instead.
+/// Returns the notice for an error whose text doesn't say what to write instead.
 fn advised(text: String, advice: &str) -> WordsError
-    ensures { (answer_of result ≡ usage) ⊎ (answer_of result ≡ memory) }
+    ensures { (notice_of result ≡ usage) ⊎ (notice_of result ≡ memory) }
 {
     let mut text = text;
     match text.push_str(advice) {
@@ -82,10 +82,10 @@ fn advised(text: String, advice: &str) -> WordsError
     }
 }
 
-/// Returns the answer to a word that isn't taken. `clap` says of one that begins with `-` that it can be
+/// Returns the notice for a word that isn't taken. `clap` says of one that begins with `-` that it can be
 /// a value, which is so for an image alone.
 fn advised_of_dash(text: String) -> WordsError
-    ensures { (answer_of result ≡ usage) ⊎ (answer_of result ≡ memory) }
+    ensures { (notice_of result ≡ usage) ⊎ (notice_of result ≡ memory) }
 {
     if text.as_str().contains(DASH_TIP) {
         advised(text, DASH_ADVICE)

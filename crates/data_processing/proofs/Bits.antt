@@ -74,3 +74,5 @@ leading_zeros_of x h =
     let l = leading_length 32 x h in
     let e : significant_bits 32 x ≡ l.0 = has_bits 32 x l.0 (omega arith) l.2 l.3 in
     omega arith
+
+pub ruleset rearranged_lemmas = (reversed_bits, leading_zeros_of)

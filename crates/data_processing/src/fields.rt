@@ -73,7 +73,7 @@ pub(crate) fn extract_field(operands: &ExtractField, regs: &mut Regs)
 
 /// Returns a word with 0 in place of a field.
 #[inline]
-#[tactic(auto, using(crate::proofs::FieldsOfWords::field_part), unfolding(instruction_set::specs::Fields::cleared, instruction_set::specs::Words::bits))]
+#[tactic(auto, using(crate::proofs::FieldsOfWords::cleared_lemmas))]
 fn cleared(x: u32, low: u8, width: u8) -> u32
     ensures { result ≡ cleared x low width }
 {

@@ -44,7 +44,7 @@ pub(crate) fn extend(operands: &Extend, regs: &mut Regs)
 /// Returns the bytes or the bits of a word in another order, or how many zeros are above its
 /// highest one.
 #[inline]
-#[tactic(auto, using(crate::proofs::Bits::reversed_bits, crate::proofs::Bits::leading_zeros_of), unfolding(instruction_set::specs::Fields::rearranged))]
+#[tactic(auto, using(crate::proofs::Bits::rearranged_lemmas), unfolding(instruction_set::specs::Fields::rearranged))]
 fn rearranged(operation: Rearrangement, x: u32) -> u32
     ensures { result ≡ rearranged operation x }
 {

@@ -17,10 +17,12 @@ use Rattle.debugger.specs.Answers.{Piece}
 use Rattle.debugger.specs.declared.sessions.SessionError.{SessionError}
 use Rattle.debugger.specs.declared.sessions.SessionError.TheVariants.{Read, Write}
 use Rattle.debugger.specs.Sessions.{AreSoFar, Ends, FailsOnce, FailsToRead, FailsToWrite, Hears, Holds, Kept, KeepsPut}
-use Rattle.debugger.specs.Sessions.{NothingWaits, SendsRest, Sessions, Sink, Source, TakesNext, Talk, TellsAll}
+use Rattle.debugger.specs.Sessions.{NothingWaits, SendsRest, Sessions, TakesNext, Talk, TellsAll}
 use Rattle.debugger.specs.Sessions.{TellsAllThenFails, TellsPart, after_bytes, all_answers, answers, is_line_feed}
 use Rattle.debugger.specs.Sessions.{last_state, next, opened, answered, answered_at_end, talk, texts}
 use Rattle.machine.specs.Whole.{Whole}
+use Rattle.output.specs.Input.{Reading}
+use Rattle.output.specs.Output.{Writing}
 use Rattle.reference.specs.State.{State}
 
 -- ---- one byte behind others
@@ -88,14 +90,14 @@ talk_of : (t : Talk) (s : State) (k : Kept) → s ≡ t.state → k ≡ record {
 talk_of t s k es ek goes = ap (λ (o : Bool). record t { is_open = o }) goes ∙ rw (es, ek) refl
 
 -- the session after n bytes
-pub record Heard (n : ℕ) (k : Kept) (old new : Whole) (before after : Source) (out out' : Sink) : Type 0 where
+pub record Heard (n : ℕ) (k : Kept) (old new : Whole) (before after : Reading) (out out' : Writing) : Type 0 where
   pub given : List ℕ
   pub count : length given ≡ n
   pub hears : Hears given before after
   pub now : after_bytes (opened old.state) given ≡ talk new.state k
   pub tells : TellsAll (answers (opened old.state) given) old new out out'
 
-pub begun : (m : Whole) (k : Kept) (i : Source) (a : Sink) → k ≡ record { breakpoints = []; line = Some [] }
+pub begun : (m : Whole) (k : Kept) (i : Reading) (a : Writing) → k ≡ record { breakpoints = []; line = Some [] }
     → Heard 0 k m m i i a a
 begun m k i a e = record {
   given = [];
@@ -105,18 +107,18 @@ begun m k i a e = record {
   tells = subst (λ (ps : List Piece). TellsAll ps m m a a) (sym (answers_none (opened m.state))) (tells_none m a);
 }
 
-is_open : (n : ℕ) (k : Kept) (old new : Whole) (i j : Source) (a b : Sink) (h : Heard n k old new i j a b)
+is_open : (n : ℕ) (k : Kept) (old new : Whole) (i j : Reading) (a b : Writing) (h : Heard n k old new i j a b)
     → (after_bytes (opened old.state) h.given).is_open ≡ true
 is_open n k old new i j a b h = ap (λ (t : Talk). t.is_open) h.now
 
-heard_more : (given more : List ℕ) (i j l : Source) → Hears given i j → Hears more j l → Hears (given ++ more) i l
+heard_more : (given more : List ℕ) (i j l : Reading) → Hears given i j → Hears more j l → Hears (given ++ more) i l
 heard_more given more i j l x y = record {
   gave = Consumes-trans i.left j.left l.left given more x.gave y.gave;
   quiet = y.quiet ∙ x.quiet;
 }
 
 -- what was said of the next byte, in the session's words
-answered_now : (n : ℕ) (k : Kept) (old mid : Whole) (i j : Source) (a b : Sink) (byte : ℕ)
+answered_now : (n : ℕ) (k : Kept) (old mid : Whole) (i j : Reading) (a b : Writing) (byte : ℕ)
     (h : Heard n k old mid i j a b)
     → answers (opened old.state) (h.given ++ byte ∷ []) ≡ answers (opened old.state) h.given
     ++ answered (talk mid.state k) byte
@@ -124,12 +126,13 @@ answered_now n k old mid i j a b byte h =
     answers_snoc (opened old.state) h.given byte (is_open n k old mid i j a b h)
     ∙ ap (λ (t : Talk). answers (opened old.state) h.given ++ answered t byte) h.now
 
-next_now : (n : ℕ) (k : Kept) (old mid : Whole) (i j : Source) (a b : Sink) (byte : ℕ) (h : Heard n k old mid i j a b)
+next_now : (n : ℕ) (k : Kept) (old mid : Whole) (i j : Reading) (a b : Writing) (byte : ℕ)
+    (h : Heard n k old mid i j a b)
     → after_bytes (opened old.state) (h.given ++ byte ∷ []) ≡ next (talk mid.state k) byte
 next_now n k old mid i j a b byte h =
     after_snoc (opened old.state) h.given byte (is_open n k old mid i j a b h) ∙ ap (λ (t : Talk). next t byte) h.now
 
-answered_all : (n : ℕ) (k : Kept) (old mid new : Whole) (i j : Source) (a b c : Sink) (byte : ℕ)
+answered_all : (n : ℕ) (k : Kept) (old mid new : Whole) (i j : Reading) (a b c : Writing) (byte : ℕ)
     (h : Heard n k old mid i j a b) → TellsAll (answered (talk mid.state k) byte) mid new b c
     → TellsAll (answers (opened old.state) (h.given ++ byte ∷ [])) old new a c
 answered_all n k old mid new i j a b c byte h then =
@@ -137,7 +140,7 @@ answered_all n k old mid new i j a b c byte h then =
     (tells_on (answers (opened old.state) h.given) (answered (talk mid.state k) byte) old mid new a b c h.tells then)
 
 -- one byte more
-pub heard_on : (n : ℕ) (k k' : Kept) (old mid new : Whole) (i j l : Source) (a b c : Sink) (byte : ℕ)
+pub heard_on : (n : ℕ) (k k' : Kept) (old mid new : Whole) (i j l : Reading) (a b c : Writing) (byte : ℕ)
     → Heard n k old mid i j a b → Hears (byte ∷ []) j l → TellsAll (answered (talk mid.state k) byte) mid new b c
     → k' ≡ record {
       breakpoints = (next (talk mid.state k) byte).breakpoints;
@@ -155,7 +158,7 @@ heard_on n k k' old mid new i j l a b c byte h gave then kept goes = record {
 }
 
 -- `quit`
-pub closed : (n : ℕ) (k : Kept) (old mid new : Whole) (i j l : Source) (a b c : Sink) (byte : ℕ)
+pub closed : (n : ℕ) (k : Kept) (old mid new : Whole) (i j l : Reading) (a b c : Writing) (byte : ℕ)
     → Heard n k old mid i j a b → Hears (byte ∷ []) j l → TellsAll (answered (talk mid.state k) byte) mid new b c
     → (next (talk mid.state k) byte).is_open ≡ false → Holds old new i l a c
 closed n k old mid new i j l a b c byte h gave then shut = record {
@@ -167,7 +170,7 @@ closed n k old mid new i j l a b c byte h gave then shut = record {
 }
 
 -- the writer failed in the answer to a byte
-pub cut_at : (n : ℕ) (k : Kept) (old mid new : Whole) (i j l : Source) (a b c : Sink) (byte : ℕ)
+pub cut_at : (n : ℕ) (k : Kept) (old mid new : Whole) (i j l : Reading) (a b c : Writing) (byte : ℕ)
     → Heard n k old mid i j a b → Hears (byte ∷ []) j l → TellsPart (answered (talk mid.state k) byte) mid new b c
     → FailsToWrite old new i l a c
 cut_at n k old mid new i j l a b c byte h gave part = record {
@@ -180,11 +183,11 @@ cut_at n k old mid new i j l a b c byte h gave part = record {
       (cut_on (answers (opened old.state) h.given) (answered (talk mid.state k) byte) old mid new a b c h.tells part)));
 }
 
-nothing_more : (given : List ℕ) (i j l : Source) → Hears given i j → Hears [] j l → Hears given i l
+nothing_more : (given : List ℕ) (i j l : Reading) → Hears given i j → Hears [] j l → Hears given i l
 nothing_more given i j l x y = subst (λ (bs : List ℕ). Hears bs i l) (append-nil given) (heard_more given [] i j l x y)
 
 -- the end of the input
-pub at_end : (n : ℕ) (k : Kept) (old mid new : Whole) (i j l : Source) (a b c : Sink) → Heard n k old mid i j a b
+pub at_end : (n : ℕ) (k : Kept) (old mid new : Whole) (i j l : Reading) (a b c : Writing) → Heard n k old mid i j a b
     → Hears [] j l → IsAtEnd l.left → TellsAll (answered_at_end (talk mid.state k)) mid new b c → Holds old new i l a c
 at_end n k old mid new i j l a b c h gave end then = record {
   given = h.given;
@@ -198,8 +201,9 @@ at_end n k old mid new i j l a b c h gave end then = record {
 }
 
 -- the writer failed in the answer to the last line
-pub cut_at_end : (n : ℕ) (k : Kept) (old mid new : Whole) (i j l : Source) (a b c : Sink) → Heard n k old mid i j a b
-    → Hears [] j l → TellsPart (answered_at_end (talk mid.state k)) mid new b c → FailsToWrite old new i l a c
+pub cut_at_end : (n : ℕ) (k : Kept) (old mid new : Whole) (i j l : Reading) (a b c : Writing)
+    → Heard n k old mid i j a b → Hears [] j l → TellsPart (answered_at_end (talk mid.state k)) mid new b c
+    → FailsToWrite old new i l a c
 cut_at_end n k old mid new i j l a b c h gave part = record {
   given = h.given;
   heard = nothing_more h.given i j l h.hears gave;
@@ -211,7 +215,7 @@ cut_at_end n k old mid new i j l a b c h gave part = record {
 }
 
 -- the reader failed
-pub missed : (n : ℕ) (k : Kept) (old new : Whole) (i j l : Source) (a b : Sink) → Heard n k old new i j a b
+pub missed : (n : ℕ) (k : Kept) (old new : Whole) (i j l : Reading) (a b : Writing) → Heard n k old new i j a b
     → Keeps j.left l.left → l.misses ≡ j.misses + 1 → FailsToRead old new i l a b
 missed n k old new i j l a b h keeps more = record {
   given = h.given;
@@ -221,7 +225,7 @@ missed n k old new i j l a b h keeps more = record {
 }
 
 -- 2^64 - 1 bytes
-pub spent : (n : ℕ) (k : Kept) (old new : Whole) (i j : Source) (a b : Sink) → Heard n k old new i j a b
+pub spent : (n : ℕ) (k : Kept) (old new : Whole) (i j : Reading) (a b : Writing) → Heard n k old new i j a b
     → n ≡ 2 ^ 64 - 1 → Holds old new i j a b
 spent n k old new i j a b h all = record {
   given = h.given;
@@ -233,7 +237,7 @@ spent n k old new i j a b h all = record {
 
 -- ---- what waits is sent
 
-tells_kept : (ps : List Piece) (old new : Whole) (a b c : Sink) → TellsAll ps old new a b → KeepsPut b c
+tells_kept : (ps : List Piece) (old new : Whole) (a b c : Writing) → TellsAll ps old new a b → KeepsPut b c
     → TellsAll ps old new a c
 tells_kept ps old new a b c tells kept = record {
   went = Appends-kept a.written b.written c.written (texts ps) tells.went kept.0;
@@ -242,7 +246,7 @@ tells_kept ps old new a b c tells kept = record {
 }
 
 -- the session after n bytes, once what waits was sent
-pub heard_kept : (n : ℕ) (k : Kept) (old new : Whole) (i j : Source) (a b c : Sink) → Heard n k old new i j a b
+pub heard_kept : (n : ℕ) (k : Kept) (old new : Whole) (i j : Reading) (a b c : Writing) → Heard n k old new i j a b
     → KeepsPut b c → Heard n k old new i j a c
 heard_kept n k old new i j a b c h kept = record {
   given = h.given;
@@ -252,7 +256,7 @@ heard_kept n k old new i j a b c h kept = record {
   tells = tells_kept (answers (opened old.state) h.given) old new a b c h.tells kept;
 }
 
-then_failed : (ps : List Piece) (old new : Whole) (a b c : Sink) → TellsAll ps old new a b → FailsOnce b c
+then_failed : (ps : List Piece) (old new : Whole) (a b c : Writing) → TellsAll ps old new a b → FailsOnce b c
     → TellsAllThenFails ps old new a c
 then_failed ps old new a b c tells failed = record {
   put = Appends-kept a.written b.written c.written (texts ps) tells.went failed.0;
@@ -260,16 +264,15 @@ then_failed ps old new a b c tells failed = record {
   failed = failed.1 ∙ ap (λ x. x + 1) tells.quiet;
 }
 
-so_far_of_end : (s : State) (given : List ℕ) (l : Source) (ps : List Piece) → Ends s given l ps → AreSoFar s given l ps
+so_far_of_end : (s : State) (given : List ℕ) (l : Reading) (ps : List Piece) → Ends s given l ps → AreSoFar s given l ps
 so_far_of_end s given l ps (inl (end, all)) = inr (end, all)
 so_far_of_end s given l ps (inr (inl (shut, so_far))) = inl so_far
 so_far_of_end s given l ps (inr (inr (count, so_far))) = inl so_far
 
 -- a session that has ended sends what waits
-pub ended : (old new : Whole) (i l : Source) (a b c : Sink) (waits : List ℕ) (result : Result (Unit {0}) SessionError)
-    → Holds old new i l a b → SendsRest b c waits result
-    → Sessions old new i l a c result × NothingWaits waits result
-ended old new i l a b c waits (Ok done) h sends = (
+pub ended : (old new : Whole) (i l : Reading) (a b c : Writing) (result : Result (Unit {0}) SessionError)
+    → Holds old new i l a b → SendsRest b c result → Sessions old new i l a c result × NothingWaits c result
+ended old new i l a b c (Ok done) h sends = (
   record {
     given = h.given;
     heard = h.heard;
@@ -279,8 +282,8 @@ ended old new i l a b c waits (Ok done) h sends = (
   },
   sends.1,
 )
-ended old new i l a b c waits (Err Read) h sends = absurd sends
-ended old new i l a b c waits (Err Write) h sends = (
+ended old new i l a b c (Err Read) h sends = absurd sends
+ended old new i l a b c (Err Write) h sends = (
   record {
     given = h.given;
     heard = h.heard;
@@ -294,17 +297,17 @@ ended old new i l a b c waits (Err Write) h sends = (
 )
 
 -- the reader failed, or what waits couldn't be sent before it was called
-pub not_taken : (n : ℕ) (k : Kept) (old new : Whole) (i j l : Source) (a b c : Sink) (waits : List ℕ)
-    (error : SessionError) → Heard n k old new i j a b → TakesNext j l b c waits (Err error)
-    → Sessions old new i l a c (Err error) × NothingWaits waits (Err error)
-not_taken n k old new i j l a b c waits Read h takes = (
+pub not_taken : (n : ℕ) (k : Kept) (old new : Whole) (i j l : Reading) (a b c : Writing) (error : SessionError)
+    → Heard n k old new i j a b → TakesNext j l b c (Err error)
+    → Sessions old new i l a c (Err error) × NothingWaits c (Err error)
+not_taken n k old new i j l a b c Read h takes = (
   missed n k old new i j l a c (heard_kept n k old new i j a b c h takes.2) takes.0 takes.1,
   takes.3,
 )
-not_taken n k old new i j l a b c waits Write h takes = (
+not_taken n k old new i j l a b c Write h takes = (
   record {
     given = h.given;
-    heard = subst (λ (s : Source). Hears h.given i s) (sym takes.0) h.hears;
+    heard = subst (λ (s : Reading). Hears h.given i s) (sym takes.0) h.hears;
     tells = inr (record {
       pieces = answers (opened old.state) h.given;
       so_far = inl refl;

@@ -1,8 +1,8 @@
 -- Texts that are put one after another.
 use Rattle.std.proofs.Common.{◌≡◌, ℕ, Bool, List, ◌++◌, append_assoc, refl}
 use Rattle.debugger.specs.StateText.{numbers_below, set_line}
-use Rattle.reference.specs.declared.exception.TheConstants.{EXCEPTIONS}
-use Rattle.reference.specs.Text.{line_feed}
+use Rattle.platform.specs.declared.exception.TheConstants.{EXCEPTIONS}
+use Rattle.platform.specs.Text.{line_feed}
 
 pub in_six : (a b c d e f x y z u v w : List ℕ) → u ≡ a → v ≡ u ++ b → w ≡ v ++ c → x ≡ w ++ d → y ≡ x ++ e → z ≡ y ++ f
     → z ≡ a ++ (b ++ (c ++ (d ++ (e ++ f))))

@@ -2,7 +2,7 @@
 use Rattle.std.proofs.Common.{◌≡◌, ℕ, suc, ◌+◌, List, ◌++◌, Option, append_assoc, ◌∙◌, ap, arith}
 use Rattle.debugger_commands.specs.Texts.{byte_text, bytes_text}
 use Rattle.instruction_set.specs.Words.{word_sum}
-use Rattle.reference.specs.Memory.{Memory, byte_at}
+use Rattle.platform.specs.Memory.{Memory, byte_at}
 
 -- one byte more
 pub byte_more : (page now new : List ℕ) (m : Memory) (a n place : ℕ) (byte : Option ℕ) → now ≡ page ++ bytes_text m a n

@@ -8,11 +8,11 @@ use Rattle.debugger.specs.Sessions.{last_state, texts}
 use Rattle.machine.proofs.Running.{after_more, none_made, none_shown, shown_more}
 use Rattle.machine.specs.Foresight.{is_instruction_next}
 use Rattle.machine.specs.Tasks.{end_of}
-use Rattle.reference.specs.declared.stop.Stop.{Stop}
+use Rattle.platform.specs.declared.stop.Stop.{Stop}
 use Rattle.reference.specs.Run.{after, events_of}
 use Rattle.reference.specs.State.{State}
 use Rattle.reference.specs.Step.{step}
-use Rattle.reference.specs.Text.{lines}
+use Rattle.platform.specs.Text.{lines}
 use Rattle.task_laws.specs.declared.task.TaskEnd.{TaskEnd}
 use Rattle.task_laws.specs.Tasks.{AreInstructions, Ends}
 

@@ -5,10 +5,11 @@ use Rattle.std.proofs.lemmas.Bool.Decides.{nat_tests}
 use Rattle.debugger.proofs.Running.{step_cut, step_more}
 use Rattle.debugger.proofs.Telling.{Told}
 use Rattle.debugger.specs.Answers.{Piece, step_piece, task_on, task_piece}
-use Rattle.debugger.specs.Sessions.{Sink, TellsAll, TellsPart}
+use Rattle.debugger.specs.Sessions.{TellsAll, TellsPart}
 use Rattle.machine.specs.Foresight.{is_instruction_next}
 use Rattle.machine.specs.Tasks.{end_of}
 use Rattle.machine.specs.Whole.{Whole}
+use Rattle.output.specs.Output.{Writing}
 use Rattle.reference.specs.State.{State}
 use Rattle.reference.specs.Step.{step}
 use Rattle.task_laws.specs.declared.task.TaskEnd.{TaskEnd}
@@ -28,7 +29,7 @@ task_goes zero s some goes = absurd (let wrong : 0 < 0 = some in omega arith)
 task_goes (suc n) s some goes = let e : suc n - 1 ≡ n = omega arith in rw (goes, e) refl
 
 -- one step more
-pub task_more : (left : ℕ) (all : List Piece) (old mid new : Whole) (a b c : Sink) → 0 < left
+pub task_more : (left : ℕ) (all : List Piece) (old mid new : Whole) (a b c : Writing) → 0 < left
     → is_instruction_next mid.state ≡ true → Told all (task_on left mid.state) old mid a b
     → TellsAll (step_piece mid.state ∷ []) mid new b c → Told all (task_on (left - 1) new.state) old new a c
 task_more left all old mid new a b c some goes so_far then =
@@ -36,7 +37,7 @@ task_more left all old mid new a b c some goes so_far then =
     (subst (λ (ps : List Piece). Told all ps old mid a b) (task_goes left mid.state some goes) so_far) then
 
 -- a step that was cut
-pub task_cut : (left : ℕ) (all : List Piece) (old mid new : Whole) (a b c : Sink) → 0 < left
+pub task_cut : (left : ℕ) (all : List Piece) (old mid new : Whole) (a b c : Writing) → 0 < left
     → is_instruction_next mid.state ≡ true → Told all (task_on left mid.state) old mid a b
     → TellsPart (step_piece mid.state ∷ []) mid new b c → TellsPart all old new a c
 task_cut left all old mid new a b c some goes so_far then =
@@ -44,7 +45,7 @@ task_cut left all old mid new a b c some goes so_far then =
     (subst (λ (ps : List Piece). Told all ps old mid a b) (task_goes left mid.state some goes) so_far) then
 
 -- the end is what is left
-pub task_ends : (left : ℕ) (end : TaskEnd) (all : List Piece) (old mid : Whole) (a b : Sink)
+pub task_ends : (left : ℕ) (end : TaskEnd) (all : List Piece) (old mid : Whole) (a b : Writing)
     → (left ≡ 0) ⊎ (is_instruction_next mid.state ≡ false) → end ≡ end_of mid.state.stop (nat_lt 0 left)
     → Told all (task_on left mid.state) old mid a b → Told all (task_piece mid.state end ∷ []) old mid a b
 task_ends left end all old mid a b ends same so_far =

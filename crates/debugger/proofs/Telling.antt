@@ -1,10 +1,10 @@
 -- Pieces that go out one after another.
-use Rattle.std.proofs.Common.{◌≡◌, ◌+◌, List, [], ◌∷◌, ◌++◌, refl, sym, ◌∙◌, ap, append_assoc}
+use Rattle.std.proofs.Common.{◌≡◌, ◌+◌, List, [], ◌∷◌, ◌++◌, Result, Ok, Err, refl, sym, ◌∙◌, ap, append_assoc}
 use Rattle.std.proofs.KnownBytes.{Appends-nil, Appends-trans}
 use Rattle.debugger.specs.Answers.{Piece}
-use Rattle.debugger.specs.Sessions.{Sink, TellsAll, TellsPart, texts, last_state}
+use Rattle.debugger.specs.Sessions.{Tells, TellsAll, TellsPart, texts, last_state}
 use Rattle.machine.specs.Whole.{Whole}
-use Rattle.output.specs.Output.{IsCutShort}
+use Rattle.output.specs.Output.{IsCutShort, Writing}
 use Rattle.reference.specs.State.{State}
 
 pub texts-append : (xs ys : List Piece) → texts (xs ++ ys) ≡ texts xs ++ texts ys
@@ -16,17 +16,17 @@ last-append s [] ys = refl
 last-append s (x ∷ xs) ys = last-append x.state xs ys
 
 -- no piece
-pub tells_none : (m : Whole) (a : Sink) → TellsAll [] m m a a
+pub tells_none : (m : Whole) (a : Writing) → TellsAll [] m m a a
 tells_none m a = record { went = Appends-nil a.written; stands = refl; quiet = refl }
 
 -- one piece was cut
-pub one_cut : (p : Piece) (old new : Whole) (a b : Sink) → IsCutShort a.written b.written p.text
+pub one_cut : (p : Piece) (old new : Whole) (a b : Writing) → IsCutShort a.written b.written p.text
     → new ≡ record old { state = p.state } → b.errors ≡ a.errors + 1 → TellsPart (p ∷ []) old new a b
 one_cut p old new a b cut stands failed =
     record { done = []; piece = p; others = []; among = refl; stands = stands; cut = cut; failed = failed }
 
 -- some pieces went out, and then more
-pub tells_on : (xs ys : List Piece) (old mid new : Whole) (a b c : Sink) → TellsAll xs old mid a b
+pub tells_on : (xs ys : List Piece) (old mid new : Whole) (a b c : Writing) → TellsAll xs old mid a b
     → TellsAll ys mid new b c → TellsAll (xs ++ ys) old new a c
 tells_on xs ys old mid new a b c first then = record {
   went = rw texts-append (Appends-trans a.written b.written c.written (texts xs) (texts ys) first.went then.went);
@@ -36,7 +36,7 @@ tells_on xs ys old mid new a b c first then = record {
 }
 
 -- some pieces went out, and then one of more was cut
-pub cut_on : (xs ys : List Piece) (old mid new : Whole) (a b c : Sink) → TellsAll xs old mid a b
+pub cut_on : (xs ys : List Piece) (old mid new : Whole) (a b c : Writing) → TellsAll xs old mid a b
     → TellsPart ys mid new b c → TellsPart (xs ++ ys) old new a c
 cut_on xs ys old mid new a b c first then = record {
   done = xs ++ then.done;
@@ -57,7 +57,7 @@ cut_on xs ys old mid new a b c first then = record {
 }
 
 -- more pieces would have come
-pub cut_before : (xs ys : List Piece) (old new : Whole) (a b : Sink) → TellsPart xs old new a b
+pub cut_before : (xs ys : List Piece) (old new : Whole) (a b : Writing) → TellsPart xs old new a b
     → TellsPart (xs ++ ys) old new a b
 cut_before xs ys old new a b part = record {
   done = part.done;
@@ -70,16 +70,16 @@ cut_before xs ys old new a b part = record {
 }
 
 -- the pieces of a list that went out so far
-pub record Told (all rest : List Piece) (old new : Whole) (a b : Sink) : Type 0 where
+pub record Told (all rest : List Piece) (old new : Whole) (a b : Writing) : Type 0 where
   pub done : List Piece
   pub whole : done ++ rest ≡ all
   pub tells : TellsAll done old new a b
 
-pub tells_nothing : (all : List Piece) (m : Whole) (a : Sink) → Told all all m m a a
+pub tells_nothing : (all : List Piece) (m : Whole) (a : Writing) → Told all all m m a a
 tells_nothing all m a = record { done = []; whole = refl; tells = tells_none m a }
 
 -- one piece more
-pub one_more : (all rest : List Piece) (p : Piece) (old mid new : Whole) (a b c : Sink)
+pub one_more : (all rest : List Piece) (p : Piece) (old mid new : Whole) (a b c : Writing)
     → Told all (p ∷ rest) old mid a b → TellsAll (p ∷ []) mid new b c → Told all rest old new a c
 one_more all rest p old mid new a b c so_far then = record {
   done = so_far.done ++ p ∷ [];
@@ -88,13 +88,19 @@ one_more all rest p old mid new a b c so_far then = record {
 }
 
 -- the last pieces
-pub tells_all : (all rest : List Piece) (old mid new : Whole) (a b c : Sink) → Told all rest old mid a b
+pub tells_all : (all rest : List Piece) (old mid new : Whole) (a b c : Writing) → Told all rest old mid a b
     → TellsAll rest mid new b c → TellsAll all old new a c
 tells_all all rest old mid new a b c so_far then =
     rw (sym so_far.whole) (tells_on so_far.done rest old mid new a b c so_far.tells then)
 
 -- the last pieces were cut
-pub rest_cut : (all rest : List Piece) (old mid new : Whole) (a b c : Sink) → Told all rest old mid a b
+pub rest_cut : (all rest : List Piece) (old mid new : Whole) (a b c : Writing) → Told all rest old mid a b
     → TellsPart rest mid new b c → TellsPart all old new a c
 rest_cut all rest old mid new a b c so_far then =
     rw (sym so_far.whole) (cut_on so_far.done rest old mid new a b c so_far.tells then)
+
+-- the last pieces went out, or were cut
+pub tells_rest : {A E : Type 0} (all rest : List Piece) (old mid new : Whole) (a b c : Writing) (result : Result A E)
+    → Told all rest old mid a b → Tells rest mid new b c result → Tells all old new a c result
+tells_rest all rest old mid new a b c (Ok done) so_far then = tells_all all rest old mid new a b c so_far then
+tells_rest all rest old mid new a b c (Err error) so_far then = rest_cut all rest old mid new a b c so_far then

@@ -4,6 +4,8 @@ use Rattle.std.specs.Prelude.{◌∷◌, ◌++◌, codes, Option, Some, None, Re
 use Rattle.debugger_commands.specs.declared.commands.Command.{Command}
 use Rattle.debugger_commands.specs.declared.commands.Command.TheVariants as command
 use Rattle.debugger_commands.specs.declared.commands.LineError.{LineError}
+use Rattle.debugger_commands.specs.declared.commands.Part.{Part}
+use Rattle.debugger_commands.specs.declared.commands.Part.TheVariants as part
 use Rattle.debugger_commands.specs.Breakpoints.{breakpoint_text, has}
 use Rattle.debugger_commands.specs.Commands.{steps_of, task_steps_of}
 use Rattle.debugger_commands.specs.Texts.{decision_text, end_text, error_text, general_lines, memory_text, region_lines}
@@ -12,12 +14,12 @@ use Rattle.machine.specs.declared.readers.RegValues.{RegValues}
 use Rattle.machine.specs.Foresight.{is_instruction_next}
 use Rattle.machine.specs.Tasks.{end_of}
 use Rattle.machine.specs.Values.{values_of}
-use Rattle.reference.specs.declared.mpu.TheConstants.{MOST_REGIONS}
-use Rattle.reference.specs.Priorities.{is_below_zero}
-use Rattle.reference.specs.Rules.{decision_of}
+use Rattle.platform.specs.declared.mpu.TheConstants.{MOST_REGIONS}
+use Rattle.platform.specs.Priorities.{is_below_zero}
+use Rattle.platform.specs.Rules.{decision_of}
 use Rattle.reference.specs.State.{State}
 use Rattle.reference.specs.Step.{step}
-use Rattle.reference.specs.Text.{line_feed, lines, stop_line}
+use Rattle.platform.specs.Text.{line_feed, lines, stop_line}
 use Rattle.task_laws.specs.declared.task.TaskEnd.{TaskEnd}
 use Rattle.task_laws.specs.declared.task.TaskEnd.TheVariants as task_end
 use Rattle.task_laws.specs.Tasks.{is_task}
@@ -98,6 +100,16 @@ task_pieces n s =
     if is_some s.stop || is_task s then task_on n s
     else task_piece s task_end.NotTask ∷ []
 
+-- ---- commands that show a part of the machine
+
+-- the text for a part of the machine
+abbrev pub part_text : State → Part → List ℕ
+part_text s part.Regs = registers_text (values_of s.registers s.bus.system.nvic.masks)
+part_text s (part.Memory a n) = memory_text s.bus.memory a (n + 1)
+part_text s part.Regions = region_lines s.bus.system.mpu MOST_REGIONS
+part_text s (part.Explain a privileged kind) =
+    decision_text (decision_of s.bus.system.mpu a kind privileged (is_below_zero s.bus.system.nvic))
+
 -- ---- all commands
 
 -- the text of an answer that makes no step; `quit` has none
@@ -106,11 +118,7 @@ reply_text s breakpoints (Err why) = error_text why
 reply_text s breakpoints (Ok (command.Run n)) = []
 reply_text s breakpoints (Ok (command.Task n)) = []
 reply_text s breakpoints (Ok (command.Break a)) = breakpoint_text breakpoints a
-reply_text s breakpoints (Ok command.Regs) = registers_text (values_of s.registers s.bus.system.nvic.masks)
-reply_text s breakpoints (Ok (command.Memory a n)) = memory_text s.bus.memory a (n + 1)
-reply_text s breakpoints (Ok command.Regions) = region_lines s.bus.system.mpu MOST_REGIONS
-reply_text s breakpoints (Ok (command.Explain a privileged kind)) =
-    decision_text (decision_of s.bus.system.mpu a kind privileged (is_below_zero s.bus.system.nvic))
+reply_text s breakpoints (Ok (command.Show what)) = part_text s what
 reply_text s breakpoints (Ok command.Quit) = []
 
 abbrev pub reply : State → List ℕ → Result Command LineError → List Piece

@@ -9,7 +9,8 @@ use Rattle.debugger_commands.specs.Breakpoints.{breakpoints_after}
 use Rattle.debugger_commands.specs.Commands.{command_in, quits}
 use Rattle.debugger_commands.specs.Words.{is_empty, with_byte}
 use Rattle.machine.specs.Whole.{Whole}
-use Rattle.output.specs.Output.{IsCutAfter}
+use Rattle.output.specs.Input.{Reading}
+use Rattle.output.specs.Output.{IsCutAfter, Writing}
 use Rattle.reference.specs.State.{State}
 
 -- ---- pieces of text
@@ -96,19 +97,14 @@ all_answers s given = answers (opened s) given ++ answered_at_end (after_bytes (
 
 -- ---- what of the pieces went out
 
--- a writer: the bytes that it has taken, where they are known, and how many of its calls failed
-pub record Sink : Type 0 where
-  pub written : Option (List ℕ)
-  pub errors : ℕ
-
 -- all pieces went out, and the machine is in the state of the last one
-pub record TellsAll (pieces : List Piece) (old new : Whole) (before after : Sink) : Type 0 where
+pub record TellsAll (pieces : List Piece) (old new : Whole) (before after : Writing) : Type 0 where
   pub went : Appends before.written after.written (texts pieces)
   pub stands : new ≡ record old { state = last_state old.state pieces }
   pub quiet : after.errors ≡ before.errors
 
 -- a call failed in one of the pieces: those before it went out, and a prefix of it, and the machine is in its state
-pub record TellsPart (pieces : List Piece) (old new : Whole) (before after : Sink) : Type 0 where
+pub record TellsPart (pieces : List Piece) (old new : Whole) (before after : Writing) : Type 0 where
   pub done : List Piece
   pub piece : Piece
   pub others : List Piece
@@ -118,77 +114,72 @@ pub record TellsPart (pieces : List Piece) (old new : Whole) (before after : Sin
   pub failed : after.errors ≡ before.errors + 1
 
 -- all pieces were put, and a call failed after them; the machine is in the state of the last one
-pub record TellsAllThenFails (pieces : List Piece) (old new : Whole) (before after : Sink) : Type 0 where
+pub record TellsAllThenFails (pieces : List Piece) (old new : Whole) (before after : Writing) : Type 0 where
   pub put : Appends before.written after.written (texts pieces)
   pub stands : new ≡ record old { state = last_state old.state pieces }
   pub failed : after.errors ≡ before.errors + 1
 
-abbrev pub Tells : {A E : Type 0} → List Piece → Whole → Whole → Sink → Sink → Result A E → Type 0
+abbrev pub Tells : {A E : Type 0} → List Piece → Whole → Whole → Writing → Writing → Result A E → Type 0
 Tells pieces old new before after (Ok done) = TellsAll pieces old new before after
 Tells pieces old new before after (Err error) = TellsPart pieces old new before after
 
 -- ---- a whole session
 
--- a reader: the bytes that it has left, where they are known, and how many of its calls failed
-pub record Source : Type 0 where
-  pub left : Option (List ℕ)
-  pub misses : ℕ
-
 -- the bytes that a session read are those that the reader returned, and no call of it failed
-pub record Hears (given : List ℕ) (before after : Source) : Type 0 where
+pub record Hears (given : List ℕ) (before after : Reading) : Type 0 where
   pub gave : Consumes before.left after.left given
   pub quiet : after.misses ≡ before.misses
 
 -- one byte, or the end of the input; or a call that failed
-abbrev pub GivesNext : Source → Source → Option ℕ → Type 0
+abbrev pub GivesNext : Reading → Reading → Option ℕ → Type 0
 GivesNext before after (Some byte) = Hears (byte ∷ []) before after
 GivesNext before after None = Hears [] before after × IsAtEnd after.left
 
-abbrev pub GivesByte : {E : Type 0} → Source → Source → Result (Option ℕ) E → Type 0
+abbrev pub GivesByte : {E : Type 0} → Reading → Reading → Result (Option ℕ) E → Type 0
 GivesByte before after (Ok next) = GivesNext before after next
 GivesByte before after (Err error) = Keeps before.left after.left × (after.misses ≡ before.misses + 1)
 
 -- what was put stays the same, and no call of the writer failed; or one did
-abbrev pub KeepsPut : Sink → Sink → Type 0
+abbrev pub KeepsPut : Writing → Writing → Type 0
 KeepsPut before after = Keeps before.written after.written × (after.errors ≡ before.errors)
 
-abbrev pub FailsOnce : Sink → Sink → Type 0
+abbrev pub FailsOnce : Writing → Writing → Type 0
 FailsOnce before after = Keeps before.written after.written × (after.errors ≡ before.errors + 1)
 
 -- what waits is sent before a call of the reader that may wait
-abbrev pub SendsBefore : {E : Type 0} → Bool → Sink → Sink → List ℕ → Result (Unit {0}) E → Type 0
-SendsBefore may_wait out out' waits (Ok done) = KeepsPut out out' × (may_wait ≡ true → waits ≡ [])
-SendsBefore may_wait out out' waits (Err error) = FailsOnce out out'
+abbrev pub SendsBefore : {E : Type 0} → Reading → Writing → Writing → Result (Unit {0}) E → Type 0
+SendsBefore before out out' (Ok done) = KeepsPut out out' × (before.may_wait ≡ true → out'.waits ≡ [])
+SendsBefore before out out' (Err error) = FailsOnce out out'
 
 -- One byte, or the end of the input. What waits to be sent is sent before a call of the reader that may wait, so that
 -- nothing waits where that call fails; where it can't be sent, the reader isn't called.
-abbrev pub TakesNext : Source → Source → Sink → Sink → List ℕ → Result (Option ℕ) SessionError → Type 0
-TakesNext before after out out' waits (Ok next) = GivesNext before after next × KeepsPut out out'
-TakesNext before after out out' waits (Err Read) =
-    Keeps before.left after.left × (after.misses ≡ before.misses + 1) × KeepsPut out out' × (waits ≡ [])
-TakesNext before after out out' waits (Err Write) = (after ≡ before) × FailsOnce out out'
+abbrev pub TakesNext : Reading → Reading → Writing → Writing → Result (Option ℕ) SessionError → Type 0
+TakesNext before after out out' (Ok next) = GivesNext before after next × KeepsPut out out'
+TakesNext before after out out' (Err Read) =
+    Keeps before.left after.left × (after.misses ≡ before.misses + 1) × KeepsPut out out' × (out'.waits ≡ [])
+TakesNext before after out out' (Err Write) = (after ≡ before) × FailsOnce out out'
 
 -- what waits is sent before a session ends
-abbrev pub SendsRest : Sink → Sink → List ℕ → Result (Unit {0}) SessionError → Type 0
-SendsRest out out' waits (Ok done) = KeepsPut out out' × (waits ≡ [])
-SendsRest out out' waits (Err Read) = ⊥
-SendsRest out out' waits (Err Write) = FailsOnce out out'
+abbrev pub SendsRest : Writing → Writing → Result (Unit {0}) SessionError → Type 0
+SendsRest out out' (Ok done) = KeepsPut out out' × (out'.waits ≡ [])
+SendsRest out out' (Err Read) = ⊥
+SendsRest out out' (Err Write) = FailsOnce out out'
 
 -- nothing waits to be sent after a session, unless its writer failed
-abbrev pub NothingWaits : List ℕ → Result (Unit {0}) SessionError → Type 0
-NothingWaits waits (Ok done) = waits ≡ []
-NothingWaits waits (Err Read) = waits ≡ []
-NothingWaits waits (Err Write) = Unit {0}
+abbrev pub NothingWaits : Writing → Result (Unit {0}) SessionError → Type 0
+NothingWaits out (Ok done) = out.waits ≡ []
+NothingWaits out (Err Read) = out.waits ≡ []
+NothingWaits out (Err Write) = Unit {0}
 
 -- why a session ends with no error: the input is at its end, and then a last line counts; `quit`; or 2^64 - 1 bytes
-abbrev pub Ends : State → List ℕ → Source → List Piece → Type 0
+abbrev pub Ends : State → List ℕ → Reading → List Piece → Type 0
 Ends s given after pieces =
     (IsAtEnd after.left × (pieces ≡ all_answers s given))
     ⊎ (((after_bytes (opened s) given).is_open ≡ false) × (pieces ≡ answers (opened s) given)
     ⊎ (length given ≡ 2 ^ 64 - 1) × (pieces ≡ answers (opened s) given))
 
 -- the whole session: the answers to what was read went out
-pub record Holds (old new : Whole) (before after : Source) (out out' : Sink) : Type 0 where
+pub record Holds (old new : Whole) (before after : Reading) (out out' : Writing) : Type 0 where
   pub given : List ℕ
   pub heard : Hears given before after
   pub pieces : List Piece
@@ -196,30 +187,30 @@ pub record Holds (old new : Whole) (before after : Source) (out out' : Sink) : T
   pub tells : TellsAll pieces old new out out'
 
 -- the reader failed: what it returned before was read, and the whole lines are answered
-pub record FailsToRead (old new : Whole) (before after : Source) (out out' : Sink) : Type 0 where
+pub record FailsToRead (old new : Whole) (before after : Reading) (out out' : Writing) : Type 0 where
   pub given : List ℕ
   pub gave : Consumes before.left after.left given
   pub missed : after.misses ≡ before.misses + 1
   pub tells : TellsAll (answers (opened old.state) given) old new out out'
 
 -- the pieces so far: the answers to what was read, at the end of the input that to a last line too
-abbrev pub AreSoFar : State → List ℕ → Source → List Piece → Type 0
+abbrev pub AreSoFar : State → List ℕ → Reading → List Piece → Type 0
 AreSoFar s given after pieces =
     (pieces ≡ answers (opened s) given) ⊎ (IsAtEnd after.left × (pieces ≡ all_answers s given))
 
 -- the answers to what was read were put, and the call failed that was to send those that wait
-pub record FailsToHandOn (given : List ℕ) (old new : Whole) (after : Source) (out out' : Sink) : Type 0 where
+pub record FailsToHandOn (given : List ℕ) (old new : Whole) (after : Reading) (out out' : Writing) : Type 0 where
   pub pieces : List Piece
   pub so_far : AreSoFar old.state given after pieces
   pub tells : TellsAllThenFails pieces old new out out'
 
 -- the writer failed in the answers to what was read, or behind all of them
-pub record FailsToWrite (old new : Whole) (before after : Source) (out out' : Sink) : Type 0 where
+pub record FailsToWrite (old new : Whole) (before after : Reading) (out out' : Writing) : Type 0 where
   pub given : List ℕ
   pub heard : Hears given before after
   pub tells : TellsPart (all_answers old.state given) old new out out' ⊎ FailsToHandOn given old new after out out'
 
-abbrev pub Sessions : Whole → Whole → Source → Source → Sink → Sink → Result (Unit {0}) SessionError → Type 0
+abbrev pub Sessions : Whole → Whole → Reading → Reading → Writing → Writing → Result (Unit {0}) SessionError → Type 0
 Sessions old new before after out out' (Ok done) = Holds old new before after out out'
 Sessions old new before after out out' (Err Read) = FailsToRead old new before after out out'
 Sessions old new before after out out' (Err Write) = FailsToWrite old new before after out out'

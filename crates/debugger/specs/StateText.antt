@@ -3,12 +3,12 @@ use Rattle.std.specs.Prelude.{ℕ, zero, suc, Bool, if◌then◌else◌, List, [
 use Rattle.debugger.specs.Answers.{registers_text}
 use Rattle.debugger_commands.specs.Texts.{region_lines, register_line}
 use Rattle.machine.specs.Values.{values_of}
-use Rattle.reference.specs.declared.exception.TheConstants.{EXCEPTIONS}
-use Rattle.reference.specs.declared.mpu.TheConstants.{MOST_REGIONS}
-use Rattle.reference.specs.Priorities.{is_in}
+use Rattle.platform.specs.declared.exception.TheConstants.{EXCEPTIONS}
+use Rattle.platform.specs.declared.mpu.TheConstants.{MOST_REGIONS}
+use Rattle.platform.specs.Priorities.{is_in}
 use Rattle.reference.specs.State.{State}
-use Rattle.reference.specs.Status.{Status}
-use Rattle.reference.specs.Text.{line_feed}
+use Rattle.platform.specs.Status.{Status}
+use Rattle.platform.specs.Text.{line_feed}
 
 -- the clock: how many ticks have gone by, in decimal
 abbrev pub clock_line : ℕ → List ℕ

@@ -3,30 +3,11 @@
 ghost use Rattle.std.specs.Prelude.{◌≡◌, ◌-◌, [], ◌∷◌};
 ghost use Rattle.debugger.specs.Answers.{end_piece, ends_at, is_hit, run_on, run_pieces, step_piece};
 ghost use Rattle.debugger.specs.Sessions.{Tells};
-ghost use Rattle.output.specs.Output.{Put};
-ghost use Rattle.reference.specs.Step.{step};
-ghost use Rattle.reference.specs.Text.{lines};
-ghost use Rattle.trace.specs.Selection.{selected_text};
-ghost use Rattle.trace.specs.declared.selection.TraceSelection.{TraceSelection};
-ghost use Rattle.trace.specs.declared.selection.TraceSelection.TheVariants as which;
 
 use debugger_commands::{Breakpoints, end_text};
 use machine::{
-    Decider, DueTicks, IoError, KeptCode, Levels, LineRoom, Machine, Out, TraceSelection,
-    is_instruction,
+    Decider, DueTicks, IoError, KeptCode, Levels, LineRoom, Machine, Out, is_instruction,
 };
-use output::{EventLines, View};
-
-/// Every event of a step in a session. The type is the session's own, so that a run has a copy of the step to itself,
-/// which is then inlined into its loop.
-#[derive(Drop)]
-struct SteppedEvents;
-
-impl View for SteppedEvents {
-    ghost SELECTION = { which.All };
-
-    const SELECTION: TraceSelection = TraceSelection::All;
-}
 
 /// Makes a step and writes its lines.
 pub fn write_step<D: Decider, C: KeptCode, L: Levels, U: DueTicks, W: Out>(
@@ -35,42 +16,12 @@ pub fn write_step<D: Decider, C: KeptCode, L: Levels, U: DueTicks, W: Out>(
     out: &mut W,
 ) -> Result<(), IoError>
     ensures { Tells (step_piece machine.old.state ∷ []) machine.old machine.new
-        (record { written = W.written out.old; errors = W.errors out.old })
-        (record { written = W.written out.new; errors = W.errors out.new }) result }
+        (W.writing out.old) (W.writing out.new) result }
 {
-    match put_step(machine, room, out) {
+    match machine.write_step(room, out) {
         Ok(()) => Ok(()),
         Err(error) => Err(error),
     }
-}
-
-/// Makes a step and writes its lines, as `Machine::write_step` does.
-fn put_step<D: Decider, C: KeptCode, L: Levels, U: DueTicks, W: Out>(
-    machine: &mut Machine<D, C, L, U>,
-    room: &mut LineRoom,
-    out: &mut W,
-) -> Result<(), IoError>
-    ensures state { machine.new ≡ record machine.old { state = (step machine.old.state).state } }
-    ensures put { Put (W.written out.old) (W.written out.new) (W.errors out.old) (W.errors out.new)
-        (lines (step machine.old.state).events) result }
-{
-    put_events(machine, room, out)
-}
-
-/// Makes a step and writes its events as the view has them: all.
-#[inline(always)]
-fn put_events<D: Decider, C: KeptCode, L: Levels, U: DueTicks, W: Out>(
-    machine: &mut Machine<D, C, L, U>,
-    room: &mut LineRoom,
-    out: &mut W,
-) -> Result<(), IoError>
-    ensures state { machine.new ≡ record machine.old { state = (step machine.old.state).state } }
-    ensures put { Put (W.written out.old) (W.written out.new) (W.errors out.old) (W.errors out.new)
-        (selected_text which.All (step machine.old.state).events) result }
-{
-    let mut lines = EventLines::<W, SteppedEvents>::new(out, room);
-    machine.step_into(&mut lines);
-    lines.end()
 }
 
 /// Returns whether the next step is an instruction at a breakpoint.
@@ -99,8 +50,7 @@ fn put_end<D: Decider, C: KeptCode, L: Levels, U: DueTicks, W: Out>(
     out: &mut W,
 ) -> Result<(), IoError>
     ensures { Tells (end_piece machine.now.state ∷ []) machine.now machine.now
-        (record { written = W.written out.old; errors = W.errors out.old })
-        (record { written = W.written out.new; errors = W.errors out.new }) result }
+        (W.writing out.old) (W.writing out.new) result }
 {
     let page = end_text(machine.stop(), machine.regs().pc);
     match out.put_all(page.as_slice()) {
@@ -119,8 +69,7 @@ fn run_on<D: Decider, C: KeptCode, L: Levels, U: DueTicks, W: Out>(
     out: &mut W,
 ) -> Result<(), IoError>
     ensures { Tells (run_on breakpoints.now steps machine.old.state) machine.old machine.new
-        (record { written = W.written out.old; errors = W.errors out.old })
-        (record { written = W.written out.new; errors = W.errors out.new }) result }
+        (W.writing out.old) (W.writing out.new) result }
 {
     let mut left = steps;
     'steps: while left > 0 {
@@ -133,10 +82,7 @@ fn run_on<D: Decider, C: KeptCode, L: Levels, U: DueTicks, W: Out>(
         }
         left -= 1;
     }
-    match put_end(machine, out) {
-        Ok(()) => Ok(()),
-        Err(error) => Err(error),
-    }
+    put_end(machine, out)
 }
 
 /// Makes at most `steps` steps, and writes their lines and where the machine is then. A machine that
@@ -148,8 +94,7 @@ pub fn run<D: Decider, C: KeptCode, L: Levels, U: DueTicks, W: Out>(
     out: &mut W,
 ) -> Result<(), IoError>
     ensures { Tells (run_pieces breakpoints.now steps machine.old.state) machine.old machine.new
-        (record { written = W.written out.old; errors = W.errors out.old })
-        (record { written = W.written out.new; errors = W.errors out.new }) result }
+        (W.writing out.old) (W.writing out.new) result }
 {
     if machine.stop().is_some() {
         return put_end(machine, out);

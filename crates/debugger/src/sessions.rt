@@ -8,10 +8,10 @@ ghost use Rattle.debugger_commands.specs.Breakpoints.{breakpoints_after};
 
 use crate::runs::run;
 use crate::tasks::run_task;
-use crate::texts::{memory_text, regions_text, registers_text};
+use crate::texts::part_text;
 use debugger_commands::{
-    Breakpoints, Command, LineError, Listener, Reply, decision_text, error_text, quits, read_line,
-    steps_of, task_steps_of,
+    Breakpoints, Command, LineError, Listener, Reply, error_text, quits, read_line, steps_of,
+    task_steps_of,
 };
 use machine::{Decider, DueTicks, In, IoError, KeptCode, Levels, Machine, Out};
 use std::marker::Model;
@@ -63,12 +63,7 @@ impl Debugger {
         match asked {
             Ok(Command::Run(_) | Command::Task(_) | Command::Quit) => Reply::new(),
             Ok(Command::Break(address)) => self.breakpoints.set(address),
-            Ok(Command::Regs) => registers_text(&machine.regs()),
-            Ok(Command::Memory(address, last)) => memory_text(machine, address, last as u32 + 1),
-            Ok(Command::Regions) => regions_text(machine),
-            Ok(Command::Explain(address, privileged, kind)) => {
-                decision_text(&machine.explain(address, privileged, kind))
-            }
+            Ok(Command::Show(part)) => part_text(machine, part),
             Err(error) => error_text(error),
         }
     }
@@ -81,8 +76,7 @@ impl Debugger {
         out: &mut W,
     ) -> Result<(), IoError>
         ensures tells { Tells (answer machine.old.state self.old.breakpoints asked) machine.old machine.new
-            (record { written = W.written out.old; errors = W.errors out.old })
-            (record { written = W.written out.new; errors = W.errors out.new }) result }
+            (W.writing out.old) (W.writing out.new) result }
         ensures kept { self.new ≡ record self.old { breakpoints = breakpoints_after self.old.breakpoints asked } }
     {
         match steps_of(asked) {
@@ -107,8 +101,7 @@ impl Debugger {
         out: &mut W,
     ) -> Result<bool, IoError>
         ensures tells { Tells (line_answered (talk machine.old.state self.old)) machine.old machine.new
-            (record { written = W.written out.old; errors = W.errors out.old })
-            (record { written = W.written out.new; errors = W.errors out.new }) result }
+            (W.writing out.old) (W.writing out.new) result }
         ensures kept { GoesOn (after_line (talk machine.old.state self.old)) self.new result }
     {
         let asked = read_line(self.listener.line());
@@ -127,8 +120,7 @@ impl Debugger {
         out: &mut W,
     ) -> Result<bool, IoError>
         ensures tells { Tells (answered (talk machine.old.state self.old) byte) machine.old machine.new
-            (record { written = W.written out.old; errors = W.errors out.old })
-            (record { written = W.written out.new; errors = W.errors out.new }) result }
+            (W.writing out.old) (W.writing out.new) result }
         ensures kept { GoesOn (next (talk machine.old.state self.old) byte) self.new result }
     {
         if byte == b'\n' {
@@ -149,8 +141,7 @@ impl Debugger {
         out: &mut W,
     ) -> Result<(), IoError>
         ensures { Tells (answered_at_end (talk machine.old.state self.old)) machine.old machine.new
-            (record { written = W.written out.old; errors = W.errors out.old })
-            (record { written = W.written out.new; errors = W.errors out.new }) result }
+            (W.writing out.old) (W.writing out.new) result }
     {
         if self.listener.is_empty() {
             return Ok(());
@@ -170,12 +161,9 @@ pub fn session<D: Decider, C: KeptCode, L: Levels, U: DueTicks, I: In, W: Out>(
     reader: &mut I,
     out: &mut W,
 ) -> Result<(), SessionError>
-    ensures talked { Sessions machine.old machine.new
-        (record { left = I.left reader.old; misses = I.misses reader.old })
-        (record { left = I.left reader.new; misses = I.misses reader.new })
-        (record { written = W.written out.old; errors = W.errors out.old })
-        (record { written = W.written out.new; errors = W.errors out.new }) result }
-    ensures sent { NothingWaits (W.waits out.new) result }
+    ensures talked { Sessions machine.old machine.new (I.reading reader.old) (I.reading reader.new)
+        (W.writing out.old) (W.writing out.new) result }
+    ensures sent { NothingWaits (W.writing out.new) result }
 {
     let mut debugger = Debugger::new();
     'calls: for call in 0..u64::MAX {
@@ -201,8 +189,7 @@ pub fn session<D: Decider, C: KeptCode, L: Levels, U: DueTicks, I: In, W: Out>(
 
 /// Sends what waits, before a session ends.
 fn send_rest<W: Out>(out: &mut W) -> Result<(), SessionError>
-    ensures { SendsRest (record { written = W.written out.old; errors = W.errors out.old })
-        (record { written = W.written out.new; errors = W.errors out.new }) (W.waits out.new) result }
+    ensures { SendsRest (W.writing out.old) (W.writing out.new) result }
 {
     match out.hand_on() {
         Ok(()) => Ok(()),
@@ -212,8 +199,7 @@ fn send_rest<W: Out>(out: &mut W) -> Result<(), SessionError>
 
 /// Sends what waits, if the next call of the reader may wait.
 fn send_before<I: In, W: Out>(reader: &I, out: &mut W) -> Result<(), IoError>
-    ensures { SendsBefore (I.may_wait reader.now) (record { written = W.written out.old; errors = W.errors out.old })
-        (record { written = W.written out.new; errors = W.errors out.new }) (W.waits out.new) result }
+    ensures { SendsBefore (I.reading reader.now) (W.writing out.old) (W.writing out.new) result }
 {
     if reader.may_wait() {
         return out.hand_on();
@@ -223,10 +209,7 @@ fn send_before<I: In, W: Out>(reader: &I, out: &mut W) -> Result<(), IoError>
 
 /// Returns the next byte of the input, None at its end. Sends what waits before a call of the reader that may wait.
 fn take_next<I: In, W: Out>(reader: &mut I, out: &mut W) -> Result<Option<u8>, SessionError>
-    ensures { TakesNext (record { left = I.left reader.old; misses = I.misses reader.old })
-        (record { left = I.left reader.new; misses = I.misses reader.new })
-        (record { written = W.written out.old; errors = W.errors out.old })
-        (record { written = W.written out.new; errors = W.errors out.new }) (W.waits out.new) result }
+    ensures { TakesNext (I.reading reader.old) (I.reading reader.new) (W.writing out.old) (W.writing out.new) result }
 {
     match send_before(reader, out) {
         Ok(()) => {}
@@ -240,9 +223,8 @@ fn take_next<I: In, W: Out>(reader: &mut I, out: &mut W) -> Result<Option<u8>, S
 
 /// Returns the next byte of the input, None at its end.
 fn take_byte<I: In>(reader: &mut I) -> Result<Option<u8>, IoError>
-    ensures given { GivesByte (record { left = I.left reader.old; misses = I.misses reader.old })
-        (record { left = I.left reader.new; misses = I.misses reader.new }) result }
-    ensures failed { OnErr result (I.may_wait reader.old ≡ true) }
+    ensures given { GivesByte (I.reading reader.old) (I.reading reader.new) result }
+    ensures failed { OnErr result ((I.reading reader.old).may_wait ≡ true) }
 {
     let mut room = [0; 1];
     match reader.take(&mut room) {

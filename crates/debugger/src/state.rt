@@ -3,12 +3,12 @@
 ghost use Rattle.std.specs.Prelude.{◌≡◌, ◌+◌, ◌≤◌, ◌++◌, codes, length};
 ghost use Rattle.debugger.specs.StateText.{clock_line, number_if, numbers_below, set_line, state_text, status_lines};
 ghost use Rattle.output.specs.Output.{Put};
-ghost use Rattle.reference.specs.declared.exception.TheConstants.{EXCEPTIONS};
+ghost use Rattle.platform.specs.declared.exception.TheConstants.{EXCEPTIONS};
 
 use crate::texts::{regions_text, registers_text};
 use debugger_commands::{Reply, put_register};
 use machine::{Decider, DueTicks, IoError, KeptCode, Levels, Machine, Out, StatusRegister};
-use reference::exception::EXCEPTIONS;
+use platform::exception::EXCEPTIONS;
 use trace::page::Page;
 
 /// Room for the text of a state.
@@ -27,7 +27,7 @@ fn put_clock(page: &mut StatePage, ticks: u64)
 }
 
 /// Returns the lines of the registers of faults, of VTOR and of CCR.
-#[tactic(auto, unfolding(crate::specs::StateText::status_lines, reference::specs::Status::read_status))]
+#[tactic(auto, unfolding(crate::specs::StateText::status_lines, platform::specs::Status::read_status))]
 fn status_text<D: Decider, C: KeptCode, L: Levels, U: DueTicks>(
     machine: &Machine<D, C, L, U>,
 ) -> Reply
@@ -114,8 +114,7 @@ pub fn write_state<D: Decider, C: KeptCode, L: Levels, U: DueTicks, W: Out>(
     machine: &Machine<D, C, L, U>,
     out: &mut W,
 ) -> Result<(), IoError>
-    ensures { Put (W.written out.old) (W.written out.new) (W.errors out.old) (W.errors out.new)
-        (state_text machine.now.state) result }
+    ensures { Put (W.writing out.old) (W.writing out.new) (state_text machine.now.state) result }
 {
     let mut page = StatePage::new();
     page.put_slice(registers_text(&machine.regs()).as_slice());

@@ -18,8 +18,7 @@ fn put_task_end<D: Decider, C: KeptCode, L: Levels, U: DueTicks, W: Out>(
     out: &mut W,
 ) -> Result<(), IoError>
     ensures { Tells (task_piece machine.now.state end ∷ []) machine.now machine.now
-        (record { written = W.written out.old; errors = W.errors out.old })
-        (record { written = W.written out.new; errors = W.errors out.new }) result }
+        (W.writing out.old) (W.writing out.new) result }
 {
     let page = task_text(end);
     match out.put_all(page.as_slice()) {
@@ -36,8 +35,7 @@ fn task_on<D: Decider, C: KeptCode, L: Levels, U: DueTicks, W: Out>(
     out: &mut W,
 ) -> Result<(), IoError>
     ensures { Tells (task_on steps machine.old.state) machine.old machine.new
-        (record { written = W.written out.old; errors = W.errors out.old })
-        (record { written = W.written out.new; errors = W.errors out.new }) result }
+        (W.writing out.old) (W.writing out.new) result }
 {
     let mut room = LineRoom::new();
     let mut left = steps;
@@ -52,10 +50,7 @@ fn task_on<D: Decider, C: KeptCode, L: Levels, U: DueTicks, W: Out>(
         left -= 1;
     }
     let end = end_of_task(machine.stop(), left > 0);
-    match put_task_end(machine, end, out) {
-        Ok(()) => Ok(()),
-        Err(error) => Err(error),
-    }
+    put_task_end(machine, end, out)
 }
 
 /// Makes at most `steps` steps of a task, and writes their lines and why the run ended. A machine that
@@ -66,8 +61,7 @@ pub fn run_task<D: Decider, C: KeptCode, L: Levels, U: DueTicks, W: Out>(
     out: &mut W,
 ) -> Result<(), IoError>
     ensures { Tells (task_pieces steps machine.old.state) machine.old machine.new
-        (record { written = W.written out.old; errors = W.errors out.old })
-        (record { written = W.written out.new; errors = W.errors out.new }) result }
+        (W.writing out.old) (W.writing out.new) result }
 {
     if machine.stop().is_none() && !machine.is_task() {
         return put_task_end(machine, TaskEnd::NotTask, out);

@@ -1,13 +1,32 @@
-//! The texts of answers that show the machine: its registers, its memory and its regions.
+//! The texts of answers that show a part of the machine, and that of the end of a run of a task.
 
 ghost use Rattle.std.specs.Prelude.{◌≡◌, ◌+◌, ◌≤◌, ◌++◌, length};
-ghost use Rattle.debugger.specs.Answers.{core_lines, mask_lines, registers_text, task_text};
+ghost use Rattle.debugger.specs.Answers.{core_lines, mask_lines, part_text, registers_text, task_text};
 ghost use Rattle.debugger_commands.specs.Texts.{bytes_text, memory_text, region_lines};
-ghost use Rattle.reference.specs.declared.mpu.TheConstants.{MOST_REGIONS};
+ghost use Rattle.platform.specs.declared.mpu.TheConstants.{MOST_REGIONS};
 
-use debugger_commands::{Reply, byte_address, put_byte, put_generals, put_region, put_register};
+use debugger_commands::{
+    Part, Reply, byte_address, decision_text, put_byte, put_generals, put_region, put_register,
+};
 use machine::{Decider, DueTicks, KeptCode, Levels, Machine, RegValues, TaskEnd};
-use reference::mpu::MOST_REGIONS;
+use platform::mpu::MOST_REGIONS;
+
+/// Returns the text for a part of the machine.
+pub fn part_text<D: Decider, C: KeptCode, L: Levels, U: DueTicks>(
+    machine: &Machine<D, C, L, U>,
+    part: Part,
+) -> Reply
+    ensures { result ≡ part_text machine.now.state part }
+{
+    match part {
+        Part::Regs => registers_text(&machine.regs()),
+        Part::Memory(address, last) => memory_text(machine, address, last as u32 + 1),
+        Part::Regions => regions_text(machine),
+        Part::Explain(address, privileged, kind) => {
+            decision_text(&machine.explain(address, privileged, kind))
+        }
+    }
+}
 
 /// Appends the lines of the stack pointers, LR, PC and XPSR.
 #[tactic(auto, unfolding(crate::specs::Answers::core_lines))]

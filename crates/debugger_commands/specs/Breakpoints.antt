@@ -5,7 +5,7 @@ use Rattle.std.specs.List.{list_any}
 use Rattle.debugger_commands.specs.declared.commands.Command.{Command}
 use Rattle.debugger_commands.specs.declared.commands.Command.TheVariants as command
 use Rattle.debugger_commands.specs.declared.commands.LineError.{LineError}
-use Rattle.reference.specs.Text.{line_feed}
+use Rattle.platform.specs.Text.{line_feed}
 
 -- how many breakpoints can be set at most
 abbrev pub most_breakpoints : ℕ
@@ -32,8 +32,5 @@ breakpoints_after breakpoints (Err why) = breakpoints
 breakpoints_after breakpoints (Ok (command.Run n)) = breakpoints
 breakpoints_after breakpoints (Ok (command.Task n)) = breakpoints
 breakpoints_after breakpoints (Ok (command.Break a)) = with_breakpoint breakpoints a
-breakpoints_after breakpoints (Ok command.Regs) = breakpoints
-breakpoints_after breakpoints (Ok (command.Memory a n)) = breakpoints
-breakpoints_after breakpoints (Ok command.Regions) = breakpoints
-breakpoints_after breakpoints (Ok (command.Explain a privileged kind)) = breakpoints
+breakpoints_after breakpoints (Ok (command.Show what)) = breakpoints
 breakpoints_after breakpoints (Ok command.Quit) = breakpoints

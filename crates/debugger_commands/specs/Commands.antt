@@ -5,26 +5,11 @@ use Rattle.debugger_commands.specs.declared.commands.Command.{Command}
 use Rattle.debugger_commands.specs.declared.commands.Command.TheVariants as command
 use Rattle.debugger_commands.specs.declared.commands.LineError.{LineError}
 use Rattle.debugger_commands.specs.declared.commands.LineError.TheVariants as error
-use Rattle.debugger_commands.specs.declared.commands.Name.{Name}
-use Rattle.debugger_commands.specs.declared.commands.Name.TheVariants as name
+use Rattle.debugger_commands.specs.declared.commands.Part.TheVariants as part
 use Rattle.debugger_commands.specs.Words.{TwoWords, ThreeWords, first_word, more_words, one_word, two_words}
 use Rattle.debugger_commands.specs.Words.{three_words, number, number_within}
-use Rattle.reference.specs.declared.access.Kind.{Kind}
-use Rattle.reference.specs.declared.access.Kind.TheVariants.{Fetch, Load, Store}
-
--- the command of a name
-abbrev pub name_of : List ℕ → Option Name
-name_of text =
-    if bytes_eq text (codes "step") then Some name.Step
-    else if bytes_eq text (codes "run") then Some name.Run
-    else if bytes_eq text (codes "task") then Some name.Task
-    else if bytes_eq text (codes "break") then Some name.Break
-    else if bytes_eq text (codes "regs") then Some name.Regs
-    else if bytes_eq text (codes "mem") then Some name.Mem
-    else if bytes_eq text (codes "regions") then Some name.Regions
-    else if bytes_eq text (codes "explain") then Some name.Explain
-    else if bytes_eq text (codes "quit") then Some name.Quit
-    else None
+use Rattle.platform.specs.declared.access.Kind.{Kind}
+use Rattle.platform.specs.declared.access.Kind.TheVariants.{Fetch, Load, Store}
 
 -- p for privileged code, u for unprivileged code
 abbrev pub privilege_of : List ℕ → Option Bool
@@ -60,12 +45,12 @@ break_of None = Err error.Word
 break_of (Some a) = Ok (command.Break a)
 
 abbrev pub memory_of : Option ℕ → Option ℕ → Result Command LineError
-memory_of (Some a) (Some n) = Ok (command.Memory a (n - 1))
+memory_of (Some a) (Some n) = Ok (command.Show (part.Memory a (n - 1)))
 memory_of (Some a) None = Err error.Word
 memory_of None n = Err error.Word
 
 abbrev pub explain_of : Option ℕ → Option Bool → Option Kind → Result Command LineError
-explain_of (Some a) (Some privileged) (Some kind) = Ok (command.Explain a privileged kind)
+explain_of (Some a) (Some privileged) (Some kind) = Ok (command.Show (part.Explain a privileged kind))
 explain_of (Some a) (Some privileged) None = Err error.Word
 explain_of (Some a) None kind = Err error.Word
 explain_of None privileged kind = Err error.Word
@@ -96,23 +81,24 @@ read_explain None = Err error.Command
 read_explain (Some words) = explain_of (number words.first) (privilege_of words.others.first)
     (kind_of words.others.second)
 
--- the command of a name, with the words after it
-abbrev pub command_of : Option Name → Option (List ℕ) → Result Command LineError
-command_of None more = Err error.Command
-command_of (Some name.Step) more = alone (command.Run 1) more
-command_of (Some name.Run) more = read_run (one_word more)
-command_of (Some name.Task) more = read_task (one_word more)
-command_of (Some name.Break) more = read_break (one_word more)
-command_of (Some name.Regs) more = alone command.Regs more
-command_of (Some name.Mem) more = read_memory (two_words more)
-command_of (Some name.Regions) more = alone command.Regions more
-command_of (Some name.Explain) more = read_explain (three_words more)
-command_of (Some name.Quit) more = alone command.Quit more
+-- the command of a first word, with the words after it
+unfoldable pub command_of : List ℕ → Option (List ℕ) → Result Command LineError
+command_of word more =
+    if bytes_eq word (codes "step") then alone (command.Run 1) more
+    else if bytes_eq word (codes "run") then read_run (one_word more)
+    else if bytes_eq word (codes "task") then read_task (one_word more)
+    else if bytes_eq word (codes "break") then read_break (one_word more)
+    else if bytes_eq word (codes "regs") then alone (command.Show part.Regs) more
+    else if bytes_eq word (codes "mem") then read_memory (two_words more)
+    else if bytes_eq word (codes "regions") then alone (command.Show part.Regions) more
+    else if bytes_eq word (codes "explain") then read_explain (three_words more)
+    else if bytes_eq word (codes "quit") then alone command.Quit more
+    else Err error.Command
 
 -- the command of a line, None where the line is too long
 unfoldable pub command_in : Option (List ℕ) → Result Command LineError
 command_in None = Err error.Command
-command_in (Some line) = command_of (name_of (first_word line)) (more_words line)
+command_in (Some line) = command_of (first_word line) (more_words line)
 
 -- how many steps a run makes at most, where the command is `run` or `step`
 abbrev pub steps_of : Result Command LineError → Option ℕ
@@ -120,10 +106,7 @@ steps_of (Err why) = None
 steps_of (Ok (command.Run n)) = Some n
 steps_of (Ok (command.Task n)) = None
 steps_of (Ok (command.Break a)) = None
-steps_of (Ok command.Regs) = None
-steps_of (Ok (command.Memory a n)) = None
-steps_of (Ok command.Regions) = None
-steps_of (Ok (command.Explain a privileged kind)) = None
+steps_of (Ok (command.Show what)) = None
 steps_of (Ok command.Quit) = None
 
 -- how many steps of a task are made at most, where the command is `task`
@@ -132,10 +115,7 @@ task_steps_of (Err why) = None
 task_steps_of (Ok (command.Run n)) = None
 task_steps_of (Ok (command.Task n)) = Some n
 task_steps_of (Ok (command.Break a)) = None
-task_steps_of (Ok command.Regs) = None
-task_steps_of (Ok (command.Memory a n)) = None
-task_steps_of (Ok command.Regions) = None
-task_steps_of (Ok (command.Explain a privileged kind)) = None
+task_steps_of (Ok (command.Show what)) = None
 task_steps_of (Ok command.Quit) = None
 
 -- whether a command ends the session
@@ -144,8 +124,5 @@ quits (Err why) = false
 quits (Ok (command.Run n)) = false
 quits (Ok (command.Task n)) = false
 quits (Ok (command.Break a)) = false
-quits (Ok command.Regs) = false
-quits (Ok (command.Memory a n)) = false
-quits (Ok command.Regions) = false
-quits (Ok (command.Explain a privileged kind)) = false
+quits (Ok (command.Show what)) = false
 quits (Ok command.Quit) = true

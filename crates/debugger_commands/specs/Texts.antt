@@ -4,11 +4,11 @@ use Rattle.std.specs.Prelude.{Some, None}
 use Rattle.debugger_commands.specs.declared.commands.LineError.{LineError}
 use Rattle.debugger_commands.specs.declared.commands.LineError.TheVariants as error
 use Rattle.instruction_set.specs.Words.{word_sum}
-use Rattle.reference.specs.declared.access.Decision.{Decision}
-use Rattle.reference.specs.declared.stop.Stop.{Stop}
-use Rattle.reference.specs.Memory.{Memory, byte_at}
-use Rattle.reference.specs.Regions.{Mpu, shown}
-use Rattle.reference.specs.Text.{hex_byte, hex_word, line_feed, rule_text, stop_line}
+use Rattle.platform.specs.declared.access.Decision.{Decision}
+use Rattle.platform.specs.declared.stop.Stop.{Stop}
+use Rattle.platform.specs.Memory.{Memory, byte_at}
+use Rattle.platform.specs.Regions.{Mpu, shown}
+use Rattle.platform.specs.Text.{hex_byte, hex_word, line_feed, rule_text, stop_line}
 
 -- ---- regs: a line for each register
 

@@ -1,7 +1,7 @@
 //! The commands of a session, and how a line is read.
 
 ghost use Rattle.std.specs.Prelude.{◌≡◌, bytes_eq, option_map};
-ghost use Rattle.debugger_commands.specs.Commands.{alone, command_in, command_of, kind_of, name_of, privilege_of};
+ghost use Rattle.debugger_commands.specs.Commands.{alone, command_in, command_of, kind_of, privilege_of};
 ghost use Rattle.debugger_commands.specs.Commands.{quits, read_break, read_explain, read_memory, read_run, read_task};
 ghost use Rattle.debugger_commands.specs.Commands.{steps_of, task_steps_of};
 ghost use Rattle.debugger_commands.specs.TwoWords.{seen_two, seen_three};
@@ -10,7 +10,7 @@ use crate::numbers::{number, number_within};
 use crate::words::{
     ThreeWords, TwoWords, first_word, more_words, one_word, three_words, two_words,
 };
-use reference::access::Kind;
+use platform::access::Kind;
 
 /// The most steps of one command.
 const MOST_STEPS: u32 = 1_000_000;
@@ -24,16 +24,23 @@ pub enum Command {
     Task(u32),
     /// Set a breakpoint at an address: `break a`.
     Break(u32),
-    /// Show the core registers: `regs`.
-    Regs,
-    /// Show bytes of memory: `mem a n` as the address and `n - 1`.
-    Memory(u32, u8),
-    /// Show the regions of the MPU: `regions`.
-    Regions,
-    /// Show the rule that would decide an access: `explain a p|u r|w|x`.
-    Explain(u32, bool, Kind),
+    /// Show a part of the machine, and change nothing.
+    Show(Part),
     /// End the session: `quit`.
     Quit,
+}
+
+/// What a command shows of the machine.
+#[derive(Clone, Copy)]
+pub enum Part {
+    /// The core registers: `regs`.
+    Regs,
+    /// Bytes of memory: `mem a n` as the address and `n - 1`.
+    Memory(u32, u8),
+    /// The regions of the MPU: `regions`.
+    Regions,
+    /// The rule that would decide an access: `explain a p|u r|w|x`.
+    Explain(u32, bool, Kind),
 }
 
 /// Why a line is no command.
@@ -45,52 +52,11 @@ pub enum LineError {
     Word,
 }
 
-/// The first word of a line.
-#[derive(Clone, Copy)]
-pub enum Name {
-    Step,
-    Run,
-    Task,
-    Break,
-    Regs,
-    Mem,
-    Regions,
-    Explain,
-    Quit,
-}
-
 /// Returns whether two texts are equal.
 fn is_same(text: &[u8], other: &[u8]) -> bool
     ensures { result ≡ bytes_eq text.now other.now }
 {
     text == other
-}
-
-/// Returns the command that a word names.
-fn name_of(text: &[u8]) -> Option<Name>
-    ensures { result ≡ name_of text.now }
-{
-    if is_same(text, b"step") {
-        Some(Name::Step)
-    } else if is_same(text, b"run") {
-        Some(Name::Run)
-    } else if is_same(text, b"task") {
-        Some(Name::Task)
-    } else if is_same(text, b"break") {
-        Some(Name::Break)
-    } else if is_same(text, b"regs") {
-        Some(Name::Regs)
-    } else if is_same(text, b"mem") {
-        Some(Name::Mem)
-    } else if is_same(text, b"regions") {
-        Some(Name::Regions)
-    } else if is_same(text, b"explain") {
-        Some(Name::Explain)
-    } else if is_same(text, b"quit") {
-        Some(Name::Quit)
-    } else {
-        None
-    }
 }
 
 /// Returns whether `p` or `u` means privileged code.
@@ -129,27 +95,34 @@ pub fn read_line(line: Option<&[u8]>) -> Result<Command, LineError>
     let Some(line) = line else {
         return Err(LineError::Command);
     };
-    let name = name_of(first_word(line));
-    read_command(name, more_words(line))
+    read_command(first_word(line), more_words(line))
 }
 
-/// Returns the command of a name, with the words after it.
-fn read_command(name: Option<Name>, more: Option<&[u8]>) -> Result<Command, LineError>
-    ensures { result ≡ command_of name (option_map (λ m. m.now) more.entry) }
+/// Returns the command of a line by its first word, with the words after it.
+#[tactic(auto, unfolding(crate::specs::Commands::command_of))]
+fn read_command(word: &[u8], more: Option<&[u8]>) -> Result<Command, LineError>
+    ensures { result ≡ command_of word.now (option_map (λ m. m.now) more.entry) }
 {
-    let Some(name) = name else {
-        return Err(LineError::Command);
-    };
-    match name {
-        Name::Step => alone(Command::Run(1), more),
-        Name::Run => read_run(one_word(more)),
-        Name::Task => read_task(one_word(more)),
-        Name::Break => read_break(one_word(more)),
-        Name::Regs => alone(Command::Regs, more),
-        Name::Mem => read_memory(two_words(more)),
-        Name::Regions => alone(Command::Regions, more),
-        Name::Explain => read_explain(three_words(more)),
-        Name::Quit => alone(Command::Quit, more),
+    if is_same(word, b"step") {
+        alone(Command::Run(1), more)
+    } else if is_same(word, b"run") {
+        read_run(one_word(more))
+    } else if is_same(word, b"task") {
+        read_task(one_word(more))
+    } else if is_same(word, b"break") {
+        read_break(one_word(more))
+    } else if is_same(word, b"regs") {
+        alone(Command::Show(Part::Regs), more)
+    } else if is_same(word, b"mem") {
+        read_memory(two_words(more))
+    } else if is_same(word, b"regions") {
+        alone(Command::Show(Part::Regions), more)
+    } else if is_same(word, b"explain") {
+        read_explain(three_words(more))
+    } else if is_same(word, b"quit") {
+        alone(Command::Quit, more)
+    } else {
+        Err(LineError::Command)
     }
 }
 
@@ -210,7 +183,9 @@ fn read_memory(words: Option<TwoWords<'_>>) -> Result<Command, LineError>
         return Err(LineError::Command);
     };
     match (number(words.first), number_within(1, 256, words.second)) {
-        (Some(address), Some(count)) => Ok(Command::Memory(address, (count - 1) as u8)),
+        (Some(address), Some(count)) => {
+            Ok(Command::Show(Part::Memory(address, (count - 1) as u8)))
+        }
         _ => Err(LineError::Word),
     }
 }
@@ -227,7 +202,7 @@ fn read_explain(words: Option<ThreeWords<'_>>) -> Result<Command, LineError>
     let kind = kind_of(words.others.second);
     match (address, privileged, kind) {
         (Some(address), Some(privileged), Some(kind)) => {
-            Ok(Command::Explain(address, privileged, kind))
+            Ok(Command::Show(Part::Explain(address, privileged, kind)))
         }
         _ => Err(LineError::Word),
     }

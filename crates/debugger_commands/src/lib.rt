@@ -10,7 +10,7 @@ mod texts;
 mod words;
 
 pub use breakpoints::Breakpoints;
-pub use commands::{Command, LineError, quits, read_line, steps_of, task_steps_of};
+pub use commands::{Command, LineError, Part, quits, read_line, steps_of, task_steps_of};
 pub use listener::Listener;
 pub use texts::{
     Reply, byte_address, decision_text, end_text, error_text, put_byte, put_generals, put_region,

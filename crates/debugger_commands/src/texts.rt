@@ -5,11 +5,11 @@ ghost use Rattle.debugger_commands.specs.Texts.{byte_text, decision_text, end_te
 ghost use Rattle.debugger_commands.specs.Texts.{grant_text, region_line, region_name, register_line, spaced};
 ghost use Rattle.debugger_commands.specs.Texts.{value_text, words_line};
 ghost use Rattle.instruction_set.specs.Words.{word_sum};
-ghost use Rattle.reference.specs.Text.{line_feed};
+ghost use Rattle.platform.specs.Text.{line_feed};
 
 use crate::commands::LineError;
-use reference::access::Decision;
-use reference::stop::Stop;
+use platform::access::Decision;
+use platform::stop::Stop;
 use trace::page::Page;
 
 /// Room for the longest answer that isn't a trace.

@@ -2,10 +2,10 @@
 -- headers that are left.
 use Rattle.std.proofs.Common.{◌≡◌, ℕ, suc, ◌+◌, ◌-◌, ◌*◌, ◌<◌, Bool, true, false, not, if◌then◌else◌, List, [], ◌∷◌}
 use Rattle.std.proofs.Common.{◌++◌, length, Result, Ok, Err, nat_lt, refl, sym, ap, ◌∙◌, arith, append_assoc}
-use Rattle.reference.specs.declared.error.LoadError.{LoadError}
-use Rattle.reference.specs.declared.error.LoadError.TheVariants.{SegmentOutsideFile}
-use Rattle.reference.specs.Images.{Segment, program_header_size, segments_of, in_front, is_segment, segment_at}
-use Rattle.reference.specs.Images.{segment_end}
+use Rattle.platform.specs.declared.error.LoadError.{LoadError}
+use Rattle.platform.specs.declared.error.LoadError.TheVariants.{SegmentOutsideFile}
+use Rattle.platform.specs.Images.{Segment, program_header_size, segments_of, in_front, is_segment, segment_at}
+use Rattle.platform.specs.Images.{segment_end}
 use Rattle.elf.specs.Segment.{segment_in}
 
 -- the segments that are read, or the first refusal

@@ -6,7 +6,7 @@ use Rattle.std.proofs.lemmas.List.Folds.{list_any_none}
 use Rattle.std.proofs.lemmas.List.Kept.{AllPairs-cons}
 use Rattle.std.proofs.lemmas.Bool.{false_from_ne_true, or_parts}
 use Rattle.std.specs.List.{All, AllPairs, list_any}
-use Rattle.reference.specs.Images.{Segment, AreAllApart, AreApart, have_overlap, share_an_address}
+use Rattle.platform.specs.Images.{Segment, AreAllApart, AreApart, have_overlap, share_an_address}
 
 -- where the test finds no address of both, there is none
 apart_from : (one other : Segment) → share_an_address one other ≡ false → AreApart one other

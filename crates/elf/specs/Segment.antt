@@ -1,8 +1,8 @@
 -- How the loader's values are read as those of the reference.
 use Rattle.std.specs.Prelude.{◌≡◌, ℕ, List, length, nat_lt, if◌then◌else◌, Result, Ok, Err}
-use Rattle.reference.specs.Images.{Segment, segment_at, segment_end}
-use Rattle.reference.specs.declared.error.LoadError.{LoadError}
-use Rattle.reference.specs.declared.error.LoadError.TheVariants.{SegmentOutsideFile}
+use Rattle.platform.specs.Images.{Segment, segment_at, segment_end}
+use Rattle.platform.specs.declared.error.LoadError.{LoadError}
+use Rattle.platform.specs.declared.error.LoadError.TheVariants.{SegmentOutsideFile}
 use Rattle.elf.specs.declared.image.Segment.{Segment as Lent}
 
 -- a segment of an image, with the bytes that it borrows from the file

@@ -36,7 +36,7 @@ pub struct Image<'a> {
 
 impl<'a> Model for Image<'a> {
     ghost use Rattle.std.specs.Prelude.{List, map};
-    ghost use Rattle.reference.specs.Images.{Segment as Placed};
+    ghost use Rattle.platform.specs.Images.{Segment as Placed};
 
     ghost Value = { List Placed };
 

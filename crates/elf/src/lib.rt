@@ -3,7 +3,7 @@
 #![tactic(auto)]
 
 ghost use Rattle.std.specs.Prelude.{◌≡◌, ◌≤◌, length, IfOk};
-ghost use Rattle.reference.specs.Images.{AreAllApart, has_magic, image_of, is_32_bit_little, table_of};
+ghost use Rattle.platform.specs.Images.{AreAllApart, has_magic, image_of, is_32_bit_little, table_of};
 
 mod image;
 mod number;
@@ -14,9 +14,9 @@ pub use image::{Image, MOST_SEGMENTS, Segment};
 pub use number::{halfword, word};
 use overlap::have_overlap;
 pub use overlap::share_an_address;
+pub use platform::error::LoadError;
 use program_header::image_of_headers;
 pub use program_header::{P_FILESZ, P_OFFSET, PROGRAM_HEADER_SIZE, is_segment, segment_of_header};
-pub use reference::error::LoadError;
 
 /// The size of the ELF header in bytes ("ELF Header").
 pub const ELF_HEADER_SIZE: usize = 52;
@@ -56,7 +56,7 @@ pub const EM_ARM: u16 = 40;
 
 /// Returns the image that an ELF file holds, or why the machine doesn't take the file: the first
 /// refusal in the order in which the file is checked.
-#[tactic(auto, unfolding(reference::specs::Images::image_of))]
+#[tactic(auto, unfolding(platform::specs::Images::image_of))]
 pub fn load(bytes: &[u8]) -> Result<Image<'_>, LoadError>
     ensures image { result ≡ image_of bytes.now }
     ensures apart { IfOk result (λ image. AreAllApart image) }

@@ -1,7 +1,7 @@
 //! The numbers of a file ("Data Representation"), the lowest byte first.
 
 ghost use Rattle.std.specs.Prelude.{◌≡◌, ◌+◌, ◌≤◌, length};
-ghost use Rattle.reference.specs.Images.{number_in};
+ghost use Rattle.platform.specs.Images.{number_in};
 
 use byteorder::{ByteOrder, LittleEndian};
 

@@ -2,7 +2,7 @@
 
 ghost use Rattle.std.specs.Prelude.{◌≡◌, ◌↔◌, false, map};
 ghost use Rattle.std.specs.List.{list_any};
-ghost use Rattle.reference.specs.Images.{AreAllApart, have_overlap, share_an_address, target_end};
+ghost use Rattle.platform.specs.Images.{AreAllApart, have_overlap, share_an_address, target_end};
 ghost use Rattle.elf.specs.Segment.{segment_of};
 
 use crate::image::Segment;

@@ -1,13 +1,13 @@
 //! "Program Header": the segments that a file's program headers describe.
 
 ghost use Rattle.std.specs.Prelude.{◌≡◌, ◌+◌, ◌*◌, ◌≤◌, length};
-ghost use Rattle.reference.specs.Images.{is_segment, segments_of};
+ghost use Rattle.platform.specs.Images.{is_segment, segments_of};
 ghost use Rattle.elf.specs.Segment.{Gives, segment_in, segment_of};
 
 use crate::image::{Image, MOST_SEGMENTS, Segment};
 use crate::number::word;
 use arrayvec::ArrayVec;
-use reference::error::LoadError;
+use platform::error::LoadError;
 
 /// The size of a program header in bytes.
 pub const PROGRAM_HEADER_SIZE: usize = 32;

@@ -5,7 +5,7 @@
 use board::{Board, read_board};
 use elf::{Image, load};
 use machine::{Event, Events, Fast, Place, PlaceError, event_line};
-use reference::event::EventKind;
+use platform::event::EventKind;
 use std::alloc::Global;
 use std::io::Write;
 use std::{env, fs, io};

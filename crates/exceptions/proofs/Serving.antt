@@ -5,8 +5,8 @@ use Rattle.std.proofs.Math.ListN.{drop_of_length-le}
 use Rattle.std.proofs.Math.Seq.{drop-cons}
 use Rattle.std.proofs.lemmas.List.{append-nil}
 use Rattle.reference.specs.declared.failure.Failure.{Failure}
-use Rattle.reference.specs.declared.access.Request.{Request}
-use Rattle.reference.specs.declared.event.Event.{Event}
+use Rattle.platform.specs.declared.access.Request.{Request}
+use Rattle.platform.specs.declared.event.Event.{Event}
 use Rattle.reference.specs.Accesses.{ListResult, followed, perform, perform_all, access_lines, value_of}
 use Rattle.reference.specs.State.{Bus}
 use Rattle.trace.specs.Emission.{Emission}
@@ -28,8 +28,8 @@ perform_from exception tick b qs i = perform_all exception tick b (drop i qs)
 
 front : (exception tick : ℕ) (b : Bus) (q : Request) (qs : List Request)
     → perform_all exception tick b (q ∷ qs)
-    ≡ followed (lines_by exception tick b q) (perform exception b q).bus (value_by exception b q)
-    (perform_all exception tick (perform exception b q).bus qs)
+    ≡ followed (lines_by exception tick b q) (perform exception b q).after (value_by exception b q)
+    (perform_all exception tick (perform exception b q).after qs)
 unfolding perform_all
 front exception tick b q qs = refl
 
@@ -51,19 +51,19 @@ pub one_more : (exception tick : ℕ) (b : Bus) (qs : List Request) (i value : �
     value_by exception b q ≡ Ok value
     → added_to events values (perform_from exception tick b qs i)
     ≡ added_to (events ++ lines_by exception tick b q) (values ++ value ∷ [])
-    (perform_from exception tick (perform exception b q).bus qs (i + 1)))
+    (perform_from exception tick (perform exception b q).after qs (i + 1)))
 one_more exception tick b qs i value d events values below went =
     rw (drop-cons qs i d below, add-one, front, went)
     (followed_on events values (lines_by exception tick b (get_or qs i d))
-    (perform exception b (get_or qs i d)).bus value
-    (perform_all exception tick (perform exception b (get_or qs i d)).bus (drop (suc i) qs)))
+    (perform exception b (get_or qs i d)).after value
+    (perform_all exception tick (perform exception b (get_or qs i d)).after (drop (suc i) qs)))
 
 -- an access failed: the list ends with it
 pub ended_early : (exception tick : ℕ) (b : Bus) (qs : List Request) (i : ℕ) (d : Request) (why : Failure)
     (events : List Event) (values : List ℕ) (all : ListResult) → i < length qs
     → (let q = get_or qs i d in
     value_by exception b q ≡ Err why → added_to events values (perform_from exception tick b qs i) ≡ all
-    → ((perform exception b q).bus ≡ all.bus) × (events ++ lines_by exception tick b q ≡ all.events)
+    → ((perform exception b q).after ≡ all.bus) × (events ++ lines_by exception tick b q ≡ all.events)
     × (all.failure ≡ Some why))
 ended_early exception tick b qs i d why events values all below failed rest =
     let whole = rw (drop-cons qs i d below, front, failed) at rest in (

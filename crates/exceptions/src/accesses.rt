@@ -1,17 +1,19 @@
 //! The accesses of a step, one by one, and their lines.
 
-ghost use Rattle.std.specs.Prelude.{◌≡◌, ◌+◌, ◌≤◌, ◌<◌, ◌^◌, ◌%◌, ◌++◌, length, IfOk};
+ghost use Rattle.std.specs.Prelude.{◌≡◌, ◌+◌, ◌≤◌, ◌<◌, ◌^◌, ◌++◌, length, IfOk};
 ghost use Rattle.exceptions.specs.LineBounds.{lines_of, most_lines};
-ghost use Rattle.exceptions.specs.Serving.{Serves, done_lines};
+ghost use Rattle.exceptions.specs.Serving.{Serves};
 ghost use Rattle.instruction_set.specs.Sizes.{bytes_in};
 ghost use Rattle.reference.specs.Accesses.{accessed, access_lines, value_of, perform, perform_all};
-ghost use Rattle.reference.specs.declared.event.EventKind.TheVariants.{ConsoleByte};
+ghost use Rattle.platform.specs.declared.access.Performed.TheVariants.{Done};
+ghost use Rattle.platform.specs.declared.event.EventKind.TheVariants.{ConsoleByte};
+ghost use Rattle.platform.specs.Outcomes.{IsOf};
 ghost use Rattle.trace.specs.Emission.{with_emitted};
 
-use access::{Bus, Decider, DueTicks, KeptCode, Levels, is_out};
+use access::{Bus, Decider, DueTicks, KeptCode, Levels};
 use bounded::Bounded;
-use reference::access::{Cause, DecidedAccess, MOST_REQUESTS, Performed, Request, Rule};
-use reference::event::{Event, EventKind, MOST_EVENTS};
+use platform::access::{Cause, DecidedAccess, DoneAccess, MOST_REQUESTS, Performed, Request, Rule};
+use platform::event::{Event, EventKind, MOST_EVENTS};
 use reference::failure::Failure;
 use trace::sink::Sink;
 
@@ -64,7 +66,7 @@ pub fn access<D: Decider, C: KeptCode, L: Levels, U: DueTicks, S: Sink>(
     request: &Request,
 ) -> Result<u32, Failure>
     requires { length (S.emitted events.old).events + lines_of request.now ≤ MOST_EVENTS }
-    ensures bus { bus.new ≡ (perform exception bus.old request.now).bus }
+    ensures bus { bus.new ≡ (perform exception bus.old request.now).after }
     ensures events { S.emitted events.new
         ≡ with_emitted (S.emitted events.old)
         ((S.emitted events.old).events ++ access_lines tick request.now
@@ -92,7 +94,7 @@ fn access_whole<D: Decider, C: KeptCode, L: Levels, U: DueTicks, S: Sink>(
     request: Request,
 ) -> Result<u32, Failure>
     requires { length (S.emitted events.old).events + lines_of request ≤ MOST_EVENTS }
-    ensures bus { bus.new ≡ (perform exception bus.old request).bus }
+    ensures bus { bus.new ≡ (perform exception bus.old request).after }
     ensures events { S.emitted events.new
         ≡ with_emitted (S.emitted events.old)
         ((S.emitted events.old).events ++ access_lines tick request (perform exception bus.old request).performed) }
@@ -101,9 +103,9 @@ fn access_whole<D: Decider, C: KeptCode, L: Levels, U: DueTicks, S: Sink>(
     ensures narrow { IfOk result (λ value. value < 256 ^ bytes_in request.access.size) }
 {
     match bus.perform(exception, &request) {
-        Performed::Done(rule, value) => {
-            put_done(events, tick, &request, rule);
-            Ok(value)
+        Performed::Done(done) => {
+            put_done(events, tick, &request, &done);
+            Ok(done.value)
         }
         Performed::Denied(rule, cause) => {
             events.emit(accessed(tick, &request, rule, Some(cause)));
@@ -115,15 +117,17 @@ fn access_whole<D: Decider, C: KeptCode, L: Levels, U: DueTicks, S: Sink>(
 
 /// Appends the lines of an access that was done.
 #[inline(always)]
-pub fn put_done<S: Sink>(events: &mut S, tick: u64, request: &Request, rule: Rule)
-    requires { length (S.emitted events.old).events + lines_of request.now ≤ MOST_EVENTS }
+fn put_done<S: Sink>(events: &mut S, tick: u64, request: &Request, done: &DoneAccess)
+    requires room { length (S.emitted events.old).events + lines_of request.now ≤ MOST_EVENTS }
+    requires of_request { IsOf request.now (Done done.now) }
     ensures events { S.emitted events.new
-        ≡ with_emitted (S.emitted events.old) ((S.emitted events.old).events ++ done_lines tick request.now rule) }
+        ≡ with_emitted (S.emitted events.old)
+        ((S.emitted events.old).events ++ access_lines tick request.now (Done done.now)) }
     ensures room { length (S.emitted events.new).events ≤ length (S.emitted events.old).events + lines_of request.now }
 {
-    events.emit(accessed(tick, request, rule, None));
-    if is_out(request) {
-        events.emit(console_line(tick, request.value));
+    events.emit(accessed(tick, request, done.rule, None));
+    if let Some(byte) = done.sent {
+        events.emit(console_line(tick, byte));
     }
 }
 
@@ -142,12 +146,12 @@ pub fn accessed(tick: u64, request: &Request, rule: Rule, refused: Option<Cause>
     }
 }
 
-/// Returns the line of a word whose low byte goes to the console.
-fn console_line(tick: u64, word: u32) -> Event
-    ensures { result ≡ record { tick = tick; what = ConsoleByte (word % 256) } }
+/// Returns the line of a byte that goes to the console.
+fn console_line(tick: u64, byte: u8) -> Event
+    ensures { result ≡ record { tick = tick; what = ConsoleByte byte } }
 {
     Event {
         tick,
-        what: EventKind::ConsoleByte((word % 256) as u8),
+        what: EventKind::ConsoleByte(byte),
     }
 }

@@ -11,16 +11,16 @@ ghost use Rattle.reference.specs.Faults.{supervisor_called};
 
 use crate::state::Core;
 use access::{Decider, DueTicks, KeptCode, Levels};
-use reference::access::{Access, Cause, Kind};
-use reference::event::{Event, EventKind, MOST_EVENTS, RecordedFault};
-use reference::exception::{BUS_FAULT, Escalation, HARD_FAULT, MEM_MANAGE, SV_CALL, USAGE_FAULT};
-use reference::failure::{Failure, UsageFault};
-use reference::fault_status::{
+use platform::access::{Access, Cause, Kind};
+use platform::event::{Event, EventKind, MOST_EVENTS, RecordedFault};
+use platform::exception::{BUS_FAULT, Escalation, HARD_FAULT, MEM_MANAGE, SV_CALL, USAGE_FAULT};
+use platform::fault_status::{
     BFARVALID, DACCVIOL, DIVBYZERO, FORCED, FaultAddress, FaultEffect, IACCVIOL, IBUSERR, INVPC,
     INVSTATE, MMARVALID, MSTKERR, MUNSTKERR, NOCP, PRECISERR, STKERR, UNALIGNED, UNDEFINSTR,
     UNSTKERR, VECTTBL,
 };
-use reference::stop::Stop;
+use platform::stop::Stop;
+use reference::failure::{Failure, UsageFault};
 use trace::sink::Sink;
 
 /// The length of SVC in bytes.

@@ -4,11 +4,11 @@
 
 ghost use Rattle.std.specs.Prelude.{◌≡◌, ◌^◌, ◌+◌};
 
-use reference::exception::{
+use platform::exception::{
     BUS_FAULT, EXCEPTIONS, FIRST_INTERRUPT, HARD_FAULT, MEM_MANAGE, MOST_INTERRUPTS, NMI, PEND_SV,
     SV_CALL, SYS_TICK, USAGE_FAULT,
 };
-use reference::fault_status::{
+use platform::fault_status::{
     BFARVALID, DACCVIOL, DIVBYZERO, FORCED, IACCVIOL, IBUSERR, INVPC, INVSTATE, MMARVALID, MSTKERR,
     MUNSTKERR, NOCP, PRECISERR, STKERR, UNALIGNED, UNDEFINSTR, UNSTKERR, VECTTBL,
 };

@@ -6,11 +6,12 @@ ghost use Rattle.instruction_set.specs.Frames.{returns_to_thread as returns_to_t
 ghost use Rattle.exceptions.specs.Serving.{GoesOnTo};
 ghost use Rattle.reference.specs.declared.failure.Failure.TheVariants.{Usage};
 ghost use Rattle.reference.specs.declared.failure.UsageFault.TheVariants.{InvalidReturn};
-ghost use Rattle.reference.specs.ExceptionReturn.{is_allowed as is_allowed_of, exception_ended, with_entry, chained};
+ghost use Rattle.reference.specs.ExceptionReturn.{is_allowed as is_allowed_of, with_entry, chained};
+ghost use Rattle.platform.specs.System.{exception_ended};
 ghost use Rattle.reference.specs.ExceptionReturn.{pops as pops_of, returns_privileged as returns_privileged_of};
 ghost use Rattle.reference.specs.ExceptionReturn.{pop_stack, fits_mode as fits_mode_of, unstacked, exception_return};
 ghost use Rattle.reference.specs.Faults.{failed};
-ghost use Rattle.reference.specs.Priorities.{candidate};
+ghost use Rattle.platform.specs.Priorities.{candidate};
 ghost use Rattle.reference.specs.State.{with_system};
 
 use crate::accesses::{Requests, Values};
@@ -18,11 +19,11 @@ use crate::entry::words_from;
 use crate::state::Core;
 use access::{Decider, DueTicks, KeptCode, Levels};
 use instruction_set::unpredictable::UnpredictableCase;
-use reference::access::Kind;
-use reference::event::{Event, EventKind, MOST_EVENTS};
-use reference::exception::NMI;
+use platform::access::Kind;
+use platform::event::{Event, EventKind, MOST_EVENTS};
+use platform::exception::NMI;
+use platform::stop::Stop;
 use reference::failure::{Failure, UsageFault};
-use reference::stop::Stop;
 use regs::{Regs, returns_on_psp, returns_to_handler};
 use trace::sink::Sink;
 

@@ -9,8 +9,8 @@ use Rattle.exec.proofs.Lists.{registers_between, from_0, listed_request, listed_
 use Rattle.exec.specs.Listed.{IsNext}
 use Rattle.instruction_set.specs.Registers.{Registers, with_register}
 use Rattle.instruction_set.specs.Words.{word_sum, is_bit}
-use Rattle.reference.specs.declared.access.Kind.{Kind}
-use Rattle.reference.specs.declared.access.Request.{Request}
+use Rattle.platform.specs.declared.access.Kind.{Kind}
+use Rattle.platform.specs.declared.access.Request.{Request}
 use Rattle.reference.specs.LoadStoreMultiple.{registers_below, registers_of, word_request, word_requests, loaded}
 
 -- ---- by the lowest bit of what is left of a list

@@ -5,8 +5,8 @@ use Rattle.std.specs.List.{filter, range_with_len}
 use Rattle.std.proofs.lemmas.List.{drop-drop, get_or-drop}
 use Rattle.instruction_set.specs.Registers.{Registers, with_register}
 use Rattle.instruction_set.specs.Words.{word_sum, is_bit}
-use Rattle.reference.specs.declared.access.Kind.{Kind}
-use Rattle.reference.specs.declared.access.Request.{Request}
+use Rattle.platform.specs.declared.access.Kind.{Kind}
+use Rattle.platform.specs.declared.access.Request.{Request}
 use Rattle.reference.specs.LoadStoreMultiple.{registers_below, word_request, word_requests, loaded}
 
 -- the registers of a list from one number on, below another
@@ -87,10 +87,10 @@ pub listed_loaded : (list low place : ℕ) (values : List ℕ) (r : Registers) �
     (with_register r low (slice_index values place))
     ≡ loaded (registers_between list low 15) (drop place values) r
 listed_loaded list low place values r below has =
-    let later : drop 1 (drop place values) ≡ drop (place + 1) values = drop-drop 1 place values in
+    let dropped : drop 1 (drop place values) ≡ drop (place + 1) values = drop-drop 1 place values in
     let first : slice_index (drop place values) 0 ≡ slice_index values place =
     let none : place + 0 ≡ place = omega arith in get_or-drop place values 0 0 ∙ ap (λ k. slice_index values k) none in
-    rw (listed list low 15 below has, loaded_one, later, first) refl
+    rw (listed list low 15 below has, loaded_one, dropped, first) refl
 
 -- ---- how many they are
 
@@ -98,3 +98,10 @@ listed_loaded list low place values r below has =
 pub listed_count : (list low : ℕ) → low < 15 → is_bit list low ≡ true →
     length (registers_between list low 15) ≡ length (registers_between list (low + 1) 15) + 1
 listed_count list low below has = rw (listed list low 15 below has) (omega arith)
+
+-- the accesses of two registers
+pub two_requests : (kind : Kind) (address first second : ℕ) (r : Registers)
+    → word_requests kind address (first ∷ second ∷ []) r
+    ≡ word_request kind address first r ∷ word_request kind (word_sum address 4) second r ∷ []
+unfolding word_requests
+two_requests kind address first second r = refl

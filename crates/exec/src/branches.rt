@@ -15,7 +15,7 @@ use instruction_set::operands::{
     BranchExchange, CompareAndBranch, ConditionalBranch, IfThen, TableBranch,
 };
 use instruction_set::registers::Register;
-use reference::access::{Access, Kind};
+use platform::access::{Access, Kind};
 use reference::ending::Ending;
 use reference::failure::{Failure, Traps};
 use regs::Regs;

@@ -15,11 +15,11 @@ use crate::program_counter::move_on;
 use instruction_set::instruction::{Exclusive, InstructionLength};
 use instruction_set::operands::{LoadExclusive, StoreExclusive};
 use instruction_set::registers::Register;
-use reference::access::{Access, Kind, Request};
+use platform::access::{Access, Kind, Request};
+use platform::map::has_side_effects;
+use platform::stop::{LeftOut, Stop};
 use reference::ending::Ending;
 use reference::failure::{Failure, UsageFault};
-use reference::map::has_side_effects;
-use reference::stop::{LeftOut, Stop};
 use regs::Regs;
 
 // ---- the family

@@ -9,9 +9,9 @@ use crate::{branches, exclusives, load_store, load_store_multiple, processing, s
 use bounded::Bounded;
 use instruction_set::instruction::{BlockPlace, CodedInstruction, Instruction};
 use instruction_set::unpredictable::UnpredictableCase;
-use reference::access::{MOST_REQUESTS, Request};
+use platform::access::{MOST_REQUESTS, Request};
+use platform::stop::Stop;
 use reference::failure::{Failure, Traps};
-use reference::stop::Stop;
 use regs::Regs;
 
 /// The accesses of an instruction, in their order.

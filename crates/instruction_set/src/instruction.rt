@@ -82,17 +82,17 @@ pub enum Instruction {
 /// The instructions that compute from registers and make no access.
 #[derive(Clone, Copy)]
 pub enum DataProcessing {
-    /// AND, BIC, ORR, ORN, EOR, ADD, ADC, SBC, SUB and RSB of a register and a number.
+    /// A `DataOperation` of a register and a number.
     DataImmediate(DataImmediate),
     /// The same operations of two registers, the second shifted.
     DataRegister(DataRegister),
-    /// MOV and MVN of a number.
+    /// A `MoveOperation` of a number.
     MoveImmediate(MoveImmediate),
-    /// MOV and MVN of a shifted register; so LSL, LSR, ASR and ROR by a number, and RRX, too.
+    /// A `MoveOperation` of a shifted register; so LSL, LSR, ASR and ROR by a number, and RRX, too.
     MoveRegister(MoveRegister),
     /// MOVT.
     MoveTop(MoveTop),
-    /// TST, TEQ, CMP and CMN of a register and a number.
+    /// A `Comparison` of a register and a number.
     CompareImmediate(CompareImmediate),
     /// The same comparisons of two registers, the second shifted.
     CompareRegister(CompareRegister),
@@ -102,7 +102,7 @@ pub enum DataProcessing {
     Address(Address),
     /// MUL.
     Multiply(Multiply),
-    /// MLA and MLS.
+    /// A product and an addend: an `Accumulation`.
     MultiplyAccumulate(MultiplyAccumulate),
     /// SMULL, UMULL, SMLAL and UMLAL.
     MultiplyLong(MultiplyLong),
@@ -118,7 +118,7 @@ pub enum DataProcessing {
     ClearField(ClearField),
     /// SXTB, SXTH, UXTB and UXTH.
     Extend(Extend),
-    /// REV, REV16, REVSH, RBIT and CLZ.
+    /// A `Rearrangement` of the bits of a register.
     Rearrange(Rearrange),
 }
 

@@ -7,8 +7,8 @@ use Rattle.std.proofs.lemmas.Bool.Decides.{nat_tests}
 use Rattle.std.proofs.lemmas.List.{length-take}
 use Rattle.elf.specs.declared.image.Segment.{Segment as Lent}
 use Rattle.elf.specs.Segment.{segment_of}
-use Rattle.reference.specs.Images.{Segment}
-use Rattle.reference.specs.Memory.{Memory, is_in_flash, is_in_ram, is_within, overwritten, with_bytes}
+use Rattle.platform.specs.Images.{Segment}
+use Rattle.platform.specs.Memory.{Memory, is_in_flash, is_in_ram, is_within, overwritten, with_bytes}
 use Rattle.space.proofs.Blocks.{length-with_bytes}
 use Rattle.reference.specs.Start.{is_placed, are_placed, image_loaded}
 

@@ -5,13 +5,13 @@ use Rattle.std.proofs.Common.{is_some, false, below_more}
 use Rattle.std.proofs.lemmas.List.{append-nil}
 use Rattle.std.specs.Io.KnownBytes.{Appends}
 use Rattle.std.proofs.KnownBytes.{Appends-trans}
-use Rattle.reference.specs.declared.event.Event.{Event}
-use Rattle.reference.specs.declared.stop.Stop.{Stop}
-use Rattle.reference.specs.declared.stop.Stop.TheVariants.{StepLimit}
+use Rattle.platform.specs.declared.event.Event.{Event}
+use Rattle.platform.specs.declared.stop.Stop.{Stop}
+use Rattle.platform.specs.declared.stop.Stop.TheVariants.{StepLimit}
 use Rattle.reference.specs.Run.{after, events_of, ending_of, trace}
 use Rattle.reference.specs.State.{State}
 use Rattle.reference.specs.Step.{step, unless_stopped}
-use Rattle.reference.specs.Text.{lines, line, stop_line}
+use Rattle.platform.specs.Text.{lines, line, stop_line}
 use Rattle.output.specs.Gathered.{GrowsByPrefix}
 use Rattle.output.specs.Output.{IsCutAfter, IsCutShort}
 use Rattle.trace.proofs.Selecting.{lines-append}

@@ -11,14 +11,14 @@ use Rattle.machine.specs.Runs.{Fails, Leaves}
 use Rattle.machine.specs.Selected.{SelectedFails, SelectedLeaves}
 use Rattle.machine.specs.Whole.{Whole}
 use Rattle.output.specs.Gathered.{GrowsByPrefix}
-use Rattle.output.specs.Output.{IsCutAfter, IsCutShort}
-use Rattle.reference.specs.declared.event.Event.{Event}
-use Rattle.reference.specs.declared.stop.Stop.{Stop}
-use Rattle.reference.specs.declared.stop.Stop.TheVariants.{StepLimit}
+use Rattle.output.specs.Output.{IsCutAfter, IsCutShort, Writing}
+use Rattle.platform.specs.declared.event.Event.{Event}
+use Rattle.platform.specs.declared.stop.Stop.{Stop}
+use Rattle.platform.specs.declared.stop.Stop.TheVariants.{StepLimit}
 use Rattle.reference.specs.Run.{after, events_of, ending_of}
 use Rattle.reference.specs.State.{State}
 use Rattle.reference.specs.Step.{step}
-use Rattle.reference.specs.Text.{stop_line}
+use Rattle.platform.specs.Text.{stop_line}
 use Rattle.trace.proofs.Selecting.{all_lines, last-nil, selected-append, selected-nil}
 use Rattle.trace.specs.declared.selection.TraceSelection.{TraceSelection}
 use Rattle.trace.specs.declared.selection.TraceSelection.TheVariants as which
@@ -57,17 +57,17 @@ printed_on selection last later n s core more printed now =
     rw (events_more n s, ← now) (more (events_of n s) printed)
 
 -- a step's text was cut short
-pub cut_in_step : (selection : TraceSelection) (old mid new : Option (List ℕ)) (limit n : ℕ) (s core last : State)
+pub cut_in_step : (selection : TraceSelection) (old mid new : Writing) (limit n : ℕ) (s core last : State)
     → n < limit → ((k : ℕ) → k < n + 1 → (after k s).stop ≡ None) → last ≡ after (n + 1) s
-    → Appends old mid (selected_text selection (events_of n s))
-    → IsCutShort mid new (selected_text selection (step core).events) → core ≡ after n s
+    → Appends old.written mid.written (selected_text selection (events_of n s))
+    → IsCutShort mid.written new.written (selected_text selection (step core).events) → core ≡ after n s
     → SelectedLeaves selection limit s (n + 1) old new last
 cut_in_step selection old mid new limit n s core last few made state shown cut now =
     let back : n + 1 - 1 ≡ n = omega arith in
     let whole :
-    IsCutAfter old new (selected_text selection (events_of n s))
+    IsCutAfter old.written new.written (selected_text selection (events_of n s))
     (selected_text selection (step (after n s)).events) =
-    rw (← now) (cut_after old mid new _ _ shown cut) in
+    rw (← now) (cut_after old.written mid.written new.written _ _ shown cut) in
     record {
       few = omega arith;
       made = made;
@@ -85,18 +85,19 @@ end_is selection limit n s core last stop few now printed same ends =
     let done = over n limit s few ends in (done.1, rw (printed, same, now, done.0) refl)
 
 -- the end was cut short
-pub cut_in_end : (selection : TraceSelection) (old mid new : Option (List ℕ)) (limit n : ℕ) (s core : State)
+pub cut_in_end : (selection : TraceSelection) (old mid new : Writing) (limit n : ℕ) (s core : State)
     (last : Option ℕ) (stop : Stop) → n ≤ limit → ((k : ℕ) → k < n → (after k s).stop ≡ None) → core ≡ after n s
-    → Appends old mid (selected_text selection (events_of n s)) → last ≡ last_printed selection (events_of n s)
-    → stop ≡ unwrap_or core.stop StepLimit → IsCutShort mid new (new_line_after last ++ stop_line stop)
+    → Appends old.written mid.written (selected_text selection (events_of n s))
+    → last ≡ last_printed selection (events_of n s) → stop ≡ unwrap_or core.stop StepLimit
+    → IsCutShort mid.written new.written (new_line_after last ++ stop_line stop)
     → (n ≡ limit) ⊎ IsSome core.stop → SelectedLeaves selection limit s n old new core
 cut_in_end selection old mid new limit n s core last stop few made now shown printed same cut ends =
     let ends' : (n ≡ limit) ⊎ IsSome (after n s).stop = rw (← now) ends in
     let e = end_is selection limit n s core last stop few now printed same ends' in
     let whole :
-    IsCutAfter old new (selected_text selection (events_of limit s))
+    IsCutAfter old.written new.written (selected_text selection (events_of limit s))
     (selected_end selection (events_of limit s) (ending_of limit s)) =
-    rw (e.0, ← e.1) (cut_after old mid new _ _ shown cut) in
+    rw (e.0, ← e.1) (cut_after old.written mid.written new.written _ _ shown cut) in
     record { few = few; made = made; state = now; cut = inr (ends', whole) }
 
 -- the whole selected trace went out
@@ -126,21 +127,22 @@ text_continues selection m n s few =
     )
 
 -- what a run that was cut short put is a prefix of the selected trace
-pub selected_left_prefix : (selection : TraceSelection) (n : ℕ) (s : State) (steps : ℕ) (old new : Option (List ℕ))
+pub selected_left_prefix : (selection : TraceSelection) (n : ℕ) (s : State) (steps : ℕ) (old new : Writing)
     (last : State) → SelectedLeaves selection n s steps old new last
-    → GrowsByPrefix old new (selected_trace selection n s)
+    → GrowsByPrefix old.written new.written (selected_trace selection n s)
 unfolding selected_trace
 selected_left_prefix selection n s steps old new last left = elim left.cut [
   | inl in_step ↦
       let few : steps - 1 + 1 ≤ n = omega (arith, in_step.0, left.few) in
       let all = text_continues selection (steps - 1) n s few in
       let end = selected_end selection (events_of n s) (ending_of n s) in
-      prefix_of old new _ _ (selected_text selection all.0 ++ end) _ in_step.1 (rw (all.1, append_assoc) refl)
-  | inr in_end ↦ prefix_of old new _ _ [] _ in_end.1 (rw append-nil refl)
+      prefix_of old.written new.written _ _ (selected_text selection all.0 ++ end) _ in_step.1
+      (rw (all.1, append_assoc) refl)
+  | inr in_end ↦ prefix_of old.written new.written _ _ [] _ in_end.1 (rw append-nil refl)
 ]
 
 -- with all events it is a run that writes its whole trace
-leaves_all : (n : ℕ) (s : State) (steps : ℕ) (old new : Option (List ℕ)) (last : State)
+leaves_all : (n : ℕ) (s : State) (steps : ℕ) (old new : Writing) (last : State)
     → SelectedLeaves which.All n s steps old new last → Leaves n s steps old new last
 leaves_all n s steps old new last left = record {
   few = left.few;
@@ -155,10 +157,9 @@ leaves_all n s steps old new last left = record {
   ];
 }
 
-pub fails_all : (n : ℕ) (old new : Whole) (put put' : Option (List ℕ)) (errors errors' : ℕ)
-    (result : Result Stop RunError) → IfErr result (SelectedFails which.All n old new put put' errors errors')
-    → IfErr result (Fails n old new put put' errors errors')
-fails_all n old new put put' errors errors' (Ok stop) fails = fails
-fails_all n old new put put' errors errors' (Err (Write steps)) fails =
-    (leaves_all n old.state steps put put' new.state fails.0, fails.1, fails.2)
-fails_all n old new put put' errors errors' (Err Broken) fails = fails
+pub fails_all : (n : ℕ) (old new : Whole) (out out' : Writing) (result : Result Stop RunError)
+    → IfErr result (SelectedFails which.All n old new out out') → IfErr result (Fails n old new out out')
+fails_all n old new out out' (Ok stop) fails = fails
+fails_all n old new out out' (Err (Write steps)) fails =
+    (leaves_all n old.state steps out out' new.state fails.0, fails.1, fails.2)
+fails_all n old new out out' (Err Broken) fails = fails

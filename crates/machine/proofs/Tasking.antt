@@ -6,13 +6,13 @@ use Rattle.std.proofs.KnownBytes.{Appends-nil}
 use Rattle.std.specs.Io.KnownBytes.{Appends}
 use Rattle.machine.proofs.Running.{cut_after, none_made, none_shown}
 use Rattle.machine.specs.Tasks.{TaskIsCut, TaskRuns, end_of}
-use Rattle.output.specs.Output.{IsCutAfter, IsCutShort}
-use Rattle.reference.specs.declared.event.Event.{Event}
-use Rattle.reference.specs.declared.stop.Stop.{Stop}
+use Rattle.output.specs.Output.{IsCutAfter, IsCutShort, Writing}
+use Rattle.platform.specs.declared.event.Event.{Event}
+use Rattle.platform.specs.declared.stop.Stop.{Stop}
 use Rattle.reference.specs.Run.{after, events_of}
 use Rattle.reference.specs.State.{State}
 use Rattle.reference.specs.Step.{step}
-use Rattle.reference.specs.Text.{lines}
+use Rattle.platform.specs.Text.{lines}
 use Rattle.task_laws.specs.declared.task.TaskEnd.TheVariants as task_end
 use Rattle.task_laws.specs.Foresight.{is_instruction_next}
 use Rattle.task_laws.specs.Tasks.{AreInstructions, Ends}
@@ -36,14 +36,14 @@ pub ends_so : (n steps : ℕ) (core : State) → steps ≤ n → (n ≤ steps) �
 ends_so n steps core few ends = ends_by n steps core core.stop _ refl refl few ends
 
 -- a stopped machine makes no step
-pub stopped_before : (n : ℕ) (s : State) (old : Option (List ℕ)) (why : Stop) → s.stop ≡ Some why
+pub stopped_before : (n : ℕ) (s : State) (old : Writing) (why : Stop) → s.stop ≡ Some why
     → TaskRuns n s old old s (task_end.Stopped why)
 stopped_before n s old why e = record {
   steps = 0;
   few = omega arith;
   instructions = λ k below. absurd (let none : ⊥ = omega arith in none);
   state = sym (none_made s);
-  written = rw (none_shown s) (Appends-nil old);
+  written = rw (none_shown s) (Appends-nil old.written);
   ends = e;
 }
 
@@ -51,12 +51,13 @@ pub not_both : (o : Option Stop) (why : Stop) → o ≡ Some why → o ≡ None 
 not_both o why e f = cc
 
 -- the lines of a step were cut short
-pub task_is_cut : (old mid new : Option (List ℕ)) (limit n : ℕ) (s core last : State) (shown : List Event) → n < limit
-    → AreInstructions (n + 1) s → last ≡ after (n + 1) s → Appends old mid (lines (events_of n s))
-    → IsCutShort mid new (lines shown) → shown ≡ (step core).events → core ≡ after n s
+pub task_is_cut : (old mid new : Writing) (limit n : ℕ) (s core last : State) (shown : List Event) → n < limit
+    → AreInstructions (n + 1) s → last ≡ after (n + 1) s → Appends old.written mid.written (lines (events_of n s))
+    → IsCutShort mid.written new.written (lines shown) → shown ≡ (step core).events → core ≡ after n s
     → TaskIsCut limit s old new last (n + 1)
 task_is_cut old mid new limit n s core last shown few made state written cut same now =
     let back : n + 1 - 1 ≡ n = omega arith in
-    let whole : IsCutAfter old new (lines (events_of n s)) (lines (step (after n s)).events) =
-    rw (← now, ← same) (cut_after old mid new (lines (events_of n s)) (lines shown) written cut) in
+    let whole : IsCutAfter old.written new.written (lines (events_of n s)) (lines (step (after n s)).events) =
+    rw (← now, ← same)
+    (cut_after old.written mid.written new.written (lines (events_of n s)) (lines shown) written cut) in
     record { few = omega arith; instructions = made; state = state; cut = (omega arith, rw back whole) }

@@ -1,6 +1,5 @@
 pub use Rattle.task_laws.specs.Foresight
 pub use Rattle.trace.specs.Selection
-pub mod StepBounds
 pub mod Runs
 pub mod Selected
 pub mod Starts

@@ -3,12 +3,12 @@ use Rattle.std.specs.Prelude.{◌≡◌, ◌⊎◌, ℕ, ◌+◌, ◌-◌, ◌<�
 use Rattle.std.specs.Io.KnownBytes.{Keeps}
 use Rattle.machine.specs.declared.machine.RunError.{RunError}
 use Rattle.machine.specs.declared.machine.RunError.TheVariants.{Write, Broken}
-use Rattle.output.specs.Output.{IsCutAfter}
+use Rattle.output.specs.Output.{IsCutAfter, Writing}
 use Rattle.machine.specs.Whole.{Whole}
 use Rattle.reference.specs.Run.{after, events_of, ending_of}
 use Rattle.reference.specs.State.{State}
 use Rattle.reference.specs.Step.{step}
-use Rattle.reference.specs.Text.{lines, stop_line}
+use Rattle.platform.specs.Text.{lines, stop_line}
 
 -- the lines of all steps but the last one went out, and a proper prefix of that one's lines
 abbrev pub CutInStep : State → ℕ → Option (List ℕ) → Option (List ℕ) → Type 0
@@ -22,14 +22,14 @@ CutInStop n s steps old new =
 
 -- a run of at most n steps from a state was cut short after `steps` of them: each of them was made, the machine is in
 -- the state after them, and what went out is a prefix of the trace
-pub record Leaves (n : ℕ) (s : State) (steps : ℕ) (old new : Option (List ℕ)) (last : State) : Type 0 where
+pub record Leaves (n : ℕ) (s : State) (steps : ℕ) (old new : Writing) (last : State) : Type 0 where
   pub few : steps ≤ n
   pub made : (k : ℕ) → k < steps → (after k s).stop ≡ None
   pub state : last ≡ after steps s
-  pub cut : CutInStep s steps old new ⊎ CutInStop n s steps old new
+  pub cut : CutInStep s steps old.written new.written ⊎ CutInStop n s steps old.written new.written
 
 -- a run that failed: the writer counted an error in it, or it was broken before and nothing was done
-abbrev pub Fails : ℕ → Whole → Whole → Option (List ℕ) → Option (List ℕ) → ℕ → ℕ → RunError → Type 0
-Fails n old new written written' errors errors' (Write steps) =
-    Leaves n old.state steps written written' new.state × (new.broken ≡ true) × (errors' ≡ errors + 1)
-Fails n old new written written' errors errors' Broken = (new ≡ old) × Keeps written written' × (errors' ≡ errors)
+abbrev pub Fails : ℕ → Whole → Whole → Writing → Writing → RunError → Type 0
+Fails n old new out out' (Write steps) =
+    Leaves n old.state steps out out' new.state × (new.broken ≡ true) × (out'.errors ≡ out.errors + 1)
+Fails n old new out out' Broken = (new ≡ old) × Keeps out.written out'.written × (out'.errors ≡ out.errors)

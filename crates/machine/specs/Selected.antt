@@ -4,7 +4,7 @@ use Rattle.std.specs.Io.KnownBytes.{Keeps}
 use Rattle.machine.specs.declared.machine.RunError.{RunError}
 use Rattle.machine.specs.declared.machine.RunError.TheVariants.{Write, Broken}
 use Rattle.machine.specs.Whole.{Whole}
-use Rattle.output.specs.Output.{IsCutAfter}
+use Rattle.output.specs.Output.{IsCutAfter, Writing}
 use Rattle.reference.specs.Run.{after, events_of, ending_of}
 use Rattle.reference.specs.State.{State}
 use Rattle.reference.specs.Step.{step}
@@ -27,18 +27,18 @@ SelectedCutInEnd selection n s steps old new =
 
 -- a run of at most n steps from a state was cut short after `steps` of them: each of them was made, the machine is in
 -- the state after them, and what went out is a prefix of the selected trace
-pub record SelectedLeaves (selection : TraceSelection) (n : ℕ) (s : State) (steps : ℕ) (old new : Option (List ℕ))
+pub record SelectedLeaves (selection : TraceSelection) (n : ℕ) (s : State) (steps : ℕ) (old new : Writing)
     (last : State) : Type 0 where
   pub few : steps ≤ n
   pub made : (k : ℕ) → k < steps → (after k s).stop ≡ None
   pub state : last ≡ after steps s
-  pub cut : SelectedCutInStep selection s steps old new ⊎ SelectedCutInEnd selection n s steps old new
+  pub cut : SelectedCutInStep selection s steps old.written new.written
+      ⊎ SelectedCutInEnd selection n s steps old.written new.written
 
 -- a run that failed: the writer counted an error in it, or it was broken before and nothing was done
-abbrev pub SelectedFails : TraceSelection → ℕ → Whole → Whole → Option (List ℕ) → Option (List ℕ) → ℕ → ℕ → RunError
-    → Type 0
-SelectedFails selection n old new written written' errors errors' (Write steps) =
-    SelectedLeaves selection n old.state steps written written' new.state × (new.broken ≡ true)
-    × (errors' ≡ errors + 1)
-SelectedFails selection n old new written written' errors errors' Broken =
-    (new ≡ old) × Keeps written written' × (errors' ≡ errors)
+abbrev pub SelectedFails : TraceSelection → ℕ → Whole → Whole → Writing → Writing → RunError → Type 0
+SelectedFails selection n old new out out' (Write steps) =
+    SelectedLeaves selection n old.state steps out out' new.state × (new.broken ≡ true)
+    × (out'.errors ≡ out.errors + 1)
+SelectedFails selection n old new out out' Broken =
+    (new ≡ old) × Keeps out.written out'.written × (out'.errors ≡ out.errors)

@@ -1,9 +1,9 @@
 -- How a started machine, or one with a placed value, relates to the definition.
 use Rattle.std.specs.Prelude.{◌≡◌, false, Result, Ok, Err, IsOk}
 use Rattle.machine.specs.Whole.{Whole}
-use Rattle.reference.specs.declared.error.PlaceError.{PlaceError}
-use Rattle.reference.specs.declared.error.StartError.{StartError}
-use Rattle.reference.specs.declared.error.StartError.TheVariants.{SegmentOutsideMemory, NoMemory}
+use Rattle.platform.specs.declared.error.PlaceError.{PlaceError}
+use Rattle.platform.specs.declared.error.StartError.{StartError}
+use Rattle.platform.specs.declared.error.StartError.TheVariants.{SegmentOutsideMemory, NoMemory}
 use Rattle.reference.specs.State.{State}
 
 -- a core is in the start state; an image is refused where the definition refuses it; and it's out of memory only where

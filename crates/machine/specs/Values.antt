@@ -2,7 +2,7 @@
 use Rattle.instruction_set.specs.Registers.{Registers, xpsr, control, weighed, is_privileged}
 use Rattle.machine.specs.declared.readers.Execution.{Execution}
 use Rattle.machine.specs.declared.readers.RegValues.{RegValues}
-use Rattle.reference.specs.declared.exception.Masks.{Masks}
+use Rattle.platform.specs.declared.exception.Masks.{Masks}
 use Rattle.reference.specs.State.{State}
 
 abbrev pub values_of : Registers → Masks → RegValues

@@ -1,15 +1,15 @@
 //! What the next step will do, and what decides an access: known without a step.
 
 ghost use Rattle.std.specs.Prelude.{◌≡◌, ◌^◌, ◌<◌};
-ghost use Rattle.reference.specs.Priorities.{candidate, is_below_zero};
-ghost use Rattle.reference.specs.Rules.{decision_of};
+ghost use Rattle.platform.specs.Priorities.{candidate, is_below_zero};
+ghost use Rattle.platform.specs.Rules.{decision_of};
 ghost use Rattle.reference.specs.State.{ticked};
 ghost use Rattle.reference.specs.Step.{sleeps_on};
 ghost use Rattle.task_laws.specs.Foresight.{is_instruction, kind_after, next_kind_of};
 
 use crate::stepping::{CLOCK_END, Processor};
 use access::{Decider, DueTicks, KeptCode, Levels};
-use reference::access::{Decision, Kind};
+use platform::access::{Decision, Kind};
 use task_laws::StepKind;
 
 /// Returns whether a step is an Instruction step.

@@ -6,18 +6,17 @@ ghost use Rattle.machine.specs.Runs.{Fails};
 ghost use Rattle.machine.specs.Selected.{SelectedFails};
 ghost use Rattle.machine.specs.Starts.{Starts, Places};
 ghost use Rattle.machine.specs.Tasks.{CountsErrors, TaskEnds, TaskFails};
-ghost use Rattle.reference.specs.Memory.{byte_at};
+ghost use Rattle.platform.specs.Memory.{byte_at};
 ghost use Rattle.reference.specs.Places.{place};
-ghost use Rattle.reference.specs.Priorities.{is_below_zero, is_in};
-ghost use Rattle.reference.specs.Regions.{shown};
-ghost use Rattle.reference.specs.Rules.{decision_of};
+ghost use Rattle.platform.specs.Priorities.{is_below_zero, is_in};
+ghost use Rattle.platform.specs.Regions.{shown};
+ghost use Rattle.platform.specs.Rules.{decision_of};
 ghost use Rattle.reference.specs.Run.{after, ending_of, trace};
 ghost use Rattle.reference.specs.Start.{start};
-ghost use Rattle.reference.specs.Status.{read_status};
-ghost use Rattle.output.specs.Output.{Put};
+ghost use Rattle.platform.specs.Status.{read_status};
+ghost use Rattle.output.specs.Output.{Put, WritesAll};
 ghost use Rattle.reference.specs.Step.{step};
-ghost use Rattle.reference.specs.Text.{lines};
-ghost use Rattle.std.specs.Io.KnownBytes.{Appends};
+ghost use Rattle.platform.specs.Text.{lines};
 ghost use Rattle.task_laws.specs.Foresight.{next_kind_of};
 ghost use Rattle.task_laws.specs.Tasks.{is_task};
 ghost use Rattle.trace.specs.Emission.{with_emitted};
@@ -39,12 +38,12 @@ use nvic_levels::{BitLevels, KeptPriorities};
 use output::{
     AllEvents, ConsoleBytes, ExceptionEvents, IoError, LineRoom, NoEvents, Out, RefusedEvents, View,
 };
-use reference::access::{Decision, Kind};
-use reference::error::{PlaceError, StartError};
-use reference::event::MOST_EVENTS;
+use platform::access::{Decision, Kind};
+use platform::error::{PlaceError, StartError};
+use platform::event::MOST_EVENTS;
+use platform::stop::Stop;
+use platform::system::StatusRegister;
 use reference::place::Place;
-use reference::stop::Stop;
-use reference::system::StatusRegister;
 use std::alloc::Global;
 use std::marker::Model;
 use task_laws::{StepKind, TaskEnd};
@@ -126,8 +125,7 @@ impl<D: Decider, C: KeptCode, L: Levels, U: DueTicks> Machine<D, C, L, U> {
     /// a prefix of the lines went out.
     pub fn write_step<W: Out>(&mut self, room: &mut LineRoom, out: &mut W) -> Result<(), IoError>
         ensures state { self.new ≡ record self.old { state = (step self.old.state).state } }
-        ensures put { Put (W.written out.old) (W.written out.new) (W.errors out.old) (W.errors out.new)
-            (lines (step self.old.state).events) result }
+        ensures put { Put (W.writing out.old) (W.writing out.new) (lines (step self.old.state).events) result }
     {
         write_step(&mut self.core, out, room)
     }
@@ -135,15 +133,12 @@ impl<D: Decider, C: KeptCode, L: Levels, U: DueTicks> Machine<D, C, L, U> {
     /// Makes at most `limit` steps, up to the first stop, and writes their trace.
     pub fn run<W: Out>(&mut self, limit: u64, out: &mut W) -> Result<Stop, RunError>
         // The whole trace of the reference machine went out, and the machine is in its state.
-        ensures written { OnOk result (Appends (W.written out.old) (W.written out.new) (trace limit self.old.state)) }
+        ensures written { OnOk result (WritesAll (W.writing out.old) (W.writing out.new) (trace limit self.old.state)) }
         ensures state { OnOk result (self.new ≡ record self.old { state = after limit self.old.state }) }
         ensures stop { IfOk result (λ stop. stop ≡ ending_of limit self.old.state) }
-        ensures quiet { OnOk result (W.errors out.new ≡ W.errors out.old) }
 
         // Otherwise the writer failed in this run, or in an earlier one.
-        ensures error { IfErr result
-            (Fails limit self.old self.new (W.written out.old) (W.written out.new) (W.errors out.old)
-            (W.errors out.new)) }
+        ensures error { IfErr result (Fails limit self.old self.new (W.writing out.old) (W.writing out.new)) }
         ensures broken { (result ≡ Err RunError.Broken) ↔ (self.old.broken ≡ true) }
     {
         self.run_view::<AllEvents, W>(limit, out)
@@ -159,15 +154,13 @@ impl<D: Decider, C: KeptCode, L: Levels, U: DueTicks> Machine<D, C, L, U> {
     ) -> Result<Stop, RunError>
         // The selected text of the reference machine's run went out, and the machine is in its state.
         ensures written { OnOk result
-            (Appends (W.written out.old) (W.written out.new) (selected_trace selection limit self.old.state)) }
+            (WritesAll (W.writing out.old) (W.writing out.new) (selected_trace selection limit self.old.state)) }
         ensures state { OnOk result (self.new ≡ record self.old { state = after limit self.old.state }) }
         ensures stop { IfOk result (λ stop. stop ≡ ending_of limit self.old.state) }
-        ensures quiet { OnOk result (W.errors out.new ≡ W.errors out.old) }
 
         // Otherwise the writer failed in this run, or in an earlier one.
         ensures error { IfErr result
-            (SelectedFails selection limit self.old self.new (W.written out.old) (W.written out.new) (W.errors out.old)
-            (W.errors out.new)) }
+            (SelectedFails selection limit self.old self.new (W.writing out.old) (W.writing out.new)) }
         ensures broken { (result ≡ Err RunError.Broken) ↔ (self.old.broken ≡ true) }
     {
         match selection {
@@ -183,13 +176,11 @@ impl<D: Decider, C: KeptCode, L: Levels, U: DueTicks> Machine<D, C, L, U> {
     /// then the line of the stop.
     fn run_view<V: View, W: Out>(&mut self, limit: u64, out: &mut W) -> Result<Stop, RunError>
         ensures written { OnOk result
-            (Appends (W.written out.old) (W.written out.new) (selected_trace V.SELECTION limit self.old.state)) }
+            (WritesAll (W.writing out.old) (W.writing out.new) (selected_trace V.SELECTION limit self.old.state)) }
         ensures state { OnOk result (self.new ≡ record self.old { state = after limit self.old.state }) }
         ensures stop { IfOk result (λ stop. stop ≡ ending_of limit self.old.state) }
-        ensures quiet { OnOk result (W.errors out.new ≡ W.errors out.old) }
         ensures error { IfErr result
-            (SelectedFails V.SELECTION limit self.old self.new (W.written out.old) (W.written out.new)
-            (W.errors out.old) (W.errors out.new)) }
+            (SelectedFails V.SELECTION limit self.old self.new (W.writing out.old) (W.writing out.new)) }
         ensures broken { (result ≡ Err RunError.Broken) ↔ (self.old.broken ≡ true) }
     {
         if self.broken {
@@ -220,12 +211,12 @@ impl<D: Decider, C: KeptCode, L: Levels, U: DueTicks> Machine<D, C, L, U> {
     /// nothing was done.
     pub fn run_task<W: Out>(&mut self, limit: u64, out: &mut W) -> Result<TaskEnd, RunError>
         // The lines of its steps went out, the machine is in the state after them, and that is why they ended.
-        ensures end { IfOk result (TaskEnds limit self.old self.new (W.written out.old) (W.written out.new)) }
-        ensures quiet { OnOk result (W.errors out.new ≡ W.errors out.old) }
+        ensures end { IfOk result (TaskEnds limit self.old self.new (W.writing out.old) (W.writing out.new)) }
+        ensures quiet { OnOk result ((W.writing out.new).errors ≡ (W.writing out.old).errors) }
 
         // Otherwise the writer failed in this run, or in an earlier one.
-        ensures cut { IfErr result (TaskFails limit self.old self.new (W.written out.old) (W.written out.new)) }
-        ensures error { IfErr result (CountsErrors (W.errors out.old) (W.errors out.new)) }
+        ensures cut { IfErr result (TaskFails limit self.old self.new (W.writing out.old) (W.writing out.new)) }
+        ensures error { IfErr result (CountsErrors (W.writing out.old) (W.writing out.new)) }
         ensures broken { (result ≡ Err RunError.Broken) ↔ (self.old.broken ≡ true) }
     {
         if self.broken {

@@ -4,7 +4,7 @@ ghost use Rattle.std.specs.Prelude.{◌≡◌, true};
 ghost use Rattle.instruction_set.specs.RowOperands.{special_of};
 ghost use Rattle.machine.specs.Starts.{PlacesAt};
 ghost use Rattle.reference.specs.declared.place.Place.TheVariants.{Word};
-ghost use Rattle.reference.specs.Map.{is_in_ppb};
+ghost use Rattle.platform.specs.Map.{is_in_ppb};
 ghost use Rattle.reference.specs.Places.{place, is_there, is_word_aligned, special_taken, store_of, taken};
 
 use crate::stepping::Processor;
@@ -12,9 +12,9 @@ use access::{Decider, DueTicks, KeptCode, Levels};
 use instruction_set::operands::SpecialRegister;
 use instruction_set::registers::Register;
 use instruction_set::size::Size;
-use reference::access::{Access, Answer, Kind, Request};
-use reference::error::PlaceError;
-use reference::map::is_in_ppb;
+use platform::access::{Access, Kind, Performed, Request, Rule};
+use platform::error::PlaceError;
+use platform::map::is_in_ppb;
 use reference::place::Place;
 
 impl<D: Decider, C: KeptCode, L: Levels, U: DueTicks> Processor<D, C, L, U> {
@@ -81,15 +81,15 @@ impl<D: Decider, C: KeptCode, L: Levels, U: DueTicks> Processor<D, C, L, U> {
         Ok(())
     }
 
-    /// Stores a word to the Private Peripheral Bus, as privileged code does. No rule decides it.
+    /// Stores a word to the Private Peripheral Bus, as privileged code does. No region decides it.
     fn take_register(&mut self, address: u32, value: u32) -> Result<(), PlaceError>
         requires { is_in_ppb address ≡ true }
         ensures { PlacesAt (taken self.old (Word address value)) self.old self.new result }
     {
-        match self.carry_out(&store_of(address, value)) {
-            Answer::Value(_) => Ok(()),
-            Answer::Error => Err(PlaceError::NoSuchPlace),
-            Answer::Stop(why) => Err(PlaceError::Refused(why)),
+        match self.carry_out(Rule::PrivatePeripheralBus, &store_of(address, value)) {
+            Performed::Done(_) => Ok(()),
+            Performed::Denied(_, _) => Err(PlaceError::NoSuchPlace),
+            Performed::Stop(why) => Err(PlaceError::Refused(why)),
         }
     }
 }

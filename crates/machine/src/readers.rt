@@ -1,15 +1,15 @@
 //! What a debugger reads of a machine.
 
 ghost use Rattle.std.specs.Prelude.{◌≡◌};
-ghost use Rattle.reference.specs.Memory.{byte_at};
-ghost use Rattle.reference.specs.Priorities.{is_in};
-ghost use Rattle.reference.specs.Regions.{shown};
-ghost use Rattle.reference.specs.Status.{read_status};
+ghost use Rattle.platform.specs.Memory.{byte_at};
+ghost use Rattle.platform.specs.Priorities.{is_in};
+ghost use Rattle.platform.specs.Regions.{shown};
+ghost use Rattle.platform.specs.Status.{read_status};
 
 use crate::stepping::Processor;
 use access::{Decider, DueTicks, KeptCode, Levels, SysTick};
 use mpu::MpuRegs;
-use reference::system::StatusRegister;
+use platform::system::StatusRegister;
 
 /// The values of the core registers, each as a word.
 #[derive(Clone, Copy)]

@@ -3,17 +3,19 @@
 ghost use Rattle.std.specs.Prelude.{◌≡◌, true, map};
 ghost use Rattle.board.specs.Reading.{described};
 ghost use Rattle.machine.specs.Starts.{StartsAt};
-ghost use Rattle.reference.specs.Boards.{numbers_of};
-ghost use Rattle.reference.specs.Start.{start, blank, are_placed, is_placed, image_loaded, vector};
+ghost use Rattle.platform.specs.Boards.{numbers_of};
+ghost use Rattle.reference.specs.Start.{start, are_placed, is_placed, image_loaded};
+ghost use Rattle.platform.specs.Boards.{blank};
+ghost use Rattle.platform.specs.Memory.{vector};
 ghost use Rattle.elf.specs.Segment.{segment_of};
 
 use crate::stepping::Processor;
 use access::{Bus, CodeMemory, Decider, DueTicks, KeptCode, Levels, System};
 use board::Board;
 use elf::{Image, Segment};
-use reference::board::Layout;
-use reference::error::StartError;
-use reference::map::RAM_BASE;
+use platform::board::Layout;
+use platform::error::StartError;
+use platform::map::RAM_BASE;
 use regs::Regs;
 use space::{Space, is_within};
 use std::alloc::Global;

@@ -9,7 +9,7 @@ use crate::run::write_step;
 use crate::stepping::Processor;
 use access::{Decider, DueTicks, KeptCode, Levels};
 use output::{LineRoom, Out};
-use reference::stop::Stop;
+use platform::stop::Stop;
 use task_laws::TaskEnd;
 
 impl<D: Decider, C: KeptCode, L: Levels, U: DueTicks> Processor<D, C, L, U> {
@@ -32,10 +32,10 @@ pub fn run_task_core<D: Decider, C: KeptCode, L: Levels, U: DueTicks, W: Out>(
     limit: u64,
     out: &mut W,
 ) -> Result<TaskEnd, u64>
-    ensures end { IfOk result (TaskRuns limit core.old (W.written out.old) (W.written out.new) core.new) }
-    ensures quiet { OnOk result (W.errors out.new ≡ W.errors out.old) }
-    ensures cut { IfErr result (TaskIsCut limit core.old (W.written out.old) (W.written out.new) core.new) }
-    ensures error { IfErr result (λ steps. W.errors out.new ≡ W.errors out.old + 1) }
+    ensures end { IfOk result (TaskRuns limit core.old (W.writing out.old) (W.writing out.new) core.new) }
+    ensures quiet { OnOk result ((W.writing out.new).errors ≡ (W.writing out.old).errors) }
+    ensures cut { IfErr result (TaskIsCut limit core.old (W.writing out.old) (W.writing out.new) core.new) }
+    ensures error { IfErr result (λ steps. (W.writing out.new).errors ≡ (W.writing out.old).errors + 1) }
 {
     let mut room = LineRoom::new();
     let mut made = 0;

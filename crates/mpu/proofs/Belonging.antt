@@ -3,8 +3,8 @@ use Rattle.std.proofs.Common.{◌≡◌, ℕ, zero, suc, ◌<◌, ◌≤◌, ◌
 use Rattle.std.proofs.Common.{None, arith, refl, ap, inl, inr, below_more}
 use Rattle.std.proofs.lemmas.Bool.{cases_lt}
 use Rattle.std.proofs.lemmas.Bool.Decides.{nat_tests}
-use Rattle.reference.specs.declared.mpu.Region.{Region}
-use Rattle.reference.specs.Regions.{Mpu, region, matches, Matches, owner_below, owner, IsOwner}
+use Rattle.platform.specs.declared.mpu.Region.{Region}
+use Rattle.platform.specs.Regions.{Mpu, region, matches, Matches, owner_below, owner, IsOwner}
 
 -- an address lies in a region where the test says so
 means : (r : Region) (a : ℕ) → matches r a ≡ true → Matches r a

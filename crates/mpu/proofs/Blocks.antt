@@ -5,9 +5,9 @@ use Rattle.std.proofs.lemmas.Bool.Decides.{nat_tests}
 use Rattle.std.proofs.lemmas.Bool.{leb-true, eqb-true, eq-eqb, cases_lt, and_right}
 use Rattle.std.proofs.lemmas.Nat.{div_below, le-div, shr-shr}
 use Rattle.instruction_set.specs.Words.{is_bit}
-use Rattle.reference.specs.declared.mpu.Region.{Region}
-use Rattle.reference.specs.Regions.{Mpu, region, matches, agrees, subregion, is_switched_off, is_region_enabled, size}
-use Rattle.reference.specs.Regions.{switched_off, owner, owner_below}
+use Rattle.platform.specs.declared.mpu.Region.{Region}
+use Rattle.platform.specs.Regions.{Mpu, region, matches, agrees, subregion, is_switched_off, is_region_enabled, size}
+use Rattle.platform.specs.Regions.{switched_off, owner, owner_below}
 use Rattle.mpu.specs.Spans.{BelongTo, grain}
 
 -- the addresses of a block have the same upper bits

@@ -2,16 +2,16 @@
 use Rattle.std.proofs.Common.{◌≡◌, ℕ, ◌<◌, ◌≤◌, ◌⊎◌, ◌↔◌, true, false, not, Bool, if◌then◌else◌, ◌==◌, ◌+◌, subst}
 use Rattle.std.proofs.Common.{Option, Some, None, arith, refl, sym, ap, ◌∙◌, inl, inr}
 use Rattle.std.proofs.lemmas.Bool.{cases_lt, eqb-true, eq-eqb, both_ways}
-use Rattle.reference.specs.declared.access.Decision.{Decision}
-use Rattle.reference.specs.declared.access.Rule.{Rule}
-use Rattle.reference.specs.declared.access.Rule.TheVariants.{NeverExecute, VectorRead, PrivatePeripheralBus, MpuOff}
-use Rattle.reference.specs.declared.access.Rule.TheVariants.{NegativePriority, Region, Background, NoRegion}
-use Rattle.reference.specs.Kinds.{is_vector}
-use Rattle.reference.specs.Regions.{Mpu, owner, is_on, IsOwner}
-use Rattle.reference.specs.Rules.{default_map, AccessQuery, Fits, IsFirstFit, rank, rule_grants, before_regions}
-use Rattle.reference.specs.Rules.{by_owner}
-use Rattle.reference.specs.Rules.{first_of_two, decision_of, is_never_executed, is_ppb_data, is_off_below_zero}
-use Rattle.reference.specs.Rules.{is_background}
+use Rattle.platform.specs.declared.access.Decision.{Decision}
+use Rattle.platform.specs.declared.access.Rule.{Rule}
+use Rattle.platform.specs.declared.access.Rule.TheVariants.{NeverExecute, VectorRead, PrivatePeripheralBus, MpuOff}
+use Rattle.platform.specs.declared.access.Rule.TheVariants.{NegativePriority, Region, Background, NoRegion}
+use Rattle.platform.specs.Kinds.{is_vector}
+use Rattle.platform.specs.Regions.{Mpu, owner, is_on, IsOwner}
+use Rattle.platform.specs.Rules.{default_map, AccessQuery, Fits, IsFirstFit, rank, rule_grants, before_regions}
+use Rattle.platform.specs.Rules.{by_owner}
+use Rattle.platform.specs.Rules.{first_of_two, decision_of, is_never_executed, is_ppb_data, is_off_below_zero}
+use Rattle.platform.specs.Rules.{is_background}
 use Rattle.mpu.proofs.Belonging.{only_owner, owner_is}
 
 -- ---- rules by their places

@@ -1,7 +1,7 @@
 -- One look of the search, from the highest region downward.
 use Rattle.std.proofs.Common.{◌≡◌, ℕ, zero, suc, ◌-◌, ◌<◌, ◌≤◌, true, false, Bool, if◌then◌else◌, Some, None, arith}
 use Rattle.std.proofs.Common.{refl, sym, ap}
-use Rattle.reference.specs.Regions.{Mpu, region, matches, owner_below}
+use Rattle.platform.specs.Regions.{Mpu, region, matches, owner_below}
 
 step-found : (m : Mpu) (a k : ℕ) → matches (region m k) a ≡ true → owner_below m a (suc k) ≡ Some k
 unfolding owner_below
@@ -24,3 +24,5 @@ pub none_left : (m : Mpu) (a n : ℕ) → n ≤ 0 → owner_below m a n ≡ None
 unfolding owner_below
 none_left m a zero none = refl
 none_left m a (suc n) none = absurd (let wrong : ⊥ = omega arith in wrong)
+
+pub ruleset owner_lemmas = (found, passed, none_left)

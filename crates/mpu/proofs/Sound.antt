@@ -1,8 +1,8 @@
 -- The registers stay sound where one region is changed to another that a write takes.
 use Rattle.std.proofs.Common.{◌≡◌, ℕ, zero, suc, ◌%◌, List, [], ◌∷◌, true, ◌∙◌, slice_index_or, slice_set}
 use Rattle.std.proofs.Math.ListN.{length-set}
-use Rattle.reference.specs.declared.mpu.Region.{Region}
-use Rattle.reference.specs.Regions.{Mpu, IsSound, with_region, empty, is_accepted}
+use Rattle.platform.specs.declared.mpu.Region.{Region}
+use Rattle.platform.specs.Regions.{Mpu, IsSound, with_region, empty, is_accepted}
 
 -- what holds of the new region and of each old one holds of each region after the change
 each-after : (P : Region → Type 0) (regions : List Region) (k j : ℕ) (r : Region)

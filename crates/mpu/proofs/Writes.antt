@@ -3,13 +3,13 @@ use Rattle.std.proofs.Common.{◌≡◌, ℕ, zero, suc, ◌*◌, ◌/◌, ◌%�
 use Rattle.std.proofs.Common.{if◌then◌else◌, replicate, slice_index_or, Result, Ok, Err, refl, arith, inl, inr}
 use Rattle.std.proofs.lemmas.Bool.{ltb-true, cond_both}
 use Rattle.instruction_set.specs.Words.{is_bit}
-use Rattle.reference.specs.declared.mpu.MpuRegister.{MpuRegister}
-use Rattle.reference.specs.declared.mpu.MpuRegister.TheVariants as register
-use Rattle.reference.specs.declared.mpu.MpuStop.{MpuStop}
-use Rattle.reference.specs.declared.mpu.MpuStop.TheVariants as stop
-use Rattle.reference.specs.declared.mpu.Region.{Region}
-use Rattle.reference.specs.Regions.{Mpu, IsSound, region, empty, fresh, write, write_base, after_write, selected, based}
-use Rattle.reference.specs.Regions.{with_attributes, kept_attributes, is_accepted, is_on, is_on_below_zero}
+use Rattle.platform.specs.declared.mpu.MpuRegister.{MpuRegister}
+use Rattle.platform.specs.declared.mpu.MpuRegister.TheVariants as register
+use Rattle.platform.specs.declared.mpu.MpuStop.{MpuStop}
+use Rattle.platform.specs.declared.mpu.MpuStop.TheVariants as stop
+use Rattle.platform.specs.declared.mpu.Region.{Region}
+use Rattle.platform.specs.Regions.{Mpu, IsSound, region, empty, fresh, write, write_base, after_write, selected, based}
+use Rattle.platform.specs.Regions.{with_attributes, kept_attributes, is_accepted, is_on, is_on_below_zero}
 use Rattle.mpu.proofs.Sound.{with_region-sound}
 
 after-write-taken : (m n : Mpu) (b : Bool) (why : MpuStop)

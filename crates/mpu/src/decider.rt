@@ -2,13 +2,13 @@
 
 ghost use Rattle.std.specs.Prelude.{◌≡◌, ◌≤◌, true, false, IfSome};
 ghost use Rattle.mpu.specs.Spans.{BelongTo};
-ghost use Rattle.reference.specs.Regions.{Mpu, owner};
-ghost use Rattle.reference.specs.Rules.{by_owner, decision_of};
+ghost use Rattle.platform.specs.Regions.{Mpu, owner};
+ghost use Rattle.platform.specs.Rules.{by_owner, decision_of};
 
 use crate::registers::MpuRegs;
 use crate::rules::{Rights, before_regions, by_region, without_region};
 use crate::spans::Span;
-use reference::access::{Decision, Kind, Rule};
+use platform::access::{Decision, Kind, Rule};
 
 /// Decides each access by the MPU's registers as they were last loaded.
 pub trait Decider: Drop {
@@ -84,7 +84,7 @@ impl Decider for Search {
     }
 
     #[inline(always)]
-    #[tactic(auto, unfolding(reference::specs::Rules::decision_of))]
+    #[tactic(auto, unfolding(platform::specs::Rules::decision_of))]
     fn decide(&self, address: u32, kind: Kind, privileged: bool, below_zero: bool) -> Decision {
         let registers = &self.registers;
         match before_regions(registers.control(), address, kind, below_zero) {

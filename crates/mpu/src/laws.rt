@@ -2,10 +2,10 @@
 //! function that does nothing.
 
 ghost use Rattle.std.specs.Prelude.{◌≡◌, ◌↔◌, ◌⊎◌, ℕ, Option};
-ghost use Rattle.reference.specs.Regions.{Mpu, IsSound, IsOwner, owner, fresh, write, after_write};
-ghost use Rattle.reference.specs.Rules.{AccessQuery, IsFirstFit, decision_of};
-ghost use Rattle.reference.specs.declared.access.Decision.{Decision};
-ghost use Rattle.reference.specs.declared.mpu.MpuRegister.{MpuRegister};
+ghost use Rattle.platform.specs.Regions.{Mpu, IsSound, IsOwner, owner, fresh, write, after_write};
+ghost use Rattle.platform.specs.Rules.{AccessQuery, IsFirstFit, decision_of};
+ghost use Rattle.platform.specs.declared.access.Decision.{Decision};
+ghost use Rattle.platform.specs.declared.mpu.MpuRegister.{MpuRegister};
 
 /// The registers are sound after a reset, and stay so after each write, whether it's taken or not.
 #[tactic(auto, using(crate::proofs::Writes::sound_at_reset, crate::proofs::Writes::sound_after_write))]

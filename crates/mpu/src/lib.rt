@@ -10,8 +10,8 @@ mod rules;
 mod spans;
 
 pub use decider::{Decider, Search};
-pub use reference::access::{Decision, Kind, Rule};
-pub use reference::mpu::{MpuRegister, MpuStop, Region};
+pub use platform::access::{Decision, Kind, Rule};
+pub use platform::mpu::{MpuRegister, MpuStop, Region};
 pub use regions::{is_region_enabled, size, switched_off};
 pub use registers::{MpuRegs, mpu_register_at, stop_of};
 pub use rules::{Rights, before_regions, by_region, uses_regions, without_region};

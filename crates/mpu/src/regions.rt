@@ -2,10 +2,10 @@
 
 ghost use Rattle.std.specs.Prelude.{◌≡◌, ◌<◌};
 ghost use Rattle.instruction_set.specs.Words.{is_bit};
-ghost use Rattle.reference.specs.Regions.{is_region_enabled, size, switched_off, permission, is_accepted, agrees};
-ghost use Rattle.reference.specs.Regions.{is_switched_off, matches};
+ghost use Rattle.platform.specs.Regions.{is_region_enabled, size, switched_off, permission, is_accepted, agrees};
+ghost use Rattle.platform.specs.Regions.{is_switched_off, matches};
 
-use reference::mpu::Region;
+use platform::mpu::Region;
 
 /// Returns whether a bit of a word is 1.
 #[inline]
@@ -63,7 +63,7 @@ pub(crate) fn is_accepted(attributes: u32) -> bool
 /// Returns whether an address lies in a region, and in none of its subregions that are switched
 /// off.
 #[inline]
-#[tactic(auto, unfolding(reference::specs::Regions::matches))]
+#[tactic(auto, unfolding(platform::specs::Regions::matches))]
 pub fn matches(region: Region, address: u32) -> bool
     ensures { result ≡ matches region address }
 {

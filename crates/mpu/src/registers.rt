@@ -2,15 +2,16 @@
 
 ghost use Rattle.std.specs.Prelude.{◌≡◌, ◌+◌, ◌%◌, ◌<◌, ◌≤◌, ◌⊎◌, true, IfSome};
 ghost use Rattle.mpu.specs.Spans.{BelongTo};
-ghost use Rattle.reference.specs.Regions.{fresh, read, write, after_write, answered, shown, region as region_of};
-ghost use Rattle.reference.specs.Regions.{with_region_base, with_attributes, selected, write_mpu_ctrl, write_base};
-ghost use Rattle.reference.specs.Regions.{based, write_attributes, is_accepted, owner, mpu_register_at, stop_of};
+ghost use Rattle.platform.specs.Regions as spec;
+ghost use Rattle.platform.specs.Regions.{fresh, read, write, after_write, answered, shown};
+ghost use Rattle.platform.specs.Regions.{with_region_base, with_attributes, selected, write_mpu_ctrl, write_base};
+ghost use Rattle.platform.specs.Regions.{based, write_attributes, is_accepted, owner, mpu_register_at, stop_of};
 
 use crate::regions::{is_accepted, is_bit, matches};
 use crate::spans::{Span, cut};
 use instruction_set::unpredictable::UnpredictableCase;
-use reference::mpu::{MOST_REGIONS, MpuRegister, MpuStop, Region};
-use reference::stop::Stop;
+use platform::mpu::{MOST_REGIONS, MpuRegister, MpuStop, Region};
+use platform::stop::Stop;
 use std::marker::Model;
 
 /// The most regions, as a length.
@@ -41,7 +42,7 @@ pub struct MpuRegs {
 }
 
 impl Model for MpuRegs {
-    ghost use Rattle.reference.specs.Regions.{Mpu, IsSound};
+    ghost use Rattle.platform.specs.Regions.{Mpu, IsSound};
 
     ghost Value = { Mpu };
 
@@ -105,7 +106,7 @@ impl MpuRegs {
     #[inline]
     pub fn at(&self, number: u8) -> Region
         requires { number < 16 }
-        ensures value { result ≡ region_of self.now number }
+        ensures value { result ≡ spec.region self.now number }
         ensures based { result.base % 32 ≡ 0 }
     {
         self.regions[number as usize]
@@ -125,13 +126,13 @@ impl MpuRegs {
     /// Returns RBAR of a region, with VALID 0 and REGION its number.
     fn base_word(&self, number: u8) -> u32
         requires { number < 16 }
-        ensures { result ≡ (region_of self.now number).base + number }
+        ensures { result ≡ (spec.region self.now number).base + number }
     {
         self.at(number).base + u32::from(number)
     }
 
     /// Returns what a register reads as.
-    #[tactic(auto, unfolding(reference::specs::Regions::read))]
+    #[tactic(auto, unfolding(platform::specs::Regions::read))]
     pub fn read_reg(&self, register: MpuRegister) -> u32
         ensures { result ≡ read self.now register }
     {
@@ -145,7 +146,7 @@ impl MpuRegs {
     }
 
     /// Writes a register. Where the write stops by name, all registers are as they were.
-    #[tactic(auto, unfolding(reference::specs::Regions::write))]
+    #[tactic(auto, unfolding(platform::specs::Regions::write))]
     pub fn write_reg(&mut self, register: MpuRegister, value: u32) -> Result<(), MpuStop>
         ensures state { self.new ≡ after_write self.old (write self.old register value) }
         ensures answer { result ≡ answered (write self.old register value) }
@@ -226,7 +227,7 @@ impl MpuRegs {
 
     /// Returns the number of the highest region that an address lies in.
     #[inline]
-    #[tactic(auto, using(crate::proofs::Owner::found, crate::proofs::Owner::passed, crate::proofs::Owner::none_left), unfolding(reference::specs::Regions::owner))]
+    #[tactic(auto, using(crate::proofs::Owner::owner_lemmas), unfolding(platform::specs::Regions::owner))]
     pub fn owner(&self, address: u32) -> Option<u8>
         ensures value { result ≡ owner self.now address }
         ensures within { IfSome result (λ number. number < 16) }

@@ -1,15 +1,15 @@
 //! The rules: what decides before the regions, what a region grants, and what follows the regions.
 
 ghost use Rattle.std.specs.Prelude.{◌≡◌, ◌&&◌, not};
-ghost use Rattle.reference.specs.declared.access.Rule.TheVariants.{Region};
-ghost use Rattle.reference.specs.Regions.{is_on, permission, never_executes};
-ghost use Rattle.reference.specs.Rules.{default_map, is_executable, is_off_below_zero, before_regions, may_read};
-ghost use Rattle.reference.specs.Rules.{may_write, permission_grants, after_regions};
+ghost use Rattle.platform.specs.declared.access.Rule.TheVariants.{Region};
+ghost use Rattle.platform.specs.Regions.{is_on, permission, never_executes};
+ghost use Rattle.platform.specs.Rules.{default_map, is_executable, is_off_below_zero, before_regions, may_read};
+ghost use Rattle.platform.specs.Rules.{may_write, permission_grants, after_regions};
 
 use crate::regions::{is_bit, permission};
 use crate::registers::{ENABLE, HFNMIENA, PRIVDEFENA};
-use reference::access::{Decision, Kind, Rule};
-use reference::map::is_in_ppb;
+use platform::access::{Decision, Kind, Rule};
+use platform::map::is_in_ppb;
 
 /// Where the system address space begins, from which nothing is fetched.
 const SYSTEM_BASE: u32 = 0xE000_0000;
@@ -24,7 +24,7 @@ const XN: u32 = 28;
 /// Returns the decision of the rules before the regions, by MPU_CTRL, if one of them applies.
 /// `below_zero` says whether the execution priority is below 0.
 #[inline]
-#[tactic(auto, unfolding(reference::specs::Rules::before_regions))]
+#[tactic(auto, unfolding(platform::specs::Rules::before_regions))]
 pub fn before_regions(control: u32, address: u32, kind: Kind, below_zero: bool) -> Option<Decision>
     ensures { result ≡ before_regions control address kind below_zero }
 {

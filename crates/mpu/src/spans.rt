@@ -2,10 +2,10 @@
 
 ghost use Rattle.std.specs.Prelude.{◌≡◌, ◌≤◌, ◌/◌, ◌^◌, ◌+◌, ◌*◌, ℕ, false};
 ghost use Rattle.mpu.specs.Spans.{grain};
-ghost use Rattle.reference.specs.Regions.{agrees, matches};
+ghost use Rattle.platform.specs.Regions.{agrees, matches};
 
 use crate::regions::{agrees, is_region_enabled, size, switched_off};
-use reference::mpu::Region;
+use platform::mpu::Region;
 
 /// Addresses from the first to the last, with both.
 #[derive(Clone, Copy)]

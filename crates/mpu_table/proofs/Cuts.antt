@@ -11,8 +11,8 @@ use Rattle.mpu_table.specs.Intervals.{IsClear, Keeps, PartsRegion, PartsRegions}
 use Rattle.mpu.proofs.Blocks.{outside_before, outside_beyond, matches_outside, matches_inside, alike_below}
 use Rattle.mpu.proofs.Blocks.{alike_disabled}
 use Rattle.mpu.specs.Spans.{grain}
-use Rattle.reference.specs.declared.mpu.Region.{Region}
-use Rattle.reference.specs.Regions.{Mpu, region, matches, is_region_enabled, size, switched_off, owner}
+use Rattle.platform.specs.declared.mpu.Region.{Region}
+use Rattle.platform.specs.Regions.{Mpu, region, matches, is_region_enabled, size, switched_off, owner}
 
 -- ---- numbers
 

@@ -5,11 +5,11 @@ use Rattle.std.proofs.lemmas.List.{get_or-set_same, get_or-set_other}
 use Rattle.mpu_table.specs.Intervals.{HasAddress, HasRegionBelow16, interval}
 use Rattle.mpu_table.specs.Tables.{HasRights, DecidesFor, View}
 use Rattle.mpu.specs.declared.rules.Rights.{Rights}
-use Rattle.reference.specs.Regions.{Mpu, region, owner, permission, never_executes}
-use Rattle.reference.specs.Rules.{by_owner, permission_grants}
-use Rattle.reference.specs.declared.access.Decision.{Decision}
-use Rattle.reference.specs.declared.access.Kind.{Kind}
-use Rattle.reference.specs.declared.access.Rule.TheVariants as rule
+use Rattle.platform.specs.Regions.{Mpu, region, owner, permission, never_executes}
+use Rattle.platform.specs.Rules.{by_owner, permission_grants}
+use Rattle.platform.specs.declared.access.Decision.{Decision}
+use Rattle.platform.specs.declared.access.Kind.{Kind}
+use Rattle.platform.specs.declared.access.Rule.TheVariants as rule
 
 -- one more place
 pub rights_more : (xs : List Rights) (m : Mpu) (n : ℕ) (r : Rights) → n < length xs → HasRights xs m n

@@ -11,7 +11,7 @@ use Rattle.std.proofs.lemmas.List.Sorted.{All-permutation, IsPermutation-sym}
 use Rattle.mpu_table.proofs.Cuts.{owner_alike}
 use Rattle.mpu_table.specs.Intervals.{IsClear, HasRegionBelow16, NamesOwner, PartsRegions, Tiles}
 use Rattle.mpu_table.specs.declared.interval.Interval.{Interval}
-use Rattle.reference.specs.Regions.{Mpu, owner}
+use Rattle.platform.specs.Regions.{Mpu, owner}
 
 -- one more interval after the others
 tiles_push : (xs : List Interval) (x : Interval) (a b c : ℕ) → Tiles xs a b → x.first ≡ b → x.first ≤ x.last

@@ -1,8 +1,8 @@
 -- Where an address can begin or cease to lie in a region.
 use Rattle.std.specs.Prelude.{ℕ, ◌+◌, ◌*◌, ◌/◌, ◌^◌, ◌<◌, ◌≤◌, Bool, not, ◌&&◌, ◌==◌, nat_le, if◌then◌else◌, List}
 use Rattle.std.specs.List.{Contains}
-use Rattle.reference.specs.declared.mpu.Region.{Region}
-use Rattle.reference.specs.Regions.{size, switched_off}
+use Rattle.platform.specs.declared.mpu.Region.{Region}
+use Rattle.platform.specs.Regions.{size, switched_off}
 
 -- the length of the block of addresses whose upper bits the base of a region has, and where it begins
 abbrev pub block_of : Region → ℕ

@@ -2,8 +2,8 @@
 use Rattle.std.specs.Prelude.{◌≡◌, ℕ, ◌+◌, ◌^◌, ◌<◌, ◌≤◌, ◌⊎◌, List, [], ◌∷◌, slice_index_or, None, IfSome}
 use Rattle.std.specs.List.{All, Contains}
 use Rattle.mpu_table.specs.declared.interval.Interval.{Interval}
-use Rattle.reference.specs.declared.mpu.Region.{Region}
-use Rattle.reference.specs.Regions.{Mpu, region, matches, owner}
+use Rattle.platform.specs.declared.mpu.Region.{Region}
+use Rattle.platform.specs.Regions.{Mpu, region, matches, owner}
 
 -- the intervals cover the addresses from a up to b in order, without gap or overlap; b is the first one after them
 abbrev pub Tiles : List Interval → ℕ → ℕ → Type 0

@@ -4,7 +4,7 @@ use Rattle.std.specs.List.{All}
 use Rattle.mpu_table.specs.Intervals.{Tiles, NamesOwner, HasRegionBelow16}
 use Rattle.mpu_table.specs.declared.interval.Interval.{Interval}
 use Rattle.mpu.specs.declared.rules.Rights.{Rights}
-use Rattle.reference.specs.Regions.{Mpu, region, permission, never_executes}
+use Rattle.platform.specs.Regions.{Mpu, region, permission, never_executes}
 
 pub record View : Type 0 where
   -- the intervals

@@ -4,8 +4,8 @@ ghost use Rattle.std.specs.Prelude.{◌≡◌, ◌^◌, ◌<◌, ◌≤◌, leng
 ghost use Rattle.std.specs.List.{All};
 ghost use Rattle.mpu_table.specs.Intervals.{HasAddress, NamesOwner, Tiles, interval};
 ghost use Rattle.mpu_table.specs.Tables.{HasRights, DecidesFor};
-ghost use Rattle.reference.specs.Regions.{owner};
-ghost use Rattle.reference.specs.Rules.{by_owner};
+ghost use Rattle.platform.specs.Regions.{owner};
+ghost use Rattle.platform.specs.Rules.{by_owner};
 
 use crate::interval::Interval;
 use crate::search::find_in;
@@ -13,7 +13,7 @@ use crate::sweep::{Intervals, intervals_of};
 use mpu::{
     Decider, Decision, Kind, MpuRegs, Rights, Span, before_regions, by_region, without_region,
 };
-use reference::mpu::MOST_REGIONS;
+use platform::mpu::MOST_REGIONS;
 use std::marker::Model;
 
 /// The intervals of the addresses, and the rights of the regions.
@@ -98,7 +98,7 @@ impl Decider for Table {
     }
 
     #[inline]
-    #[tactic(auto, unfolding(reference::specs::Rules::decision_of))]
+    #[tactic(auto, unfolding(platform::specs::Rules::decision_of))]
     fn decide(&self, address: u32, kind: Kind, privileged: bool, below_zero: bool) -> Decision {
         match before_regions(self.control, address, kind, below_zero) {
             Some(decision) => decision,

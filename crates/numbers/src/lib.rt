@@ -5,16 +5,16 @@
 ghost use Rattle.std.specs.Prelude.{◌≡◌, ◌^◌};
 
 use elf::MOST_SEGMENTS;
-use reference::exception::{
+use platform::exception::{
     BUS_FAULT, EXCEPTIONS, FIRST_INTERRUPT, HARD_FAULT, MEM_MANAGE, MOST_INTERRUPTS, NMI, PEND_SV,
     SV_CALL, SYS_TICK, USAGE_FAULT,
 };
-use reference::fault_status::{
+use platform::fault_status::{
     BFARVALID, DACCVIOL, DIVBYZERO, FORCED, IACCVIOL, IBUSERR, INVPC, INVSTATE, MMARVALID, MSTKERR,
     MUNSTKERR, NOCP, PRECISERR, STKERR, UNALIGNED, UNDEFINSTR, UNSTKERR, VECTTBL,
 };
-use reference::map::RAM_BASE;
-use reference::mpu::MOST_REGIONS;
+use platform::map::RAM_BASE;
+use platform::mpu::MOST_REGIONS;
 
 /// The numbers of exceptions (ARM DDI 0403, B1.5.2, "Exception number definition").
 pub fn exceptions_are_numbered_as_in_the_manual()

@@ -3,9 +3,9 @@ use Rattle.std.proofs.Common.{◌≡◌, ℕ, zero, suc, ◌≤◌, min, Bool, t
 use Rattle.std.proofs.Common.{arith}
 use Rattle.std.proofs.lemmas.Bool.Decides.{nat_tests}
 use Rattle.std.proofs.lemmas.Bool.{cond_both}
-use Rattle.reference.specs.declared.exception.TheConstants.{NMI, HARD_FAULT, EXCEPTIONS}
-use Rattle.reference.specs.Priorities.{Nvic, is_in, is_negative, is_below_zero, fixed_or, of_byte, grouped}
-use Rattle.reference.specs.Priorities.{raised_by, highest_active, boosted, execution_priority}
+use Rattle.platform.specs.declared.exception.TheConstants.{NMI, HARD_FAULT, EXCEPTIONS}
+use Rattle.platform.specs.Priorities.{Nvic, is_in, is_negative, is_below_zero, fixed_or, of_byte, grouped}
+use Rattle.platform.specs.Priorities.{raised_by, highest_active, boosted, execution_priority}
 use Rattle.nvic.proofs.Least.{at_most_active}
 
 -- another exception than NMI and HardFault has a priority of 0 or more

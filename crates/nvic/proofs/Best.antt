@@ -5,10 +5,10 @@ use Rattle.std.proofs.Math.Nat.{div-mul-le_self, mul-le-mul_right}
 use Rattle.std.proofs.lemmas.Nat.{le-div, pow_pos}
 use Rattle.std.proofs.lemmas.Bool.{cond_both, ltb-true, ltb-false}
 use Rattle.std.proofs.lemmas.Bool.Decides.{nat_tests}
-use Rattle.reference.specs.declared.exception.TheConstants.{EXCEPTIONS}
-use Rattle.reference.specs.Priorities.{Nvic, is_ready, priority_of, group_priority, execution_priority, better_of}
-use Rattle.reference.specs.Priorities.{with_ready, best_below, best, candidate, grouped, fixed_or, of_byte, if_preempts}
-use Rattle.reference.specs.declared.exception.Masks.{Masks}
+use Rattle.platform.specs.declared.exception.TheConstants.{EXCEPTIONS}
+use Rattle.platform.specs.Priorities.{Nvic, is_ready, priority_of, group_priority, execution_priority, better_of}
+use Rattle.platform.specs.Priorities.{with_ready, best_below, best, candidate, grouped, fixed_or, of_byte, if_preempts}
+use Rattle.platform.specs.declared.exception.Masks.{Masks}
 use Rattle.nvic.specs.Laws.{IsBest, IsCandidate}
 
 -- the same, of the exceptions below k, for any test and any key

@@ -5,13 +5,13 @@ use Rattle.std.proofs.lemmas.Bool.{cond_both, both_ways}
 use Rattle.std.proofs.lemmas.List.{length-set, length-replicate}
 use Rattle.std.proofs.lemmas.Nat.{pow_pos}
 use Rattle.std.proofs.Math.Nat.{mul-div_left, zero-div, zero-mul}
-use Rattle.reference.specs.declared.exception.Masks.{Masks}
-use Rattle.reference.specs.declared.exception.TheConstants.{EXCEPTIONS, MOST_INTERRUPTS}
-use Rattle.reference.specs.Invariant.{HasOnly}
-use Rattle.reference.specs.Priorities.{Nvic, is_in_words, is_exception, can_be_disabled, has_priority_byte, kept}
-use Rattle.reference.specs.Priorities.{with_member}
-use Rattle.reference.specs.Priorities.{with_pending, with_active, with_enabled, with_priority, with_group, with_primask}
-use Rattle.reference.specs.Priorities.{with_faultmask, with_basepri, with_due, reset_nvic}
+use Rattle.platform.specs.declared.exception.Masks.{Masks}
+use Rattle.platform.specs.declared.exception.TheConstants.{EXCEPTIONS, MOST_INTERRUPTS}
+use Rattle.platform.specs.SystemInvariant.{HasOnly}
+use Rattle.platform.specs.Priorities.{Nvic, is_in_words, is_exception, can_be_disabled, has_priority_byte, kept}
+use Rattle.platform.specs.Priorities.{with_member}
+use Rattle.platform.specs.Priorities.{with_pending, with_active, with_enabled, with_priority, with_group, with_primask}
+use Rattle.platform.specs.Priorities.{with_faultmask, with_basepri, with_due, reset_nvic}
 use Rattle.nvic.proofs.Changes.{IsKept, pended_kept}
 use Rattle.nvic.proofs.Due.{due_is_pended}
 use Rattle.nvic.specs.Laws.{AreKept, IsOfBoard}

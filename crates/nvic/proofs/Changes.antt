@@ -15,24 +15,24 @@ use Rattle.instruction_set.specs.declared.operands.SpecialRegister.TheVariants.{
 use Rattle.instruction_set.specs.declared.operands.SpecialRegister.TheVariants.{Iepsr, Msp, Psp, Primask, Basepri}
 use Rattle.instruction_set.specs.declared.operands.SpecialRegister.TheVariants.{BasepriMax, Faultmask, Control}
 use Rattle.instruction_set.specs.Words.{is_bit}
-use Rattle.reference.specs.declared.exception.TheConstants.{NMI, MEM_MANAGE, BUS_FAULT, USAGE_FAULT, SV_CALL, PEND_SV}
-use Rattle.reference.specs.declared.exception.TheConstants.{SYS_TICK, FIRST_INTERRUPT, EXCEPTIONS}
-use Rattle.reference.specs.declared.stop.Stop.{Stop}
-use Rattle.reference.specs.declared.system.ControlRegister.{ControlRegister}
-use Rattle.reference.specs.declared.system.ControlRegister.TheVariants.{Ictr, Cpuid, Icsr, Aircr, Shcsr, Stir}
-use Rattle.reference.specs.declared.system.InterruptRegister.{InterruptRegister}
-use Rattle.reference.specs.declared.system.InterruptRegister.TheVariants.{Iser, Icer, Ispr, Icpr, Iabr}
-use Rattle.reference.specs.Control.{set_or_cleared, write_icsr, write_aircr, write_control}
-use Rattle.reference.specs.ExceptionEntry.{activated}
-use Rattle.reference.specs.Handlers.{handlers_active, with_handlers_pending, with_handlers_enabled, write_shcsr}
-use Rattle.reference.specs.Interrupts.{first_exception, with_one, with_bit, with_bits_below, write_interrupts}
-use Rattle.reference.specs.Interrupts.{write_priorities, triggered}
-use Rattle.reference.specs.Priorities.{Nvic, execution_priority, hard_fault_priority, kept, with_pending, with_active}
-use Rattle.reference.specs.Priorities.{with_enabled, with_priority, with_group, with_primask, with_faultmask}
-use Rattle.reference.specs.Priorities.{with_basepri}
-use Rattle.reference.specs.SpecialRegisters.{faultmask_written, is_tighter, basepri_max_written, with_mask, write_mask}
-use Rattle.reference.specs.SpecialRegisters.{with_primask_if, with_faultmask_if, change_state}
-use Rattle.reference.specs.System.{with_pended_at, with_pended_below, with_pended}
+use Rattle.platform.specs.declared.exception.TheConstants.{NMI, MEM_MANAGE, BUS_FAULT, USAGE_FAULT, SV_CALL, PEND_SV}
+use Rattle.platform.specs.declared.exception.TheConstants.{SYS_TICK, FIRST_INTERRUPT, EXCEPTIONS}
+use Rattle.platform.specs.declared.stop.Stop.{Stop}
+use Rattle.platform.specs.declared.system.ControlRegister.{ControlRegister}
+use Rattle.platform.specs.declared.system.ControlRegister.TheVariants.{Ictr, Cpuid, Icsr, Aircr, Shcsr, Stir}
+use Rattle.platform.specs.declared.system.InterruptRegister.{InterruptRegister}
+use Rattle.platform.specs.declared.system.InterruptRegister.TheVariants.{Iser, Icer, Ispr, Icpr, Iabr}
+use Rattle.platform.specs.Control.{set_or_cleared, write_icsr, write_aircr, write_control}
+use Rattle.platform.specs.Priorities.{activated}
+use Rattle.platform.specs.Handlers.{handlers_active, with_handlers_pending, with_handlers_enabled, write_shcsr}
+use Rattle.platform.specs.Interrupts.{first_exception, with_one, with_bit, with_bits_below, write_interrupts}
+use Rattle.platform.specs.Interrupts.{write_priorities, triggered}
+use Rattle.platform.specs.Priorities.{Nvic, execution_priority, hard_fault_priority, kept, with_pending, with_active}
+use Rattle.platform.specs.Priorities.{with_enabled, with_priority, with_group, with_primask, with_faultmask}
+use Rattle.platform.specs.Priorities.{with_basepri}
+use Rattle.platform.specs.SpecialRegisters.{faultmask_written, is_tighter, basepri_max_written, with_mask, write_mask}
+use Rattle.platform.specs.SpecialRegisters.{with_primask_if, with_faultmask_if, change_state}
+use Rattle.platform.specs.System.{with_pended_at, with_pended_below, with_pended}
 
 -- what holds of the state after a write, where it doesn't stop
 abbrev pub IfDone : {A : Type 0} → (A → Type 0) → Result A Stop → Type 0

@@ -4,12 +4,12 @@ use Rattle.std.proofs.Common.{set, refl, sym, ◌∙◌, ap, arith}
 use Rattle.std.proofs.Math.Bool.{or-true, or-false}
 use Rattle.std.proofs.lemmas.Bool.{cond_both, both_ways}
 use Rattle.std.proofs.lemmas.List.{length-set, get_or-set_same, get_or-set_other}
-use Rattle.reference.specs.declared.exception.TheConstants.{EXCEPTIONS}
-use Rattle.reference.specs.Priorities.{Nvic, is_in, is_in_words, is_exception, with_pending, with_due_at}
-use Rattle.reference.specs.Priorities.{with_due_below}
-use Rattle.reference.specs.Priorities.{with_due}
-use Rattle.reference.specs.System.{with_pended_at, with_pended_below, with_pended}
-use Rattle.reference.specs.Time.{IsSetOf}
+use Rattle.platform.specs.declared.exception.TheConstants.{EXCEPTIONS}
+use Rattle.platform.specs.Priorities.{Nvic, is_in, is_in_words, is_exception, with_pending, with_due_at}
+use Rattle.platform.specs.Priorities.{with_due_below}
+use Rattle.platform.specs.Priorities.{with_due}
+use Rattle.platform.specs.System.{with_pended_at, with_pended_below, with_pended}
+use Rattle.platform.specs.Time.{IsSetOf}
 use Rattle.nvic.proofs.Best.{or_last}
 use Rattle.nvic.proofs.Changes.{pended_kept}
 use Rattle.nvic.specs.Laws.{AddsDue}

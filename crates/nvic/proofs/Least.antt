@@ -3,10 +3,10 @@ use Rattle.std.proofs.Common.{◌≡◌, ℕ, zero, suc, ◌<◌, ◌≤◌, ◌
 use Rattle.std.proofs.Common.{List, refl, ap, arith, if◌then◌else◌}
 use Rattle.std.proofs.lemmas.Bool.{cond_both, eqb-false}
 use Rattle.std.proofs.lemmas.Bool.Decides.{nat_tests}
-use Rattle.reference.specs.declared.exception.TheConstants.{EXCEPTIONS}
-use Rattle.reference.specs.Priorities.{Nvic, hard_fault_priority, is_in, of_byte, grouped, lowest, group_priority}
-use Rattle.reference.specs.Priorities.{raised_by, highest_active, boosted, execution_priority}
-use Rattle.reference.specs.declared.exception.Masks.{Masks}
+use Rattle.platform.specs.declared.exception.TheConstants.{EXCEPTIONS}
+use Rattle.platform.specs.Priorities.{Nvic, hard_fault_priority, is_in, of_byte, grouped, lowest, group_priority}
+use Rattle.platform.specs.Priorities.{raised_by, highest_active, boosted, execution_priority}
+use Rattle.platform.specs.declared.exception.Masks.{Masks}
 use Rattle.nvic.proofs.Best.{or_last}
 use Rattle.nvic.specs.Laws.{Holds, IsLeast}
 use Rattle.nvic.specs.Laws.Holds.{nothing, handler, basepri, primask, faultmask}

@@ -4,8 +4,8 @@ use Rattle.std.proofs.Common.{slice_index, bit_or, refl, ◌∙◌, ap, arith, b
 use Rattle.std.proofs.Math.Nat.{zero-div}
 use Rattle.std.proofs.lemmas.Nat.{le_or_l, le_or_r}
 use Rattle.instruction_set.specs.Words.{is_bit}
-use Rattle.reference.specs.declared.exception.TheConstants.{EXCEPTIONS}
-use Rattle.reference.specs.Priorities.{Nvic, is_in_words, with_due, with_due_at, with_due_below}
+use Rattle.platform.specs.declared.exception.TheConstants.{EXCEPTIONS}
+use Rattle.platform.specs.Priorities.{Nvic, is_in_words, with_due, with_due_at, with_due_below}
 
 pub no_bit : (k : ℕ) → is_bit 0 k ≡ false
 no_bit k = rw (zero-div (2 ^ k)) refl

@@ -5,26 +5,28 @@ use Rattle.std.proofs.lemmas.Bool.{cond_both}
 use Rattle.instruction_set.specs.declared.operands.ChangeProcessorState.{ChangeProcessorState}
 use Rattle.instruction_set.specs.declared.operands.SpecialRegister.{SpecialRegister}
 use Rattle.instruction_set.specs.Sizes.{bytes_in}
-use Rattle.reference.specs.declared.access.Request.{Request}
-use Rattle.reference.specs.declared.exception.TheConstants.{NMI}
-use Rattle.reference.specs.declared.mpu.MpuRegister.{MpuRegister}
-use Rattle.reference.specs.declared.mpu.MpuStop.{MpuStop}
-use Rattle.reference.specs.declared.stop.Stop.{Stop}
-use Rattle.reference.specs.declared.system.SysTickRegister.{SysTickRegister}
-use Rattle.reference.specs.declared.system.SystemRegister.{SystemRegister}
-use Rattle.reference.specs.declared.system.SystemRegister.TheVariants as register
-use Rattle.reference.specs.ExceptionEntry.{activated}
-use Rattle.reference.specs.ExceptionReturn.{exception_ended}
-use Rattle.reference.specs.Kinds.{is_load, is_store}
-use Rattle.reference.specs.Priorities.{Nvic, with_pending, with_active}
-use Rattle.reference.specs.Regions.{Mpu, after_write, write as write_mpu}
-use Rattle.reference.specs.SpecialRegisters.{with_mask, write_mask, change_state}
-use Rattle.reference.specs.Status.{Status, write_status}
-use Rattle.reference.specs.System.{System, SystemAnswer, replied, with_nvic, nvic_written, status_written, mpu_written}
-use Rattle.reference.specs.System.{first_byte, in_place, after_read, register_written, has_access, has_width}
-use Rattle.reference.specs.System.{register_access, system_access, register_at, after_tick, is_held, deactivated}
-use Rattle.reference.specs.SysTickRegisters.{after_systick_read, write_systick}
-use Rattle.reference.specs.Time.{Time, tick_pends, time_after_tick}
+use Rattle.platform.specs.declared.access.Request.{Request}
+use Rattle.platform.specs.declared.access.Rule.{Rule}
+use Rattle.platform.specs.declared.exception.TheConstants.{NMI}
+use Rattle.platform.specs.declared.mpu.MpuRegister.{MpuRegister}
+use Rattle.platform.specs.declared.mpu.MpuStop.{MpuStop}
+use Rattle.platform.specs.declared.stop.Stop.{Stop}
+use Rattle.platform.specs.declared.system.SysTickRegister.{SysTickRegister}
+use Rattle.platform.specs.declared.system.SystemRegister.{SystemRegister}
+use Rattle.platform.specs.declared.system.SystemRegister.TheVariants as register
+use Rattle.platform.specs.Priorities.{activated}
+use Rattle.platform.specs.System.{exception_ended}
+use Rattle.platform.specs.Kinds.{is_load, is_store}
+use Rattle.platform.specs.Outcomes.{Outcome}
+use Rattle.platform.specs.Priorities.{Nvic, with_pending, with_active}
+use Rattle.platform.specs.Regions.{Mpu, after_write, write as write_mpu}
+use Rattle.platform.specs.SpecialRegisters.{with_mask, write_mask, change_state}
+use Rattle.platform.specs.Status.{Status, write_status}
+use Rattle.platform.specs.System.{System, write_performed, with_nvic, nvic_written, status_written, mpu_written}
+use Rattle.platform.specs.System.{first_byte, in_place, after_read, register_written, has_access, has_width}
+use Rattle.platform.specs.System.{register_access, system_access, register_at, after_tick, is_held, deactivated}
+use Rattle.platform.specs.SysTickRegisters.{after_systick_read, write_systick}
+use Rattle.platform.specs.Time.{Time, tick_pends, time_after_tick}
 use Rattle.nvic.proofs.Changes.{IsKept, IfDone, interrupts_kept, priorities_kept, control_kept, mask_kept}
 use Rattle.nvic.proofs.Changes.{write_mask_kept, state_kept, activated_kept, pended_kept}
 
@@ -101,28 +103,30 @@ module _ {P : Parts} (k : PartsAreKept P) where
   read_kept s (register.Mpu it) h = h
   read_kept s register.Unlisted h = h
 
-  replied_kept : (s : System) (r : Result System Stop) → HasParts P s → IfDone (HasParts P) r
-      → HasParts P (replied s r).system
-  replied_kept s (Ok after) h new = new
-  replied_kept s (Err why) h new = h
+  -- what holds of the parts after an access
+  abbrev LeavesParts : Outcome System → Type 0
+  LeavesParts o = HasParts P o.after
 
-  abbrev LeavesParts : SystemAnswer → Type 0
-  LeavesParts r = HasParts P r.system
+  performed_kept : (s : System) (rule : Rule) (r : Result System Stop) → HasParts P s → IfDone (HasParts P) r
+      → LeavesParts (write_performed s rule r)
+  performed_kept s rule (Ok after) h new = new
+  performed_kept s rule (Err why) h new = h
 
-  register_kept : (x : ℕ) (s : System) (q : Request) (it : SystemRegister) → HasParts P s
-      → LeavesParts (register_access x s q it)
+  register_kept : (x : ℕ) (s : System) (rule : Rule) (q : Request) (it : SystemRegister) → HasParts P s
+      → LeavesParts (register_access x s rule q it)
   unfolding register_access
-  register_kept x s q it h =
+  register_kept x s rule q it h =
       cond_both (not (has_access s q)) _ _ LeavesParts (λ e. h)
       (λ e. cond_both (not (has_width it q.access.size)) _ _ LeavesParts (λ f. h)
       (λ f. cond_both (is_store q.access.kind) _ _ LeavesParts
-      (λ g. replied_kept s (register_written s q it) h (written_kept s q it h)) (λ g. read_kept s it h)))
+      (λ g. performed_kept s rule (register_written s q it) h (written_kept s q it h)) (λ g. read_kept s it h)))
 
-  pub access_kept : (x : ℕ) (s : System) (q : Request) → HasParts P s → HasParts P (system_access x s q).system
+  pub access_kept : (x : ℕ) (s : System) (rule : Rule) (q : Request) → HasParts P s
+      → HasParts P (system_access x s rule q).after
   unfolding system_access
-  access_kept x s q h =
+  access_kept x s rule q h =
       cond_both (is_load q.access.kind || is_store q.access.kind) _ _ LeavesParts
-      (λ e. register_kept x s q (register_at (q.access.address / 4 * 4)) h) (λ e. h)
+      (λ e. register_kept x s rule q (register_at (q.access.address / 4 * 4)) h) (λ e. h)
 
   -- ---- changes by the processor
 

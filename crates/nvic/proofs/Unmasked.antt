@@ -3,12 +3,12 @@ use Rattle.std.proofs.Common.{◌≡◌, ℕ, zero, suc, ◌<◌, ◌≤◌, ◌
 use Rattle.std.proofs.Common.{if◌then◌else◌, slice_index, Option, Some, None, refl, sym, ◌∙◌, ap, subst, arith}
 use Rattle.std.proofs.lemmas.Bool.Decides.{nat_tests}
 use Rattle.std.proofs.lemmas.Bool.{cond_both}
-use Rattle.reference.specs.declared.exception.TheConstants.{NMI, EXCEPTIONS}
-use Rattle.reference.specs.Priorities.{Nvic, is_in, is_ready, is_negative, is_below_zero, fixed_or, of_byte, grouped}
-use Rattle.reference.specs.Priorities.{priority_of, group_priority, raised_by, highest_active, boosted}
-use Rattle.reference.specs.Priorities.{execution_priority}
-use Rattle.reference.specs.Priorities.{with_primask, best, if_preempts, candidate}
-use Rattle.reference.specs.Priorities.{candidate_unmasked}
+use Rattle.platform.specs.declared.exception.TheConstants.{NMI, EXCEPTIONS}
+use Rattle.platform.specs.Priorities.{Nvic, is_in, is_ready, is_negative, is_below_zero, fixed_or, of_byte, grouped}
+use Rattle.platform.specs.Priorities.{priority_of, group_priority, raised_by, highest_active, boosted}
+use Rattle.platform.specs.Priorities.{execution_priority}
+use Rattle.platform.specs.Priorities.{with_primask, best, if_preempts, candidate}
+use Rattle.platform.specs.Priorities.{candidate_unmasked}
 use Rattle.nvic.proofs.BelowZero.{below_zero}
 use Rattle.nvic.proofs.Best.{candidate_is, only_candidate, best_alike}
 use Rattle.nvic.proofs.Least.{at_most_active, highest_alike}

@@ -2,11 +2,11 @@
 -- the crate `reference`.
 use Rattle.std.specs.Prelude.{◌≡◌, ℕ, ◌<◌, ◌≤◌, ◌⊎◌, true, ◌&&◌, ◌||◌, List, length, slice_index, Option, Some}
 use Rattle.std.specs.Prelude.{None}
-use Rattle.reference.specs.declared.exception.TheConstants.{EXCEPTIONS}
-use Rattle.reference.specs.Invariant.{HasExceptionsOfBoard}
-use Rattle.reference.specs.Priorities.{Nvic, is_exception, kept, is_in, is_in_words, is_ready, priority_of}
-use Rattle.reference.specs.Priorities.{group_priority, execution_priority, hard_fault_priority, of_byte, grouped}
-use Rattle.reference.specs.Priorities.{lowest}
+use Rattle.platform.specs.declared.exception.TheConstants.{EXCEPTIONS}
+use Rattle.platform.specs.SystemInvariant.{HasExceptionsOfBoard}
+use Rattle.platform.specs.Priorities.{Nvic, is_exception, kept, is_in, is_in_words, is_ready, priority_of}
+use Rattle.platform.specs.Priorities.{group_priority, execution_priority, hard_fault_priority, of_byte, grouped}
+use Rattle.platform.specs.Priorities.{lowest}
 
 -- exception x is pending and enabled
 pub record IsReady (n : Nvic) (x : ℕ) : Type 0 where

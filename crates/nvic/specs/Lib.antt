@@ -1,4 +1,5 @@
 -- What the laws of priorities say. The definitions are in the crate `reference`.
-pub use Rattle.reference.specs.Priorities
+pub use Rattle.platform.specs.Priorities
 pub mod Laws
+pub mod Settings
 pub mod Waiting

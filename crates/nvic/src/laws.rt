@@ -2,9 +2,9 @@
 //! of a function that does nothing.
 
 ghost use Rattle.std.specs.Prelude.{◌≡◌, ◌↔◌, ℕ, Bool, List, Option, length};
-ghost use Rattle.reference.specs.Priorities.{Nvic, execution_priority, best, candidate, with_pending, with_active};
-ghost use Rattle.reference.specs.Priorities.{with_enabled, with_priority, with_group, with_primask, with_faultmask};
-ghost use Rattle.reference.specs.Priorities.{with_basepri, with_due, reset_nvic};
+ghost use Rattle.platform.specs.Priorities.{Nvic, execution_priority, best, candidate, with_pending, with_active};
+ghost use Rattle.platform.specs.Priorities.{with_enabled, with_priority, with_group, with_primask, with_faultmask};
+ghost use Rattle.platform.specs.Priorities.{with_basepri, with_due, reset_nvic};
 ghost use Rattle.nvic.specs.Laws.{IsBest, IsCandidate, IsLeast, IsOfBoard, AddsDue};
 
 /// The execution priority is the highest priority (the least number) of these: the lowest priority,

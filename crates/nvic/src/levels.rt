@@ -1,21 +1,19 @@
 //! The state of the exceptions, however it is kept: a trait with one contract.
 
-ghost use Rattle.std.specs.Prelude.{◌≡◌, ◌+◌, ◌*◌, ◌<◌, true, false, min, nat_lt, slice_index, IfSome};
-ghost use Rattle.reference.specs.declared.exception.TheConstants.{EXCEPTIONS};
-ghost use Rattle.reference.specs.Priorities.{Nvic, is_in, is_enabled as is_enabled_of, best as best_of};
-ghost use Rattle.reference.specs.Priorities.{is_interrupt_pending as is_interrupt_pending_of};
-ghost use Rattle.reference.specs.Priorities.{is_other_active as is_other_active_of, highest_active};
-ghost use Rattle.reference.specs.Priorities.{group_priority as group_priority_of, is_below_zero as is_below_zero_of};
-ghost use Rattle.reference.specs.Priorities.{execution_priority as execution_priority_of, candidate as candidate_of};
-ghost use Rattle.reference.specs.Priorities.{candidate_unmasked as candidate_unmasked_of, boosted as boosted_of};
-ghost use Rattle.reference.specs.Priorities.{candidate_after as candidate_after_of, escalation, with_pending};
-ghost use Rattle.reference.specs.Priorities.{with_active, with_enabled, with_priority, with_group, with_primask};
-ghost use Rattle.reference.specs.Priorities.{with_faultmask, with_basepri, with_due, with_due_at, with_due_below};
-ghost use Rattle.reference.specs.Priorities.{reset_nvic};
+ghost use Rattle.std.specs.Prelude.{◌≡◌, ◌+◌, ◌*◌, ◌<◌, ◌≤◌, true, false, min, nat_lt, slice_index, IfSome};
+ghost use Rattle.nvic.specs.Settings.{settings_of};
+ghost use Rattle.platform.specs.declared.exception.TheConstants.{EXCEPTIONS, MOST_INTERRUPTS};
+ghost use Rattle.platform.specs.Priorities as spec;
+ghost use Rattle.platform.specs.Priorities.{Nvic, is_in, highest_active, escalation, with_pending, with_active};
+ghost use Rattle.platform.specs.Priorities.{with_enabled, with_priority, with_group, with_primask, with_faultmask};
+ghost use Rattle.platform.specs.Priorities.{with_basepri, with_due, with_due_at, with_due_below, reset_nvic};
 
-use crate::numbers::{is_empty, is_in_words, is_interrupt};
-use crate::priorities::{boosted, fixed_or, grouped};
-use reference::exception::{EXCEPTIONS, Escalation, HARD_FAULT, Masks, NMI, Priority};
+use crate::numbers::{
+    can_be_disabled, has_priority_byte, is_empty, is_exception, is_in_words, is_interrupt,
+};
+use crate::priorities::{boosted, fixed_or, grouped, kept};
+use crate::settings::Settings;
+use platform::exception::{EXCEPTIONS, Escalation, HARD_FAULT, Masks, NMI, Priority};
 
 /// The exceptions of a board: which are pending, enabled and active, their priorities, the masks.
 ///
@@ -29,50 +27,33 @@ pub trait Levels: Drop {
     fn fresh(interrupts: u8, priority_bits: u8) -> Self
         ensures { content result ≡ reset_nvic interrupts priority_bits };
 
-    /// Makes the exception pending.
-    fn pend(&mut self, number: u16)
-        ensures { content self.new ≡ with_pending (content self.old) number true };
+    /// Makes an exception of the board pending, or no longer pending.
+    fn put_pending(&mut self, number: u8, on: bool)
+        requires { spec.is_exception (content self.old).interrupts number ≡ true }
+        ensures { content self.new ≡ with_pending (content self.old) number on };
 
-    /// Makes the exception no longer pending.
-    fn clear(&mut self, number: u16)
-        ensures { content self.new ≡ with_pending (content self.old) number false };
+    /// Enables or disables an exception of the board that can be disabled.
+    fn put_enabled(&mut self, number: u8, on: bool)
+        requires { spec.can_be_disabled (content self.old).interrupts number ≡ true }
+        ensures { content self.new ≡ with_enabled (content self.old) number on };
 
-    /// Enables MemManage, BusFault, UsageFault or an interrupt. The others always are enabled.
-    fn enable(&mut self, number: u16)
-        ensures { content self.new ≡ with_enabled (content self.old) number true };
+    /// Makes an exception of the board active, or inactive.
+    fn put_active(&mut self, number: u8, on: bool)
+        requires { spec.is_exception (content self.old).interrupts number ≡ true }
+        ensures { content self.new ≡ with_active (content self.old) number on };
 
-    /// Disables MemManage, BusFault, UsageFault or an interrupt. The others don't change.
-    fn disable(&mut self, number: u16)
-        ensures { content self.new ≡ with_enabled (content self.old) number false };
-
-    /// Sets the exception's priority byte, of which the board keeps the top bits. The priorities of
-    /// NMI and HardFault don't change.
-    fn set_priority(&mut self, number: u16, byte: u8)
+    /// Sets the priority byte of an exception that has one. The board keeps its top bits.
+    fn put_priority(&mut self, number: u8, byte: u8)
+        requires { spec.has_priority_byte (content self.old).interrupts number ≡ true }
         ensures { content self.new ≡ with_priority (content self.old) number byte };
-
-    /// Makes the exception active.
-    fn activate(&mut self, number: u16)
-        ensures { content self.new ≡ with_active (content self.old) number true };
-
-    /// Makes the exception inactive.
-    fn deactivate(&mut self, number: u16)
-        ensures { content self.new ≡ with_active (content self.old) number false };
 
     /// Sets AIRCR.PRIGROUP from the low three bits.
     fn set_group(&mut self, group: u8)
         ensures { content self.new ≡ with_group (content self.old) group };
 
-    /// Sets PRIMASK.
-    fn set_primask(&mut self, on: bool)
-        ensures { content self.new ≡ with_primask (content self.old) on };
-
-    /// Sets FAULTMASK, whatever the execution priority is.
-    fn set_faultmask(&mut self, on: bool)
-        ensures { content self.new ≡ with_faultmask (content self.old) on };
-
-    /// Sets BASEPRI, of which the board keeps the top bits.
-    fn set_basepri(&mut self, byte: u8)
-        ensures { content self.new ≡ with_basepri (content self.old) byte };
+    /// Sets PRIMASK, FAULTMASK and BASEPRI.
+    fn set_masks(&mut self, masks: Masks)
+        ensures { content self.new ≡ record (content self.old) { masks = masks } };
 
     /// Returns whether the exception is pending.
     fn is_pending(&self, number: u16) -> bool
@@ -80,46 +61,178 @@ pub trait Levels: Drop {
 
     /// Returns whether the exception is enabled.
     fn is_enabled(&self, number: u16) -> bool
-        ensures { result ≡ is_enabled_of (content self.now) number };
+        ensures { result ≡ spec.is_enabled (content self.now) number };
 
     /// Returns whether the exception is active.
     fn is_active(&self, number: u16) -> bool
         ensures { result ≡ is_in (content self.now).active number };
 
-    /// Returns the priority byte of the exception, 0 where it has none.
-    fn priority(&self, number: u16) -> u8
-        ensures { result ≡ slice_index (content self.now).priorities number };
-
-    /// Returns AIRCR.PRIGROUP, from 0 to 7.
-    fn group(&self) -> u8
-        ensures value { result ≡ (content self.now).group }
-        ensures small { result < 8 };
-
-    /// Returns PRIMASK, FAULTMASK and BASEPRI.
-    fn masks(&self) -> Masks
-        ensures { result ≡ (content self.now).masks };
-
-    /// Returns how many interrupts the board has, at most 240.
-    fn interrupts(&self) -> u8
-        ensures { result ≡ (content self.now).interrupts };
-
-    /// Returns how many of the top bits of a priority byte the board keeps.
-    fn priority_bits(&self) -> u8
-        ensures { result ≡ (content self.now).priority_bits };
-
-    /// Returns the highest group priority (the least number) of the active exceptions, or the
-    /// lowest priority if none is active.
-    fn active_priority(&self) -> Priority
-        ensures { result ≡ highest_active (content self.now) EXCEPTIONS };
+    /// Returns the priority bytes, the masks and the numbers of the board.
+    fn settings(&self) -> &Settings
+        ensures value { result.now ≡ settings_of (content self.now) }
+        ensures small { result.now.group < 8 }
+        ensures few { result.now.interrupts ≤ MOST_INTERRUPTS };
 
     /// Returns the best of the exceptions that are pending and enabled, whatever is active or
     /// masked.
     fn best(&self) -> Option<u16>
-        ensures { result ≡ best_of (content self.now) };
+        ensures { result ≡ spec.best (content self.now) };
 
     /// Returns a copy.
     fn copied(&self) -> Self
         ensures { content result ≡ content self.now };
+
+    /// Makes the exception pending.
+    #[inline]
+    fn pend(&mut self, number: u16)
+        ensures { content self.new ≡ with_pending (content self.old) number true }
+    {
+        if is_exception(self.interrupts(), number) {
+            self.put_pending(number as u8, true);
+        }
+    }
+
+    /// Makes the exception no longer pending.
+    fn clear(&mut self, number: u16)
+        ensures { content self.new ≡ with_pending (content self.old) number false }
+    {
+        if is_exception(self.interrupts(), number) {
+            self.put_pending(number as u8, false);
+        }
+    }
+
+    /// Enables MemManage, BusFault, UsageFault or an interrupt. The others always are enabled.
+    fn enable(&mut self, number: u16)
+        ensures { content self.new ≡ with_enabled (content self.old) number true }
+    {
+        if can_be_disabled(self.interrupts(), number) {
+            self.put_enabled(number as u8, true);
+        }
+    }
+
+    /// Disables MemManage, BusFault, UsageFault or an interrupt. The others don't change.
+    fn disable(&mut self, number: u16)
+        ensures { content self.new ≡ with_enabled (content self.old) number false }
+    {
+        if can_be_disabled(self.interrupts(), number) {
+            self.put_enabled(number as u8, false);
+        }
+    }
+
+    /// Makes the exception active.
+    fn activate(&mut self, number: u16)
+        ensures { content self.new ≡ with_active (content self.old) number true }
+    {
+        if is_exception(self.interrupts(), number) {
+            self.put_active(number as u8, true);
+        }
+    }
+
+    /// Makes the exception inactive.
+    fn deactivate(&mut self, number: u16)
+        ensures { content self.new ≡ with_active (content self.old) number false }
+    {
+        if is_exception(self.interrupts(), number) {
+            self.put_active(number as u8, false);
+        }
+    }
+
+    /// Sets the exception's priority byte, of which the board keeps the top bits. The priorities of
+    /// NMI and HardFault don't change.
+    fn set_priority(&mut self, number: u16, byte: u8)
+        ensures { content self.new ≡ with_priority (content self.old) number byte }
+    {
+        if has_priority_byte(self.interrupts(), number) {
+            self.put_priority(number as u8, byte);
+        }
+    }
+
+    /// Sets PRIMASK.
+    fn set_primask(&mut self, on: bool)
+        ensures { content self.new ≡ with_primask (content self.old) on }
+    {
+        let mut masks = self.masks();
+        masks.primask = on;
+        self.set_masks(masks);
+    }
+
+    /// Sets FAULTMASK, whatever the execution priority is.
+    fn set_faultmask(&mut self, on: bool)
+        ensures { content self.new ≡ with_faultmask (content self.old) on }
+    {
+        let mut masks = self.masks();
+        masks.faultmask = on;
+        self.set_masks(masks);
+    }
+
+    /// Sets BASEPRI, of which the board keeps the top bits.
+    fn set_basepri(&mut self, byte: u8)
+        ensures { content self.new ≡ with_basepri (content self.old) byte }
+    {
+        let mut masks = self.masks();
+        masks.basepri = kept(self.priority_bits(), byte);
+        self.set_masks(masks);
+    }
+
+    /// Returns the priority byte of the exception, 0 where it has none.
+    #[inline]
+    fn priority(&self, number: u16) -> u8
+        ensures { result ≡ slice_index (content self.now).priorities number }
+    {
+        self.settings().priority(number)
+    }
+
+    /// Returns AIRCR.PRIGROUP, from 0 to 7.
+    #[inline]
+    fn group(&self) -> u8
+        ensures value { result ≡ (content self.now).group }
+        ensures small { result < 8 }
+    {
+        self.settings().group
+    }
+
+    /// Returns PRIMASK, FAULTMASK and BASEPRI.
+    #[inline]
+    fn masks(&self) -> Masks
+        ensures { result ≡ (content self.now).masks }
+    {
+        self.settings().masks
+    }
+
+    /// Returns how many interrupts the board has, at most 240.
+    #[inline]
+    fn interrupts(&self) -> u8
+        ensures value { result ≡ (content self.now).interrupts }
+        ensures few { result ≤ MOST_INTERRUPTS }
+    {
+        self.settings().interrupts
+    }
+
+    /// Returns how many of the top bits of a priority byte the board keeps.
+    #[inline]
+    fn priority_bits(&self) -> u8
+        ensures { result ≡ (content self.now).priority_bits }
+    {
+        self.settings().priority_bits
+    }
+
+    /// Returns the highest group priority (the least number) of the active exceptions, or the
+    /// lowest priority if none is active.
+    fn active_priority(&self) -> Priority
+        ensures { result ≡ highest_active (content self.now) EXCEPTIONS }
+    {
+        let mut least = Priority::LOWEST;
+        #[tactic(auto, unfolding(platform::specs::Priorities::highest_active))]
+        'each: for number in 0..EXCEPTIONS {
+            if self.is_active(number) {
+                let priority = self.group_priority(number);
+                if priority.is_below(least) {
+                    least = priority;
+                }
+            }
+        }
+        least
+    }
 
     /// Pends each exception in `due`: exception n is bit n mod 32 of word n / 32.
     #[tactic(auto, using(crate::proofs::Sets::none_added))]
@@ -129,7 +242,7 @@ pub trait Levels: Drop {
         if is_empty(due) {
             return;
         }
-        #[tactic(auto, using(crate::proofs::Sets::empty_word), unfolding(reference::specs::Priorities::with_due_below))]
+        #[tactic(auto, using(crate::proofs::Sets::empty_word), unfolding(platform::specs::Priorities::with_due_below))]
         'words: for word in 0..8u16 {
             if due[word as usize] != 0 {
                 self.pend_word(due, word);
@@ -143,14 +256,14 @@ pub trait Levels: Drop {
         ensures { (n : Nvic) → content self.old ≡ with_due_below n due.now (word * 32) → content self.new
             ≡ with_due_below n due.now ((word + 1) * 32) }
     {
-        #[tactic(auto, unfolding(reference::specs::Priorities::with_due_below))]
+        #[tactic(auto, unfolding(platform::specs::Priorities::with_due_below))]
         'each: for number in word * 32..(word + 1) * 32 {
             self.pend_if_due(due, number);
         }
     }
 
     /// Pends an exception where it is in `due`.
-    #[tactic(auto, unfolding(reference::specs::Priorities::with_due_at))]
+    #[tactic(auto, unfolding(platform::specs::Priorities::with_due_at))]
     #[inline]
     fn pend_if_due(&mut self, due: &[u32; 8], number: u16)
         requires { number < 256 }
@@ -162,12 +275,12 @@ pub trait Levels: Drop {
     }
 
     /// Returns whether an interrupt is pending, enabled or not: ICSR.ISRPENDING.
-    #[tactic(auto, unfolding(reference::specs::Priorities::is_interrupt_pending))]
+    #[tactic(auto, unfolding(platform::specs::Priorities::is_interrupt_pending))]
     fn is_interrupt_pending(&self) -> bool
-        ensures { result ≡ is_interrupt_pending_of (content self.now) }
+        ensures { result ≡ spec.is_interrupt_pending (content self.now) }
     {
         let mut found = false;
-        #[tactic(auto, unfolding(reference::specs::Priorities::some_below))]
+        #[tactic(auto, unfolding(platform::specs::Priorities::some_below))]
         'each: for number in 0..EXCEPTIONS {
             found = found || (is_interrupt(self.interrupts(), number) && self.is_pending(number));
         }
@@ -175,12 +288,12 @@ pub trait Levels: Drop {
     }
 
     /// Returns whether another exception than this one is active.
-    #[tactic(auto, unfolding(reference::specs::Priorities::is_other_active))]
+    #[tactic(auto, unfolding(platform::specs::Priorities::is_other_active))]
     fn is_other_active(&self, number: u16) -> bool
-        ensures { result ≡ is_other_active_of (content self.now) number }
+        ensures { result ≡ spec.is_other_active (content self.now) number }
     {
         let mut found = false;
-        #[tactic(auto, unfolding(reference::specs::Priorities::some_below))]
+        #[tactic(auto, unfolding(platform::specs::Priorities::some_below))]
         'each: for other in 0..EXCEPTIONS {
             found = found || (other != number && self.is_active(other));
         }
@@ -189,9 +302,9 @@ pub trait Levels: Drop {
 
     /// Returns what would be the candidate with these exceptions pending too (bit n mod 32 of word
     /// n / 32 for exception n), and with this PRIMASK.
-    #[tactic(auto, unfolding(reference::specs::Priorities::candidate_after))]
+    #[tactic(auto, unfolding(platform::specs::Priorities::candidate_after))]
     fn candidate_after(&self, due: &[u32; 8], primask: bool) -> Option<u16>
-        ensures { result ≡ candidate_after_of (content self.now) due.now primask }
+        ensures { result ≡ spec.candidate_after (content self.now) due.now primask }
     {
         let mut after = self.copied();
         after.pend_due(due);
@@ -200,9 +313,9 @@ pub trait Levels: Drop {
     }
 
     /// `ExecutionPriority()`.
-    #[tactic(auto, unfolding(reference::specs::Priorities::execution_priority))]
+    #[tactic(auto, unfolding(platform::specs::Priorities::execution_priority))]
     fn execution_priority(&self) -> Priority
-        ensures { result ≡ execution_priority_of (content self.now) }
+        ensures { result ≡ spec.execution_priority (content self.now) }
     {
         self.priority_under(self.masks())
     }
@@ -210,7 +323,7 @@ pub trait Levels: Drop {
     /// Returns the execution priority under these masks.
     fn priority_under(&self, masks: Masks) -> Priority
         ensures { result ≡ min (highest_active (content self.now) EXCEPTIONS)
-            (boosted_of (content self.now).group masks) }
+            (spec.boosted (content self.now).group masks) }
     {
         let held = self.active_priority();
         let masked = boosted(self.group(), masks);
@@ -221,14 +334,14 @@ pub trait Levels: Drop {
     /// active.
     #[tactic(auto, using(crate::proofs::BelowZero::below_zero))]
     fn is_below_zero(&self) -> bool
-        ensures { result ≡ is_below_zero_of (content self.now) }
+        ensures { result ≡ spec.is_below_zero (content self.now) }
     {
         self.masks().faultmask || self.is_active(NMI) || self.is_active(HARD_FAULT)
     }
 
     /// Returns the group priority of an exception.
     fn group_priority(&self, number: u16) -> Priority
-        ensures { result ≡ group_priority_of (content self.now) number }
+        ensures { result ≡ spec.group_priority (content self.now) number }
     {
         fixed_or(number, grouped(self.group(), self.priority(number)))
     }
@@ -236,17 +349,17 @@ pub trait Levels: Drop {
     /// Returns whether an exception preempts: its group priority is a lower number than the execution
     /// priority.
     fn preempts(&self, number: u16) -> bool
-        ensures { result ≡ nat_lt (group_priority_of (content self.now) number)
-            (execution_priority_of (content self.now)) }
+        ensures { result ≡ nat_lt (spec.group_priority (content self.now) number)
+            (spec.execution_priority (content self.now)) }
     {
         let limit = self.execution_priority();
         self.group_priority(number).is_below(limit)
     }
 
     /// Returns the exception that is taken next: the best one, where it preempts.
-    #[tactic(auto, unfolding(reference::specs::Priorities::candidate))]
+    #[tactic(auto, unfolding(platform::specs::Priorities::candidate))]
     fn candidate(&self) -> Option<u16>
-        ensures value { result ≡ candidate_of (content self.now) }
+        ensures value { result ≡ spec.candidate (content self.now) }
         ensures small { IfSome result (λ number. number < EXCEPTIONS) }
     {
         let best = self.best()?;
@@ -261,7 +374,7 @@ pub trait Levels: Drop {
     /// only NMI is tested there.
     #[tactic(auto, using(crate::proofs::Unmasked::unmasked, crate::proofs::Unmasked::below_zero_nmi))]
     fn candidate_unmasked(&self) -> Option<u16>
-        ensures { result ≡ candidate_unmasked_of (content self.now) }
+        ensures { result ≡ spec.candidate_unmasked (content self.now) }
     {
         if self.is_below_zero() {
             return if self.is_pending(NMI) && !self.is_active(NMI) {
@@ -284,7 +397,7 @@ pub trait Levels: Drop {
     }
 
     /// Returns how a fault or SVC of the exception of this number escalates.
-    #[tactic(auto, unfolding(reference::specs::Priorities::escalation))]
+    #[tactic(auto, unfolding(platform::specs::Priorities::escalation))]
     fn escalate(&self, number: u16) -> Escalation
         ensures { result ≡ escalation (content self.now) number }
     {

@@ -7,9 +7,11 @@ mod levels;
 mod numbers;
 mod plain;
 mod priorities;
+mod settings;
 
 pub use levels::Levels;
 pub use numbers::{can_be_disabled, has_priority_byte, is_always_enabled, is_empty, is_exception};
 pub use plain::PlainLevels;
+pub use platform::exception::{Escalation, Masks, Priority};
 pub use priorities::{grouped, kept};
-pub use reference::exception::{Escalation, Masks, Priority};
+pub use settings::Settings;

@@ -1,15 +1,13 @@
 //! The exceptions as plain sets, which are searched exception by exception.
 
-ghost use Rattle.std.specs.Prelude.{◌≡◌, ◌<◌, slice_set};
-ghost use Rattle.reference.specs.Priorities.{priority_of as priority_of_number, group_priority as group_priority_of};
-ghost use Rattle.reference.specs.Priorities.{is_ready as is_ready_of, highest_active as least_active_of};
-ghost use Rattle.reference.specs.Priorities.{execution_priority as execution_priority_of, better_of as better_of_both};
-ghost use Rattle.reference.specs.Priorities.{with_ready as with_ready_of};
+ghost use Rattle.std.specs.Prelude.{◌≡◌};
+ghost use Rattle.platform.specs.Priorities as spec;
 
 use crate::levels::Levels;
-use crate::numbers::{can_be_disabled, has_priority_byte, is_always_enabled, is_exception};
-use crate::priorities::{boosted, fixed_or, grouped, kept};
-use reference::exception::{EXCEPTIONS, Escalation, MOST_INTERRUPTS, Masks, Priority};
+use crate::numbers::is_always_enabled;
+use crate::priorities::{fixed_or, kept};
+use crate::settings::Settings;
+use platform::exception::{EXCEPTIONS, Masks, Priority};
 use std::marker::Model;
 
 /// The exceptions as plain sets. A contract sees them as the reference's `Nvic`.
@@ -18,11 +16,7 @@ pub struct PlainLevels {
     pending: [bool; EXCEPTIONS as usize],
     enabled: [bool; EXCEPTIONS as usize],
     active: [bool; EXCEPTIONS as usize],
-    priorities: [u8; EXCEPTIONS as usize],
-    group: u8,
-    masks: Masks,
-    interrupts: u8,
-    priority_bits: u8,
+    settings: Settings,
     /// The number of pending exceptions.
     waiting: u16,
 }
@@ -30,8 +24,8 @@ pub struct PlainLevels {
 impl Model for PlainLevels {
     ghost use Rattle.std.specs.Prelude.{◌≡◌, ◌<◌, ◌≤◌};
     ghost use Rattle.nvic.specs.Waiting.{count_in};
-    ghost use Rattle.reference.specs.Priorities.{Nvic};
-    ghost use Rattle.reference.specs.declared.exception.TheConstants.{MOST_INTERRUPTS};
+    ghost use Rattle.platform.specs.Priorities.{Nvic};
+    ghost use Rattle.platform.specs.declared.exception.TheConstants.{MOST_INTERRUPTS};
 
     ghost Value = { Nvic };
 
@@ -39,14 +33,15 @@ impl Model for PlainLevels {
       pending = l.pending;
       enabled = l.enabled;
       active = l.active;
-      priorities = l.priorities;
-      group = l.group;
-      masks = l.masks;
-      interrupts = l.interrupts;
-      priority_bits = l.priority_bits;
+      priorities = l.settings.priorities;
+      group = l.settings.group;
+      masks = l.settings.masks;
+      interrupts = l.settings.interrupts;
+      priority_bits = l.settings.priority_bits;
     } };
 
-    ghost invariant = { λ l. (l.group < 8) × (l.interrupts ≤ MOST_INTERRUPTS) × (l.waiting ≡ count_in l.pending) };
+    ghost invariant = { λ l. (l.settings.group < 8) × (l.settings.interrupts ≤ MOST_INTERRUPTS)
+        × (l.waiting ≡ count_in l.pending) };
 }
 
 impl Levels for PlainLevels {
@@ -58,76 +53,37 @@ impl Levels for PlainLevels {
             pending: [false; EXCEPTIONS as usize],
             enabled: [false; EXCEPTIONS as usize],
             active: [false; EXCEPTIONS as usize],
-            priorities: [0; EXCEPTIONS as usize],
-            group: 0,
-            masks: Masks {
-                primask: false,
-                faultmask: false,
-                basepri: 0,
-            },
-            interrupts: interrupts.min(MOST_INTERRUPTS),
-            priority_bits,
+            settings: Settings::fresh(interrupts, priority_bits),
             waiting: 0,
         }
     }
 
     #[inline]
-    fn pend(&mut self, number: u16) {
-        if is_exception(self.interrupts, number) {
-            self.put(number as u8, true);
-        }
+    #[tactic(auto, using(crate::proofs::Waiting::waiting_set, crate::proofs::Waiting::waiting_room))]
+    fn put_pending(&mut self, number: u8, on: bool) {
+        self.waiting += u16::from(on);
+        self.waiting -= u16::from(self.pending[number as usize]);
+        self.pending[number as usize] = on;
     }
 
-    fn clear(&mut self, number: u16) {
-        if is_exception(self.interrupts, number) {
-            self.put(number as u8, false);
-        }
+    fn put_enabled(&mut self, number: u8, on: bool) {
+        self.enabled[number as usize] = on;
     }
 
-    fn enable(&mut self, number: u16) {
-        if can_be_disabled(self.interrupts, number) {
-            self.enabled[number as usize] = true;
-        }
+    fn put_active(&mut self, number: u8, on: bool) {
+        self.active[number as usize] = on;
     }
 
-    fn disable(&mut self, number: u16) {
-        if can_be_disabled(self.interrupts, number) {
-            self.enabled[number as usize] = false;
-        }
-    }
-
-    fn set_priority(&mut self, number: u16, byte: u8) {
-        if has_priority_byte(self.interrupts, number) {
-            self.priorities[number as usize] = kept(self.priority_bits, byte);
-        }
-    }
-
-    fn activate(&mut self, number: u16) {
-        if is_exception(self.interrupts, number) {
-            self.active[number as usize] = true;
-        }
-    }
-
-    fn deactivate(&mut self, number: u16) {
-        if is_exception(self.interrupts, number) {
-            self.active[number as usize] = false;
-        }
+    fn put_priority(&mut self, number: u8, byte: u8) {
+        self.settings.priorities[number as usize] = kept(self.settings.priority_bits, byte);
     }
 
     fn set_group(&mut self, group: u8) {
-        self.group = group % 8;
+        self.settings.group = group % 8;
     }
 
-    fn set_primask(&mut self, on: bool) {
-        self.masks.primask = on;
-    }
-
-    fn set_faultmask(&mut self, on: bool) {
-        self.masks.faultmask = on;
-    }
-
-    fn set_basepri(&mut self, byte: u8) {
-        self.masks.basepri = kept(self.priority_bits, byte);
+    fn set_masks(&mut self, masks: Masks) {
+        self.settings.masks = masks;
     }
 
     #[inline]
@@ -145,51 +101,17 @@ impl Levels for PlainLevels {
     }
 
     #[inline]
-    fn priority(&self, number: u16) -> u8 {
-        if number < EXCEPTIONS {
-            self.priorities[number as usize]
-        } else {
-            0
-        }
+    fn settings(&self) -> &Settings {
+        &self.settings
     }
 
-    fn group(&self) -> u8 {
-        self.group
-    }
-
-    fn masks(&self) -> Masks {
-        self.masks
-    }
-
-    fn interrupts(&self) -> u8 {
-        self.interrupts
-    }
-
-    fn priority_bits(&self) -> u8 {
-        self.priority_bits
-    }
-
-    fn active_priority(&self) -> Priority {
-        let mut least = Priority::LOWEST;
-        #[tactic(auto, unfolding(reference::specs::Priorities::highest_active))]
-        'each: for number in 0..EXCEPTIONS {
-            if self.active[number as usize] {
-                let priority = self.group_priority(number);
-                if priority.is_below(least) {
-                    least = priority;
-                }
-            }
-        }
-        least
-    }
-
-    #[tactic(auto, using(crate::proofs::Waiting::none_best), unfolding(reference::specs::Priorities::best))]
+    #[tactic(auto, using(crate::proofs::Waiting::none_best), unfolding(platform::specs::Priorities::best))]
     fn best(&self) -> Option<u16> {
         if self.waiting == 0 {
             return None;
         }
         let mut best: Option<u16> = None;
-        #[tactic(auto, unfolding(reference::specs::Priorities::best_below))]
+        #[tactic(auto, unfolding(platform::specs::Priorities::best_below))]
         'each: for number in 0..EXCEPTIONS {
             best = self.with_ready(best, number);
         }
@@ -201,31 +123,17 @@ impl Levels for PlainLevels {
             pending: self.pending,
             enabled: self.enabled,
             active: self.active,
-            priorities: self.priorities,
-            group: self.group,
-            masks: self.masks,
-            interrupts: self.interrupts,
-            priority_bits: self.priority_bits,
+            settings: self.settings,
             waiting: self.waiting,
         }
     }
 }
 
 impl PlainLevels {
-    /// Makes an exception pending, or not pending any more.
-    #[tactic(auto, using(crate::proofs::Waiting::waiting_set, crate::proofs::Waiting::waiting_room))]
-    fn put(&mut self, number: u8, on: bool)
-        ensures { self.new ≡ record self.old { pending = slice_set self.old.pending number on } }
-    {
-        self.waiting += u16::from(on);
-        self.waiting -= u16::from(self.pending[number as usize]);
-        self.pending[number as usize] = on;
-    }
-
     /// Returns the priority of an exception.
     #[inline]
     fn priority_of(&self, number: u16) -> Priority
-        ensures { result ≡ priority_of_number self.now number }
+        ensures { result ≡ spec.priority_of self.now number }
     {
         fixed_or(number, self.priority(number))
     }
@@ -233,17 +141,17 @@ impl PlainLevels {
     /// Returns whether the exception is pending and enabled.
     #[inline]
     fn is_ready(&self, number: u16) -> bool
-        ensures { result ≡ is_ready_of self.now number }
+        ensures { result ≡ spec.is_ready self.now number }
     {
         self.is_pending(number) && self.is_enabled(number)
     }
 
     /// Returns the better of one exception, if there is one, and another with a higher number,
     /// where that is pending and enabled.
-    #[tactic(auto, unfolding(reference::specs::Priorities::with_ready))]
+    #[tactic(auto, unfolding(platform::specs::Priorities::with_ready))]
     #[inline]
     fn with_ready(&self, before: Option<u16>, number: u16) -> Option<u16>
-        ensures { result ≡ with_ready_of self.now number before }
+        ensures { result ≡ spec.with_ready self.now number before }
     {
         if self.is_ready(number) {
             self.better_of(before, number)
@@ -255,7 +163,7 @@ impl PlainLevels {
     /// Returns the better of one exception, if there is one, and another with a higher number.
     #[inline]
     fn better_of(&self, before: Option<u16>, number: u16) -> Option<u16>
-        ensures { result ≡ better_of_both self.now before number }
+        ensures { result ≡ spec.better_of self.now before number }
     {
         match before {
             Some(first) if !self.priority_of(number).is_below(self.priority_of(first)) => before,

@@ -1,10 +1,10 @@
 //! Priority bytes, and the priorities that they represent.
 
 ghost use Rattle.std.specs.Prelude.{◌≡◌, ◌<◌};
-ghost use Rattle.reference.specs.Priorities.{kept as kept_of, grouped as grouped_of, fixed_or as fixed_or_of, of_byte};
-ghost use Rattle.reference.specs.Priorities.{boosted as boosted_of};
+ghost use Rattle.platform.specs.Priorities as spec;
+ghost use Rattle.platform.specs.Priorities.{of_byte};
 
-use reference::exception::{HARD_FAULT, Masks, NMI, Priority};
+use platform::exception::{HARD_FAULT, Masks, NMI, Priority};
 
 /// How many bits a priority byte has.
 const BYTE_BITS: u8 = 8;
@@ -12,7 +12,7 @@ const BYTE_BITS: u8 = 8;
 /// Returns the top bits of a priority byte that a board keeps.
 #[inline]
 pub fn kept(priority_bits: u8, byte: u8) -> u8
-    ensures { result ≡ kept_of priority_bits byte }
+    ensures { result ≡ spec.kept priority_bits byte }
 {
     let dropped = BYTE_BITS.saturating_sub(priority_bits);
     (byte as u16 >> dropped << dropped) as u8
@@ -22,7 +22,7 @@ pub fn kept(priority_bits: u8, byte: u8) -> u8
 #[inline]
 pub fn grouped(group: u8, byte: u8) -> u8
     requires { group < 8 }
-    ensures { result ≡ grouped_of group byte }
+    ensures { result ≡ spec.grouped group byte }
 {
     (byte as u16 >> (group + 1) << (group + 1)) as u8
 }
@@ -30,7 +30,7 @@ pub fn grouped(group: u8, byte: u8) -> u8
 /// Returns the fixed priority of NMI or HardFault, and otherwise that of this byte.
 #[inline]
 pub fn fixed_or(number: u16, byte: u8) -> Priority
-    ensures { result ≡ fixed_or_of number (of_byte byte) }
+    ensures { result ≡ spec.fixed_or number (of_byte byte) }
 {
     match number {
         NMI => Priority::NMI,
@@ -44,7 +44,7 @@ pub fn fixed_or(number: u16, byte: u8) -> Priority
 #[inline]
 pub fn boosted(group: u8, masks: Masks) -> Priority
     requires { group < 8 }
-    ensures { result ≡ boosted_of group masks }
+    ensures { result ≡ spec.boosted group masks }
 {
     if masks.faultmask {
         Priority::HARD_FAULT

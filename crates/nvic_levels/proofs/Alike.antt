@@ -4,12 +4,12 @@ use Rattle.std.proofs.Common.{ap, ◌∙◌}
 use Rattle.std.proofs.Math.Bool.{and-false}
 use Rattle.std.proofs.lemmas.Bool.{eqb-true, eqb-false, cond_both}
 use Rattle.std.proofs.lemmas.List.{get_or-set_other}
-use Rattle.reference.specs.declared.exception.Masks.{Masks}
-use Rattle.reference.specs.declared.exception.TheConstants.{EXCEPTIONS}
-use Rattle.reference.specs.Priorities.{Nvic, best, best_below, better_of, is_enabled, is_exception, is_in, is_ready}
-use Rattle.reference.specs.Priorities.{can_be_disabled, highest_active, with_active, with_enabled}
-use Rattle.reference.specs.Priorities.{with_group}
-use Rattle.reference.specs.Priorities.{with_member, with_pending, with_ready}
+use Rattle.platform.specs.declared.exception.Masks.{Masks}
+use Rattle.platform.specs.declared.exception.TheConstants.{EXCEPTIONS}
+use Rattle.platform.specs.Priorities.{Nvic, best, best_below, better_of, is_enabled, is_exception, is_in, is_ready}
+use Rattle.platform.specs.Priorities.{can_be_disabled, highest_active, with_active, with_enabled}
+use Rattle.platform.specs.Priorities.{with_group}
+use Rattle.platform.specs.Priorities.{with_member, with_pending, with_ready}
 use Rattle.nvic.proofs.Best.{best_alike}
 use Rattle.nvic.proofs.Least.{highest_alike}
 

@@ -11,8 +11,8 @@ use Rattle.std.proofs.lemmas.Nat.Bits.{bit_at_set_same, bit_at_set_other, bit_at
 use Rattle.std.proofs.lemmas.Nat.Bits.{bit_at-trailing_zeros}
 use Rattle.nvic_levels.specs.Sets.{level, AreEmpty, IsFirstOf}
 use Rattle.instruction_set.specs.Words.{bit_at, is_bit}
-use Rattle.reference.specs.declared.exception.TheConstants.{EXCEPTIONS}
-use Rattle.reference.specs.Priorities.{is_in_words}
+use Rattle.platform.specs.declared.exception.TheConstants.{EXCEPTIONS}
+use Rattle.platform.specs.Priorities.{is_in_words}
 use Rattle.nvic.proofs.Sets.{no_bit}
 
 -- a word with bit k set, and one with bit k cleared

@@ -15,11 +15,11 @@ use Rattle.nvic_levels.proofs.Lists.{flag}
 use Rattle.nvic_levels.specs.Sets.{flags, level, is_waiting, is_levelled, AreEmpty, IsKept, IsFirstOf}
 use Rattle.nvic.proofs.Best.{best_exactly}
 use Rattle.nvic.specs.Laws.{IsReady, ComesFirst}
-use Rattle.reference.specs.declared.exception.TheConstants.{NMI, HARD_FAULT, EXCEPTIONS}
-use Rattle.reference.specs.declared.exception.Masks.{Masks}
-use Rattle.reference.specs.Priorities.{Nvic, best, is_always_enabled, is_in_words, is_enabled, is_fixed, is_in}
-use Rattle.reference.specs.Priorities.{is_ready}
-use Rattle.reference.specs.Priorities.{priority_of}
+use Rattle.platform.specs.declared.exception.TheConstants.{NMI, HARD_FAULT, EXCEPTIONS}
+use Rattle.platform.specs.declared.exception.Masks.{Masks}
+use Rattle.platform.specs.Priorities.{Nvic, best, is_always_enabled, is_in_words, is_enabled, is_fixed, is_in}
+use Rattle.platform.specs.Priorities.{is_ready}
+use Rattle.platform.specs.Priorities.{priority_of}
 
 -- the levels are those of the exceptions
 pub record IsOf (n : Nvic) (levels : List (List ℕ)) (held enabled : List ℕ) : Type 0 where
@@ -156,14 +156,14 @@ best_found n levels held enabled p x of nmi fault before first =
             absurd (let w : ⊥ = cc in w)
         split (inr _) (inl above) = inl (let a = px in let b = py in omega (arith, a, b, above))
         split (inr high) (inr low) = inr
-            (let a = px in let b = py in omega (arith, a, b, high, low), later (cases_lt y x))
+            (let a = px in let b = py in omega (arith, a, b, high, low), not_before (cases_lt y x))
           where
             same : slice_index n.priorities y ≡ p
             same = omega (arith, high, low)
 
-            later : ((y < x) ⊎ (x ≤ y)) → x ≤ y
-            later (inr h) = h
-            later (inl h) =
+            not_before : ((y < x) ⊎ (x ≤ y)) → x ≤ y
+            not_before (inr h) = h
+            not_before (inl h) =
                 let none = first.2 y h in
                 let t : is_in_words (level levels p) y ≡ true = (let s = same in rw s at there) in
                 absurd (let w : ⊥ = cc in w)

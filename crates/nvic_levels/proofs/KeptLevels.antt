@@ -6,17 +6,17 @@
 --   exceptions, as a contract sees them, change by that one.
 -- - In each, an exception is the one that changes or another one: `lead` splits on `y == x`. What isn't waiting is in
 --   no set (`absent`, `free`), so moving its priority byte or its enabled bit moves nothing.
-use Rattle.std.proofs.Common.{◌≡◌, ℕ, ◌<◌, min, Bool, true, false, not, ◌&&◌, ◌||◌, ◌==◌, if◌then◌else◌, List, set}
-use Rattle.std.proofs.Common.{replicate, slice_index, slice_set, refl, sym, ◌∙◌, ap, arith}
+use Rattle.std.proofs.Common.{◌≡◌, ℕ, ◌<◌, Bool, true, false, not, ◌&&◌, ◌||◌, ◌==◌, if◌then◌else◌, List, set}
+use Rattle.std.proofs.Common.{slice_index, slice_set, refl, sym, ◌∙◌, ap, arith}
 use Rattle.std.proofs.Math.Bool.{or-true, or-false}
 use Rattle.std.proofs.lemmas.Bool.{eqb-true, eqb-false, false_from_ne_true}
 use Rattle.std.proofs.lemmas.Bool.Decides.{nat_tests}
 use Rattle.std.proofs.lemmas.List.{get_or-set_other}
-use Rattle.nvic_levels.proofs.Lists.{flags_set, flags_same, flags_none}
+use Rattle.nvic_levels.proofs.Lists.{flags_set, flags_same}
 use Rattle.nvic_levels.specs.Sets.{flags, level, is_waiting, is_levelled, IsKept}
-use Rattle.reference.specs.declared.exception.Masks.{Masks}
-use Rattle.reference.specs.declared.exception.TheConstants.{EXCEPTIONS, MOST_INTERRUPTS}
-use Rattle.reference.specs.Priorities.{Nvic, is_always_enabled, is_in_words, is_fixed, reset_nvic}
+use Rattle.platform.specs.declared.exception.Masks.{Masks}
+use Rattle.platform.specs.declared.exception.TheConstants.{EXCEPTIONS}
+use Rattle.platform.specs.Priorities.{Nvic, is_always_enabled, is_in_words, is_fixed}
 
 -- one exception of a set, and one of the set of a priority byte
 abbrev Puts : List ℕ → List ℕ → ℕ → Bool → Type 0
@@ -141,6 +141,9 @@ seen_held levels old new enabled priorities x on small kept off puts =
         rw (put, none) (or-false on)
     lead y h false e put = ap (λ b. b || is_in_words (level levels (slice_index priorities y)) y) put
 
+-- the lemmas of a change of one exception that is or isn't levelled
+pub ruleset put_lemmas = (kept_levelled, kept_held, seen_levelled, seen_held)
+
 -- ---- a change of the enabled exceptions, and of a priority byte
 
 pub flags_put : (old new : List ℕ) (x : ℕ) (on : Bool) → x < 256 → Puts old new x on
@@ -224,35 +227,3 @@ view_of levels held enabled active priorities group masks interrupts bits = reco
   interrupts = interrupts;
   priority_bits = bits;
 }
-
--- ---- after a reset
-
--- a set has no exception
-abbrev HasNone : List ℕ → Type 0
-HasNone set = (x : ℕ) → is_in_words set x ≡ false
-
-abbrev no_masks : Masks
-no_masks = record { primask = false; faultmask = false; basepri = 0 }
-
-pub kept_none : (levels : List (List ℕ)) (held enabled priorities : List ℕ)
-    → ((p : ℕ) → HasNone (level levels p)) → HasNone held → IsKept levels held enabled priorities
-kept_none levels held enabled priorities none out = record {
-  in_level = λ p x h t. absurd (let f = none p x in let w : ⊥ = cc in w);
-  in_held = λ x h t. absurd (let f = out x in let w : ⊥ = cc in w);
-}
-
-pub seen_none : (levels : List (List ℕ)) (held priorities : List ℕ)
-    → ((p : ℕ) → HasNone (level levels p)) → HasNone held
-    → flags (is_waiting levels held priorities) ≡ replicate EXCEPTIONS false
-seen_none levels held priorities none out =
-    flags_none (is_waiting levels held priorities) (λ x h. rw (out x, none (slice_index priorities x) x) refl)
-
-pub set_none : (set : List ℕ) → HasNone set → flags (is_in_words set) ≡ replicate EXCEPTIONS false
-set_none set none = flags_none (is_in_words set) (λ x h. none x)
-
-pub reset_is : (levels : List (List ℕ)) (held enabled active : List ℕ) (interrupts bits kept : ℕ)
-    → ((p : ℕ) → HasNone (level levels p)) → HasNone held → HasNone enabled → HasNone active
-    → kept ≡ min interrupts MOST_INTERRUPTS
-    → view_of levels held enabled active (replicate EXCEPTIONS 0) 0 no_masks kept bits ≡ reset_nvic interrupts bits
-reset_is levels held enabled active interrupts bits kept none out off idle e =
-    rw (seen_none levels held (replicate EXCEPTIONS 0) none out, set_none enabled off, set_none active idle, e) refl

@@ -3,5 +3,6 @@ pub mod Bits
 pub mod First
 pub mod KeptLevels
 pub mod Lists
+mod Reset
 pub mod Spaced
 pub mod Others

@@ -4,10 +4,10 @@ use Rattle.std.proofs.Common.{length, replicate, slice_set, refl, sym, ◌∙◌
 use Rattle.std.proofs.lemmas.Bool.{eqb-true, eqb-false}
 use Rattle.std.proofs.lemmas.List.{length-set, length-replicate, get_or-set_same, get_or-set_other}
 use Rattle.std.proofs.lemmas.List.FromFn.{length-map-range_with_len, get_or-map-range_with_len, fill_by_all}
-use Rattle.reference.specs.declared.exception.TheConstants.{EXCEPTIONS}
-use Rattle.reference.specs.Priorities.{is_in}
+use Rattle.platform.specs.declared.exception.TheConstants.{EXCEPTIONS}
+use Rattle.platform.specs.Priorities.{is_in}
 use Rattle.nvic_levels.specs.Sets.{flags}
-use Rattle.nvic.proofs.Boards.{same_each}
+use Rattle.nvic.proofs.Boards.{kept_again, same_each}
 
 flags_length : (f : ℕ → Bool) → length (flags f) ≡ EXCEPTIONS
 unfolding flags
@@ -64,3 +64,6 @@ pub put_back : (s : List Bool) (x : ℕ) → slice_set (slice_set s x false) x (
 put_back [] x = refl
 put_back (b ∷ s) zero = refl
 put_back (b ∷ s) (suc x) = ap (λ t. b ∷ t) (put_back s x)
+
+-- the lemmas of an exception that is taken out, moved and put back
+pub ruleset move_lemmas = (put_back, now_out, kept_again)

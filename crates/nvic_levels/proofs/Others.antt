@@ -6,8 +6,8 @@ use Rattle.std.proofs.Math.Bool.{or-true}
 use Rattle.std.proofs.lemmas.Bool.{cases_lt, eqb-true}
 use Rattle.nvic_levels.proofs.Lists.{flag}
 use Rattle.nvic_levels.specs.Sets.{flags, IsFirstOf}
-use Rattle.reference.specs.declared.exception.TheConstants.{EXCEPTIONS}
-use Rattle.reference.specs.Priorities.{Nvic, is_in, is_in_words, is_other_active, some_below}
+use Rattle.platform.specs.declared.exception.TheConstants.{EXCEPTIONS}
+use Rattle.platform.specs.Priorities.{Nvic, is_in, is_in_words, is_other_active, some_below}
 
 some_same : (f g : ℕ → Bool) (k : ℕ) → ((y : ℕ) → y < k → f y ≡ g y) → some_below f k ≡ some_below g k
 unfolding some_below

@@ -6,8 +6,8 @@ use Rattle.std.proofs.lemmas.Bool.{cases_lt, false_from_ne_true}
 use Rattle.std.proofs.lemmas.Nat.{div_below, le-div, pow-add, shl-shr}
 use Rattle.nvic.proofs.Boards.{at_each, no_bytes}
 use Rattle.nvic_levels.specs.Sets.{level, AreEmpty, AreKeptBytes, AreSpaced, IsFirstOf, IsKept}
-use Rattle.reference.specs.declared.exception.TheConstants.{EXCEPTIONS}
-use Rattle.reference.specs.Priorities.{is_in_words, kept}
+use Rattle.platform.specs.declared.exception.TheConstants.{EXCEPTIONS}
+use Rattle.platform.specs.Priorities.{is_in_words, kept}
 
 pub in_range : (place d : ℕ) → place < 256 / 2 ^ d → place * 2 ^ d < 256
 in_range place d h =

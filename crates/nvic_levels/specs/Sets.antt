@@ -2,8 +2,8 @@
 use Rattle.std.specs.Prelude.{◌≡◌, ℕ, ◌<◌, Bool, true, false, not, ◌&&◌, ◌||◌, List, [], map, slice_index}
 use Rattle.std.specs.Prelude.{slice_index_or, Option, Some, None}
 use Rattle.std.specs.List.{range_with_len}
-use Rattle.reference.specs.declared.exception.TheConstants.{EXCEPTIONS}
-use Rattle.reference.specs.Priorities.{is_always_enabled, is_in_words, is_fixed, kept}
+use Rattle.platform.specs.declared.exception.TheConstants.{EXCEPTIONS}
+use Rattle.platform.specs.Priorities.{is_always_enabled, is_in_words, is_fixed, kept}
 
 -- the exceptions that pass a test, as a set of the reference: a place for each number
 unfoldable pub flags : (ℕ → Bool) → List Bool

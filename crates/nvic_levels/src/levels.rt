@@ -2,14 +2,13 @@
 
 ghost use Rattle.std.specs.Prelude.{◌≡◌, ◌&&◌, ◌==◌, ◌<◌, false, not, slice_index, slice_set};
 ghost use Rattle.nvic_levels.specs.Sets.{is_levelled as is_levelled_of};
-ghost use Rattle.reference.specs.declared.exception.TheConstants.{NMI, HARD_FAULT};
-ghost use Rattle.reference.specs.Priorities.{best as best_of, is_in_words, is_fixed, is_in, is_ready, kept as kept_of};
+ghost use Rattle.platform.specs.declared.exception.TheConstants.{NMI, HARD_FAULT};
+ghost use Rattle.platform.specs.Priorities as spec;
+ghost use Rattle.platform.specs.Priorities.{is_in_words, is_fixed, is_in, is_ready};
 
 use crate::sets::{Set, Sets, all_empty, empty, first_of, has, has_other, put, put_at};
-use nvic::{
-    Levels, can_be_disabled, grouped, has_priority_byte, is_always_enabled, is_exception, kept,
-};
-use reference::exception::{EXCEPTIONS, HARD_FAULT, MOST_INTERRUPTS, Masks, NMI, Priority};
+use nvic::{Levels, Settings, is_always_enabled, kept};
+use platform::exception::{EXCEPTIONS, HARD_FAULT, Masks, NMI};
 use std::marker::Model;
 
 /// The exceptions as sets of bits. A contract sees them as the reference's `Nvic`.
@@ -22,37 +21,31 @@ pub struct BitLevels {
     held: Set,
     enabled: Set,
     active: Set,
-    priorities: [u8; EXCEPTIONS as usize],
-    /// AIRCR.PRIGROUP.
-    group: u8,
-    masks: Masks,
-    /// The board's number of interrupts.
-    interrupts: u8,
-    /// The number of the top bits of a priority byte that the board keeps.
-    bits: u8,
+    settings: Settings,
 }
 
 impl Model for BitLevels {
     ghost use Rattle.std.specs.Prelude.{◌<◌, ◌≤◌};
     ghost use Rattle.nvic_levels.specs.Sets.{flags, is_waiting, AreKeptBytes, IsKept};
-    ghost use Rattle.reference.specs.Priorities.{Nvic, is_in_words};
-    ghost use Rattle.reference.specs.declared.exception.TheConstants.{MOST_INTERRUPTS};
+    ghost use Rattle.platform.specs.Priorities.{Nvic, is_in_words};
+    ghost use Rattle.platform.specs.declared.exception.TheConstants.{MOST_INTERRUPTS};
 
     ghost Value = { Nvic };
 
     ghost view = { λ l. record {
-      pending = flags (is_waiting l.levels l.held l.priorities);
+      pending = flags (is_waiting l.levels l.held l.settings.priorities);
       enabled = flags (is_in_words l.enabled);
       active = flags (is_in_words l.active);
-      priorities = l.priorities;
-      group = l.group;
-      masks = l.masks;
-      interrupts = l.interrupts;
-      priority_bits = l.bits;
+      priorities = l.settings.priorities;
+      group = l.settings.group;
+      masks = l.settings.masks;
+      interrupts = l.settings.interrupts;
+      priority_bits = l.settings.priority_bits;
     } };
 
-    ghost invariant = { λ l. (l.group < 8) × (l.interrupts ≤ MOST_INTERRUPTS)
-        × IsKept l.levels l.held l.enabled l.priorities × AreKeptBytes l.bits l.priorities };
+    ghost invariant = { λ l. (l.settings.group < 8) × (l.settings.interrupts ≤ MOST_INTERRUPTS)
+        × IsKept l.levels l.held l.enabled l.settings.priorities
+        × AreKeptBytes l.settings.priority_bits l.settings.priorities };
 }
 
 impl BitLevels {
@@ -66,14 +59,14 @@ impl BitLevels {
     }
 
     /// Makes an exception pending, or not pending any more, in the set where it belongs.
-    #[tactic(auto, using(crate::proofs::KeptLevels::kept_levelled, crate::proofs::KeptLevels::kept_held, crate::proofs::KeptLevels::seen_levelled, crate::proofs::KeptLevels::seen_held))]
+    #[tactic(auto, using(crate::proofs::KeptLevels::put_lemmas))]
     fn put(&mut self, number: u8, on: bool)
         ensures { self.new ≡ record self.old { pending = slice_set self.old.pending number on } }
     {
         if is_levelled(&self.enabled, number) {
             put_at(
                 &mut self.levels,
-                self.priorities[number as usize],
+                self.settings.priorities[number as usize],
                 number,
                 on,
             );
@@ -94,10 +87,10 @@ impl BitLevels {
     /// Changes the priority byte of an exception that isn't pending.
     fn move_idle(&mut self, number: u8, byte: u8)
         requires idle { is_in self.old.pending number ≡ false }
-        requires kept { kept_of self.old.priority_bits byte ≡ byte }
+        requires kept { spec.kept self.old.priority_bits byte ≡ byte }
         ensures { self.new ≡ record self.old { priorities = slice_set self.old.priorities number byte } }
     {
-        self.priorities[number as usize] = byte;
+        self.settings.priorities[number as usize] = byte;
     }
 
     /// Enables or disables an exception.
@@ -111,20 +104,13 @@ impl BitLevels {
         self.put(number, waiting);
     }
 
-    /// Makes an exception active, or not active any more.
-    fn put_active(&mut self, number: u8, on: bool)
-        ensures { self.new ≡ record self.old { active = slice_set self.old.active number on } }
-    {
-        put(&mut self.active, number, on);
-    }
-
     /// Returns the best exception, where neither NMI nor HardFault is pending.
     fn best_levelled(&self) -> Option<u16>
         requires nmi { is_in self.now.pending NMI ≡ false }
         requires hard_fault { is_in self.now.pending HARD_FAULT ≡ false }
-        ensures { result ≡ best_of self.now }
+        ensures { result ≡ spec.best self.now }
     {
-        match first_of(&self.levels, self.bits) {
+        match first_of(&self.levels, self.settings.priority_bits) {
             Some(number) => Some(u16::from(number)),
             None => None,
         }
@@ -153,79 +139,37 @@ impl Levels for BitLevels {
             held,
             enabled,
             active,
-            priorities: [0; EXCEPTIONS as usize],
-            group: 0,
-            masks: Masks {
-                primask: false,
-                faultmask: false,
-                basepri: 0,
-            },
-            interrupts: interrupts.min(MOST_INTERRUPTS),
-            bits: priority_bits,
+            settings: Settings::fresh(interrupts, priority_bits),
         }
     }
 
-    fn pend(&mut self, number: u16) {
-        if is_exception(self.interrupts, number) {
-            self.put(number as u8, true);
-        }
+    fn put_pending(&mut self, number: u8, on: bool) {
+        self.put(number, on);
     }
 
-    fn clear(&mut self, number: u16) {
-        if is_exception(self.interrupts, number) {
-            self.put(number as u8, false);
-        }
+    fn put_enabled(&mut self, number: u8, on: bool) {
+        self.switch(number, on);
     }
 
-    fn enable(&mut self, number: u16) {
-        if can_be_disabled(self.interrupts, number) {
-            self.switch(number as u8, true);
-        }
+    #[tactic(auto, using(crate::proofs::KeptLevels::flags_put))]
+    fn put_active(&mut self, number: u8, on: bool) {
+        put(&mut self.active, number, on);
     }
 
-    fn disable(&mut self, number: u16) {
-        if can_be_disabled(self.interrupts, number) {
-            self.switch(number as u8, false);
-        }
-    }
-
-    #[tactic(auto, using(crate::proofs::Lists::put_back, crate::proofs::Lists::now_out, nvic::proofs::Boards::kept_again))]
-    fn set_priority(&mut self, number: u16, byte: u8) {
-        if !has_priority_byte(self.interrupts, number) {
-            return;
-        }
-        let waiting = self.is_pending(number);
-        self.put(number as u8, false);
-        self.move_idle(number as u8, kept(self.bits, byte));
-        self.put(number as u8, waiting);
-    }
-
-    fn activate(&mut self, number: u16) {
-        if is_exception(self.interrupts, number) {
-            self.put_active(number as u8, true);
-        }
-    }
-
-    fn deactivate(&mut self, number: u16) {
-        if is_exception(self.interrupts, number) {
-            self.put_active(number as u8, false);
-        }
+    #[tactic(auto, using(crate::proofs::Lists::move_lemmas))]
+    fn put_priority(&mut self, number: u8, byte: u8) {
+        let waiting = self.is_pending(u16::from(number));
+        self.put(number, false);
+        self.move_idle(number, kept(self.settings.priority_bits, byte));
+        self.put(number, waiting);
     }
 
     fn set_group(&mut self, group: u8) {
-        self.group = group % 8;
+        self.settings.group = group % 8;
     }
 
-    fn set_primask(&mut self, on: bool) {
-        self.masks.primask = on;
-    }
-
-    fn set_faultmask(&mut self, on: bool) {
-        self.masks.faultmask = on;
-    }
-
-    fn set_basepri(&mut self, byte: u8) {
-        self.masks.basepri = kept(self.bits, byte);
+    fn set_masks(&mut self, masks: Masks) {
+        self.settings.masks = masks;
     }
 
     #[inline]
@@ -234,7 +178,7 @@ impl Levels for BitLevels {
         number < EXCEPTIONS
             && (has(&self.held, number as u8)
                 || has(
-                    &self.levels[self.priorities[number as usize] as usize],
+                    &self.levels[self.settings.priorities[number as usize] as usize],
                     number as u8,
                 ))
     }
@@ -256,42 +200,8 @@ impl Levels for BitLevels {
     }
 
     #[inline]
-    fn priority(&self, number: u16) -> u8 {
-        if number < EXCEPTIONS {
-            self.priorities[number as usize]
-        } else {
-            0
-        }
-    }
-
-    fn group(&self) -> u8 {
-        self.group
-    }
-
-    fn masks(&self) -> Masks {
-        self.masks
-    }
-
-    fn interrupts(&self) -> u8 {
-        self.interrupts
-    }
-
-    fn priority_bits(&self) -> u8 {
-        self.bits
-    }
-
-    fn active_priority(&self) -> Priority {
-        let mut least = Priority::LOWEST;
-        #[tactic(auto, unfolding(reference::specs::Priorities::highest_active))]
-        'each: for number in 0..EXCEPTIONS {
-            if self.is_active(number) {
-                let priority = self.group_priority(number);
-                if priority.is_below(least) {
-                    least = priority;
-                }
-            }
-        }
-        least
+    fn settings(&self) -> &Settings {
+        &self.settings
     }
 
     #[tactic(auto, using(crate::proofs::First::best_nmi, crate::proofs::First::best_hard_fault))]
@@ -311,22 +221,14 @@ impl Levels for BitLevels {
             held,
             enabled,
             active,
-            priorities,
-            group,
-            masks,
-            interrupts,
-            bits,
+            settings,
         } = self;
         BitLevels {
             levels: *levels,
             held: *held,
             enabled: *enabled,
             active: *active,
-            priorities: *priorities,
-            group: *group,
-            masks: *masks,
-            interrupts: *interrupts,
-            bits: *bits,
+            settings: *settings,
         }
     }
 }

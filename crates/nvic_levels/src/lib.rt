@@ -2,10 +2,10 @@
 //! and preemption").
 #![tactic(auto)]
 
-mod answers;
+mod kept_priorities;
 mod levels;
 mod sets;
 
-pub use answers::KeptPriorities;
+pub use kept_priorities::KeptPriorities;
 pub use levels::BitLevels;
 pub use nvic::Levels;

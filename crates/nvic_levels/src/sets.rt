@@ -2,11 +2,11 @@
 
 ghost use Rattle.std.specs.Prelude.{◌≡◌, ◌==◌, ◌&&◌, ◌<◌, ◌≤◌, ◌*◌, ◌/◌, ◌^◌, ℕ, not, false, if◌then◌else◌};
 ghost use Rattle.nvic_levels.specs.Sets.{AreSpaced, IsFirstLevelled, IsFirstOf, level};
-ghost use Rattle.reference.specs.declared.exception.TheConstants.{EXCEPTIONS};
-ghost use Rattle.reference.specs.Priorities.{is_in_words, some_below};
+ghost use Rattle.platform.specs.declared.exception.TheConstants.{EXCEPTIONS};
+ghost use Rattle.platform.specs.Priorities.{is_in_words, some_below};
 
 use nvic::is_empty;
-use reference::exception::EXCEPTIONS;
+use platform::exception::EXCEPTIONS;
 
 /// The number of bits of a priority byte.
 const BYTE_BITS: u8 = 8;

@@ -6,8 +6,8 @@ use Rattle.std.proofs.lemmas.List.{length-take-le}
 use Rattle.std.specs.Io.KnownBytes.{Consumes, IsAtEnd, Keeps}
 use Rattle.output.specs.declared.cut.AtCut.{AtCut}
 use Rattle.output.specs.declared.cut.AtCut.TheVariants.{Fails, TakesNone}
-use Rattle.output.specs.Cuts.{Passes, left_of}
-use Rattle.output.specs.Input.{Received}
+use Rattle.output.specs.Cuts.{Passes, cut_off, left_of}
+use Rattle.output.specs.Input.{Reading, Received}
 
 taken_from : (xs ys front : List ℕ) (old new : ℕ) → xs ≡ front ++ ys → old ≡ new + length front
     → take old xs ≡ front ++ take new ys
@@ -36,17 +36,18 @@ still_ends TakesNone None new end = tt
 still_ends TakesNone (Some xs) new end = rw end (take-nil new)
 
 -- a call that was passed on
-pub passed_on : {E : Type 0} (cut cut' : AtCut) (known known' : Option (List ℕ)) (room : List ℕ)
-    (old new before now failed failed' : ℕ) (result : Result ℕ E) → Received known known' before now room result
+pub passed_on : {E : Type 0} (cut cut' : AtCut) (inner inner' : Reading) (room : List ℕ)
+    (old new failed failed' : ℕ) (result : Result ℕ E) → Received inner inner' room result
     → Passes old new result → cut' ≡ cut → failed' ≡ failed
-    → Received (left_of cut old known) (left_of cut' new known') (before + failed) (now + failed') room result
-passed_on cut cut' known known' room old new before now failed failed' (Ok given) received passes same count =
+    → Received (cut_off cut old failed inner) (cut_off cut' new failed' inner') room result
+passed_on cut cut' inner inner' room old new failed failed' (Ok given) received passes same count =
     rw (same, count)
     (let size : length (take given room) ≡ given = length-take-le given room received.0 in (
       received.0,
-      still_consumes cut known known' (take given room) old new received.1 (passes ∙ ap (λ n. new + n) (sym size)),
+      still_consumes cut inner.left inner'.left (take given room) old new received.1
+          (passes ∙ ap (λ n. new + n) (sym size)),
       ap (λ n. n + failed) received.2,
-      λ none some. still_ends cut known' new (received.3 none some),
+      λ none some. still_ends cut inner'.left new (received.3 none some),
     ))
-passed_on cut cut' known known' room old new before now failed failed' (Err error) received passes same count =
-    rw (same, count) (still_keeps cut known known' old new received.0 passes, omega (arith, received.1))
+passed_on cut cut' inner inner' room old new failed failed' (Err error) received passes same count =
+    rw (same, count) (still_keeps cut inner.left inner'.left old new received.0 passes, omega (arith, received.1))

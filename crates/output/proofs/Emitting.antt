@@ -9,27 +9,27 @@ use Rattle.std.proofs.Props.{props}
 use Rattle.std.proofs.lemmas.List.{map-append, take-append-drop}
 use Rattle.std.specs.Io.KnownBytes.{Appends}
 use Rattle.output.specs.Emitting.{PutsUnless, WritesSoFar, emission}
-use Rattle.output.specs.Output.{IsCutShort}
-use Rattle.reference.specs.declared.event.Event.{Event}
+use Rattle.output.specs.Output.{IsCutShort, Writing}
+use Rattle.platform.specs.declared.event.Event.{Event}
 use Rattle.trace.proofs.Selecting.{selected-append, selected-nil}
 use Rattle.trace.specs.declared.selection.TraceSelection.{TraceSelection}
 use Rattle.trace.specs.Emission.{Emission}
 use Rattle.trace.specs.Selection.{last_printed, selected_text}
 
 -- one event more
-pub one_more : {O : Type 0} (written : O → Option (List ℕ)) (errors : O → ℕ) (name : ℕ) (old new : O)
+pub one_more : {O : Type 0} (writing : O → Writing) (name : ℕ) (old new : O)
     (items : List (O × Event)) (e : Event)
-    → emission written errors name new (items ++ (old, e) ∷ [])
-    ≡ record (emission written errors name old items) {
+    → emission writing name new (items ++ (old, e) ∷ [])
+    ≡ record (emission writing name old items) {
       events =
-          (emission written errors name old items).events ++ e ∷ [];
+          (emission writing name old items).events ++ e ∷ [];
     }
-one_more written errors name old new [] e = refl
-one_more {O} written errors name old new (first ∷ later) e =
+one_more writing name old new [] e = refl
+one_more {O} writing name old new (first ∷ later) e =
     ap (λ (es : List Event). record {
       writer = name;
-      written = written first.0;
-      errors = errors first.0;
+      written = (writing first.0).written;
+      errors = (writing first.0).errors;
       events = first.1 ∷ es;
     }) (map-append (λ (entry : O × Event). entry.1) later ((old, e) ∷ []))
 
@@ -56,30 +56,32 @@ cut_later old mid new text more went cut = record {
 }
 
 -- the text of one event more
-text_more : (selection : TraceSelection) (e : Emission) (event : Event) (mid new : Option (List ℕ)) (before now : ℕ)
-    (failed after : Bool) → WritesSoFar selection e mid before failed
-    → PutsUnless failed mid new before now (selected_text selection (event ∷ [])) after
-    → WritesSoFar selection (record e { events = e.events ++ event ∷ [] }) new now after
-text_more selection e event mid new before now true true so_far put =
+text_more : (selection : TraceSelection) (e : Emission) (event : Event) (mid new : Writing) (failed after : Bool)
+    → WritesSoFar selection e mid failed
+    → PutsUnless failed mid new (selected_text selection (event ∷ [])) after
+    → WritesSoFar selection (record e { events = e.events ++ event ∷ [] }) new after
+text_more selection e event mid new true true so_far put =
     rw (put.0, put.1) (
-      rw (selected-append selection e.events (event ∷ [])) (cut_before e.written mid _ _ so_far.0),
+      rw (selected-append selection e.events (event ∷ [])) (cut_before e.written mid.written _ _ so_far.0),
       so_far.1,
     )
-text_more selection e event mid new before now true false so_far put = absurd put
-text_more selection e event mid new before now false false so_far put = (
-  rw (selected-append selection e.events (event ∷ [])) (Appends-trans e.written mid new _ _ so_far.0 put.0),
+text_more selection e event mid new true false so_far put = absurd put
+text_more selection e event mid new false false so_far put = (
+  rw (selected-append selection e.events (event ∷ []))
+      (Appends-trans e.written mid.written new.written _ _ so_far.0 put.0),
   put.1 ∙ so_far.1,
 )
-text_more selection e event mid new before now false true so_far put = (
-  rw (selected-append selection e.events (event ∷ [])) (cut_later e.written mid new _ _ so_far.0 put.0),
+text_more selection e event mid new false true so_far put = (
+  rw (selected-append selection e.events (event ∷ []))
+      (cut_later e.written mid.written new.written _ _ so_far.0 put.0),
   put.1
       ∙ ap (λ (n : ℕ). n + 1) so_far.1,
 )
 
 -- before the first event
-pub none_yet : {O : Type 0} (selection : TraceSelection) (written : O → Option (List ℕ)) (errors : O → ℕ) (name : ℕ)
-    (now : O) → WritesSoFar selection (emission written errors name now []) (written now) (errors now) false
-none_yet selection written errors name now = (rw (selected-nil selection) (Appends-nil (written now)), refl)
+pub none_yet : {O : Type 0} (selection : TraceSelection) (writing : O → Writing) (name : ℕ) (now : O)
+    → WritesSoFar selection (emission writing name now []) (writing now) false
+none_yet selection writing name now = (rw (selected-nil selection) (Appends-nil (writing now).written), refl)
 
 -- What a struct keeps of such facts is only that they hold. What was put can be found again: it is what the known bytes
 -- have grown by.
@@ -113,7 +115,8 @@ count_of xs ys text cut = let e : length ys ≡ length xs + length cut.front =
     ap length cut.went ∙ length-append xs cut.front in omega (arith, e)
 
 grew_by : (xs ys text : List ℕ) → IsCutShort (Some xs) (Some ys) text → ys ≡ xs ++ take (length ys - length xs) text
-grew_by xs ys text cut = rw (count_of xs ys text cut, cut.whole, take-append_seam cut.front (cut.byte ∷ cut.later)) cut.went
+grew_by xs ys text cut =
+    rw (count_of xs ys text cut, cut.whole, take-append_seam cut.front (cut.byte ∷ cut.later)) cut.went
 
 is_left : (xs ys text : List ℕ) → IsCutShort (Some xs) (Some ys) text → 0 < length (drop (length ys - length xs) text)
 is_left xs ys text cut =
@@ -130,39 +133,39 @@ cut_found (Some xs) (Some ys) text cut =
     cut_at xs ys text (drop (length ys - length xs) text) (length ys - length xs)
     (∥∥₁_elim cut (search props) (grew_by xs ys text)) refl (∥∥₁_elim cut (search props) (is_left xs ys text))
 
-pub found : (selection : TraceSelection) (e : Emission) (now : Option (List ℕ)) (errors : ℕ) (failed : Bool)
-    → ∥ WritesSoFar selection e now errors failed ∥₁ → WritesSoFar selection e now errors failed
-found selection e now errors false so_far = (
-  went_found e.written now (selected_text selection e.events) (∥∥₁_map so_far (λ w. w.0)),
+pub found : (selection : TraceSelection) (e : Emission) (now : Writing) (failed : Bool)
+    → ∥ WritesSoFar selection e now failed ∥₁ → WritesSoFar selection e now failed
+found selection e now false so_far = (
+  went_found e.written now.written (selected_text selection e.events) (∥∥₁_map so_far (λ w. w.0)),
   ∥∥₁_elim so_far (search props) (λ w. w.1),
 )
-found selection e now errors true so_far = (
-  cut_found e.written now (selected_text selection e.events) (∥∥₁_map so_far (λ w. w.0)),
+found selection e now true so_far = (
+  cut_found e.written now.written (selected_text selection e.events) (∥∥₁_map so_far (λ w. w.0)),
   ∥∥₁_elim so_far (search props) (λ w. w.1),
 )
 
 -- what a sink has put so far
-abbrev Puts : {O : Type 0} → TraceSelection → (O → Option (List ℕ)) → (O → ℕ) → ℕ → O → List (O × Event) → Bool
-    → Type 0
-Puts selection written errors name now items failed =
-    ∥ WritesSoFar selection (emission written errors name now items) (written now) (errors now) failed ∥₁
+abbrev Puts : {O : Type 0} → TraceSelection → (O → Writing) → ℕ → O → List (O × Event) → Bool → Type 0
+Puts selection writing name now items failed =
+    ∥ WritesSoFar selection (emission writing name now items) (writing now) failed ∥₁
 
 -- one event more, whose text was put unless an earlier one failed
-pub one_text_more : {O : Type 0} (selection : TraceSelection) (written : O → Option (List ℕ)) (errors : O → ℕ)
-    (name : ℕ) (old new : O) (items later : List (O × Event)) (e : Event) (failed after : Bool)
-    → later ≡ items ++ (old, e) ∷ [] → Puts selection written errors name old items failed
-    → PutsUnless failed (written old) (written new) (errors old) (errors new) (selected_text selection (e ∷ [])) after
-    → Puts selection written errors name new later after
-one_text_more selection written errors name old new items later e failed after is so_far put =
-    rw (is, one_more written errors name old new items e)
-    (let before = emission written errors name old items in
-    ∣ text_more selection before e _ _ _ _ _ _ (found selection before _ _ _ so_far) put ∣₁)
+pub one_text_more : {O : Type 0} (selection : TraceSelection) (writing : O → Writing) (name : ℕ) (old new : O)
+    (items later : List (O × Event)) (e : Event) (failed after : Bool)
+    → later ≡ items ++ (old, e) ∷ [] → Puts selection writing name old items failed
+    → PutsUnless failed (writing old) (writing new) (selected_text selection (e ∷ [])) after
+    → Puts selection writing name new later after
+one_text_more selection writing name old new items later e failed after is so_far put =
+    rw (is, one_more writing name old new items e)
+    (let before = emission writing name old items in
+    ∣ text_more selection before e (writing old) (writing new) failed after
+    (found selection before (writing old) failed so_far) put ∣₁)
 
 -- the last byte that was printed, after one event more
-pub one_byte_more : {O : Type 0} (selection : TraceSelection) (written : O → Option (List ℕ)) (errors : O → ℕ)
-    (name : ℕ) (old new : O) (items later : List (O × Event)) (e : Event) (last : Option ℕ)
+pub one_byte_more : {O : Type 0} (selection : TraceSelection) (writing : O → Writing) (name : ℕ) (old new : O)
+    (items later : List (O × Event)) (e : Event) (last : Option ℕ)
     → later ≡ items ++ (old, e) ∷ []
-    → last ≡ last_printed selection ((emission written errors name old items).events ++ e ∷ [])
-    → last ≡ last_printed selection (emission written errors name new later).events
-one_byte_more selection written errors name old new items later e last is ends =
-    rw (is, one_more written errors name old new items e) ends
+    → last ≡ last_printed selection ((emission writing name old items).events ++ e ∷ [])
+    → last ≡ last_printed selection (emission writing name new later).events
+one_byte_more selection writing name old new items later e last is ends =
+    rw (is, one_more writing name old new items e) ends

@@ -1,13 +1,13 @@
 -- Lines that wait on a page, after the bytes that a writer took.
 use Rattle.std.proofs.Common.{◌≡◌, ℕ, ◌+◌, ◌<◌, List, [], ◌∷◌, length, take, drop, Option, Result, Ok, Err, refl}
-use Rattle.std.proofs.Common.{sym, arith, length-append}
+use Rattle.std.proofs.Common.{sym, ◌∙◌, arith, length-append}
 use Rattle.std.proofs.KnownBytes.{Appends-nil, Appends-kept, Keeps-trans, append_known-kept, append_known-moved}
 use Rattle.std.proofs.KnownBytes.{append_known-passed}
 use Rattle.std.proofs.lemmas.List.{take-append-drop, drop-drop, append-nil}
 use Rattle.std.specs.Io.KnownBytes.{Appends, Keeps, append_known}
-use Rattle.reference.specs.declared.event.Event.{Event}
-use Rattle.reference.specs.Text.{line}
-use Rattle.output.specs.Output.{IsCutShort, Took}
+use Rattle.platform.specs.declared.event.Event.{Event}
+use Rattle.platform.specs.Text.{line}
+use Rattle.output.specs.Output.{HandsOn, IsCutShort, Took, Writing, with_page}
 
 -- the writer took n more bytes of the page
 pub moved_on : (start mid new : Option (List ℕ)) (page rest : List ℕ) (at n : ℕ)
@@ -23,17 +23,31 @@ pub emptied : (page : List ℕ) (at : ℕ) → (page ≡ []) × (at ≡ 0) → d
 emptied page at (none, start) = rw (none, start) refl
 
 -- a call below, while nothing waits
-pub passed_on : {E : Type 0} (start mid new : Option (List ℕ)) (waits bytes : List ℕ) (before now later : ℕ)
-    (result : Result ℕ E) → Keeps start (append_known mid waits) → waits ≡ [] → now ≡ before
-    → Took mid new now later bytes result → Took start (append_known new waits) before later bytes result
-passed_on start mid new waits bytes before now later (Ok taken) kept none same took = (
+pub passed_on : {E : Type 0} (start mid new : Writing) (page bytes : List ℕ) (result : Result ℕ E)
+    → Keeps start.written (append_known mid.written page) → page ≡ [] → mid.errors ≡ start.errors
+    → Took mid new bytes result
+    → Took start (with_page page new) bytes result
+passed_on start mid new page bytes (Ok taken) kept none same took = (
   took.0,
-  rw append-nil at (append_known-passed start mid new waits waits (take taken bytes) [] kept none took.1
-      (sym (append-nil waits))),
+  rw append-nil at (append_known-passed start.written mid.written new.written page page (take taken bytes) [] kept none
+      took.1 (sym (append-nil page))),
   rw same at took.2,
 )
-passed_on start mid new waits bytes before now later (Err error) kept none same took =
-    (Keeps-trans start _ _ kept (append_known-kept mid new waits took.0), rw same at took.1)
+passed_on start mid new page bytes (Err error) kept none same took =
+    (Keeps-trans start.written _ _ kept (append_known-kept mid.written new.written page took.0), rw same at took.1)
+
+-- what waits below is handed on, while nothing waits on the page
+pub handed_on : {E : Type 0} (start mid new : Writing) (page : List ℕ) (result : Result (Unit {0}) E)
+    → Keeps start.written (append_known mid.written page) → page ≡ [] → mid.errors ≡ start.errors
+    → HandsOn mid new result
+    → HandsOn start (with_page page new) result
+handed_on start mid new page (Ok done) kept none same took = (
+  Keeps-trans start.written _ _ kept (append_known-kept mid.written new.written page took.0),
+  took.1 ∙ same,
+  rw none (append-nil new.waits ∙ took.2),
+)
+handed_on start mid new page (Err error) kept none same took =
+    (Keeps-trans start.written _ _ kept (append_known-kept mid.written new.written page took.0), rw same at took.1)
 
 some_bytes : (old new : Option (List ℕ)) (text : List ℕ) → 0 < length text → Keeps old new → IsCutShort old new text
 some_bytes old new [] some kept = absurd (let wrong : 0 < 0 = some in omega arith)

@@ -4,7 +4,7 @@ use Rattle.std.proofs.Common.{ap, arith, length-drop, Some, None}
 use Rattle.std.proofs.KnownBytes.{Keeps-refl, prepend_known-nil, prepend_known-read}
 use Rattle.std.proofs.lemmas.List.{drop_all, length-take, length-take-le}
 use Rattle.std.specs.Io.KnownBytes.{Consumes, IsAtEnd, Keeps, prepend_known}
-use Rattle.output.specs.Input.{Received}
+use Rattle.output.specs.Input.{Reading, Received}
 
 -- before bytes are returned: a buffer that is empty only at the end of the input
 pub record Ready (start below : Option (List ℕ)) (held : List ℕ) (before now : ℕ) : Type 0 where
@@ -51,12 +51,12 @@ nothing_left : (held rest room : List ℕ) (n : ℕ) → held ≡ take n room ++
 nothing_left held rest room n whole none empty = whole ∙ rw (none, empty) refl
 
 -- bytes of the buffer were returned
-pub given_ahead : (start below : Option (List ℕ)) (held rest room : List ℕ) (n before now : ℕ)
-    → Ready start below held before now → n ≤ length room → held ≡ take n room ++ rest
+pub given_ahead : (start below : Reading) (held rest room : List ℕ) (n : ℕ)
+    → Ready start.left below.left held start.misses below.misses → n ≤ length room → held ≡ take n room ++ rest
     → (n ≡ 0 → 0 < length room → rest ≡ [])
-    → Received {E = ℕ} start (prepend_known rest below) before now room (Ok n)
-given_ahead start below held rest room n before now ready within whole none =
+    → Received {E = ℕ} start (record below { left = prepend_known rest below.left }) room (Ok n)
+given_ahead start below held rest room n ready within whole none =
     let read =
-    prepend_known-read start below held rest (take n room) ((n ≡ 0) × (0 < length room)) ready.kept whole
+    prepend_known-read start.left below.left held rest (take n room) ((n ≡ 0) × (0 < length room)) ready.kept whole
     (λ p. (none p.0 p.1, ready.end (nothing_left held rest room n whole p.0 (none p.0 p.1)))) in
     (within, read.0, ready.quiet, λ zero some. read.1 (zero, some))

@@ -52,9 +52,9 @@ impl<I: In + Drop> Buffered<I> {
     /// Makes one call of the reader below for an empty buffer.
     fn fill(&mut self) -> Result<(), IoError>
         requires { self.old.at ≡ self.old.end }
-        ensures filled { Fills (I.left self.old.inner) (I.left self.new.inner) (I.misses self.old.inner)
-            (I.misses self.new.inner) (drop self.new.at (take self.new.end self.new.bytes)) result }
-        ensures failed { OnErr result (I.may_wait self.old.inner ≡ true) }
+        ensures filled { Fills (I.reading self.old.inner) (I.reading self.new.inner)
+            (drop self.new.at (take self.new.end self.new.bytes)) result }
+        ensures failed { OnErr result ((I.reading self.old.inner).may_wait ≡ true) }
     {
         self.at = 0;
         self.end = 0;
@@ -86,11 +86,11 @@ impl<I: In + Drop> Buffered<I> {
 }
 
 impl<I: In + Drop> In for Buffered<I> {
-    ghost left = { λ b. prepend_known (drop b.at (take b.end b.bytes)) (I.left b.inner) };
-
-    ghost misses = { λ b. I.misses b.inner };
-
-    ghost may_wait = { λ b. (b.at == b.end) && I.may_wait b.inner };
+    ghost reading = { λ b. record {
+      left = prepend_known (drop b.at (take b.end b.bytes)) (I.reading b.inner).left;
+      misses = (I.reading b.inner).misses;
+      may_wait = (b.at == b.end) && (I.reading b.inner).may_wait;
+    } };
 
     fn take(&mut self, room: &mut [u8]) -> Result<usize, IoError> {
         if self.at == self.end {

@@ -1,7 +1,7 @@
 //! A writer or a reader that is cut after a number of bytes, for tests of what a failure leaves.
 
-ghost use Rattle.std.specs.Prelude.{◌≡◌, ℕ, ◌+◌, ◌-◌, ◌^◌, ◌<◌, length};
-ghost use Rattle.output.specs.Cuts.{EndsAtCut, Passes, left_of};
+ghost use Rattle.std.specs.Prelude.{◌≡◌, ◌-◌, ◌^◌, ◌<◌, length};
+ghost use Rattle.output.specs.Cuts.{EndsAtCut, Passes, cut_off, with_errors, with_misses};
 ghost use Rattle.output.specs.Input.{Received};
 ghost use Rattle.output.specs.Output.{Took};
 ghost use Rattle.output.specs.declared.cut.AtCut.TheVariants.{Fails, TakesNone};
@@ -72,8 +72,7 @@ impl<O: Out + Drop> Cut<O> {
     /// Passes on as many of the bytes as are left to pass on.
     fn put_front(&mut self, bytes: &[u8]) -> Result<usize, IoError>
         requires { 0 < self.old.left }
-        ensures took { Took (O.written self.old.inner) (O.written self.new.inner) (O.errors self.old.inner)
-            (O.errors self.new.inner) bytes.now result }
+        ensures took { Took (O.writing self.old.inner) (O.writing self.new.inner) bytes.now result }
         ensures passes { Passes self.old.left self.new.left result }
         ensures same { (self.new.at_cut ≡ self.old.at_cut) × (self.new.failed ≡ self.old.failed) }
     {
@@ -89,15 +88,11 @@ impl<O: Out + Drop> Cut<O> {
 }
 
 impl<O: Out + Drop> Out for Cut<O> {
-    ghost written = { λ c. O.written c.inner };
-
-    ghost errors = { λ c. O.errors c.inner + c.failed };
-
-    ghost waits = { λ c. O.waits c.inner };
+    ghost writing = { λ c. with_errors c.failed (O.writing c.inner) };
 
     fn put(&mut self, bytes: &[u8]) -> Result<usize, IoError>
-        ensures took { Took (O.written self.old.inner) (O.written self.new.inner)
-            (O.errors self.old.inner + self.old.failed) (O.errors self.new.inner + self.new.failed) bytes.now result }
+        ensures took { Took (with_errors self.old.failed (O.writing self.old.inner))
+            (with_errors self.new.failed (O.writing self.new.inner)) bytes.now result }
         ensures passes { self.old.failed < 2 ^ 64 - 1 → Passes self.old.left self.new.left result }
         ensures ends { self.old.failed < 2 ^ 64 - 1 → self.old.left ≡ 0 → 0 < length bytes.now
             → EndsAtCut self.old.at_cut result }
@@ -128,8 +123,7 @@ impl<I: In + Drop> Cut<I> {
     /// Takes as many bytes from the reader below as are left to pass on, and as there is room for.
     fn take_front(&mut self, room: &mut [u8]) -> Result<usize, IoError>
         requires { 0 < self.old.left }
-        ensures received { Received (I.left self.old.inner) (I.left self.new.inner) (I.misses self.old.inner)
-            (I.misses self.new.inner) room.new result }
+        ensures received { Received (I.reading self.old.inner) (I.reading self.new.inner) room.new result }
         ensures passes { Passes self.old.left self.new.left result }
         ensures same { (self.new.at_cut ≡ self.old.at_cut) × (self.new.failed ≡ self.old.failed) }
     {
@@ -146,8 +140,8 @@ impl<I: In + Drop> Cut<I> {
 
     /// Fails, unless so many calls have failed that no more can be counted.
     fn fail(&mut self, room: &mut [u8]) -> Result<usize, IoError>
-        ensures received { Received (I.left self.old.inner) (I.left self.new.inner)
-            (I.misses self.old.inner + self.old.failed) (I.misses self.new.inner + self.new.failed) room.new result }
+        ensures received { Received (with_misses self.old.failed (I.reading self.old.inner))
+            (with_misses self.new.failed (I.reading self.new.inner)) room.new result }
         ensures ends { self.old.failed < 2 ^ 64 - 1 → EndsAtCut Fails result }
         ensures same { (self.new.left ≡ self.old.left) × (self.new.at_cut ≡ self.old.at_cut) }
     {
@@ -160,14 +154,11 @@ impl<I: In + Drop> Cut<I> {
 }
 
 impl<I: In + Drop> In for Cut<I> {
-    ghost left = { λ c. left_of c.at_cut c.left (I.left c.inner) };
-
-    ghost misses = { λ c. I.misses c.inner + c.failed };
+    ghost reading = { λ c. cut_off c.at_cut c.left c.failed (I.reading c.inner) };
 
     fn take(&mut self, room: &mut [u8]) -> Result<usize, IoError>
-        ensures received { Received (left_of self.old.at_cut self.old.left (I.left self.old.inner))
-            (left_of self.new.at_cut self.new.left (I.left self.new.inner)) (I.misses self.old.inner + self.old.failed)
-            (I.misses self.new.inner + self.new.failed) room.new result }
+        ensures received { Received (cut_off self.old.at_cut self.old.left self.old.failed (I.reading self.old.inner))
+            (cut_off self.new.at_cut self.new.left self.new.failed (I.reading self.new.inner)) room.new result }
         ensures passes { self.old.failed < 2 ^ 64 - 1 → Passes self.old.left self.new.left result }
         ensures ends { self.old.failed < 2 ^ 64 - 1 → self.old.left ≡ 0 → 0 < length room.new
             → EndsAtCut self.old.at_cut result }

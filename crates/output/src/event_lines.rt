@@ -8,9 +8,9 @@ ghost use Rattle.trace.specs.Selection.{last_printed, selected_text};
 use crate::history::History;
 use crate::view::View;
 use crate::writer::{IoError, LineRoom, Out};
-use reference::event::Event;
+use platform::event::Event;
 use std::marker::PhantomData;
-use trace::selection::{TraceSelection, byte_of};
+use trace::selection::TraceSelection;
 use trace::sink::Sink;
 
 /// Writes the text of one step's events as far as a view has them, of each as it comes. After a text that
@@ -25,10 +25,10 @@ pub struct EventLines<'a, O: Out, V: View> {
     view: PhantomData<V>,
     // The writer before each event, and the event.
     history: History<O, Event>,
-    ghost writes: { ∥ WritesSoFar V.SELECTION (emission O.written O.errors out.ghost_name out.now history.items)
-        (O.written out.now) (O.errors out.now) failed ∥₁ },
+    ghost writes: { ∥ WritesSoFar V.SELECTION (emission O.writing out.ghost_name out.now history.items)
+        (O.writing out.now) failed ∥₁ },
     ghost ends: { last ≡ last_printed V.SELECTION
-        (emission O.written O.errors out.ghost_name out.now history.items).events },
+        (emission O.writing out.ghost_name out.now history.items).events },
 }
 
 impl<'a, O: Out, V: View> EventLines<'a, O, V> {
@@ -37,7 +37,7 @@ impl<'a, O: Out, V: View> EventLines<'a, O, V> {
     pub fn new(out: &'a mut O, room: &'a mut LineRoom) -> EventLines<'a, O, V>
         ensures same_writer { result.out.ghost_name ≡ out.entry.ghost_name }
         ensures now { result.out.now ≡ out.old }
-        ensures empty { BeforeStep O.written O.errors result.out.ghost_name result.out.now result.history.items }
+        ensures empty { BeforeStep O.writing result.out.ghost_name result.out.now result.history.items }
     {
         EventLines {
             out,
@@ -53,8 +53,8 @@ impl<'a, O: Out, V: View> EventLines<'a, O, V> {
     #[inline(always)]
     pub fn end(&self) -> Result<(), IoError>
         ensures { PutsText V.SELECTION
-            (emission O.written O.errors self.now.out.ghost_name self.now.out.now self.now.history.items)
-            (O.written self.now.out.now) (O.errors self.now.out.now) result }
+            (emission O.writing self.now.out.ghost_name self.now.out.now self.now.history.items)
+            (O.writing self.now.out.now) result }
     {
         if self.failed { Err(IoError) } else { Ok(()) }
     }
@@ -63,14 +63,14 @@ impl<'a, O: Out, V: View> EventLines<'a, O, V> {
     #[inline(always)]
     pub fn last(&self) -> Option<u8>
         ensures { result ≡ last_printed V.SELECTION
-            (emission O.written O.errors self.now.out.ghost_name self.now.out.now self.now.history.items).events }
+            (emission O.writing self.now.out.ghost_name self.now.out.now self.now.history.items).events }
     {
         self.last
     }
 }
 
 impl<'a, O: Out, V: View> Sink for EventLines<'a, O, V> {
-    ghost emitted = { λ l. emission O.written O.errors l.out.ghost_name l.out.now l.history.items };
+    ghost emitted = { λ l. emission O.writing l.out.ghost_name l.out.now l.history.items };
 
     #[inline(always)]
     fn emit(&mut self, event: Event) {
@@ -90,7 +90,7 @@ fn put_unless<O: Out>(
     room: &mut LineRoom,
     event: &Event,
 ) -> bool
-    ensures { PutsUnless failed (O.written out.old) (O.written out.new) (O.errors out.old) (O.errors out.new)
+    ensures { PutsUnless failed (O.writing out.old) (O.writing out.new)
         (selected_text selection (event.now ∷ [])) result }
 {
     failed || put_selected(selection, out, room, event).is_err()
@@ -104,8 +104,7 @@ fn put_selected<O: Out>(
     room: &mut LineRoom,
     event: &Event,
 ) -> Result<(), IoError>
-    ensures { Put (O.written out.old) (O.written out.new) (O.errors out.old) (O.errors out.new)
-        (selected_text selection (event.now ∷ [])) result }
+    ensures { Put (O.writing out.old) (O.writing out.new) (selected_text selection (event.now ∷ [])) result }
 {
     if !selection.selects(&event.what) {
         return Ok(());
@@ -113,7 +112,7 @@ fn put_selected<O: Out>(
     if !selection.writes_bytes() {
         return out.put_line(room, event);
     }
-    match byte_of(&event.what) {
+    match event.what.byte() {
         Some(byte) => out.put_byte(byte),
         None => Ok(()),
     }

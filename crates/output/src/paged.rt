@@ -1,11 +1,12 @@
 //! A writer that gathers the lines of many steps, so that the writer below is called seldom.
 
-ghost use Rattle.std.specs.Prelude.{◌≡◌, ◌+◌, ◌≤◌, [], ◌++◌, length, drop, OnOk, OnErr};
-ghost use Rattle.reference.specs.Text.{line};
+ghost use Rattle.std.specs.Prelude.{◌≡◌, ◌+◌, ◌≤◌, [], length, drop, OnOk, OnErr};
+ghost use Rattle.output.specs.Output.{with_page};
+ghost use Rattle.platform.specs.Text.{line};
 ghost use Rattle.std.specs.Io.KnownBytes.{append_known, Keeps};
 
 use crate::writer::{IoError, LineRoom, Out};
-use reference::event::Event;
+use platform::event::Event;
 use trace::page::Page;
 
 /// How many bytes are gathered at most.
@@ -55,11 +56,11 @@ impl<O: Out + Drop> Paged<O> {
     /// sent, and the page still has the rest.
     #[inline(always)]
     fn make_room(&mut self) -> Result<(), IoError>
-        ensures known { Keeps (append_known (O.written self.old.inner) (drop self.old.at self.old.page))
-            (append_known (O.written self.new.inner) (drop self.new.at self.new.page)) }
+        ensures known { Keeps (append_known (O.writing self.old.inner).written (drop self.old.at self.old.page))
+            (append_known (O.writing self.new.inner).written (drop self.new.at self.new.page)) }
         ensures room { OnOk result (length self.new.page + 64 ≤ 0x4000) }
-        ensures quiet { OnOk result (O.errors self.new.inner ≡ O.errors self.old.inner) }
-        ensures error { OnErr result (O.errors self.new.inner ≡ O.errors self.old.inner + 1) }
+        ensures quiet { OnOk result ((O.writing self.new.inner).errors ≡ (O.writing self.old.inner).errors) }
+        ensures error { OnErr result ((O.writing self.new.inner).errors ≡ (O.writing self.old.inner).errors + 1) }
     {
         if self.page.len() > FULL {
             self.flush()
@@ -73,11 +74,11 @@ impl<O: Out + Drop> Paged<O> {
     #[cold]
     #[inline(never)]
     pub fn flush(&mut self) -> Result<(), IoError>
-        ensures known { Keeps (append_known (O.written self.old.inner) (drop self.old.at self.old.page))
-            (append_known (O.written self.new.inner) (drop self.new.at self.new.page)) }
+        ensures known { Keeps (append_known (O.writing self.old.inner).written (drop self.old.at self.old.page))
+            (append_known (O.writing self.new.inner).written (drop self.new.at self.new.page)) }
         ensures empty { OnOk result ((self.new.page ≡ []) × (self.new.at ≡ 0)) }
-        ensures quiet { OnOk result (O.errors self.new.inner ≡ O.errors self.old.inner) }
-        ensures error { OnErr result (O.errors self.new.inner ≡ O.errors self.old.inner + 1) }
+        ensures quiet { OnOk result ((O.writing self.new.inner).errors ≡ (O.writing self.old.inner).errors) }
+        ensures error { OnErr result ((O.writing self.new.inner).errors ≡ (O.writing self.old.inner).errors + 1) }
     {
         'pieces: while self.at < self.page.len() {
             let (_, rest) = self.page.as_slice().split_at(self.at);
@@ -94,11 +95,7 @@ impl<O: Out + Drop> Paged<O> {
 }
 
 impl<O: Out + Drop> Out for Paged<O> {
-    ghost written = { λ p. append_known (O.written p.inner) (drop p.at p.page) };
-
-    ghost errors = { λ p. O.errors p.inner };
-
-    ghost waits = { λ p. O.waits p.inner ++ drop p.at p.page };
+    ghost writing = { λ p. with_page (drop p.at p.page) (O.writing p.inner) };
 
     fn put(&mut self, bytes: &[u8]) -> Result<usize, IoError> {
         if bytes.len() <= ROOM - self.page.len() {

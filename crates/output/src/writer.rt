@@ -1,11 +1,11 @@
 //! Writers that report what they took, and readers that report what they returned.
 
-ghost use Rattle.std.specs.Prelude.{◌≡◌, ℕ, ◌+◌, ◌<◌, ◌≤◌, Bool, true, List, [], ◌∷◌, length, Option, OnErr};
-ghost use Rattle.output.specs.Input.{Received};
-ghost use Rattle.output.specs.Output.{HandsOn, Put, Took};
-ghost use Rattle.reference.specs.Text.{line};
+ghost use Rattle.std.specs.Prelude.{◌≡◌, ◌<◌, true, [], ◌∷◌, OnErr};
+ghost use Rattle.output.specs.Input.{Reading, Received};
+ghost use Rattle.output.specs.Output.{HandsOn, Put, Took, Writing};
+ghost use Rattle.platform.specs.Text.{line};
 
-use reference::event::Event;
+use platform::event::Event;
 use std::io::{Read, Write};
 use std::marker::Model;
 use std::sync::ledger::{Blank, Book, Ledger, Share};
@@ -42,19 +42,15 @@ pub struct IoError;
 /// taken, where they are known, how many calls failed or took 0 bytes of a nonempty piece, and
 /// which of the bytes wait to be sent.
 pub trait Out {
-    ghost written: { Self → Option (List ℕ) };
-
-    ghost errors: { Self → ℕ };
-
-    ghost waits: { Self → List ℕ };
+    ghost writing: { Self → Writing };
 
     /// Takes a prefix of the bytes, and returns its length.
     fn put(&mut self, bytes: &[u8]) -> Result<usize, IoError>
-        ensures { Took (written self.old) (written self.new) (errors self.old) (errors self.new) bytes.now result };
+        ensures { Took (writing self.old) (writing self.new) bytes.now result };
 
     /// Puts all of the bytes, piece by piece. On an error a prefix of them went out.
     fn put_all(&mut self, bytes: &[u8]) -> Result<(), IoError>
-        ensures { Put (written self.old) (written self.new) (errors self.old) (errors self.new) bytes.now result }
+        ensures { Put (writing self.old) (writing self.new) bytes.now result }
     {
         let mut rest = bytes;
         'pieces: while !rest.is_empty() {
@@ -72,15 +68,14 @@ pub trait Out {
 
     /// Puts a byte.
     fn put_byte(&mut self, byte: u8) -> Result<(), IoError>
-        ensures { Put (written self.old) (written self.new) (errors self.old) (errors self.new) (byte ∷ []) result }
+        ensures { Put (writing self.old) (writing self.new) (byte ∷ []) result }
     {
         self.put_all(&[byte])
     }
 
     /// Puts the line of an event. `room` is room for its text.
     fn put_line(&mut self, room: &mut LineRoom, event: &Event) -> Result<(), IoError>
-        ensures { Put (written self.old) (written self.new) (errors self.old) (errors self.new)
-            (line event.now) result }
+        ensures { Put (writing self.old) (writing self.new) (line event.now) result }
     {
         room.page.clear();
         room.page.put_event(&mut room.digits, event);
@@ -90,29 +85,23 @@ pub trait Out {
 
     /// Sends the bytes that wait. On an error some of them may still wait.
     fn hand_on(&mut self) -> Result<(), IoError>
-        ensures { HandsOn (written self.old) (written self.new) (errors self.old) (errors self.new)
-            (waits self.new) result };
+        ensures { HandsOn (writing self.old) (writing self.new) result };
 }
 
 /// A reader that reports how many bytes it returned. A contract sees the bytes that it has left,
 /// where they are known, how many calls failed, and whether the next call may wait for input or fail.
 pub trait In {
-    ghost left: { Self → Option (List ℕ) };
-
-    ghost misses: { Self → ℕ };
-
-    ghost may_wait: { Self → Bool } = { λ _. true };
+    ghost reading: { Self → Reading };
 
     /// Puts bytes at the front of the room, and returns how many: 0 at the end of the input, or
     /// where there is no room.
     fn take(&mut self, room: &mut [u8]) -> Result<usize, IoError>
-        ensures received { Received (left self.old) (left self.new) (misses self.old)
-            (misses self.new) room.new result }
-        ensures failed { OnErr result (may_wait self.old ≡ true) };
+        ensures received { Received (reading self.old) (reading self.new) room.new result }
+        ensures failed { OnErr result ((reading self.old).may_wait ≡ true) };
 
     /// Returns false only where the next call of `take` neither waits for input nor fails.
     fn may_wait(&self) -> bool
-        ensures { may_wait self.now ≡ true → result ≡ true }
+        ensures { (reading self.now).may_wait ≡ true → result ≡ true }
     {
         true
     }
@@ -154,11 +143,7 @@ impl<T: Drop, K: Ledger> Over<T, K> {
 }
 
 impl<W: Write + Drop, K: Ledger> Out for Over<W, K> {
-    ghost written = { λ o. W.contents o.inner };
-
-    ghost errors = { λ o. o.book.total };
-
-    ghost waits = { λ _. [] };
+    ghost writing = { λ o. record { written = W.contents o.inner; errors = o.book.total; waits = [] } };
 
     fn put(&mut self, bytes: &[u8]) -> Result<usize, IoError> {
         match self.inner.write(bytes) {
@@ -180,9 +165,7 @@ impl<W: Write + Drop, K: Ledger> Out for Over<W, K> {
 }
 
 impl<R: Read + Drop, K: Ledger> In for Over<R, K> {
-    ghost left = { λ o. R.remaining o.inner };
-
-    ghost misses = { λ o. o.book.total };
+    ghost reading = { λ o. record { left = R.remaining o.inner; misses = o.book.total; may_wait = true } };
 
     fn take(&mut self, room: &mut [u8]) -> Result<usize, IoError> {
         match self.inner.read(room) {

@@ -1,1 +1,4 @@
+mod Firsts
+mod Naming
 mod Numbers
+mod Refusing

@@ -2,8 +2,8 @@
 use Rattle.std.proofs.Common.{◌≡◌, ℕ, ℤ, pos, negsuc, Bool, true, false, List, Option, Some, None, is_some, Ok, Err}
 use Rattle.std.proofs.Common.{arith}
 use Rattle.board.specs.Texts.{change, nmi, whole}
-use Rattle.reference.specs.declared.error.BoardError.{BoardError}
-use Rattle.reference.specs.declared.error.BoardError.TheVariants.{WrongKind, OutOfRange}
+use Rattle.platform.specs.declared.error.BoardError.{BoardError}
+use Rattle.platform.specs.declared.error.BoardError.TheVariants.{WrongKind, OutOfRange}
 
 -- an integer that is refused is below 0
 pub below_zero : (value : Option ℤ) (error : BoardError) → whole value ≡ Err error → is_some value ≡ true

@@ -1,16 +1,17 @@
 -- Which refusal of a board a problem explains, and which numbers the message for a key names.
-use Rattle.std.specs.Prelude.{◌≡◌, ℕ, ◌+◌, ◌&&◌, Bool, true, false, nat_le, if◌then◌else◌, List, codes}
+use Rattle.std.specs.Prelude.{◌≡◌, ◌⊎◌, ℕ, ◌+◌, ◌&&◌, Bool, true, false, nat_le, if◌then◌else◌, List, codes}
 use Rattle.std.specs.Prelude.{Option, Some, None, is_some, Result, Ok, Err, IsOk}
 use Rattle.toml.specs.Data.{Members, as_integer, get_member}
 use Rattle.toml.specs.View.{view}
-use Rattle.board.specs.Texts.{◌>>=◌, change, word}
-use Rattle.reference.specs.Boards.{Numbers, is_region_count, is_size, is_whole_blocks}
-use Rattle.reference.specs.Map.{ram_base}
-use Rattle.reference.specs.declared.script.ScriptedEvent.{ScriptedEvent}
-use Rattle.reference.specs.declared.script.Signal.{Signal}
-use Rattle.reference.specs.declared.error.BoardError.{BoardError}
-use Rattle.reference.specs.declared.error.BoardError.TheVariants.{MissingKey, WrongKind, OutOfRange, EventsOutOfOrder}
-use Rattle.reference.specs.declared.error.BoardError.TheVariants.{UnknownKey}
+use Rattle.board.specs.Texts.{◌>>=◌, change, number, number_or, where_ok, word}
+use Rattle.platform.specs.Boards.{Numbers, default_regions, is_flash, is_interrupt_count, is_priority_bits}
+use Rattle.platform.specs.Boards.{is_region_count, is_size, is_whole_blocks}
+use Rattle.platform.specs.Map.{ram_base}
+use Rattle.platform.specs.declared.script.ScriptedEvent.{ScriptedEvent}
+use Rattle.platform.specs.declared.script.Signal.{Signal}
+use Rattle.platform.specs.declared.error.BoardError.{BoardError}
+use Rattle.platform.specs.declared.error.BoardError.TheVariants.{MissingKey, WrongKind, OutOfRange, EventsOutOfOrder}
+use Rattle.platform.specs.declared.error.BoardError.TheVariants.{UnknownKey}
 use Rattle.reasons.specs.declared.keys.Key.{Key}
 use Rattle.reasons.specs.declared.keys.Takes.{Takes}
 use Rattle.reasons.specs.declared.keys.Takes.TheVariants.{Integers, Blocks, RamSizes, FlashSizes, Regions, Tables}
@@ -80,6 +81,27 @@ EndsTooHigh base (Unknown name known) = ⊥
 EndsTooHigh base (Misplaced name) = ⊥
 EndsTooHigh base (Order at before) = ⊥
 
+-- a fact of a number that is refused; or a fact of what comes after one that is read
+abbrev pub IfRefused : Result ℕ BoardError → Type 0 → (ℕ → Type 0) → Type 0
+IfRefused (Ok n) refused later = later n
+IfRefused (Err error) refused later = refused
+
+-- a problem is one of the first key of a board whose number is refused
+unfoldable pub NamesFirst : Members → Problem → Type 0
+NamesFirst document problem =
+    IfRefused (where_ok is_whole_blocks (number (get_member (codes "flash_base") document)))
+    (Names (codes "flash_base") is_whole_blocks (key_of problem)) (λ base.
+    IfRefused (where_ok (is_flash base) (number (get_member (codes "flash_size") document)))
+    (Names (codes "flash_size") is_size (key_of problem) ⊎ EndsTooHigh base problem) (λ flash.
+    IfRefused (where_ok is_size (number (get_member (codes "ram_size") document)))
+    (Names (codes "ram_size") is_size (key_of problem)) (λ ram.
+    IfRefused (where_ok is_priority_bits (number (get_member (codes "priority_bits") document)))
+    (Names (codes "priority_bits") is_priority_bits (key_of problem)) (λ bits.
+    IfRefused (where_ok is_interrupt_count (number (get_member (codes "lines") document)))
+    (Names (codes "lines") is_interrupt_count (key_of problem)) (λ lines.
+    IfRefused (where_ok is_region_count (number_or default_regions (get_member (codes "regions") document)))
+    (Names (codes "regions") is_region_count (key_of problem)) (λ regions. ⊥))))))
+
 -- a number is the one that is read, or a problem explains why none is read
 abbrev pub Explained : {A : Type 0} → Result A Problem → Result A BoardError → Type 0
 Explained (Ok found) read = read ≡ Ok found
@@ -94,6 +116,11 @@ Reads key (Err problem) read = (read ≡ Err (refusal_of problem)) × (key_of pr
 abbrev pub Passes : {A : Type 0} → Result (Unit {0}) Problem → Result A BoardError → Type 0
 Passes (Ok nothing) read = IsOk read
 Passes (Err problem) read = read ≡ Err (refusal_of problem)
+
+-- no problem where something is read, or one that explains why nothing is
+abbrev pub Finds : {A : Type 0} → Option Problem → Result A BoardError → Type 0
+Finds None read = IsOk read
+Finds (Some problem) read = read ≡ Err (refusal_of problem)
 
 -- the change of a line that the word of an event names
 abbrev pub change_in : ℕ → Members → Result Signal BoardError

@@ -1,35 +1,38 @@
 //! Why the script of a board is refused: the event by its place in the file, and its problem.
 
-ghost use Rattle.std.specs.Prelude.{◌≡◌, ◌≤◌, ◌<◌, codes, map, nat_lt, IfErr, IfOk};
+ghost use Rattle.std.specs.Prelude.{◌≡◌, ◌≤◌, ◌<◌, codes, map, nat_lt, option_map, IfOk};
 ghost use Rattle.toml.specs.Data.{get_member};
-ghost use Rattle.toml.specs.View.{table_view, view};
-ghost use Rattle.board.specs.Texts.{interrupt_signal, nmi_signal, number, only, signal_in, timely_event};
-ghost use Rattle.board.specs.Texts.{where_ok};
-ghost use Rattle.reference.specs.Boards.{is_tick};
-ghost use Rattle.reasons.specs.Problems.{Explained, Names, Passes, change_in, key_of, tick_of};
+ghost use Rattle.toml.specs.View.{items_view, table_view, view};
+ghost use Rattle.board.specs.Texts.{are_tables, interrupt_signal, nmi_signal, number, only, script_in, signal_in};
+ghost use Rattle.board.specs.Texts.{timely_event, where_ok};
+ghost use Rattle.reasons.specs.Events.{event_with, first_refused, first_untabled, first_with, has_key, of_tables};
+ghost use Rattle.reasons.specs.Events.{refusal_in, script_of};
+ghost use Rattle.reasons.specs.Problems.{Explained, Finds, Passes, change_in, tick_of};
 
 use crate::keys::{AT, EVENT, EVENT_TABLE, LINE_NAME, NMI, WHAT};
 use crate::problem::Problem;
-use crate::settings::{unknown, whole_number};
+use crate::settings::{check_number, unknown};
 use board::keys::{BOARD_KEYS, INTERRUPT_KEYS, NMI_KEYS, is_known};
-use board::ranges::{FIRST_TICK, is_tick};
+use board::ranges::FIRST_TICK;
 use board::{InterruptNumber, MOST_SCRIPT_EVENTS, change, find, nmi, number};
-use reference::exception::MOST_INTERRUPTS;
+use platform::exception::MOST_INTERRUPTS;
 use toml::{Table, Value};
 
-/// A problem of an event.
+/// A problem of a board, or of one of its events.
 #[derive(Clone, Copy)]
 pub struct EventProblem<'a> {
-    /// Which event it is, from 1; 0 for the list of events itself.
+    /// Which event it is, from 1; 0 for the board itself, and for the list of events.
     pub number: usize,
     pub problem: Problem<'a>,
 }
 
 /// Returns the first problem of the script of a board with this many lines.
+#[tactic(auto, using(board::proofs::Scripts::count_is), unfolding(board::specs::Texts::script_in))]
 pub fn events_problem(document: &Table, lines: u64) -> Option<EventProblem<'_>>
     requires { lines ≤ MOST_INTERRUPTS }
+    ensures { Finds (option_map (λ p. p.problem) result) (script_of lines (table_view document.now)) }
 {
-    let value = document.get(EVENT.name)?;
+    let value = find(document, EVENT.name)?;
     let Some(values) = value.as_array() else {
         return Some(EventProblem {
             number: 0,
@@ -50,22 +53,44 @@ pub fn events_problem(document: &Table, lines: u64) -> Option<EventProblem<'_>>
 }
 
 /// Returns the number of the first event, from 1, that has a key.
-pub fn event_with(document: &Table, key: &str) -> Option<usize> {
-    let values = document.get(EVENT.name)?.as_array()?;
-    'values: for (index, value) in values.as_slice().iter().enumerate() {
-        if value.as_table()?.get(key).is_some() {
-            return Some(index.saturating_add(1));
+pub fn event_with(document: &Table, key: &str) -> Option<usize>
+    ensures { result ≡ event_with key.now (get_member (codes "event") (table_view document.now)) }
+{
+    let values = find(document, EVENT.name)?.as_array()?;
+    first_with(values.as_slice(), key)
+}
+
+/// Returns the number of the first value, from 1, that is a table with a key.
+fn first_with(values: &[Value], key: &str) -> Option<usize>
+    ensures { result ≡ first_with key.now 1 (items_view values.now) }
+{
+    'values: for (index, value) in values.iter().enumerate() {
+        if has_key(value.as_table(), key) {
+            return Some(index + 1);
         }
     }
     None
 }
 
+/// Returns whether there is a table, and it has a key.
+fn has_key(fields: Option<&Table>, key: &str) -> bool
+    ensures { result ≡ has_key key.now (option_map (λ t. table_view t.now) fields.entry) }
+{
+    match fields {
+        Some(fields) => find(fields, key).is_some(),
+        None => false,
+    }
+}
+
 /// Returns the first event that isn't a table.
-fn tables_problem(values: &[Value]) -> Option<EventProblem<'_>> {
+fn tables_problem(values: &[Value]) -> Option<EventProblem<'_>>
+    ensures names { option_map (λ p. p.number) result ≡ first_untabled 1 (items_view values.now) }
+    ensures explains { Finds (option_map (λ p. p.problem) result) (of_tables (are_tables (items_view values.now))) }
+{
     'values: for (index, value) in values.iter().enumerate() {
         if value.as_table().is_none() {
             return Some(EventProblem {
-                number: index.saturating_add(1),
+                number: index + 1,
                 problem: Problem::Kind(EVENT_TABLE, value),
             });
         }
@@ -76,6 +101,9 @@ fn tables_problem(values: &[Value]) -> Option<EventProblem<'_>> {
 /// Returns the first problem of a list of tables, on a board with this many lines.
 fn script_problem(values: &[Value], lines: u64) -> Option<EventProblem<'_>>
     requires { lines ≤ MOST_INTERRUPTS }
+    ensures names { option_map refusal_in result ≡ first_refused lines FIRST_TICK 1 (items_view values.now) }
+    ensures explains { Finds (option_map (λ p. p.problem) result)
+        (script_in lines FIRST_TICK (items_view values.now)) }
 {
     let mut before = FIRST_TICK;
     'values: for (index, value) in values.iter().enumerate() {
@@ -83,7 +111,7 @@ fn script_problem(values: &[Value], lines: u64) -> Option<EventProblem<'_>>
             Ok(at) => before = at,
             Err(problem) => {
                 return Some(EventProblem {
-                    number: index.saturating_add(1),
+                    number: index + 1,
                     problem,
                 });
             }
@@ -101,22 +129,10 @@ fn check_event(value: &Value, lines: u64, before: u64) -> Result<u64, Problem<'_
     let Some(fields) = value.as_table() else {
         return Err(Problem::Kind(EVENT_TABLE, value));
     };
-    let at = check_tick(fields)?;
+    let at = check_number(fields, AT)?;
     check_signal(fields, lines)?;
     if at < before {
         return Err(Problem::Order(at, before));
-    }
-    Ok(at)
-}
-
-/// Returns the tick that an event names, or what is wrong with it.
-fn check_tick(fields: &Table) -> Result<u64, Problem<'_>>
-    ensures read { Explained result (where_ok is_tick (number (get_member (codes "at") (table_view fields.now)))) }
-    ensures names { IfErr result (λ problem. Names (codes "at") is_tick (key_of problem)) }
-{
-    let (at, value) = whole_number(fields, AT)?;
-    if !is_tick(at) {
-        return Err(Problem::Value(AT, value));
     }
     Ok(at)
 }

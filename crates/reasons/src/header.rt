@@ -3,6 +3,7 @@
 
 ghost use Rattle.std.specs.Prelude.{◌≡◌, ◌+◌, ◌*◌, ◌≤◌, ◌<◌, length, IfSome};
 ghost use Rattle.elf.specs.Images.{e_phnum, e_phoff};
+ghost use Rattle.reasons.specs.Segments.{IsAt, header_at, segment_if};
 
 use elf::{
     E_PHNUM, E_PHOFF, ELF_HEADER_SIZE, PROGRAM_HEADER_SIZE, Segment, halfword, is_segment,
@@ -65,6 +66,7 @@ pub fn segment_at<'a>(
     requires one { index < table.count }
     requires end { table.end ≡ table.place + PROGRAM_HEADER_SIZE * table.count }
     requires within { table.end ≤ length file.now }
+    ensures { IsAt index (segment_if file.now (header_at table index)) result }
 {
     let place = table.place + PROGRAM_HEADER_SIZE * index;
     if !is_segment(file, place) {

@@ -1,6 +1,9 @@
 //! Why an image is refused: the field of the header and its value.
 
-ghost use Rattle.std.specs.Prelude.{◌≡◌, ◌+◌, ◌*◌, ◌≤◌, ◌<◌, length, IfSome};
+ghost use Rattle.std.specs.Prelude.{◌≡◌, ◌+◌, ◌*◌, ◌≤◌, ◌<◌, length, true};
+ghost use Rattle.elf.specs.Segment.{segment_of};
+ghost use Rattle.reasons.specs.Segments.{IsFirst, IsFirstOf, IsFirstPair, Picks, PicksPair, SharesLater, header_at};
+ghost use Rattle.reasons.specs.Segments.{lies_outside, segment_if};
 
 use crate::header::{HeaderTable, NumberedSegment, segment_at, table_of};
 use elf::{
@@ -103,15 +106,28 @@ fn write_table_reason<W: Write>(out: &mut W, file: &[u8], error: LoadError) -> i
 fn outside(file: &[u8], table: HeaderTable) -> Option<usize>
     requires end { table.end ≡ table.place + PROGRAM_HEADER_SIZE * table.count }
     requires within { table.end ≤ length file.now }
-    ensures { IfSome result (λ index. index < table.count) }
+    ensures { IsFirst (λ k. lies_outside file.now (header_at table k) ≡ true) table.count result }
 {
     'headers: for index in 0..table.count {
-        let place = table.place + PROGRAM_HEADER_SIZE * index;
-        if is_segment(file, place) && segment_of_header(file, place).is_err() {
+        if lies_outside(file, table.place + PROGRAM_HEADER_SIZE * index) {
             return Some(index);
         }
     }
     None
+}
+
+/// Returns whether the program header at a place is of a segment whose bytes don't lie in the file.
+fn lies_outside(file: &[u8], place: usize) -> bool
+    requires { place + PROGRAM_HEADER_SIZE ≤ length file.now }
+    ensures { result ≡ lies_outside file.now place }
+{
+    if !is_segment(file, place) {
+        return false;
+    }
+    match segment_of_header(file, place) {
+        Ok(_) => false,
+        Err(_) => true,
+    }
 }
 
 /// Writes where the bytes of the segment of a program header are.
@@ -136,22 +152,44 @@ fn write_outside<W: Write>(
     )
 }
 
-/// Returns the first two segments that share an address.
+/// Returns the first two segments that share an address: the first one that does with a later one, and the first
+/// of those.
 fn overlap<'a>(
     file: &'a [u8],
     table: HeaderTable,
 ) -> Option<(NumberedSegment<'a>, NumberedSegment<'a>)>
     requires end { table.end ≡ table.place + PROGRAM_HEADER_SIZE * table.count }
     requires within { table.end ≤ length file.now }
+    ensures { IsFirstPair (λ k. segment_if file.now (header_at table k)) table.count result }
 {
     'headers: for index in 0..table.count {
-        if let Some(one) = segment_at(file, table, index)
-            && let Some(other) = overlap_with(file, table, &one)
-        {
-            return Some((one, other));
+        match overlap_at(file, table, index) {
+            Some(pair) => return Some(pair),
+            None => {}
         }
     }
     None
+}
+
+/// Returns the segment of the program header at a position of the table, and the first one after it that shares an
+/// address with it.
+fn overlap_at<'a>(
+    file: &'a [u8],
+    table: HeaderTable,
+    index: usize,
+) -> Option<(NumberedSegment<'a>, NumberedSegment<'a>)>
+    requires one { index < table.count }
+    requires end { table.end ≡ table.place + PROGRAM_HEADER_SIZE * table.count }
+    requires within { table.end ≤ length file.now }
+    ensures { PicksPair (λ k. segment_if file.now (header_at table k)) table.count index result }
+{
+    match segment_at(file, table, index) {
+        Some(one) => match overlap_with(file, table, &one) {
+            Some(other) => Some((one, other)),
+            None => None,
+        },
+        None => None,
+    }
 }
 
 /// Returns the first segment after another that shares an address with it.
@@ -162,16 +200,45 @@ fn overlap_with<'a>(
 ) -> Option<NumberedSegment<'a>>
     requires end { table.end ≡ table.place + PROGRAM_HEADER_SIZE * table.count }
     requires within { table.end ≤ length file.now }
+    ensures { IsFirstOf (λ k. segment_if file.now (header_at table k)) (SharesLater
+        (λ k. segment_if file.now (header_at table k)) (segment_of one.now.segment) one.now.index) table.count result }
 {
     'headers: for index in 0..table.count {
-        match segment_at(file, table, index) {
-            Some(other) if index > one.index && share_an_address(&one.segment, &other.segment) => {
-                return Some(other);
-            }
-            Some(_) | None => {}
+        match overlap_with_at(file, table, one, index) {
+            Some(other) => return Some(other),
+            None => {}
         }
     }
     None
+}
+
+/// Returns the segment of the program header at a position of the table, where it is after another one and shares an
+/// address with it.
+fn overlap_with_at<'a>(
+    file: &'a [u8],
+    table: HeaderTable,
+    one: &NumberedSegment<'a>,
+    index: usize,
+) -> Option<NumberedSegment<'a>>
+    requires one { index < table.count }
+    requires end { table.end ≡ table.place + PROGRAM_HEADER_SIZE * table.count }
+    requires within { table.end ≤ length file.now }
+    ensures { Picks (λ k. segment_if file.now (header_at table k)) (SharesLater
+        (λ k. segment_if file.now (header_at table k)) (segment_of one.now.segment) one.now.index index) index result }
+{
+    if index <= one.index {
+        return None;
+    }
+    match segment_at(file, table, index) {
+        Some(other) => {
+            if share_an_address(&one.segment, &other.segment) {
+                Some(other)
+            } else {
+                None
+            }
+        }
+        None => None,
+    }
 }
 
 /// Writes the addresses of two segments.

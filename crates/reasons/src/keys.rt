@@ -1,11 +1,15 @@
 //! The keys of a board and of its events, and what each takes. The numbers are those of the tests of `board`.
 
-use board::MOST_SCRIPT_EVENTS;
+ghost use Rattle.std.specs.Prelude.{◌≡◌};
+ghost use Rattle.reasons.specs.Problems.{takes};
+
 use board::ranges::{
-    BLOCK, FIRST_TICK, LAST_TICK, LEAST_PRIORITY_BITS, MOST_BYTES, MOST_PRIORITY_BITS,
+    BLOCK, FIRST_TICK, LAST_TICK, LEAST_PRIORITY_BITS, MOST_BYTES, MOST_PRIORITY_BITS, is_size,
+    is_whole_blocks,
 };
-use reference::exception::MOST_INTERRUPTS;
-use reference::map::RAM_BASE;
+use board::{MOST_SCRIPT_EVENTS, region_count};
+use platform::exception::MOST_INTERRUPTS;
+use platform::map::RAM_BASE;
 use std::fmt;
 use std::fmt::Display;
 
@@ -33,6 +37,22 @@ pub enum Takes {
     Tables,
     /// Values of another type, in words.
     Words(&'static str),
+}
+
+impl Takes {
+    /// Returns whether a number is one of those that the message for a key names. That flash may end too high is a
+    /// problem of its own.
+    pub fn includes(self, number: u64) -> bool
+        ensures { result ≡ takes self number }
+    {
+        match self {
+            Takes::Integers(least, most) => least <= number && number <= most,
+            Takes::Blocks => is_whole_blocks(number),
+            Takes::RamSizes | Takes::FlashSizes => is_size(number),
+            Takes::Regions => region_count(number).is_ok(),
+            Takes::Tables | Takes::Words(_) => false,
+        }
+    }
 }
 
 impl Display for Takes {

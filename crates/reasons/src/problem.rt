@@ -3,7 +3,7 @@
 use crate::keys::{EVENT, Key};
 use crate::text::write_key;
 use messages::Quoted;
-use reference::map::RAM_BASE;
+use platform::map::RAM_BASE;
 use std::io;
 use std::io::Write;
 use toml::Value;

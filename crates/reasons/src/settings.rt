@@ -1,13 +1,13 @@
 //! Why a board is refused: the key or the event, its value, and what it takes.
 
-ghost use Rattle.std.specs.Prelude.{◌≡◌, ◌⊎◌, ◌<◌, ◌≤◌, ◌^◌, codes, is_some, map, not, IfOk, IfErr};
+ghost use Rattle.std.specs.Prelude.{◌≡◌, ◌⊎◌, ◌<◌, ◌≤◌, ◌^◌, ℕ, Bool, true, not, List, codes, is_some, map};
+ghost use Rattle.std.specs.Prelude.{option_map, IfErr, IfOk};
 ghost use Rattle.toml.specs.Data.{get_member};
 ghost use Rattle.toml.specs.View.{table_view};
-ghost use Rattle.board.specs.Texts.{has_only, number, number_or, numbers_in, where_ok};
-ghost use Rattle.reference.specs.Boards.{default_regions, is_flash, is_interrupt_count, is_priority_bits};
-ghost use Rattle.reference.specs.Boards.{is_region_count};
-ghost use Rattle.reference.specs.Boards.{is_size, is_whole_blocks};
-ghost use Rattle.reasons.specs.Problems.{EndsTooHigh, Explained, Names, Reads, key_of, lines_of};
+ghost use Rattle.board.specs.Texts.{board_in, has_only, number, number_or, numbers_in, where_ok};
+ghost use Rattle.platform.specs.Boards.{default_regions, is_flash, is_region_count, is_size};
+ghost use Rattle.reasons.specs.Problems.{EndsTooHigh, Explained, Finds, Names, NamesFirst, Reads, Shows, key_of};
+ghost use Rattle.reasons.specs.Problems.{lines_of, takes};
 
 use crate::events::{EventProblem, event_with, events_problem};
 use crate::keys::{
@@ -15,10 +15,10 @@ use crate::keys::{
 };
 use crate::problem::{Problem, write_problem};
 use board::keys::{BOARD_KEYS, is_known};
-use board::ranges::{is_flash, is_interrupt_count, is_priority_bits, is_size, is_whole_blocks};
-use board::{DEFAULT_REGIONS, find, number, region_count};
-use reference::error::BoardError;
-use reference::exception::MOST_INTERRUPTS;
+use board::ranges::is_flash;
+use board::{DEFAULT_REGIONS, find, number};
+use platform::error::BoardError;
+use platform::exception::MOST_INTERRUPTS;
 use std::alloc::Global;
 use std::io::Write;
 use std::{io, str};
@@ -53,24 +53,33 @@ fn write_document_reason<W: Write>(
     document: &Table,
     error: BoardError,
 ) -> io::Result<()> {
-    let lines = match check_numbers(document) {
-        Ok(lines) => lines,
-        Err(problem) => {
+    match document_problem(document) {
+        Some(EventProblem { number: 0, problem }) => {
             write_problem(out, &problem)?;
-            return write_misplaced(out, document, &problem);
+            write_misplaced(out, document, &problem)
         }
-    };
-    if let Some(name) = unknown(document, &BOARD_KEYS) {
-        return write_problem(out, &Problem::Unknown(name, BOARD_KEY_NAMES));
-    }
-    match events_problem(document, lines) {
-        Some(EventProblem { number: 0, problem }) => write_problem(out, &problem),
         Some(EventProblem { number, problem }) => {
             write!(out, "event {number}: ")?;
             write_problem(out, &problem)
         }
         None => writeln!(out, "{error}"),
     }
+}
+
+/// Returns the first problem of a document, if it isn't a board.
+#[tactic(auto, unfolding(board::specs::Texts::board_in))]
+fn document_problem(document: &Table) -> Option<EventProblem<'_>>
+    ensures { Finds (option_map (λ p. p.problem) result) (board_in (table_view document.now)) }
+{
+    let lines = match check_numbers(document) {
+        Ok(lines) => lines,
+        Err(problem) => return Some(EventProblem { number: 0, problem }),
+    };
+    if let Some(name) = unknown(document, &BOARD_KEYS) {
+        let problem = Problem::Unknown(name, BOARD_KEY_NAMES);
+        return Some(EventProblem { number: 0, problem });
+    }
+    events_problem(document, lines)
 }
 
 /// Writes, after a missing key of the board, where it may be: in an event, or misspelled, or in a table
@@ -124,7 +133,7 @@ fn position(file: &[u8], at: usize) -> (usize, usize) {
 
 /// Returns the whole number at a key with its value, or what is wrong with it.
 #[tactic(auto, using(crate::proofs::Numbers::below_zero, crate::proofs::Numbers::no_integer))]
-pub fn whole_number<'a>(table: &'a Table, key: Key) -> Result<(u64, &'a Value), Problem<'a>>
+fn whole_number<'a>(table: &'a Table, key: Key) -> Result<(u64, &'a Value), Problem<'a>>
     ensures read { Reads key result (number (get_member key.name.now (table_view table.now))) }
     ensures small { IfOk result (λ found. found.0 < 2 ^ 63) }
 {
@@ -139,32 +148,35 @@ pub fn whole_number<'a>(table: &'a Table, key: Key) -> Result<(u64, &'a Value), 
 }
 
 /// Checks the six numbers in the order in which they are read. Returns the number of lines, or the first problem.
-#[tactic(auto, unfolding(board::specs::Texts::numbers_in))]
+#[tactic(auto, unfolding(board::specs::Texts::numbers_in, crate::specs::Problems::NamesFirst))]
 fn check_numbers(document: &Table) -> Result<u64, Problem<'_>>
     ensures read { Explained result (lines_of (numbers_in (table_view document.now))) }
+    ensures names { IfErr result (λ problem. NamesFirst (table_view document.now) problem) }
     ensures few { IfOk result (λ lines. lines ≤ MOST_INTERRUPTS) }
 {
-    let base = check_flash_base(document)?;
+    let base = check_number(document, FLASH_BASE)?;
     check_flash_size(document, base)?;
-    check_ram_size(document)?;
-    check_priority_bits(document)?;
-    let lines = check_lines(document)?;
+    check_number(document, RAM_SIZE)?;
+    check_number(document, PRIORITY_BITS)?;
+    let lines = check_number(document, LINES)?;
     check_regions(document)?;
     Ok(lines)
 }
 
-/// Returns the base of flash, or what is wrong with it.
-fn check_flash_base(document: &Table) -> Result<u64, Problem<'_>>
-    ensures small { IfOk result (λ base. base < 2 ^ 63) }
+/// Returns the number at a key, where it is one that the message for the key names, or what is wrong with it.
+pub fn check_number<'a>(table: &'a Table, key: Key) -> Result<u64, Problem<'a>>
     ensures read { Explained result
-        (where_ok is_whole_blocks (number (get_member (codes "flash_base") (table_view document.now)))) }
-    ensures names { IfErr result (λ problem. Names (codes "flash_base") is_whole_blocks (key_of problem)) }
+        (where_ok (takes key.takes) (number (get_member key.name.now (table_view table.now)))) }
+    ensures names { IfErr result (λ problem. (name : List ℕ) (test : ℕ → Bool) → Shows name test key
+        → Names name test (key_of problem)) }
+    ensures taken { IfOk result (λ n. takes key.takes n ≡ true) }
+    ensures small { IfOk result (λ n. n < 2 ^ 63) }
 {
-    let (base, value) = whole_number(document, FLASH_BASE)?;
-    if !is_whole_blocks(base) {
-        return Err(Problem::Value(FLASH_BASE, value));
+    let (number, value) = whole_number(table, key)?;
+    if !key.takes.includes(number) {
+        return Err(Problem::Value(key, value));
     }
-    Ok(base)
+    Ok(number)
 }
 
 /// Returns the size of flash at a base, or what is wrong with it.
@@ -175,54 +187,11 @@ fn check_flash_size(document: &Table, base: u64) -> Result<u64, Problem<'_>>
     ensures names { IfErr result
         (λ problem. Names (codes "flash_size") is_size (key_of problem) ⊎ EndsTooHigh base problem) }
 {
-    let (size, value) = whole_number(document, FLASH_SIZE)?;
-    if !is_size(size) {
-        return Err(Problem::Value(FLASH_SIZE, value));
-    }
+    let size = check_number(document, FLASH_SIZE)?;
     if !is_flash(base, size) {
         return Err(Problem::FlashEnd(base, size));
     }
     Ok(size)
-}
-
-/// Returns the size of RAM, or what is wrong with it.
-fn check_ram_size(document: &Table) -> Result<u64, Problem<'_>>
-    ensures read { Explained result
-        (where_ok is_size (number (get_member (codes "ram_size") (table_view document.now)))) }
-    ensures names { IfErr result (λ problem. Names (codes "ram_size") is_size (key_of problem)) }
-{
-    let (size, value) = whole_number(document, RAM_SIZE)?;
-    if !is_size(size) {
-        return Err(Problem::Value(RAM_SIZE, value));
-    }
-    Ok(size)
-}
-
-/// Returns the number of bits of a priority, or what is wrong with it.
-fn check_priority_bits(document: &Table) -> Result<u64, Problem<'_>>
-    ensures read { Explained result
-        (where_ok is_priority_bits (number (get_member (codes "priority_bits") (table_view document.now)))) }
-    ensures names { IfErr result (λ problem. Names (codes "priority_bits") is_priority_bits (key_of problem)) }
-{
-    let (bits, value) = whole_number(document, PRIORITY_BITS)?;
-    if !is_priority_bits(bits) {
-        return Err(Problem::Value(PRIORITY_BITS, value));
-    }
-    Ok(bits)
-}
-
-/// Returns the number of lines, or what is wrong with it.
-fn check_lines(document: &Table) -> Result<u64, Problem<'_>>
-    ensures few { IfOk result (λ lines. lines ≤ MOST_INTERRUPTS) }
-    ensures read { Explained result
-        (where_ok is_interrupt_count (number (get_member (codes "lines") (table_view document.now)))) }
-    ensures names { IfErr result (λ problem. Names (codes "lines") is_interrupt_count (key_of problem)) }
-{
-    let (lines, value) = whole_number(document, LINES)?;
-    if !is_interrupt_count(lines) {
-        return Err(Problem::Value(LINES, value));
-    }
-    Ok(lines)
 }
 
 /// Returns the number of regions, which is the default where the key is missing, or what is wrong with it.
@@ -235,11 +204,10 @@ fn check_regions(document: &Table) -> Result<u64, Problem<'_>>
     if find(document, REGIONS.name).is_none() {
         return Ok(DEFAULT_REGIONS);
     }
-    let (regions, value) = whole_number(document, REGIONS)?;
-    if region_count(regions).is_err() {
-        return Err(Problem::Value(REGIONS, value));
+    match check_number(document, REGIONS) {
+        Ok(regions) => Ok(regions),
+        Err(problem) => Err(problem),
     }
-    Ok(regions)
 }
 
 /// Returns the first key of a table that isn't known.

@@ -1,10 +1,17 @@
 //! Why a machine doesn't start: the segment that is outside memory.
 
-use crate::header::{NumberedSegment, segment_at, whole_table};
-use elf::Segment;
-use reference::board::Layout;
-use reference::error::StartError;
-use reference::map::RAM_BASE;
+ghost use Rattle.std.specs.Prelude.{◌≡◌, ◌+◌, ◌*◌, ◌≤◌, ◌<◌, length};
+ghost use Rattle.elf.specs.Segment.{segment_of};
+ghost use Rattle.reasons.specs.Segments.{IsFirstOf, IsUnplaced, Picks, header_at, segment_if};
+ghost use Rattle.platform.specs.Boards.{numbers_of};
+ghost use Rattle.reference.specs.Start.{is_placed};
+ghost use Rattle.platform.specs.Boards.{blank};
+
+use crate::header::{HeaderTable, NumberedSegment, segment_at, whole_table};
+use elf::{PROGRAM_HEADER_SIZE, Segment};
+use platform::board::Layout;
+use platform::error::StartError;
+use platform::map::RAM_BASE;
 use space::is_within;
 use std::io;
 use std::io::Write;
@@ -37,18 +44,60 @@ fn write_need<W: Write>(out: &mut W, layout: &Layout, error: StartError) -> io::
 /// Returns the first segment that is neither wholly in flash nor wholly in RAM.
 fn outside<'a>(file: &'a [u8], layout: &Layout) -> Option<NumberedSegment<'a>> {
     let table = whole_table(file)?;
+    first_unplaced(file, table, layout)
+}
+
+/// Returns the first segment of a table that is neither wholly in flash nor wholly in RAM.
+fn first_unplaced<'a>(
+    file: &'a [u8],
+    table: HeaderTable,
+    layout: &Layout,
+) -> Option<NumberedSegment<'a>>
+    requires end { table.end ≡ table.place + PROGRAM_HEADER_SIZE * table.count }
+    requires within { table.end ≤ length file.now }
+    ensures { IsFirstOf (λ k. segment_if file.now (header_at table k))
+        (λ k. IsUnplaced (blank (numbers_of layout.now)) (segment_if file.now (header_at table k))) table.count
+        result }
+{
     'headers: for index in 0..table.count {
-        if let Some(numbered) = segment_at(file, table, index)
-            && !is_placed(&numbered.segment, layout)
-        {
-            return Some(numbered);
+        match unplaced_at(file, table, index, layout) {
+            Some(numbered) => return Some(numbered),
+            None => {}
         }
     }
     None
 }
 
+/// Returns the segment of the program header at a position of the table, where it is neither wholly in flash nor
+/// wholly in RAM.
+fn unplaced_at<'a>(
+    file: &'a [u8],
+    table: HeaderTable,
+    index: usize,
+    layout: &Layout,
+) -> Option<NumberedSegment<'a>>
+    requires one { index < table.count }
+    requires end { table.end ≡ table.place + PROGRAM_HEADER_SIZE * table.count }
+    requires within { table.end ≤ length file.now }
+    ensures { Picks (λ k. segment_if file.now (header_at table k))
+        (IsUnplaced (blank (numbers_of layout.now)) (segment_if file.now (header_at table index))) index result }
+{
+    match segment_at(file, table, index) {
+        Some(numbered) => {
+            if is_placed(&numbered.segment, layout) {
+                None
+            } else {
+                Some(numbered)
+            }
+        }
+        None => None,
+    }
+}
+
 /// Returns whether a segment is wholly in flash or wholly in RAM.
-fn is_placed(segment: &Segment<'_>, layout: &Layout) -> bool {
+fn is_placed(segment: &Segment<'_>, layout: &Layout) -> bool
+    ensures { result ≡ is_placed (blank (numbers_of layout.now)) (segment_of segment.now) }
+{
     let length = segment.bytes.len();
     is_within(
         layout.flash_base,

@@ -13,8 +13,8 @@ use Rattle.instruction_set.specs.Arithmetic.{condition_holds}
 use Rattle.instruction_set.specs.Registers.{Registers, register, with_register, with_exchange, is_privileged}
 use Rattle.instruction_set.specs.Sizes.{bytes_in, instruction_bytes}
 use Rattle.instruction_set.specs.Words.{word_sum}
-use Rattle.reference.specs.declared.access.Kind.TheVariants.{Load}
-use Rattle.reference.specs.declared.access.Request.{Request}
+use Rattle.platform.specs.declared.access.Kind.TheVariants.{Load}
+use Rattle.platform.specs.declared.access.Request.{Request}
 use Rattle.reference.specs.declared.ending.Ending.TheVariants.{Next}
 use Rattle.reference.specs.declared.failure.Failure.{Failure}
 use Rattle.reference.specs.declared.failure.Traps.{Traps}

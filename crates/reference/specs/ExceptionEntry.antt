@@ -7,18 +7,18 @@ use Rattle.instruction_set.specs.declared.size.Size.TheVariants.{Word}
 use Rattle.instruction_set.specs.Frames.{exc_return, frame, frame_base, with_frame, in_handler}
 use Rattle.instruction_set.specs.Registers.{Registers, is_privileged, sp}
 use Rattle.instruction_set.specs.Words.{word_sum}
-use Rattle.reference.specs.declared.access.Kind.{Kind}
-use Rattle.reference.specs.declared.access.Kind.TheVariants.{Push, Vector}
-use Rattle.reference.specs.declared.access.Request.{Request}
-use Rattle.reference.specs.declared.event.Event.{Event}
-use Rattle.reference.specs.declared.event.EventKind.TheVariants.{HandlerEntered}
-use Rattle.reference.specs.declared.exception.TheConstants.{HARD_FAULT}
+use Rattle.platform.specs.declared.access.Kind.{Kind}
+use Rattle.platform.specs.declared.access.Kind.TheVariants.{Push, Vector}
+use Rattle.platform.specs.declared.access.Request.{Request}
+use Rattle.platform.specs.declared.event.Event.{Event}
+use Rattle.platform.specs.declared.event.EventKind.TheVariants.{HandlerEntered}
+use Rattle.platform.specs.declared.exception.TheConstants.{HARD_FAULT}
 use Rattle.reference.specs.declared.failure.Failure.{Failure}
 use Rattle.reference.specs.declared.failure.Failure.TheVariants as failure
 use Rattle.reference.specs.Accesses.{ListResult, perform, perform_all, access_lines, value_of}
 use Rattle.reference.specs.Faults.{recorded, vector_fault, pended_by_fault, locked_up, failed}
 use Rattle.reference.specs.LoadStore.{request}
-use Rattle.reference.specs.Priorities.{Nvic, candidate, is_fixed, with_pending, with_active}
+use Rattle.platform.specs.Priorities.{candidate, is_fixed, activated}
 use Rattle.reference.specs.State.{State, Stepped, with_bus, with_registers, with_exceptions}
 
 -- ---- PushStack()
@@ -58,10 +58,6 @@ vector_address s x = word_sum s.bus.system.status.vtor (4 * x)
 abbrev pub vector_read : State → ℕ → Request
 vector_read s x = request Vector true Word (vector_address s x) 0
 
--- the exception isn't pending any more, and is active
-abbrev pub activated : Nvic → ℕ → Nvic
-activated n x = with_active (with_pending n x false) x true
-
 -- the handler begins, and the entry ends
 abbrev pub handler_entered : State → List Event → ℕ → ℕ → ℕ → Stepped
 handler_entered s events x e vector = record {
@@ -89,7 +85,7 @@ unfoldable pub exception_taken : State → ℕ → ℕ → Stepped
 exception_taken s e x =
     let q = vector_read s x in
     let answer = perform s.registers.exception s.bus q in
-    vector_taken (with_bus s answer.bus) (access_lines s.bus.system.time.ticks q answer.performed) x e
+    vector_taken (with_bus s answer.after) (access_lines s.bus.system.time.ticks q answer.performed) x e
     (value_of q answer.performed)
 
 -- the current candidate is taken; if there is no candidate, which `Invariant` excludes, the step only ticks, and the

@@ -8,22 +8,21 @@ use Rattle.instruction_set.specs.Frames.{returns_to_handler, returns_to_thread, 
 use Rattle.instruction_set.specs.Frames.{popped_pc, popped_exception, popped}
 use Rattle.instruction_set.specs.Registers.{Registers}
 use Rattle.instruction_set.specs.Words.{is_bit}
-use Rattle.reference.specs.declared.access.Kind.TheVariants.{Pop}
-use Rattle.reference.specs.declared.access.Request.{Request}
-use Rattle.reference.specs.declared.event.Event.{Event}
-use Rattle.reference.specs.declared.event.EventKind.TheVariants.{ReturnBegan}
-use Rattle.reference.specs.declared.exception.TheConstants.{NMI}
+use Rattle.platform.specs.declared.access.Kind.TheVariants.{Pop}
+use Rattle.platform.specs.declared.access.Request.{Request}
+use Rattle.platform.specs.declared.event.Event.{Event}
+use Rattle.platform.specs.declared.event.EventKind.TheVariants.{ReturnBegan}
 use Rattle.reference.specs.declared.failure.Failure.{Failure}
 use Rattle.reference.specs.declared.failure.Failure.TheVariants.{Usage}
 use Rattle.reference.specs.declared.failure.UsageFault.TheVariants.{InvalidReturn}
-use Rattle.reference.specs.declared.stop.Stop.TheVariants.{Unpredictable}
+use Rattle.platform.specs.declared.stop.Stop.TheVariants.{Unpredictable}
 use Rattle.reference.specs.Accesses.{ListResult, perform_all}
 use Rattle.reference.specs.ExceptionEntry.{words_from}
 use Rattle.reference.specs.Faults.{failed}
-use Rattle.reference.specs.Priorities.{candidate, is_in, is_other_active, with_faultmask}
+use Rattle.platform.specs.Priorities.{candidate, is_in, is_other_active}
 use Rattle.reference.specs.State.{State, Stepped, with_bus, with_registers, with_system, stopped}
-use Rattle.reference.specs.Status.{nonbasethrdena}
-use Rattle.reference.specs.System.{System, with_nvic, deactivated}
+use Rattle.platform.specs.Status.{nonbasethrdena}
+use Rattle.platform.specs.System.{exception_ended}
 
 -- an entry begins with the EXC_RETURN of the return
 abbrev pub with_entry : State → ℕ → State
@@ -74,12 +73,6 @@ chained s events e None = pop_stack s events e
 abbrev pub returned : State → List Event → ℕ → Bool → Stepped
 returned s events e true = chained s events e (candidate s.bus.system.nvic)
 returned s events e false = failed (with_entry s e) events (Usage InvalidReturn)
-
--- DeActivate(): `deactivated`, and FAULTMASK is cleared, except on a return from NMI
-abbrev pub exception_ended : System → ℕ → System
-exception_ended t x =
-    let after = deactivated t x in
-    if x == NMI then after else with_nvic after (with_faultmask after.nvic false)
 
 -- the handler's exception is active; EXC_RETURN<3:0> is 0001, 1001 or 1101; and on a return to Thread mode no other
 -- exception is active, or CCR.NONBASETHRDENA is 1

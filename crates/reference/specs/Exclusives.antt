@@ -9,16 +9,16 @@ use Rattle.instruction_set.specs.declared.size.Size.{Size}
 use Rattle.instruction_set.specs.Monitor.{is_marked, with_mark, without_mark}
 use Rattle.instruction_set.specs.Registers.{Registers, register, with_register, is_privileged}
 use Rattle.instruction_set.specs.Words.{word_sum}
-use Rattle.reference.specs.declared.access.Kind.{Kind}
-use Rattle.reference.specs.declared.access.Kind.TheVariants as kind
-use Rattle.reference.specs.declared.access.Request.{Request}
+use Rattle.platform.specs.declared.access.Kind.{Kind}
+use Rattle.platform.specs.declared.access.Kind.TheVariants as kind
+use Rattle.platform.specs.declared.access.Request.{Request}
 use Rattle.reference.specs.declared.failure.Failure.{Failure}
 use Rattle.reference.specs.declared.failure.Failure.TheVariants.{Usage, Stop}
 use Rattle.reference.specs.declared.failure.UsageFault.TheVariants.{Unaligned}
-use Rattle.reference.specs.declared.stop.LeftOut.TheVariants.{ExclusiveDevice}
-use Rattle.reference.specs.declared.stop.Stop.TheVariants.{OutOfProfile}
+use Rattle.platform.specs.declared.stop.LeftOut.TheVariants.{ExclusiveDevice}
+use Rattle.platform.specs.declared.stop.Stop.TheVariants.{OutOfProfile}
 use Rattle.reference.specs.LoadStore.{is_aligned, joined, request}
-use Rattle.reference.specs.Map.{has_side_effects}
+use Rattle.platform.specs.Map.{has_side_effects}
 use Rattle.reference.specs.ProgramCounter.{Finished, moves_on}
 
 -- ---- accesses

@@ -1,33 +1,33 @@
 -- What faults set and pend (ARM DDI 0403, "Fault behavior", the fault status registers, and "Priority escalation").
 use Rattle.std.specs.Prelude.{ℕ, ◌+◌, true, List, [], ◌∷◌, ◌++◌}
 use Rattle.instruction_set.specs.declared.instruction.InstructionLength.TheVariants.{Short}
-use Rattle.reference.specs.declared.access.Access.{Access}
-use Rattle.reference.specs.declared.access.Cause.{Cause}
-use Rattle.reference.specs.declared.access.Cause.TheVariants.{Mpu, Bus}
-use Rattle.reference.specs.declared.access.Kind.{Kind}
-use Rattle.reference.specs.declared.access.Kind.TheVariants.{Fetch, Load, Store, Push, Pop, Vector, Probe}
-use Rattle.reference.specs.declared.event.Event.{Event}
-use Rattle.reference.specs.declared.event.EventKind.TheVariants.{FaultRecorded}
-use Rattle.reference.specs.declared.exception.Escalation.{Escalation}
-use Rattle.reference.specs.declared.exception.Escalation.TheVariants.{Itself, HardFault, Lockup}
-use Rattle.reference.specs.declared.exception.TheConstants.{HARD_FAULT, MEM_MANAGE, BUS_FAULT, USAGE_FAULT, SV_CALL}
+use Rattle.platform.specs.declared.access.Access.{Access}
+use Rattle.platform.specs.declared.access.Cause.{Cause}
+use Rattle.platform.specs.declared.access.Cause.TheVariants.{Mpu, Bus}
+use Rattle.platform.specs.declared.access.Kind.{Kind}
+use Rattle.platform.specs.declared.access.Kind.TheVariants.{Fetch, Load, Store, Push, Pop, Vector, Probe}
+use Rattle.platform.specs.declared.event.Event.{Event}
+use Rattle.platform.specs.declared.event.EventKind.TheVariants.{FaultRecorded}
+use Rattle.platform.specs.declared.exception.Escalation.{Escalation}
+use Rattle.platform.specs.declared.exception.Escalation.TheVariants.{Itself, HardFault, Lockup}
+use Rattle.platform.specs.declared.exception.TheConstants.{HARD_FAULT, MEM_MANAGE, BUS_FAULT, USAGE_FAULT, SV_CALL}
 use Rattle.reference.specs.declared.failure.Failure.{Failure}
 use Rattle.reference.specs.declared.failure.Failure.TheVariants as failure
 use Rattle.reference.specs.declared.failure.UsageFault.{UsageFault}
 use Rattle.reference.specs.declared.failure.UsageFault.TheVariants.{UndefinedInstruction, InvalidState, InvalidReturn}
 use Rattle.reference.specs.declared.failure.UsageFault.TheVariants.{NoCoprocessor, Unaligned, DivideByZero}
-use Rattle.reference.specs.declared.fault_status.FaultAddress.{FaultAddress}
-use Rattle.reference.specs.declared.fault_status.FaultAddress.TheVariants.{NotKept, Mmfar, Bfar}
-use Rattle.reference.specs.declared.fault_status.FaultEffect.{FaultEffect}
-use Rattle.reference.specs.declared.fault_status.TheConstants.{IACCVIOL, DACCVIOL, MUNSTKERR, MSTKERR, MMARVALID}
-use Rattle.reference.specs.declared.fault_status.TheConstants.{IBUSERR, PRECISERR, UNSTKERR, STKERR, BFARVALID}
-use Rattle.reference.specs.declared.fault_status.TheConstants.{UNDEFINSTR, INVSTATE, INVPC, NOCP, UNALIGNED, DIVBYZERO}
-use Rattle.reference.specs.declared.fault_status.TheConstants.{VECTTBL, FORCED}
-use Rattle.reference.specs.declared.stop.Stop.TheVariants as stop
-use Rattle.reference.specs.Priorities.{escalation, with_pending}
+use Rattle.platform.specs.declared.fault_status.FaultAddress.{FaultAddress}
+use Rattle.platform.specs.declared.fault_status.FaultAddress.TheVariants.{NotKept, Mmfar, Bfar}
+use Rattle.platform.specs.declared.fault_status.FaultEffect.{FaultEffect}
+use Rattle.platform.specs.declared.fault_status.TheConstants.{IACCVIOL, DACCVIOL, MUNSTKERR, MSTKERR, MMARVALID}
+use Rattle.platform.specs.declared.fault_status.TheConstants.{IBUSERR, PRECISERR, UNSTKERR, STKERR, BFARVALID}
+use Rattle.platform.specs.declared.fault_status.TheConstants.{UNDEFINSTR, INVSTATE, INVPC, NOCP, UNALIGNED, DIVBYZERO}
+use Rattle.platform.specs.declared.fault_status.TheConstants.{VECTTBL, FORCED}
+use Rattle.platform.specs.declared.stop.Stop.TheVariants as stop
+use Rattle.platform.specs.Priorities.{escalation, with_pending}
 use Rattle.reference.specs.ProgramCounter.{moves_on}
 use Rattle.reference.specs.State.{State, Stepped, with_registers, with_exceptions, with_system, stopped}
-use Rattle.reference.specs.Status.{Status, with_fault_bits, with_mmfar, with_bfar}
+use Rattle.platform.specs.Status.{Status, with_fault_bits, with_mmfar, with_bfar}
 
 -- ---- the table of faults
 

@@ -1,59 +1,10 @@
 -- What holds of a state at the start, after each step and after each value that `place` puts. It's proved in the crate
 -- `state_laws`. A step is defined in every state, also in one without the invariant.
-use Rattle.std.specs.Prelude.{◌≡◌, ℕ, ◌+◌, ◌%◌, ◌^◌, ◌<◌, ◌≤◌, Bool, true, is_some, List, length, slice_index, None}
+use Rattle.std.specs.Prelude.{◌≡◌, ℕ, ◌%◌, ◌^◌, ◌<◌, true, is_some, length, slice_index, None}
 use Rattle.instruction_set.specs.Registers.{Registers}
-use Rattle.reference.specs.declared.exception.TheConstants.{EXCEPTIONS, MOST_INTERRUPTS}
-use Rattle.reference.specs.Boards.{Described, IsScript, IsScriptFrom, is_flash, is_interrupt_count, is_region_count}
-use Rattle.reference.specs.Map.{ram_base}
-use Rattle.reference.specs.Memory.{Memory}
-use Rattle.reference.specs.Priorities.{Nvic, is_in, is_exception, can_be_disabled, kept, candidate}
-use Rattle.reference.specs.Regions.{IsSound}
+use Rattle.platform.specs.Priorities.{candidate}
 use Rattle.reference.specs.State.{State}
-use Rattle.reference.specs.System.{System}
-use Rattle.reference.specs.Time.{Time, SysTick, last_tick}
-
--- ---- the parts
-
--- the clock isn't past its last tick
-abbrev pub IsWithinClock : Time → Type 0
-IsWithinClock t = t.ticks ≤ last_tick
-
--- SYST_RVR and SYST_CVR have 24 bits
-pub record HasTimerBits (t : SysTick) : Type 0 where
-  pub reload : t.reload < 2 ^ 24
-  pub current : t.current < 2 ^ 24
-
--- a priority byte with no bits set but those that the board keeps
-pub record IsKeptByte (bits b : ℕ) : Type 0 where
-  pub byte : b < 2 ^ 8
-  pub kept : kept bits b ≡ b
-
--- there is a priority byte for each number, the priority bytes and BASEPRI have no bit but the top ones that the board
--- keeps, and PRIGROUP has three bits
-pub record KeepsTopBits (n : Nvic) : Type 0 where
-  pub places : length n.priorities ≡ EXCEPTIONS
-  pub priorities : (x : ℕ) → IsKeptByte n.priority_bits (slice_index n.priorities x)
-  pub basepri : IsKeptByte n.priority_bits n.masks.basepri
-  pub group : n.group < 2 ^ 3
-
--- a set has an element for each number below EXCEPTIONS, and only numbers that pass the test are in it
-pub record HasOnly (test : ℕ → Bool) (set : List Bool) : Type 0 where
-  pub places : length set ≡ EXCEPTIONS
-  pub members : (x : ℕ) → is_in set x ≡ true → test x ≡ true
-
--- only exceptions of the board are pending or active, only those that can be disabled are in the set of the enabled
--- ones, and the board has no more interrupts than there can be
-pub record HasExceptionsOfBoard (n : Nvic) : Type 0 where
-  pub pending : HasOnly (is_exception n.interrupts) n.pending
-  pub enabled : HasOnly (can_be_disabled n.interrupts) n.enabled
-  pub active : HasOnly (is_exception n.interrupts) n.active
-  pub interrupts : n.interrupts ≤ MOST_INTERRUPTS
-
--- the events that are still to come are a script, later than the clock, of a board with this number of interrupts, and
--- `high` has MOST_INTERRUPTS elements
-pub record IsAhead (interrupts : ℕ) (t : Time) : Type 0 where
-  pub script : IsScriptFrom interrupts (t.ticks + 1) t.script
-  pub high : length t.high ≡ MOST_INTERRUPTS
+use Rattle.platform.specs.SystemInvariant.{FlashEndsBelowRam, SystemInvariant}
 
 -- a word that is a multiple of 4
 pub record IsStackPointer (v : ℕ) : Type 0 where
@@ -77,22 +28,6 @@ pub record HasRegisters (r : Registers) : Type 0 where
   pub it_state : r.it_state < 2 ^ 8
   pub exception : r.exception < 2 ^ 9
 
--- flash ends where RAM begins, or below
-abbrev pub FlashEndsBelowRam : Memory → Type 0
-FlashEndsBelowRam m = m.flash_base + length m.flash ≤ ram_base
-
--- ---- the invariant
-
--- what holds of the System Control Space
-pub record SystemInvariant (s : System) : Type 0 where
-  pub clock : IsWithinClock s.time
-  pub timer : HasTimerBits s.time.systick
-  pub priorities : KeepsTopBits s.nvic
-  pub sets : HasExceptionsOfBoard s.nvic
-  pub script : IsAhead s.nvic.interrupts s.time
-  -- the MPU's registers are as `IsSound` says
-  pub regions : IsSound s.mpu
-
 -- what holds of the state
 pub record Invariant (s : State) : Type 0 where
   pub registers : HasRegisters s.registers
@@ -100,13 +35,3 @@ pub record Invariant (s : State) : Type 0 where
   pub entry : s.stop ≡ None → is_some s.entry ≡ true → is_some (candidate s.bus.system.nvic) ≡ true
   pub memory : FlashEndsBelowRam s.bus.memory
   pub system : SystemInvariant s.bus.system
-
--- ---- the board that it needs
-
--- a board whose flash, number of interrupts and number of regions are in range, and whose script is sorted and names
--- only interrupts that the board has
-pub record IsBoard (board : Described) : Type 0 where
-  pub flash : is_flash board.numbers.flash_base board.numbers.flash_size ≡ true
-  pub interrupts : is_interrupt_count board.numbers.interrupts ≡ true
-  pub regions : is_region_count board.numbers.regions ≡ true
-  pub script : IsScript board.numbers.interrupts board.script

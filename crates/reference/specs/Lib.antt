@@ -1,19 +1,5 @@
 -- The definitions of the reference machine, one chapter a file, in the order in which they are read. Those of the
--- instruction set are in the crate `instruction_set`.
-pub mod Kinds
-pub mod Map
-pub mod Memory
-pub mod Regions
-pub mod Priorities
-pub mod Time
-pub mod Answers
-pub mod Status
-pub mod Interrupts
-pub mod Handlers
-pub mod Control
-pub mod SysTickRegisters
-pub mod System
-pub mod SpecialRegisters
+-- instruction set are in the crate `instruction_set`, and those of what is around the core in the crate `platform`.
 pub mod State
 pub mod ProgramCounter
 pub mod LoadStore
@@ -22,17 +8,12 @@ pub mod Exclusives
 pub mod Branches
 pub mod SystemInstructions
 pub mod Operations
-pub mod Rules
-pub mod Space
 pub mod Accesses
 pub mod Faults
 pub mod ExceptionEntry
 pub mod ExceptionReturn
 pub mod Step
-pub mod Text
 pub mod Run
-pub mod Images
-pub mod Boards
 pub mod Start
 pub mod Places
 pub mod Invariant

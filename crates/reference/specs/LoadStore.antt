@@ -23,17 +23,17 @@ use Rattle.instruction_set.specs.RowOperands.{writes_back}
 use Rattle.instruction_set.specs.Sizes.{bytes_in}
 use Rattle.instruction_set.specs.TwoOperands.{aligned_pc}
 use Rattle.instruction_set.specs.Words.{word_sum}
-use Rattle.reference.specs.declared.access.Kind.{Kind}
-use Rattle.reference.specs.declared.access.Kind.TheVariants.{Load, Store}
-use Rattle.reference.specs.declared.access.Request.{Request}
+use Rattle.platform.specs.declared.access.Kind.{Kind}
+use Rattle.platform.specs.declared.access.Kind.TheVariants.{Load, Store}
+use Rattle.platform.specs.declared.access.Request.{Request}
 use Rattle.reference.specs.declared.failure.Failure.{Failure}
 use Rattle.reference.specs.declared.failure.Failure.TheVariants.{Usage, Stop}
 use Rattle.reference.specs.declared.failure.Traps.{Traps}
 use Rattle.reference.specs.declared.failure.UsageFault.TheVariants.{Unaligned}
-use Rattle.reference.specs.declared.stop.LeftOut.TheVariants.{UnalignedDevice}
-use Rattle.reference.specs.declared.stop.Stop.TheVariants.{OutOfProfile, Unpredictable}
-use Rattle.reference.specs.Map.{has_side_effects}
-use Rattle.reference.specs.Memory.{bytes_of}
+use Rattle.platform.specs.declared.stop.LeftOut.TheVariants.{UnalignedDevice}
+use Rattle.platform.specs.declared.stop.Stop.TheVariants.{OutOfProfile, Unpredictable}
+use Rattle.platform.specs.Map.{has_side_effects}
+use Rattle.platform.specs.Memory.{bytes_of}
 use Rattle.reference.specs.ProgramCounter.{Finished, moves_on, loads_into}
 
 -- ---- addresses

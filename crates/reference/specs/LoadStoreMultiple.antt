@@ -14,14 +14,14 @@ use Rattle.instruction_set.specs.declared.size.Size.TheVariants.{Word}
 use Rattle.instruction_set.specs.declared.unpredictable.UnpredictableCase.TheVariants.{LiteralPc}
 use Rattle.instruction_set.specs.Registers.{Registers, register, with_register, is_privileged}
 use Rattle.instruction_set.specs.Words.{word_sum, negated, is_bit}
-use Rattle.reference.specs.declared.access.Kind.{Kind}
-use Rattle.reference.specs.declared.access.Kind.TheVariants.{Load, Store}
-use Rattle.reference.specs.declared.access.Request.{Request}
+use Rattle.platform.specs.declared.access.Kind.{Kind}
+use Rattle.platform.specs.declared.access.Kind.TheVariants.{Load, Store}
+use Rattle.platform.specs.declared.access.Request.{Request}
 use Rattle.reference.specs.declared.failure.Failure.{Failure}
 use Rattle.reference.specs.declared.failure.Failure.TheVariants.{Usage, Stop}
 use Rattle.reference.specs.declared.failure.UsageFault.TheVariants.{Unaligned}
-use Rattle.reference.specs.declared.stop.Stop.TheVariants.{Unpredictable}
-use Rattle.reference.specs.Kinds.{is_store}
+use Rattle.platform.specs.declared.stop.Stop.TheVariants.{Unpredictable}
+use Rattle.platform.specs.Kinds.{is_store}
 use Rattle.reference.specs.LoadStore.{request, is_aligned, immediate_address, with_base}
 use Rattle.reference.specs.ProgramCounter.{Finished, exchanges, moves_on}
 

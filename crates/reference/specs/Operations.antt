@@ -16,12 +16,12 @@ use Rattle.instruction_set.specs.declared.unpredictable.UnpredictableCase.TheVar
 use Rattle.instruction_set.specs.Arithmetic.{in_it_block, last_in_it_block, condition_passed}
 use Rattle.instruction_set.specs.DataProcessing.{processed, writes_pc, divides_by_zero}
 use Rattle.instruction_set.specs.Registers.{Registers}
-use Rattle.reference.specs.declared.access.Request.{Request}
+use Rattle.platform.specs.declared.access.Request.{Request}
 use Rattle.reference.specs.declared.failure.Failure.{Failure}
 use Rattle.reference.specs.declared.failure.Failure.TheVariants.{Stop, Usage}
 use Rattle.reference.specs.declared.failure.Traps.{Traps}
 use Rattle.reference.specs.declared.failure.UsageFault.TheVariants.{DivideByZero}
-use Rattle.reference.specs.declared.stop.Stop.TheVariants.{Unpredictable}
+use Rattle.platform.specs.declared.stop.Stop.TheVariants.{Unpredictable}
 use Rattle.reference.specs.Branches.{branch_requests, branch_effect}
 use Rattle.reference.specs.Exclusives.{exclusive_requests, exclusive_effect}
 use Rattle.reference.specs.LoadStore.{load_store_requests, load_store_effect}

@@ -6,18 +6,20 @@ use Rattle.instruction_set.specs.declared.operands.SpecialRegister.{SpecialRegis
 use Rattle.instruction_set.specs.declared.size.Size.TheVariants as size
 use Rattle.instruction_set.specs.Registers.{is_handler, with_register}
 use Rattle.instruction_set.specs.RowOperands.{special_of}
-use Rattle.reference.specs.declared.access.Answer.{Answer}
-use Rattle.reference.specs.declared.access.Answer.TheVariants as answer
-use Rattle.reference.specs.declared.access.Kind.TheVariants.{Store}
-use Rattle.reference.specs.declared.access.Request.{Request}
-use Rattle.reference.specs.declared.error.PlaceError.{PlaceError}
-use Rattle.reference.specs.declared.error.PlaceError.TheVariants.{NotAligned, NoSuchPlace, Stopped, Refused}
+use Rattle.platform.specs.declared.access.Kind.TheVariants.{Store}
+use Rattle.platform.specs.declared.access.Performed.{Performed}
+use Rattle.platform.specs.declared.access.Performed.TheVariants as performed
+use Rattle.platform.specs.declared.access.Request.{Request}
+use Rattle.platform.specs.declared.access.Rule.TheVariants.{PrivatePeripheralBus}
+use Rattle.platform.specs.declared.error.PlaceError.{PlaceError}
+use Rattle.platform.specs.declared.error.PlaceError.TheVariants.{NotAligned, NoSuchPlace, Stopped, Refused}
 use Rattle.reference.specs.declared.place.Place.{Place}
 use Rattle.reference.specs.declared.place.Place.TheVariants.{Reg, Special, Word}
-use Rattle.reference.specs.Accesses.{BusAnswer, answered_by_bus}
-use Rattle.reference.specs.Map.{is_in_ppb}
-use Rattle.reference.specs.Memory.{Memory, is_in_flash, is_in_ram, overwritten, bytes_of}
-use Rattle.reference.specs.SpecialRegisters.{with_special, with_mask}
+use Rattle.reference.specs.Accesses.{carried_out}
+use Rattle.platform.specs.Map.{is_in_ppb}
+use Rattle.platform.specs.Memory.{Memory, is_in_flash, is_in_ram, overwritten, bytes_of}
+use Rattle.platform.specs.Outcomes.{Outcome}
+use Rattle.platform.specs.SpecialRegisters.{with_special, with_mask}
 use Rattle.reference.specs.State.{Bus, State, with_registers, with_bus, with_exceptions}
 use Rattle.reference.specs.LoadStore.{request}
 
@@ -42,16 +44,16 @@ special_taken s None value = Err NoSuchPlace
 special_taken s (Some special) value = Ok (with_special_placed s special value)
 
 -- a word that the Private Peripheral Bus took, or why not
-abbrev pub register_taken : State → Bus → Answer → Result State PlaceError
-register_taken s after (answer.Value value) = Ok (with_bus s after)
-register_taken s after answer.Error = Err NoSuchPlace
-register_taken s after (answer.Stop why) = Err (Refused why)
+abbrev pub register_taken : State → Bus → Performed → Result State PlaceError
+register_taken s after (performed.Done access) = Ok (with_bus s after)
+register_taken s after (performed.Denied rule cause) = Err NoSuchPlace
+register_taken s after (performed.Stop why) = Err (Refused why)
 
 -- the result of a store to the Private Peripheral Bus
-abbrev pub stored_in_ppb : State → BusAnswer → Result State PlaceError
-stored_in_ppb s a = register_taken s a.bus a.answer
+abbrev pub stored_in_ppb : State → Outcome Bus → Result State PlaceError
+stored_in_ppb s o = register_taken s o.after o.performed
 
--- a privileged store, which no rule decides
+-- a privileged store, which no region decides
 abbrev pub store_of : ℕ → ℕ → Request
 store_of address value = request Store true size.Word address value
 
@@ -61,7 +63,7 @@ taken s (Reg number value) = Ok (with_registers s (with_register s.registers num
 taken s (Special number value) = special_taken s (special_of number) value
 taken s (Word address value) =
     if is_in_ppb address
-    then stored_in_ppb s (answered_by_bus s.registers.exception s.bus (store_of address value))
+    then stored_in_ppb s (carried_out s.registers.exception s.bus PrivatePeripheralBus (store_of address value))
     else Ok (with_bus s (record s.bus { memory = overwritten s.bus.memory address (bytes_of 4 value) }))
 
 -- the state with the value in its place, or the first refusal: `Stopped` is for a machine that has stopped, is in the

@@ -1,11 +1,11 @@
 -- A run: steps, one after another, to the first stop or the limit.
 use Rattle.std.specs.Prelude.{ℕ, zero, suc, List, [], ◌++◌, unwrap_or}
-use Rattle.reference.specs.declared.event.Event.{Event}
-use Rattle.reference.specs.declared.stop.Stop.{Stop}
-use Rattle.reference.specs.declared.stop.Stop.TheVariants.{StepLimit}
+use Rattle.platform.specs.declared.event.Event.{Event}
+use Rattle.platform.specs.declared.stop.Stop.{Stop}
+use Rattle.platform.specs.declared.stop.Stop.TheVariants.{StepLimit}
 use Rattle.reference.specs.State.{State}
 use Rattle.reference.specs.Step.{step}
-use Rattle.reference.specs.Text.{lines, stop_line}
+use Rattle.platform.specs.Text.{lines, stop_line}
 
 -- the state after n steps: a stopped machine stays as it is
 unfoldable pub after : ℕ → State → State

@@ -1,24 +1,16 @@
 -- The state in which a machine starts (ARM DDI 0403, TakeReset()). What flash and RAM hold where no segment goes, and
 -- the registers that TakeReset() leaves UNKNOWN, are the profile's.
-use Rattle.std.specs.Prelude.{ℕ, ◌+◌, ◌*◌, Bool, true, false, ◌&&◌, ◌||◌, if◌then◌else◌, List, [], ◌∷◌, length}
-use Rattle.std.specs.Prelude.{replicate, None, Result, Ok, Err, unwrap_or}
+use Rattle.std.specs.Prelude.{Bool, true, false, ◌&&◌, ◌||◌, if◌then◌else◌, List, [], ◌∷◌, length}
+use Rattle.std.specs.Prelude.{None, Result, Ok, Err}
 use Rattle.instruction_set.specs.Registers.{reset_registers}
-use Rattle.reference.specs.declared.error.StartError.{StartError}
-use Rattle.reference.specs.declared.error.StartError.TheVariants.{SegmentOutsideMemory}
-use Rattle.reference.specs.declared.script.ScriptedEvent.{ScriptedEvent}
-use Rattle.reference.specs.Boards.{Described, Numbers}
-use Rattle.reference.specs.Images.{Segment}
-use Rattle.reference.specs.Memory.{Memory, is_in_flash, is_in_ram, overwritten, number_at}
+use Rattle.platform.specs.declared.error.StartError.{StartError}
+use Rattle.platform.specs.declared.error.StartError.TheVariants.{SegmentOutsideMemory}
+use Rattle.platform.specs.declared.script.ScriptedEvent.{ScriptedEvent}
+use Rattle.platform.specs.Boards.{Described, Numbers, blank}
+use Rattle.platform.specs.Images.{Segment}
+use Rattle.platform.specs.Memory.{Memory, is_in_flash, is_in_ram, overwritten, vector}
 use Rattle.reference.specs.State.{State}
-use Rattle.reference.specs.System.{reset_system}
-
--- flash is 0xFF and RAM is 0 where nothing was loaded
-abbrev pub blank : Numbers → Memory
-blank board = record {
-  flash_base = board.flash_base;
-  flash = replicate board.flash_size 0xFF;
-  ram = replicate board.ram_size 0;
-}
+use Rattle.platform.specs.System.{reset_system}
 
 -- whether a segment lies wholly in flash or wholly in RAM
 abbrev pub is_placed : Memory → Segment → Bool
@@ -32,10 +24,6 @@ image_loaded m (s ∷ segments) = image_loaded (overwritten m s.address s.bytes)
 abbrev pub are_placed : Memory → List Segment → Bool
 are_placed m [] = true
 are_placed m (s ∷ segments) = is_placed m s && are_placed m segments
-
--- an entry of the vector table, which is at the beginning of flash
-abbrev pub vector : Memory → ℕ → ℕ
-vector m number = unwrap_or (number_at m (m.flash_base + 4 * number) 4) 0
 
 -- the first entry is the main stack pointer, the second is the address of the first instruction
 abbrev pub reset : Numbers → Memory → List ScriptedEvent → State

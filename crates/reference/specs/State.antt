@@ -2,11 +2,11 @@
 -- between steps. No field repeats what others determine.
 use Rattle.std.specs.Prelude.{ℕ, Bool, List, Option, Some}
 use Rattle.instruction_set.specs.Registers.{Registers}
-use Rattle.reference.specs.declared.event.Event.{Event}
-use Rattle.reference.specs.declared.stop.Stop.{Stop}
-use Rattle.reference.specs.Memory.{Memory}
-use Rattle.reference.specs.Priorities.{Nvic}
-use Rattle.reference.specs.System.{System, after_tick}
+use Rattle.platform.specs.declared.event.Event.{Event}
+use Rattle.platform.specs.declared.stop.Stop.{Stop}
+use Rattle.platform.specs.Memory.{Memory}
+use Rattle.platform.specs.Priorities.{Nvic}
+use Rattle.platform.specs.System.{System, after_tick}
 
 -- what an access can see and change
 pub record Bus : Type 0 where

@@ -1,7 +1,7 @@
 //! Why a step doesn't carry an instruction out to its end.
 
-use crate::access::{Access, Cause};
-use crate::stop::Stop;
+use platform::access::{Access, Cause};
+use platform::stop::Stop;
 
 /// Why an instruction isn't carried out to its end.
 #[derive(Clone, Copy)]

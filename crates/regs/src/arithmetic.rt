@@ -3,12 +3,8 @@
 
 ghost use Rattle.std.specs.Prelude.{◌≡◌, ◌<◌, not};
 ghost use Rattle.std.specs.Ordering.{int_eq};
-ghost use Rattle.instruction_set.specs.Arithmetic.{add_with_carry as sum_of, unsigned_sum as unsigned_sum_of};
-ghost use Rattle.instruction_set.specs.Arithmetic.{sum_result, signed_sum, signed, shift_c as shift_of};
-ghost use Rattle.instruction_set.specs.Arithmetic.{lsl_c as lsl_of, lsr_c as lsr_of, asr_c as asr_of, ror_c as ror_of};
-ghost use Rattle.instruction_set.specs.Arithmetic.{rrx_c as rrx_of, rotated as rotated_of};
-ghost use Rattle.instruction_set.specs.Arithmetic.{decode_imm_shift as decoded_shift, replicated as replicated_of};
-ghost use Rattle.instruction_set.specs.Arithmetic.{expand_imm as expanded};
+ghost use Rattle.instruction_set.specs.Arithmetic as spec;
+ghost use Rattle.instruction_set.specs.Arithmetic.{sum_result, signed_sum, signed};
 ghost use Rattle.instruction_set.specs.Words.{is_bit};
 
 pub use instruction_set::shift::{Shift, ShiftType};
@@ -18,7 +14,7 @@ pub use instruction_set::shift::{Shift, ShiftType};
 /// overflow).
 #[inline]
 pub fn add_with_carry(x: u32, y: u32, carry: bool) -> (u32, bool, bool)
-    ensures { result ≡ sum_of x y carry }
+    ensures { result ≡ spec.add_with_carry x y carry }
 {
     let sum = unsigned_sum(x, y, carry);
     let result = (sum & 0xFFFF_FFFF) as u32;
@@ -28,7 +24,7 @@ pub fn add_with_carry(x: u32, y: u32, carry: bool) -> (u32, bool, bool)
 /// Returns the whole sum of two words and a carry.
 #[inline]
 fn unsigned_sum(x: u32, y: u32, carry: bool) -> u64
-    ensures { result ≡ unsigned_sum_of x y carry }
+    ensures { result ≡ spec.unsigned_sum x y carry }
 {
     x as u64 + y as u64 + if carry { 1 } else { 0 }
 }
@@ -58,7 +54,7 @@ fn is_negative(x: u32) -> bool
 #[inline]
 #[tactic(auto, unfolding(instruction_set::specs::Arithmetic::shift_c))]
 pub fn shift_c(value: u32, shift_type: ShiftType, amount: u8, carry: bool) -> (u32, bool)
-    ensures { result ≡ shift_of value shift_type amount carry }
+    ensures { result ≡ spec.shift_c value shift_type amount carry }
 {
     if amount == 0 {
         return (value, carry);
@@ -77,7 +73,7 @@ pub fn shift_c(value: u32, shift_type: ShiftType, amount: u8, carry: bool) -> (u
 #[tactic(auto, using(crate::proofs::Shifts::left_above))]
 fn lsl_c(value: u32, amount: u8) -> (u32, bool)
     requires { 0 < amount }
-    ensures { result ≡ lsl_of value amount }
+    ensures { result ≡ spec.lsl_c value amount }
 {
     if amount > 32 {
         return (0, false);
@@ -91,7 +87,7 @@ fn lsl_c(value: u32, amount: u8) -> (u32, bool)
 #[tactic(auto, using(crate::proofs::Shifts::right_above))]
 fn lsr_c(value: u32, amount: u8) -> (u32, bool)
     requires { 0 < amount }
-    ensures { result ≡ lsr_of value amount }
+    ensures { result ≡ spec.lsr_c value amount }
 {
     if amount > 32 {
         return (0, false);
@@ -107,7 +103,7 @@ fn lsr_c(value: u32, amount: u8) -> (u32, bool)
 #[tactic(auto, using(crate::proofs::Shifts::asr_positive, crate::proofs::Shifts::asr_complement))]
 fn asr_c(value: u32, amount: u8) -> (u32, bool)
     requires { 0 < amount }
-    ensures { result ≡ asr_of value amount }
+    ensures { result ≡ spec.asr_c value amount }
 {
     if !is_negative(value) {
         return lsr_c(value, amount);
@@ -119,7 +115,7 @@ fn asr_c(value: u32, amount: u8) -> (u32, bool)
 /// `ROR_C(value, amount)`, for an amount from 1.
 #[inline]
 fn ror_c(value: u32, amount: u8) -> (u32, bool)
-    ensures { result ≡ ror_of value amount }
+    ensures { result ≡ spec.ror_c value amount }
 {
     let result = rotated(value, amount % 32);
     (result, is_negative(result))
@@ -130,7 +126,7 @@ fn ror_c(value: u32, amount: u8) -> (u32, bool)
 #[tactic(auto, using(crate::proofs::Shifts::turned_apart))]
 fn rotated(value: u32, amount: u8) -> u32
     requires { amount < 32 }
-    ensures { result ≡ rotated_of value amount }
+    ensures { result ≡ spec.rotated value amount }
 {
     if amount == 0 {
         return value;
@@ -141,7 +137,7 @@ fn rotated(value: u32, amount: u8) -> u32
 /// `RRX_C(value, carry)`.
 #[inline]
 fn rrx_c(value: u32, carry: bool) -> (u32, bool)
-    ensures { result ≡ rrx_of value carry }
+    ensures { result ≡ spec.rrx_c value carry }
 {
     ((carry as u32) << 31 | value >> 1, value & 1 == 1)
 }
@@ -149,7 +145,7 @@ fn rrx_c(value: u32, carry: bool) -> (u32, bool)
 /// `DecodeImmShift(shift_type, imm5)`, of the two bits and the five bits of a row: LSR and ASR by
 /// 0 mean by 32, and ROR by 0 is RRX.
 pub fn decode_imm_shift(shift_type: u8, imm5: u8) -> Shift
-    ensures { result ≡ decoded_shift shift_type imm5 }
+    ensures { result ≡ spec.decode_imm_shift shift_type imm5 }
 {
     let or_all = if imm5 == 0 { 32 } else { imm5 };
     let (shift_type, amount) = match shift_type {
@@ -167,7 +163,7 @@ pub fn decode_imm_shift(shift_type: u8, imm5: u8) -> Shift
 #[inline]
 #[tactic(auto, unfolding(instruction_set::specs::Arithmetic::expand_imm))]
 pub fn expand_imm(imm12: u16, carry: bool) -> Option<(u32, bool)>
-    ensures { result ≡ expanded imm12 carry }
+    ensures { result ≡ spec.expand_imm imm12 carry }
 {
     if imm12 >= 0x400 {
         let unrotated = 0x80 + (imm12 & 0x7F) as u32;
@@ -185,7 +181,7 @@ pub fn expand_imm(imm12: u16, carry: bool) -> Option<(u32, bool)>
 #[inline]
 fn replicated(pattern: u16, byte: u32) -> u32
     requires { byte < 256 }
-    ensures { result ≡ replicated_of pattern byte }
+    ensures { result ≡ spec.replicated pattern byte }
 {
     match pattern {
         0 => byte,

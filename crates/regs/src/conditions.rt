@@ -1,11 +1,7 @@
 //! Conditions and the IT block (ARM DDI 0403, "Conditional execution" and "ITSTATE").
 
 ghost use Rattle.std.specs.Prelude.{◌≡◌};
-ghost use Rattle.instruction_set.specs.Arithmetic.{condition_holds as holds_of, base_condition as base_of};
-ghost use Rattle.instruction_set.specs.Arithmetic.{condition_passed as passed_of, in_it_block as in_block_of};
-ghost use Rattle.instruction_set.specs.Arithmetic.{last_in_it_block as last_in_block_of};
-ghost use Rattle.instruction_set.specs.Arithmetic.{current_condition as current_of, it_advance as advanced};
-ghost use Rattle.instruction_set.specs.Arithmetic.{same as same_of};
+ghost use Rattle.instruction_set.specs.Arithmetic as spec;
 
 use crate::{Flags, Regs};
 
@@ -14,7 +10,7 @@ impl Regs {
     /// MI, PL, VS, VC, HI, LS, GE, LT, GT, LE and AL, and 15 always holds.
     #[inline]
     pub fn condition(&self, condition: u8) -> bool
-        ensures { result ≡ holds_of condition self.now.flags }
+        ensures { result ≡ spec.condition_holds condition self.now.flags }
     {
         condition_holds(condition, self.flags())
     }
@@ -23,7 +19,7 @@ impl Regs {
     /// block, and outside one it always holds.
     #[inline]
     pub fn condition_passed(&self) -> bool
-        ensures { result ≡ passed_of self.now.it_state self.now.flags }
+        ensures { result ≡ spec.condition_passed self.now.it_state self.now.flags }
     {
         // Most instructions are outside an IT block, so that is tested first.
         !self.in_it_block() || self.condition(self.current_condition())
@@ -33,7 +29,7 @@ impl Regs {
     /// 14 (AL) outside one.
     #[inline]
     pub fn current_condition(&self) -> u8
-        ensures { result ≡ current_of self.now.it_state }
+        ensures { result ≡ spec.current_condition self.now.it_state }
     {
         if self.in_it_block() {
             self.it_state() >> 4
@@ -45,7 +41,7 @@ impl Regs {
     /// `InITBlock()`.
     #[inline]
     pub fn in_it_block(&self) -> bool
-        ensures { result ≡ in_block_of self.now.it_state }
+        ensures { result ≡ spec.in_it_block self.now.it_state }
     {
         self.it_state() & 0b1111 != 0
     }
@@ -53,7 +49,7 @@ impl Regs {
     /// `LastInITBlock()`.
     #[inline]
     pub fn last_in_it_block(&self) -> bool
-        ensures { result ≡ last_in_block_of self.now.it_state }
+        ensures { result ≡ spec.last_in_it_block self.now.it_state }
     {
         self.it_state() & 0b1111 == 0b1000
     }
@@ -61,7 +57,7 @@ impl Regs {
     /// `ITAdvance()`, which changes nothing outside an IT block.
     #[inline]
     pub fn it_advance(&mut self)
-        ensures { self.new ≡ record self.old { it_state = advanced self.old.it_state } }
+        ensures { self.new ≡ record self.old { it_state = spec.it_advance self.old.it_state } }
     {
         self.set_it_state(it_advanced(self.it_state()));
     }
@@ -70,7 +66,7 @@ impl Regs {
 /// Returns the eight bits of IT after an instruction.
 #[inline]
 fn it_advanced(it: u8) -> u8
-    ensures { result ≡ advanced it }
+    ensures { result ≡ spec.it_advance it }
 {
     if it & 0b1111 == 0 {
         it
@@ -84,7 +80,7 @@ fn it_advanced(it: u8) -> u8
 /// `ConditionHolds(condition)`.
 #[inline]
 fn condition_holds(condition: u8, flags: Flags) -> bool
-    ensures { result ≡ holds_of condition flags }
+    ensures { result ≡ spec.condition_holds condition flags }
 {
     let base = base_condition(condition >> 1, flags);
     if condition & 1 == 1 && condition != 15 {
@@ -97,7 +93,7 @@ fn condition_holds(condition: u8, flags: Flags) -> bool
 /// Returns the condition that the upper three bits name.
 #[inline]
 fn base_condition(base: u8, flags: Flags) -> bool
-    ensures { result ≡ base_of base flags }
+    ensures { result ≡ spec.base_condition base flags }
 {
     match base {
         0 => flags.zero,

@@ -2,11 +2,8 @@
 //! `ExceptionTaken()` and `PopStack()`).
 
 ghost use Rattle.std.specs.Prelude.{◌≡◌, ◌<◌, length};
-ghost use Rattle.instruction_set.specs.Frames.{exc_return as exc_return_of};
-ghost use Rattle.instruction_set.specs.Frames.{returns_to_handler as returns_to_handler_of};
-ghost use Rattle.instruction_set.specs.Frames.{returns_on_psp as returns_on_psp_of, frame_base, frame as words_of};
-ghost use Rattle.instruction_set.specs.Frames.{with_frame, in_handler, frame_pointer, above_frame as above_frame_of};
-ghost use Rattle.instruction_set.specs.Frames.{frame_word as frame_word_of, general_popped, it_of as it_of_word};
+ghost use Rattle.instruction_set.specs.Frames as spec;
+ghost use Rattle.instruction_set.specs.Frames.{frame_base, with_frame, in_handler, frame_pointer, general_popped};
 ghost use Rattle.instruction_set.specs.Frames.{popped};
 ghost use Rattle.instruction_set.specs.Registers.{sp};
 
@@ -26,14 +23,14 @@ const FRAME_SIZE: u32 = 0x20;
 
 /// Returns whether an EXC_RETURN returns to Handler mode.
 pub fn returns_to_handler(exc_return: u32) -> bool
-    ensures { result ≡ returns_to_handler_of exc_return }
+    ensures { result ≡ spec.returns_to_handler exc_return }
 {
     exc_return & 15 == 1
 }
 
 /// Returns whether an EXC_RETURN returns to Thread mode on PSP.
 pub fn returns_on_psp(exc_return: u32) -> bool
-    ensures { result ≡ returns_on_psp_of exc_return }
+    ensures { result ≡ spec.returns_on_psp exc_return }
 {
     exc_return & 15 == 13
 }
@@ -41,7 +38,7 @@ pub fn returns_on_psp(exc_return: u32) -> bool
 impl Regs {
     /// Returns the EXC_RETURN in LR of a handler that interrupts this code.
     pub fn exc_return(&self) -> u32
-        ensures { result ≡ exc_return_of self.now }
+        ensures { result ≡ spec.exc_return self.now }
     {
         if self.is_handler() {
             HANDLER
@@ -63,7 +60,7 @@ impl Regs {
     /// address, and xPSR, in which bit 9 says whether bit 2 of SP was set.
     #[tactic(auto, unfolding(instruction_set::specs::Frames::frame))]
     pub fn frame(&self) -> [u32; 8]
-        ensures { result ≡ words_of self.now }
+        ensures { result ≡ spec.frame self.now }
     {
         let xpsr = self.xpsr() + weighed(self.sp() >> 2 & 1 == 1, 1 << 9);
         [
@@ -152,14 +149,14 @@ impl Regs {
 fn frame_word(frame: &[u32], place: usize) -> u32
     requires whole { length frame.now ≡ 8 }
     requires within { place < 8 }
-    ensures { result ≡ frame_word_of frame.now place }
+    ensures { result ≡ spec.frame_word frame.now place }
 {
     frame[place]
 }
 
 /// Returns the stack pointer above a frame, with bit 2 as it was before the frame was pushed.
 fn above_frame(base: u32, xpsr: u32) -> u32
-    ensures { result ≡ above_frame_of base xpsr }
+    ensures { result ≡ spec.above_frame base xpsr }
 {
     let above = base.wrapping_add(FRAME_SIZE);
     if xpsr >> 9 & 1 == 1 { above | 4 } else { above }
@@ -167,7 +164,7 @@ fn above_frame(base: u32, xpsr: u32) -> u32
 
 /// Returns EPSR.IT of an xPSR.
 fn it_of(xpsr: u32) -> u8
-    ensures { result ≡ it_of_word xpsr }
+    ensures { result ≡ spec.it_of xpsr }
 {
     ((xpsr >> 10 & 63) * 4 + (xpsr >> 25 & 3)) as u8
 }

@@ -3,12 +3,9 @@
 #![tactic(auto)]
 
 ghost use Rattle.std.specs.Prelude.{◌≡◌, ◌<◌, ◌≤◌, ◌-◌, ◌*◌, ◌/◌, ◌^◌};
-ghost use Rattle.instruction_set.specs.Registers.{register as register_of, with_register, with_pc, with_exchange};
-ghost use Rattle.instruction_set.specs.Registers.{sp as sp_of, is_handler as is_handler_of};
-ghost use Rattle.instruction_set.specs.Registers.{is_privileged as is_privileged_of, apsr as apsr_of, flags_of};
-ghost use Rattle.instruction_set.specs.Registers.{xpsr as xpsr_of, control as control_of, weighed as weighed_of};
-ghost use Rattle.instruction_set.specs.Registers.{uses_psp as uses_psp_of, with_sp, stack_pointer, reset_registers};
-ghost use Rattle.instruction_set.specs.Registers.{control_written};
+ghost use Rattle.instruction_set.specs.Registers as spec;
+ghost use Rattle.instruction_set.specs.Registers.{with_register, with_pc, with_exchange, flags_of, with_sp};
+ghost use Rattle.instruction_set.specs.Registers.{stack_pointer, reset_registers, control_written};
 ghost use Rattle.instruction_set.specs.Words.{word_sum};
 
 use instruction_set::registers::Marked;
@@ -100,7 +97,7 @@ impl Regs {
     /// `R[n]`, where PC reads as the address of the instruction and 4 more.
     #[inline]
     pub fn get(&self, register: Register) -> u32
-        ensures { result ≡ register_of self.now register }
+        ensures { result ≡ spec.register self.now register }
     {
         let number = register.number();
         if number < SP {
@@ -134,7 +131,7 @@ impl Regs {
     /// Returns the stack pointer in use.
     #[inline]
     pub fn sp(&self) -> u32
-        ensures { result ≡ sp_of self.now }
+        ensures { result ≡ spec.sp self.now }
     {
         if self.uses_psp() { self.psp } else { self.msp }
     }
@@ -154,7 +151,7 @@ impl Regs {
     /// Returns whether SP is PSP: `LookUpSP()`.
     #[inline]
     fn uses_psp(&self) -> bool
-        ensures { result ≡ uses_psp_of self.now }
+        ensures { result ≡ spec.uses_psp self.now }
     {
         !self.is_handler() && self.process_stack
     }
@@ -226,7 +223,7 @@ impl Regs {
     /// Returns whether a handler runs: Handler mode.
     #[inline]
     pub fn is_handler(&self) -> bool
-        ensures { result ≡ is_handler_of self.now }
+        ensures { result ≡ spec.is_handler self.now }
     {
         self.exception != 0
     }
@@ -243,7 +240,7 @@ impl Regs {
     /// `CurrentModeIsPrivileged()`.
     #[inline]
     pub fn is_privileged(&self) -> bool
-        ensures { result ≡ is_privileged_of self.now }
+        ensures { result ≡ spec.is_privileged self.now }
     {
         self.is_handler() || !self.unprivileged
     }
@@ -297,7 +294,7 @@ impl Regs {
 
     /// xPSR: APSR, EPSR and IPSR in one word.
     pub fn xpsr(&self) -> u32
-        ensures value { result ≡ xpsr_of self.now }
+        ensures value { result ≡ spec.xpsr self.now }
         ensures room { result < 2 ^ 32 - 2 ^ 9 }
     {
         let it_state = self.it_state as u32;
@@ -310,7 +307,7 @@ impl Regs {
 
     /// APSR: the flags in bits 31:27.
     pub fn apsr(&self) -> u32
-        ensures value { result ≡ apsr_of self.now.flags }
+        ensures value { result ≡ spec.apsr self.now.flags }
         ensures room { result ≤ 2 ^ 32 - 2 ^ 27 }
     {
         weighed(self.flags.negative, 1 << 31)
@@ -322,7 +319,7 @@ impl Regs {
 
     /// CONTROL: nPRIV and SPSEL.
     pub fn control(&self) -> u32
-        ensures { result ≡ control_of self.now }
+        ensures { result ≡ spec.control self.now }
     {
         weighed(self.unprivileged, 1) + weighed(self.process_stack, 2)
     }
@@ -368,7 +365,7 @@ pub fn flags_of(word: u32) -> Flags
 
 /// What a bit of this weight adds to a word.
 fn weighed(bit: bool, weight: u32) -> u32
-    ensures { result ≡ weighed_of bit weight }
+    ensures { result ≡ spec.weighed bit weight }
 {
     if bit { weight } else { 0 }
 }

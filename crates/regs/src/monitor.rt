@@ -2,7 +2,8 @@
 //! marked.
 
 ghost use Rattle.std.specs.Prelude.{◌≡◌};
-ghost use Rattle.instruction_set.specs.Monitor.{is_marked as is_marked_in, with_mark, without_mark};
+ghost use Rattle.instruction_set.specs.Monitor as spec;
+ghost use Rattle.instruction_set.specs.Monitor.{with_mark, without_mark};
 
 use crate::Regs;
 use instruction_set::registers::Marked;
@@ -12,7 +13,7 @@ impl Regs {
     /// Returns whether an address is marked with this size: the part of `ExclusiveMonitorsPass()` that
     /// tests the local monitor.
     pub fn is_marked(&self, address: u32, size: Size) -> bool
-        ensures { result ≡ is_marked_in self.now address size }
+        ensures { result ≡ spec.is_marked self.now address size }
     {
         match self.monitor {
             Some(marked) => marked.address == address && marked.size.bytes() == size.bytes(),

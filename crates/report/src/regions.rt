@@ -7,7 +7,7 @@ use crate::rules::write_outcome;
 use crate::settings::{RegionWords, SubregionsOff};
 use crate::words::{KINDS, kind_word, privilege_letter};
 use machine::Kind;
-use reference::access::Cause;
+use platform::access::Cause;
 use std::io;
 use std::io::Write;
 use survey::{Setting, Settings};

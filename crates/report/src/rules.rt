@@ -6,7 +6,7 @@ use crate::words::{
     KINDS, RULES, RuleMeaning, RuleWord, cause_word, kind_word, privilege_letter, privilege_word,
 };
 use machine::{Kind, Rule};
-use reference::access::Cause;
+use platform::access::Cause;
 use std::io;
 use std::io::Write;
 use survey::Counts;

@@ -1,7 +1,7 @@
 //! The words for what the trace writes as letters.
 
 use machine::{Kind, Rule};
-use reference::access::{Access, Cause, DecidedAccess};
+use platform::access::{Access, Cause, DecidedAccess};
 use std::fmt;
 
 /// The kinds of access, in the order of the columns.

@@ -3,7 +3,7 @@ use Rattle.std.proofs.Common.{◌≡◌, ℕ, zero, suc, ◌*◌, ◌/◌, ◌%�
 use Rattle.instruction_set.specs.declared.size.Size.{Size}
 use Rattle.instruction_set.specs.declared.size.Size.TheVariants.{Byte, Halfword, Word}
 use Rattle.instruction_set.specs.Sizes.{bytes_in}
-use Rattle.reference.specs.System.{first_byte}
+use Rattle.platform.specs.System.{first_byte}
 
 byte_within : (v k : ℕ) → v < 256 → k < 4 → v * 2 ^ (8 * k) < 2 ^ 32
 byte_within v zero small few = omega arith

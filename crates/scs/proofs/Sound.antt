@@ -10,12 +10,13 @@ use Rattle.nvic.proofs.Boards.{reset_of_board, of_board_kept}
 use Rattle.nvic.proofs.Systems.{Parts, HasParts, PartsAreKept, access_kept, tick_kept, msr_kept, cps_kept}
 use Rattle.nvic.proofs.Systems.{deactivated_kept}
 use Rattle.nvic.specs.Laws.{IsOfBoard}
-use Rattle.reference.specs.declared.access.Request.{Request}
-use Rattle.reference.specs.declared.script.ScriptedEvent.{ScriptedEvent}
-use Rattle.reference.specs.Regions.{IsSound as IsSoundMpu}
-use Rattle.reference.specs.SpecialRegisters.{write_mask, change_state}
-use Rattle.reference.specs.System.{System, system_access, after_tick, deactivated, reset_system, with_nvic}
-use Rattle.reference.specs.Time.{Time, time_after_tick}
+use Rattle.platform.specs.declared.access.Request.{Request}
+use Rattle.platform.specs.declared.access.Rule.{Rule}
+use Rattle.platform.specs.declared.script.ScriptedEvent.{ScriptedEvent}
+use Rattle.platform.specs.Regions.{IsSound as IsSoundMpu}
+use Rattle.platform.specs.SpecialRegisters.{write_mask, change_state}
+use Rattle.platform.specs.System.{System, system_access, after_tick, deactivated, reset_system, with_nvic}
+use Rattle.platform.specs.Time.{Time, time_after_tick}
 use Rattle.scs.specs.Laws.{IsSoundTime, IsSound}
 
 abbrev sound_parts : Parts
@@ -42,8 +43,9 @@ tick_time t h = record {
   script = (applies_those (t.ticks + 1) t.script h.script).1;
 }
 
-pub access_sound : (x : ℕ) (s : System) (q : Request) → IsSound s → IsSound (system_access x s q).system
-access_sound x s q h = sound _ (access_kept parts_kept x s q (parts s h))
+pub access_sound : (x : ℕ) (s : System) (rule : Rule) (q : Request) → IsSound s
+    → IsSound (system_access x s rule q).after
+access_sound x s rule q h = sound _ (access_kept parts_kept x s rule q (parts s h))
 
 pub tick_sound : (s : System) → IsSound s → IsSound (after_tick s)
 tick_sound s h = sound _ (tick_kept parts_kept s (tick_time s.time h.time) (parts s h))

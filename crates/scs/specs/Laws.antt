@@ -2,10 +2,10 @@
 use Rattle.std.specs.Prelude.{◌+◌}
 use Rattle.clock.specs.Laws.{IsSortedFrom}
 use Rattle.nvic.specs.Laws.{IsOfBoard}
-use Rattle.reference.specs.Invariant.{HasTimerBits}
-use Rattle.reference.specs.Regions.{IsSound as IsSoundMpu}
-use Rattle.reference.specs.System.{System}
-use Rattle.reference.specs.Time.{Time}
+use Rattle.platform.specs.SystemInvariant.{HasTimerBits}
+use Rattle.platform.specs.Regions.{IsSound as IsSoundMpu}
+use Rattle.platform.specs.System.{System}
+use Rattle.platform.specs.Time.{Time}
 
 -- SYST_RVR and SYST_CVR have 24 bits, and no event of the script is in the past, nor before the one ahead of it
 pub record IsSoundTime (t : Time) : Type 0 where

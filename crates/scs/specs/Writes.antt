@@ -1,6 +1,6 @@
 -- What a write leaves, and its answer, from its result: the new registers, or its stop.
 use Rattle.std.specs.Prelude.{Result, Ok, Err}
-use Rattle.reference.specs.declared.stop.Stop.{Stop}
+use Rattle.platform.specs.declared.stop.Stop.{Stop}
 
 -- a write that stops leaves the registers as they were
 abbrev pub after_write : {A : Type 0} → A → Result A Stop → A

@@ -2,8 +2,8 @@
 
 ghost use Rattle.std.specs.Prelude.{◌≡◌, ◌<◌, ◌%◌, ◌^◌};
 ghost use Rattle.instruction_set.specs.Sizes.{bytes_in};
-ghost use Rattle.reference.specs.System.{register_at as register_at_of, has_width as has_width_of};
-ghost use Rattle.reference.specs.System.{first_byte as first_byte_of, part_of as part_of_word, in_place as in_place_of};
+ghost use Rattle.platform.specs.System.{register_at as register_at_of, has_width as has_width_of};
+ghost use Rattle.platform.specs.System.{first_byte as first_byte_of, part_of as part_of_word, in_place as in_place_of};
 
 use crate::control::control_at;
 use crate::handlers::handler_priority_at;
@@ -12,11 +12,11 @@ use crate::status::{has_parts, status_at};
 use crate::systick::systick_at;
 use instruction_set::size::Size;
 use mpu::mpu_register_at;
-use reference::access::Request;
-use reference::system::SystemRegister;
+use platform::access::Request;
+use platform::system::SystemRegister;
 
 /// Returns the register at the address of a word of the Private Peripheral Bus.
-#[tactic(auto, unfolding(reference::specs::System::register_at))]
+#[tactic(auto, unfolding(platform::specs::System::register_at))]
 pub fn register_at(word: u32) -> SystemRegister
     ensures { result ≡ register_at_of word }
 {
@@ -45,7 +45,7 @@ pub fn register_at(word: u32) -> SystemRegister
 }
 
 /// Returns whether a register takes accesses of a size.
-#[tactic(auto, unfolding(reference::specs::System::has_width))]
+#[tactic(auto, unfolding(platform::specs::System::has_width))]
 pub fn has_width(register: SystemRegister, size: Size) -> bool
     ensures { result ≡ has_width_of register size }
 {

@@ -1,9 +1,9 @@
 //! ICTR, CPUID, ICSR, AIRCR, SHCSR and STIR.
 
 ghost use Rattle.std.specs.Prelude.{◌≡◌};
-ghost use Rattle.reference.specs.Control.{control_at as control_at_of, rettobase as rettobase_of, icsr as icsr_of};
-ghost use Rattle.reference.specs.Control.{set_or_cleared, write_icsr as write_icsr_of, write_aircr as write_aircr_of};
-ghost use Rattle.reference.specs.Control.{read_control as read_control_of, write_control as write_control_of};
+ghost use Rattle.platform.specs.Control.{control_at as control_at_of, rettobase as rettobase_of, icsr as icsr_of};
+ghost use Rattle.platform.specs.Control.{set_or_cleared, write_icsr as write_icsr_of, write_aircr as write_aircr_of};
+ghost use Rattle.platform.specs.Control.{read_control as read_control_of, write_control as write_control_of};
 ghost use Rattle.scs.specs.Writes.{after_write, answered};
 
 use crate::bits::{is_bit, weighed};
@@ -11,9 +11,9 @@ use crate::handlers::{read_shcsr, write_shcsr};
 use crate::interrupts::{ictr, trigger};
 use instruction_set::unpredictable::UnpredictableCase;
 use nvic::Levels;
-use reference::exception::{NMI, PEND_SV, SYS_TICK};
-use reference::stop::{LeftOut, Stop};
-use reference::system::ControlRegister;
+use platform::exception::{NMI, PEND_SV, SYS_TICK};
+use platform::stop::{LeftOut, Stop};
+use platform::system::ControlRegister;
 
 /// CPUID: implementer 0, and ARCHITECTURE F (the CPUID registers describe it).
 const CPUID: u32 = 0x000F_0000;
@@ -25,7 +25,7 @@ const VECTKEYSTAT: u32 = 0xFA05_0000;
 const VECTKEY: u32 = 0x05FA;
 
 /// Returns the register at the address of a word, if it is one of these.
-#[tactic(auto, unfolding(reference::specs::Control::control_at))]
+#[tactic(auto, unfolding(platform::specs::Control::control_at))]
 pub fn control_at(word: u32) -> Option<ControlRegister>
     ensures { result ≡ control_at_of word }
 {
@@ -41,7 +41,7 @@ pub fn control_at(word: u32) -> Option<ControlRegister>
 }
 
 /// Reads a register while IPSR is `exception`.
-#[tactic(auto, unfolding(reference::specs::Control::read_control))]
+#[tactic(auto, unfolding(platform::specs::Control::read_control))]
 pub fn read_control<L: Levels>(levels: &L, exception: u16, register: ControlRegister) -> u32
     ensures { result ≡ read_control_of exception (L.content levels.now) register }
 {
@@ -56,7 +56,7 @@ pub fn read_control<L: Levels>(levels: &L, exception: u16, register: ControlRegi
 }
 
 /// Writes a register. A write that stops changes nothing.
-#[tactic(auto, unfolding(reference::specs::Control::write_control))]
+#[tactic(auto, unfolding(platform::specs::Control::write_control))]
 pub fn write_control<L: Levels>(
     levels: &mut L,
     register: ControlRegister,
@@ -86,7 +86,7 @@ fn rettobase<L: Levels>(levels: &L, exception: u16) -> bool
 }
 
 /// Reads ICSR while IPSR is `exception`.
-#[tactic(auto, unfolding(reference::specs::Control::icsr))]
+#[tactic(auto, unfolding(platform::specs::Control::icsr))]
 fn icsr<L: Levels>(levels: &L, exception: u16) -> u32
     ensures { result ≡ icsr_of (L.content levels.now) exception }
 {
@@ -111,7 +111,7 @@ fn set_or_clear<L: Levels>(levels: &mut L, number: u16, set: bool, clear: bool)
 }
 
 /// Writes ICSR; a set bit and its clear bit together stop.
-#[tactic(auto, unfolding(reference::specs::Control::write_icsr))]
+#[tactic(auto, unfolding(platform::specs::Control::write_icsr))]
 fn write_icsr<L: Levels>(levels: &mut L, value: u32) -> Result<(), Stop>
     ensures state { L.content levels.new
         ≡ after_write (L.content levels.old) (write_icsr_of (L.content levels.old) value) }
@@ -127,7 +127,7 @@ fn write_icsr<L: Levels>(levels: &mut L, value: u32) -> Result<(), Stop>
 }
 
 /// Writes AIRCR: PRIGROUP, or a request that stops.
-#[tactic(auto, unfolding(reference::specs::Control::write_aircr))]
+#[tactic(auto, unfolding(platform::specs::Control::write_aircr))]
 fn write_aircr<L: Levels>(levels: &mut L, value: u32) -> Result<(), Stop>
     ensures state { L.content levels.new
         ≡ after_write (L.content levels.old) (write_aircr_of (L.content levels.old) value) }

@@ -1,25 +1,25 @@
 //! SHPR1 to SHPR3, and SHCSR.
 
 ghost use Rattle.std.specs.Prelude.{◌≡◌, ◌<◌, ◌^◌};
-ghost use Rattle.reference.specs.Handlers.{handler_priority_at as handler_priority_at_of};
-ghost use Rattle.reference.specs.Handlers.{handlers_active as handlers_active_of};
-ghost use Rattle.reference.specs.Handlers.{handlers_pending as handlers_pending_of};
-ghost use Rattle.reference.specs.Handlers.{handlers_enabled as handlers_enabled_of, with_handlers_pending};
-ghost use Rattle.reference.specs.Handlers.{with_handlers_enabled, read_shcsr as read_shcsr_of};
-ghost use Rattle.reference.specs.Handlers.{write_shcsr as write_shcsr_of};
-ghost use Rattle.reference.specs.Priorities.{with_pending, with_enabled};
+ghost use Rattle.platform.specs.Handlers.{handler_priority_at as handler_priority_at_of};
+ghost use Rattle.platform.specs.Handlers.{handlers_active as handlers_active_of};
+ghost use Rattle.platform.specs.Handlers.{handlers_pending as handlers_pending_of};
+ghost use Rattle.platform.specs.Handlers.{handlers_enabled as handlers_enabled_of, with_handlers_pending};
+ghost use Rattle.platform.specs.Handlers.{with_handlers_enabled, read_shcsr as read_shcsr_of};
+ghost use Rattle.platform.specs.Handlers.{write_shcsr as write_shcsr_of};
+ghost use Rattle.platform.specs.Priorities.{with_pending, with_enabled};
 ghost use Rattle.scs.specs.Writes.{after_write, answered};
 
 use crate::bits::{is_bit, weighed};
 use nvic::Levels;
-use reference::exception::{BUS_FAULT, MEM_MANAGE, PEND_SV, SV_CALL, SYS_TICK, USAGE_FAULT};
-use reference::stop::{LeftOut, Stop};
+use platform::exception::{BUS_FAULT, MEM_MANAGE, PEND_SV, SV_CALL, SYS_TICK, USAGE_FAULT};
+use platform::stop::{LeftOut, Stop};
 
 /// The active bits of SHCSR.
 const ACTIVE: u32 = 0xC8B;
 
 /// Returns the exception whose priority is the lowest byte of a word of SHPR1 to SHPR3.
-#[tactic(auto, unfolding(reference::specs::Handlers::handler_priority_at))]
+#[tactic(auto, unfolding(platform::specs::Handlers::handler_priority_at))]
 pub fn handler_priority_at(word: u32) -> Option<u8>
     ensures { result ≡ handler_priority_at_of word }
 {
@@ -30,7 +30,7 @@ pub fn handler_priority_at(word: u32) -> Option<u8>
 }
 
 /// Reads the active bits of SHCSR.
-#[tactic(auto, unfolding(reference::specs::Handlers::handlers_active))]
+#[tactic(auto, unfolding(platform::specs::Handlers::handlers_active))]
 fn handlers_active<L: Levels>(levels: &L) -> u32
     ensures value { result ≡ handlers_active_of (L.content levels.now) }
     ensures small { result < 2 ^ 12 }
@@ -44,7 +44,7 @@ fn handlers_active<L: Levels>(levels: &L) -> u32
 }
 
 /// Reads the pending bits of SHCSR.
-#[tactic(auto, unfolding(reference::specs::Handlers::handlers_pending))]
+#[tactic(auto, unfolding(platform::specs::Handlers::handlers_pending))]
 fn handlers_pending<L: Levels>(levels: &L) -> u32
     ensures value { result ≡ handlers_pending_of (L.content levels.now) }
     ensures small { result < 2 ^ 16 }
@@ -56,7 +56,7 @@ fn handlers_pending<L: Levels>(levels: &L) -> u32
 }
 
 /// Reads the enable bits of SHCSR.
-#[tactic(auto, unfolding(reference::specs::Handlers::handlers_enabled))]
+#[tactic(auto, unfolding(platform::specs::Handlers::handlers_enabled))]
 fn handlers_enabled<L: Levels>(levels: &L) -> u32
     ensures value { result ≡ handlers_enabled_of (L.content levels.now) }
     ensures small { result < 2 ^ 19 }
@@ -67,7 +67,7 @@ fn handlers_enabled<L: Levels>(levels: &L) -> u32
 }
 
 /// Reads SHCSR.
-#[tactic(auto, unfolding(reference::specs::Handlers::read_shcsr))]
+#[tactic(auto, unfolding(platform::specs::Handlers::read_shcsr))]
 pub fn read_shcsr<L: Levels>(levels: &L) -> u32
     ensures { result ≡ read_shcsr_of (L.content levels.now) }
 {
@@ -97,7 +97,7 @@ fn set_enabled<L: Levels>(levels: &mut L, number: u16, on: bool)
 }
 
 /// Writes the pending bits of SHCSR.
-#[tactic(auto, unfolding(reference::specs::Handlers::with_handlers_pending))]
+#[tactic(auto, unfolding(platform::specs::Handlers::with_handlers_pending))]
 fn set_handlers_pending<L: Levels>(levels: &mut L, value: u32)
     ensures { L.content levels.new ≡ with_handlers_pending (L.content levels.old) value }
 {
@@ -108,7 +108,7 @@ fn set_handlers_pending<L: Levels>(levels: &mut L, value: u32)
 }
 
 /// Writes the enable bits of SHCSR.
-#[tactic(auto, unfolding(reference::specs::Handlers::with_handlers_enabled))]
+#[tactic(auto, unfolding(platform::specs::Handlers::with_handlers_enabled))]
 fn set_handlers_enabled<L: Levels>(levels: &mut L, value: u32)
     ensures { L.content levels.new ≡ with_handlers_enabled (L.content levels.old) value }
 {
@@ -118,7 +118,7 @@ fn set_handlers_enabled<L: Levels>(levels: &mut L, value: u32)
 }
 
 /// Writes SHCSR; a value with a changed active bit stops, and changes nothing.
-#[tactic(auto, unfolding(reference::specs::Handlers::write_shcsr))]
+#[tactic(auto, unfolding(platform::specs::Handlers::write_shcsr))]
 pub fn write_shcsr<L: Levels>(levels: &mut L, value: u32) -> Result<(), Stop>
     ensures state { L.content levels.new
         ≡ after_write (L.content levels.old) (write_shcsr_of (L.content levels.old) value) }

@@ -1,19 +1,19 @@
 //! ICTR, ISER, ICER, ISPR, ICPR, IABR, IPR and STIR.
 
 ghost use Rattle.std.specs.Prelude.{◌≡◌, ◌<◌, ◌^◌};
-ghost use Rattle.reference.specs.Interrupts.{ictr as ictr_of, interrupts_at as interrupts_at_of};
-ghost use Rattle.reference.specs.Interrupts.{word_number as word_number_of, first_exception as first_exception_of};
-ghost use Rattle.reference.specs.Interrupts.{is_shown as is_shown_of, with_one, with_bit as with_bit_of};
-ghost use Rattle.reference.specs.Interrupts.{read_interrupts as read_interrupts_of};
-ghost use Rattle.reference.specs.Interrupts.{write_interrupts as write_interrupts_of};
-ghost use Rattle.reference.specs.Interrupts.{interrupt_priority_at as interrupt_priority_at_of};
-ghost use Rattle.reference.specs.Interrupts.{read_priorities as read_priorities_of};
-ghost use Rattle.reference.specs.Interrupts.{write_priorities as write_priorities_of, triggered};
+ghost use Rattle.platform.specs.Interrupts.{ictr as ictr_of, interrupts_at as interrupts_at_of};
+ghost use Rattle.platform.specs.Interrupts.{word_number as word_number_of, first_exception as first_exception_of};
+ghost use Rattle.platform.specs.Interrupts.{is_shown as is_shown_of, with_one, with_bit as with_bit_of};
+ghost use Rattle.platform.specs.Interrupts.{read_interrupts as read_interrupts_of};
+ghost use Rattle.platform.specs.Interrupts.{write_interrupts as write_interrupts_of};
+ghost use Rattle.platform.specs.Interrupts.{interrupt_priority_at as interrupt_priority_at_of};
+ghost use Rattle.platform.specs.Interrupts.{read_priorities as read_priorities_of};
+ghost use Rattle.platform.specs.Interrupts.{write_priorities as write_priorities_of, triggered};
 
 use crate::bits::is_bit;
 use nvic::Levels;
-use reference::exception::{FIRST_INTERRUPT, MOST_INTERRUPTS};
-use reference::system::InterruptRegister;
+use platform::exception::{FIRST_INTERRUPT, MOST_INTERRUPTS};
+use platform::system::InterruptRegister;
 
 // The address of the first byte of IPR. There is one byte for each interrupt.
 const IPR_BASE: u32 = 0xE000_E400;
@@ -26,7 +26,7 @@ pub fn ictr<L: Levels>(levels: &L) -> u32
 }
 
 /// Returns the register that has a word at this address, if it is one of these.
-#[tactic(auto, unfolding(reference::specs::Interrupts::interrupts_at))]
+#[tactic(auto, unfolding(platform::specs::Interrupts::interrupts_at))]
 pub fn interrupts_at(word: u32) -> Option<InterruptRegister>
     ensures { result ≡ interrupts_at_of word }
 {
@@ -67,13 +67,13 @@ fn is_shown<L: Levels>(levels: &L, register: InterruptRegister, number: u16) -> 
 }
 
 /// Reads a word of a register.
-#[tactic(auto, unfolding(reference::specs::Interrupts::read_interrupts))]
+#[tactic(auto, unfolding(platform::specs::Interrupts::read_interrupts))]
 pub fn read_interrupts<L: Levels>(levels: &L, register: InterruptRegister, word: u8) -> u32
     ensures { result ≡ read_interrupts_of (L.content levels.now) register word }
 {
     let first = first_exception(word);
     let mut value = 0;
-    #[tactic(auto, unfolding(reference::specs::Interrupts::shown_below))]
+    #[tactic(auto, unfolding(platform::specs::Interrupts::shown_below))]
     'each: for bit in 0..32u16 {
         if is_shown(levels, register, first + bit) {
             value += 1 << bit;
@@ -83,7 +83,7 @@ pub fn read_interrupts<L: Levels>(levels: &L, register: InterruptRegister, word:
 }
 
 /// Writes 1 to the bit of an exception.
-#[tactic(auto, unfolding(reference::specs::Interrupts::with_one))]
+#[tactic(auto, unfolding(platform::specs::Interrupts::with_one))]
 fn write_one<L: Levels>(levels: &mut L, register: InterruptRegister, number: u16)
     ensures { L.content levels.new ≡ with_one (L.content levels.old) register number }
 {
@@ -97,7 +97,7 @@ fn write_one<L: Levels>(levels: &mut L, register: InterruptRegister, number: u16
 }
 
 /// Writes one bit of a value, whose bit 0 is that of the exception `first`.
-#[tactic(auto, unfolding(reference::specs::Interrupts::with_bit))]
+#[tactic(auto, unfolding(platform::specs::Interrupts::with_bit))]
 fn write_bit<L: Levels>(
     levels: &mut L,
     register: InterruptRegister,
@@ -115,7 +115,7 @@ fn write_bit<L: Levels>(
 }
 
 /// Writes a word of a register.
-#[tactic(auto, unfolding(reference::specs::Interrupts::write_interrupts))]
+#[tactic(auto, unfolding(platform::specs::Interrupts::write_interrupts))]
 pub fn write_interrupts<L: Levels>(
     levels: &mut L,
     register: InterruptRegister,
@@ -125,14 +125,14 @@ pub fn write_interrupts<L: Levels>(
     ensures { L.content levels.new ≡ write_interrupts_of (L.content levels.old) register word value }
 {
     let first = first_exception(word);
-    #[tactic(auto, unfolding(reference::specs::Interrupts::with_bits_below))]
+    #[tactic(auto, unfolding(platform::specs::Interrupts::with_bits_below))]
     'each: for bit in 0..32u16 {
         write_bit(levels, register, first, value, bit);
     }
 }
 
 /// Returns the exception whose priority is the lowest byte of a word of IPR.
-#[tactic(auto, unfolding(reference::specs::Interrupts::interrupt_priority_at))]
+#[tactic(auto, unfolding(platform::specs::Interrupts::interrupt_priority_at))]
 pub fn interrupt_priority_at(word: u32) -> Option<u8>
     ensures { result ≡ interrupt_priority_at_of word }
 {
@@ -145,7 +145,7 @@ pub fn interrupt_priority_at(word: u32) -> Option<u8>
 }
 
 /// Reads the priority bytes of four exceptions, the first of them lowest.
-#[tactic(auto, unfolding(reference::specs::Interrupts::read_priorities))]
+#[tactic(auto, unfolding(platform::specs::Interrupts::read_priorities))]
 pub fn read_priorities<L: Levels>(levels: &L, first: u8) -> u32
     ensures { result ≡ read_priorities_of (L.content levels.now) first }
 {
@@ -162,7 +162,7 @@ pub fn write_priorities<L: Levels>(levels: &mut L, first: u16, value: u32, count
     requires few { count < 5 }
     ensures { L.content levels.new ≡ write_priorities_of (L.content levels.old) first value count }
 {
-    #[tactic(auto, unfolding(reference::specs::Interrupts::write_priorities))]
+    #[tactic(auto, unfolding(platform::specs::Interrupts::write_priorities))]
     'each: for index in 0..count {
         let byte = (value >> (8 * index) & 0xFF) as u8;
         levels.set_priority(first + index as u16, byte);
@@ -170,7 +170,7 @@ pub fn write_priorities<L: Levels>(levels: &mut L, first: u16, value: u32, count
 }
 
 /// Writes STIR: the interrupt whose number is in bits 8:0 becomes pending.
-#[tactic(auto, unfolding(reference::specs::Interrupts::triggered))]
+#[tactic(auto, unfolding(platform::specs::Interrupts::triggered))]
 pub fn trigger<L: Levels>(levels: &mut L, value: u32)
     ensures { L.content levels.new ≡ triggered (L.content levels.old) value }
 {

@@ -5,18 +5,19 @@ ghost use Rattle.std.specs.Prelude.{◌≡◌, ◌⊎◌, ℕ, Bool, List};
 ghost use Rattle.clock.specs.Laws.{IsSortedFrom};
 ghost use Rattle.instruction_set.specs.declared.operands.ChangeProcessorState.{ChangeProcessorState};
 ghost use Rattle.instruction_set.specs.declared.operands.SpecialRegister.{SpecialRegister};
-ghost use Rattle.reference.specs.declared.access.Request.{Request};
-ghost use Rattle.reference.specs.declared.script.ScriptedEvent.{ScriptedEvent as TheEvent};
-ghost use Rattle.reference.specs.Answers.{LeavesUnlessDone};
-ghost use Rattle.reference.specs.SpecialRegisters.{write_mask, change_state};
-ghost use Rattle.reference.specs.System.{System, system_access, after_tick, deactivated, reset_system, with_nvic};
+ghost use Rattle.platform.specs.declared.access.Request.{Request};
+ghost use Rattle.platform.specs.declared.access.Rule.{Rule};
+ghost use Rattle.platform.specs.declared.script.ScriptedEvent.{ScriptedEvent as TheEvent};
+ghost use Rattle.platform.specs.Outcomes.{LeavesUnlessDone};
+ghost use Rattle.platform.specs.SpecialRegisters.{write_mask, change_state};
+ghost use Rattle.platform.specs.System.{System, system_access, after_tick, deactivated, reset_system, with_nvic};
 ghost use Rattle.scs.specs.Laws.{IsSound};
 
 /// An access that is a bus error or stops changes nothing in the system.
 #[tactic(auto, using(crate::proofs::Refusals::system_keeps))]
 pub fn refused_access_changes_nothing()
-    ensures { (x : ℕ) (s : System) (q : Request)
-        → LeavesUnlessDone (system_access x s q).answer s (system_access x s q).system }
+    ensures { (x : ℕ) (s : System) (rule : Rule) (q : Request)
+        → LeavesUnlessDone (system_access x s rule q).performed s (system_access x s rule q).after }
 {}
 
 /// The system is sound after a reset, and stays so in each access, tick, MSR, CPS and return from an
@@ -24,7 +25,8 @@ pub fn refused_access_changes_nothing()
 pub fn system_stays_sound()
     ensures reset { (flash_base interrupts bits regions : ℕ) (script : List TheEvent) → (regions ≡ 8) ⊎ (regions ≡ 16)
         → IsSortedFrom 1 script → IsSound (reset_system flash_base interrupts bits regions script) }
-    ensures access { (x : ℕ) (s : System) (q : Request) → IsSound s → IsSound (system_access x s q).system }
+    ensures access { (x : ℕ) (s : System) (rule : Rule) (q : Request) → IsSound s
+        → IsSound (system_access x s rule q).after }
     ensures tick { (s : System) → IsSound s → IsSound (after_tick s) }
     ensures msr { (privileged : Bool) (s : System) (special : SpecialRegister) (value : ℕ) → IsSound s
         → IsSound (with_nvic s (write_mask privileged s.nvic special value)) }

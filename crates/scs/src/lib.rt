@@ -13,7 +13,7 @@ mod status;
 mod system;
 mod systick;
 
-pub use reference::system::{
+pub use platform::system::{
     ControlRegister, InterruptRegister, StatusRegister, SysTickRegister, SystemRegister,
 };
 pub use special::{change_state, read_special, write_mask, write_special};

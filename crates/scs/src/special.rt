@@ -1,13 +1,13 @@
 //! The special registers: what MRS reads, and what MSR and CPS write.
 
 ghost use Rattle.std.specs.Prelude.{◌≡◌};
-ghost use Rattle.reference.specs.Priorities.{kept as kept_of};
-ghost use Rattle.reference.specs.SpecialRegisters.{is_hidden as is_hidden_of, special_value as special_value_of};
-ghost use Rattle.reference.specs.SpecialRegisters.{read_special as read_special_of, is_open as is_open_of};
-ghost use Rattle.reference.specs.SpecialRegisters.{with_special, write_special as write_special_of, faultmask_written};
-ghost use Rattle.reference.specs.SpecialRegisters.{is_tighter as is_tighter_of, basepri_max_written};
-ghost use Rattle.reference.specs.SpecialRegisters.{with_mask as with_mask_of, write_mask as write_mask_of};
-ghost use Rattle.reference.specs.SpecialRegisters.{change_state as change_state_of};
+ghost use Rattle.platform.specs.Priorities.{kept as kept_of};
+ghost use Rattle.platform.specs.SpecialRegisters.{is_hidden as is_hidden_of, special_value as special_value_of};
+ghost use Rattle.platform.specs.SpecialRegisters.{read_special as read_special_of, is_open as is_open_of};
+ghost use Rattle.platform.specs.SpecialRegisters.{with_special, write_special as write_special_of, faultmask_written};
+ghost use Rattle.platform.specs.SpecialRegisters.{is_tighter as is_tighter_of, basepri_max_written};
+ghost use Rattle.platform.specs.SpecialRegisters.{with_mask as with_mask_of, write_mask as write_mask_of};
+ghost use Rattle.platform.specs.SpecialRegisters.{change_state as change_state_of};
 
 use instruction_set::operands::{ChangeProcessorState, SpecialRegister};
 use nvic::{Levels, Masks, Priority};
@@ -29,7 +29,7 @@ fn is_hidden(special: SpecialRegister) -> bool
 }
 
 /// Reads a register as MRS does.
-#[tactic(auto, unfolding(reference::specs::SpecialRegisters::read_special))]
+#[tactic(auto, unfolding(platform::specs::SpecialRegisters::read_special))]
 pub fn read_special(regs: &Regs, masks: Masks, special: SpecialRegister) -> u32
     ensures { result ≡ read_special_of regs.now masks special }
 {
@@ -40,7 +40,7 @@ pub fn read_special(regs: &Regs, masks: Masks, special: SpecialRegister) -> u32
 }
 
 /// Reads a register as privileged code does.
-#[tactic(auto, unfolding(reference::specs::SpecialRegisters::special_value))]
+#[tactic(auto, unfolding(platform::specs::SpecialRegisters::special_value))]
 fn special_value(regs: &Regs, masks: Masks, special: SpecialRegister) -> u32
     ensures { result ≡ special_value_of regs.now masks special }
 {
@@ -73,7 +73,7 @@ fn is_open(special: SpecialRegister) -> bool
 }
 
 /// Writes the core registers as MSR does.
-#[tactic(auto, unfolding(reference::specs::SpecialRegisters::write_special))]
+#[tactic(auto, unfolding(platform::specs::SpecialRegisters::write_special))]
 pub fn write_special(regs: &mut Regs, special: SpecialRegister, value: u32)
     ensures { regs.new ≡ write_special_of regs.old special value }
 {
@@ -83,7 +83,7 @@ pub fn write_special(regs: &mut Regs, special: SpecialRegister, value: u32)
 }
 
 /// Writes the core registers as MSR of privileged code does.
-#[tactic(auto, unfolding(reference::specs::SpecialRegisters::with_special))]
+#[tactic(auto, unfolding(platform::specs::SpecialRegisters::with_special))]
 pub fn set_special(regs: &mut Regs, special: SpecialRegister, value: u32)
     ensures { regs.new ≡ with_special regs.old special value }
 {
@@ -106,7 +106,7 @@ pub fn set_special(regs: &mut Regs, special: SpecialRegister, value: u32)
 }
 
 /// Writes the masks as MSR does, by code that is privileged or not.
-#[tactic(auto, unfolding(reference::specs::SpecialRegisters::write_mask))]
+#[tactic(auto, unfolding(platform::specs::SpecialRegisters::write_mask))]
 pub fn write_mask<L: Levels>(levels: &mut L, privileged: bool, special: SpecialRegister, value: u32)
     ensures { L.content levels.new ≡ write_mask_of privileged (L.content levels.old) special value }
 {
@@ -116,7 +116,7 @@ pub fn write_mask<L: Levels>(levels: &mut L, privileged: bool, special: SpecialR
 }
 
 /// Writes the masks as MSR of privileged code does.
-#[tactic(auto, unfolding(reference::specs::SpecialRegisters::with_mask))]
+#[tactic(auto, unfolding(platform::specs::SpecialRegisters::with_mask))]
 pub fn set_mask<L: Levels>(levels: &mut L, special: SpecialRegister, value: u32)
     ensures { L.content levels.new ≡ with_mask_of (L.content levels.old) special value }
 {
@@ -139,7 +139,7 @@ pub fn set_mask<L: Levels>(levels: &mut L, special: SpecialRegister, value: u32)
 }
 
 /// Writes FAULTMASK, which becomes 1 only at an execution priority above -1.
-#[tactic(auto, unfolding(reference::specs::SpecialRegisters::faultmask_written))]
+#[tactic(auto, unfolding(platform::specs::SpecialRegisters::faultmask_written))]
 fn write_faultmask<L: Levels>(levels: &mut L, on: bool)
     ensures { L.content levels.new ≡ faultmask_written (L.content levels.old) on }
 {
@@ -156,7 +156,7 @@ fn is_tighter(basepri: u8, value: u8) -> bool
 }
 
 /// Writes BASEPRI_MAX, which only makes BASEPRI mask more.
-#[tactic(auto, unfolding(reference::specs::SpecialRegisters::basepri_max_written))]
+#[tactic(auto, unfolding(platform::specs::SpecialRegisters::basepri_max_written))]
 fn write_basepri_max<L: Levels>(levels: &mut L, byte: u8)
     ensures { L.content levels.new ≡ basepri_max_written (L.content levels.old) byte }
 {
@@ -175,7 +175,7 @@ fn kept(priority_bits: u8, byte: u8) -> u8
 }
 
 /// Changes the masks as CPS does, by code that is privileged or not.
-#[tactic(auto, unfolding(reference::specs::SpecialRegisters::change_state))]
+#[tactic(auto, unfolding(platform::specs::SpecialRegisters::change_state))]
 pub fn change_state<L: Levels>(levels: &mut L, privileged: bool, operands: &ChangeProcessorState)
     ensures { L.content levels.new ≡ change_state_of privileged (L.content levels.old) operands.now }
 {

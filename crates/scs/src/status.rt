@@ -1,14 +1,14 @@
 //! VTOR, SCR, CCR, CFSR, HFSR, MMFAR and BFAR.
 
 ghost use Rattle.std.specs.Prelude.{◌≡◌};
-ghost use Rattle.reference.specs.Status.{has_parts as has_parts_of, status_at as status_at_of, reset_status};
-ghost use Rattle.reference.specs.Status.{nonbasethrdena, usersetmpend, unalign_trp, div_0_trp, read_status};
-ghost use Rattle.reference.specs.Status.{write_status, write_scr, write_ccr, with_fault_bits, with_mmfar, with_bfar};
+ghost use Rattle.platform.specs.Status.{has_parts as has_parts_of, status_at as status_at_of, reset_status};
+ghost use Rattle.platform.specs.Status.{nonbasethrdena, usersetmpend, unalign_trp, div_0_trp, read_status};
+ghost use Rattle.platform.specs.Status.{write_status, write_scr, write_ccr, with_fault_bits, with_mmfar, with_bfar};
 ghost use Rattle.scs.specs.Writes.{after_write, answered};
 
 use crate::bits::is_bit;
-use reference::stop::{LeftOut, Stop};
-use reference::system::StatusRegister;
+use platform::stop::{LeftOut, Stop};
+use platform::system::StatusRegister;
 use std::marker::Model;
 
 /// The bits that SCR keeps: SLEEPDEEP and SEVONPEND.
@@ -33,7 +33,7 @@ pub struct Status {
 }
 
 impl Model for Status {
-    ghost use Rattle.reference.specs.Status.{Status as StatusState};
+    ghost use Rattle.platform.specs.Status.{Status as StatusState};
 
     ghost Value = { StatusState };
 
@@ -127,7 +127,7 @@ impl Status {
     }
 
     /// Returns CFSR.
-    #[tactic(auto, unfolding(reference::specs::Status::read_status))]
+    #[tactic(auto, unfolding(platform::specs::Status::read_status))]
     pub fn cfsr(&self) -> u32
         ensures { result ≡ self.now.cfsr }
     {
@@ -135,7 +135,7 @@ impl Status {
     }
 
     /// Returns HFSR.
-    #[tactic(auto, unfolding(reference::specs::Status::read_status))]
+    #[tactic(auto, unfolding(platform::specs::Status::read_status))]
     pub fn hfsr(&self) -> u32
         ensures { result ≡ self.now.hfsr }
     {
@@ -143,7 +143,7 @@ impl Status {
     }
 
     /// Reads a register.
-    #[tactic(auto, unfolding(reference::specs::Status::read_status))]
+    #[tactic(auto, unfolding(platform::specs::Status::read_status))]
     pub fn read(&self, register: StatusRegister) -> u32
         ensures { result ≡ read_status self.now register }
     {
@@ -159,7 +159,7 @@ impl Status {
     }
 
     /// Writes a word to a register; a write that stops by name leaves the registers as they were.
-    #[tactic(auto, unfolding(reference::specs::Status::write_status))]
+    #[tactic(auto, unfolding(platform::specs::Status::write_status))]
     pub fn write(&mut self, register: StatusRegister, value: u32) -> Result<(), Stop>
         ensures state { self.new ≡ after_write self.old (write_status self.old register value) }
         ensures answer { result ≡ answered (write_status self.old register value) }
@@ -202,7 +202,7 @@ impl Status {
 }
 
 /// Returns the register at the address of a word, if it is one of these.
-#[tactic(auto, unfolding(reference::specs::Status::status_at))]
+#[tactic(auto, unfolding(platform::specs::Status::status_at))]
 pub fn status_at(word: u32) -> Option<StatusRegister>
     ensures { result ≡ status_at_of word }
 {

@@ -4,17 +4,17 @@ ghost use Rattle.std.specs.Prelude.{◌≡◌, ◌+◌, ◌^◌, ◌<◌, ◌≤
 ghost use Rattle.clock.specs.DueTicks.{IsRight};
 ghost use Rattle.instruction_set.specs.Registers.{is_privileged};
 ghost use Rattle.instruction_set.specs.Sizes.{bytes_in};
-ghost use Rattle.reference.specs.Answers.{IsNarrow, LeavesUnlessDone};
-ghost use Rattle.reference.specs.System.{reset_system, after_tick, deactivated, after_read, register_written};
-ghost use Rattle.reference.specs.System.{register_access, system_access, with_nvic, mpu_written};
-ghost use Rattle.reference.specs.System as spec;
-ghost use Rattle.reference.specs.Interrupts.{write_priorities as write_priorities_of};
-ghost use Rattle.reference.specs.Regions.{is_on, shown, write as write_mpu_of};
-ghost use Rattle.reference.specs.Priorities.{is_below_zero, with_pending, with_active, with_faultmask};
-ghost use Rattle.reference.specs.Rules.{decision_of, is_off_below_zero};
-ghost use Rattle.reference.specs.SpecialRegisters.{with_special, with_mask};
-ghost use Rattle.reference.specs.SpecialRegisters as special;
-ghost use Rattle.reference.specs.Status.{with_fault_bits, with_mmfar, with_bfar};
+ghost use Rattle.platform.specs.Outcomes.{IsOf, LeavesUnlessDone};
+ghost use Rattle.platform.specs.System.{reset_system, after_tick, deactivated, after_read, register_written};
+ghost use Rattle.platform.specs.System.{register_access, system_access, with_nvic, mpu_written};
+ghost use Rattle.platform.specs.System as spec;
+ghost use Rattle.platform.specs.Interrupts.{write_priorities as write_priorities_of};
+ghost use Rattle.platform.specs.Regions.{is_on, shown, write as write_mpu_of};
+ghost use Rattle.platform.specs.Priorities.{is_below_zero, with_pending, with_active, with_faultmask};
+ghost use Rattle.platform.specs.Rules.{decision_of, is_off_below_zero};
+ghost use Rattle.platform.specs.SpecialRegisters.{with_special, with_mask};
+ghost use Rattle.platform.specs.SpecialRegisters as special;
+ghost use Rattle.platform.specs.Status.{with_fault_bits, with_mmfar, with_bfar};
 ghost use Rattle.scs.specs.Writes.{after_write, answered};
 
 use crate::addresses::{first_byte, has_width, in_place, part_of, register_at};
@@ -27,10 +27,10 @@ use clock::{Clock, DueTicks, ScriptedEvent};
 use instruction_set::operands::{ChangeProcessorState, SpecialRegister};
 use mpu::{Decider, MpuRegister, MpuRegs, stop_of, uses_regions};
 use nvic::{Levels, Masks};
-use reference::access::{Access, Answer, Decision, Request, Rule};
-use reference::exception::FIRST_INTERRUPT;
-use reference::stop::{LeftOut, Stop};
-use reference::system::SystemRegister;
+use platform::access::{Access, Decision, Performed, Request, Rule};
+use platform::exception::FIRST_INTERRUPT;
+use platform::stop::{LeftOut, Stop};
+use platform::system::SystemRegister;
 use regs::Regs;
 use std::marker::Model;
 
@@ -49,7 +49,7 @@ pub struct System<D: Decider, L: Levels, U: DueTicks> {
 
 impl<D: Decider, L: Levels, U: DueTicks> Model for System<D, L, U> {
     ghost use Rattle.clock.specs.DueTicks.{IsRight};
-    ghost use Rattle.reference.specs.System.{System as SystemState};
+    ghost use Rattle.platform.specs.System.{System as SystemState};
 
     ghost Value = { SystemState };
 
@@ -85,7 +85,7 @@ impl<D: Decider, L: Levels, U: DueTicks> System<D, L, U> {
     /// Makes the next tick: time goes on, and what the tick pends becomes pending. On most ticks
     /// nothing is due: only time goes on.
     #[inline]
-    #[tactic(auto, using(nvic::proofs::Due::nothing_is_pended), unfolding(reference::specs::System::after_tick))]
+    #[tactic(auto, using(nvic::proofs::Due::nothing_is_pended), unfolding(platform::specs::System::after_tick))]
     pub fn tick(&mut self)
         requires { self.old.time.ticks < 2 ^ 48 }
         ensures { self.new ≡ after_tick self.old }
@@ -98,7 +98,7 @@ impl<D: Decider, L: Levels, U: DueTicks> System<D, L, U> {
     /// Makes the next tick, and makes pending what is due at it.
     #[cold]
     #[inline(never)]
-    #[tactic(auto, using(nvic::proofs::Due::due_is_pended), unfolding(reference::specs::System::after_tick))]
+    #[tactic(auto, using(nvic::proofs::Due::due_is_pended), unfolding(platform::specs::System::after_tick))]
     fn tick_and_pend(&mut self)
         requires { self.old.time.ticks < 2 ^ 48 }
         ensures { self.new ≡ after_tick self.old }
@@ -261,7 +261,7 @@ impl<D: Decider, L: Levels, U: DueTicks> System<D, L, U> {
     }
 
     /// Makes an exception inactive, and pending again where its interrupt is high: `DeActivate()`.
-    #[tactic(auto, unfolding(reference::specs::System::deactivated))]
+    #[tactic(auto, unfolding(platform::specs::System::deactivated))]
     pub fn deactivate(&mut self, number: u16)
         ensures { self.new ≡ deactivated self.old number }
     {
@@ -309,48 +309,49 @@ impl<D: Decider, L: Levels, U: DueTicks> System<D, L, U> {
         self.status.set_bfar(address);
     }
 
-    /// Carries out a load or a store in the Private Peripheral Bus while IPSR is `exception`, or
+    /// Carries out a load or a store in the Private Peripheral Bus that a rule granted, while IPSR is `exception`, or
     /// returns why not.
-    #[tactic(auto, unfolding(reference::specs::System::system_access))]
-    pub fn access(&mut self, exception: u16, request: &Request) -> Answer
-        ensures system { self.new ≡ (system_access exception self.old request.now).system }
-        ensures answer { result ≡ (system_access exception self.old request.now).answer }
-        ensures narrow { IsNarrow request.now.access.size result }
+    #[tactic(auto, unfolding(platform::specs::System::system_access))]
+    pub fn access(&mut self, exception: u16, rule: Rule, request: &Request) -> Performed
+        ensures system { self.new ≡ (system_access exception self.old rule request.now).after }
+        ensures performed { result ≡ (system_access exception self.old rule request.now).performed }
+        ensures of_request { IsOf request.now result }
         ensures refused { LeavesUnlessDone result self.old self.new }
     {
         if !request.access.kind.is_load() && !request.access.kind.is_store() {
-            return Answer::Error;
+            return Performed::bus_error(rule);
         }
         let register = register_at(request.access.address & !3);
-        self.access_register(exception, request, register)
+        self.access_register(exception, rule, request, register)
     }
 
     /// Carries out an access to a register: the access's privilege is checked first, then its width.
-    #[tactic(auto, using(crate::proofs::Refused::refused_leaves), unfolding(reference::specs::System::register_access))]
+    #[tactic(auto, using(crate::proofs::Refused::refused_leaves), unfolding(platform::specs::System::register_access))]
     fn access_register(
         &mut self,
         exception: u16,
+        rule: Rule,
         request: &Request,
         register: SystemRegister,
-    ) -> Answer
-        ensures system { self.new ≡ (register_access exception self.old request.now register).system }
-        ensures answer { result ≡ (register_access exception self.old request.now register).answer }
-        ensures narrow { IsNarrow request.now.access.size result }
+    ) -> Performed
+        ensures system { self.new ≡ (register_access exception self.old rule request.now register).after }
+        ensures performed { result ≡ (register_access exception self.old rule request.now register).performed }
+        ensures of_request { IsOf request.now result }
         ensures refused { LeavesUnlessDone result self.old self.new }
     {
         if !self.has_access(request) {
-            return Answer::Error;
+            return Performed::bus_error(rule);
         }
         if !has_width(register, request.access.size) {
-            return Answer::Stop(Stop::OutOfProfile(LeftOut::RegisterWidth));
+            return Performed::Stop(Stop::OutOfProfile(LeftOut::RegisterWidth));
         }
         if !request.access.kind.is_store() {
             let word = self.read(exception, register);
-            return Answer::Value(part_of(request, word));
+            return Performed::done(rule, part_of(request, word));
         }
         match self.write(request, register) {
-            Ok(()) => Answer::Value(0),
-            Err(stop) => Answer::Stop(stop),
+            Ok(()) => Performed::done(rule, 0),
+            Err(stop) => Performed::Stop(stop),
         }
     }
 
@@ -367,7 +368,7 @@ impl<D: Decider, L: Levels, U: DueTicks> System<D, L, U> {
     }
 
     /// Reads a register as a word.
-    #[tactic(auto, unfolding(reference::specs::System::word_at, reference::specs::System::after_read))]
+    #[tactic(auto, unfolding(platform::specs::System::word_at, platform::specs::System::after_read))]
     fn read(&mut self, exception: u16, register: SystemRegister) -> u32
         ensures value { result ≡ spec.word_at exception self.old register }
         ensures system { self.new ≡ after_read self.old register }
@@ -386,7 +387,7 @@ impl<D: Decider, L: Levels, U: DueTicks> System<D, L, U> {
     }
 
     /// Writes a register; a write that stops changes nothing.
-    #[tactic(auto, unfolding(reference::specs::System::register_written))]
+    #[tactic(auto, unfolding(platform::specs::System::register_written))]
     fn write(&mut self, request: &Request, register: SystemRegister) -> Result<(), Stop>
         ensures system { self.new ≡ after_write self.old (register_written self.old request.now register) }
         ensures answer { result ≡ answered (register_written self.old request.now register) }

@@ -2,14 +2,14 @@
 
 ghost use Rattle.std.specs.Prelude.{◌≡◌};
 ghost use Rattle.clock.specs.DueTicks.{IsRight};
-ghost use Rattle.reference.specs.SysTickRegisters.{systick_at as systick_at_of, read_systick as read_systick_of};
-ghost use Rattle.reference.specs.SysTickRegisters.{after_systick_read, write_systick as write_systick_of};
+ghost use Rattle.platform.specs.SysTickRegisters.{systick_at as systick_at_of, read_systick as read_systick_of};
+ghost use Rattle.platform.specs.SysTickRegisters.{after_systick_read, write_systick as write_systick_of};
 
 use clock::{Clock, DueTicks};
-use reference::system::SysTickRegister;
+use platform::system::SysTickRegister;
 
 /// Returns the register at the address of a word, if it is one of these.
-#[tactic(auto, unfolding(reference::specs::SysTickRegisters::systick_at))]
+#[tactic(auto, unfolding(platform::specs::SysTickRegisters::systick_at))]
 pub fn systick_at(word: u32) -> Option<SysTickRegister>
     ensures { result ≡ systick_at_of word }
 {
@@ -22,7 +22,7 @@ pub fn systick_at(word: u32) -> Option<SysTickRegister>
 }
 
 /// Reads a register; a read of SYST_CSR clears COUNTFLAG.
-#[tactic(auto, unfolding(reference::specs::SysTickRegisters::read_systick, reference::specs::SysTickRegisters::after_systick_read))]
+#[tactic(auto, unfolding(platform::specs::SysTickRegisters::read_systick, platform::specs::SysTickRegisters::after_systick_read))]
 pub fn read_systick<U: DueTicks>(clock: &mut Clock<U>, register: SysTickRegister) -> u32
     requires { IsRight clock.old }
     ensures value { result ≡ read_systick_of clock.old.time.systick register }
@@ -38,7 +38,7 @@ pub fn read_systick<U: DueTicks>(clock: &mut Clock<U>, register: SysTickRegister
 }
 
 /// Writes a register.
-#[tactic(auto, unfolding(reference::specs::SysTickRegisters::write_systick))]
+#[tactic(auto, unfolding(platform::specs::SysTickRegisters::write_systick))]
 pub fn write_systick<U: DueTicks>(clock: &mut Clock<U>, register: SysTickRegister, value: u32)
     ensures time { clock.new.time
         ≡ record clock.old.time { systick = write_systick_of clock.old.time.systick register value } }

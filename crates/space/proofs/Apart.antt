@@ -2,8 +2,8 @@
 use Rattle.std.proofs.Common.{◌≡◌, ℕ, ◌+◌, ◌≤◌, Bool, true, false, length, refl, arith}
 use Rattle.std.proofs.lemmas.Bool.Decides.{nat_tests}
 use Rattle.std.specs.Prelude.{Some}
-use Rattle.reference.specs.Map.{ram_base, is_in_window}
-use Rattle.reference.specs.Memory.{Memory, is_in_flash, is_in_ram, number_at}
+use Rattle.platform.specs.Map.{ram_base, is_in_window}
+use Rattle.platform.specs.Memory.{Memory, is_in_flash, is_in_ram, number_at}
 
 apart : (m : Memory) (a n v : ℕ) (flash ram : Bool) → is_in_flash m a n ≡ flash → is_in_ram m a n ≡ ram →
     m.flash_base + length m.flash ≤ ram_base → length m.ram ≤ 0x10_0000 → number_at m a n ≡ Some v

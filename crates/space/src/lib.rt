@@ -4,6 +4,6 @@
 mod memory;
 
 pub use instruction_set::size::Size;
-pub use memory::{Space, is_out, is_within};
-pub use reference::access::{Answer, Kind, Request};
-pub use reference::board::Layout;
+pub use memory::{Space, is_within};
+pub use platform::access::{Kind, Performed, Request, Rule};
+pub use platform::board::Layout;

@@ -8,12 +8,12 @@ use Rattle.nvic.proofs.Boards.{at_each}
 use Rattle.nvic.proofs.Changes.{pended_kept}
 use Rattle.nvic.proofs.Least.{highest_alike}
 use Rattle.nvic.specs.Laws.{IsReady, IsCandidate}
-use Rattle.reference.specs.declared.exception.Escalation.{Escalation}
-use Rattle.reference.specs.declared.exception.Escalation.TheVariants.{Itself, HardFault, Lockup}
-use Rattle.reference.specs.declared.exception.TheConstants.{EXCEPTIONS, HARD_FAULT}
-use Rattle.reference.specs.Priorities.{Nvic, is_in, is_enabled, is_exception, is_negative, group_priority}
-use Rattle.reference.specs.Priorities.{boosted, execution_priority, candidate, with_pending, escalation}
-use Rattle.reference.specs.System.{with_pended}
+use Rattle.platform.specs.declared.exception.Escalation.{Escalation}
+use Rattle.platform.specs.declared.exception.Escalation.TheVariants.{Itself, HardFault, Lockup}
+use Rattle.platform.specs.declared.exception.TheConstants.{EXCEPTIONS, HARD_FAULT}
+use Rattle.platform.specs.Priorities.{Nvic, is_in, is_enabled, is_exception, is_negative, group_priority}
+use Rattle.platform.specs.Priorities.{boosted, execution_priority, candidate, with_pending, escalation}
+use Rattle.platform.specs.System.{with_pended}
 
 -- ---- there is a candidate
 

@@ -15,24 +15,27 @@ use Rattle.instruction_set.specs.Registers.{Registers, is_handler}
 use Rattle.instruction_set.specs.RowOperands.{special_of}
 use Rattle.mpu.proofs.Writes.{sound_at_reset}
 use Rattle.nvic.proofs.Systems.{placed_kept}
-use Rattle.reference.specs.declared.access.Answer.{Answer}
-use Rattle.reference.specs.declared.access.Answer.TheVariants as answer
-use Rattle.reference.specs.declared.access.Request.{Request}
-use Rattle.reference.specs.declared.exception.TheConstants.{MOST_INTERRUPTS}
-use Rattle.reference.specs.declared.error.PlaceError.{PlaceError}
+use Rattle.platform.specs.declared.access.Performed.{Performed}
+use Rattle.platform.specs.declared.access.Performed.TheVariants as performed
+use Rattle.platform.specs.declared.access.Request.{Request}
+use Rattle.platform.specs.declared.access.Rule.TheVariants.{PrivatePeripheralBus}
+use Rattle.platform.specs.declared.exception.TheConstants.{MOST_INTERRUPTS}
+use Rattle.platform.specs.declared.error.PlaceError.{PlaceError}
 use Rattle.reference.specs.declared.place.Place.{Place}
 use Rattle.reference.specs.declared.place.Place.TheVariants.{Reg, Special, Word}
-use Rattle.reference.specs.Accesses.{answered_by_bus, perform_all}
-use Rattle.reference.specs.Boards.{Described, is_interrupt_count, is_region_count, IsScriptFrom}
-use Rattle.reference.specs.Images.{Segment}
-use Rattle.reference.specs.Invariant.{IsBoard, HasRegisters, SystemInvariant, Invariant}
-use Rattle.reference.specs.Map.{is_in_ppb}
-use Rattle.reference.specs.Memory.{bytes_of}
+use Rattle.reference.specs.Accesses.{carried_out, perform_all}
+use Rattle.platform.specs.Boards.{Described, is_interrupt_count, is_region_count, IsScriptFrom}
+use Rattle.platform.specs.Images.{Segment}
+use Rattle.reference.specs.Invariant.{HasRegisters, Invariant}
+use Rattle.platform.specs.SystemInvariant.{IsBoard, SystemInvariant}
+use Rattle.platform.specs.Map.{is_in_ppb}
+use Rattle.platform.specs.Memory.{bytes_of}
 use Rattle.reference.specs.Places.{is_word_aligned, is_there, special_taken, register_taken, store_of, taken, place}
-use Rattle.reference.specs.Start.{blank, are_placed, start}
+use Rattle.reference.specs.Start.{are_placed, start}
+use Rattle.platform.specs.Boards.{blank}
 use Rattle.reference.specs.State.{Bus, State, ticked}
 use Rattle.reference.specs.Step.{step}
-use Rattle.reference.specs.System.{System, reset_system}
+use Rattle.platform.specs.System.{System, reset_system}
 use Rattle.state_laws.specs.StateLaw.{IfGiven, TickKeeps, AccessKeeps, InstructionKeeps}
 use Rattle.state_laws.proofs.Accesses.{IsWholeBus, carried_whole, perform_whole, served_whole}
 use Rattle.state_laws.proofs.Effects.{register_kept, result_kept}
@@ -102,12 +105,12 @@ special_placed interrupts bits s (Some special) value h = record {
   system = (placed_kept (parts_kept interrupts bits) s.bus.system special value h.system.0, h.system.1);
 }
 
-register_placed : (interrupts bits : ℕ) (s : State) (after : Bus) (a : Answer) → HasRegisters s.registers → s.entry
-    ≡ None →
-    IsWholeBus interrupts bits after → IsPlaced interrupts bits (register_taken s after a)
-register_placed interrupts bits s after (answer.Value value) r out h = record { registers = r; entry = out; system = h }
-register_placed interrupts bits s after answer.Error r out h = tt
-register_placed interrupts bits s after (answer.Stop why) r out h = tt
+register_placed : (interrupts bits : ℕ) (s : State) (after : Bus) (p : Performed) → HasRegisters s.registers →
+    s.entry ≡ None → IsWholeBus interrupts bits after → IsPlaced interrupts bits (register_taken s after p)
+register_placed interrupts bits s after (performed.Done access) r out h =
+    record { registers = r; entry = out; system = h }
+register_placed interrupts bits s after (performed.Denied rule cause) r out h = tt
+register_placed interrupts bits s after (performed.Stop why) r out h = tt
 
 taken_placed : (interrupts bits : ℕ) (s : State) (p : Place) → IsGood interrupts bits s
     → IsPlaced interrupts bits (taken s p)
@@ -119,10 +122,10 @@ taken_placed interrupts bits s (Reg number value) h =
     }
 taken_placed interrupts bits s (Special number value) h = special_placed interrupts bits s (special_of number) value h
 taken_placed interrupts bits s (Word address value) h =
-    let a = answered_by_bus s.registers.exception s.bus (store_of address value) in
+    let o = carried_out s.registers.exception s.bus PrivatePeripheralBus (store_of address value) in
     cond_both (is_in_ppb address) _ _ (IsPlaced interrupts bits)
-    (λ e. register_placed interrupts bits s a.bus a.answer h.registers h.entry
-    (carried_whole interrupts bits s.registers.exception s.bus (store_of address value) h.system))
+    (λ e. register_placed interrupts bits s o.after o.performed h.registers h.entry
+    (carried_whole interrupts bits s.registers.exception s.bus PrivatePeripheralBus (store_of address value) h.system))
     (λ e. record {
       registers = h.registers;
       entry = h.entry;

@@ -14,28 +14,29 @@ use Rattle.instruction_set.specs.Frames.{has_reserved_ones, popped_pc, frame_bas
 use Rattle.instruction_set.specs.Registers.{Registers, sp}
 use Rattle.instruction_set.specs.Words.{is_bit}
 use Rattle.nvic.proofs.Systems.{pending_kept, begun_kept, ended_kept, with_status_kept}
-use Rattle.reference.specs.declared.event.Event.{Event}
-use Rattle.reference.specs.declared.exception.Escalation.{Escalation}
-use Rattle.reference.specs.declared.exception.Escalation.TheVariants.{Itself, HardFault, Lockup}
-use Rattle.reference.specs.declared.exception.TheConstants.{HARD_FAULT, SV_CALL, EXCEPTIONS}
+use Rattle.platform.specs.declared.event.Event.{Event}
+use Rattle.platform.specs.declared.exception.Escalation.{Escalation}
+use Rattle.platform.specs.declared.exception.Escalation.TheVariants.{Itself, HardFault, Lockup}
+use Rattle.platform.specs.declared.exception.TheConstants.{HARD_FAULT, SV_CALL, EXCEPTIONS}
 use Rattle.reference.specs.declared.failure.Failure.{Failure}
 use Rattle.reference.specs.declared.failure.Failure.TheVariants as failure
 use Rattle.reference.specs.declared.failure.UsageFault.TheVariants.{InvalidReturn}
-use Rattle.reference.specs.declared.fault_status.FaultEffect.{FaultEffect}
+use Rattle.platform.specs.declared.fault_status.FaultEffect.{FaultEffect}
 use Rattle.reference.specs.Accesses.{ListResult, perform_all, perform, value_of}
 use Rattle.reference.specs.ExceptionEntry.{pushes, entering, stacked, begin_entry, vector_read, vector_refused}
 use Rattle.reference.specs.ExceptionEntry.{vector_taken, exception_taken, taken_if_any, take_vector}
 use Rattle.reference.specs.ExceptionReturn.{with_entry, fits_mode, unstacked, frame_read, pops, pop_stack, chained}
-use Rattle.reference.specs.ExceptionReturn.{returned, exception_ended, is_allowed, return_line, exception_return}
+use Rattle.reference.specs.ExceptionReturn.{returned, is_allowed, return_line, exception_return}
+use Rattle.platform.specs.System.{exception_ended}
 use Rattle.reference.specs.Faults.{fault_of, usage_fault_of, vector_fault, recorded, escalated, faulted, failed}
 use Rattle.reference.specs.Faults.{supervisor_called_by, supervisor_called, with_status, pended}
-use Rattle.reference.specs.Priorities.{is_fixed, candidate}
+use Rattle.platform.specs.Priorities.{is_fixed, candidate}
 use Rattle.reference.specs.State.{State, Stepped, with_bus, with_system, Bus, with_registers}
 use Rattle.reference.specs.Invariant.{HasRegisters}
 use Rattle.reference.specs.ProgramCounter.{moves_on}
-use Rattle.reference.specs.Status.{Status}
-use Rattle.reference.specs.System.{System}
-use Rattle.reference.specs.declared.stop.Stop.{Stop}
+use Rattle.platform.specs.Status.{Status}
+use Rattle.platform.specs.System.{System}
+use Rattle.platform.specs.declared.stop.Stop.{Stop}
 use Rattle.state_laws.proofs.Accesses.{IsWholeBus, perform_whole, served_whole}
 use Rattle.state_laws.proofs.Systems.{parts_kept, IsWhole}
 use Rattle.state_laws.proofs.Effects.{sp_kept, moves_on_kept}
@@ -185,10 +186,10 @@ module _ (interrupts bits : ℕ) where
   taken_good s e x small c h =
       let q = vector_read s x in
       let answer = perform s.registers.exception s.bus q in
-      vector_good (with_bus s answer.bus) _ x e (value_of q answer.performed) small
+      vector_good (with_bus s answer.after) _ x e (value_of q answer.performed) small
       (rw (ap (λ (t : System). is_some (candidate t.nvic))
       (perform_leaves s.registers.exception s.bus q (vector_apart s x))) c)
-      (with_bus_good s answer.bus (perform_whole interrupts bits s.registers.exception s.bus q h.bus) h)
+      (with_bus_good s answer.after (perform_whole interrupts bits s.registers.exception s.bus q h.bus) h)
 
   any_good : (s : State) (e : ℕ) (next : Option ℕ) → IsBelow EXCEPTIONS next → Calls s.bus.system.nvic → IsGood s →
       LeavesGood (taken_if_any s e next)

@@ -10,9 +10,9 @@ use Rattle.instruction_set.specs.Registers.{Registers}
 use Rattle.instruction_set.specs.Words.{word_sum, is_bit}
 use Rattle.nvic.proofs.Best.{candidate_is}
 use Rattle.nvic.specs.Laws.{IsCandidate}
-use Rattle.reference.specs.declared.exception.TheConstants.{EXCEPTIONS}
+use Rattle.platform.specs.declared.exception.TheConstants.{EXCEPTIONS}
 use Rattle.reference.specs.Invariant.{IsStackPointer, HasRegisters}
-use Rattle.reference.specs.Priorities.{Nvic, candidate}
+use Rattle.platform.specs.Priorities.{Nvic, candidate}
 use Rattle.state_laws.proofs.Effects.{exchange_kept}
 use Rattle.state_laws.proofs.Registers.{AreWords, words_set, psp_kept, msp_kept, writes_kept}
 

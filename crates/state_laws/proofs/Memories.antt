@@ -4,15 +4,18 @@ use Rattle.std.proofs.lemmas.Bool.{cond_both}
 use Rattle.std.proofs.lemmas.Bool.Decides.{nat_tests}
 use Rattle.std.proofs.lemmas.List.{length-replicate}
 use Rattle.instruction_set.specs.Sizes.{bytes_in}
-use Rattle.reference.specs.declared.access.Request.{Request}
-use Rattle.reference.specs.Boards.{Numbers, is_flash}
-use Rattle.reference.specs.Images.{Segment}
-use Rattle.reference.specs.Invariant.{FlashEndsBelowRam}
-use Rattle.reference.specs.Kinds.{is_write}
-use Rattle.reference.specs.Map.{is_in_window}
-use Rattle.reference.specs.Memory.{Memory, is_in_flash, is_in_ram, bytes_of, overwritten}
-use Rattle.reference.specs.Space.{SpaceAnswer, written_to, space_access}
-use Rattle.reference.specs.Start.{blank, image_loaded}
+use Rattle.platform.specs.declared.access.Request.{Request}
+use Rattle.platform.specs.declared.access.Rule.{Rule}
+use Rattle.platform.specs.Boards.{Numbers, is_flash}
+use Rattle.platform.specs.Images.{Segment}
+use Rattle.platform.specs.SystemInvariant.{FlashEndsBelowRam}
+use Rattle.platform.specs.Kinds.{is_write}
+use Rattle.platform.specs.Map.{is_in_window}
+use Rattle.platform.specs.Memory.{Memory, is_in_flash, is_in_ram, bytes_of, overwritten}
+use Rattle.platform.specs.Outcomes.{Outcome}
+use Rattle.platform.specs.Space.{written_to, space_access}
+use Rattle.reference.specs.Start.{image_loaded}
+use Rattle.platform.specs.Boards.{blank}
 use Rattle.space.proofs.Blocks.{length-with_bytes}
 
 pub overwritten_apart : (m : Memory) (a : ℕ) (bytes : List ℕ) → FlashEndsBelowRam m →
@@ -21,19 +24,21 @@ overwritten_apart m a bytes h =
     cond_both (is_in_flash m a (length bytes)) _ _ FlashEndsBelowRam
     (λ there. rw (length-with_bytes m.flash bytes (a - m.flash_base) (grind (arith, nat_tests, there))) h) (λ other. h)
 
-written_apart : (m : Memory) (q : Request) → FlashEndsBelowRam m → FlashEndsBelowRam (written_to m q).memory
-written_apart m q h =
-    cond_both (is_in_window q.access.address) _ _ (λ (r : SpaceAnswer). FlashEndsBelowRam r.memory) (λ e. h)
-    (λ e. cond_both (is_in_ram m q.access.address (bytes_in q.access.size)) _ _
-    (λ (r : SpaceAnswer). FlashEndsBelowRam r.memory)
+-- flash ends where RAM begins, or below, after an access
+abbrev LeavesApart : Outcome Memory → Type 0
+LeavesApart o = FlashEndsBelowRam o.after
+
+written_apart : (m : Memory) (rule : Rule) (q : Request) → FlashEndsBelowRam m → LeavesApart (written_to m rule q)
+written_apart m rule q h =
+    cond_both (is_in_window q.access.address) _ _ LeavesApart (λ e. h)
+    (λ e. cond_both (is_in_ram m q.access.address (bytes_in q.access.size)) _ _ LeavesApart
     (λ f. overwritten_apart m q.access.address (bytes_of (bytes_in q.access.size) q.value) h) (λ f. h))
 
-pub space_apart : (m : Memory) (ticks : ℕ) (q : Request) → FlashEndsBelowRam m →
-    FlashEndsBelowRam (space_access m ticks q).memory
+pub space_apart : (m : Memory) (ticks : ℕ) (rule : Rule) (q : Request) → FlashEndsBelowRam m →
+    FlashEndsBelowRam (space_access m ticks rule q).after
 unfolding space_access
-space_apart m ticks q h =
-    cond_both (is_write q.access.kind) _ _ (λ (r : SpaceAnswer). FlashEndsBelowRam r.memory) (λ e. written_apart m q h)
-    (λ e. h)
+space_apart m ticks rule q h =
+    cond_both (is_write q.access.kind) _ _ LeavesApart (λ e. written_apart m rule q h) (λ e. h)
 
 -- ---- the start
 

@@ -16,7 +16,7 @@ use Rattle.instruction_set.specs.Sizes.{instruction_bytes}
 use Rattle.instruction_set.specs.Words.{word_sum}
 use Rattle.reference.specs.Invariant.{IsStackPointer, IsCodeAddress, HasRegisters}
 use Rattle.reference.specs.ProgramCounter.{advanced}
-use Rattle.reference.specs.SpecialRegisters.{is_open, with_special, write_special}
+use Rattle.platform.specs.SpecialRegisters.{is_open, with_special, write_special}
 use Rattle.state_laws.proofs.Effects.{KeepsWrites, stack_pointer_is, code_address_is}
 
 -- ---- values

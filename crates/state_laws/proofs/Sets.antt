@@ -7,11 +7,11 @@ use Rattle.nvic.proofs.Boards.{priority_of_board, group_of_board, primask_of_boa
 use Rattle.nvic.proofs.Boards.{basepri_of_board, reset_of_board}
 use Rattle.nvic.proofs.Changes.{IsKept}
 use Rattle.nvic.specs.Laws.{IsOfBoard}
-use Rattle.reference.specs.declared.exception.TheConstants.{EXCEPTIONS}
-use Rattle.reference.specs.Invariant.{KeepsTopBits, HasExceptionsOfBoard}
-use Rattle.reference.specs.Priorities.{Nvic, can_be_disabled, has_priority_byte, kept, with_enabled, with_priority}
-use Rattle.reference.specs.Priorities.{with_basepri}
-use Rattle.reference.specs.Priorities.{reset_nvic}
+use Rattle.platform.specs.declared.exception.TheConstants.{EXCEPTIONS}
+use Rattle.platform.specs.SystemInvariant.{KeepsTopBits, HasExceptionsOfBoard}
+use Rattle.platform.specs.Priorities.{Nvic, can_be_disabled, has_priority_byte, kept, with_enabled, with_priority}
+use Rattle.platform.specs.Priorities.{with_basepri}
+use Rattle.platform.specs.Priorities.{reset_nvic}
 
 -- the numbers of the board, its sets and its priority bytes
 pub record HasBoard (interrupts bits : ℕ) (n : Nvic) : Type 0 where

@@ -13,15 +13,15 @@ use Rattle.instruction_set.specs.Decoding.{is_long}
 use Rattle.instruction_set.specs.Registers.{is_privileged}
 use Rattle.instruction_set.specs.Words.{word_sum}
 use Rattle.nvic.proofs.Systems.{cps_kept, msr_kept}
-use Rattle.reference.specs.declared.access.Request.{Request}
+use Rattle.platform.specs.declared.access.Request.{Request}
 use Rattle.reference.specs.declared.ending.Ending.{Ending}
 use Rattle.reference.specs.declared.ending.Ending.TheVariants as ending
-use Rattle.reference.specs.declared.event.Event.{Event}
+use Rattle.platform.specs.declared.event.Event.{Event}
 use Rattle.reference.specs.declared.failure.Failure.{Failure}
 use Rattle.reference.specs.declared.failure.Failure.TheVariants as failure
 use Rattle.reference.specs.declared.failure.UsageFault.{UsageFault}
 use Rattle.reference.specs.declared.failure.UsageFault.TheVariants.{UndefinedInstruction, NoCoprocessor, InvalidState}
-use Rattle.reference.specs.declared.stop.Stop.{Stop}
+use Rattle.platform.specs.declared.stop.Stop.{Stop}
 use Rattle.reference.specs.Accesses.{ListResult, perform_all, perform}
 use Rattle.reference.specs.Operations.{result_of}
 use Rattle.reference.specs.ProgramCounter.{Finished, moves_on}
@@ -29,10 +29,10 @@ use Rattle.reference.specs.State.{State, ticked, with_bus, with_registers}
 use Rattle.reference.specs.Step.{ended, finished, served, performed_all, planned, without_meaning, executed, fetching}
 use Rattle.reference.specs.Step.{fetched_second, with_second, fetched_first, instruction, sleeps_on, phase, running}
 use Rattle.reference.specs.Step.{unless_stopped, step}
-use Rattle.reference.specs.Time.{last_tick, tick_pends}
+use Rattle.platform.specs.Time.{last_tick, tick_pends}
 use Rattle.reference.specs.Invariant.{HasRegisters}
-use Rattle.reference.specs.Priorities.{candidate}
-use Rattle.reference.specs.System.{System, after_tick}
+use Rattle.platform.specs.Priorities.{candidate}
+use Rattle.platform.specs.System.{System, after_tick}
 use Rattle.state_laws.proofs.Accesses.{perform_whole, served_whole}
 use Rattle.state_laws.proofs.Systems.{tick_whole, parts_kept}
 use Rattle.state_laws.proofs.Faults.{IsGood, LeavesGood, with_registers_good, with_bus_good, with_system_good}
@@ -126,7 +126,7 @@ module _ (interrupts bits : ℕ) where
 
   -- an access
   after_one : (s : State) (q : Request) → IsGood interrupts bits s →
-      IsGood interrupts bits (with_bus s (perform s.registers.exception s.bus q).bus)
+      IsGood interrupts bits (with_bus s (perform s.registers.exception s.bus q).after)
   after_one s q h = with_bus_good interrupts bits s _
       (perform_whole interrupts bits s.registers.exception s.bus q h.bus) h
 

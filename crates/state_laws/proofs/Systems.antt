@@ -3,9 +3,9 @@ use Rattle.std.proofs.Common.{ℕ, ◌<◌}
 use Rattle.clock.proofs.Timers.{read_bits, write_bits}
 use Rattle.mpu.proofs.Writes.{sound_after_write}
 use Rattle.nvic.proofs.Systems.{Parts, HasParts, PartsAreKept, tick_kept}
-use Rattle.reference.specs.Regions.{IsSound}
-use Rattle.reference.specs.System.{System, after_tick}
-use Rattle.reference.specs.Time.{last_tick}
+use Rattle.platform.specs.Regions.{IsSound}
+use Rattle.platform.specs.System.{System, after_tick}
+use Rattle.platform.specs.Time.{last_tick}
 use Rattle.state_laws.proofs.Sets.{HasBoard, board_kept}
 use Rattle.state_laws.proofs.Ticks.{IsTimely, with_timer, tick_timely}
 

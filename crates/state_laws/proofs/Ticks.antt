@@ -5,14 +5,14 @@ use Rattle.std.proofs.lemmas.List.{length-set, length-replicate}
 use Rattle.clock.proofs.Scripts.{applies_those}
 use Rattle.clock.proofs.Timers.{counted_bits}
 use Rattle.clock.specs.Laws.{IsSortedFrom}
-use Rattle.reference.specs.declared.exception.TheConstants.{MOST_INTERRUPTS}
-use Rattle.reference.specs.declared.script.ScriptedEvent.{ScriptedEvent}
-use Rattle.reference.specs.declared.script.Signal.{Signal}
-use Rattle.reference.specs.declared.script.Signal.TheVariants.{Rise, Fall, Pulse, Nmi}
-use Rattle.reference.specs.Boards.{IsScriptFrom}
-use Rattle.reference.specs.Invariant.{IsWithinClock, HasTimerBits, IsAhead}
-use Rattle.reference.specs.Time.{Time, SysTick, last_tick, with_signal, with_events, events_at, due_count}
-use Rattle.reference.specs.Time.{events_after, time_after_tick, start_time}
+use Rattle.platform.specs.declared.exception.TheConstants.{MOST_INTERRUPTS}
+use Rattle.platform.specs.declared.script.ScriptedEvent.{ScriptedEvent}
+use Rattle.platform.specs.declared.script.Signal.{Signal}
+use Rattle.platform.specs.declared.script.Signal.TheVariants.{Rise, Fall, Pulse, Nmi}
+use Rattle.platform.specs.Boards.{IsScriptFrom}
+use Rattle.platform.specs.SystemInvariant.{IsWithinClock, HasTimerBits, IsAhead}
+use Rattle.platform.specs.Time.{Time, SysTick, last_tick, with_signal, with_events, events_at, due_count}
+use Rattle.platform.specs.Time.{events_after, time_after_tick, start_time}
 
 -- what holds of time on a board with these interrupts
 pub record IsTimely (interrupts : ℕ) (t : Time) : Type 0 where

@@ -4,11 +4,12 @@
 
 ghost use Rattle.std.specs.Prelude.{List};
 ghost use Rattle.instruction_set.specs.declared.instruction.CodedInstruction.{CodedInstruction};
-ghost use Rattle.reference.specs.declared.access.Request.{Request};
+ghost use Rattle.platform.specs.declared.access.Request.{Request};
 ghost use Rattle.reference.specs.declared.place.Place.{Place};
-ghost use Rattle.reference.specs.Boards.{Described};
-ghost use Rattle.reference.specs.Images.{Segment};
-ghost use Rattle.reference.specs.Invariant.{IsBoard, Invariant};
+ghost use Rattle.platform.specs.Boards.{Described};
+ghost use Rattle.platform.specs.Images.{Segment};
+ghost use Rattle.reference.specs.Invariant.{Invariant};
+ghost use Rattle.platform.specs.SystemInvariant.{IsBoard};
 ghost use Rattle.reference.specs.Places.{place};
 ghost use Rattle.reference.specs.Start.{start};
 ghost use Rattle.reference.specs.State.{State};

@@ -1,24 +1,22 @@
 -- One access, and a list of them.
 use Rattle.std.proofs.Common.{◌≡◌, inl, inr, ℕ, ◌+◌, nat_le, nat_lt, Bool, true, false, ◌&&◌, ◌||◌}
-use Rattle.std.proofs.Common.{List, [], ◌∷◌, length, Some, Result, Ok, Err, refl, arith}
+use Rattle.std.proofs.Common.{List, [], ◌∷◌, length, Option, Some, None, Result, Ok, Err, refl, arith}
 use Rattle.std.proofs.lemmas.Bool.{cond_both}
 use Rattle.std.proofs.lemmas.Bool.Decides.{nat_tests}
 use Rattle.instruction_set.specs.Sizes.{bytes_in}
-use Rattle.reference.specs.declared.access.Answer.TheVariants as answer
-use Rattle.reference.specs.declared.access.Decision.{Decision}
-use Rattle.reference.specs.declared.access.Performed.{Performed}
-use Rattle.reference.specs.declared.access.Performed.TheVariants as performed
-use Rattle.reference.specs.declared.access.Request.{Request}
-use Rattle.reference.specs.declared.access.Rule.{Rule}
-use Rattle.reference.specs.declared.event.Event.{Event}
+use Rattle.platform.specs.declared.access.Performed.{Performed}
+use Rattle.platform.specs.declared.access.Performed.TheVariants as performed
+use Rattle.platform.specs.declared.access.Request.{Request}
+use Rattle.platform.specs.declared.access.Rule.{Rule}
+use Rattle.platform.specs.declared.event.Event.{Event}
 use Rattle.reference.specs.declared.failure.Failure.{Failure}
-use Rattle.reference.specs.Accesses.{BusAnswer, ListResult, answered_by_bus, performed_by, decided, decision, perform}
-use Rattle.reference.specs.Accesses.{accessed}
-use Rattle.reference.specs.Accesses.{console_line, access_lines, value_of, followed, perform_all}
-use Rattle.reference.specs.Kinds.{is_probe, is_write}
-use Rattle.reference.specs.Map.{is_in_ppb, is_in_window}
-use Rattle.reference.specs.Memory.{Memory, is_in_ram, bytes_of, overwritten}
-use Rattle.reference.specs.Space.{SpaceAnswer, is_out, written_to, space_access}
+use Rattle.reference.specs.Accesses.{ListResult, carried_out, decision, perform, accessed, console_line, access_lines}
+use Rattle.reference.specs.Accesses.{value_of, followed, perform_all}
+use Rattle.platform.specs.Kinds.{is_probe, is_write}
+use Rattle.platform.specs.Map.{is_in_ppb, is_in_window}
+use Rattle.platform.specs.Memory.{Memory, is_in_ram, bytes_of, overwritten}
+use Rattle.platform.specs.Outcomes.{Outcome, done, within}
+use Rattle.platform.specs.Space.{written_to, space_access}
 use Rattle.reference.specs.State.{Bus}
 use Rattle.step_laws.specs.AccessLaw.{NoneRefused, are_covering, OnlyCovered}
 use Rattle.space.proofs.Blocks.{IsOutside, blocks_kept}
@@ -38,21 +36,21 @@ outside a n x b e = split (nat_le a x) (nat_lt x (a + n)) refl refl
     split false high l h = inl (grind (arith, nat_tests, l))
 
 -- memory after an access changes only where its lines cover it
-abbrev Writes : ℕ → Request → Memory → SpaceAnswer → Type 0
-Writes tick q m r = (rule : Rule) → OnlyCovered m r.memory (access_lines tick q (performed_by rule r.answer))
+abbrev Writes : ℕ → Request → Memory → Outcome Memory → Type 0
+Writes tick q m o = OnlyCovered m o.after (access_lines tick q o.performed)
 
-stored : (tick : ℕ) (q : Request) (m : Memory) → is_write q.access.kind ≡ true →
+stored : (tick : ℕ) (q : Request) (m : Memory) (rule : Rule) → is_write q.access.kind ≡ true →
     is_in_ram m q.access.address (bytes_in q.access.size) ≡ true →
     Writes tick q m (record {
-      memory = overwritten m q.access.address (bytes_of (bytes_in q.access.size) q.value);
-      answer = answer.Value 0;
+      after = overwritten m q.access.address (bytes_of (bytes_in q.access.size) q.value);
+      performed = done rule 0;
     })
-stored tick q m writing there rule =
+stored tick q m rule writing there =
     let long = length-bytes_of (bytes_in q.access.size) q.value in
     let bytes = bytes_of (bytes_in q.access.size) q.value in
     let there_too : is_in_ram m q.access.address (length bytes) ≡ true = rw long there in
     let kept = blocks_kept m q.access.address bytes there_too in
-    let apart : (x : ℕ) → are_covering (access_lines tick q (performed.Done rule 0)) x ≡ false →
+    let apart : (x : ℕ) → are_covering (access_lines tick q (done rule 0)) x ≡ false →
     IsOutside q.access.address (length bytes) x =
     λ x e. rw long (outside q.access.address (bytes_in q.access.size) x _ (rw writing at e)) in
     record {
@@ -61,50 +59,47 @@ stored tick q m writing there rule =
       ram = record { size = kept.ram.size; bytes = λ k e. kept.ram.bytes k (apart _ e) };
     }
 
-writing_writes : (tick : ℕ) (q : Request) (m : Memory) → is_write q.access.kind ≡ true →
-    Writes tick q m (written_to m q)
-writing_writes tick q m writing =
-    cond_both (is_in_window q.access.address) _ _ (Writes tick q m) (λ e rule. covered-same _ _)
+writing_writes : (tick : ℕ) (q : Request) (m : Memory) (rule : Rule) → is_write q.access.kind ≡ true →
+    Writes tick q m (written_to m rule q)
+writing_writes tick q m rule writing =
+    cond_both (is_in_window q.access.address) _ _ (Writes tick q m) (λ e. covered-same _ _)
     (λ away. cond_both (is_in_ram m q.access.address (bytes_in q.access.size)) _ _ (Writes tick q m)
-    (stored tick q m writing) (λ e rule. covered-same _ _))
+    (stored tick q m rule writing) (λ e. covered-same _ _))
 
-space_writes : (tick ticks : ℕ) (q : Request) (m : Memory) → Writes tick q m (space_access m ticks q)
+space_writes : (tick ticks : ℕ) (q : Request) (m : Memory) (rule : Rule) →
+    Writes tick q m (space_access m ticks rule q)
 unfolding space_access
-space_writes tick ticks q m =
-    cond_both (is_write q.access.kind) _ _ (Writes tick q m) (writing_writes tick q m) (λ e rule. covered-same _ _)
+space_writes tick ticks q m rule =
+    cond_both (is_write q.access.kind) _ _ (Writes tick q m) (writing_writes tick q m rule) (λ e. covered-same _ _)
 
-abbrev BusWrites : ℕ → Request → Bus → BusAnswer → Type 0
-BusWrites tick q b a =
-    (rule : Rule) → OnlyCovered b.memory a.bus.memory (access_lines tick q (performed_by rule a.answer))
+-- likewise after an access of the bus
+abbrev BusWrites : ℕ → Request → Bus → Outcome Bus → Type 0
+BusWrites tick q b o = Writes tick q b.memory (within (λ (a : Bus). a.memory) o)
 
-carried_writes : (exception tick : ℕ) (b : Bus) (q : Request) → BusWrites tick q b (answered_by_bus exception b q)
-unfolding answered_by_bus
-carried_writes exception tick b q =
-    cond_both (is_probe q.access.kind) _ _ (BusWrites tick q b) (λ e rule. covered-same _ _)
-    (λ asked. cond_both (is_in_ppb q.access.address) _ _ (BusWrites tick q b) (λ e rule. covered-same _ _)
-    (λ e. space_writes tick b.system.time.ticks q b.memory))
-
-decided_writes : (exception tick : ℕ) (b : Bus) (q : Request) (d : Decision) (granted : Bool) →
-    d.granted ≡ granted →
-    OnlyCovered b.memory (decided exception b q d).bus.memory (access_lines tick q (decided exception b q d).performed)
-decided_writes exception tick b q d true e = rw e (carried_writes exception tick b q d.rule)
-decided_writes exception tick b q d false e = rw e (covered-same b.memory _)
+carried_writes : (exception tick : ℕ) (b : Bus) (q : Request) (rule : Rule) →
+    BusWrites tick q b (carried_out exception b rule q)
+unfolding carried_out
+carried_writes exception tick b q rule =
+    cond_both (is_probe q.access.kind) _ _ (BusWrites tick q b) (λ e. covered-same _ _)
+    (λ asked. cond_both (is_in_ppb q.access.address) _ _ (BusWrites tick q b) (λ e. covered-same _ _)
+    (λ e. space_writes tick b.system.time.ticks q b.memory rule))
 
 -- one access
-pub perform_writes : (exception tick : ℕ) (b : Bus) (q : Request) →
-    OnlyCovered b.memory (perform exception b q).bus.memory (access_lines tick q (perform exception b q).performed)
+pub perform_writes : (exception tick : ℕ) (b : Bus) (q : Request) → BusWrites tick q b (perform exception b q)
 unfolding perform
-perform_writes exception tick b q = decided_writes exception tick b q (decision b q) _ refl
+perform_writes exception tick b q =
+    cond_both (decision b q).granted _ _ (BusWrites tick q b)
+    (λ e. carried_writes exception tick b q (decision b q).rule) (λ e. covered-same _ _)
 
 -- ---- the lines of one access
 
-console_unrefused : (tick : ℕ) (q : Request) (out : Bool) → is_out q ≡ out → NoneRefused (console_line tick q)
-console_unrefused tick q true e = rw e (unrefused-cons _ [] refl unrefused-nil)
-console_unrefused tick q false e = rw e unrefused-nil
+console_unrefused : (tick : ℕ) (sent : Option ℕ) → NoneRefused (console_line tick sent)
+console_unrefused tick (Some byte) = unrefused-cons _ [] refl unrefused-nil
+console_unrefused tick None = unrefused-nil
 
 -- the lines of an access end as it does
 pub shown_ends : (tick : ℕ) (q : Request) (p : Performed) → EndIn (failure_in (value_of q p)) (access_lines tick q p)
-shown_ends tick q (performed.Done rule value) = unrefused-cons _ _ refl (console_unrefused tick q _ refl)
+shown_ends tick q (performed.Done access) = unrefused-cons _ _ refl (console_unrefused tick access.sent)
 shown_ends tick q (performed.Denied rule cause) = record {
   unrefused = [];
   refused = accessed tick q rule (Some cause);
@@ -138,4 +133,4 @@ served_well exception tick b [] = record { ends = unrefused-nil; only = covered-
 served_well exception tick b (q ∷ qs) =
     followed_well b.memory _ _ _ _ (shown_ends tick q (perform exception b q).performed)
     (perform_writes exception tick b q)
-    (served_well exception tick (perform exception b q).bus qs)
+    (served_well exception tick (perform exception b q).after qs)

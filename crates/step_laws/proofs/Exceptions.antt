@@ -3,11 +3,11 @@ use Rattle.std.proofs.Common.{◌≡◌, inl, ℕ, Bool, true, false, not, List,
 use Rattle.std.proofs.lemmas.Bool.{cond_both}
 use Rattle.instruction_set.specs.Frames.{has_reserved_ones, popped_pc}
 use Rattle.instruction_set.specs.Words.{is_bit}
-use Rattle.reference.specs.declared.access.Kind.TheVariants.{Vector}
-use Rattle.reference.specs.declared.access.Performed.{Performed}
-use Rattle.reference.specs.declared.access.Performed.TheVariants as performed
-use Rattle.reference.specs.declared.access.Request.{Request}
-use Rattle.reference.specs.declared.event.Event.{Event}
+use Rattle.platform.specs.declared.access.Kind.TheVariants.{Vector}
+use Rattle.platform.specs.declared.access.Performed.{Performed}
+use Rattle.platform.specs.declared.access.Performed.TheVariants as performed
+use Rattle.platform.specs.declared.access.Request.{Request}
+use Rattle.platform.specs.declared.event.Event.{Event}
 use Rattle.reference.specs.declared.failure.Failure.{Failure}
 use Rattle.reference.specs.declared.failure.Failure.TheVariants as failure
 use Rattle.reference.specs.declared.failure.UsageFault.TheVariants.{InvalidReturn}
@@ -15,15 +15,16 @@ use Rattle.reference.specs.Accesses.{ListResult, perform, access_lines, value_of
 use Rattle.reference.specs.ExceptionEntry.{pushes, entering, stacked, begin_entry, vector_read, vector_taken}
 use Rattle.reference.specs.ExceptionEntry.{exception_taken, taken_if_any, take_vector}
 use Rattle.reference.specs.ExceptionReturn.{with_entry, fits_mode, unstacked, frame_read, pops, pop_stack, chained}
-use Rattle.reference.specs.ExceptionReturn.{returned, exception_ended, is_allowed, return_line, exception_return}
-use Rattle.reference.specs.Memory.{Memory}
+use Rattle.reference.specs.ExceptionReturn.{returned, is_allowed, return_line, exception_return}
+use Rattle.platform.specs.System.{exception_ended}
+use Rattle.platform.specs.Memory.{Memory}
 use Rattle.reference.specs.State.{State, with_bus, with_system}
 use Rattle.step_laws.specs.AccessLaw.{OnlyCovered}
 use Rattle.step_laws.proofs.Lines.{unrefused-nil, unrefused-cons, unrefused-append, EndIn, failure_in, ends-append}
 use Rattle.step_laws.proofs.Lines.{covered-append, covered-more}
 use Rattle.step_laws.proofs.Bytes.{perform_writes, shown_ends, ServedWell, served_well}
 use Rattle.step_laws.proofs.Faults.{IsLawful, MayGoOn, at_first, goes_on_lawful, failed_unrefused, failed_lawful}
-use Rattle.step_laws.proofs.Faults.{vector_refused_lawful}
+use Rattle.step_laws.proofs.Faults.{line_added, vector_refused_lawful}
 
 -- ---- entry
 
@@ -44,7 +45,7 @@ entry_lawful s =
 vector_lawful : (old : Memory) (s : State) (x e : ℕ) (events : List Event) (q : Request) (p : Performed) →
     q.access.kind ≡ Vector → EndIn (failure_in (value_of q p)) events → OnlyCovered old s.bus.memory events →
     IsLawful old (vector_taken s events x e (value_of q p))
-vector_lawful old s x e events q (performed.Done rule value) kind end only = record {
+vector_lawful old s x e events q (performed.Done access) kind end only = record {
   one_refusal = inl (unrefused-append events _ end (unrefused-cons _ [] refl unrefused-nil));
   only_covered = covered-more old s.bus.memory events _ only;
 }
@@ -58,7 +59,7 @@ unfolding exception_taken
 taken_lawful s e x =
     let q = vector_read s x in
     let answer = perform s.registers.exception s.bus q in
-    vector_lawful s.bus.memory (with_bus s answer.bus) x e (access_lines s.bus.system.time.ticks q answer.performed) q
+    vector_lawful s.bus.memory (with_bus s answer.after) x e (access_lines s.bus.system.time.ticks q answer.performed) q
     answer.performed refl
     (shown_ends s.bus.system.time.ticks q answer.performed)
     (perform_writes s.registers.exception s.bus.system.time.ticks s.bus q)
@@ -122,10 +123,8 @@ pub return_lawful : (old : Memory) (s : State) (before : List Event) (e : ℕ) �
     IsLawful old (exception_return s before e)
 unfolding exception_return
 return_lawful old s before e ready =
-    let unrefused = unrefused-append before (return_line s e ∷ []) ready.unrefused
-    (unrefused-cons (return_line s e) [] refl unrefused-nil) in
-    let only = covered-more old s.bus.memory before (return_line s e ∷ []) ready.only in
+    let more = line_added old s before (return_line s e) refl ready in
     cond_both (has_reserved_ones e) _ _ (IsLawful old)
     (λ ones. returned_lawful old (with_system s (exception_ended s.bus.system s.registers.exception))
-    (before ++ return_line s e ∷ []) e (is_allowed s e) (record { unrefused = unrefused; only = only }))
-    (λ other. record { one_refusal = inl unrefused; only_covered = only })
+    (before ++ return_line s e ∷ []) e (is_allowed s e) (record { unrefused = more.unrefused; only = more.only }))
+    (λ other. record { one_refusal = inl more.unrefused; only_covered = more.only })

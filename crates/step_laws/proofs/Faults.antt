@@ -8,33 +8,35 @@
 --   access adds it right after the refusal (`refusal_ends`). Both are then carried through escalation
 --   (`escalated_..`), the record of the fault (`faulted_..`) and `failed`; a vector and SVC have lemmas of their own.
 use Rattle.std.proofs.Common.{◌≡◌, ◌⊎◌, inl, inr, ℕ, Bool, true, false, if◌then◌else◌, List, [], ◌∷◌, ◌++◌, bit_and}
-use Rattle.std.proofs.Common.{bit_or, Some, refl, sym, ◌∙◌, ap, subst, append_assoc}
+use Rattle.std.proofs.Common.{bit_or, Some, None, refl, sym, ◌∙◌, ap, subst, append_assoc}
 use Rattle.std.proofs.lemmas.Nat.{and_or_self, and_or_apart}
 use Rattle.std.specs.Int.Bits.{or_zero_r}
-use Rattle.reference.specs.declared.access.Access.{Access}
-use Rattle.reference.specs.declared.access.Cause.{Cause}
-use Rattle.reference.specs.declared.access.Cause.TheVariants.{Mpu, Bus}
-use Rattle.reference.specs.declared.access.Kind.{Kind}
-use Rattle.reference.specs.declared.access.Kind.TheVariants.{Fetch, Load, Store, Push, Pop, Vector, Probe}
-use Rattle.reference.specs.declared.event.Event.{Event}
-use Rattle.reference.specs.declared.event.RecordedFault.{RecordedFault}
-use Rattle.reference.specs.declared.exception.Escalation.{Escalation}
-use Rattle.reference.specs.declared.exception.Escalation.TheVariants.{Itself, HardFault, Lockup}
-use Rattle.reference.specs.declared.exception.TheConstants.{HARD_FAULT, SV_CALL}
+use Rattle.platform.specs.declared.access.Access.{Access}
+use Rattle.platform.specs.declared.access.Cause.{Cause}
+use Rattle.platform.specs.declared.access.Cause.TheVariants.{Mpu, Bus}
+use Rattle.platform.specs.declared.access.Kind.{Kind}
+use Rattle.platform.specs.declared.access.Kind.TheVariants.{Fetch, Load, Store, Push, Pop, Vector, Probe}
+use Rattle.platform.specs.declared.event.Event.{Event}
+use Rattle.platform.specs.declared.event.EventKind.{EventKind}
+use Rattle.platform.specs.declared.event.RecordedFault.{RecordedFault}
+use Rattle.platform.specs.declared.exception.Escalation.{Escalation}
+use Rattle.platform.specs.declared.exception.Escalation.TheVariants.{Itself, HardFault, Lockup}
+use Rattle.platform.specs.declared.exception.TheConstants.{HARD_FAULT, SV_CALL}
 use Rattle.reference.specs.declared.failure.Failure.{Failure}
 use Rattle.reference.specs.declared.failure.Failure.TheVariants as failure
-use Rattle.reference.specs.declared.fault_status.FaultAddress.{FaultAddress}
-use Rattle.reference.specs.declared.fault_status.FaultAddress.TheVariants.{NotKept, Mmfar, Bfar}
-use Rattle.reference.specs.declared.fault_status.FaultEffect.{FaultEffect}
-use Rattle.reference.specs.declared.fault_status.TheConstants.{FORCED}
+use Rattle.platform.specs.declared.fault_status.FaultAddress.{FaultAddress}
+use Rattle.platform.specs.declared.fault_status.FaultAddress.TheVariants.{NotKept, Mmfar, Bfar}
+use Rattle.platform.specs.declared.fault_status.FaultEffect.{FaultEffect}
+use Rattle.platform.specs.declared.fault_status.TheConstants.{FORCED}
+use Rattle.platform.specs.Events.{access_of, is_refused}
 use Rattle.reference.specs.Faults.{access_fault, fault_of, usage_fault_of, vector_fault, with_fault_address, recorded}
 use Rattle.reference.specs.Faults.{fault_line, with_status, pended_by_fault, locked_up, escalated, faulted, failed}
 use Rattle.reference.specs.Faults.{supervisor_called_by, supervisor_called}
-use Rattle.reference.specs.Memory.{Memory}
+use Rattle.platform.specs.Memory.{Memory}
 use Rattle.reference.specs.ExceptionEntry.{vector_refused}
-use Rattle.reference.specs.Priorities.{is_fixed}
+use Rattle.platform.specs.Priorities.{is_fixed}
 use Rattle.reference.specs.State.{State, Stepped}
-use Rattle.reference.specs.Status.{Status, with_fault_bits}
+use Rattle.platform.specs.Status.{Status, with_fault_bits}
 use Rattle.step_laws.specs.AccessLaw.{NoneRefused, IsLineOf, EndsRefused, OneRefusal, OnlyCovered}
 use Rattle.step_laws.proofs.Lines.{unrefused-nil, unrefused-cons, unrefused-append, LastRefused, EndIn, covered-more}
 use Rattle.step_laws.proofs.Lines.{covered-same}
@@ -53,6 +55,20 @@ pub record MayGoOn (old : Memory) (s : State) (events : List Event) : Type 0 whe
 pub at_first : (old : Memory) (s : State) → s.bus.memory ≡ old → MayGoOn old s []
 at_first old s e =
     record { unrefused = unrefused-nil; only = subst (λ m. OnlyCovered old m []) (sym e) (covered-same old []) }
+
+-- an event that is no access isn't a refused one
+unrefused_other : (what : EventKind) → access_of what ≡ None → is_refused what ≡ false
+unrefused_other what other = rw other refl
+
+-- a line that is of no access may be added
+pub line_added : (old : Memory) (s : State) (events : List Event) (e : Event) → access_of e.what ≡ None →
+    MayGoOn old s events → MayGoOn old s (events ++ e ∷ [])
+line_added old s events e other ready = record {
+  unrefused =
+      unrefused-append events (e ∷ []) ready.unrefused
+      (unrefused-cons e [] (unrefused_other e.what other) unrefused-nil);
+  only = covered-more old s.bus.memory events (e ∷ []) ready.only;
+}
 
 -- ---- the line of a fault
 

@@ -4,16 +4,17 @@ use Rattle.std.proofs.Common.{refl, sym, ◌∙◌, ap, subst, append_assoc}
 use Rattle.std.proofs.lemmas.List.Elements.{All-nil, All-cons, All-append}
 use Rattle.std.proofs.lemmas.List.Folds.{list_any-append}
 use Rattle.std.proofs.lemmas.Bool.{or_parts}
-use Rattle.reference.specs.declared.access.Access.{Access}
-use Rattle.reference.specs.declared.access.Cause.{Cause}
-use Rattle.reference.specs.declared.access.Rule.{Rule}
-use Rattle.reference.specs.declared.event.Event.{Event}
-use Rattle.reference.specs.declared.event.EventKind.TheVariants.{Accessed}
+use Rattle.platform.specs.declared.access.Access.{Access}
+use Rattle.platform.specs.declared.access.Cause.{Cause}
+use Rattle.platform.specs.declared.access.Rule.{Rule}
+use Rattle.platform.specs.declared.event.Event.{Event}
+use Rattle.platform.specs.declared.event.EventKind.TheVariants.{Accessed}
 use Rattle.reference.specs.declared.failure.Failure.{Failure}
 use Rattle.reference.specs.declared.failure.Failure.TheVariants.{Refused, Usage, Stop}
-use Rattle.reference.specs.Map.{ram_base}
-use Rattle.reference.specs.Memory.{Memory}
-use Rattle.step_laws.specs.AccessLaw.{is_refused, NoneRefused, covers, are_covering, OnlyCovered, OnlyCoveredFrom}
+use Rattle.platform.specs.Events.{is_refused}
+use Rattle.platform.specs.Map.{ram_base}
+use Rattle.platform.specs.Memory.{Memory}
+use Rattle.step_laws.specs.AccessLaw.{NoneRefused, covers, are_covering, OnlyCovered, OnlyCoveredFrom}
 
 -- ---- refusals
 

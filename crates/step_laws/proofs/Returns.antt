@@ -6,22 +6,24 @@ use Rattle.instruction_set.specs.Frames.{exc_return, frame, frame_base, frame_po
 use Rattle.instruction_set.specs.Frames.{popped, with_frame}
 use Rattle.instruction_set.specs.Registers.{Registers, is_privileged, sp}
 use Rattle.instruction_set.specs.Words.{is_bit}
-use Rattle.reference.specs.declared.event.Event.{Event}
-use Rattle.reference.specs.declared.exception.Escalation.{Escalation}
-use Rattle.reference.specs.declared.exception.Escalation.TheVariants.{Itself, HardFault, Lockup}
+use Rattle.platform.specs.declared.event.Event.{Event}
+use Rattle.platform.specs.declared.exception.Escalation.{Escalation}
+use Rattle.platform.specs.declared.exception.Escalation.TheVariants.{Itself, HardFault, Lockup}
 use Rattle.reference.specs.declared.failure.Failure.{Failure}
 use Rattle.reference.specs.declared.failure.Failure.TheVariants as failure
 use Rattle.reference.specs.declared.failure.UsageFault.TheVariants.{InvalidReturn}
-use Rattle.reference.specs.declared.fault_status.FaultEffect.{FaultEffect}
+use Rattle.platform.specs.declared.fault_status.FaultEffect.{FaultEffect}
 use Rattle.reference.specs.Accesses.{ListResult, perform_all}
 use Rattle.reference.specs.ExceptionEntry.{pushes, entering, begin_entry}
 use Rattle.reference.specs.ExceptionReturn.{with_entry, fits_mode, unstacked, frame_read, returns_privileged, pops}
-use Rattle.reference.specs.ExceptionReturn.{pop_stack, chained, returned, exception_ended, is_allowed, return_line}
+use Rattle.reference.specs.ExceptionReturn.{pop_stack, chained, returned, is_allowed, return_line}
+use Rattle.platform.specs.System.{exception_ended}
 use Rattle.reference.specs.ExceptionReturn.{exception_return}
 use Rattle.reference.specs.Faults.{escalated, faulted, failed}
-use Rattle.reference.specs.Memory.{Memory}
+use Rattle.platform.specs.Memory.{Memory}
 use Rattle.reference.specs.State.{State, Stepped, with_bus, with_system}
-use Rattle.reference.specs.Invariant.{HasRegisters, FlashEndsBelowRam, Invariant}
+use Rattle.reference.specs.Invariant.{HasRegisters, Invariant}
+use Rattle.platform.specs.SystemInvariant.{FlashEndsBelowRam}
 use Rattle.step_laws.specs.FrameLaw.{AreBack, KeepsFrame, IsFree, IsStacked, HasFrameOf, ReturnGivesBack}
 use Rattle.step_laws.proofs.Frames.{gives_back, pushed_sp}
 use Rattle.step_laws.proofs.Stacks.{HoldsWords, AreWords, words_pushed, words_popped, frame_stays}

@@ -4,15 +4,15 @@ use Rattle.std.proofs.Common.{Err, refl, sym, ◌∙◌, ap, subst, arith}
 use Rattle.std.specs.Prelude.{⊤}
 use Rattle.std.proofs.lemmas.Bool.Decides.{nat_tests}
 use Rattle.instruction_set.specs.Words.{word_sum}
-use Rattle.reference.specs.declared.access.Kind.TheVariants.{Push, Pop}
-use Rattle.reference.specs.declared.event.Event.{Event}
+use Rattle.platform.specs.declared.access.Kind.TheVariants.{Push, Pop}
+use Rattle.platform.specs.declared.event.Event.{Event}
 use Rattle.reference.specs.declared.failure.Failure.{Failure}
 use Rattle.reference.specs.Accesses.{ListResult, perform, followed, perform_all}
 use Rattle.reference.specs.ExceptionEntry.{words_from}
-use Rattle.reference.specs.Map.{ram_base}
-use Rattle.reference.specs.Memory.{Memory, byte_at, bytes_of}
+use Rattle.platform.specs.Map.{ram_base}
+use Rattle.platform.specs.Memory.{Memory, byte_at, bytes_of}
 use Rattle.reference.specs.State.{Bus}
-use Rattle.reference.specs.Invariant.{FlashEndsBelowRam}
+use Rattle.platform.specs.SystemInvariant.{FlashEndsBelowRam}
 use Rattle.step_laws.specs.FrameLaw.{KeepsFrame}
 use Rattle.space.proofs.Blocks.{overwritten_keeps}
 use Rattle.step_laws.proofs.Stored.{IsWord, stays_apart, word_written, word_read}
@@ -95,7 +95,7 @@ words_pushed exception tick privileged b a [] apart aligned low none =
 words_pushed exception tick privileged b a (v ∷ vs) apart aligned low none =
     let on = went_on _ _ _ _ none in
     let one = push_done exception b privileged a v on.first on.is in
-    let next = (perform exception b (push_of privileged a v)).bus in
+    let next = (perform exception b (push_of privileged a v)).after in
     let apart_next : FlashEndsBelowRam next.memory = rw one.is (stays_apart b.memory a v apart one.there) in
     let rest =
     words_pushed exception tick privileged next (word_sum a 4) vs apart_next (omega arith) (omega arith) on.none in
@@ -127,7 +127,7 @@ words_popped exception tick privileged b a [] apart holds small none = refl
 words_popped exception tick privileged b a (v ∷ vs) apart holds small none =
     let on = went_on _ _ _ _ none in
     let one = pop_done exception b privileged a on.first on.is in
-    let next = (perform exception b (pop_of privileged a)).bus in
+    let next = (perform exception b (pop_of privileged a)).after in
     let apart_next : FlashEndsBelowRam next.memory = rw one.same apart in
     let holds_next : HoldsWords next.memory (word_sum a 4) vs =
     subst (λ (m : Memory). HoldsWords m (word_sum a 4) vs) (sym one.same) holds.1 in

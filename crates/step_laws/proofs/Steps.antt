@@ -10,17 +10,17 @@ use Rattle.instruction_set.specs.declared.instruction.InstructionLength.TheVaria
 use Rattle.instruction_set.specs.Arithmetic.{condition_passed}
 use Rattle.instruction_set.specs.Decoding.{is_long}
 use Rattle.instruction_set.specs.Words.{word_sum}
-use Rattle.reference.specs.declared.access.Request.{Request}
+use Rattle.platform.specs.declared.access.Request.{Request}
 use Rattle.reference.specs.declared.ending.Ending.{Ending}
 use Rattle.reference.specs.declared.ending.Ending.TheVariants as ending
-use Rattle.reference.specs.declared.event.Event.{Event}
+use Rattle.platform.specs.declared.event.Event.{Event}
 use Rattle.reference.specs.declared.failure.Failure.{Failure}
 use Rattle.reference.specs.declared.failure.Failure.TheVariants as failure
 use Rattle.reference.specs.declared.failure.UsageFault.{UsageFault}
 use Rattle.reference.specs.declared.failure.UsageFault.TheVariants.{UndefinedInstruction, NoCoprocessor, InvalidState}
-use Rattle.reference.specs.declared.stop.Stop.{Stop}
+use Rattle.platform.specs.declared.stop.Stop.{Stop}
 use Rattle.reference.specs.Accesses.{ListResult, perform, access_lines, value_of}
-use Rattle.reference.specs.Memory.{Memory}
+use Rattle.platform.specs.Memory.{Memory}
 use Rattle.reference.specs.Operations.{result_of}
 use Rattle.reference.specs.ProgramCounter.{Finished, moves_on}
 use Rattle.reference.specs.State.{State, ticked, with_bus, with_registers}
@@ -28,7 +28,7 @@ use Rattle.reference.specs.Step.{ended, finished, served, performed_all, planned
 use Rattle.reference.specs.Step.{with_access_lines, fetched_second, with_second, fetched_first, instruction, sleeps_on}
 use Rattle.reference.specs.Step.{phase}
 use Rattle.reference.specs.Step.{running, unless_stopped, step}
-use Rattle.reference.specs.Time.{last_tick}
+use Rattle.platform.specs.Time.{last_tick}
 use Rattle.step_laws.specs.AccessLaw.{OnlyCovered}
 use Rattle.step_laws.proofs.Lines.{unrefused-nil, unrefused-append, EndIn, failure_in, ends-append}
 use Rattle.step_laws.proofs.Lines.{covered-append, covered-same}
@@ -115,7 +115,7 @@ record Fetched (old : Memory) (s : State) (events : List Event) (answer : Result
   only : OnlyCovered old s.bus.memory events
 
 fetch_leaves : (old : Memory) (s : State) (events : List Event) (q : Request) → MayGoOn old s events →
-    Fetched old (with_bus s (perform s.registers.exception s.bus q).bus) (with_access_lines s events q) (value_of q
+    Fetched old (with_bus s (perform s.registers.exception s.bus q).after) (with_access_lines s events q) (value_of q
     (perform s.registers.exception s.bus q).performed)
 fetch_leaves old s events q ready =
     let answer = perform s.registers.exception s.bus q in record {
@@ -124,7 +124,7 @@ fetch_leaves old s events q ready =
           (access_lines s.bus.system.time.ticks q answer.performed) ready.unrefused
           (shown_ends s.bus.system.time.ticks q answer.performed);
       only =
-          covered-append old s.bus.memory answer.bus.memory events
+          covered-append old s.bus.memory answer.after.memory events
           (access_lines s.bus.system.time.ticks q answer.performed)
           ready.only (perform_writes s.registers.exception s.bus.system.time.ticks s.bus q);
     }

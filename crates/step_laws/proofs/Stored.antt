@@ -3,10 +3,10 @@ use Rattle.std.proofs.Common.{◌≡◌, ℕ, zero, suc, ◌+◌, ◌-◌, ◌^�
 use Rattle.std.proofs.Common.{drop, get_or, Some, refl, sym, ◌∙◌, ap, arith}
 use Rattle.std.proofs.lemmas.Bool.Decides.{nat_tests}
 use Rattle.std.proofs.lemmas.List.{length-take, get_or_append_left, get_or-append_right}
-use Rattle.reference.specs.Map.{ram_base}
-use Rattle.reference.specs.Memory.{Memory, is_in_flash, is_in_ram, number_in, number_at, byte_at, bytes_of, with_bytes}
-use Rattle.reference.specs.Memory.{overwritten}
-use Rattle.reference.specs.Invariant.{FlashEndsBelowRam}
+use Rattle.platform.specs.Map.{ram_base}
+use Rattle.platform.specs.Memory.{Memory, is_in_flash, is_in_ram, number_in, number_at, byte_at, bytes_of, with_bytes}
+use Rattle.platform.specs.Memory.{overwritten}
+use Rattle.platform.specs.SystemInvariant.{FlashEndsBelowRam}
 use Rattle.space.proofs.Blocks.{length-with_bytes, length-front}
 
 -- the bytes at an address are those of a word

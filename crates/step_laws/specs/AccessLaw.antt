@@ -3,31 +3,23 @@ use Rattle.std.specs.Prelude.{◌≡◌, ◌⊎◌, ℕ, ◌+◌, nat_le, nat_lt
 use Rattle.std.specs.Prelude.{◌++◌, All, Some, length, slice_index}
 use Rattle.std.specs.List.{list_any}
 use Rattle.instruction_set.specs.Sizes.{bytes_in}
-use Rattle.reference.specs.declared.access.Access.{Access}
-use Rattle.reference.specs.declared.access.Cause.{Cause}
-use Rattle.reference.specs.declared.access.DecidedAccess.{DecidedAccess}
-use Rattle.reference.specs.declared.access.Rule.{Rule}
-use Rattle.reference.specs.declared.event.Event.{Event}
-use Rattle.reference.specs.declared.event.EventKind.{EventKind}
-use Rattle.reference.specs.declared.event.EventKind.TheVariants.{Accessed, ConsoleByte, ReturnBegan, HandlerEntered}
-use Rattle.reference.specs.declared.event.EventKind.TheVariants.{FaultRecorded}
-use Rattle.reference.specs.declared.event.RecordedFault.{RecordedFault}
-use Rattle.reference.specs.declared.exception.TheConstants.{HARD_FAULT}
-use Rattle.reference.specs.declared.fault_status.FaultEffect.{FaultEffect}
+use Rattle.platform.specs.declared.access.Access.{Access}
+use Rattle.platform.specs.declared.access.Cause.{Cause}
+use Rattle.platform.specs.declared.access.DecidedAccess.{DecidedAccess}
+use Rattle.platform.specs.declared.access.Rule.{Rule}
+use Rattle.platform.specs.declared.event.Event.{Event}
+use Rattle.platform.specs.declared.event.EventKind.{EventKind}
+use Rattle.platform.specs.declared.event.EventKind.TheVariants.{Accessed, FaultRecorded}
+use Rattle.platform.specs.declared.event.RecordedFault.{RecordedFault}
+use Rattle.platform.specs.declared.exception.TheConstants.{HARD_FAULT}
+use Rattle.platform.specs.declared.fault_status.FaultEffect.{FaultEffect}
+use Rattle.platform.specs.Events.{is_access_with, is_refused}
 use Rattle.reference.specs.Faults.{fault_of}
-use Rattle.reference.specs.Kinds.{is_write}
-use Rattle.reference.specs.Map.{ram_base}
-use Rattle.reference.specs.Memory.{Memory}
+use Rattle.platform.specs.Kinds.{is_write}
+use Rattle.platform.specs.Map.{ram_base}
+use Rattle.platform.specs.Memory.{Memory}
 
 -- ---- refused accesses
-
--- whether an event is an access that was refused, by a rule or by the bus
-abbrev pub is_refused : EventKind → Bool
-is_refused (Accessed a) = is_some a.refused
-is_refused (ConsoleByte byte) = false
-is_refused (ReturnBegan exc_return) = false
-is_refused (HandlerEntered exception) = false
-is_refused (FaultRecorded fault) = false
 
 -- no access is refused
 abbrev pub NoneRefused : List Event → Type 0
@@ -69,11 +61,7 @@ writes a address =
 
 -- whether an event is such an access
 abbrev pub covers : EventKind → ℕ → Bool
-covers (Accessed a) address = writes a address
-covers (ConsoleByte byte) address = false
-covers (ReturnBegan exc_return) address = false
-covers (HandlerEntered exception) address = false
-covers (FaultRecorded fault) address = false
+covers what address = is_access_with (λ a. writes a address) what
 
 -- whether one of the events is
 abbrev pub are_covering : List Event → ℕ → Bool

@@ -3,12 +3,12 @@ use Rattle.std.specs.Prelude.{◌≡◌, ℕ, ◌<◌, List, slice_index, None}
 use Rattle.instruction_set.specs.Frames.{exc_return, frame, frame_pointer, with_frame, popped}
 use Rattle.instruction_set.specs.Registers.{Registers, is_handler, uses_psp, sp}
 use Rattle.instruction_set.specs.Words.{word_sum}
-use Rattle.reference.specs.declared.event.Event.{Event}
+use Rattle.platform.specs.declared.event.Event.{Event}
 use Rattle.reference.specs.Accesses.{perform_all}
 use Rattle.reference.specs.ExceptionEntry.{pushes, begin_entry}
 use Rattle.reference.specs.ExceptionReturn.{exception_return}
 use Rattle.reference.specs.Invariant.{HasRegisters, Invariant}
-use Rattle.reference.specs.Memory.{Memory, byte_at}
+use Rattle.platform.specs.Memory.{Memory, byte_at}
 use Rattle.reference.specs.State.{State}
 
 -- what a frame keeps of the registers is back: also the mode, which of the two stack pointers SP is, and SP itself

@@ -4,7 +4,7 @@
 
 ghost use Rattle.std.specs.Prelude.{List};
 ghost use Rattle.instruction_set.specs.Registers.{Registers};
-ghost use Rattle.reference.specs.declared.event.Event.{Event};
+ghost use Rattle.platform.specs.declared.event.Event.{Event};
 ghost use Rattle.reference.specs.State.{State};
 ghost use Rattle.reference.specs.Step.{step};
 ghost use Rattle.step_laws.specs.AccessLaw.{OneRefusal, OnlyCovered};

@@ -1,13 +1,12 @@
 -- The lines of the events that a counter counts.
 use Rattle.std.proofs.Common.{◌≡◌, ℕ, Bool, true, Option, refl, ap, ◌∙◌}
 use Rattle.std.proofs.lemmas.Bool.{eqb-true}
-use Rattle.reference.specs.declared.access.Cause.{Cause}
-use Rattle.reference.specs.declared.access.Kind.{Kind}
-use Rattle.reference.specs.declared.access.Rule.{Rule}
-use Rattle.reference.specs.declared.event.EventKind.{EventKind}
-use Rattle.reference.specs.declared.event.EventKind.TheVariants.{Accessed, ConsoleByte, ReturnBegan, HandlerEntered}
-use Rattle.reference.specs.declared.event.EventKind.TheVariants.{FaultRecorded}
-use Rattle.reference.specs.Text.{line, lines}
+use Rattle.platform.specs.declared.access.Cause.{Cause}
+use Rattle.platform.specs.declared.access.Kind.{Kind}
+use Rattle.platform.specs.declared.access.Rule.{Rule}
+use Rattle.platform.specs.declared.event.EventKind.{EventKind}
+use Rattle.platform.specs.declared.event.EventKind.TheVariants.{Accessed}
+use Rattle.platform.specs.Text.{line, lines}
 use Rattle.survey.specs.Counts.{place_of, place_of_access}
 use Rattle.survey.specs.CountLaw.{is_counted_at}
 use Rattle.survey.specs.LineLaw.{CountedHaveLines, EachHasOneLine, IsLineOf, access_line}
@@ -31,10 +30,7 @@ line_is tick (Accessed d) rule privileged kind refused e =
           ∙ ap (λ (k : Kind). access_line tick a z rule privileged k d.refused) same.2
           ∙ ap (λ (o : Option Cause). access_line tick a z rule privileged kind o) same.3;
     }
-line_is tick (ConsoleByte byte) rule privileged kind refused e = absurd cc
-line_is tick (ReturnBegan value) rule privileged kind refused e = absurd cc
-line_is tick (HandlerEntered exception) rule privileged kind refused e = absurd cc
-line_is tick (FaultRecorded fault) rule privileged kind refused e = absurd cc
+line_is tick other rule privileged kind refused e = absurd cc
 
 pub counted_have_lines : CountedHaveLines
 counted_have_lines rule privileged kind refused e counted = line_is e.tick e.what rule privileged kind refused counted

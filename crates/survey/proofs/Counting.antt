@@ -4,14 +4,16 @@ use Rattle.std.proofs.Common.{[], ◌∷◌}
 use Rattle.std.proofs.Common.{◌++◌, length, Option, Some, None, refl, ap, ◌∙◌, arith, get_or}
 use Rattle.std.proofs.lemmas.Bool.Decides.{nat_tests}
 use Rattle.std.proofs.lemmas.Grind.{common_steps}
-use Rattle.reference.specs.declared.access.Cause.{Cause}
-use Rattle.reference.specs.declared.access.Kind.{Kind}
-use Rattle.reference.specs.declared.access.Rule.{Rule}
-use Rattle.reference.specs.declared.event.Event.{Event}
-use Rattle.reference.specs.declared.event.EventKind.{EventKind}
-use Rattle.reference.specs.declared.event.EventKind.TheVariants.{Accessed, ConsoleByte, ReturnBegan, HandlerEntered}
-use Rattle.reference.specs.declared.event.EventKind.TheVariants.{FaultRecorded}
-use Rattle.reference.specs.declared.stop.Stop.{Stop}
+use Rattle.std.specs.Option.{option_map_or}
+use Rattle.platform.specs.declared.access.Cause.{Cause}
+use Rattle.platform.specs.declared.access.DecidedAccess.{DecidedAccess}
+use Rattle.platform.specs.declared.access.Kind.{Kind}
+use Rattle.platform.specs.declared.access.Rule.{Rule}
+use Rattle.platform.specs.declared.event.Event.{Event}
+use Rattle.platform.specs.declared.event.EventKind.{EventKind}
+use Rattle.platform.specs.declared.event.RecordedFault.{RecordedFault}
+use Rattle.platform.specs.declared.stop.Stop.{Stop}
+use Rattle.platform.specs.Events.{access_of, byte_of, recorded_fault_of}
 use Rattle.reference.specs.Run.{after, events_of}
 use Rattle.reference.specs.State.{State}
 use Rattle.reference.specs.Step.{step}
@@ -20,7 +22,7 @@ use Rattle.survey.specs.declared.moment.Moment.{Moment}
 use Rattle.survey.specs.declared.survey.Survey.{Survey}
 use Rattle.survey.specs.Counts.{counted_at, one_more, place_of, place_of_access}
 use Rattle.survey.specs.CountLaw.{CountsEvents, is_counted_at, events_at}
-use Rattle.survey.specs.Surveys.{moment_of, surveyed, unless_stopped, with_event, with_events, with_step}
+use Rattle.survey.specs.Surveys.{moment_of, surveyed, unless_stopped, with_event, with_events, with_parts, with_step}
 use Rattle.survey.specs.Surveys.{with_step_begun}
 
 -- the highest value of a counter
@@ -36,22 +38,25 @@ pub length_counted : (xs : List ℕ) (at : ℕ) → length (counted_at xs at) �
 length_counted xs at = grind (arith, common_steps)
 
 -- what an event makes of a counter
-record Counted (place : ℕ) (v w : Survey) (what : EventKind) : Type 0 where
-  number : get_or w.counts place 0
-      ≡ cond (is_counted_at place what) (one_more (get_or v.counts place 0)) (get_or v.counts place 0)
+record Counted (place : ℕ) (v w : Survey) (is : Bool) : Type 0 where
+  number : get_or w.counts place 0 ≡ cond is (one_more (get_or v.counts place 0)) (get_or v.counts place 0)
   long : length w.counts ≡ length v.counts
 
-event_counted : (m : Moment) (v : Survey) (tick place : ℕ) (what : EventKind) → place < length v.counts
-    → Counted place v (with_event m v tick what) what
-unfolding with_event
-event_counted m v tick place (Accessed d) below = record {
+parts_counted : (m : Moment) (v : Survey) (tick place : ℕ) (access : Option DecidedAccess) (byte : Option ℕ)
+    (fault : Option RecordedFault) → place < length v.counts
+    → Counted place v (with_parts m v tick access byte fault)
+    (option_map_or (λ d. place_of_access d == place) access false)
+parts_counted m v tick place None byte fault below = record { number = refl; long = refl }
+parts_counted m v tick place (Some d) byte fault below = record {
   number = counted_one v.counts (place_of_access d) place below;
   long = length_counted v.counts (place_of_access d);
 }
-event_counted m v tick place (ConsoleByte byte) below = record { number = refl; long = refl }
-event_counted m v tick place (ReturnBegan value) below = record { number = refl; long = refl }
-event_counted m v tick place (HandlerEntered exception) below = record { number = refl; long = refl }
-event_counted m v tick place (FaultRecorded fault) below = record { number = refl; long = refl }
+
+event_counted : (m : Moment) (v : Survey) (tick place : ℕ) (what : EventKind) → place < length v.counts
+    → Counted place v (with_event m v tick what) (is_counted_at place what)
+unfolding with_event
+event_counted m v tick place what below =
+    parts_counted m v tick place (access_of what) (byte_of what) (recorded_fault_of what) below
 
 -- one event, and then k others
 one_then : (b : Bool) (n after k total : ℕ) → n ≤ cap → after ≡ cond b (one_more n) n → total ≡ min (after + k) cap

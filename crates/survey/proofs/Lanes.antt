@@ -4,18 +4,19 @@ use Rattle.std.proofs.Common.{◌++◌, length}
 use Rattle.std.proofs.Common.{Option, Some, None, refl, sym, ap, ◌∙◌, append_assoc, add-zero}
 use Rattle.std.proofs.lemmas.List.{append-nil}
 use Rattle.std.proofs.Math.Nat.{add-suc}
-use Rattle.reference.specs.declared.event.Event.{Event}
-use Rattle.reference.specs.declared.event.EventKind.{EventKind}
-use Rattle.reference.specs.declared.event.EventKind.TheVariants.{Accessed, ConsoleByte, ReturnBegan, HandlerEntered}
-use Rattle.reference.specs.declared.event.EventKind.TheVariants.{FaultRecorded}
-use Rattle.reference.specs.declared.stop.Stop.{Stop}
+use Rattle.platform.specs.declared.access.DecidedAccess.{DecidedAccess}
+use Rattle.platform.specs.declared.event.Event.{Event}
+use Rattle.platform.specs.declared.event.EventKind.{EventKind}
+use Rattle.platform.specs.declared.event.RecordedFault.{RecordedFault}
+use Rattle.platform.specs.declared.stop.Stop.{Stop}
+use Rattle.platform.specs.Events.{access_of, byte_of, recorded_fault_of}
 use Rattle.reference.specs.Run.{after}
 use Rattle.reference.specs.State.{State}
 use Rattle.reference.specs.Step.{step}
 use Rattle.survey.specs.declared.mark.Mark.{Mark}
 use Rattle.survey.specs.declared.moment.Moment.{Moment}
 use Rattle.survey.specs.declared.survey.Survey.{Survey}
-use Rattle.survey.specs.Surveys.{moment_of, surveyed, unless_stopped, with_event, with_events, with_step}
+use Rattle.survey.specs.Surveys.{moment_of, surveyed, unless_stopped, with_event, with_events, with_parts, with_step}
 use Rattle.survey.specs.Surveys.{with_step_begun}
 use Rattle.survey.specs.TimeLaw.{BeginsWith, LanesStay}
 use Rattle.survey.specs.Timeline.{Timeline, begun, lane_in, lanes_after, mark_of_access, marked, marked_by}
@@ -37,14 +38,15 @@ marked_by_lanes : (t : Timeline) (mark : Option Mark) → (marked_by t mark).han
 marked_by_lanes t None = refl
 marked_by_lanes t (Some mark) = marked_lanes t mark
 
+parts_lanes : (m : Moment) (v : Survey) (tick : ℕ) (access : Option DecidedAccess) (byte : Option ℕ)
+    (fault : Option RecordedFault) → (with_parts m v tick access byte fault).timeline.handlers ≡ v.timeline.handlers
+parts_lanes m v tick None byte fault = refl
+parts_lanes m v tick (Some d) byte fault = marked_by_lanes v.timeline (mark_of_access d)
+
 event_lanes : (m : Moment) (v : Survey) (tick : ℕ) (what : EventKind)
     → (with_event m v tick what).timeline.handlers ≡ v.timeline.handlers
 unfolding with_event
-event_lanes m v tick (Accessed d) = marked_by_lanes v.timeline (mark_of_access d)
-event_lanes m v tick (ConsoleByte byte) = refl
-event_lanes m v tick (ReturnBegan value) = refl
-event_lanes m v tick (HandlerEntered exception) = refl
-event_lanes m v tick (FaultRecorded fault) = refl
+event_lanes m v tick what = parts_lanes m v tick (access_of what) (byte_of what) (recorded_fault_of what)
 
 events_lanes : (m : Moment) (v : Survey) (es : List Event)
     → (with_events m v es).timeline.handlers ≡ v.timeline.handlers

@@ -1,13 +1,13 @@
 -- No two accesses that differ in rule, privilege, kind or outcome have one counter.
 use Rattle.std.proofs.Common.{◌≡◌, ℕ, zero, suc, ◌+◌, ◌*◌, ◌<◌, Bool, true, false}
 use Rattle.std.proofs.Common.{Option, Some, None, refl, sym, ap, ◌∙◌, arith}
-use Rattle.reference.specs.declared.access.Cause.{Cause}
-use Rattle.reference.specs.declared.access.Cause.TheVariants.{Mpu, Bus}
-use Rattle.reference.specs.declared.access.Kind.{Kind}
-use Rattle.reference.specs.declared.access.Kind.TheVariants.{Fetch, Load, Store, Push, Pop, Vector, Probe}
-use Rattle.reference.specs.declared.access.Rule.{Rule}
-use Rattle.reference.specs.declared.access.Rule.TheVariants.{NeverExecute, VectorRead, PrivatePeripheralBus, MpuOff}
-use Rattle.reference.specs.declared.access.Rule.TheVariants.{NegativePriority, Region, Background, NoRegion}
+use Rattle.platform.specs.declared.access.Cause.{Cause}
+use Rattle.platform.specs.declared.access.Cause.TheVariants.{Mpu, Bus}
+use Rattle.platform.specs.declared.access.Kind.{Kind}
+use Rattle.platform.specs.declared.access.Kind.TheVariants.{Fetch, Load, Store, Push, Pop, Vector, Probe}
+use Rattle.platform.specs.declared.access.Rule.{Rule}
+use Rattle.platform.specs.declared.access.Rule.TheVariants.{NeverExecute, VectorRead, PrivatePeripheralBus, MpuOff}
+use Rattle.platform.specs.declared.access.Rule.TheVariants.{NegativePriority, Region, Background, NoRegion}
 use Rattle.survey.specs.Counts.{rule_number, privilege_number, kind_number, outcome_number}
 use Rattle.survey.specs.CountLaw.{IsPlaceOfOne}
 

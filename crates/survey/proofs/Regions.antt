@@ -14,47 +14,48 @@ use Rattle.instruction_set.specs.Arithmetic.{condition_passed}
 use Rattle.instruction_set.specs.Decoding.{is_long}
 use Rattle.instruction_set.specs.Frames.{has_reserved_ones, popped_pc}
 use Rattle.instruction_set.specs.Words.{is_bit, word_sum}
-use Rattle.reference.specs.declared.access.Decision.{Decision}
-use Rattle.reference.specs.declared.access.Kind.{Kind}
-use Rattle.reference.specs.declared.access.Kind.TheVariants.{Fetch, Load, Store, Push, Pop, Vector, Probe}
-use Rattle.reference.specs.declared.access.Request.{Request}
-use Rattle.reference.specs.declared.access.Rule.{Rule}
+use Rattle.platform.specs.declared.access.Kind.{Kind}
+use Rattle.platform.specs.declared.access.Kind.TheVariants.{Fetch, Load, Store, Push, Pop, Vector, Probe}
+use Rattle.platform.specs.declared.access.Request.{Request}
+use Rattle.platform.specs.declared.access.Rule.{Rule}
 use Rattle.reference.specs.declared.ending.Ending.{Ending}
 use Rattle.reference.specs.declared.ending.Ending.TheVariants as ending
-use Rattle.reference.specs.declared.event.Event.{Event}
-use Rattle.reference.specs.declared.exception.Escalation.{Escalation}
-use Rattle.reference.specs.declared.exception.Escalation.TheVariants.{Itself, HardFault, Lockup}
-use Rattle.reference.specs.declared.exception.TheConstants.{NMI, SV_CALL}
+use Rattle.platform.specs.declared.event.Event.{Event}
+use Rattle.platform.specs.declared.exception.Escalation.{Escalation}
+use Rattle.platform.specs.declared.exception.Escalation.TheVariants.{Itself, HardFault, Lockup}
+use Rattle.platform.specs.declared.exception.TheConstants.{NMI, SV_CALL}
 use Rattle.reference.specs.declared.failure.Failure.{Failure}
 use Rattle.reference.specs.declared.failure.Failure.TheVariants as failure
 use Rattle.reference.specs.declared.failure.UsageFault.{UsageFault}
 use Rattle.reference.specs.declared.failure.UsageFault.TheVariants.{InvalidReturn, InvalidState, NoCoprocessor}
 use Rattle.reference.specs.declared.failure.UsageFault.TheVariants.{UndefinedInstruction}
-use Rattle.reference.specs.declared.fault_status.FaultEffect.{FaultEffect}
-use Rattle.reference.specs.declared.stop.Stop.{Stop}
-use Rattle.reference.specs.declared.system.SystemRegister.{SystemRegister}
-use Rattle.reference.specs.declared.system.SystemRegister.TheVariants as register
-use Rattle.reference.specs.Accesses.{BusAnswer, ListResult, access_lines, answered_by_bus, decided, decision, followed}
-use Rattle.reference.specs.Accesses.{perform, perform_all, performed_by, value_of}
+use Rattle.platform.specs.declared.fault_status.FaultEffect.{FaultEffect}
+use Rattle.platform.specs.declared.stop.Stop.{Stop}
+use Rattle.platform.specs.declared.system.SystemRegister.{SystemRegister}
+use Rattle.platform.specs.declared.system.SystemRegister.TheVariants as register
+use Rattle.reference.specs.Accesses.{ListResult, access_lines, carried_out, decision, followed, perform, perform_all}
+use Rattle.reference.specs.Accesses.{value_of}
 use Rattle.reference.specs.ExceptionEntry.{begin_entry, entering, exception_taken, pushes, stacked, take_vector}
 use Rattle.reference.specs.ExceptionEntry.{taken_if_any, vector_read, vector_taken}
-use Rattle.reference.specs.ExceptionReturn.{chained, exception_ended, exception_return, fits_mode, frame_read}
+use Rattle.reference.specs.ExceptionReturn.{chained, exception_return, fits_mode, frame_read}
+use Rattle.platform.specs.System.{exception_ended}
 use Rattle.reference.specs.ExceptionReturn.{is_allowed, pop_stack, pops, return_line, returned, unstacked, with_entry}
 use Rattle.reference.specs.Faults.{escalated, failed, fault_of, faulted, recorded, supervisor_called}
 use Rattle.reference.specs.Faults.{supervisor_called_by, usage_fault_of}
-use Rattle.reference.specs.Kinds.{is_load, is_probe, is_store, is_write}
-use Rattle.reference.specs.Map.{is_in_ppb}
+use Rattle.platform.specs.Kinds.{is_load, is_probe, is_store, is_write}
+use Rattle.platform.specs.Map.{is_in_ppb}
 use Rattle.reference.specs.Operations.{result_of}
-use Rattle.reference.specs.Priorities.{is_fixed}
+use Rattle.platform.specs.Outcomes.{Outcome, within}
+use Rattle.platform.specs.Priorities.{is_fixed}
 use Rattle.reference.specs.ProgramCounter.{Finished, moves_on}
-use Rattle.reference.specs.Regions.{Mpu}
+use Rattle.platform.specs.Regions.{Mpu}
 use Rattle.reference.specs.State.{Bus, State, Stepped, ticked, with_bus, with_registers, with_system}
 use Rattle.reference.specs.Step.{ended, executed, fetched_first, fetched_second, fetching, finished, instruction}
 use Rattle.reference.specs.Step.{performed_all, phase, planned, running, served, sleeps_on, step, unless_stopped}
 use Rattle.reference.specs.Step.{with_access_lines, with_second, without_meaning}
-use Rattle.reference.specs.System.{System, SystemAnswer, after_read, after_tick, deactivated, has_access, has_width}
-use Rattle.reference.specs.System.{is_held, register_access, register_at, register_written, replied, system_access}
-use Rattle.reference.specs.Time.{last_tick}
+use Rattle.platform.specs.System.{System, after_read, after_tick, deactivated, has_access, has_width, is_held}
+use Rattle.platform.specs.System.{register_access, register_at, register_written, system_access, write_performed}
+use Rattle.platform.specs.Time.{last_tick}
 use Rattle.survey.specs.RegionLaw.{RegionsStay, some_writes_system, writes_system}
 
 -- ---- events one after another
@@ -78,9 +79,8 @@ store_writes Vector e = absurd cc
 store_writes Probe e = absurd cc
 
 -- an access to the Private Peripheral Bus leaves these registers, unless its event is such a write
-abbrev SystemStays : ℕ → Request → Mpu → SystemAnswer → Type 0
-SystemStays tick q old r =
-    (rule : Rule) → some_writes_system (access_lines tick q (performed_by rule r.answer)) ≡ false → r.system.mpu ≡ old
+abbrev SystemStays : ℕ → Request → Mpu → Outcome System → Type 0
+SystemStays tick q old o = some_writes_system (access_lines tick q o.performed) ≡ false → o.after.mpu ≡ old
 
 read_stays : (s : System) (it : SystemRegister) → (after_read s it).mpu ≡ s.mpu
 unfolding after_read
@@ -92,52 +92,47 @@ read_stays s (register.Status it) = refl
 read_stays s (register.Mpu it) = refl
 read_stays s register.Unlisted = refl
 
-replied_stays : (tick : ℕ) (q : Request) (s : System) (r : Result System Stop) → is_write q.access.kind ≡ true
-    → is_in_ppb q.access.address ≡ true → SystemStays tick q s.mpu (replied s r)
-replied_stays tick q s (Ok after) writing there rule none = absurd cc
-replied_stays tick q s (Err why) writing there rule none = refl
+write_stays : (tick : ℕ) (q : Request) (s : System) (rule : Rule) (r : Result System Stop)
+    → is_write q.access.kind ≡ true → is_in_ppb q.access.address ≡ true
+    → SystemStays tick q s.mpu (write_performed s rule r)
+write_stays tick q s rule (Ok after) writing there none = absurd cc
+write_stays tick q s rule (Err why) writing there none = refl
 
-register_stays : (tick x : ℕ) (s : System) (q : Request) (it : SystemRegister) → is_in_ppb q.access.address ≡ true
-    → SystemStays tick q s.mpu (register_access x s q it)
+register_stays : (tick x : ℕ) (s : System) (rule : Rule) (q : Request) (it : SystemRegister)
+    → is_in_ppb q.access.address ≡ true → SystemStays tick q s.mpu (register_access x s rule q it)
 unfolding register_access
-register_stays tick x s q it there =
-    cond_both (not (has_access s q)) _ _ (SystemStays tick q s.mpu) (λ e rule none. refl)
-    (λ e. cond_both (not (has_width it q.access.size)) _ _ (SystemStays tick q s.mpu) (λ f rule none. refl)
+register_stays tick x s rule q it there =
+    cond_both (not (has_access s q)) _ _ (SystemStays tick q s.mpu) (λ e none. refl)
+    (λ e. cond_both (not (has_width it q.access.size)) _ _ (SystemStays tick q s.mpu) (λ f none. refl)
     (λ f. cond_both (is_store q.access.kind) _ _ (SystemStays tick q s.mpu)
-    (λ g. replied_stays tick q s (register_written s q it) (store_writes q.access.kind g) there)
-    (λ g rule none. read_stays s it)))
+    (λ g. write_stays tick q s rule (register_written s q it) (store_writes q.access.kind g) there)
+    (λ g none. read_stays s it)))
 
-system_stays : (tick x : ℕ) (s : System) (q : Request) → is_in_ppb q.access.address ≡ true
-    → SystemStays tick q s.mpu (system_access x s q)
+system_stays : (tick x : ℕ) (s : System) (rule : Rule) (q : Request) → is_in_ppb q.access.address ≡ true
+    → SystemStays tick q s.mpu (system_access x s rule q)
 unfolding system_access
-system_stays tick x s q there =
+system_stays tick x s rule q there =
     cond_both (is_load q.access.kind || is_store q.access.kind) _ _ (SystemStays tick q s.mpu)
-    (λ e. register_stays tick x s q (register_at (q.access.address / 4 * 4)) there) (λ e rule none. refl)
+    (λ e. register_stays tick x s rule q (register_at (q.access.address / 4 * 4)) there) (λ e none. refl)
 
-abbrev BusStays : ℕ → Request → Mpu → BusAnswer → Type 0
-BusStays tick q old a =
-    (rule : Rule) → some_writes_system (access_lines tick q (performed_by rule a.answer)) ≡ false
-    → a.bus.system.mpu ≡ old
+-- likewise of an access of the bus
+abbrev BusStays : ℕ → Request → Mpu → Outcome Bus → Type 0
+BusStays tick q old o = SystemStays tick q old (within (λ (b : Bus). b.system) o)
 
-carried_stays : (exception tick : ℕ) (b : Bus) (q : Request)
-    → BusStays tick q b.system.mpu (answered_by_bus exception b q)
-unfolding answered_by_bus
-carried_stays exception tick b q =
-    cond_both (is_probe q.access.kind) _ _ (BusStays tick q b.system.mpu) (λ e rule none. refl)
+carried_stays : (exception tick : ℕ) (b : Bus) (rule : Rule) (q : Request)
+    → BusStays tick q b.system.mpu (carried_out exception b rule q)
+unfolding carried_out
+carried_stays exception tick b rule q =
+    cond_both (is_probe q.access.kind) _ _ (BusStays tick q b.system.mpu) (λ e none. refl)
     (λ e. cond_both (is_in_ppb q.access.address) _ _ (BusStays tick q b.system.mpu)
-    (λ there. system_stays tick exception b.system q there) (λ away rule none. refl))
-
-decided_stays : (exception tick : ℕ) (b : Bus) (q : Request) (d : Decision) (granted : Bool) → d.granted ≡ granted
-    → some_writes_system (access_lines tick q (decided exception b q d).performed) ≡ false
-    → (decided exception b q d).bus.system.mpu ≡ b.system.mpu
-decided_stays exception tick b q d true e = rw e (carried_stays exception tick b q d.rule)
-decided_stays exception tick b q d false e = rw e (λ none. refl)
+    (λ there. system_stays tick exception b.system rule q there) (λ away none. refl))
 
 access_stays : (exception tick : ℕ) (b : Bus) (q : Request)
-    → some_writes_system (access_lines tick q (perform exception b q).performed) ≡ false
-    → (perform exception b q).bus.system.mpu ≡ b.system.mpu
+    → BusStays tick q b.system.mpu (perform exception b q)
 unfolding perform
-access_stays exception tick b q = decided_stays exception tick b q (decision b q) _ refl
+access_stays exception tick b q =
+    cond_both (decision b q).granted _ _ (BusStays tick q b.system.mpu)
+    (λ e. carried_stays exception tick b (decision b q).rule q) (λ e none. refl)
 
 -- ---- a list of accesses
 
@@ -157,7 +152,7 @@ unfolding perform_all
 list_stays exception tick b [] none = refl
 list_stays exception tick b (q ∷ qs) none =
     followed_stays b.system.mpu _ _ (value_of q (perform exception b q).performed) _
-    (access_stays exception tick b q) (list_stays exception tick (perform exception b q).bus qs) none
+    (access_stays exception tick b q) (list_stays exception tick (perform exception b q).after qs) none
 
 -- ---- failures
 
@@ -224,8 +219,8 @@ unfolding exception_taken
 taken_stays s e x =
     let q = vector_read s x in
     let answer = perform s.registers.exception s.bus q in
-    vector_stays s.bus.system.mpu (with_bus s answer.bus) (access_lines s.bus.system.time.ticks q answer.performed) x e
-    (value_of q answer.performed) (access_stays s.registers.exception s.bus.system.time.ticks s.bus q)
+    vector_stays s.bus.system.mpu (with_bus s answer.after) (access_lines s.bus.system.time.ticks q answer.performed)
+    x e (value_of q answer.performed) (access_stays s.registers.exception s.bus.system.time.ticks s.bus q)
 
 any_stays : (s : State) (e : ℕ) (next : Option ℕ) → Stays s.bus.system.mpu (taken_if_any s e next)
 any_stays s e None = λ none. refl
@@ -357,7 +352,7 @@ executed_stays old s events length (decoded.Unpredictable place why) h = h
 -- ---- the fetches
 
 fetch_stays : (old : Mpu) (s : State) (events : List Event) (q : Request) → StaysSoFar old s events
-    → StaysSoFar old (with_bus s (perform s.registers.exception s.bus q).bus) (with_access_lines s events q)
+    → StaysSoFar old (with_bus s (perform s.registers.exception s.bus q).after) (with_access_lines s events q)
 fetch_stays old s events q h none =
     access_stays s.registers.exception s.bus.system.time.ticks s.bus q (none_later events _ none)
     ∙ h (none_first events _ none)

@@ -4,12 +4,13 @@ use Rattle.std.proofs.Common.{nat_lt, List, [], ◌∷◌, ◌++◌, length, Opt
 use Rattle.std.proofs.Common.{get_or, set, add-zero}
 use Rattle.std.proofs.lemmas.Bool.{ltb-true, ltb-false}
 use Rattle.std.proofs.lemmas.List.{set_past}
-use Rattle.std.proofs.lemmas.Grind.{common_steps}
-use Rattle.reference.specs.declared.event.Event.{Event}
-use Rattle.reference.specs.declared.event.EventKind.{EventKind}
-use Rattle.reference.specs.declared.event.EventKind.TheVariants.{Accessed, ConsoleByte, ReturnBegan, HandlerEntered}
-use Rattle.reference.specs.declared.event.EventKind.TheVariants.{FaultRecorded}
-use Rattle.reference.specs.declared.stop.Stop.{Stop}
+use Rattle.std.specs.Option.{option_map_or}
+use Rattle.platform.specs.declared.access.DecidedAccess.{DecidedAccess}
+use Rattle.platform.specs.declared.event.Event.{Event}
+use Rattle.platform.specs.declared.event.EventKind.{EventKind}
+use Rattle.platform.specs.declared.event.RecordedFault.{RecordedFault}
+use Rattle.platform.specs.declared.stop.Stop.{Stop}
+use Rattle.platform.specs.Events.{access_of, byte_of, recorded_fault_of}
 use Rattle.reference.specs.Run.{after, events_of}
 use Rattle.reference.specs.State.{State}
 use Rattle.reference.specs.Step.{step}
@@ -19,9 +20,9 @@ use Rattle.survey.specs.declared.moment.Moment.{Moment}
 use Rattle.survey.specs.declared.survey.Survey.{Survey}
 use Rattle.survey.specs.Counts.{counted_at, one_more, place_of_access}
 use Rattle.survey.specs.SumLaw.{OutcomesAddUp, SumCounts, any_access, chosen_in, counters, is_chosen, is_granted}
-use Rattle.survey.specs.SumLaw.{is_refused}
+use Rattle.survey.specs.SumLaw.{is_chosen_access, is_refused}
 use Rattle.survey.specs.SumLaw.{sum_from, sum_of}
-use Rattle.survey.specs.Surveys.{moment_of, surveyed, unless_stopped, with_event, with_events, with_step}
+use Rattle.survey.specs.Surveys.{moment_of, surveyed, unless_stopped, with_event, with_events, with_parts, with_step}
 use Rattle.survey.specs.Surveys.{with_step_begun}
 
 -- the highest value of a counter
@@ -75,18 +76,23 @@ one_added : (chosen : ℕ → Bool) (xs : List ℕ) (at : ℕ) → length xs ≡
     → sum_of chosen (counted_at xs at) ≡ sum_of chosen xs + cond (nat_lt at counters && chosen at) 1 0
 one_added chosen xs at long small = one_by chosen xs at (nat_lt at counters) refl long small
 
+parts_added : (chosen : ℕ → Bool) (m : Moment) (v : Survey) (tick : ℕ) (access : Option DecidedAccess)
+    (byte : Option ℕ) (fault : Option RecordedFault) → length v.counts ≡ counters
+    → sum_of chosen v.counts + cond (option_map_or (is_chosen_access chosen) access false) 1 0 ≤ cap
+    → Added chosen v (with_parts m v tick access byte fault)
+    (cond (option_map_or (is_chosen_access chosen) access false) 1 0)
+parts_added chosen m v tick None byte fault long small = record { sum = sym (add-zero _); long = long }
+parts_added chosen m v tick (Some d) byte fault long small = record {
+  sum = one_added chosen v.counts (place_of_access d) long small;
+  long = length_counted v.counts (place_of_access d) ∙ long;
+}
+
 event_added : (chosen : ℕ → Bool) (m : Moment) (v : Survey) (tick : ℕ) (what : EventKind) → length v.counts ≡ counters
     → sum_of chosen v.counts + cond (is_chosen chosen what) 1 0 ≤ cap
     → Added chosen v (with_event m v tick what) (cond (is_chosen chosen what) 1 0)
 unfolding with_event
-event_added chosen m v tick (Accessed d) long small = record {
-  sum = one_added chosen v.counts (place_of_access d) long small;
-  long = length_counted v.counts (place_of_access d) ∙ long;
-}
-event_added chosen m v tick (ConsoleByte byte) long small = record { sum = sym (add-zero _); long = long }
-event_added chosen m v tick (ReturnBegan value) long small = record { sum = sym (add-zero _); long = long }
-event_added chosen m v tick (HandlerEntered exception) long small = record { sum = sym (add-zero _); long = long }
-event_added chosen m v tick (FaultRecorded fault) long small = record { sum = sym (add-zero _); long = long }
+event_added chosen m v tick what long small =
+    parts_added chosen m v tick (access_of what) (byte_of what) (recorded_fault_of what) long small
 
 -- one event, and then others
 fits_one : (b : Bool) (n k : ℕ) → n + cond b (1 + k) k ≤ cap → n + cond b 1 0 ≤ cap

@@ -4,19 +4,21 @@ use Rattle.std.proofs.Common.{List, []}
 use Rattle.std.proofs.Common.{◌∷◌, Option, Some, None, refl, ap, ◌∙◌, arith, get_or, add-one, inl, inr}
 use Rattle.std.proofs.lemmas.Bool.{lt-ltb, eq-eqb, ne_eqb, cases_eq}
 use Rattle.std.proofs.Math.Bool.{or_assoc, or-false}
+use Rattle.std.specs.Option.{option_map_or}
 use Rattle.instruction_set.specs.Words.{is_bit}
-use Rattle.reference.specs.declared.event.Event.{Event}
-use Rattle.reference.specs.declared.event.EventKind.{EventKind}
-use Rattle.reference.specs.declared.event.EventKind.TheVariants.{Accessed, ConsoleByte, ReturnBegan, HandlerEntered}
-use Rattle.reference.specs.declared.event.EventKind.TheVariants.{FaultRecorded}
-use Rattle.reference.specs.declared.stop.Stop.{Stop}
+use Rattle.platform.specs.declared.access.DecidedAccess.{DecidedAccess}
+use Rattle.platform.specs.declared.event.Event.{Event}
+use Rattle.platform.specs.declared.event.EventKind.{EventKind}
+use Rattle.platform.specs.declared.event.RecordedFault.{RecordedFault}
+use Rattle.platform.specs.declared.stop.Stop.{Stop}
+use Rattle.platform.specs.Events.{access_of, byte_of, recorded_fault_of}
 use Rattle.reference.specs.Run.{after}
 use Rattle.reference.specs.State.{State}
 use Rattle.reference.specs.Step.{step}
 use Rattle.survey.specs.declared.mark.Mark.{Mark}
 use Rattle.survey.specs.declared.moment.Moment.{Moment}
 use Rattle.survey.specs.declared.survey.Survey.{Survey}
-use Rattle.survey.specs.Surveys.{moment_of, surveyed, unless_stopped, with_event, with_events, with_step}
+use Rattle.survey.specs.Surveys.{moment_of, surveyed, unless_stopped, with_event, with_events, with_parts, with_step}
 use Rattle.survey.specs.Surveys.{with_step_begun}
 use Rattle.survey.specs.TimeLaw.{IsBlank, TimelineShows, event_makes, events_make, is_mark, makes, some_makes}
 use Rattle.survey.specs.TimeLaw.{step_makes, ticks_in}
@@ -55,16 +57,21 @@ mark_if : (f : ℕ → Bool) (k n last : ℕ) (more : Bool) (t : Timeline) (mark
 mark_if f k n last more t None before = rw (or-false more) before
 mark_if f k n last more t (Some mark) before = one_mark f k n last more t mark before
 
+parts_marked : (f : ℕ → Bool) (k n last : ℕ) (more : Bool) (m : Moment) (v : Survey) (tick : ℕ)
+    (access : Option DecidedAccess) (byte : Option ℕ) (fault : Option RecordedFault)
+    → Marking f k n last more v.timeline
+    → Marking f k n last (more || option_map_or (λ d. is_mark k (mark_of_access d)) access false)
+    (with_parts m v tick access byte fault).timeline
+parts_marked f k n last more m v tick None byte fault before = rw (or-false more) before
+parts_marked f k n last more m v tick (Some d) byte fault before =
+    mark_if f k n last more v.timeline (mark_of_access d) before
+
 event_marked : (f : ℕ → Bool) (k n last : ℕ) (more : Bool) (m : Moment) (v : Survey) (tick : ℕ) (what : EventKind)
     → Marking f k n last more v.timeline
     → Marking f k n last (more || event_makes k what) (with_event m v tick what).timeline
 unfolding with_event
-event_marked f k n last more m v tick (Accessed d) before =
-    mark_if f k n last more v.timeline (mark_of_access d) before
-event_marked f k n last more m v tick (ConsoleByte byte) before = rw (or-false more) before
-event_marked f k n last more m v tick (ReturnBegan value) before = rw (or-false more) before
-event_marked f k n last more m v tick (HandlerEntered exception) before = rw (or-false more) before
-event_marked f k n last more m v tick (FaultRecorded fault) before = rw (or-false more) before
+event_marked f k n last more m v tick what before =
+    parts_marked f k n last more m v tick (access_of what) (byte_of what) (recorded_fault_of what) before
 
 events_marked : (f : ℕ → Bool) (k n last : ℕ) (more : Bool) (m : Moment) (v : Survey) (es : List Event)
     → Marking f k n last more v.timeline

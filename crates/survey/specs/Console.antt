@@ -1,5 +1,5 @@
 -- What the firmware printed: the first 65,536 bytes, and the number of all.
-use Rattle.std.specs.Prelude.{ℕ, ◌+◌, nat_lt, if◌then◌else◌, List, slice_set}
+use Rattle.std.specs.Prelude.{ℕ, ◌+◌, nat_lt, if◌then◌else◌, List, Option, Some, None, slice_set}
 use Rattle.survey.specs.Counts.{one_more}
 
 -- What was printed so far. Of the 65,536 places of `bytes` the first `used` are bytes that were printed.
@@ -21,3 +21,8 @@ kept c byte =
 -- after a byte that was printed
 abbrev pub with_byte : Console → ℕ → Console
 with_byte c byte = kept (record c { number = one_more c.number }) byte
+
+-- after a byte that was printed, if there is one
+abbrev pub with_any_byte : Console → Option ℕ → Console
+with_any_byte c None = c
+with_any_byte c (Some byte) = with_byte c byte

@@ -1,13 +1,12 @@
 -- What the counters of a survey are: numbers of events.
-use Rattle.std.specs.Prelude.{◌≡◌, ℕ, ◌+◌, ◌-◌, ◌^◌, ◌<◌, ◌≤◌, min, Bool, false, ◌==◌, List, [], ◌∷◌}
+use Rattle.std.specs.Prelude.{◌≡◌, ℕ, ◌+◌, ◌-◌, ◌^◌, ◌<◌, ◌≤◌, min, Bool, ◌==◌, List, [], ◌∷◌}
 use Rattle.std.specs.Prelude.{length, slice_index, if◌then◌else◌, Option}
-use Rattle.reference.specs.declared.access.Cause.{Cause}
-use Rattle.reference.specs.declared.access.Kind.{Kind}
-use Rattle.reference.specs.declared.access.Rule.{Rule}
-use Rattle.reference.specs.declared.event.Event.{Event}
-use Rattle.reference.specs.declared.event.EventKind.{EventKind}
-use Rattle.reference.specs.declared.event.EventKind.TheVariants.{Accessed, ConsoleByte, ReturnBegan, HandlerEntered}
-use Rattle.reference.specs.declared.event.EventKind.TheVariants.{FaultRecorded}
+use Rattle.platform.specs.declared.access.Cause.{Cause}
+use Rattle.platform.specs.declared.access.Kind.{Kind}
+use Rattle.platform.specs.declared.access.Rule.{Rule}
+use Rattle.platform.specs.declared.event.Event.{Event}
+use Rattle.platform.specs.declared.event.EventKind.{EventKind}
+use Rattle.platform.specs.Events.{is_access_with}
 use Rattle.reference.specs.Run.{events_of}
 use Rattle.reference.specs.State.{State}
 use Rattle.survey.specs.declared.survey.Survey.{Survey}
@@ -16,11 +15,7 @@ use Rattle.survey.specs.Surveys.{surveyed}
 
 -- an event is an access that is counted at a place
 abbrev pub is_counted_at : ℕ → EventKind → Bool
-is_counted_at place (Accessed d) = place_of_access d == place
-is_counted_at place (ConsoleByte byte) = false
-is_counted_at place (ReturnBegan value) = false
-is_counted_at place (HandlerEntered exception) = false
-is_counted_at place (FaultRecorded fault) = false
+is_counted_at place what = is_access_with (λ d. place_of_access d == place) what
 
 -- how many of some events are accesses that are counted at a place
 abbrev pub events_at : ℕ → List Event → ℕ

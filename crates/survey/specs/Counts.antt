@@ -1,14 +1,14 @@
 -- How many accesses there were of each rule, privilege, kind and outcome.
 use Rattle.std.specs.Prelude.{ℕ, ◌+◌, ◌*◌, ◌^◌, ◌-◌, min, Bool, true, false, List, Option, Some, None, slice_index}
 use Rattle.std.specs.Prelude.{slice_set}
-use Rattle.reference.specs.declared.access.Cause.{Cause}
-use Rattle.reference.specs.declared.access.Cause.TheVariants.{Mpu, Bus}
-use Rattle.reference.specs.declared.access.DecidedAccess.{DecidedAccess}
-use Rattle.reference.specs.declared.access.Kind.{Kind}
-use Rattle.reference.specs.declared.access.Kind.TheVariants.{Fetch, Load, Store, Push, Pop, Vector, Probe}
-use Rattle.reference.specs.declared.access.Rule.{Rule}
-use Rattle.reference.specs.declared.access.Rule.TheVariants.{NeverExecute, VectorRead, PrivatePeripheralBus, MpuOff}
-use Rattle.reference.specs.declared.access.Rule.TheVariants.{NegativePriority, Region, Background, NoRegion}
+use Rattle.platform.specs.declared.access.Cause.{Cause}
+use Rattle.platform.specs.declared.access.Cause.TheVariants.{Mpu, Bus}
+use Rattle.platform.specs.declared.access.DecidedAccess.{DecidedAccess}
+use Rattle.platform.specs.declared.access.Kind.{Kind}
+use Rattle.platform.specs.declared.access.Kind.TheVariants.{Fetch, Load, Store, Push, Pop, Vector, Probe}
+use Rattle.platform.specs.declared.access.Rule.{Rule}
+use Rattle.platform.specs.declared.access.Rule.TheVariants.{NeverExecute, VectorRead, PrivatePeripheralBus, MpuOff}
+use Rattle.platform.specs.declared.access.Rule.TheVariants.{NegativePriority, Region, Background, NoRegion}
 
 -- the number of a rule: the rules that are no region from 0 to 6, and then the regions by their numbers
 abbrev pub rule_number : Rule → ℕ

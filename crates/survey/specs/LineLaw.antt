@@ -1,12 +1,12 @@
 -- Which lines of the trace a counter stands for.
 use Rattle.std.specs.Prelude.{◌≡◌, ℕ, Bool, true, List, ◌∷◌, ◌++◌, Option}
 use Rattle.instruction_set.specs.declared.size.Size.{Size}
-use Rattle.reference.specs.declared.access.Cause.{Cause}
-use Rattle.reference.specs.declared.access.Kind.{Kind}
-use Rattle.reference.specs.declared.access.Rule.{Rule}
-use Rattle.reference.specs.declared.event.Event.{Event}
-use Rattle.reference.specs.declared.event.EventKind.TheVariants.{Accessed}
-use Rattle.reference.specs.Text.{line, lines}
+use Rattle.platform.specs.declared.access.Cause.{Cause}
+use Rattle.platform.specs.declared.access.Kind.{Kind}
+use Rattle.platform.specs.declared.access.Rule.{Rule}
+use Rattle.platform.specs.declared.event.Event.{Event}
+use Rattle.platform.specs.declared.event.EventKind.TheVariants.{Accessed}
+use Rattle.platform.specs.Text.{line, lines}
 use Rattle.survey.specs.Counts.{place_of}
 use Rattle.survey.specs.CountLaw.{is_counted_at}
 

@@ -2,9 +2,9 @@
 use Rattle.std.specs.Prelude.{ℕ, ◌+◌, ◌-◌, Bool, true, false, ◌&&◌, ◌==◌, nat_lt, if◌then◌else◌, List, Option}
 use Rattle.std.specs.Prelude.{Some, None, slice_set, slice_index_or}
 use Rattle.instruction_set.specs.Sizes.{bytes_in}
-use Rattle.reference.specs.declared.access.Cause.{Cause}
-use Rattle.reference.specs.declared.access.DecidedAccess.{DecidedAccess}
-use Rattle.reference.specs.declared.event.RecordedFault.{RecordedFault}
+use Rattle.platform.specs.declared.access.Cause.{Cause}
+use Rattle.platform.specs.declared.access.DecidedAccess.{DecidedAccess}
+use Rattle.platform.specs.declared.event.RecordedFault.{RecordedFault}
 use Rattle.survey.specs.declared.refusal.Refusal.{Refusal}
 use Rattle.survey.specs.Counts.{one_more, place_of_access}
 
@@ -59,6 +59,11 @@ with_fault_of r (Some refusal) fault = record r { current = Some (record refusal
 
 abbrev pub with_fault : Refusals → RecordedFault → Refusals
 with_fault r fault = with_fault_of r r.current fault
+
+-- after a fault that is recorded, if there is one
+abbrev pub with_any_fault : Refusals → Option RecordedFault → Refusals
+with_any_fault r None = r
+with_any_fault r (Some fault) = with_fault r fault
 
 -- the row that came last, of those that are used; the first place where none is
 abbrev pub last_row : Refusals → Refusal → Refusal

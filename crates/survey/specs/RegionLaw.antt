@@ -1,13 +1,12 @@
 -- When the registers of the MPU stay as they are.
 use Rattle.std.specs.Prelude.{◌≡◌, Bool, false, not, ◌&&◌, is_some, List}
 use Rattle.std.specs.List.{list_any}
-use Rattle.reference.specs.declared.access.DecidedAccess.{DecidedAccess}
-use Rattle.reference.specs.declared.event.Event.{Event}
-use Rattle.reference.specs.declared.event.EventKind.{EventKind}
-use Rattle.reference.specs.declared.event.EventKind.TheVariants.{Accessed, ConsoleByte, ReturnBegan, HandlerEntered}
-use Rattle.reference.specs.declared.event.EventKind.TheVariants.{FaultRecorded}
-use Rattle.reference.specs.Kinds.{is_write}
-use Rattle.reference.specs.Map.{is_in_ppb}
+use Rattle.platform.specs.declared.access.DecidedAccess.{DecidedAccess}
+use Rattle.platform.specs.declared.event.Event.{Event}
+use Rattle.platform.specs.declared.event.EventKind.{EventKind}
+use Rattle.platform.specs.Events.{is_access_with}
+use Rattle.platform.specs.Kinds.{is_write}
+use Rattle.platform.specs.Map.{is_in_ppb}
 use Rattle.reference.specs.State.{State}
 use Rattle.reference.specs.Step.{step}
 
@@ -17,11 +16,7 @@ is_system_write d = is_write d.access.kind && (is_in_ppb d.access.address && not
 
 -- whether an event is such a write
 abbrev pub writes_system : EventKind → Bool
-writes_system (Accessed d) = is_system_write d
-writes_system (ConsoleByte byte) = false
-writes_system (ReturnBegan value) = false
-writes_system (HandlerEntered exception) = false
-writes_system (FaultRecorded fault) = false
+writes_system what = is_access_with is_system_write what
 
 -- whether one of these events is
 abbrev pub some_writes_system : List Event → Bool

@@ -1,11 +1,11 @@
 -- The settings under which regions decided accesses, and how many accesses each of them decided.
 use Rattle.std.specs.Prelude.{ℕ, ◌+◌, Bool, ◌&&◌, ◌==◌, nat_lt, if◌then◌else◌, List, [], ◌∷◌, Option, Some}
 use Rattle.std.specs.Prelude.{None, slice_set, slice_index_or, take, replicate}
-use Rattle.reference.specs.declared.access.DecidedAccess.{DecidedAccess}
-use Rattle.reference.specs.declared.access.Rule.{Rule}
-use Rattle.reference.specs.declared.access.Rule.TheVariants.{NeverExecute, VectorRead, PrivatePeripheralBus, MpuOff}
-use Rattle.reference.specs.declared.access.Rule.TheVariants.{NegativePriority, Region, Background, NoRegion}
-use Rattle.reference.specs.Regions.{Mpu, shown}
+use Rattle.platform.specs.declared.access.DecidedAccess.{DecidedAccess}
+use Rattle.platform.specs.declared.access.Rule.{Rule}
+use Rattle.platform.specs.declared.access.Rule.TheVariants.{NeverExecute, VectorRead, PrivatePeripheralBus, MpuOff}
+use Rattle.platform.specs.declared.access.Rule.TheVariants.{NegativePriority, Region, Background, NoRegion}
+use Rattle.platform.specs.Regions.{Mpu, shown}
 use Rattle.survey.specs.declared.setting.RegionSetting.{RegionSetting}
 use Rattle.survey.specs.declared.setting.Setting.{Setting}
 use Rattle.survey.specs.Counts.{counted_at, one_more, way_of}

@@ -1,11 +1,11 @@
 -- What sums of counters are: numbers of accesses.
-use Rattle.std.specs.Prelude.{◌≡◌, ℕ, ◌+◌, ◌-◌, ◌%◌, ◌^◌, ◌≤◌, Bool, true, false, not, ◌&&◌, ◌==◌, nat_lt, List, []}
+use Rattle.std.specs.Prelude.{◌≡◌, ℕ, ◌+◌, ◌-◌, ◌%◌, ◌^◌, ◌≤◌, Bool, true, not, ◌&&◌, ◌==◌, nat_lt, List, []}
 use Rattle.std.specs.Prelude.{◌∷◌}
 use Rattle.std.specs.Prelude.{length, if◌then◌else◌}
-use Rattle.reference.specs.declared.event.Event.{Event}
-use Rattle.reference.specs.declared.event.EventKind.{EventKind}
-use Rattle.reference.specs.declared.event.EventKind.TheVariants.{Accessed, ConsoleByte, ReturnBegan, HandlerEntered}
-use Rattle.reference.specs.declared.event.EventKind.TheVariants.{FaultRecorded}
+use Rattle.platform.specs.declared.access.DecidedAccess.{DecidedAccess}
+use Rattle.platform.specs.declared.event.Event.{Event}
+use Rattle.platform.specs.declared.event.EventKind.{EventKind}
+use Rattle.platform.specs.Events.{is_access_with}
 use Rattle.reference.specs.Run.{events_of}
 use Rattle.reference.specs.State.{State}
 use Rattle.survey.specs.declared.survey.Survey.{Survey}
@@ -24,14 +24,14 @@ sum_from chosen place (n ∷ ns) = (if chosen place then n else 0) + sum_from ch
 abbrev pub sum_of : (ℕ → Bool) → List ℕ → ℕ
 sum_of chosen counts = sum_from chosen 0 counts
 
--- an event is an access that is counted at a chosen place; one that a region decides has a counter if its number is a
--- byte, as the numbers of regions are
+-- an access is counted at a chosen place; one that a region decides has a counter if its number is a byte, as the
+-- numbers of regions are
+abbrev pub is_chosen_access : (ℕ → Bool) → DecidedAccess → Bool
+is_chosen_access chosen d = nat_lt (place_of_access d) counters && chosen (place_of_access d)
+
+-- an event is such an access
 abbrev pub is_chosen : (ℕ → Bool) → EventKind → Bool
-is_chosen chosen (Accessed d) = nat_lt (place_of_access d) counters && chosen (place_of_access d)
-is_chosen chosen (ConsoleByte byte) = false
-is_chosen chosen (ReturnBegan value) = false
-is_chosen chosen (HandlerEntered exception) = false
-is_chosen chosen (FaultRecorded fault) = false
+is_chosen chosen what = is_access_with (is_chosen_access chosen) what
 
 -- how many of some events are such accesses
 abbrev pub chosen_in : (ℕ → Bool) → List Event → ℕ

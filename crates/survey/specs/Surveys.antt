@@ -1,21 +1,21 @@
 -- What a run did, counted: a fold over the events of the reference machine's steps.
 use Rattle.std.specs.Prelude.{ℕ, zero, suc, List, [], ◌∷◌, Option, Some, None}
 use Rattle.instruction_set.specs.Registers.{is_privileged}
-use Rattle.reference.specs.declared.access.DecidedAccess.{DecidedAccess}
-use Rattle.reference.specs.declared.event.Event.{Event}
-use Rattle.reference.specs.declared.event.EventKind.{EventKind}
-use Rattle.reference.specs.declared.event.EventKind.TheVariants.{Accessed, ConsoleByte, ReturnBegan, HandlerEntered}
-use Rattle.reference.specs.declared.event.EventKind.TheVariants.{FaultRecorded}
-use Rattle.reference.specs.declared.stop.Stop.{Stop}
+use Rattle.platform.specs.declared.access.DecidedAccess.{DecidedAccess}
+use Rattle.platform.specs.declared.event.Event.{Event}
+use Rattle.platform.specs.declared.event.EventKind.{EventKind}
+use Rattle.platform.specs.declared.event.RecordedFault.{RecordedFault}
+use Rattle.platform.specs.declared.stop.Stop.{Stop}
+use Rattle.platform.specs.Events.{access_of, byte_of, recorded_fault_of}
 use Rattle.reference.specs.Run.{after}
 use Rattle.reference.specs.State.{State}
 use Rattle.reference.specs.Step.{step}
 use Rattle.survey.specs.declared.moment.Moment.{Moment}
 use Rattle.survey.specs.declared.survey.Survey.{Survey}
 use Rattle.survey.specs.Cells.{with_touch}
-use Rattle.survey.specs.Console.{with_byte}
+use Rattle.survey.specs.Console.{with_any_byte}
 use Rattle.survey.specs.Counts.{one_more, with_access}
-use Rattle.survey.specs.Refusals.{with_decided, with_fault, with_end}
+use Rattle.survey.specs.Refusals.{with_any_fault, with_decided, with_end}
 use Rattle.survey.specs.Settings.{with_decision}
 use Rattle.survey.specs.Timeline.{with_accessed_mark, with_tick}
 
@@ -40,13 +40,19 @@ with_accessed m v tick d = record v {
   timeline = with_accessed_mark v.timeline d;
 }
 
+-- a survey after an event that is no access: a byte that was printed, a fault that was recorded, or neither
+abbrev pub with_other : Survey → Option ℕ → Option RecordedFault → Survey
+with_other v byte fault =
+    record v { console = with_any_byte v.console byte; refusals = with_any_fault v.refusals fault }
+
+-- a survey after an event, by its access or else its byte or its fault
+abbrev pub with_parts : Moment → Survey → ℕ → Option DecidedAccess → Option ℕ → Option RecordedFault → Survey
+with_parts m v tick None byte fault = with_other v byte fault
+with_parts m v tick (Some d) byte fault = with_accessed m v tick d
+
 -- a survey after an event of a step that began at a moment
 unfoldable pub with_event : Moment → Survey → ℕ → EventKind → Survey
-with_event m v tick (Accessed d) = with_accessed m v tick d
-with_event m v tick (ConsoleByte byte) = record v { console = with_byte v.console byte }
-with_event m v tick (ReturnBegan value) = v
-with_event m v tick (HandlerEntered exception) = v
-with_event m v tick (FaultRecorded fault) = record v { refusals = with_fault v.refusals fault }
+with_event m v tick what = with_parts m v tick (access_of what) (byte_of what) (recorded_fault_of what)
 
 -- a survey after events of such a step, in their order
 abbrev pub with_events : Moment → Survey → List Event → Survey

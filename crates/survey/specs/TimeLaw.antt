@@ -2,10 +2,9 @@
 use Rattle.std.specs.Prelude.{◌≡◌, ℕ, zero, suc, ◌+◌, ◌*◌, ◌^◌, ◌<◌, Bool, false, ◌||◌, ◌==◌, List, [], ◌∷◌, ◌++◌}
 use Rattle.std.specs.Prelude.{length}
 use Rattle.std.specs.Prelude.{if◌then◌else◌, Option, Some, None}
-use Rattle.reference.specs.declared.event.Event.{Event}
-use Rattle.reference.specs.declared.event.EventKind.{EventKind}
-use Rattle.reference.specs.declared.event.EventKind.TheVariants.{Accessed, ConsoleByte, ReturnBegan, HandlerEntered}
-use Rattle.reference.specs.declared.event.EventKind.TheVariants.{FaultRecorded}
+use Rattle.platform.specs.declared.event.Event.{Event}
+use Rattle.platform.specs.declared.event.EventKind.{EventKind}
+use Rattle.platform.specs.Events.{is_access_with}
 use Rattle.reference.specs.Run.{after}
 use Rattle.reference.specs.State.{State}
 use Rattle.reference.specs.Step.{step}
@@ -21,11 +20,7 @@ is_mark number (Some mark) = mark_number mark == number
 
 -- an event makes the mark of a number
 abbrev pub event_makes : ℕ → EventKind → Bool
-event_makes number (Accessed d) = is_mark number (mark_of_access d)
-event_makes number (ConsoleByte byte) = false
-event_makes number (ReturnBegan value) = false
-event_makes number (HandlerEntered exception) = false
-event_makes number (FaultRecorded fault) = false
+event_makes number what = is_access_with (λ d. is_mark number (mark_of_access d)) what
 
 -- some of these events makes it
 abbrev pub events_make : ℕ → List Event → Bool

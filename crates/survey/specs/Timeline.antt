@@ -3,9 +3,9 @@ use Rattle.std.specs.Prelude.{◌≡◌, ℕ, zero, suc, ◌+◌, ◌-◌, ◌*�
 use Rattle.std.specs.Prelude.{if◌then◌else◌, List, [], ◌∷◌, ◌++◌, length, replicate, slice_set, slice_index}
 use Rattle.std.specs.Prelude.{Option, Some, None, bit_or}
 use Rattle.instruction_set.specs.Words.{is_bit}
-use Rattle.reference.specs.declared.access.Cause.{Cause}
-use Rattle.reference.specs.declared.access.DecidedAccess.{DecidedAccess}
-use Rattle.reference.specs.Kinds.{is_write}
+use Rattle.platform.specs.declared.access.Cause.{Cause}
+use Rattle.platform.specs.declared.access.DecidedAccess.{DecidedAccess}
+use Rattle.platform.specs.Kinds.{is_write}
 use Rattle.survey.specs.declared.mark.Mark.{Mark}
 use Rattle.survey.specs.declared.mark.Mark.TheVariants.{Unprivileged, Privileged, Sleep, Refused, MpuWritten}
 use Rattle.survey.specs.declared.mark.Mark.TheVariants.{OtherHandler, Handler}

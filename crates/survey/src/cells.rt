@@ -5,7 +5,7 @@ ghost use Rattle.survey.specs.Cells.{is_marked, mark_of, touched, touched_at, to
 
 use crate::counts::privilege_number;
 use crate::touch::Touch;
-use reference::access::DecidedAccess;
+use platform::access::DecidedAccess;
 use std::alloc::{AllocError, Global};
 use std::marker::Model;
 

@@ -1,7 +1,7 @@
 //! What the firmware printed.
 
 ghost use Rattle.std.specs.Prelude.{◌≡◌, ◌≤◌, length, take, IfOk};
-ghost use Rattle.survey.specs.Console.{with_byte};
+ghost use Rattle.survey.specs.Console.{with_any_byte, with_byte};
 
 use std::alloc::{AllocError, Global};
 use std::marker::Model;
@@ -55,6 +55,17 @@ impl Console {
         ensures { result ≡ self.now.number }
     {
         self.number
+    }
+
+    /// Takes a byte that was printed, if there is one.
+    #[inline(always)]
+    pub fn take_any_byte(&mut self, byte: Option<u8>)
+        ensures { self.new ≡ with_any_byte self.old byte }
+    {
+        match byte {
+            None => {}
+            Some(byte) => self.take_byte(byte),
+        }
     }
 
     /// Takes a byte that was printed.

@@ -4,7 +4,7 @@ ghost use Rattle.std.specs.Prelude.{◌≡◌, ◌<◌, ◌+◌, length, replica
 ghost use Rattle.survey.specs.Counts.{counted_at, kind_number, number_of, outcome_number, place_of, place_of_access};
 ghost use Rattle.survey.specs.Counts.{privilege_number, rule_number, way_of, with_access};
 
-use reference::access::{Cause, DecidedAccess, Kind, Rule};
+use platform::access::{Cause, DecidedAccess, Kind, Rule};
 use std::alloc::{AllocError, Global};
 use std::marker::Model;
 

@@ -3,7 +3,7 @@
 ghost use Rattle.std.specs.Prelude.{◌≡◌, ◌<◌, ◌≤◌, IfSome};
 ghost use Rattle.survey.specs.Timeline.{handler_mark, mark_number, mark_of_access};
 
-use reference::access::DecidedAccess;
+use platform::access::DecidedAccess;
 
 /// How many exceptions have lanes of their own at most.
 pub const MOST_LANES: usize = 24;

@@ -4,8 +4,8 @@ ghost use Rattle.std.specs.Prelude.{◌≡◌};
 ghost use Rattle.survey.specs.RegionLaw.{writes_system};
 
 use mpu::MpuRegs;
-use reference::event::EventKind;
-use reference::map::is_in_ppb;
+use platform::event::EventKind;
+use platform::map::is_in_ppb;
 
 /// What a survey takes from the state in which a step begins.
 #[derive(Clone, Copy)]
@@ -28,15 +28,12 @@ pub struct Moment {
 pub fn writes_system(what: &EventKind) -> bool
     ensures { result ≡ writes_system what.now }
 {
-    match what {
-        EventKind::Accessed(decided) => {
+    match what.access() {
+        Some(decided) => {
             decided.access.kind.is_write()
                 && is_in_ppb(decided.access.address)
                 && decided.refused.is_none()
         }
-        EventKind::ConsoleByte(_) => false,
-        EventKind::ReturnBegan(_) => false,
-        EventKind::HandlerEntered(_) => false,
-        EventKind::FaultRecorded(_) => false,
+        None => false,
     }
 }

@@ -1,8 +1,8 @@
 //! An access that was refused.
 
 use instruction_set::size::Size;
-use reference::access::{Access, DecidedAccess, Kind, Rule};
-use reference::event::RecordedFault;
+use platform::access::{Access, DecidedAccess, Kind, Rule};
+use platform::event::RecordedFault;
 
 /// An access that was refused, and the fault that followed it.
 #[derive(Clone, Copy)]

@@ -1,13 +1,13 @@
 //! The accesses that were refused.
 
-ghost use Rattle.std.specs.Prelude.{◌≡◌, ◌<◌, ◌≤◌, length, take, IfOk, None};
-ghost use Rattle.survey.specs.Refusals.{is_same, is_same_access, is_same_fault, with_decided, with_end, with_fault};
-ghost use Rattle.survey.specs.Refusals.{with_refusal};
+ghost use Rattle.std.specs.Prelude.{◌≡◌, ◌<◌, ◌≤◌, length, take, IfOk, None, option_copied};
+ghost use Rattle.survey.specs.Refusals.{is_same, is_same_access, is_same_fault, with_any_fault, with_decided};
+ghost use Rattle.survey.specs.Refusals.{with_end, with_fault, with_refusal};
 
 use crate::counts::place_of_access;
 use crate::refusal::Refusal;
-use reference::access::DecidedAccess;
-use reference::event::RecordedFault;
+use platform::access::DecidedAccess;
+use platform::event::RecordedFault;
 use std::alloc::{AllocError, Global};
 use std::marker::Model;
 
@@ -80,6 +80,17 @@ impl Refusals {
                     times: 1,
                 });
             }
+        }
+    }
+
+    /// Takes a fault that was recorded, if there is one.
+    #[inline(always)]
+    pub fn take_any_fault(&mut self, fault: Option<&RecordedFault>)
+        ensures { self.new ≡ with_any_fault self.old (option_copied fault.entry) }
+    {
+        match fault {
+            None => {}
+            Some(fault) => self.take_fault(fault),
         }
     }
 

@@ -5,7 +5,7 @@ ghost use Rattle.survey.specs.Counts.{way_of};
 ghost use Rattle.survey.specs.Settings.{blank_row, counted_row, is_of};
 
 use crate::counts::{WAYS, way};
-use reference::access::{Cause, Kind};
+use platform::access::{Cause, Kind};
 
 /// The setting of a region.
 #[derive(Clone, Copy)]

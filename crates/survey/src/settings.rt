@@ -1,13 +1,13 @@
 //! The settings under which regions decided accesses.
 
 ghost use Rattle.std.specs.Prelude.{◌≡◌, ◌<◌, length, take, IfOk};
-ghost use Rattle.reference.specs.Regions.{shown};
+ghost use Rattle.platform.specs.Regions.{shown};
 ghost use Rattle.survey.specs.Settings.{added, counted_from, place_in, setting_of, with_decision, with_setting};
 
 use crate::counts::{WAYS, way};
 use crate::setting::{RegionSetting, Setting};
 use mpu::MpuRegs;
-use reference::access::{DecidedAccess, Rule};
+use platform::access::{DecidedAccess, Rule};
 use std::alloc::{AllocError, Global};
 use std::marker::Model;
 

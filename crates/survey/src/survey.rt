@@ -1,8 +1,10 @@
 //! A survey, and what one event adds to it.
 
 ghost use Rattle.std.specs.Prelude.{◌≡◌, IfOk, None, replicate};
+ghost use Rattle.platform.specs.Events.{byte_of, recorded_fault_of};
 ghost use Rattle.survey.specs.Cells.{IsUntouched};
-ghost use Rattle.survey.specs.Surveys.{with_accessed, with_event, with_events, with_step_begun, with_step_end};
+ghost use Rattle.survey.specs.Surveys.{with_accessed, with_event, with_events, with_other, with_step_begun};
+ghost use Rattle.survey.specs.Surveys.{with_step_end};
 ghost use Rattle.survey.specs.Timeline.{HasNoTicks};
 
 use crate::cells::Cells;
@@ -13,10 +15,10 @@ use crate::refusals::Refusals;
 use crate::settings::Settings;
 use crate::timeline::Timeline;
 use crate::touch::Touch;
-use reference::access::DecidedAccess;
-use reference::board::Layout;
-use reference::event::{Event, EventKind};
-use reference::map::RAM_BASE;
+use platform::access::DecidedAccess;
+use platform::board::Layout;
+use platform::event::{Event, EventKind};
+use platform::map::RAM_BASE;
 use std::alloc::{AllocError, Global};
 
 /// What the steps of a machine did so far, counted.
@@ -99,13 +101,19 @@ impl Survey {
     pub fn take(&mut self, moment: &Moment, tick: u64, what: &EventKind)
         ensures { self.new ≡ with_event moment.now self.old tick what.now }
     {
-        match what {
-            EventKind::Accessed(decided) => self.take_access(moment, tick, decided),
-            EventKind::ConsoleByte(byte) => self.console.take_byte(*byte),
-            EventKind::ReturnBegan(_) => {}
-            EventKind::HandlerEntered(_) => {}
-            EventKind::FaultRecorded(fault) => self.refusals.take_fault(fault),
+        match what.access() {
+            Some(decided) => self.take_access(moment, tick, decided),
+            None => self.take_other(what),
         }
+    }
+
+    /// Counts an event that is no access: a byte that was printed, a fault that was recorded, or neither.
+    #[inline(always)]
+    fn take_other(&mut self, what: &EventKind)
+        ensures { self.new ≡ with_other self.old (byte_of what.now) (recorded_fault_of what.now) }
+    {
+        self.console.take_any_byte(what.byte());
+        self.refusals.take_any_fault(what.recorded_fault());
     }
 
     /// Counts an access of a step that began at a moment.

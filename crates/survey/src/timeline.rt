@@ -8,7 +8,7 @@ ghost use Rattle.survey.specs.Timeline.{with_accessed_mark, with_column, with_ha
 use crate::mark::{MOST_LANES, Mark};
 use crate::moment::Moment;
 use bounded::Bounded;
-use reference::access::DecidedAccess;
+use platform::access::DecidedAccess;
 use std::alloc::{AllocError, Global};
 use std::marker::Model;
 

@@ -3,7 +3,7 @@
 ghost use Rattle.std.specs.Prelude.{◌≡◌, ◌<◌};
 ghost use Rattle.survey.specs.Cells.{touch_number, touch_of};
 
-use reference::access::{Cause, Kind};
+use platform::access::{Cause, Kind};
 
 /// What an access does to the memory that it touches.
 #[derive(Clone, Copy)]

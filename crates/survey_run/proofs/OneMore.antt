@@ -1,7 +1,7 @@
 -- A survey of one event more, and the moment of the next step.
 use Rattle.std.proofs.Common.{◌≡◌, Bool, true, false, ◌||◌, List, [], ◌∷◌, ◌++◌, refl, sym, ap, ◌∙◌}
 use Rattle.std.proofs.lemmas.List.{map-append}
-use Rattle.reference.specs.declared.event.Event.{Event}
+use Rattle.platform.specs.declared.event.Event.{Event}
 use Rattle.reference.specs.State.{State}
 use Rattle.reference.specs.Step.{step}
 use Rattle.survey.proofs.Regions.{regions_stay}

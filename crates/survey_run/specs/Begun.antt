@@ -1,7 +1,7 @@
 -- What a step begins with, and the events so far.
 use Rattle.std.specs.Prelude.{ℕ, List, map, [], None, false}
-use Rattle.reference.specs.declared.event.Event.{Event}
-use Rattle.reference.specs.Regions.{fresh}
+use Rattle.platform.specs.declared.event.Event.{Event}
+use Rattle.platform.specs.Regions.{fresh}
 use Rattle.trace.specs.Emission.{Emission}
 use Rattle.survey.specs.declared.moment.Moment.{Moment}
 use Rattle.survey.specs.declared.survey.Survey.{Survey}

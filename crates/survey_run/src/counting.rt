@@ -10,7 +10,7 @@ ghost use Rattle.survey_run.specs.Begun.{emission, events_of, no_moment, no_surv
 
 use machine::{Decider, DueTicks, KeptCode, Levels, Machine};
 use output::History;
-use reference::event::{Event, EventKind};
+use platform::event::{Event, EventKind};
 use std::marker::{Brand, PhantomData};
 use survey::{Moment, Survey, writes_system};
 use trace::sink::Sink;

@@ -9,20 +9,22 @@ use Rattle.std.proofs.Common.{◌≡◌, ◌⊎◌, inl, inr, ℕ, ◌+◌, Bool
 use Rattle.std.proofs.Common.{Result, Ok, Err, refl, sym, ap, subst, ◌∙◌}
 use Rattle.std.proofs.lemmas.Bool.{or_right}
 use Rattle.instruction_set.specs.Sizes.{bytes_in}
-use Rattle.reference.specs.declared.access.Answer.{Answer}
-use Rattle.reference.specs.declared.access.Decision.{Decision}
-use Rattle.reference.specs.declared.access.Kind.{Kind}
-use Rattle.reference.specs.declared.access.Kind.TheVariants.{Fetch, Load, Store, Probe}
-use Rattle.reference.specs.declared.access.Request.{Request}
-use Rattle.reference.specs.declared.event.Event.{Event}
+use Rattle.platform.specs.declared.access.Decision.{Decision}
+use Rattle.platform.specs.declared.access.Kind.{Kind}
+use Rattle.platform.specs.declared.access.Kind.TheVariants.{Fetch, Load, Store, Probe}
+use Rattle.platform.specs.declared.access.Performed.{Performed}
+use Rattle.platform.specs.declared.access.Request.{Request}
+use Rattle.platform.specs.declared.access.Rule.{Rule}
+use Rattle.platform.specs.declared.event.Event.{Event}
 use Rattle.reference.specs.declared.failure.Failure.{Failure}
-use Rattle.reference.specs.Accesses.{BusAnswer, AccessResult, ListResult, answered_by_bus, answered_under, decided}
-use Rattle.reference.specs.Accesses.{decision, lifted, access_lines, perform, value_of, followed, perform_all}
-use Rattle.reference.specs.Kinds.{is_probe, is_write}
-use Rattle.reference.specs.Map.{is_in_ppb, is_in_window}
-use Rattle.reference.specs.Memory.{Memory, is_in_ram, bytes_of}
-use Rattle.reference.specs.Regions.{Mpu, IsSound}
-use Rattle.reference.specs.Space.{SpaceAnswer, number_read, written_to, space_access}
+use Rattle.reference.specs.Accesses.{ListResult, carried_out, decision, access_lines, perform, value_of, followed}
+use Rattle.reference.specs.Accesses.{perform_all}
+use Rattle.platform.specs.Kinds.{is_probe, is_write}
+use Rattle.platform.specs.Map.{is_in_ppb, is_in_window}
+use Rattle.platform.specs.Memory.{Memory, is_in_ram, bytes_of}
+use Rattle.platform.specs.Outcomes.{Outcome, within}
+use Rattle.platform.specs.Regions.{Mpu, IsSound}
+use Rattle.platform.specs.Space.{number_read, written_to, space_access}
 use Rattle.reference.specs.State.{Bus}
 use Rattle.task_laws.specs.Sight.{may, sees, Agree}
 use Rattle.task_laws.specs.TaskLaw.{IsOfTask, AreOfTask}
@@ -93,17 +95,9 @@ is_open m z q sound of granted = split of.kind
 abbrev pub with_memory_of : Bus → Memory → Bus
 with_memory_of b k = record b { memory = k }
 
--- an answer of them with another memory
-abbrev space_with : SpaceAnswer → Memory → SpaceAnswer
-space_with a k = record a { memory = k }
-
--- an answer of the bus with another memory
-abbrev answer_with : BusAnswer → Memory → BusAnswer
-answer_with a k = record a { bus = with_memory_of a.bus k }
-
--- the result of an access with another memory
-abbrev pub result_with : AccessResult → Memory → AccessResult
-result_with a k = record a { bus = with_memory_of a.bus k }
+-- the outcome of an access with another memory
+abbrev pub outcome_with : Outcome Bus → Memory → Outcome Bus
+outcome_with o k = record o { after = with_memory_of o.after k }
 
 -- the result of a list with another memory
 abbrev pub list_with : ListResult → Memory → ListResult
@@ -118,97 +112,80 @@ module _ (m : Mpu) (z : Bool) (old : Memory) where
     pub kept : Agree (denies m z) old b.memory
     pub decides : Decides m z b.system
 
+  -- the outcomes of two accesses: they differ only in memory
+  pub record SameOutcome (one two : Outcome Bus) : Type 0 where
+    pub rest : two ≡ outcome_with one two.after.memory
+    pub alike : Alike one.after two.after.memory
+
   -- ---- flash, RAM and the device window
 
-  -- two answers of them: they differ only in memory
-  record SameSpace (one two : SpaceAnswer) : Type 0 where
-    rest : two ≡ space_with one two.memory
-    looks : Agree (sees m z) one.memory two.memory
-    kept : Agree (denies m z) old one.memory
+  -- two outcomes of memory, as outcomes of the bus b: they differ only in memory
+  abbrev SameSpace : Bus → Outcome Memory → Outcome Memory → Type 0
+  SameSpace b one two = SameOutcome (within (with_memory_of b) one) (within (with_memory_of b) two)
 
-  write_alike : (b : Bus) (k : Memory) (q : Request) → Alike b k → Granted m z Store q →
-      SameSpace (written_to b.memory q) (written_to k q)
-  write_alike b k q alike granted =
+  write_alike : (b : Bus) (k : Memory) (rule : Rule) (q : Request) → Alike b k → Granted m z Store q →
+      SameSpace b (written_to b.memory rule q) (written_to k rule q)
+  write_alike b k rule q alike granted =
       let bytes = bytes_of (bytes_in q.access.size) q.value in
       let long = length-bytes_of (bytes_in q.access.size) q.value in
-      both SameSpace (is_in_window q.access.address) _ _ _ _
-      (λ e. record { rest = refl; looks = alike.looks; kept = alike.kept })
+      both (SameSpace b) (is_in_window q.access.address) _ _ _ _ (λ e. record { rest = refl; alike = alike })
       (λ e. rw alike.looks.ram.size
-      (both SameSpace (is_in_ram b.memory q.access.address (bytes_in q.access.size)) _ _ _ _
+      (both (SameSpace b) (is_in_ram b.memory q.access.address (bytes_in q.access.size)) _ _ _ _
       (λ there. record {
         rest = refl;
-        looks = written_alike (sees m z) b.memory k q.access.address bytes (rw long there) alike.looks;
-        kept =
-            agree_then (denies m z) old b.memory _ alike.kept
-            (rest_kept (may m z Store) b.memory q.access.address bytes (rw long there) (rw long granted));
+        alike = record {
+          looks = written_alike (sees m z) b.memory k q.access.address bytes (rw long there) alike.looks;
+          kept =
+              agree_then (denies m z) old b.memory _ alike.kept
+              (rest_kept (may m z Store) b.memory q.access.address bytes (rw long there) (rw long granted));
+          decides = alike.decides;
+        };
       })
-      (λ f. record { rest = refl; looks = alike.looks; kept = alike.kept })))
+      (λ f. record { rest = refl; alike = alike })))
 
-  space_alike : (b : Bus) (k : Memory) (ticks : ℕ) (q : Request) → Alike b k → IsOpen m z q →
-      is_probe q.access.kind ≡ false → SameSpace (space_access b.memory ticks q) (space_access k ticks q)
+  space_alike : (b : Bus) (k : Memory) (ticks : ℕ) (rule : Rule) (q : Request) → Alike b k → IsOpen m z q →
+      is_probe q.access.kind ≡ false →
+      SameSpace b (space_access b.memory ticks rule q) (space_access k ticks rule q)
   unfolding space_access
-  space_alike b k ticks q alike opened unprobed =
-      both SameSpace (is_write q.access.kind) _ _ _ _ (λ e. write_alike b k q alike (opened.writes e))
+  space_alike b k ticks rule q alike opened unprobed =
+      both (SameSpace b) (is_write q.access.kind) _ _ _ _ (λ e. write_alike b k rule q alike (opened.writes e))
       (λ e. record {
         rest =
-            ap (λ (a : Answer). record { memory = k; answer = a })
-            (both (λ (one two : Answer). two ≡ one) (is_in_window q.access.address) _ _ _ _ (λ f. refl)
-            (λ f. ap number_read
+            ap (λ (p : Performed). record { after = with_memory_of b k; performed = p })
+            (both (λ (one two : Performed). two ≡ one) (is_in_window q.access.address) _ _ _ _ (λ f. refl)
+            (λ f. ap (number_read rule)
             (number_alike (sees m z) b.memory k q.access.address (bytes_in q.access.size) alike.looks
             (opened.reads unprobed e))));
-        looks = alike.looks;
-        kept = alike.kept;
+        alike = alike;
       })
 
-  -- ---- the bus
+  -- ---- the bus, and one access
 
-  -- two answers of the bus: they differ only in memory
-  record SameAnswer (one two : BusAnswer) : Type 0 where
-    rest : two ≡ answer_with one two.bus.memory
-    alike : Alike one.bus two.bus.memory
-
-  carried_alike : (x : ℕ) (b : Bus) (k : Memory) (q : Request) → IsOfTask q → Alike b k → IsOpen m z q →
-      SameAnswer (answered_by_bus x b q) (answered_by_bus x (with_memory_of b k) q)
-  unfolding answered_by_bus
-  carried_alike x b k q of alike opened =
-      both SameAnswer (is_probe q.access.kind) _ _ _ _ (λ e. record { rest = refl; alike = alike })
-      (λ e. both SameAnswer (is_in_ppb q.access.address) _ _ _ _
+  carried_alike : (x : ℕ) (b : Bus) (k : Memory) (rule : Rule) (q : Request) → IsOfTask q → Alike b k →
+      IsOpen m z q → SameOutcome (carried_out x b rule q) (carried_out x (with_memory_of b k) rule q)
+  unfolding carried_out
+  carried_alike x b k rule q of alike opened =
+      both SameOutcome (is_probe q.access.kind) _ _ _ _ (λ e. record { rest = refl; alike = alike })
+      (λ e. both SameOutcome (is_in_ppb q.access.address) _ _ _ _
       (λ f. record {
         rest = refl;
         alike = record {
           looks = alike.looks;
           kept = alike.kept;
-          decides = system_decides m z x b.system q of.unprivileged alike.decides;
+          decides = system_decides m z x b.system rule q of.unprivileged alike.decides;
         };
       })
-      (λ f. let here = space_alike b k b.system.time.ticks q alike opened e in
-      record {
-        rest = ap (lifted b) here.rest;
-        alike = record { looks = here.looks; kept = here.kept; decides = alike.decides };
-      }))
-
-  -- ---- one access
-
-  -- the results of two accesses: they differ only in memory
-  pub record SameResult (one two : AccessResult) : Type 0 where
-    pub rest : two ≡ result_with one two.bus.memory
-    pub alike : Alike one.bus two.bus.memory
-
-  by_decision : (x : ℕ) (b : Bus) (k : Memory) (q : Request) (d : Decision) (granted : Bool) → d.granted ≡ granted →
-      IsOfTask q → Alike b k → (d.granted ≡ true → IsOpen m z q) →
-      SameResult (decided x b q d) (decided x (with_memory_of b k) q d)
-  by_decision x b k q d true e of alike opened =
-      let here = carried_alike x b k q of alike (opened e) in
-      rw e (record { rest = ap (answered_under d.rule) here.rest; alike = here.alike })
-  by_decision x b k q d false e of alike opened = rw e (record { rest = refl; alike = alike })
+      (λ f. space_alike b k b.system.time.ticks rule q alike opened e))
 
   -- an access of unprivileged code
   pub perform_alike : (x : ℕ) (b : Bus) (k : Memory) (q : Request) → IsSound m → IsOfTask q → Alike b k →
-      SameResult (perform x b q) (perform x (with_memory_of b k) q)
+      SameOutcome (perform x b q) (perform x (with_memory_of b k) q)
   unfolding perform
   perform_alike x b k q sound of alike =
-      by_decision x b k q (decision b q) _ refl of alike
-      (λ granted. is_open m z q sound of (rw (alike.decides.mpu, alike.decides.below_zero, of.unprivileged) at granted))
+      both SameOutcome (decision b q).granted _ _ _ _
+      (λ granted. carried_alike x b k (decision b q).rule q of alike
+      (is_open m z q sound of (rw (alike.decides.mpu, alike.decides.below_zero, of.unprivileged) at granted)))
+      (λ refused. record { rest = refl; alike = alike })
 
   -- ---- a list of accesses
 
@@ -232,11 +209,12 @@ module _ (m : Mpu) (z : Bool) (old : Memory) where
   all_alike x tick b k (q ∷ qs) sound of alike =
       let one = perform x b q in
       let two = perform x (with_memory_of b k) q in
-      let here : SameResult one two = perform_alike x b k q sound of.0 alike in
+      let here : SameOutcome one two = perform_alike x b k q sound of.0 alike in
       subst
-      (λ (a : AccessResult). SameList
-      (followed (access_lines tick q one.performed) one.bus (value_of q one.performed) (perform_all x tick one.bus qs))
-      (followed (access_lines tick q a.performed) a.bus (value_of q a.performed) (perform_all x tick a.bus qs)))
+      (λ (o : Outcome Bus). SameList
+      (followed (access_lines tick q one.performed) one.after (value_of q one.performed)
+      (perform_all x tick one.after qs))
+      (followed (access_lines tick q o.performed) o.after (value_of q o.performed) (perform_all x tick o.after qs)))
       (sym here.rest)
-      (followed_alike _ one.bus two.bus.memory (value_of q one.performed) _ _ here.alike
-      (all_alike x tick one.bus two.bus.memory qs sound of.1 here.alike))
+      (followed_alike _ one.after two.after.memory (value_of q one.performed) _ _ here.alike
+      (all_alike x tick one.after two.after.memory qs sound of.1 here.alike))

@@ -1,13 +1,13 @@
 -- An Instruction step, by the parts of a state on which the kind of the next step depends.
 use Rattle.std.proofs.Common.{◌≡◌, ℕ, nat_le, Bool, true, false, if◌then◌else◌, [], Option, Some, None, refl, sym, ap}
 use Rattle.std.proofs.Common.{◌∙◌}
-use Rattle.reference.specs.declared.stop.LeftOut.TheVariants.{ClockEnd}
-use Rattle.reference.specs.declared.stop.Stop.{Stop}
-use Rattle.reference.specs.declared.stop.Stop.TheVariants as stop
-use Rattle.reference.specs.Priorities.{candidate}
+use Rattle.platform.specs.declared.stop.LeftOut.TheVariants.{ClockEnd}
+use Rattle.platform.specs.declared.stop.Stop.{Stop}
+use Rattle.platform.specs.declared.stop.Stop.TheVariants as stop
+use Rattle.platform.specs.Priorities.{candidate}
 use Rattle.reference.specs.State.{State, stopped, ticked}
 use Rattle.reference.specs.Step.{goes_on, instruction, phase, sleeps_on, step, unless_stopped}
-use Rattle.reference.specs.Time.{last_tick}
+use Rattle.platform.specs.Time.{last_tick}
 use Rattle.task_laws.specs.declared.foresight.StepKind.{StepKind}
 use Rattle.task_laws.specs.declared.foresight.StepKind.TheVariants as kind
 use Rattle.task_laws.specs.Foresight.{kind_after, kind_of_running, kind_unless_stopped, next_kind_of, is_instruction}

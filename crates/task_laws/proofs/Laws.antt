@@ -2,15 +2,15 @@
 use Rattle.std.proofs.Common.{◌≡◌, ℕ, zero, suc, Bool, true, List, ◌++◌, refl, sym, ap, subst, ◌∙◌}
 use Rattle.std.proofs.Common.{arith, add-one, below_more}
 use Rattle.std.proofs.lemmas.Bool.{and_from, and_parts}
-use Rattle.reference.specs.declared.access.Request.{Request}
-use Rattle.reference.specs.declared.event.Event.{Event}
-use Rattle.reference.specs.Accesses.{AccessResult}
+use Rattle.platform.specs.declared.access.Request.{Request}
+use Rattle.platform.specs.declared.event.Event.{Event}
 use Rattle.reference.specs.Invariant.{Invariant}
-use Rattle.reference.specs.Memory.{Memory}
-use Rattle.reference.specs.Priorities.{is_below_zero}
-use Rattle.reference.specs.Regions.{Mpu}
+use Rattle.platform.specs.Memory.{Memory}
+use Rattle.platform.specs.Outcomes.{Outcome}
+use Rattle.platform.specs.Priorities.{is_below_zero}
+use Rattle.platform.specs.Regions.{Mpu}
 use Rattle.reference.specs.Run.{after, events_of}
-use Rattle.reference.specs.State.{State, Stepped, with_bus}
+use Rattle.reference.specs.State.{Bus, State, Stepped, with_bus}
 use Rattle.reference.specs.Step.{step}
 use Rattle.state_laws.proofs.Ends.{step_keeps}
 use Rattle.task_laws.specs.declared.task.TaskEnd.{TaskEnd}
@@ -47,11 +47,11 @@ access_here s k q inv looks of =
     let both =
     perform_alike _ _ s.bus.memory s.registers.exception s.bus k q inv.system.regions of (alike_first s k looks) in
     record {
-      answer = ap (λ (a : AccessResult). a.performed) both.rest;
+      answer = ap (λ (o : Outcome Bus). o.performed) both.rest;
       same =
           same_by _ _ (performed_in s q) (performed_in (with_memory s k) q) both.alike.decides (record {
             memory = both.alike.looks;
-            rest = ap (λ (a : AccessResult). with_bus s a.bus) both.rest;
+            rest = ap (λ (o : Outcome Bus). with_bus s o.after) both.rest;
           });
       kept = both.alike.kept;
     }

@@ -5,22 +5,24 @@ use Rattle.std.proofs.lemmas.Bool.{cond_both, and_parts}
 use Rattle.instruction_set.specs.Sizes.{is_word}
 use Rattle.nvic.proofs.BelowZero.{below_zero}
 use Rattle.nvic.proofs.Changes.{pended_kept}
-use Rattle.reference.specs.declared.access.Request.{Request}
-use Rattle.reference.specs.declared.exception.TheConstants.{FIRST_INTERRUPT}
-use Rattle.reference.specs.declared.system.ControlRegister.TheVariants as control
-use Rattle.reference.specs.declared.system.SystemRegister.{SystemRegister}
-use Rattle.reference.specs.declared.system.SystemRegister.TheVariants as register
-use Rattle.reference.specs.Control.{control_at, write_control}
-use Rattle.reference.specs.Handlers.{handler_priority_at}
-use Rattle.reference.specs.Interrupts.{interrupts_at, interrupt_priority_at, stir_address, triggered}
-use Rattle.reference.specs.Kinds.{is_load, is_store}
-use Rattle.reference.specs.Priorities.{Nvic, with_pending, is_below_zero}
-use Rattle.reference.specs.Regions.{Mpu}
-use Rattle.reference.specs.Status.{status_at, usersetmpend}
-use Rattle.reference.specs.SysTickRegisters.{systick_at}
-use Rattle.reference.specs.System.{System, SystemAnswer, register_at, has_access, has_width, after_read}
-use Rattle.reference.specs.System.{register_written, register_access, system_access, with_pended, after_tick}
-use Rattle.reference.specs.Time.{tick_pends}
+use Rattle.platform.specs.declared.access.Request.{Request}
+use Rattle.platform.specs.declared.access.Rule.{Rule}
+use Rattle.platform.specs.declared.exception.TheConstants.{FIRST_INTERRUPT}
+use Rattle.platform.specs.declared.system.ControlRegister.TheVariants as control
+use Rattle.platform.specs.declared.system.SystemRegister.{SystemRegister}
+use Rattle.platform.specs.declared.system.SystemRegister.TheVariants as register
+use Rattle.platform.specs.Control.{control_at, write_control}
+use Rattle.platform.specs.Handlers.{handler_priority_at}
+use Rattle.platform.specs.Interrupts.{interrupts_at, interrupt_priority_at, stir_address, triggered}
+use Rattle.platform.specs.Kinds.{is_load, is_store}
+use Rattle.platform.specs.Outcomes.{Outcome}
+use Rattle.platform.specs.Priorities.{Nvic, with_pending, is_below_zero}
+use Rattle.platform.specs.Regions.{Mpu}
+use Rattle.platform.specs.Status.{status_at, usersetmpend}
+use Rattle.platform.specs.SysTickRegisters.{systick_at}
+use Rattle.platform.specs.System.{System, register_at, has_access, has_width, after_read}
+use Rattle.platform.specs.System.{register_written, register_access, system_access, with_pended, after_tick}
+use Rattle.platform.specs.Time.{tick_pends}
 
 -- the decision on an access depends on the registers m of the MPU, and on z: whether the execution priority is below 0
 pub record Decides (m : Mpu) (z : Bool) (s : System) : Type 0 where
@@ -58,34 +60,38 @@ module _ (m : Mpu) (z : Bool) where
   unfolding after_tick
   tick_decides s d = record { mpu = d.mpu; below_zero = pended_alike s.nvic (tick_pends s.time) ∙ d.below_zero }
 
-  stir_decides : (x : ℕ) (s : System) (q : Request) → Decides m z s →
-      Decides m z (register_access x s q (register.Control control.Stir)).system
+  -- m and z are what the decision depends on after an access
+  abbrev LeavesDecided : Outcome System → Type 0
+  LeavesDecided o = Decides m z o.after
+
+  stir_decides : (x : ℕ) (s : System) (rule : Rule) (q : Request) → Decides m z s →
+      LeavesDecided (register_access x s rule q (register.Control control.Stir))
   unfolding register_access register_written write_control has_width after_read triggered
-  stir_decides x s q d =
-      cond_both (not (has_access s q)) _ _ (λ (a : SystemAnswer). Decides m z a.system) (λ e. d)
-      (λ e. cond_both (not (is_word q.access.size)) _ _ (λ (a : SystemAnswer). Decides m z a.system) (λ f. d)
-      (λ f. cond_both (is_store q.access.kind) _ _ (λ (a : SystemAnswer). Decides m z a.system)
+  stir_decides x s rule q d =
+      cond_both (not (has_access s q)) _ _ LeavesDecided (λ e. d)
+      (λ e. cond_both (not (is_word q.access.size)) _ _ LeavesDecided (λ f. d)
+      (λ f. cond_both (is_store q.access.kind) _ _ LeavesDecided
       (λ g. record {
         mpu = d.mpu;
         below_zero = pending_alike s.nvic (FIRST_INTERRUPT + q.value % 2 ^ 9) true ∙ d.below_zero;
       })
       (λ g. d)))
 
-  refused_decides : (x : ℕ) (s : System) (q : Request) (which : SystemRegister) → has_access s q ≡ false →
-      Decides m z s → Decides m z (register_access x s q which).system
+  refused_decides : (x : ℕ) (s : System) (rule : Rule) (q : Request) (which : SystemRegister) →
+      has_access s q ≡ false → Decides m z s → LeavesDecided (register_access x s rule q which)
   unfolding register_access
-  refused_decides x s q which refused d = rw refused d
+  refused_decides x s rule q which refused d = rw refused d
 
-  register_decides : (x : ℕ) (s : System) (q : Request) (access : Bool) → has_access s q ≡ access →
+  register_decides : (x : ℕ) (s : System) (rule : Rule) (q : Request) (access : Bool) → has_access s q ≡ access →
       q.access.privileged ≡ false → Decides m z s →
-      Decides m z (register_access x s q (register_at (q.access.address / 4 * 4))).system
-  register_decides x s q true e unprivileged d = rw (only_stir s q unprivileged e) (stir_decides x s q d)
-  register_decides x s q false e unprivileged d = refused_decides x s q _ e d
+      LeavesDecided (register_access x s rule q (register_at (q.access.address / 4 * 4)))
+  register_decides x s rule q true e unprivileged d = rw (only_stir s q unprivileged e) (stir_decides x s rule q d)
+  register_decides x s rule q false e unprivileged d = refused_decides x s rule q _ e d
 
   -- an access of unprivileged code
-  pub system_decides : (x : ℕ) (s : System) (q : Request) → q.access.privileged ≡ false → Decides m z s →
-      Decides m z (system_access x s q).system
+  pub system_decides : (x : ℕ) (s : System) (rule : Rule) (q : Request) → q.access.privileged ≡ false →
+      Decides m z s → Decides m z (system_access x s rule q).after
   unfolding system_access
-  system_decides x s q unprivileged d =
-      cond_both (is_load q.access.kind || is_store q.access.kind) _ _ (λ (a : SystemAnswer). Decides m z a.system)
-      (λ e. register_decides x s q _ refl unprivileged d) (λ e. d)
+  system_decides x s rule q unprivileged d =
+      cond_both (is_load q.access.kind || is_store q.access.kind) _ _ LeavesDecided
+      (λ e. register_decides x s rule q _ refl unprivileged d) (λ e. d)

@@ -20,17 +20,17 @@ use Rattle.instruction_set.specs.DataProcessing.{divides_by_zero}
 use Rattle.instruction_set.specs.Registers.{Registers, register, is_privileged}
 use Rattle.instruction_set.specs.Sizes.{bytes_in}
 use Rattle.instruction_set.specs.Words.{word_sum}
-use Rattle.reference.specs.declared.access.Kind.{Kind}
-use Rattle.reference.specs.declared.access.Kind.TheVariants.{Load, Store, Probe}
-use Rattle.reference.specs.declared.access.Request.{Request}
+use Rattle.platform.specs.declared.access.Kind.{Kind}
+use Rattle.platform.specs.declared.access.Kind.TheVariants.{Load, Store, Probe}
+use Rattle.platform.specs.declared.access.Request.{Request}
 use Rattle.reference.specs.declared.failure.Traps.{Traps}
 use Rattle.reference.specs.Branches.{branch_requests}
 use Rattle.reference.specs.Exclusives.{exclusive_access, exclusive_requests, passes}
 use Rattle.reference.specs.LoadStore.{is_aligned, byte_requests, meets_device, unaligned, transfer, load}
 use Rattle.reference.specs.LoadStore.{load_store_requests}
 use Rattle.reference.specs.LoadStoreMultiple.{word_requests, several, load_store_multiple_requests}
-use Rattle.reference.specs.Map.{has_side_effects}
-use Rattle.reference.specs.Memory.{bytes_of}
+use Rattle.platform.specs.Map.{has_side_effects}
+use Rattle.platform.specs.Memory.{bytes_of}
 use Rattle.reference.specs.Operations.{is_misplaced, is_carried_out, requests_of, wants}
 use Rattle.reference.specs.Step.{fetching}
 use Rattle.task_laws.specs.TaskLaw.{IsTaskKind, IsOfTask, AreOfTask, AskOfTask, RequestsLaw}

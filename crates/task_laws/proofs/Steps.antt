@@ -17,36 +17,37 @@ use Rattle.instruction_set.specs.Arithmetic.{condition_passed}
 use Rattle.instruction_set.specs.Decoding.{is_long}
 use Rattle.instruction_set.specs.Registers.{Registers}
 use Rattle.instruction_set.specs.Words.{word_sum}
-use Rattle.reference.specs.declared.access.Request.{Request}
+use Rattle.platform.specs.declared.access.Request.{Request}
 use Rattle.reference.specs.declared.ending.Ending.{Ending}
 use Rattle.reference.specs.declared.ending.Ending.TheVariants as ending
-use Rattle.reference.specs.declared.event.Event.{Event}
-use Rattle.reference.specs.declared.exception.Escalation.{Escalation}
-use Rattle.reference.specs.declared.exception.Escalation.TheVariants.{Itself, HardFault, Lockup}
-use Rattle.reference.specs.declared.exception.TheConstants.{SV_CALL, HARD_FAULT}
+use Rattle.platform.specs.declared.event.Event.{Event}
+use Rattle.platform.specs.declared.exception.Escalation.{Escalation}
+use Rattle.platform.specs.declared.exception.Escalation.TheVariants.{Itself, HardFault, Lockup}
+use Rattle.platform.specs.declared.exception.TheConstants.{SV_CALL, HARD_FAULT}
 use Rattle.reference.specs.declared.failure.Failure.{Failure}
 use Rattle.reference.specs.declared.failure.Failure.TheVariants as failure
 use Rattle.reference.specs.declared.failure.UsageFault.{UsageFault}
 use Rattle.reference.specs.declared.failure.UsageFault.TheVariants.{UndefinedInstruction, NoCoprocessor, InvalidState}
-use Rattle.reference.specs.declared.fault_status.FaultEffect.{FaultEffect}
-use Rattle.reference.specs.Accesses.{AccessResult, ListResult, perform, perform_all, access_lines, value_of}
+use Rattle.platform.specs.declared.fault_status.FaultEffect.{FaultEffect}
+use Rattle.reference.specs.Accesses.{ListResult, perform, perform_all, access_lines, value_of}
 use Rattle.reference.specs.Faults.{fault_of, usage_fault_of, recorded, with_status, pended, escalated, faulted, failed}
 use Rattle.reference.specs.Faults.{supervisor_called_by, supervisor_called}
-use Rattle.reference.specs.Memory.{Memory}
+use Rattle.platform.specs.Memory.{Memory}
 use Rattle.reference.specs.Operations.{result_of}
-use Rattle.reference.specs.Priorities.{Nvic, is_below_zero}
+use Rattle.platform.specs.Outcomes.{Outcome}
+use Rattle.platform.specs.Priorities.{Nvic, is_below_zero}
 use Rattle.reference.specs.ProgramCounter.{Finished, moves_on}
-use Rattle.reference.specs.Regions.{Mpu, IsSound}
-use Rattle.reference.specs.SpecialRegisters.{write_special}
+use Rattle.platform.specs.Regions.{Mpu, IsSound}
+use Rattle.platform.specs.SpecialRegisters.{write_special}
 use Rattle.reference.specs.State.{Bus, State, Stepped, ticked, with_bus, with_system, with_registers, with_exceptions}
-use Rattle.reference.specs.Status.{Status}
+use Rattle.platform.specs.Status.{Status}
 use Rattle.reference.specs.Step.{ended, finished, served, performed_all, planned, without_meaning, executed, fetching}
 use Rattle.reference.specs.Step.{fetched_second, with_second, fetched_first, instruction, step, traps}
-use Rattle.reference.specs.System.{System}
+use Rattle.platform.specs.System.{System}
 use Rattle.state_laws.proofs.Effects.{IsEndIn, Leaves, register_kept, moves_on_kept, result_kept}
 use Rattle.task_laws.specs.Sight.{with_memory}
 use Rattle.task_laws.specs.TaskLaw.{IsOfTask, AreOfTask, AskOfTask}
-use Rattle.task_laws.proofs.Accesses.{Alike, SameResult, SameList, result_with, list_with, with_memory_of}
+use Rattle.task_laws.proofs.Accesses.{Alike, SameOutcome, SameList, outcome_with, list_with, with_memory_of}
 use Rattle.task_laws.proofs.Accesses.{perform_alike, all_alike}
 use Rattle.task_laws.proofs.Instructions.{IsInstruction, awoken, step_is}
 use Rattle.task_laws.proofs.Memories.{both}
@@ -70,14 +71,15 @@ abbrev step_with : Stepped → Memory → Stepped
 step_with p k = record p { state = with_memory p.state k }
 
 -- the rest of a step after the fetch of the first halfword, and of the second one
-abbrev rest_of_first : Request → State → AccessResult → Stepped
-rest_of_first q s a =
-    fetched_first (with_bus s a.bus) ([] ++ access_lines s.bus.system.time.ticks q a.performed) (value_of q a.performed)
+abbrev rest_of_first : Request → State → Outcome Bus → Stepped
+rest_of_first q s o =
+    fetched_first (with_bus s o.after) ([] ++ access_lines s.bus.system.time.ticks q o.performed)
+    (value_of q o.performed)
 
-abbrev rest_of_second : List Event → ℕ → Request → State → AccessResult → Stepped
-rest_of_second events hw1 q s a =
-    fetched_second (with_bus s a.bus) (events ++ access_lines s.bus.system.time.ticks q a.performed) hw1
-    (value_of q a.performed)
+abbrev rest_of_second : List Event → ℕ → Request → State → Outcome Bus → Stepped
+rest_of_second events hw1 q s o =
+    fetched_second (with_bus s o.after) (events ++ access_lines s.bus.system.time.ticks q o.performed) hw1
+    (value_of q o.performed)
 
 -- m and z are what the decision depends on, and `old` is the memory before the step
 module _ (m : Mpu) (z : Bool) (old : Memory) where
@@ -249,18 +251,18 @@ module _ (m : Mpu) (z : Bool) (old : Memory) where
   -- ---- the fetches
 
   -- an access, and the rest of the step after it
-  after_access : (s : State) (k : Memory) (q : Request) (rest : State → AccessResult → Stepped) → IsOfTask q →
-      Ready s k → ((one : AccessResult) (new : Memory) → Ready (with_bus s one.bus) new →
-      SameStep (rest s one) (rest (with_memory s k) (result_with one new))) →
+  after_access : (s : State) (k : Memory) (q : Request) (rest : State → Outcome Bus → Stepped) → IsOfTask q →
+      Ready s k → ((one : Outcome Bus) (new : Memory) → Ready (with_bus s one.after) new →
+      SameStep (rest s one) (rest (with_memory s k) (outcome_with one new))) →
       SameStep (rest s (perform s.registers.exception s.bus q))
       (rest (with_memory s k) (perform s.registers.exception (with_memory_of s.bus k) q))
   after_access s k q rest of r others =
       let x = s.registers.exception in
       let one = perform x s.bus q in
       let two = perform x (with_memory_of s.bus k) q in
-      let both : SameResult m z old one two = perform_alike m z old x s.bus k q r.sound of r.alike in
-      subst (λ (a : AccessResult). SameStep (rest s one) (rest (with_memory s k) a)) (sym both.rest)
-      (others one two.bus.memory (with_new_bus s k two.bus.memory one.bus both.alike r))
+      let both : SameOutcome m z old one two = perform_alike m z old x s.bus k q r.sound of r.alike in
+      subst (λ (o : Outcome Bus). SameStep (rest s one) (rest (with_memory s k) o)) (sym both.rest)
+      (others one two.after.memory (with_new_bus s k two.after.memory one.after both.alike r))
 
   second_alike : (events : List Event) (hw1 : ℕ) (answer : Result ℕ Failure) →
       EndsSame (λ s. fetched_second s events hw1 answer)
@@ -277,7 +279,7 @@ module _ (m : Mpu) (z : Bool) (old : Memory) where
       (λ long. after_access s k q (rest_of_second events hw1 q)
       (fetch_of s.registers (unprivileged_is s.registers r.thread) _ next) r
       (λ one. second_alike (events ++ access_lines s.bus.system.time.ticks q one.performed) hw1
-      (value_of q one.performed) (with_bus s one.bus)))
+      (value_of q one.performed) (with_bus s one.after)))
       (λ short. executed_alike events Short _ s k r)
 
   first_alike : (events : List Event) (answer : Result ℕ Failure) (s : State) (k : Memory) → s.registers.pc % 2 ≡ 0 →
@@ -294,7 +296,7 @@ module _ (m : Mpu) (z : Bool) (old : Memory) where
       (λ thumb. after_access s k q (rest_of_first q)
       (fetch_of s.registers (unprivileged_is s.registers r.thread) _ even) r
       (λ one new. first_alike ([] ++ access_lines s.bus.system.time.ticks q one.performed) (value_of q one.performed)
-      (with_bus s one.bus) new even))
+      (with_bus s one.after) new even))
       (λ arm. failed_alike [] (failure.Usage InvalidState) s k r)
 
   -- ---- the step

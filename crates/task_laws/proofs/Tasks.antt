@@ -2,11 +2,11 @@
 use Rattle.std.proofs.Common.{◌≡◌, ℕ, Bool, true, not, ◌&&◌, ◌==◌, is_some, Option, Some, None, refl, sym, ap}
 use Rattle.std.proofs.Common.{◌∙◌, eqb-true}
 use Rattle.std.proofs.lemmas.Bool.{and_parts, not-true, not-false}
-use Rattle.reference.specs.Priorities.{is_below_zero}
-use Rattle.reference.specs.Regions.{Mpu, is_on}
-use Rattle.reference.specs.Rules.{is_off_below_zero}
+use Rattle.platform.specs.Priorities.{is_below_zero}
+use Rattle.platform.specs.Regions.{Mpu, is_on}
+use Rattle.platform.specs.Rules.{is_off_below_zero}
 use Rattle.reference.specs.State.{State}
-use Rattle.reference.specs.System.{System}
+use Rattle.platform.specs.System.{System}
 use Rattle.task_laws.specs.Tasks.{runs_unprivileged, uses_regions}
 use Rattle.task_laws.proofs.Priorities.{Decides}
 use Rattle.task_laws.proofs.Unprivileged.{IsUnprivileged}

@@ -5,8 +5,8 @@ use Rattle.instruction_set.specs.declared.operands.ChangeProcessorState.{ChangeP
 use Rattle.instruction_set.specs.declared.operands.SpecialRegister.{SpecialRegister}
 use Rattle.instruction_set.specs.declared.operands.SpecialRegister.TheVariants.{Apsr, Iapsr, Eapsr, Xpsr}
 use Rattle.instruction_set.specs.Registers.{Registers, is_handler, is_privileged}
-use Rattle.reference.specs.Priorities.{Nvic}
-use Rattle.reference.specs.SpecialRegisters.{is_open, with_special, write_special, write_mask, change_state}
+use Rattle.platform.specs.Priorities.{Nvic}
+use Rattle.platform.specs.SpecialRegisters.{is_open, with_special, write_special, write_mask, change_state}
 use Rattle.state_laws.proofs.Effects.{KeepsWrites}
 
 -- IPSR is 0 and CONTROL.nPRIV is 1

@@ -2,11 +2,11 @@
 use Rattle.std.specs.Prelude.{ℕ, Bool, true, false, nat_le, if◌then◌else◌, Option, Some, None}
 use Rattle.task_laws.specs.declared.foresight.StepKind.{StepKind}
 use Rattle.task_laws.specs.declared.foresight.StepKind.TheVariants as kind
-use Rattle.reference.specs.declared.stop.Stop.{Stop}
-use Rattle.reference.specs.Priorities.{candidate}
+use Rattle.platform.specs.declared.stop.Stop.{Stop}
+use Rattle.platform.specs.Priorities.{candidate}
 use Rattle.reference.specs.State.{State, ticked}
 use Rattle.reference.specs.Step.{sleeps_on}
-use Rattle.reference.specs.Time.{last_tick}
+use Rattle.platform.specs.Time.{last_tick}
 
 -- the phase after a tick, of a machine in the entry phase or not, with a candidate or not: the cases of a step
 abbrev pub kind_after : State → Option ℕ → Option ℕ → StepKind

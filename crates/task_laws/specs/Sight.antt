@@ -1,12 +1,12 @@
 -- What a task sees and what it may change, by the decision on its accesses, and when two states look the same to it.
 use Rattle.std.specs.Prelude.{◌≡◌, ℕ, ◌+◌, Bool, true, false, not, ◌||◌, List, length, slice_index}
-use Rattle.reference.specs.declared.access.Kind.{Kind}
-use Rattle.reference.specs.declared.access.Kind.TheVariants.{Fetch, Load, Store}
-use Rattle.reference.specs.Map.{ram_base}
-use Rattle.reference.specs.Memory.{Memory}
-use Rattle.reference.specs.Priorities.{is_below_zero}
-use Rattle.reference.specs.Regions.{Mpu}
-use Rattle.reference.specs.Rules.{decision_of}
+use Rattle.platform.specs.declared.access.Kind.{Kind}
+use Rattle.platform.specs.declared.access.Kind.TheVariants.{Fetch, Load, Store}
+use Rattle.platform.specs.Map.{ram_base}
+use Rattle.platform.specs.Memory.{Memory}
+use Rattle.platform.specs.Priorities.{is_below_zero}
+use Rattle.platform.specs.Regions.{Mpu}
+use Rattle.platform.specs.Rules.{decision_of}
 use Rattle.reference.specs.State.{State}
 
 -- ---- what the decision grants

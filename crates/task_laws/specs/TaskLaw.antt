@@ -3,9 +3,9 @@ use Rattle.std.specs.Prelude.{◌≡◌, ◌⊎◌, ℕ, ◌%◌, false, true, L
 use Rattle.instruction_set.specs.declared.instruction.CodedInstruction.{CodedInstruction}
 use Rattle.instruction_set.specs.Registers.{Registers, is_privileged}
 use Rattle.instruction_set.specs.Sizes.{bytes_in}
-use Rattle.reference.specs.declared.access.Kind.{Kind}
-use Rattle.reference.specs.declared.access.Kind.TheVariants.{Fetch, Load, Store, Probe}
-use Rattle.reference.specs.declared.access.Request.{Request}
+use Rattle.platform.specs.declared.access.Kind.{Kind}
+use Rattle.platform.specs.declared.access.Kind.TheVariants.{Fetch, Load, Store, Probe}
+use Rattle.platform.specs.declared.access.Request.{Request}
 use Rattle.reference.specs.declared.failure.Failure.{Failure}
 use Rattle.reference.specs.declared.failure.Traps.{Traps}
 use Rattle.reference.specs.Accesses.{perform}
@@ -49,7 +49,7 @@ RequestsLaw r =
 
 -- the state after an access
 abbrev pub performed_in : State → Request → State
-performed_in s q = with_bus s (perform s.registers.exception s.bus q).bus
+performed_in s q = with_bus s (perform s.registers.exception s.bus q).after
 
 -- the access has the same answer in both states, they look the same after it, and it changes no byte that a task may
 -- not store

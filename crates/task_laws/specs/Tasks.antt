@@ -2,12 +2,12 @@
 -- "Operating modes", "Privileged and unprivileged execution", "MPU_CTRL"), and how a run of it ends.
 use Rattle.std.specs.Prelude.{◌≡◌, ℕ, ◌<◌, Bool, true, false, not, ◌&&◌, is_some, Some, None}
 use Rattle.instruction_set.specs.Registers.{is_handler}
-use Rattle.reference.specs.Priorities.{is_below_zero}
-use Rattle.reference.specs.Regions.{is_on}
-use Rattle.reference.specs.Rules.{is_off_below_zero}
+use Rattle.platform.specs.Priorities.{is_below_zero}
+use Rattle.platform.specs.Regions.{is_on}
+use Rattle.platform.specs.Rules.{is_off_below_zero}
 use Rattle.reference.specs.Run.{after}
 use Rattle.reference.specs.State.{State}
-use Rattle.reference.specs.System.{System}
+use Rattle.platform.specs.System.{System}
 use Rattle.task_laws.specs.declared.task.TaskEnd.{TaskEnd}
 use Rattle.task_laws.specs.declared.task.TaskEnd.TheVariants as task_end
 use Rattle.task_laws.specs.Foresight.{is_instruction_next}

@@ -7,7 +7,7 @@ mod task;
 
 ghost use Rattle.std.specs.Prelude.{ℕ};
 ghost use Rattle.instruction_set.specs.Registers.{Registers};
-ghost use Rattle.reference.specs.declared.access.Request.{Request};
+ghost use Rattle.platform.specs.declared.access.Request.{Request};
 ghost use Rattle.reference.specs.State.{State};
 ghost use Rattle.task_laws.specs.TaskLaw.{AccessLaw, EndsAlike, RequestsLaw, RunLaw, StepLaw, UnprivilegedRunLaw};
 ghost use Rattle.task_laws.specs.declared.task.TaskEnd.{TaskEnd as End};

@@ -1,6 +1,6 @@
 //! How a run of a task ends.
 
-use reference::stop::Stop;
+use platform::stop::Stop;
 
 /// Why a run of a task ended.
 #[derive(Clone, Copy)]

@@ -9,7 +9,7 @@ use alike::{Named, write_unlike};
 use board::{Board, read_board};
 use elf::{Image, load};
 use machine::{Event, Events, Fast, Slow, Stop, event_line, stop_line};
-use reference::event::EventKind;
+use platform::event::EventKind;
 use std::alloc::Global;
 use std::io::Write;
 use std::{env, fs, io};

@@ -27,7 +27,6 @@ mod starts;
 mod steps;
 mod stored_faults;
 mod stored_handlers;
-mod stored_stops;
 mod tasks;
 mod traces;
 mod writers;

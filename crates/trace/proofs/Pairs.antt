@@ -3,7 +3,7 @@ use Rattle.std.proofs.Common.{◌≡◌, ℕ, zero, suc, ◌+◌, ◌-◌, ◌*�
 use Rattle.std.proofs.Common.{inl}
 use Rattle.std.proofs.Common.{inr, arith, eq-zero-or-pos, eqb→eq, refl}
 use lib.Ieee.Fits.{and_l, and_r}
-use Rattle.reference.specs.Text.{hex_digit}
+use Rattle.platform.specs.Text.{hex_digit}
 use Rattle.trace.specs.declared.hex.TheConstants.{PAIRS}
 
 -- the first pairs of the table, up to a number, are right

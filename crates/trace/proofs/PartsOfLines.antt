@@ -2,10 +2,10 @@
 use Rattle.std.proofs.Common.{◌≡◌, ℕ, List, ◌++◌, append_assoc}
 use Rattle.std.specs.Fmt.{decimal}
 use Rattle.std.specs.Prelude.{codes}
-use Rattle.reference.specs.declared.access.DecidedAccess.{DecidedAccess}
-use Rattle.reference.specs.declared.event.Event.{Event}
-use Rattle.reference.specs.declared.event.EventKind.TheVariants.{Accessed}
-use Rattle.reference.specs.Text.{line, line_feed, outcome_text, rule_text}
+use Rattle.platform.specs.declared.access.DecidedAccess.{DecidedAccess}
+use Rattle.platform.specs.declared.event.Event.{Event}
+use Rattle.platform.specs.declared.event.EventKind.TheVariants.{Accessed}
+use Rattle.platform.specs.Text.{line, line_feed, outcome_text, rule_text}
 use Rattle.trace.specs.Tails.{access_head, tail}
 
 -- a line is its tick and its tail

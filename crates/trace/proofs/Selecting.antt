@@ -5,17 +5,17 @@ use Rattle.std.proofs.lemmas.List.{append-nil}
 use Rattle.std.proofs.lemmas.List.Elements.{filter-append, filter_map-append}
 use Rattle.std.specs.List.{cons_option, last_or}
 use Rattle.std.specs.Option.{option_or}
-use Rattle.reference.specs.declared.access.DecidedAccess.{DecidedAccess}
-use Rattle.reference.specs.declared.event.Event.{Event}
-use Rattle.reference.specs.declared.event.EventKind.{EventKind}
-use Rattle.reference.specs.declared.event.EventKind.TheVariants.{Accessed, ConsoleByte, ReturnBegan, HandlerEntered}
-use Rattle.reference.specs.declared.event.EventKind.TheVariants.{FaultRecorded}
+use Rattle.platform.specs.declared.access.DecidedAccess.{DecidedAccess}
+use Rattle.platform.specs.declared.event.Event.{Event}
+use Rattle.platform.specs.declared.event.EventKind.{EventKind}
+use Rattle.platform.specs.declared.event.EventKind.TheVariants.{Accessed}
+use Rattle.platform.specs.Events.{byte_of}
 use Rattle.reference.specs.Run.{events_of, trace}
 use Rattle.reference.specs.State.{State}
-use Rattle.reference.specs.Text.{line, lines}
+use Rattle.platform.specs.Text.{line, lines}
 use Rattle.trace.specs.declared.selection.TraceSelection.{TraceSelection}
 use Rattle.trace.specs.declared.selection.TraceSelection.TheVariants as which
-use Rattle.trace.specs.Selection.{byte_of, last_printed, printed, selected_events, selected_text, selected_trace}
+use Rattle.trace.specs.Selection.{last_printed, printed, selected_events, selected_text, selected_trace}
 use Rattle.trace.specs.Selection.{selects}
 use Rattle.trace.specs.Selection.{text_as, writes_bytes}
 
@@ -83,20 +83,19 @@ last_joined events more =
     ∙ last_or-append None (selected_text which.Console events) (selected_text which.Console more)
     ∙ last_or-join (last_printed which.Console events) (selected_text which.Console more)
 
-last_at : (tick : ℕ) (what : EventKind)
-    → last_printed which.Console (record { tick = tick; what = what } ∷ []) ≡ byte_of what
-last_at tick (Accessed a) = refl
-last_at tick (ConsoleByte byte) = refl
-last_at tick (ReturnBegan exc_return) = refl
-last_at tick (HandlerEntered exception) = refl
-last_at tick (FaultRecorded f) = refl
+-- the last byte that was printed by an event alone
+last_by : (tick : ℕ) (what : EventKind) (o : Option ℕ) → byte_of what ≡ o
+    → last_printed which.Console (record { tick = tick; what = what } ∷ []) ≡ o
+last_by tick what None is = rw is refl
+last_by tick what (Some byte) is = rw (is, is) refl
 
 -- the last byte that was printed by events and one more
 pub last_on : (events : List Event) (e : Event) → last_printed which.Console (events ++ e ∷ [])
     ≡ option_or (byte_of e.what) (last_printed which.Console events)
 last_on events e =
     last_joined events (e ∷ [])
-    ∙ ap (λ (o : Option ℕ). option_or o (last_printed which.Console events)) (last_at e.tick e.what)
+    ∙ ap (λ (o : Option ℕ). option_or o (last_printed which.Console events))
+    (last_by e.tick e.what (byte_of e.what) refl)
 
 -- all events are selected by `All`
 all_selected : (events : List Event) → selected_events which.All events ≡ events

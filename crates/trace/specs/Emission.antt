@@ -1,6 +1,6 @@
 -- What a sink of events has taken.
 use Rattle.std.specs.Prelude.{ℕ, List, Option}
-use Rattle.reference.specs.declared.event.Event.{Event}
+use Rattle.platform.specs.declared.event.Event.{Event}
 
 -- the events that a sink has taken so far; and how it was before them: the bytes that it had written, where they are
 -- known, and how many of its calls had failed. `writer` is the writer that it borrows, 0 where it borrows none

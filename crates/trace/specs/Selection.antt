@@ -2,46 +2,25 @@
 use Rattle.std.specs.Prelude.{ℕ, Bool, true, false, ◌||◌, if◌then◌else◌, ◌==◌, List, [], ◌++◌, Option, Some, None}
 use Rattle.std.specs.Prelude.{is_some}
 use Rattle.std.specs.List.{filter, filter_map, last_or}
-use Rattle.reference.specs.declared.event.Event.{Event}
-use Rattle.reference.specs.declared.event.EventKind.{EventKind}
-use Rattle.reference.specs.declared.event.EventKind.TheVariants.{Accessed, ConsoleByte, ReturnBegan, HandlerEntered}
-use Rattle.reference.specs.declared.event.EventKind.TheVariants.{FaultRecorded}
-use Rattle.reference.specs.declared.stop.Stop.{Stop}
+use Rattle.platform.specs.declared.event.Event.{Event}
+use Rattle.platform.specs.declared.event.EventKind.{EventKind}
+use Rattle.platform.specs.declared.stop.Stop.{Stop}
+use Rattle.platform.specs.Events.{byte_of, is_entry_or_return, is_refused, recorded_fault_of}
 use Rattle.reference.specs.Run.{ending_of, events_of}
 use Rattle.reference.specs.State.{State}
-use Rattle.reference.specs.Text.{line_feed, lines, stop_line}
+use Rattle.platform.specs.Text.{line_feed, lines, stop_line}
 use Rattle.trace.specs.declared.selection.TraceSelection.{TraceSelection}
 use Rattle.trace.specs.declared.selection.TraceSelection.TheVariants as which
 
 -- an access that was refused, or a fault that was recorded
 abbrev pub is_refusal : EventKind → Bool
-is_refusal (Accessed a) = is_some a.refused
-is_refusal (ConsoleByte byte) = false
-is_refusal (ReturnBegan exc_return) = false
-is_refusal (HandlerEntered exception) = false
-is_refusal (FaultRecorded f) = true
-
--- a handler was entered, or a return began
-abbrev pub is_exception : EventKind → Bool
-is_exception (Accessed a) = false
-is_exception (ConsoleByte byte) = false
-is_exception (ReturnBegan exc_return) = true
-is_exception (HandlerEntered exception) = true
-is_exception (FaultRecorded f) = false
-
--- the byte that was printed
-abbrev pub byte_of : EventKind → Option ℕ
-byte_of (Accessed a) = None
-byte_of (ConsoleByte byte) = Some byte
-byte_of (ReturnBegan exc_return) = None
-byte_of (HandlerEntered exception) = None
-byte_of (FaultRecorded f) = None
+is_refusal what = is_refused what || is_some (recorded_fault_of what)
 
 -- whether a selection has an event of that kind
 abbrev pub selects : TraceSelection → EventKind → Bool
 selects which.All what = true
 selects which.Refused what = is_refusal what
-selects which.Exceptions what = is_refusal what || is_exception what
+selects which.Exceptions what = is_refusal what || is_entry_or_return what
 selects which.Console what = is_some (byte_of what)
 selects which.Nothing what = false
 

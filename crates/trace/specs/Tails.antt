@@ -1,9 +1,9 @@
 -- What follows the tick in a line.
 use Rattle.std.specs.Prelude.{ℕ, List, ◌++◌, codes, decimal}
 use Rattle.instruction_set.specs.Sizes.{bytes_in}
-use Rattle.reference.specs.declared.access.Access.{Access}
-use Rattle.reference.specs.declared.event.EventKind.{EventKind}
-use Rattle.reference.specs.Text.{kind_text, hex_word, privilege_text, event_text, line_feed}
+use Rattle.platform.specs.declared.access.Access.{Access}
+use Rattle.platform.specs.declared.event.EventKind.{EventKind}
+use Rattle.platform.specs.Text.{kind_text, hex_word, privilege_text, event_text, line_feed}
 
 -- all of a line but its tick
 unfoldable pub tail : EventKind → List ℕ

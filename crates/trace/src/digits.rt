@@ -1,11 +1,11 @@
 //! The digits that lines have in common with earlier ones.
 
 ghost use Rattle.std.specs.Prelude.{◌≡◌, ◌++◌, ◌/◌, ◌%◌};
-ghost use Rattle.reference.specs.Text.{hex_byte, hex_word};
+ghost use Rattle.platform.specs.Text.{hex_byte, hex_word};
 
 use crate::hex::pair;
 use crate::tick::Tick;
-use reference::access::Access;
+use platform::access::Access;
 
 /// The upper four digits of an address, which rarely change from one fetch to the next, or from one data access to the
 /// next. This is only a cache, as a `Tick` is.

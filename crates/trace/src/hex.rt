@@ -1,7 +1,7 @@
 //! Hexadecimal digits, in upper case.
 
 ghost use Rattle.std.specs.Prelude.{◌≡◌};
-ghost use Rattle.reference.specs.Text.{hex_byte, hex_word};
+ghost use Rattle.platform.specs.Text.{hex_byte, hex_word};
 
 /// The two digits of each byte, one pair after another: to look a pair up takes one load.
 static PAIRS: [u8; 512] = *b"\

@@ -1,20 +1,20 @@
 //! The lines of events and of stops.
 
 ghost use Rattle.std.specs.Prelude.{◌≡◌, ◌+◌, ◌≤◌, ◌++◌, length, codes, decimal};
-ghost use Rattle.reference.specs.declared.event.EventKind.TheVariants.{Accessed, ConsoleByte, ReturnBegan};
-ghost use Rattle.reference.specs.declared.event.EventKind.TheVariants.{HandlerEntered, FaultRecorded};
-ghost use Rattle.reference.specs.Text.{line, stop_line as line_of_stop, stop_text, outcome_text, rule_text, line_feed};
+ghost use Rattle.platform.specs.declared.event.EventKind.TheVariants.{Accessed, ConsoleByte, ReturnBegan};
+ghost use Rattle.platform.specs.declared.event.EventKind.TheVariants.{HandlerEntered, FaultRecorded};
+ghost use Rattle.platform.specs.Text.{line, stop_line as line_of_stop, stop_text, outcome_text, rule_text, line_feed};
 ghost use Rattle.trace.specs.Tails.{access_head, tail};
 
 use crate::digits::LineDigits;
 use crate::hex;
 use crate::page::Page;
 use crate::tick::Tick;
-use crate::words::{kind_letter, left_out_word, privilege_letter, size_digit, unpredictable_word};
+use crate::words::{kind_letter, privilege_letter, size_digit};
 use instruction_set::size::Size;
-use reference::access::{Access, Cause, DecidedAccess, Kind, Rule};
-use reference::event::{Event, EventKind, RecordedFault};
-use reference::stop::Stop;
+use platform::access::{Access, Cause, DecidedAccess, Kind, Rule};
+use platform::event::{Event, EventKind, RecordedFault};
+use platform::stop::{NamedStop, Stop};
 
 /// The most bytes after the tick of a line. A tick takes 21 bytes at most, so a line takes 64.
 pub(crate) const TAIL_ROOM: usize = 43;
@@ -68,7 +68,7 @@ impl<const ROOM: usize> Page<ROOM> {
     }
 
     /// Appends the line of a stop.
-    #[tactic(auto, unfolding(reference::specs::Text::stop_line))]
+    #[tactic(auto, unfolding(platform::specs::Text::stop_line))]
     pub fn put_stop(&mut self, stop: &Stop)
         requires { length self.old + 64 ≤ ROOM }
         ensures text { self.new ≡ self.old ++ line_of_stop stop.now }
@@ -94,11 +94,11 @@ impl<const ROOM: usize> Page<ROOM> {
             Stop::Lockup => self.put(b"lockup"),
             Stop::Unpredictable(case) => {
                 self.put(b"unpredictable ");
-                self.put_slice(unpredictable_word(*case));
+                self.put_slice(case.word());
             }
             Stop::OutOfProfile(case) => {
                 self.put(b"outofprofile ");
-                self.put_slice(left_out_word(*case));
+                self.put_slice(case.word());
             }
             Stop::ResetRequested => self.put(b"reset"),
         }

@@ -2,7 +2,7 @@
 
 ghost use Rattle.std.specs.Prelude.{◌≡◌, ◌+◌, ◌≤◌, ◌↔◌, [], ◌++◌, length, take, IsTrue};
 ghost use Rattle.std.specs.Fmt.{decimal};
-ghost use Rattle.reference.specs.Text.{hex_byte, hex_word};
+ghost use Rattle.platform.specs.Text.{hex_byte, hex_word};
 
 use crate::hex;
 use itoa::Buffer;

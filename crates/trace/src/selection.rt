@@ -1,10 +1,10 @@
 //! Which events of a run are written.
 
 ghost use Rattle.std.specs.Prelude.{◌≡◌, List, [], ◌∷◌, ◌++◌, is_some};
-ghost use Rattle.reference.specs.declared.event.Event.{Event};
-ghost use Rattle.trace.specs.Selection.{byte_of, is_refusal, is_exception, last_printed, selects, writes_bytes};
+ghost use Rattle.platform.specs.declared.event.Event.{Event};
+ghost use Rattle.trace.specs.Selection.{is_refusal, last_printed, selects, writes_bytes};
 
-use reference::event::{Event, EventKind};
+use platform::event::{Event, EventKind};
 
 /// Which events of a run are written. The line of the stop always is.
 #[derive(Clone, Copy)]
@@ -30,8 +30,8 @@ impl TraceSelection {
         match self {
             TraceSelection::All => true,
             TraceSelection::Refused => is_refusal(what),
-            TraceSelection::Exceptions => is_refusal(what) || is_exception(what),
-            TraceSelection::Console => byte_of(what).is_some(),
+            TraceSelection::Exceptions => is_refusal(what) || what.is_entry_or_return(),
+            TraceSelection::Console => what.byte().is_some(),
             TraceSelection::Nothing => false,
         }
     }
@@ -58,7 +58,7 @@ impl TraceSelection {
             ≡ last_printed self (events ++ event.now ∷ []) }
     {
         match self {
-            TraceSelection::Console => byte_of(&event.what).or(before),
+            TraceSelection::Console => event.what.byte().or(before),
             TraceSelection::All
             | TraceSelection::Refused
             | TraceSelection::Exceptions
@@ -87,36 +87,5 @@ impl TraceSelection {
 fn is_refusal(what: &EventKind) -> bool
     ensures { result ≡ is_refusal what.now }
 {
-    match what {
-        EventKind::Accessed(access) => access.refused.is_some(),
-        EventKind::FaultRecorded(_) => true,
-        EventKind::ConsoleByte(_) | EventKind::ReturnBegan(_) | EventKind::HandlerEntered(_) => {
-            false
-        }
-    }
-}
-
-/// Returns whether an event is the entry of a handler or the begin of a return.
-#[inline(always)]
-fn is_exception(what: &EventKind) -> bool
-    ensures { result ≡ is_exception what.now }
-{
-    match what {
-        EventKind::ReturnBegan(_) | EventKind::HandlerEntered(_) => true,
-        EventKind::Accessed(_) | EventKind::ConsoleByte(_) | EventKind::FaultRecorded(_) => false,
-    }
-}
-
-/// Returns the byte that was printed, if the event is one.
-#[inline(always)]
-pub fn byte_of(what: &EventKind) -> Option<u8>
-    ensures { result ≡ byte_of what.now }
-{
-    match what {
-        EventKind::ConsoleByte(byte) => Some(*byte),
-        EventKind::Accessed(_)
-        | EventKind::ReturnBegan(_)
-        | EventKind::HandlerEntered(_)
-        | EventKind::FaultRecorded(_) => None,
-    }
+    what.is_refused() || what.recorded_fault().is_some()
 }

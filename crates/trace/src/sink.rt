@@ -4,7 +4,7 @@ ghost use Rattle.std.specs.Prelude.{◌≡◌, ◌<◌, [], ◌∷◌, ◌++◌,
 ghost use Rattle.trace.specs.Emission.{Emission, with_emitted};
 
 use bounded::Bounded;
-use reference::event::{Event, MOST_EVENTS};
+use platform::event::{Event, MOST_EVENTS};
 
 /// What takes the events of a step, one by one. A contract sees the events that it has taken so far.
 pub trait Sink {

@@ -2,7 +2,7 @@
 
 use arrayvec::ArrayVec;
 use instruction_set::size::Size;
-use reference::access::Request;
+use platform::access::Request;
 
 /// A byte at an address.
 #[derive(Clone, Copy)]

@@ -10,7 +10,7 @@ use test_tables::{Rows, check, part, word};
 /// How an access was decided: the rule's word, and its outcome.
 fn words_of(performed: Performed) -> (&'static str, &'static str) {
     match performed {
-        Performed::Done(rule, _) => (rule_word(rule), "ok"),
+        Performed::Done(done) => (rule_word(done.rule), "ok"),
         Performed::Denied(rule, Cause::Mpu) => (rule_word(rule), "mpu"),
         Performed::Denied(rule, Cause::Bus) => (rule_word(rule), "bus"),
         Performed::Stop(_) => ("-", "stop"),

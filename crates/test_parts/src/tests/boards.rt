@@ -2,7 +2,7 @@
 //! the reader.
 
 use board::{Board, BoardError, Layout, ScriptedEvent, Signal, read_board};
-use reference::board::SMALL_BOARD;
+use platform::board::SMALL_BOARD;
 use std::alloc::Global;
 use std::test::*;
 use test_tables::{Rows, byte_at, check, check_between, long_at, number_at, part, word};

@@ -3,9 +3,9 @@
 use super::words::{request, rule};
 use arrayvec::ArrayVec;
 use instruction_set::unpredictable::UnpredictableCase;
-use reference::access::{Cause, DecidedAccess};
-use reference::event::{Event, EventKind, RecordedFault};
-use reference::stop::{LeftOut, Stop};
+use platform::access::{Cause, DecidedAccess};
+use platform::event::{Event, EventKind, RecordedFault};
+use platform::stop::{LeftOut, Stop};
 use std::test::*;
 use test_tables::{Rows, byte_at, check, halfword_at, long_at, meaning, number_at, part, word};
 use trace::digits::LineDigits;

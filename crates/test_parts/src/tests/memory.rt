@@ -1,8 +1,9 @@
 //! Flash, RAM and the device window.
 
 use super::words::{is_number, request};
-use reference::board::SMALL_BOARD;
-use space::{Answer, Space, is_out};
+use platform::access::DoneAccess;
+use platform::board::SMALL_BOARD;
+use space::{Performed, Request, Rule, Space};
 use std::alloc::Global;
 use std::test::*;
 use test_tables::{Rows, byte_at, check, is_first, number_at, part, word};
@@ -12,12 +13,11 @@ pub(super) fn blank(alloc: Global) -> Option<Space> {
     Space::blank(alloc, &SMALL_BOARD).ok()
 }
 
-/// What an access is answered, if it is answered by a value.
-fn value(answer: Answer) -> Option<u32> {
-    if let Answer::Value(value) = answer {
-        Some(value)
-    } else {
-        None
+/// The outcome of an access that a rule granted, after 0x1_0000_0005 ticks, if it is carried out.
+fn done(space: &mut Space, request: &Request) -> Option<DoneAccess> {
+    match space.access(Rule::MpuOff, request, 0x1_0000_0005) {
+        Performed::Done(done) => Some(done),
+        Performed::Denied(_, _) | Performed::Stop(_) => None,
     }
 }
 
@@ -30,8 +30,8 @@ struct Accesses {
 impl Rows for Accesses {
     /// Returns whether the next access is answered as its row says.
     fn holds(&mut self, row: &str) -> Option<bool> {
-        let answer = self.space.access(&request(part(row, 0))?, 0x1_0000_0005);
-        Some(is_number(value(answer), part(row, 1)))
+        let done = done(&mut self.space, &request(part(row, 0))?);
+        Some(is_number(done.map(|done| done.value), part(row, 1)))
     }
 }
 
@@ -125,23 +125,33 @@ fn bytes_that_a_debugger_puts(rt: HostRuntime) -> Result<(), Fail> {
     check(BYTES, &mut Bytes { space })
 }
 
-/// The accesses that go to the console, and others.
+/// The memory beside the window, to which accesses go.
 #[derive(Drop)]
-struct Out;
+struct Console {
+    space: Space,
+}
 
-impl Rows for Out {
+impl Rows for Console {
     fn holds(&mut self, row: &str) -> Option<bool> {
-        let is_out = is_out(&request(part(row, 0))?);
-        Some(is_first(part(row, 1), "out", "not") == Some(is_out))
+        let done = done(&mut self.space, &request(part(row, 0))?);
+        let sent = match done {
+            Some(done) => done.sent,
+            None => None,
+        };
+        Some(sent == byte_at(part(row, 1), 0) && sent.is_none() == (part(row, 1) == "none"))
     }
 }
 
-/// An access of privileged code to OUT; whether it sends a byte to the console; what the row is.
-const OUT: &str = "\
-S word 40000000 00000000 p | out | a store
-L word 40000000 00000000 p | not | a load";
+/// An access of privileged code; the byte that it sends to the console, or none; what the row is.
+const CONSOLE: &str = "\
+S word 40000000 12345678 p | 78 | a word to OUT
+L word 40000000 00000000 p | none | a load from OUT
+S byte 40000000 00000078 p | none | a byte to OUT
+S word 40000004 00000078 p | none | a word to TICK
+S word 20000000 00000078 p | none | a word to RAM";
 
 #[test]
-fn bytes_for_the_console() -> Result<(), Fail> {
-    check(OUT, &mut Out)
+fn bytes_for_the_console(rt: HostRuntime) -> Result<(), Fail> {
+    let space = blank(rt.alloc()).ok_or("memory")?;
+    check(CONSOLE, &mut Console { space })
 }

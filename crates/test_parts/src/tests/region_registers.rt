@@ -5,7 +5,7 @@ use super::settings::{setting, write_pairs};
 use super::words::is_number;
 use instruction_set::unpredictable::UnpredictableCase;
 use mpu::{Decider, MpuRegs, MpuStop, Search, mpu_register_at, stop_of};
-use reference::stop::Stop;
+use platform::stop::Stop;
 use std::test::*;
 use test_tables::{Rows, byte_at, check, number_at, numbers, part, word};
 

@@ -9,7 +9,7 @@ use decode::Reread;
 use instruction_set::size::Size;
 use mpu::{Decider, MpuRegs, Search};
 use mpu_table::{KeptDecisions, Table};
-use reference::access::{Access, Kind, Request};
+use platform::access::{Access, Kind, Request};
 use std::alloc::Global;
 use std::test::*;
 use test_tables::{Rows, check, pair, part};
@@ -50,7 +50,7 @@ fn follows<D: Decider>(alloc: Global, stores: &str) -> Option<bool> {
         let (address, value) = pair(word)?;
         let performed = bus.perform(0, &store(address, value));
         write_pairs(&mut registers, word)?;
-        agrees &= matches!(performed, Performed::Done(_, _))
+        agrees &= matches!(performed, Performed::Done(_))
             && agree(bus.system.decider(), &registers);
     }
     Some(agrees)

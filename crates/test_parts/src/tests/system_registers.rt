@@ -7,9 +7,9 @@ use instruction_set::size::Size;
 use instruction_set::unpredictable::UnpredictableCase;
 use mpu::Search;
 use nvic::PlainLevels;
-use reference::access::{Access, Answer, Kind, Request};
-use reference::script::{InterruptNumber, ScriptedEvent, Signal};
-use reference::stop::{LeftOut, Stop};
+use platform::access::{Access, Kind, Performed, Request, Rule};
+use platform::script::{InterruptNumber, ScriptedEvent, Signal};
+use platform::stop::{LeftOut, Stop};
 use scs::System;
 use std::alloc::Global;
 use std::test::*;
@@ -51,28 +51,39 @@ fn stop_word(stop: Stop) -> &'static str {
     }
 }
 
-/// Returns whether an answer is what a word says: a value, `bus`, or the name of a stop.
-fn is_answer(answer: Answer, wanted: &str) -> bool {
-    match answer {
-        Answer::Value(value) => number(wanted) == Some(value),
-        Answer::Error => wanted == "bus",
-        Answer::Stop(stop) => wanted == stop_word(stop),
+/// The outcome of an access while IPSR is `exception`.
+fn outcome(system: &mut PlainSystem, exception: u16, request: &Request) -> Performed {
+    system.access(exception, Rule::PrivatePeripheralBus, request)
+}
+
+/// Returns whether an outcome is what a word says: a value, `bus`, or the name of a stop.
+fn is_outcome(performed: Performed, wanted: &str) -> bool {
+    match performed {
+        Performed::Done(done) => number(wanted) == Some(done.value),
+        Performed::Denied(_, _) => wanted == "bus",
+        Performed::Stop(stop) => wanted == stop_word(stop),
     }
 }
 
 /// The value that a privileged load of a word reads.
 fn loaded(system: &mut PlainSystem, address: u32) -> Option<u32> {
-    match system.access(0, &access_of(Kind::Load, Size::Word, address, 0, true)) {
-        Answer::Value(value) => Some(value),
+    let load = access_of(Kind::Load, Size::Word, address, 0, true);
+    match outcome(system, 0, &load) {
+        Performed::Done(done) => Some(done.value),
         _ => None,
     }
 }
 
-/// What a load and a store of ones are answered.
-fn both(system: &mut PlainSystem, size: Size, address: u32, privileged: bool) -> (Answer, Answer) {
+/// The outcomes of a load and of a store of ones.
+fn both(
+    system: &mut PlainSystem,
+    size: Size,
+    address: u32,
+    privileged: bool,
+) -> (Performed, Performed) {
     let load = access_of(Kind::Load, size, address, 0, privileged);
     let store = access_of(Kind::Store, size, address, 0xFFFF_FFFF, privileged);
-    (system.access(0, &load), system.access(0, &store))
+    (outcome(system, 0, &load), outcome(system, 0, &store))
 }
 
 /// Returns whether a load and a store by unprivileged code are bus errors, whatever their size.
@@ -80,7 +91,7 @@ fn are_refused(system: &mut PlainSystem, address: u32) -> bool {
     let mut refused = true;
     'sizes: for size in [Size::Byte, Size::Halfword, Size::Word] {
         let (load, store) = both(system, size, address, false);
-        refused = refused && is_answer(load, "bus") && is_answer(store, "bus");
+        refused = refused && is_outcome(load, "bus") && is_outcome(store, "bus");
     }
     refused
 }
@@ -90,8 +101,8 @@ fn have_width(system: &mut PlainSystem, address: u32, widths: &str) -> bool {
     let mut wanted = true;
     'sizes: for size in [Size::Byte, Size::Halfword] {
         let (load, store) = both(system, size, address, true);
-        let stopped = is_answer(load, "register-width") && is_answer(store, "register-width");
-        let done = matches!((load, store), (Answer::Value(_), Answer::Value(_)));
+        let stopped = is_outcome(load, "register-width") && is_outcome(store, "register-width");
+        let done = matches!((load, store), (Performed::Done(_), Performed::Done(_)));
         wanted = wanted && if widths == "word" { stopped } else { done };
     }
     wanted
@@ -113,7 +124,7 @@ impl Rows for Registers {
         let width = word(part(row, 1), 0) == "any" || have_width(system, address, "word");
         let value = number_at(part(row, 2), 2).unwrap_or(0xFFFF_FFFF);
         let store = access_of(Kind::Store, Size::Word, address, value, true);
-        let stored = is_answer(system.access(0, &store), word(part(row, 2), 0));
+        let stored = is_outcome(outcome(system, 0, &store), word(part(row, 2), 0));
         let ones = loaded(system, address)? == number_at(part(row, 2), 1)?;
         let parts = word(part(row, 1), 0) == "word" || have_width(system, address, "any");
         Some(reset && refused && kept && width && stored && ones && parts)
@@ -218,11 +229,11 @@ impl Steps {
         Some(true)
     }
 
-    /// Returns whether an access while IPSR is a number is answered so.
-    fn is_answered(&mut self, asked: &str, wanted: &str) -> Option<bool> {
+    /// Returns whether an access while IPSR is a number has this outcome.
+    fn has_outcome(&mut self, asked: &str, wanted: &str) -> Option<bool> {
         let exception = halfword_at(asked, 5).unwrap_or(0);
-        let answer = self.system.access(exception, &request(asked)?);
-        Some(is_answer(answer, wanted))
+        let performed = outcome(&mut self.system, exception, &request(asked)?);
+        Some(is_outcome(performed, wanted))
     }
 }
 
@@ -241,7 +252,7 @@ impl Rows for Steps {
             }
             "mmfar" => self.system.set_mmfar(number_at(asked, 1)?),
             "bfar" => self.system.set_bfar(number_at(asked, 1)?),
-            _ => return self.is_answered(asked, part(row, 1)),
+            _ => return self.has_outcome(asked, part(row, 1)),
         }
         Some(true)
     }
@@ -508,13 +519,13 @@ fn sixteen_regions_and_240_lines(rt: HostRuntime) -> Result<(), Fail> {
     assert!(rt; loaded(&mut system, 0xE000_E004) == Some(7));
     assert!(rt; loaded(&mut system, 0xE000_ED90) == Some(0x1000));
     let last = access_of(Kind::Store, Size::Word, 0xE000_E11C, 0xFFFF_FFFF, true);
-    assert!(rt; is_answer(system.access(0, &last), "0"));
+    assert!(rt; is_outcome(outcome(&mut system, 0, &last), "0"));
     assert!(rt; loaded(&mut system, 0xE000_E11C) == Some(0x0000_FFFF));
     let byte = access_of(Kind::Store, Size::Byte, 0xE000_E4EF, 0x5A, true);
-    assert!(rt; is_answer(system.access(0, &byte), "0"));
+    assert!(rt; is_outcome(outcome(&mut system, 0, &byte), "0"));
     assert!(rt; loaded(&mut system, 0xE000_E4EC) == Some(0x5A00_0000));
     let base = access_of(Kind::Store, Size::Word, 0xE000_ED9C, 0x2000_001F, true);
-    assert!(rt; is_answer(system.access(0, &base), "0"));
+    assert!(rt; is_outcome(outcome(&mut system, 0, &base), "0"));
     assert!(rt; system.region(15) == Some((0x2000_000F, 0)));
     Ok(())
 }

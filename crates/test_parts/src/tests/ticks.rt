@@ -2,8 +2,8 @@
 //! (ARM DDI 0403, "System timer, SysTick") and from the rules of lines and scripts.
 
 use clock::{Clock, Counting, Due};
-use reference::exception::MOST_INTERRUPTS;
-use reference::script::{InterruptNumber, ScriptedEvent, Signal};
+use platform::exception::MOST_INTERRUPTS;
+use platform::script::{InterruptNumber, ScriptedEvent, Signal};
 use std::alloc::Global;
 use std::test::*;
 use test_tables::{Rows, byte_at, check, is_first, long_at, number, number_at, numbers, part};

@@ -1,7 +1,7 @@
 //! The words of the rows: what an access is for, how wide it is, and what decided it.
 
 use instruction_set::size::Size;
-use reference::access::{Access, Kind, Request, Rule};
+use platform::access::{Access, Kind, Request, Rule};
 use test_tables::{byte_at, is_first, meaning, number, number_at, word};
 
 /// The kinds of accesses.

@@ -1,8 +1,10 @@
 //! The command's answers to arguments that name no run: help, the version, and what is wrong.
 
 use super::files::{Ended, Ends, FIRST, NO_INPUT, SMALL};
+use command::{Task, read_words};
+use std::alloc::Global;
 use std::test::*;
-use test_tables::check_between;
+use test_tables::{Rows, check, check_between, part};
 
 /// Arguments that name no run, and arguments that name files that aren't there.
 const ANSWERS: &str = "\
@@ -13,6 +15,7 @@ out marm 0.3.0
 
 the help
 words --help
+words help
 ends 2
 out An ARMv7-M machine that writes a proved trace of its memory accesses
 out
@@ -44,81 +47,6 @@ err marm: usage
 
 the help of run
 words run --help
-ends 2
-out Runs an image on a board and writes the trace to standard output
-out
-out Usage: marm run [OPTIONS] --board <FILE> --steps <N> <IMAGE>
-out
-out Arguments:
-out   <IMAGE>  The image: an ELF file for ARM of at most 16 MiB, linked to run
-out
-out Options:
-out       --board <FILE>   The board: a TOML file of at most 16 MiB with the memory sizes, the interrupt lines and the \
-events
-out       --steps <N>      The most steps (instructions, halves of exception entries, idle ticks) to make, from 0 to \
-4294967296
-out       --trace <WHICH>  Which lines are written, before the line of the stop: all (the default), refused, \
-exceptions, console or none
-out       --expect <STOP>  The words of the last line after `stop`, as \"breakpoint 0\": status 0 if the run ends so, \
-and 1 if it doesn't
-out       --state <FILE>   A file for the state after the run: registers, clock, faults, regions and exceptions, a \
-line for each value
-out   -h, --help           Print help
-out
-out The trace has one line for each access: its tick, kind, address, size in bytes, privilege, outcome,
-out and the rule or region that decided it. Its last line says why the run ended. With --trace refused it
-out has the refused accesses and the faults alone; with exceptions those, and the entries and returns of
-out handlers; with console the bytes that the firmware printed, in place of lines; with none no more than
-out the last line.
-out
-out The file of --state is created, or replaced, after the run, however it ended; not where the image or
-out the board is refused or the trace can't be written.
-out
-out Exit status:
-out   0  all steps were made, or a breakpoint was met; with --expect, the run ended as expected
-out   1  the run ended otherwise than expected (--expect)
-out   2  the arguments are wrong, or help was asked for (marm: usage)
-out   3  the image or the board is refused, or memory ran out for the board or the machine
-out      (marm: load, board, start, size)
-out   4  the machine stopped otherwise, without --expect: the trace's last line says why
-out   5  reading or writing failed, or memory ran out for the arguments or a file (marm: io)
-out
-out Example:
-out   marm run --board examples/boards/small.toml --steps 10 examples/first.elf
-err marm: usage
-
-help as a word
-words help
-ends 2
-out An ARMv7-M machine that writes a proved trace of its memory accesses
-out
-out Usage: marm <COMMAND>
-out
-out Commands:
-out   run     Runs an image on a board and writes the trace to standard output
-out   report  Runs an image on a board and writes a page about the run, in HTML, to standard output
-out   debug   Reads commands from standard input and writes their answers to standard output
-out   help    Print this message or the help of the given subcommand(s)
-out
-out Options:
-out   -h, --help     Print help
-out   -V, --version  Print version
-out
-out Exit status:
-out   0  all steps were made, a breakpoint was met, the run ended as expected (--expect), or a debug session
-out      ended; or the version was asked for
-out   1  the run ended otherwise than expected (--expect)
-out   2  the arguments are wrong, or help was asked for (marm: usage)
-out   3  the image or the board is refused, or memory ran out for the board or the machine
-out      (marm: load, board, start, size)
-out   4  the machine stopped otherwise, without --expect: the trace's last line says why
-out   5  reading or writing failed, or memory ran out for the arguments or a file (marm: io)
-out
-out Example:
-out   marm run --board examples/boards/small.toml --steps 10 examples/first.elf
-err marm: usage
-
-help as a word, of run
 words help run
 ends 2
 out Runs an image on a board and writes the trace to standard output
@@ -198,54 +126,6 @@ err marm: usage
 
 the help of debug
 words debug --help
-ends 2
-out Reads commands from standard input and writes their answers to standard output
-out
-out Usage: marm debug --board <FILE> <IMAGE>
-out
-out Arguments:
-out   <IMAGE>  The image: an ELF file for ARM of at most 16 MiB, linked to run
-out
-out Options:
-out       --board <FILE>  The board: a TOML file of at most 16 MiB with the memory sizes, the interrupt lines and the \
-events
-out   -h, --help          Print help
-out
-out Commands, one a line on standard input; numbers are decimal, or hexadecimal after 0x:
-out   step               makes a step: its trace lines, then `at <pc>` or the stop line
-out   run <n>            makes up to n steps, from 1 to 1000000, and ends at a breakpoint
-out   task <n>           makes up to n steps of a task (unprivileged code in Thread mode under the regions of the
-out                      MPU), from 1 to 1000000, through breakpoints; then `task done`, `task other` where the
-out                      next step isn't an instruction, `task not` where no task runs, or the stop line
-out   break <a>          sets a breakpoint at an address, at most 16
-out                      an odd address is never hit, and no command removes a breakpoint
-out   regs               shows the core registers
-out   mem <a> <n>        shows n bytes from an address on, from 1 to 256
-out   regions            shows RBAR and RASR of each region of the MPU
-out   explain <a> p|u r|w|x
-out                      shows the rule that would decide an access by privileged (p) or unprivileged (u)
-out                      code that reads, writes or executes, and whether the rule would grant it
-out   quit               ends the session, as the end of the input does
-out
-out Words are separated by exactly one space. A line ends with a line feed, without a carriage return, and
-out has at most 80 bytes before it. The last line needs no line feed.
-out
-out Answers `error 1` (no such command, a wrong number of words, or a line of more than 80 bytes), `error 2`
-out (a word isn't allowed there) and `error 3` (16 breakpoints are set) change nothing.
-out
-out Exit status:
-out   0  the session ended
-out   2  the arguments are wrong, or help was asked for (marm: usage)
-out   3  the image or the board is refused, or memory ran out for the board or the machine
-out      (marm: load, board, start, size)
-out   5  reading or writing failed, or memory ran out for the arguments or a file (marm: io)
-out
-out Example:
-out   echo 'explain 0x20000000 u w' |
-out   marm debug --board examples/boards/small.toml examples/first.elf
-err marm: usage
-
-help as a word, of debug
 words help debug
 ends 2
 out Reads commands from standard input and writes their answers to standard output
@@ -260,38 +140,7 @@ out       --board <FILE>  The board: a TOML file of at most 16 MiB with the memo
 events
 out   -h, --help          Print help
 out
-out Commands, one a line on standard input; numbers are decimal, or hexadecimal after 0x:
-out   step               makes a step: its trace lines, then `at <pc>` or the stop line
-out   run <n>            makes up to n steps, from 1 to 1000000, and ends at a breakpoint
-out   task <n>           makes up to n steps of a task (unprivileged code in Thread mode under the regions of the
-out                      MPU), from 1 to 1000000, through breakpoints; then `task done`, `task other` where the
-out                      next step isn't an instruction, `task not` where no task runs, or the stop line
-out   break <a>          sets a breakpoint at an address, at most 16
-out                      an odd address is never hit, and no command removes a breakpoint
-out   regs               shows the core registers
-out   mem <a> <n>        shows n bytes from an address on, from 1 to 256
-out   regions            shows RBAR and RASR of each region of the MPU
-out   explain <a> p|u r|w|x
-out                      shows the rule that would decide an access by privileged (p) or unprivileged (u)
-out                      code that reads, writes or executes, and whether the rule would grant it
-out   quit               ends the session, as the end of the input does
-out
-out Words are separated by exactly one space. A line ends with a line feed, without a carriage return, and
-out has at most 80 bytes before it. The last line needs no line feed.
-out
-out Answers `error 1` (no such command, a wrong number of words, or a line of more than 80 bytes), `error 2`
-out (a word isn't allowed there) and `error 3` (16 breakpoints are set) change nothing.
-out
-out Exit status:
-out   0  the session ended
-out   2  the arguments are wrong, or help was asked for (marm: usage)
-out   3  the image or the board is refused, or memory ran out for the board or the machine
-out      (marm: load, board, start, size)
-out   5  reading or writing failed, or memory ran out for the arguments or a file (marm: io)
-out
-out Example:
-out   echo 'explain 0x20000000 u w' |
-out   marm debug --board examples/boards/small.toml examples/first.elf
+help
 err marm: usage
 
 help as a word, of help
@@ -522,4 +371,54 @@ fn a_help_that_cannot_be_written_is_usage_and_is_named(rt: HostRuntime) -> Resul
     let ended = Ended::of(&rt, "--help", &FIRST, SMALL.as_bytes(), NO_INPUT, 0)?;
     assert!(rt; ended.is(2, b"", b"marm: usage\n  standard output: broken pipe\n"));
     Ok(())
+}
+
+/// The steps that a command line asks for: none where it is refused, or out of memory.
+fn steps_of(alloc: Global, line: &str) -> Option<u64> {
+    let mut words = Vec::new(alloc);
+    for word in line.split_whitespace() {
+        words.push(word.to_string(alloc).ok()?).ok()?;
+    }
+    let job = read_words(alloc, words.as_slice()).ok()?;
+    match job.task {
+        Task::Run(run) => Some(run.steps),
+        Task::Report(steps) => Some(steps),
+        Task::Debug => None,
+    }
+}
+
+/// Command lines, and the steps that they ask for.
+#[derive(Drop)]
+struct Lines {
+    alloc: Global,
+}
+
+impl Rows for Lines {
+    fn holds(&mut self, row: &str) -> Option<bool> {
+        let steps = steps_of(self.alloc, part(row, 0));
+        let wanted = part(row, 1);
+        Some(steps == wanted.parse::<u64>().ok() && steps.is_none() == (wanted == "-"))
+    }
+}
+
+/// A command line, and the steps that it asks for, `-` where it is refused.
+const WORDS: &str = "\
+marm run --board b.toml --steps 10 first.elf | 10
+marm run first.elf --steps 0 --board b.toml | 0
+marm run --steps=4294967296 --board=b.toml first.elf | 4294967296
+marm run --board b.toml --steps 4294967297 first.elf | -
+marm run --board b.toml --steps ten first.elf | -
+marm report --board b.toml --steps 4294967296 first.elf | 4294967296
+marm report --board b.toml --steps 4294967297 first.elf | -
+marm report --board b.toml first.elf | -
+marm report --board b.toml --steps 1 --trace none first.elf | -
+marm run --board b.toml --steps 10 | -
+marm run --board b.toml first.elf | -
+marm run --steps 10 first.elf | -
+marm run --frob --board b.toml --steps 10 first.elf | -
+marm | -";
+
+#[test]
+fn words_are_taken_or_refused(rt: HostRuntime) -> Result<(), Fail> {
+    check(WORDS, &mut Lines { alloc: rt.alloc() })
 }

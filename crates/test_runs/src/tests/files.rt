@@ -4,16 +4,17 @@ use super::cut::{Cut, Short, Text, push_line};
 use super::elf_files::ElfFile;
 use board::BoardError;
 use command::{
-    Error, FileError, InputFile, Task, WordsError, answer, program, read_file, read_words,
-    refuse_words, tell, write_reason,
+    Error, FileError, InputFile, WordsError, answer, program, read_file, refuse_words, tell,
+    write_reason,
 };
+use command_line::AFTER_DEBUG;
 use machine::StartError;
 use std::alloc::Global;
 use std::fs::OpenFile;
 use std::io::Read;
 use std::test::*;
 use std::{fs, io, str};
-use test_tables::{Rows, byte_at, check, check_between, number_at, part};
+use test_tables::{Rows, byte_at, check_between, number_at};
 
 /// The file examples/first.elf: MOV R0, #5 and BKPT 0 at address 8.
 pub(super) static FIRST: [u8; 96] =
@@ -40,7 +41,7 @@ pub(super) const RUN_WORDS: &str = "run --board board.toml --steps 10 image.elf"
 /// The words and files of a run of the program, and how it is to end.
 #[derive(Drop)]
 struct Case {
-    /// The words after the program's name, with a space between two of them.
+    /// For each run the words after the program's name, a line with a space between two of them.
     words: Text,
     image: [u8; 96],
     /// How many bytes of the image there are.
@@ -90,11 +91,13 @@ impl Case {
         Some(case)
     }
 
-    /// Reads a line: `words` after the program's name, `byte` with a place and a byte of the image,
+    /// Reads a line: `words` after the program's name, one more where other words are answered alike,
+    /// `byte` with a place and a byte of the image,
     /// `length` of the image, `vectors`, `data` and `code` with a segment of an image of its own,
     /// `board` with a line of the board, `with` a line after the small board's,
     /// `ends` with the status, `in` with a line of standard input, `tail` with one that has no line
-    /// feed, and `out` and `err` with the lines that are written.
+    /// feed, `out` and `err` with the lines that are written, and `help` for the lines that the help of
+    /// `debug` ends with.
     fn read(&mut self, line: &str) -> Option<()> {
         let (word, rest) = line.split_once(' ').unwrap_or((line, ""));
         match word {
@@ -106,6 +109,7 @@ impl Case {
             "tail" => self.input.try_extend_from_slice(rest.as_bytes()).ok(),
             "out" => push_line(&mut self.out, rest),
             "err" => push_line(&mut self.err, rest),
+            "help" => push_line(&mut self.out, AFTER_DEBUG),
             _ => self.read_numbers(word, rest),
         }
     }
@@ -194,11 +198,17 @@ impl Rows for Ends<'_> {
     fn holds(&mut self, text: &str) -> Option<bool> {
         let case = Case::of(text)?;
         let image = case.bytes()?;
-        let words = str::from_utf8(case.words.as_slice()).ok()?;
-        let board = case.board.as_slice();
-        let input = case.input.as_slice();
-        let ended = Ended::of(self.rt, words, image.as_slice(), board, input, 4096).ok()?;
-        Some(ended.is(case.status?, case.out.as_slice(), case.err.as_slice()))
+        let (image, board, input) = (
+            image.as_slice(),
+            case.board.as_slice(),
+            case.input.as_slice(),
+        );
+        let mut all = true;
+        'runs: for words in str::from_utf8(case.words.as_slice()).ok()?.lines() {
+            let ended = Ended::of(self.rt, words, image, board, input, 4096).ok()?;
+            all &= ended.is(case.status?, case.out.as_slice(), case.err.as_slice());
+        }
+        Some(all)
     }
 }
 
@@ -742,54 +752,4 @@ fn a_large_file_is_named(rt: HostRuntime) -> Result<(), Fail> {
 fn files_that_cannot_be_read_are_io(rt: HostRuntime) {
     assert!(rt; matches!(read_file(&rt, "missing.elf"), Err(FileError::Read(_))));
     assert!(rt; matches!(read_file(&rt, "."), Err(FileError::Read(_))));
-}
-
-/// The steps that a command line asks for: none where it is refused, or out of memory.
-fn steps_of(alloc: Global, line: &str) -> Option<u64> {
-    let mut words = Vec::new(alloc);
-    for word in line.split_whitespace() {
-        words.push(word.to_string(alloc).ok()?).ok()?;
-    }
-    let job = read_words(alloc, words.as_slice()).ok()?;
-    match job.task {
-        Task::Run(run) => Some(run.steps),
-        Task::Report(steps) => Some(steps),
-        Task::Debug => None,
-    }
-}
-
-/// Command lines, and the steps that they ask for.
-#[derive(Drop)]
-struct Lines {
-    alloc: Global,
-}
-
-impl Rows for Lines {
-    fn holds(&mut self, row: &str) -> Option<bool> {
-        let steps = steps_of(self.alloc, part(row, 0));
-        let wanted = part(row, 1);
-        Some(steps == wanted.parse::<u64>().ok() && steps.is_none() == (wanted == "-"))
-    }
-}
-
-/// A command line, and the steps that it asks for, `-` where it is refused.
-const WORDS: &str = "\
-marm run --board b.toml --steps 10 first.elf | 10
-marm run first.elf --steps 0 --board b.toml | 0
-marm run --steps=4294967296 --board=b.toml first.elf | 4294967296
-marm run --board b.toml --steps 4294967297 first.elf | -
-marm run --board b.toml --steps ten first.elf | -
-marm report --board b.toml --steps 4294967296 first.elf | 4294967296
-marm report --board b.toml --steps 4294967297 first.elf | -
-marm report --board b.toml first.elf | -
-marm report --board b.toml --steps 1 --trace none first.elf | -
-marm run --board b.toml --steps 10 | -
-marm run --board b.toml first.elf | -
-marm run --steps 10 first.elf | -
-marm run --frob --board b.toml --steps 10 first.elf | -
-marm | -";
-
-#[test]
-fn words_are_taken_or_refused(rt: HostRuntime) -> Result<(), Fail> {
-    check(WORDS, &mut Lines { alloc: rt.alloc() })
 }

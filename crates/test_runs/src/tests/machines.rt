@@ -5,8 +5,8 @@ use machine::{
     Board, Decider, DueTicks, InterruptNumber, KeptCode, Layout, Levels, Machine, Place,
     PlaceError, RegionCount, SMALL_BOARD, ScriptedEvent, Signal,
 };
-use reference::exception::MOST_INTERRUPTS;
-use reference::mpu::MOST_REGIONS;
+use platform::exception::MOST_INTERRUPTS;
+use platform::mpu::MOST_REGIONS;
 use std::alloc::{AllocError, Global};
 use test_tables::{byte_at, number_at, word};
 

@@ -1,8 +1,12 @@
-//! Each named stop (docs/STOPS.md) on both machines, and the machine after it: a step has no event, a run writes
-//! the line of the stop alone, and no value is placed. `clock-end` isn't here: no run is long enough.
+//! Images that end at each named stop (docs/STOPS.md) but `clock-end`, for which no run is long enough: the status
+//! and the trace of the command, the trace of both machines, and the machines after it: a step has no event, a run
+//! writes the line of the stop alone, and no value is placed.
 
 use super::cut::{Cut, Text, push_line, run};
-use super::run::Run;
+use super::elf_files::ElfFile;
+use super::files::Ends;
+use super::machines::small_board;
+use elf::load;
 use machine::{
     Ahead, BitLevels, BoardDecodeTable, Counting, Decider, DueTicks, Events, KeptCode,
     KeptDecisions, KeptPriorities, Levels, Machine, Place, PlaceError, PlainLevels, Reread, Search,
@@ -10,46 +14,56 @@ use machine::{
 };
 use std::alloc::Global;
 use std::test::*;
-use test_tables::{Rows, check_between, part};
+use test_tables::{Rows, check_between, word};
 
-/// Machines that stop by name, each with the line of its stop.
+/// Images that stop by name.
 #[derive(Drop)]
-struct Stops {
-    alloc: Global,
+struct Stops<'a> {
+    rt: &'a HostRuntime,
 }
 
-impl Rows for Stops {
+impl Rows for Stops<'_> {
     fn holds(&mut self, text: &str) -> Option<bool> {
+        let alloc = self.rt.alloc();
         Some(
-            does_stop::<Search, Reread, PlainLevels, Counting>(self.alloc, text)?
+            Ends { rt: self.rt }.holds(text)?
+                && does_stop::<Search, Reread, PlainLevels, Counting>(alloc, text)?
                 && does_stop::<
                     KeptDecisions<Table>,
                     BoardDecodeTable,
                     KeptPriorities<BitLevels>,
                     Ahead,
-                >(self.alloc, text)?,
+                >(alloc, text)?,
         )
     }
 }
 
-/// Returns whether a machine that follows the lines of a row stops as the first of them says, and stays so.
+/// Returns whether a machine with the image of a row writes its lines, and stays at the stop of the last one.
 fn does_stop<D: Decider, C: KeptCode, L: Levels, U: DueTicks>(
     alloc: Global,
     text: &str,
 ) -> Option<bool> {
-    let mut stop = Text::new();
-    push_line(&mut stop, part(text.lines().next()?, 0))?;
-    let mut run: Run<D, C, L, U> = Run::of(alloc, text)?;
+    let mut file = ElfFile::new();
+    let mut wanted = Text::new();
+    let mut last = Text::new();
     'lines: for line in text.lines().skip(1) {
-        if !run.follow(line)? {
-            return Some(false);
+        match word(line, 0) {
+            "out" => {
+                last = Text::new();
+                push_line(&mut last, line.split_once(' ')?.1)?;
+                wanted.try_extend_from_slice(last.as_slice()).ok()?;
+            }
+            "ends" => {}
+            _ => file.add(line)?,
         }
     }
-    let lines = run.wanted.len();
-    let written = run.out.text.as_slice();
-    let begins = written.starts_with(run.wanted.as_slice());
-    let ends = written.get(lines..)? == stop.as_slice();
-    Some(begins && ends && stays(&mut run.machine, stop.as_slice())?)
+    let bytes = file.bytes()?;
+    let image = load(bytes.as_slice()).ok()?;
+    let board = small_board(alloc, "").ok()?;
+    let mut machine: Machine<D, C, L, U> = Machine::new(alloc, &image, &board).ok()?;
+    let mut out = Cut::whole();
+    let _ = run(&mut machine, 10, &mut out).ok()?;
+    Some(out.text.as_slice() == wanted.as_slice() && stays(&mut machine, last.as_slice())?)
 }
 
 /// Returns whether a machine repeats the stop of this line, and takes no place.
@@ -87,226 +101,307 @@ fn is_closed<D: Decider, C: KeptCode, L: Levels, U: DueTicks>(
     closed
 }
 
-/// The line of the stop, and what stops so; the places, the steps, and the lines before that of the stop.
+/// Code alone at 60; or at FC, where MOVS R7, #60 is 2760 and LDM R7!, {R0, R1} CF03, which loads the words at 60. SVC
+/// 0 is DF00, and its handler is at 200.
 const STOPS: &str = "\
-stop unpredictable encoding | BX R0, of which bit 0 is set
-word 100 4701
-reg F 100
-steps 3
-trace 1 F 00000100 2 p ok off
+BX R0, of which bit 0 is set
+vectors 61
+code 60 4701
+ends 4
+out 1 F 00000060 2 p ok off
+out stop unpredictable encoding
 
-stop unpredictable it-block | ITTTE AL
-word 100 BFE3
-reg F 100
-steps 3
-trace 1 F 00000100 2 p ok off
+ITTTE AL
+vectors 61
+code 60 BFE3
+ends 4
+out 1 F 00000060 2 p ok off
+out stop unpredictable it-block
 
-stop unpredictable empty-list | PUSH {}
-word 100 B400
-reg F 100
-special 8 20001000
-steps 3
-trace 1 F 00000100 2 p ok off
+PUSH {}
+vectors 61
+code 60 B400
+ends 4
+out 1 F 00000060 2 p ok off
+out stop unpredictable empty-list
 
-stop unpredictable registers | ADD PC, PC
-word 100 44FF
-reg F 100
-steps 3
-trace 1 F 00000100 2 p ok off
+ADD PC, PC
+vectors 61
+code 60 44FF
+ends 4
+out 1 F 00000060 2 p ok off
+out stop unpredictable registers
 
-stop unpredictable stored-base | STM R1!, {R0, R1}
-word 100 C103
-reg F 100
-reg 1 20000000
-steps 3
-trace 1 F 00000100 2 p ok off
+STM R1!, {R0, R1}
+vectors 61
+code 60 C103
+ends 4
+out 1 F 00000060 2 p ok off
+out stop unpredictable stored-base
 
-stop unpredictable immediate | ORNS R5, R2, #0 with the byte 0 repeated
-word 100 3500F072
-reg F 100
-steps 3
-trace 1 F 00000100 2 p ok off
-trace 1 F 00000102 2 p ok off
+ORNS R5, R2, #0, of the byte 0 repeated
+vectors 61
+code 60 F072 3500
+ends 4
+out 1 F 00000060 2 p ok off
+out 1 F 00000062 2 p ok off
+out stop unpredictable immediate
 
-stop unpredictable bit-field | BFI with lsb 8 and msb 6
-word 100 2B06F366
-reg F 100
-steps 3
-trace 1 F 00000100 2 p ok off
-trace 1 F 00000102 2 p ok off
+BFI with lsb 8 and msb 6
+vectors 61
+code 60 F366 2B06
+ends 4
+out 1 F 00000060 2 p ok off
+out 1 F 00000062 2 p ok off
+out stop unpredictable bit-field
 
-stop unpredictable special-register | MSR of the number 182
-word 100 80B6F384
-reg F 100
-steps 3
-trace 1 F 00000100 2 p ok off
-trace 1 F 00000102 2 p ok off
+MSR of the number 182
+vectors 61
+code 60 F384 80B6
+ends 4
+out 1 F 00000060 2 p ok off
+out 1 F 00000062 2 p ok off
+out stop unpredictable special-register
 
-stop unpredictable load-pc | LDR PC, [R0] at an address that is no multiple of 4
-word 100 F000F8D0
-reg F 100
-reg 0 20000002
-steps 3
-trace 1 F 00000100 2 p ok off
-trace 1 F 00000102 2 p ok off
+LDR PC, [R0] at 20000002
+vectors FD
+data 60 20000002 0
+code FC 2760 CF03 F8D0 F000
+ends 4
+out 1 F 000000FC 2 p ok off
+out 2 F 000000FE 2 p ok off
+out 2 L 00000060 4 p ok off
+out 2 L 00000064 4 p ok off
+out 3 F 00000100 2 p ok off
+out 3 F 00000102 2 p ok off
+out stop unpredictable load-pc
 
-stop unpredictable literal-pc | LDRD R0, R1, [PC, #0], where PC is 106
-word 100 E9DF0000
-word 104 BF000100
-reg F 102
-steps 3
-trace 1 F 00000102 2 p ok off
-trace 1 F 00000104 2 p ok off
+LDRD R0, R1, [PC, #0] at 62, where PC is 66
+vectors 63
+code 62 E9DF 0100
+ends 4
+out 1 F 00000062 2 p ok off
+out 1 F 00000064 2 p ok off
+out stop unpredictable literal-pc
 
-stop unpredictable exc-return | BX R0 in a handler, where bit 4 is 0
-event 1 pulse 0
-vectors 201
-special 8 20001000
-reg F 100
-word 200 4700
-word E000E100 1
-reg 0 FFFFFFE9
-steps 9
-trace 1 K 20000FE0 4 p ok off
-trace 1 K 20000FE4 4 p ok off
-trace 1 K 20000FE8 4 p ok off
-trace 1 K 20000FEC 4 p ok off
-trace 1 K 20000FF0 4 p ok off
-trace 1 K 20000FF4 4 p ok off
-trace 1 K 20000FF8 4 p ok off
-trace 1 K 20000FFC 4 p ok off
-trace 2 V 00000040 4 p ok vec
-trace 2 X 16
-trace 3 F 00000200 2 p ok off
-trace 3 R FFFFFFE9
+BX R0 in a handler, where bit 4 is 0
+vectors FD
+data 60 FFFFFFE9 0
+code FC 2760 CF03 DF00
+code 200 4700
+ends 4
+out 1 F 000000FC 2 p ok off
+out 2 F 000000FE 2 p ok off
+out 2 L 00000060 4 p ok off
+out 2 L 00000064 4 p ok off
+out 3 F 00000100 2 p ok off
+out 4 K 20000FE0 4 p ok off
+out 4 K 20000FE4 4 p ok off
+out 4 K 20000FE8 4 p ok off
+out 4 K 20000FEC 4 p ok off
+out 4 K 20000FF0 4 p ok off
+out 4 K 20000FF4 4 p ok off
+out 4 K 20000FF8 4 p ok off
+out 4 K 20000FFC 4 p ok off
+out 5 V 0000002C 4 p ok vec
+out 5 X 11
+out 6 F 00000200 2 p ok off
+out 6 R FFFFFFE9
+out stop unpredictable exc-return
 
-stop unpredictable popped-pc | a handler stores 101 as the return address, and returns
-event 1 pulse 0
-vectors 201
-special 8 20001000
-reg F 100
-word 200 47709106
-word E000E100 1
-reg 1 101
-steps 9
-trace 1 K 20000FE0 4 p ok off
-trace 1 K 20000FE4 4 p ok off
-trace 1 K 20000FE8 4 p ok off
-trace 1 K 20000FEC 4 p ok off
-trace 1 K 20000FF0 4 p ok off
-trace 1 K 20000FF4 4 p ok off
-trace 1 K 20000FF8 4 p ok off
-trace 1 K 20000FFC 4 p ok off
-trace 2 V 00000040 4 p ok vec
-trace 2 X 16
-trace 3 F 00000200 2 p ok off
-trace 3 S 20000FF8 4 p ok off
-trace 4 F 00000202 2 p ok off
-trace 4 R FFFFFFF9
-trace 4 U 20000FE0 4 p ok off
-trace 4 U 20000FE4 4 p ok off
-trace 4 U 20000FE8 4 p ok off
-trace 4 U 20000FEC 4 p ok off
-trace 4 U 20000FF0 4 p ok off
-trace 4 U 20000FF4 4 p ok off
-trace 4 U 20000FF8 4 p ok off
-trace 4 U 20000FFC 4 p ok off
+a handler stores 101 as the return address, and returns
+vectors FD
+data 60 0 101
+code FC 2760 CF03 DF00
+code 200 9106 4770
+ends 4
+out 1 F 000000FC 2 p ok off
+out 2 F 000000FE 2 p ok off
+out 2 L 00000060 4 p ok off
+out 2 L 00000064 4 p ok off
+out 3 F 00000100 2 p ok off
+out 4 K 20000FE0 4 p ok off
+out 4 K 20000FE4 4 p ok off
+out 4 K 20000FE8 4 p ok off
+out 4 K 20000FEC 4 p ok off
+out 4 K 20000FF0 4 p ok off
+out 4 K 20000FF4 4 p ok off
+out 4 K 20000FF8 4 p ok off
+out 4 K 20000FFC 4 p ok off
+out 5 V 0000002C 4 p ok vec
+out 5 X 11
+out 6 F 00000200 2 p ok off
+out 6 S 20000FF8 4 p ok off
+out 7 F 00000202 2 p ok off
+out 7 R FFFFFFF9
+out 7 U 20000FE0 4 p ok off
+out 7 U 20000FE4 4 p ok off
+out 7 U 20000FE8 4 p ok off
+out 7 U 20000FEC 4 p ok off
+out 7 U 20000FF0 4 p ok off
+out 7 U 20000FF4 4 p ok off
+out 7 U 20000FF8 4 p ok off
+out 7 U 20000FFC 4 p ok off
+out stop unpredictable popped-pc
 
-stop unpredictable mpu-region | MPU_RASR, a region of 16 bytes
-word 100 6001
-reg F 100
-reg 0 E000EDA0
-reg 1 7
-steps 3
-trace 1 F 00000100 2 p ok off
+a store to MPU_RNR of a region that isn't there
+vectors FD
+data 60 E000ED98 8
+code FC 2760 CF03 6001
+ends 4
+out 1 F 000000FC 2 p ok off
+out 2 F 000000FE 2 p ok off
+out 2 L 00000060 4 p ok off
+out 2 L 00000064 4 p ok off
+out 3 F 00000100 2 p ok off
+out stop unpredictable mpu-region
 
-stop unpredictable mpu-ctrl | MPU_CTRL, HFNMIENA without ENABLE
-word 100 6001
-reg F 100
-reg 0 E000ED94
-reg 1 2
-steps 3
-trace 1 F 00000100 2 p ok off
+a store to MPU_RASR of a region of 16 bytes
+vectors FD
+data 60 E000EDA0 7
+code FC 2760 CF03 6001
+ends 4
+out 1 F 000000FC 2 p ok off
+out 2 F 000000FE 2 p ok off
+out 2 L 00000060 4 p ok off
+out 2 L 00000064 4 p ok off
+out 3 F 00000100 2 p ok off
+out stop unpredictable mpu-region
 
-stop unpredictable icsr | ICSR, PENDSVSET and PENDSVCLR
-word 100 6001
-reg F 100
-reg 0 E000ED04
-reg 1 18000000
-steps 3
-trace 1 F 00000100 2 p ok off
+a store to MPU_CTRL of HFNMIENA without ENABLE
+vectors FD
+data 60 E000ED94 2
+code FC 2760 CF03 6001
+ends 4
+out 1 F 000000FC 2 p ok off
+out 2 F 000000FE 2 p ok off
+out 2 L 00000060 4 p ok off
+out 2 L 00000064 4 p ok off
+out 3 F 00000100 2 p ok off
+out stop unpredictable mpu-ctrl
 
-stop unpredictable icsr | ICSR, PENDSTSET and PENDSTCLR
-word 100 6001
-reg F 100
-reg 0 E000ED04
-reg 1 06000000
-steps 3
-trace 1 F 00000100 2 p ok off
+a store to ICSR of PENDSVSET and PENDSVCLR
+vectors FD
+data 60 E000ED04 18000000
+code FC 2760 CF03 6001
+ends 4
+out 1 F 000000FC 2 p ok off
+out 2 F 000000FE 2 p ok off
+out 2 L 00000060 4 p ok off
+out 2 L 00000064 4 p ok off
+out 3 F 00000100 2 p ok off
+out stop unpredictable icsr
 
-stop outofprofile exclusive-device | LDREX of the device window
-word 100 1F00E850
-reg F 100
-reg 0 40000000
-steps 3
-trace 1 F 00000100 2 p ok off
-trace 1 F 00000102 2 p ok off
+a store to ICSR of PENDSTSET and PENDSTCLR
+vectors FD
+data 60 E000ED04 06000000
+code FC 2760 CF03 6001
+ends 4
+out 1 F 000000FC 2 p ok off
+out 2 F 000000FE 2 p ok off
+out 2 L 00000060 4 p ok off
+out 2 L 00000064 4 p ok off
+out 3 F 00000100 2 p ok off
+out stop unpredictable icsr
 
-stop outofprofile unaligned-device | LDR of the word from 40000001 on
-word 100 6801
-reg F 100
-reg 0 40000001
-steps 3
-trace 1 F 00000100 2 p ok off
+LDREX R1, [R0] of the device window
+vectors FD
+data 60 40000000 0
+code FC 2760 CF03 E850 1F00
+ends 4
+out 1 F 000000FC 2 p ok off
+out 2 F 000000FE 2 p ok off
+out 2 L 00000060 4 p ok off
+out 2 L 00000064 4 p ok off
+out 3 F 00000100 2 p ok off
+out 3 F 00000102 2 p ok off
+out stop outofprofile exclusive-device
 
-stop outofprofile register-width | LDRB of MPU_CTRL
-word 100 7801
-reg F 100
-reg 0 E000ED94
-steps 3
-trace 1 F 00000100 2 p ok off
+LDR R1, [R0] at 40000001
+vectors FD
+data 60 40000001 0
+code FC 2760 CF03 6801
+ends 4
+out 1 F 000000FC 2 p ok off
+out 2 F 000000FE 2 p ok off
+out 2 L 00000060 4 p ok off
+out 2 L 00000064 4 p ok off
+out 3 F 00000100 2 p ok off
+out stop outofprofile unaligned-device
 
-stop outofprofile active-bit | SHCSR, MEMFAULTACT
-word 100 6001
-reg F 100
-reg 0 E000ED24
-reg 1 1
-steps 3
-trace 1 F 00000100 2 p ok off
+LDRB R1, [R0] of MPU_CTRL
+vectors FD
+data 60 E000ED94 0
+code FC 2760 CF03 7801
+ends 4
+out 1 F 000000FC 2 p ok off
+out 2 F 000000FE 2 p ok off
+out 2 L 00000060 4 p ok off
+out 2 L 00000064 4 p ok off
+out 3 F 00000100 2 p ok off
+out stop outofprofile register-width
 
-stop outofprofile bfhfnmign | CCR, BFHFNMIGN
-word 100 6001
-reg F 100
-reg 0 E000ED14
-reg 1 300
-steps 3
-trace 1 F 00000100 2 p ok off
+a store to SHCSR of MEMFAULTACT
+vectors FD
+data 60 E000ED24 1
+code FC 2760 CF03 6001
+ends 4
+out 1 F 000000FC 2 p ok off
+out 2 F 000000FE 2 p ok off
+out 2 L 00000060 4 p ok off
+out 2 L 00000064 4 p ok off
+out 3 F 00000100 2 p ok off
+out stop outofprofile active-bit
 
-stop outofprofile sleeponexit | SCR, SLEEPONEXIT
-word 100 6001
-reg F 100
-reg 0 E000ED10
-reg 1 2
-steps 3
-trace 1 F 00000100 2 p ok off
+a store to CCR of BFHFNMIGN
+vectors FD
+data 60 E000ED14 300
+code FC 2760 CF03 6001
+ends 4
+out 1 F 000000FC 2 p ok off
+out 2 F 000000FE 2 p ok off
+out 2 L 00000060 4 p ok off
+out 2 L 00000064 4 p ok off
+out 3 F 00000100 2 p ok off
+out stop outofprofile bfhfnmign
 
-stop outofprofile aircr | AIRCR, VECTRESET
-word 100 6001
-reg F 100
-reg 0 E000ED0C
-reg 1 05FA0001
-steps 3
-trace 1 F 00000100 2 p ok off
+a store to SCR of SLEEPONEXIT
+vectors FD
+data 60 E000ED10 2
+code FC 2760 CF03 6001
+ends 4
+out 1 F 000000FC 2 p ok off
+out 2 F 000000FE 2 p ok off
+out 2 L 00000060 4 p ok off
+out 2 L 00000064 4 p ok off
+out 3 F 00000100 2 p ok off
+out stop outofprofile sleeponexit
 
-stop outofprofile aircr | AIRCR, VECTCLRACTIVE
-word 100 6001
-reg F 100
-reg 0 E000ED0C
-reg 1 05FA0002
-steps 3
-trace 1 F 00000100 2 p ok off";
+a store to AIRCR of VECTCLRACTIVE
+vectors FD
+data 60 E000ED0C 05FA0002
+code FC 2760 CF03 6001
+ends 4
+out 1 F 000000FC 2 p ok off
+out 2 F 000000FE 2 p ok off
+out 2 L 00000060 4 p ok off
+out 2 L 00000064 4 p ok off
+out 3 F 00000100 2 p ok off
+out stop outofprofile aircr
+
+a store to AIRCR of VECTRESET
+vectors FD
+data 60 E000ED0C 05FA0001
+code FC 2760 CF03 6001
+ends 4
+out 1 F 000000FC 2 p ok off
+out 2 F 000000FE 2 p ok off
+out 2 L 00000060 4 p ok off
+out 2 L 00000064 4 p ok off
+out 3 F 00000100 2 p ok off
+out stop outofprofile aircr";
 
 #[test]
-fn named_stops_end_the_machine(rt: HostRuntime) -> Result<(), Fail> {
-    check_between(STOPS, "\n\n", &mut Stops { alloc: rt.alloc() })
+fn images_that_end_at_a_named_stop(rt: HostRuntime) -> Result<(), Fail> {
+    check_between(STOPS, "\n\n", &mut Stops { rt: &rt })
 }

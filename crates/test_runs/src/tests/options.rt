@@ -79,33 +79,13 @@ const TRACES: [(&str, &str); 5] = [
 /// Words that select no lines.
 const NO_TRACES: [&str; 4] = ["", "All", "nothing", "refused,exceptions"];
 
-/// The words of each stop but the breakpoints, as docs/STOPS.md has them.
-const STOPS: [&str; 26] = [
+/// Words of stops: `is_stop` of `command` is proved to take those of each.
+const STOPS: [&str; 6] = [
     "steps",
     "reset",
     "lockup",
-    "unpredictable encoding",
-    "unpredictable it-block",
-    "unpredictable empty-list",
-    "unpredictable registers",
-    "unpredictable stored-base",
-    "unpredictable immediate",
-    "unpredictable bit-field",
-    "unpredictable special-register",
-    "unpredictable load-pc",
-    "unpredictable literal-pc",
-    "unpredictable exc-return",
+    "breakpoint 255",
     "unpredictable popped-pc",
-    "unpredictable mpu-region",
-    "unpredictable mpu-ctrl",
-    "unpredictable icsr",
-    "outofprofile exclusive-device",
-    "outofprofile unaligned-device",
-    "outofprofile register-width",
-    "outofprofile active-bit",
-    "outofprofile bfhfnmign",
-    "outofprofile sleeponexit",
-    "outofprofile aircr",
     "outofprofile clock-end",
 ];
 
@@ -217,11 +197,10 @@ fn breakpoint_10_does_not_meet_breakpoint_1(rt: HostRuntime) -> Result<(), Fail>
 }
 
 #[test]
-fn the_words_of_each_stop_are_taken(rt: HostRuntime) -> Result<(), Fail> {
+fn the_words_of_stops_are_taken(rt: HostRuntime) -> Result<(), Fail> {
     'stops: for words in STOPS.iter() {
-        assert!(rt; Ended::of(&rt, &FIRST, "10", words)?.status == 1);
+        assert!(rt; Ended::of(&rt, &FIRST, "10", words)?.status == 1, "{words}");
     }
-    assert!(rt; Ended::of(&rt, &FIRST, "10", "breakpoint 255")?.status == 1);
     Ok(())
 }
 

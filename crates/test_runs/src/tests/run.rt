@@ -24,7 +24,7 @@ use machine::{
     KeptPriorities, Levels, Machine, PlaceError, PlainLevels, RegValues, Reread, Search, Stop,
     Table, TaskEnd,
 };
-use reference::stop::LeftOut;
+use platform::stop::LeftOut;
 use std::alloc::Global;
 use std::test::Fail;
 use test_tables::{Rows, byte_at, check_between, number, number_at, word};

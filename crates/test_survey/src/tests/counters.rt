@@ -1,7 +1,7 @@
 //! Counters and cells after one step.
 
 use super::words::{kind, moment, outcome, privileged, rule, take_step, touch};
-use reference::board::SMALL_BOARD;
+use platform::board::SMALL_BOARD;
 use std::alloc::Global;
 use std::test::*;
 use survey::Survey;

@@ -2,8 +2,8 @@
 
 use super::words::{moment, take_step};
 use mpu::MpuRegister;
-use reference::access::Kind;
-use reference::board::SMALL_BOARD;
+use platform::access::Kind;
+use platform::board::SMALL_BOARD;
 use std::alloc::Global;
 use std::test::*;
 use survey::{Moment, Survey};

@@ -2,7 +2,7 @@
 
 use elf::load;
 use machine::{Board, Fast, SMALL_BOARD, Stop};
-use reference::access::{Kind, Rule};
+use platform::access::{Kind, Rule};
 use std::test::*;
 use survey::{Mark, Survey, Touch};
 use survey_run::survey_run;

@@ -1,7 +1,7 @@
 //! Columns of ticks, and lanes of handlers.
 
 use super::words::{moment, take_step};
-use reference::board::SMALL_BOARD;
+use platform::board::SMALL_BOARD;
 use std::alloc::Global;
 use std::test::*;
 use survey::{Mark, Survey};

@@ -2,8 +2,8 @@
 
 use instruction_set::size::Size;
 use mpu::MpuRegs;
-use reference::access::{Access, Cause, DecidedAccess, Kind, Rule};
-use reference::event::{EventKind, RecordedFault};
+use platform::access::{Access, Cause, DecidedAccess, Kind, Rule};
+use platform::event::{EventKind, RecordedFault};
 use survey::{Moment, Survey, Touch};
 use test_tables::{meaning, number_at, word};
 

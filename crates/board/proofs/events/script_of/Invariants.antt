@@ -1,6 +1,6 @@
 use Rattle.std.proofs.Common.{◌≡◌, true, drop, List}
 use Rattle.toml.specs.View.{items_view}
-use Rattle.reference.specs.declared.script.ScriptedEvent.{ScriptedEvent}
+use Rattle.platform.specs.declared.script.ScriptedEvent.{ScriptedEvent}
 use Rattle.board.specs.Texts.{script_in}
 use Rattle.board.proofs.Scripts.{after}
 use Rattle.board.proofs.events.script_of.Given as goal

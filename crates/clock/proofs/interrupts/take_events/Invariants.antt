@@ -1,5 +1,5 @@
 use Rattle.std.proofs.Common.{◌≡◌, drop}
-use Rattle.reference.specs.Time.{with_events}
+use Rattle.platform.specs.Time.{with_events}
 use Rattle.clock.proofs.interrupts.take_events.Given as goal
 
 abbrev pub invariant-loop-event : goal.invariant-loop-event

@@ -1,5 +1,5 @@
 use Rattle.std.proofs.Common.{◌≡◌, ◌+◌, drop}
-use Rattle.reference.specs.Time.{due_count}
+use Rattle.platform.specs.Time.{due_count}
 use Rattle.clock.proofs.script.due_count.Given as goal
 
 abbrev pub invariant-loop-count : goal.invariant-loop-count

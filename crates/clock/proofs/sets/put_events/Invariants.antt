@@ -1,7 +1,7 @@
 use Rattle.std.proofs.Common.{◌≡◌, ◌||◌, ◌<◌, ℕ, drop}
 use Rattle.std.specs.List.{list_any}
-use Rattle.reference.specs.Priorities.{is_in_words}
-use Rattle.reference.specs.Time.{pends}
+use Rattle.platform.specs.Priorities.{is_in_words}
+use Rattle.platform.specs.Time.{pends}
 use Rattle.clock.proofs.sets.put_events.Given as goal
 
 abbrev pub invariant-loop-event : goal.invariant-loop-event

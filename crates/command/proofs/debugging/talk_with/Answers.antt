@@ -13,6 +13,6 @@ returns g c = record {
   last = c.session.new.machine;
   talks = (
     refl,
-    failed _ _ _ _ _ _ _ c.in-Err.field-0 c.requires c.in-Err.ensures.talked c.in-Err.ensures.sent,
+    failed _ _ _ _ _ _ c.in-Err.field-0 c.requires c.in-Err.ensures.talked c.in-Err.ensures.sent,
   );
 }

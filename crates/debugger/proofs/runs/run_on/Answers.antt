@@ -1,6 +1,6 @@
 use Rattle.std.proofs.Common.{◌≡◌, ◌⊎◌, inl, inr, true, ◌∙◌, sym, arith}
 use Rattle.debugger.proofs.Running.{run_cut, run_ends, run_more}
-use Rattle.debugger.proofs.Telling.{tells_all, tells_nothing, rest_cut}
+use Rattle.debugger.proofs.Telling.{tells_nothing, tells_rest}
 use Rattle.debugger.specs.Answers.{ends_at}
 use Rattle.debugger.proofs.runs.run_on.Goals as goal
 use Rattle.debugger.proofs.runs.run_on.Goals.{else-steps-test, then-steps-test+then-ends_at}
@@ -18,22 +18,12 @@ steps-preserved g c =
     run_more _ _ _ _ _ _ _ _ _ c.steps-test.true (sym c.ends_at.ensures ∙ c.if-ends_at.false) c.steps.invariant
     c.in-Ok.ensures
 
-pub returns-in-Ok-put_end : goal.returns-in-Ok-put_end
-returns-in-Ok-put_end g c =
+-- no step is left, or the run ends where it is
+pub returns : goal.returns
+returns g c =
     let ends : (c.steps.left ≡ 0) ⊎ (ends_at c.args.breakpoints.now c.steps.machine.state ≡ true) =
     elim c.steps-test.branch [
       | else-steps-test w ↦ inl (omega arith)
-      | then-steps-test+then-ends_at w ↦ inr
-          (sym w.ends_at.ensures ∙ w.if-ends_at.true)
+      | then-steps-test+then-ends_at w ↦ inr (sym w.ends_at.ensures ∙ w.if-ends_at.true)
     ] in
-    tells_all _ _ _ _ _ _ _ _ (run_ends _ _ _ _ _ _ _ ends c.steps.invariant) c.in-Ok-put_end.ensures
-
-pub returns-in-Err-put_end : goal.returns-in-Err-put_end
-returns-in-Err-put_end g c =
-    let ends : (c.steps.left ≡ 0) ⊎ (ends_at c.args.breakpoints.now c.steps.machine.state ≡ true) =
-    elim c.steps-test.branch [
-      | else-steps-test w ↦ inl (omega arith)
-      | then-steps-test+then-ends_at w ↦ inr
-          (sym w.ends_at.ensures ∙ w.if-ends_at.true)
-    ] in
-    rest_cut _ _ _ _ _ _ _ _ (run_ends _ _ _ _ _ _ _ ends c.steps.invariant) c.in-Err-put_end.ensures
+    tells_rest _ _ _ _ _ _ _ _ _ (run_ends _ _ _ _ _ _ _ ends c.steps.invariant) c.put_end.ensures

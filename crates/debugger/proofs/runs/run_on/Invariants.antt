@@ -7,8 +7,7 @@ abbrev pub invariant-steps : goal.invariant-steps
 invariant-steps g l =
     Told (run_on l.breakpoints l.fn.steps l.fn.machine.state) (run_on l.breakpoints l.left l.machine.state)
     l.fn.machine l.machine
-    (record { written = g.W.Out.written l.fn.out; errors = g.W.Out.errors l.fn.out })
-    (record { written = g.W.Out.written l.out; errors = g.W.Out.errors l.out })
+    (g.W.Out.writing l.fn.out) (g.W.Out.writing l.out)
 
 abbrev pub decreases-steps : goal.decreases-steps
 decreases-steps g l = l.left

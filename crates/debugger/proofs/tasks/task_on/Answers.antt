@@ -1,9 +1,9 @@
 use Rattle.std.proofs.Common.{◌≡◌, ◌⊎◌, inl, inr, true, false, Option, nat_lt, ◌∙◌, sym, ap, arith}
 use Rattle.debugger.proofs.Tasking.{task_cut, task_ends, task_more}
-use Rattle.debugger.proofs.Telling.{tells_all, tells_nothing, rest_cut}
+use Rattle.debugger.proofs.Telling.{tells_nothing, tells_rest}
 use Rattle.machine.specs.Foresight.{is_instruction, is_instruction_next}
 use Rattle.machine.specs.Tasks.{end_of}
-use Rattle.reference.specs.declared.stop.Stop.{Stop}
+use Rattle.platform.specs.declared.stop.Stop.{Stop}
 use Rattle.debugger.proofs.tasks.task_on.Goals as goal
 use Rattle.debugger.proofs.tasks.task_on.Goals.{else-steps-test, then-steps-test+then-not-is_instruction}
 
@@ -22,8 +22,9 @@ steps-preserved g c =
     ap is_instruction (sym c.next_kind.ensures) ∙ sym c.is_instruction.ensures ∙ c.if-not-is_instruction.false in
     task_more _ _ _ _ _ _ _ _ c.steps-test.true going c.steps.invariant c.in-Ok.ensures
 
-pub returns-in-Ok-put_task_end : goal.returns-in-Ok-put_task_end
-returns-in-Ok-put_task_end g c =
+-- no step is left, or the next one isn't an Instruction step
+pub returns : goal.returns
+returns g c =
     let ends : (c.steps.left ≡ 0) ⊎ (is_instruction_next c.steps.machine.state ≡ false) =
     elim c.steps-test.branch [
       | else-steps-test w ↦ inl (omega arith)
@@ -33,17 +34,4 @@ returns-in-Ok-put_task_end g c =
     ] in
     let same : c.end_of_task-end.result ≡ end_of c.steps.machine.state.stop (nat_lt 0 c.steps.left) =
     c.end_of_task-end.ensures ∙ ap (λ (o : Option Stop). end_of o (nat_lt 0 c.steps.left)) c.stop.ensures in
-    tells_all _ _ _ _ _ _ _ _ (task_ends _ _ _ _ _ _ _ ends same c.steps.invariant) c.in-Ok-put_task_end.ensures
-
-pub returns-in-Err-put_task_end : goal.returns-in-Err-put_task_end
-returns-in-Err-put_task_end g c =
-    let ends : (c.steps.left ≡ 0) ⊎ (is_instruction_next c.steps.machine.state ≡ false) =
-    elim c.steps-test.branch [
-      | else-steps-test w ↦ inl (omega arith)
-      | then-steps-test+then-not-is_instruction w ↦
-          inr
-          (ap is_instruction (sym w.next_kind.ensures) ∙ sym w.is_instruction.ensures ∙ w.if-not-is_instruction.true)
-    ] in
-    let same : c.end_of_task-end.result ≡ end_of c.steps.machine.state.stop (nat_lt 0 c.steps.left) =
-    c.end_of_task-end.ensures ∙ ap (λ (o : Option Stop). end_of o (nat_lt 0 c.steps.left)) c.stop.ensures in
-    rest_cut _ _ _ _ _ _ _ _ (task_ends _ _ _ _ _ _ _ ends same c.steps.invariant) c.in-Err-put_task_end.ensures
+    tells_rest _ _ _ _ _ _ _ _ _ (task_ends _ _ _ _ _ _ _ ends same c.steps.invariant) c.put_task_end.ensures

@@ -6,8 +6,7 @@ use Rattle.debugger.proofs.tasks.task_on.Given as goal
 abbrev pub invariant-steps : goal.invariant-steps
 invariant-steps g l =
     Told (task_on l.fn.steps l.fn.machine.state) (task_on l.left l.machine.state) l.fn.machine l.machine
-    (record { written = g.W.Out.written l.fn.out; errors = g.W.Out.errors l.fn.out })
-    (record { written = g.W.Out.written l.out; errors = g.W.Out.errors l.out })
+    (g.W.Out.writing l.fn.out) (g.W.Out.writing l.out)
 
 abbrev pub decreases-steps : goal.decreases-steps
 decreases-steps g l = l.left

@@ -1,5 +1,5 @@
 use Rattle.std.proofs.Common.{◌≡◌, map, length}
-use Rattle.reference.specs.Images.{have_overlap}
+use Rattle.platform.specs.Images.{have_overlap}
 use Rattle.elf.specs.Segment.{segment_of}
 use Rattle.elf.proofs.overlap.have_overlap.Given as goal
 

@@ -1,6 +1,6 @@
 use Rattle.std.proofs.Common.{◌≡◌, map, drop}
 use Rattle.std.specs.List.{list_any}
-use Rattle.reference.specs.Images.{share_an_address}
+use Rattle.platform.specs.Images.{share_an_address}
 use Rattle.elf.specs.Segment.{segment_of}
 use Rattle.elf.proofs.overlap.is_overlapped.Given as goal
 

@@ -1,5 +1,5 @@
 use Rattle.std.proofs.Common.{◌≡◌, ◌≤◌, map, length}
-use Rattle.reference.specs.Images.{segments_of}
+use Rattle.platform.specs.Images.{segments_of}
 use Rattle.elf.specs.Segment.{segment_of}
 use Rattle.elf.proofs.Headers.{after, left_from}
 use Rattle.elf.proofs.program_header.image_of_headers.Given as goal

@@ -34,7 +34,8 @@ steps-preserved g c =
 pub returns-in-Err-clause-cut : goal.returns-in-Err-clause-cut
 returns-in-Err-clause-cut g c =
     let going : is_some c.steps.core.stop ≡ false = cc in
-    cut_in_step g.V.View.SELECTION _ _ _ _ _ _ _ _ (omega arith)
+    cut_in_step g.V.View.SELECTION (g.W.Out.writing c.args.out.now) (g.W.Out.writing c.steps.out)
+    (g.W.Out.writing c.write_selected.new.out) _ _ _ _ _ (omega arith)
     (made_on _ _ _ c.steps.invariant.made c.steps.invariant.core (not_some _ going))
     (c.write_selected.ensures.state ∙ after_on _ _ _ c.steps.invariant.core) c.steps.invariant.shown
     c.in-Err.ensures.put.0 c.steps.invariant.core
@@ -44,8 +45,11 @@ returns-in-Ok-put_all-clause-written g c =
     let ends : (c.steps.made ≡ c.args.limit) ⊎ IsSome c.steps.core.stop =
     elim c.steps-test.branch [ else-steps-test w ↦ inl (omega arith) | then-steps-test+then-is_some w ↦ inr cc ] in
     let text = c.as_slice.ensures ∙ c.end_of_run-page.ensures in
-    all_shown g.V.View.SELECTION _ _ _ _ _ _ _ _ _ c.steps.invariant.few c.steps.invariant.core
-    c.steps.invariant.shown c.steps.invariant.printed (cc) (rw text at c.in-Ok-put_all.ensures.0) ends
+    let went = rw text at c.in-Ok-put_all.ensures.0 in (
+      all_shown g.V.View.SELECTION _ _ _ _ _ _ _ _ _ c.steps.invariant.few c.steps.invariant.core
+          c.steps.invariant.shown c.steps.invariant.printed (cc) went ends,
+      c.in-Ok-put_all.ensures.1 ∙ c.steps.invariant.same,
+    )
 
 pub returns-in-Ok-put_all-clause-state : goal.returns-in-Ok-put_all-clause-state
 returns-in-Ok-put_all-clause-state g c =
@@ -64,6 +68,7 @@ returns-in-Err-put_all-clause-cut g c =
     let ends : (c.steps.made ≡ c.args.limit) ⊎ IsSome c.steps.core.stop =
     elim c.steps-test.branch [ else-steps-test w ↦ inl (omega arith) | then-steps-test+then-is_some w ↦ inr cc ] in
     let text = c.as_slice.ensures ∙ c.end_of_run-page.ensures in
-    cut_in_end g.V.View.SELECTION _ _ _ _ _ _ _ _ _ c.steps.invariant.few c.steps.invariant.made
+    cut_in_end g.V.View.SELECTION (g.W.Out.writing c.args.out.now) (g.W.Out.writing c.steps.out)
+    (g.W.Out.writing c.put_all.new.self) _ _ _ _ _ _ c.steps.invariant.few c.steps.invariant.made
     c.steps.invariant.core c.steps.invariant.shown c.steps.invariant.printed (cc)
     (rw text at c.in-Err-put_all.ensures.0) ends

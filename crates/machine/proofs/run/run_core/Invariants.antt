@@ -9,10 +9,10 @@ invariant-steps g l = record {
   few : l.made ≤ l.limit;
   core : l.core ≡ after l.made l.fn.core;
   made : (k : ℕ) → k < l.made → (after k l.fn.core).stop ≡ None;
-  shown : Appends (g.W.Out.written l.fn.out) (g.W.Out.written l.out)
+  shown : Appends (g.W.Out.writing l.fn.out).written (g.W.Out.writing l.out).written
       (selected_text g.V.View.SELECTION (events_of l.made l.fn.core));
   printed : l.last ≡ last_printed g.V.View.SELECTION (events_of l.made l.fn.core);
-  same : g.W.Out.errors l.out ≡ g.W.Out.errors l.fn.out;
+  same : (g.W.Out.writing l.out).errors ≡ (g.W.Out.writing l.fn.out).errors;
 }
 
 abbrev pub decreases-steps : goal.decreases-steps

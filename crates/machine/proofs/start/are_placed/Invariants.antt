@@ -1,7 +1,8 @@
 use Rattle.std.proofs.Common.{◌≡◌, map, drop}
 use Rattle.elf.specs.Segment.{segment_of}
-use Rattle.reference.specs.Boards.{numbers_of}
-use Rattle.reference.specs.Start.{are_placed, blank}
+use Rattle.platform.specs.Boards.{numbers_of}
+use Rattle.reference.specs.Start.{are_placed}
+use Rattle.platform.specs.Boards.{blank}
 use Rattle.machine.proofs.start.are_placed.Given as goal
 
 -- the segments from the index on decide

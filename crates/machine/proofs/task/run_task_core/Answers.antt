@@ -29,7 +29,8 @@ steps-preserved g c =
 pub returns-in-Err-clause-cut : goal.returns-in-Err-clause-cut
 returns-in-Err-clause-cut g c =
     let next : is_instruction_next c.steps.core ≡ true = cc in
-    task_is_cut _ _ _ _ _ _ _ _ _ (omega arith)
+    task_is_cut (g.W.Out.writing c.args.out.now) (g.W.Out.writing c.steps.out) (g.W.Out.writing c.write_step.new.out)
+    _ _ _ _ _ _ (omega arith)
     (instruction_on _ _ _ c.steps.invariant.made c.steps.invariant.core next)
     (c.write_step.ensures.state ∙ after_on _ _ _ c.steps.invariant.core) c.steps.invariant.written
     c.in-Err.ensures.put.0 refl c.steps.invariant.core

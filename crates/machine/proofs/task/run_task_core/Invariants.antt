@@ -1,7 +1,7 @@
 use Rattle.std.proofs.Common.{◌≡◌, ◌-◌, ◌≤◌}
 use Rattle.std.specs.Io.KnownBytes.{Appends}
 use Rattle.reference.specs.Run.{after, events_of}
-use Rattle.reference.specs.Text.{lines}
+use Rattle.platform.specs.Text.{lines}
 use Rattle.task_laws.specs.Tasks.{AreInstructions}
 use Rattle.machine.proofs.task.run_task_core.Given as goal
 
@@ -10,9 +10,9 @@ invariant-steps g l = record {
   few : l.made ≤ l.limit;
   core : l.core ≡ after l.made l.fn.core;
   made : AreInstructions l.made l.fn.core;
-  written : Appends (g.W.Out.written l.fn.out) (g.W.Out.written l.out)
+  written : Appends (g.W.Out.writing l.fn.out).written (g.W.Out.writing l.out).written
       (lines (events_of l.made l.fn.core));
-  same : g.W.Out.errors l.out ≡ g.W.Out.errors l.fn.out;
+  same : (g.W.Out.writing l.out).errors ≡ (g.W.Out.writing l.fn.out).errors;
 }
 
 abbrev pub decreases-steps : goal.decreases-steps

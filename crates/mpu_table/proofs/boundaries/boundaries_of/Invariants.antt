@@ -1,6 +1,6 @@
 use Rattle.std.proofs.Common.{ℕ, ◌*◌, ◌<◌, ◌≤◌, length}
 use Rattle.mpu_table.specs.Intervals.{PartsRegion}
-use Rattle.reference.specs.Regions.{region}
+use Rattle.platform.specs.Regions.{region}
 use Rattle.mpu_table.proofs.boundaries.boundaries_of.Given as goal
 
 -- the points part the regions before this one

@@ -1,4 +1,4 @@
-use Rattle.reference.specs.declared.exception.TheConstants.{EXCEPTIONS}
+use Rattle.platform.specs.declared.exception.TheConstants.{EXCEPTIONS}
 use Rattle.nvic_levels.proofs.Bits.{no_level}
 use Rattle.nvic_levels.proofs.sets.all_empty.Goals as goal
 

@@ -1,5 +1,5 @@
 use Rattle.std.proofs.Common.{ℕ, ◌≡◌, ◌*◌, ◌<◌, false}
-use Rattle.reference.specs.Priorities.{is_in_words}
+use Rattle.platform.specs.Priorities.{is_in_words}
 use Rattle.nvic_levels.proofs.sets.first_by_word.Given as goal
 
 -- the words before this one have none

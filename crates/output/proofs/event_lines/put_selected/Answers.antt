@@ -1,7 +1,8 @@
 use Rattle.std.proofs.Common.{◌≡◌, true, false, Some, None, refl, sym, ◌∙◌}
 use Rattle.std.proofs.KnownBytes.{Appends-nil}
+use Rattle.platform.specs.Events.{byte_of}
 use Rattle.trace.proofs.Selecting.{byte_selected, line_selected, not_selected}
-use Rattle.trace.specs.Selection.{byte_of, selects, writes_bytes}
+use Rattle.trace.specs.Selection.{selects, writes_bytes}
 use Rattle.output.proofs.event_lines.put_selected.Goals as goal
 
 pub returns-then-not-selects : goal.returns-then-not-selects
@@ -17,12 +18,12 @@ pub returns-in-Some : goal.returns-in-Some
 returns-in-Some g c =
     let chosen : selects c.args.selection c.args.event.now.what ≡ true = cc in
     let bare : writes_bytes c.args.selection ≡ true = cc in
-    let is : byte_of c.args.event.now.what ≡ Some c.in-Some.byte = sym c.byte_of.ensures ∙ c.in-Some.is in
+    let is : byte_of c.args.event.now.what ≡ Some c.in-Some.byte = sym c.byte.ensures ∙ c.in-Some.is in
     rw (byte_selected c.args.selection c.args.event.now (Some c.in-Some.byte) chosen bare is) c.put_byte.ensures
 
 pub returns-in-None : goal.returns-in-None
 returns-in-None g c =
     let chosen : selects c.args.selection c.args.event.now.what ≡ true = cc in
     let bare : writes_bytes c.args.selection ≡ true = cc in
-    let is : byte_of c.args.event.now.what ≡ None = sym c.byte_of.ensures ∙ c.in-None.is in
+    let is : byte_of c.args.event.now.what ≡ None = sym c.byte.ensures ∙ c.in-None.is in
     rw (byte_selected c.args.selection c.args.event.now None chosen bare is) (Appends-nil _, refl)

@@ -1,5 +1,5 @@
 use Rattle.std.proofs.Common.{◌≡◌, ◌<◌, ◌^◌}
-use Rattle.reference.specs.Interrupts.{shown_below}
+use Rattle.platform.specs.Interrupts.{shown_below}
 use Rattle.scs.proofs.interrupts.read_interrupts.Given as goal
 
 -- the bits that were looked at are those of the value

@@ -1,5 +1,5 @@
 use Rattle.std.proofs.Common.{◌≡◌}
-use Rattle.reference.specs.Interrupts.{with_bits_below}
+use Rattle.platform.specs.Interrupts.{with_bits_below}
 use Rattle.scs.proofs.interrupts.write_interrupts.Given as goal
 
 -- the bits that were looked at have done what they do

@@ -1,5 +1,5 @@
 use Rattle.std.proofs.Common.{◌≡◌}
-use Rattle.reference.specs.Interrupts.{write_priorities as write_priorities_of}
+use Rattle.platform.specs.Interrupts.{write_priorities as write_priorities_of}
 use Rattle.scs.proofs.interrupts.write_priorities.Given as goal
 
 -- the exceptions that were looked at have their bytes

@@ -1,5 +1,5 @@
 use Rattle.std.proofs.Common.{◌≡◌}
-use Rattle.reference.specs.Regions.{owner_below}
+use Rattle.platform.specs.Regions.{owner_below}
 use Rattle.mpu.proofs.registers.MpuRegs.owner.Given as goal
 
 -- none of the regions that were asked has the address

@@ -1,5 +1,5 @@
 use Rattle.std.proofs.Common.{◌≡◌, ℕ, ◌<◌, ◌≤◌}
-use Rattle.reference.specs.Regions.{region, matches}
+use Rattle.platform.specs.Regions.{region, matches}
 use Rattle.mpu.proofs.registers.MpuRegs.span.Given as goal
 
 -- each region before this one has all addresses of the span, or none of them

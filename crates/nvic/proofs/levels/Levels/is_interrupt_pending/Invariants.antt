@@ -1,5 +1,5 @@
 use Rattle.std.proofs.Common.{◌≡◌, ◌&&◌}
-use Rattle.reference.specs.Priorities.{some_below, is_interrupt, is_in}
+use Rattle.platform.specs.Priorities.{some_below, is_interrupt, is_in}
 use Rattle.nvic.proofs.levels.Levels.is_interrupt_pending.Given as goal
 
 -- whether one was found among the exceptions that were looked at

@@ -1,5 +1,5 @@
 use Rattle.std.proofs.Common.{◌≡◌, ◌*◌}
-use Rattle.reference.specs.Priorities.{with_due_below}
+use Rattle.platform.specs.Priorities.{with_due_below}
 use Rattle.nvic.proofs.levels.Levels.pend_due.Given as goal
 
 -- of the words that were looked at, those are pending that are due

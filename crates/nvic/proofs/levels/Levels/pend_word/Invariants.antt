@@ -1,5 +1,5 @@
 use Rattle.std.proofs.Common.{◌≡◌, ◌*◌}
-use Rattle.reference.specs.Priorities.{Nvic, with_due_below}
+use Rattle.platform.specs.Priorities.{Nvic, with_due_below}
 use Rattle.nvic.proofs.levels.Levels.pend_word.Given as goal
 
 -- of the exceptions that were looked at, those are pending that are due

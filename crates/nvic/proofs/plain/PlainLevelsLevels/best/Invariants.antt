@@ -1,5 +1,5 @@
 use Rattle.std.proofs.Common.{◌≡◌}
-use Rattle.reference.specs.Priorities.{best_below}
+use Rattle.platform.specs.Priorities.{best_below}
 use Rattle.nvic.proofs.plain.PlainLevelsLevels.best.Given as goal
 
 -- what was found so far is the best of the exceptions that were looked at

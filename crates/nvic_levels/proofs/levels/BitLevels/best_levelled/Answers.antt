@@ -9,8 +9,8 @@ returns-in-Some c =
     let e = c.in-Some.ensures in
     rw (c.from.ensures, ← c.self.view_is)
     (best_found _ c.self.inside.levels c.self.inside.held c.self.inside.enabled e.0 c.in-Some.number
-    (of_view c.self.inside.levels c.self.inside.held c.self.inside.enabled c.self.inside.active c.self.inside.priorities
-    c.self.inside.group c.self.inside.masks c.self.inside.interrupts c.self.inside.bits c.self.invariant.2) nmi fault
+    (of_view c.self.inside.levels c.self.inside.held c.self.inside.enabled c.self.inside.active c.self.inside.settings.priorities
+    c.self.inside.settings.group c.self.inside.settings.masks c.self.inside.settings.interrupts c.self.inside.settings.priority_bits c.self.invariant.2) nmi fault
     e.1
     e.2)
 
@@ -19,8 +19,8 @@ returns-in-None c =
     let nmi = rw (← c.self.view_is) at c.requires.nmi in
     let fault = rw (← c.self.view_is) at c.requires.hard_fault in
     rw (← c.self.view_is) (best_absent _ c.self.inside.levels c.self.inside.held c.self.inside.enabled
-    (of_view c.self.inside.levels c.self.inside.held c.self.inside.enabled c.self.inside.active c.self.inside.priorities
-    c.self.inside.group c.self.inside.masks c.self.inside.interrupts c.self.inside.bits c.self.invariant.2) nmi fault
+    (of_view c.self.inside.levels c.self.inside.held c.self.inside.enabled c.self.inside.active c.self.inside.settings.priorities
+    c.self.inside.settings.group c.self.inside.settings.masks c.self.inside.settings.interrupts c.self.inside.settings.priority_bits c.self.invariant.2) nmi fault
     c.in-None.ensures)
 
 pub first_of-requires : goal.first_of-requires

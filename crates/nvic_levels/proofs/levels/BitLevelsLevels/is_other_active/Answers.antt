@@ -1,6 +1,6 @@
 use Rattle.std.proofs.Common.{◌∙◌, ap}
 use Rattle.nvic_levels.proofs.Others.{other_active}
-use Rattle.reference.specs.Priorities.{Nvic}
+use Rattle.platform.specs.Priorities.{Nvic}
 use Rattle.nvic_levels.proofs.levels.BitLevelsLevels.is_other_active.Goals as goal
 
 pub returns : goal.returns

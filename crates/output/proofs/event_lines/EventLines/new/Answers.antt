@@ -6,7 +6,7 @@ pub invariant_of-result : goal.invariant_of-result
 invariant_of-result g c = record {
   writes =
       rw c.new.ensures (∣
-      (none_yet g.V.View.SELECTION g.O.Out.written g.O.Out.errors c.args.out.ghost_name c.args.out.now)
+      (none_yet g.V.View.SELECTION g.O.Out.writing c.args.out.ghost_name c.args.out.now)
       ∣₁);
   ends = rw c.new.ensures (last-nil g.V.View.SELECTION);
 }

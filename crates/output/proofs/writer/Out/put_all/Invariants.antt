@@ -4,8 +4,8 @@ use Rattle.output.proofs.writer.Out.put_all.Given as goal
 
 abbrev pub invariant-pieces : goal.invariant-pieces
 invariant-pieces g l = record {
-  sent : Sent (g.Self.Out.written l.fn.self) (g.Self.Out.written l.self) l.bytes l.rest;
-  same : g.Self.Out.errors l.self ≡ g.Self.Out.errors l.fn.self;
+  sent : Sent (g.Self.Out.writing l.fn.self).written (g.Self.Out.writing l.self).written l.bytes l.rest;
+  same : (g.Self.Out.writing l.self).errors ≡ (g.Self.Out.writing l.fn.self).errors;
 }
 
 abbrev pub decreases-pieces : goal.decreases-pieces

@@ -10,7 +10,7 @@ returns-in-Unpredictable-clause-text g c =
     rw (
       c.in-Unpredictable.is,
       c.put_slice.ensures,
-      c.unpredictable_word.ensures.word,
+      c.word.ensures.word,
       c.put-in-Unpredictable.ensures,
       append_assoc,
     )
@@ -20,7 +20,7 @@ returns-in-OutOfProfile-clause-text g c =
     rw (
       c.in-OutOfProfile.is,
       c.put_slice-in-OutOfProfile.ensures,
-      c.left_out_word.ensures.word,
+      c.word-in-OutOfProfile.ensures.word,
       c.put-in-OutOfProfile.ensures,
       append_assoc,
     )

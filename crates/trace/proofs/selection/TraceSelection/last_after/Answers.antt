@@ -5,4 +5,4 @@ use Rattle.trace.proofs.selection.TraceSelection.last_after.Goals as goal
 pub returns-in-Console : goal.returns-in-Console
 returns-in-Console c =
     rw c.in-Console.is
-    (λ events before. rw (c.or.ensures, c.byte_of.ensures, before) (sym (last_on events c.args.event.now)))
+    (λ events before. rw (c.or.ensures, c.byte.ensures, before) (sym (last_on events c.args.event.now)))

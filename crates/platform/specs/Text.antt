@@ -1,0 +1,149 @@
+-- The text of the trace (profile): one line for each event, and one for the stop. Each line ends with a line feed.
+-- Ticks, sizes, and the numbers of regions, exceptions and breakpoints are decimal, all other numbers hexadecimal, in
+-- upper case.
+use Rattle.std.specs.Prelude.{ℕ, ◌+◌, ◌/◌, ◌%◌, nat_lt, Bool, true, false, if◌then◌else◌, List, [], ◌∷◌, ◌++◌, Option}
+use Rattle.std.specs.Prelude.{Some, None, codes, decimal}
+use Rattle.instruction_set.specs.declared.unpredictable.UnpredictableCase.{UnpredictableCase}
+use Rattle.instruction_set.specs.declared.unpredictable.UnpredictableCase.TheVariants.{Encoding, ItBlock, FewRegisters}
+use Rattle.instruction_set.specs.declared.unpredictable.UnpredictableCase.TheVariants.{Registers, StoredBase, Immediate}
+use Rattle.instruction_set.specs.declared.unpredictable.UnpredictableCase.TheVariants.{BitField, SpecialRegister}
+use Rattle.instruction_set.specs.declared.unpredictable.UnpredictableCase.TheVariants.{LoadPc, LiteralPc, MpuRegion}
+use Rattle.instruction_set.specs.declared.unpredictable.UnpredictableCase.TheVariants.{MpuControl, Icsr}
+use Rattle.instruction_set.specs.declared.unpredictable.UnpredictableCase.TheVariants.{ExceptionReturn, PoppedPc}
+use Rattle.instruction_set.specs.Sizes.{bytes_in}
+use Rattle.platform.specs.declared.access.Access.{Access}
+use Rattle.platform.specs.declared.access.Cause.{Cause}
+use Rattle.platform.specs.declared.access.Cause.TheVariants.{Mpu, Bus}
+use Rattle.platform.specs.declared.access.DecidedAccess.{DecidedAccess}
+use Rattle.platform.specs.declared.access.Kind.{Kind}
+use Rattle.platform.specs.declared.access.Kind.TheVariants.{Fetch, Load, Store, Push, Pop, Vector, Probe}
+use Rattle.platform.specs.declared.access.Rule.{Rule}
+use Rattle.platform.specs.declared.access.Rule.TheVariants.{NeverExecute, VectorRead, PrivatePeripheralBus, MpuOff}
+use Rattle.platform.specs.declared.access.Rule.TheVariants.{NegativePriority, Region, Background, NoRegion}
+use Rattle.platform.specs.declared.event.Event.{Event}
+use Rattle.platform.specs.declared.event.EventKind.{EventKind}
+use Rattle.platform.specs.declared.event.EventKind.TheVariants.{Accessed, ConsoleByte, ReturnBegan, HandlerEntered}
+use Rattle.platform.specs.declared.event.EventKind.TheVariants.{FaultRecorded}
+use Rattle.platform.specs.declared.event.RecordedFault.{RecordedFault}
+use Rattle.platform.specs.declared.stop.LeftOut.{LeftOut}
+use Rattle.platform.specs.declared.stop.LeftOut.TheVariants.{ExclusiveDevice, UnalignedDevice, RegisterWidth}
+use Rattle.platform.specs.declared.stop.LeftOut.TheVariants.{ActiveBit, IgnoredBusFaults, SleepOnExit, ResetControl}
+use Rattle.platform.specs.declared.stop.LeftOut.TheVariants.{ClockEnd}
+use Rattle.platform.specs.declared.stop.Stop.{Stop}
+use Rattle.platform.specs.declared.stop.Stop.TheVariants.{StepLimit, Breakpoint, Lockup, Unpredictable, OutOfProfile}
+use Rattle.platform.specs.declared.stop.Stop.TheVariants.{ResetRequested}
+
+-- the digit of a number below 16
+abbrev pub hex_digit : ℕ → ℕ
+hex_digit n = if nat_lt n 10 then 48 + n else 55 + n
+
+-- two digits
+abbrev pub hex_byte : ℕ → List ℕ
+hex_byte n = hex_digit (n / 16) ∷ hex_digit (n % 16) ∷ []
+
+-- eight digits
+abbrev pub hex_word : ℕ → List ℕ
+hex_word n = ((hex_byte (n / 0x100_0000) ++ hex_byte (n / 0x1_0000 % 256)) ++ hex_byte (n / 0x100 % 256))
+    ++ hex_byte (n % 256)
+
+abbrev pub line_feed : List ℕ
+line_feed = 10 ∷ []
+
+abbrev pub kind_text : Kind → List ℕ
+kind_text Fetch = codes "F"
+kind_text Load = codes "L"
+kind_text Store = codes "S"
+kind_text Push = codes "K"
+kind_text Pop = codes "U"
+kind_text Vector = codes "V"
+kind_text Probe = codes "P"
+
+abbrev pub privilege_text : Bool → List ℕ
+privilege_text true = codes "p"
+privilege_text false = codes "u"
+
+-- what refused an access, or `ok`
+abbrev pub outcome_text : Option Cause → List ℕ
+outcome_text None = codes "ok"
+outcome_text (Some Mpu) = codes "mpu"
+outcome_text (Some Bus) = codes "bus"
+
+abbrev pub rule_text : Rule → List ℕ
+rule_text NeverExecute = codes "xn"
+rule_text VectorRead = codes "vec"
+rule_text PrivatePeripheralBus = codes "ppb"
+rule_text MpuOff = codes "off"
+rule_text NegativePriority = codes "neg"
+rule_text (Region number) = codes "r" ++ decimal number
+rule_text Background = codes "bg"
+rule_text NoRegion = codes "none"
+
+-- kind, address, size and privilege
+abbrev pub access_text : Access → List ℕ
+access_text a =
+    (((((kind_text a.kind ++ codes " ") ++ hex_word a.address) ++ codes " ") ++ decimal (bytes_in a.size)) ++ codes " ")
+    ++ privilege_text a.privileged
+
+-- the access, what became of it, and the rule
+abbrev pub decided_text : DecidedAccess → List ℕ
+decided_text d =
+    (((access_text d.access ++ codes " ") ++ outcome_text d.refused) ++ codes " ") ++ rule_text d.rule
+
+-- the exception, CFSR and HFSR
+abbrev pub fault_text : RecordedFault → List ℕ
+fault_text f = (((decimal f.exception ++ codes " ") ++ hex_word f.cfsr) ++ codes " ") ++ hex_word f.hfsr
+
+abbrev pub event_text : EventKind → List ℕ
+event_text (Accessed a) = decided_text a
+event_text (ConsoleByte byte) = codes "O " ++ hex_byte byte
+event_text (ReturnBegan exc_return) = codes "R " ++ hex_word exc_return
+event_text (HandlerEntered exception) = codes "X " ++ decimal exception
+event_text (FaultRecorded f) = codes "! " ++ fault_text f
+
+-- the line of an event
+unfoldable pub line : Event → List ℕ
+line e = ((decimal e.tick ++ codes " ") ++ event_text e.what) ++ line_feed
+
+-- the lines of events, one after another
+unfoldable pub lines : List Event → List ℕ
+lines [] = []
+lines (e ∷ es) = line e ++ lines es
+
+abbrev pub unpredictable_text : UnpredictableCase → List ℕ
+unpredictable_text Encoding = codes "encoding"
+unpredictable_text ItBlock = codes "it-block"
+unpredictable_text FewRegisters = codes "empty-list"
+unpredictable_text Registers = codes "registers"
+unpredictable_text StoredBase = codes "stored-base"
+unpredictable_text Immediate = codes "immediate"
+unpredictable_text BitField = codes "bit-field"
+unpredictable_text SpecialRegister = codes "special-register"
+unpredictable_text LoadPc = codes "load-pc"
+unpredictable_text LiteralPc = codes "literal-pc"
+unpredictable_text MpuRegion = codes "mpu-region"
+unpredictable_text MpuControl = codes "mpu-ctrl"
+unpredictable_text Icsr = codes "icsr"
+unpredictable_text ExceptionReturn = codes "exc-return"
+unpredictable_text PoppedPc = codes "popped-pc"
+
+abbrev pub left_out_text : LeftOut → List ℕ
+left_out_text ExclusiveDevice = codes "exclusive-device"
+left_out_text UnalignedDevice = codes "unaligned-device"
+left_out_text RegisterWidth = codes "register-width"
+left_out_text ActiveBit = codes "active-bit"
+left_out_text IgnoredBusFaults = codes "bfhfnmign"
+left_out_text SleepOnExit = codes "sleeponexit"
+left_out_text ResetControl = codes "aircr"
+left_out_text ClockEnd = codes "clock-end"
+
+abbrev pub stop_text : Stop → List ℕ
+stop_text StepLimit = codes "steps"
+stop_text (Breakpoint number) = codes "breakpoint " ++ decimal number
+stop_text Lockup = codes "lockup"
+stop_text (Unpredictable why) = codes "unpredictable " ++ unpredictable_text why
+stop_text (OutOfProfile why) = codes "outofprofile " ++ left_out_text why
+stop_text ResetRequested = codes "reset"
+
+-- the line of a stop
+unfoldable pub stop_line : Stop → List ℕ
+stop_line s = (codes "stop " ++ stop_text s) ++ line_feed
