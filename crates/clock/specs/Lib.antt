@@ -1,4 +1,4 @@
--- The definitions are those of `reference`, and what a clock keeps beside them.
+-- The definitions are those of `platform`, and what a clock keeps beside them.
 pub mod AfterTicks
 pub mod DueTicks
 pub mod Laws

@@ -1,5 +1,5 @@
 -- What the laws of priorities say, as facts about all exceptions at once. The definitions that they are about are in
--- the crate `reference`.
+-- the crate `platform`.
 use Rattle.std.specs.Prelude.{◌≡◌, ℕ, ◌<◌, ◌≤◌, ◌⊎◌, true, ◌&&◌, ◌||◌, List, length, slice_index, Option, Some}
 use Rattle.std.specs.Prelude.{None}
 use Rattle.platform.specs.declared.exception.TheConstants.{EXCEPTIONS}

@@ -1,4 +1,4 @@
--- What the laws of priorities say. The definitions are in the crate `reference`.
+-- What the laws of priorities say. The definitions are in the crate `platform`.
 pub use Rattle.platform.specs.Priorities
 pub mod Laws
 pub mod Settings

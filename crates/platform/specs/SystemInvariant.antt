@@ -1,5 +1,5 @@
--- What holds of memory and the System Control Space at the start, after each step and after each value that `place` puts.
--- It's proved in the crate `state_laws`, and `Invariant` of `reference` has it for the whole state.
+-- What holds of memory and the System Control Space at the start, after each step and after each value that `place`
+-- puts. It's proved in the crate `state_laws`, and `Invariant` of `reference` has it for the whole state.
 use Rattle.std.specs.Prelude.{◌≡◌, ℕ, ◌+◌, ◌^◌, ◌<◌, ◌≤◌, Bool, true, List, length, slice_index}
 use Rattle.platform.specs.declared.exception.TheConstants.{EXCEPTIONS, MOST_INTERRUPTS}
 use Rattle.platform.specs.Boards.{Described, IsScript, IsScriptFrom, is_flash, is_interrupt_count, is_region_count}

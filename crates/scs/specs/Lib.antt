@@ -1,4 +1,4 @@
--- The definitions are those of `reference`. Here are what a write to a block of registers leaves, and what the laws
+-- The definitions are those of `platform`. Here are what a write to a block of registers leaves, and what the laws
 -- say.
 pub mod Laws
 pub mod Writes
