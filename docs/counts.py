@@ -120,11 +120,11 @@ AUDIT_PARTS = {
     "priorities": "Priorities Time",
     "exceptions": "Faults Frames ExceptionEntry ExceptionReturn",
     "system": "Status Interrupts Handlers Control SysTickRegisters System SpecialRegisters",
-    "instructions": "TwoOperands Products Fields DataProcessing LoadStore LoadStoreMultiple Exclusives Branches "
+    "instructions": "Results Products Fields DataProcessing LoadStore LoadStoreMultiple Exclusives Branches "
     "SystemInstructions",
     "patterns": "Patterns Rows RowOperands Decoding",
     "rows": "Short* Long*",
-    "text": "Text",
+    "text": "Text Events",
     "files": "Images Boards Start board/Texts board/Reading command/Statuses output/Gathered machine/Starts",
 }
 

@@ -19,6 +19,12 @@ def stops():
     return found
 
 
+def other_lines():
+    """Returns the lines of the trace that are no access, after their tick, as docs/TRACE.md shows one of each."""
+    table = page("TRACE.md").split("| Line | What |", 1)[1].split("\n\n", 1)[0]
+    return re.findall(r"^\| `\d+ ([^`]+)` \|", table, re.M)
+
+
 def commands():
     """Returns the commands of docs/DEBUGGING.md, each with the lines of its answer: `mem a n` with `<a>: <bytes>`."""
     table = page("DEBUGGING.md").split("| Command | Lines |", 1)[1].split("\n\n", 1)[0]

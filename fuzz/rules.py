@@ -20,7 +20,22 @@ FIRST = {2: ["usage"], 3: NAMED, 5: ["io"]}
 WORD = "[0-9A-F]{8}"
 RULE = "(?:xn|vec|ppb|off|neg|r1[0-5]|r[0-9]|bg|none)"
 ACCESS = f"[FLSKUVP] {WORD} [124] [pu] (?:ok|mpu|bus) {RULE}"
-LINE = f"[1-9][0-9]* (?:{ACCESS}|O [0-9A-F]{{2}}|R {WORD}|X [1-9][0-9]*|! [0-9]+ {WORD} {WORD})\n"
+
+
+def number(text):
+    """Returns what may be in place of a number: of eight digits or two, the first a 0, hexadecimal, otherwise decimal."""
+    if len(text) == 8:
+        return WORD
+    return "[0-9A-F]{2}" if re.fullmatch("0.", text) else "(?:0|[1-9][0-9]*)"
+
+
+def other_line(example):
+    """Returns the lines that are like one: the letter, and then numbers."""
+    letter, *numbers = example.split(" ")
+    return " ".join([letter, *map(number, numbers)])
+
+
+LINE = f"[1-9][0-9]* (?:{'|'.join([ACCESS, *map(other_line, pages.other_lines())])})\n"
 QUIET = "stop (?:steps|breakpoint [0-9]+)\n"
 NAMES = [f"{kind} {name}" for kind, names in pages.stops().items() for name in names]
 NAMED_STOP = f"stop (?:{'|'.join(['lockup', 'reset', *NAMES])})\n"

@@ -2,4 +2,4 @@ mod Accessed
 mod AtOnce
 pub mod Fetches
 mod Refusals
-mod Stale
+pub mod Stale

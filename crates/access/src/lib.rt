@@ -10,7 +10,7 @@ pub use bus::{Bus, fetch_at};
 pub use clock::{Ahead, Counting, DueTicks, ScriptedEvent, SysTick};
 pub use code_memory::CodeMemory;
 pub use instruction_set::size::Size;
-pub use kept_code::{KeptCode, KeptInstruction};
+pub use kept_code::KeptCode;
 pub use mpu::{Decider, Search};
 pub use nvic::{Levels, PlainLevels};
 pub use platform::access::{Cause, Decision, DoneAccess, Kind, Performed, Request, Rule};

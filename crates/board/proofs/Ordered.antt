@@ -97,7 +97,7 @@ event_is interrupts fields event taken =
     let last : at ≤ last_tick = grind (arith, nat_tests) in
     subst (IsRead interrupts) same (last, signal_is interrupts fields (get_member (codes "nmi") fields) what at_what.0)
 
--- and it is no earlier than the tick that it was read behind
+-- and it is no earlier than the tick of the one before
 timely_if : (late : Bool) (read event : ScriptedEvent) →
     (if late then Err EventsOutOfOrder else Ok read) ≡ Ok event → (late ≡ false) × (read ≡ event)
 timely_if true read event taken = cc

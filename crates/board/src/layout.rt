@@ -54,7 +54,7 @@ pub fn layout_of(document: &Table) -> Result<Layout, BoardError>
     })
 }
 
-/// Returns the number of regions that an MPU has, or OutOfRange where none has so many.
+/// Returns the region count of a number, or OutOfRange where that is neither 8 nor 16.
 pub fn region_count(regions: u64) -> Result<RegionCount, BoardError>
     ensures { Gives region_number result (where_ok is_region_count (Ok regions)) }
 {

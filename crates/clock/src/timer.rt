@@ -2,7 +2,7 @@
 
 ghost use Rattle.std.specs.Prelude.{◌≡◌, ◌&&◌, ◌^◌, ◌<◌, ◌≤◌};
 ghost use Rattle.clock.specs.AfterTicks.{after_ticks, current_after};
-ghost use Rattle.instruction_set.specs.Registers.{weighed as weighed_of};
+ghost use Rattle.instruction_set.specs.Registers as registers;
 ghost use Rattle.platform.specs.Time as spec;
 ghost use Rattle.platform.specs.Time.{counted, reaches_zero, after_csr_read, with_csr, with_rvr};
 ghost use Rattle.platform.specs.Time.{with_cvr_cleared, reset_systick, timer_due};
@@ -169,7 +169,7 @@ impl SysTick {
 
 /// What a bit of this weight adds to a word.
 fn weighed(bit: bool, weight: u32) -> u32
-    ensures { result ≡ weighed_of bit weight }
+    ensures { result ≡ registers.weighed bit weight }
 {
     if bit { weight } else { 0 }
 }

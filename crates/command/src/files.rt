@@ -32,7 +32,7 @@ fn placed<R: Env + AllocGlobal>(rt: &R, error: io::Error) -> io::Error {
     if !matches!(error.kind(), io::ErrorKind::InvalidData) {
         return error;
     }
-    let said = match no_text(rt) {
+    let message = match no_text(rt) {
         Some(place) => {
             format!(in rt.alloc();
                 "argument {place} isn't a text in UTF-8 (the program's name is argument 0)"
@@ -40,8 +40,8 @@ fn placed<R: Env + AllocGlobal>(rt: &R, error: io::Error) -> io::Error {
         }
         None => "an argument isn't a text in UTF-8".to_string(rt.alloc()),
     };
-    match said {
-        Ok(said) => io::Error::new(io::ErrorKind::InvalidData, said.as_str()),
+    match message {
+        Ok(text) => io::Error::new(io::ErrorKind::InvalidData, text.as_str()),
         Err(_) => error,
     }
 }

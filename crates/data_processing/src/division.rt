@@ -3,7 +3,7 @@
 ghost use Rattle.std.specs.Prelude.{◌≡◌};
 ghost use Rattle.instruction_set.specs.Products.{quotient, divide};
 
-use instruction_set::operands::Divide;
+use instruction_set::data_processing::Divide;
 use regs::Regs;
 
 /// Returns the quotient, rounded towards zero. By zero it is 0.

@@ -4,7 +4,7 @@ ghost use Rattle.std.specs.Prelude.{◌≡◌, ◌<◌, ◌*◌, ◌/◌, ◌%�
 ghost use Rattle.instruction_set.specs.Fields.{extended, extract_field, cleared, inserted, insert_field, clear_field};
 ghost use Rattle.instruction_set.specs.Words.{bits, sign_extended};
 
-use instruction_set::operands::{ClearField, ExtractField, InsertField};
+use instruction_set::data_processing::{ClearField, ExtractField, InsertField};
 use regs::Regs;
 
 /// Returns the lowest `width` bits.

@@ -3,19 +3,13 @@
 //! each). The PC is still at the instruction.
 #![tactic(auto)]
 
-mod addresses;
-mod comparisons;
 mod division;
 mod fields;
-mod moves;
-mod operands;
 mod processing;
 mod products;
 mod rearrangement;
 mod results;
 mod saturation;
-mod shifts;
-mod two_operands;
 
 pub use fields::extended;
 pub use processing::{divides_by_zero, process, writes_pc};

@@ -5,7 +5,7 @@ ghost use Rattle.std.specs.Prelude.{◌≡◌};
 ghost use Rattle.instruction_set.specs.Fields.{width_of, extend, ror, rearranged, rearrange};
 
 use crate::fields::extended;
-use instruction_set::operands::{Extend, Rearrange, Rearrangement};
+use instruction_set::data_processing::{Extend, Rearrange, Rearrangement};
 use instruction_set::shift::ShiftType;
 use instruction_set::size::Size;
 use regs::{Regs, shift_c};

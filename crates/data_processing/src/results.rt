@@ -1,12 +1,34 @@
-//! Results: the flags of each kind, and the write of a result to its register.
+//! What the instructions that compute have in common: the second operand and its carry, the flags after a
+//! result, and the write of a result to its register.
 
 ghost use Rattle.std.specs.Prelude.{◌≡◌};
 ghost use Rattle.instruction_set.specs.Registers.{with_result};
-ghost use Rattle.instruction_set.specs.TwoOperands.{sets_flags, logical, summed, written};
+ghost use Rattle.instruction_set.specs.Results.{immediate_carry, shifted, sets_flags, logical, summed, written};
 
-use instruction_set::operands::FlagSetting;
+use instruction_set::data_processing::{FlagSetting, Immediate, ShiftedRegister};
 use instruction_set::registers::{Flags, Register};
-use regs::Regs;
+use regs::{Regs, shift_c};
+
+/// Returns the carry of an immediate: C, unchanged, where its expansion has none.
+#[inline]
+pub(crate) fn immediate_carry(immediate: Immediate, flags: Flags) -> bool
+    ensures { result ≡ immediate_carry immediate flags }
+{
+    match immediate.carry {
+        Some(carry) => carry,
+        None => flags.carry,
+    }
+}
+
+/// Returns a shifted register, and its carry.
+#[inline(always)]
+pub(crate) fn shifted(operand: ShiftedRegister, regs: &Regs) -> (u32, bool)
+    ensures { result ≡ shifted operand regs.now }
+{
+    let value = regs.get(operand.register);
+    let carry = regs.flags().carry;
+    shift_c(value, operand.shift.shift_type, operand.shift.amount, carry)
+}
 
 /// Returns the flags, with N and Z of a result.
 #[inline]

@@ -6,8 +6,8 @@ ghost use Rattle.instruction_set.specs.Arithmetic.{signed};
 ghost use Rattle.instruction_set.specs.Fields.{least, greatest, nearest, saturated, saturate};
 ghost use Rattle.instruction_set.specs.Products.{low_bits};
 
-use crate::operands::shifted;
-use instruction_set::operands::Saturate;
+use crate::results::shifted;
+use instruction_set::data_processing::Saturate;
 use instruction_set::registers::Flags;
 use regs::Regs;
 

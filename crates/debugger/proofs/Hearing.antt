@@ -25,7 +25,7 @@ use Rattle.output.specs.Input.{Reading}
 use Rattle.output.specs.Output.{Writing}
 use Rattle.reference.specs.State.{State}
 
--- ---- one byte behind others
+-- ---- one byte after others
 
 after_more : (t : Talk) (x : ℕ) (xs : List ℕ) → t.is_open ≡ true → after_bytes t (x ∷ xs) ≡ after_bytes (next t x) xs
 unfolding after_bytes
@@ -117,7 +117,7 @@ heard_more given more i j l x y = record {
   quiet = y.quiet ∙ x.quiet;
 }
 
--- what was said of the next byte, in the session's words
+-- what holds for the next byte, in the session's words
 answered_now : (n : ℕ) (k : Kept) (old mid : Whole) (i j : Reading) (a b : Writing) (byte : ℕ)
     (h : Heard n k old mid i j a b)
     → answers (opened old.state) (h.given ++ byte ∷ []) ≡ answers (opened old.state) h.given

@@ -12,7 +12,7 @@ use Rattle.platform.specs.declared.stop.Stop.{Stop}
 use Rattle.reference.specs.Run.{after, events_of}
 use Rattle.reference.specs.State.{State}
 use Rattle.reference.specs.Step.{step}
-use Rattle.platform.specs.Text.{lines}
+use Rattle.platform.specs.Events.{lines}
 use Rattle.task_laws.specs.declared.task.TaskEnd.{TaskEnd}
 use Rattle.task_laws.specs.Tasks.{AreInstructions, Ends}
 

@@ -19,7 +19,8 @@ use Rattle.platform.specs.Priorities.{is_below_zero}
 use Rattle.platform.specs.Rules.{decision_of}
 use Rattle.reference.specs.State.{State}
 use Rattle.reference.specs.Step.{step}
-use Rattle.platform.specs.Text.{line_feed, lines, stop_line}
+use Rattle.platform.specs.Text.{line_feed, stop_line}
+use Rattle.platform.specs.Events.{lines}
 use Rattle.task_laws.specs.declared.task.TaskEnd.{TaskEnd}
 use Rattle.task_laws.specs.declared.task.TaskEnd.TheVariants as task_end
 use Rattle.task_laws.specs.Tasks.{is_task}

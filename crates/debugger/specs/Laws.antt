@@ -4,7 +4,7 @@ use Rattle.debugger.specs.Answers.{Piece, task_pieces, task_text}
 use Rattle.debugger.specs.Sessions.{last_state, texts}
 use Rattle.reference.specs.Run.{after, events_of}
 use Rattle.reference.specs.State.{State}
-use Rattle.platform.specs.Text.{lines}
+use Rattle.platform.specs.Events.{lines}
 use Rattle.task_laws.specs.declared.task.TaskEnd.{TaskEnd}
 use Rattle.task_laws.specs.Tasks.{AreInstructions, Ends, is_task}
 

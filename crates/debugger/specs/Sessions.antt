@@ -204,7 +204,7 @@ pub record FailsToHandOn (given : List ℕ) (old new : Whole) (after : Reading) 
   pub so_far : AreSoFar old.state given after pieces
   pub tells : TellsAllThenFails pieces old new out out'
 
--- the writer failed in the answers to what was read, or behind all of them
+-- the writer failed in the answers to what was read, or after all of them
 pub record FailsToWrite (old new : Whole) (before after : Reading) (out out' : Writing) : Type 0 where
   pub given : List ℕ
   pub heard : Hears given before after

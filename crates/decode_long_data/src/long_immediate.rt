@@ -11,17 +11,19 @@ ghost use Rattle.instruction_set.specs.LongImmediate.{takes_sp};
 use encodings::operands::{flags_if, operand_of};
 use encodings::outcomes::{is_bad, long, unless_refused};
 use encodings::rows;
-use instruction_set::instruction::{BlockPlace, DataProcessing, Decoded, Instruction};
-use instruction_set::operands::Comparison::{Compare, CompareNegative, Test, TestEquivalence};
-use instruction_set::operands::DataOperation::{
+use instruction_set::data_processing::Comparison::{
+    Compare, CompareNegative, Test, TestEquivalence,
+};
+use instruction_set::data_processing::DataOperation::{
     Add, AddWithCarry, And, BitClear, ExclusiveOr, Or, OrNot, ReverseSubtract, Subtract,
     SubtractWithCarry,
 };
-use instruction_set::operands::MoveOperation::{Move, MoveNot};
-use instruction_set::operands::{
-    CompareImmediate, Comparison, DataImmediate, DataOperation, Immediate, MoveImmediate,
-    MoveOperation,
+use instruction_set::data_processing::MoveOperation::{Move, MoveNot};
+use instruction_set::data_processing::{
+    CompareImmediate, Comparison, DataImmediate, DataOperation, DataProcessing, Immediate,
+    MoveImmediate, MoveOperation,
 };
+use instruction_set::instruction::{BlockPlace, Decoded, Instruction};
 use instruction_set::registers::Register;
 use instruction_set::unpredictable::UnpredictableCase;
 use regs::expand_imm;

@@ -9,10 +9,10 @@ ghost use Rattle.instruction_set.specs.LongMultiply.{multiply_wide_row, product_
 
 use encodings::outcomes::{is_bad, long_unless};
 use encodings::rows;
-use instruction_set::instruction::{DataProcessing, Decoded, Instruction};
-use instruction_set::operands::{
-    Accumulation, Divide, FlagSetting, Multiply, MultiplyAccumulate, MultiplyLong,
+use instruction_set::data_processing::{
+    Accumulation, DataProcessing, Divide, FlagSetting, Multiply, MultiplyAccumulate, MultiplyLong,
 };
+use instruction_set::instruction::{Decoded, Instruction};
 use instruction_set::registers::Register;
 
 /// Decodes two halfwords by these rows.

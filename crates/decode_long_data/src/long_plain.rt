@@ -14,12 +14,12 @@ use crate::long_immediate::is_refused_destination;
 use encodings::operands::{negated, plain_immediate, shifted};
 use encodings::outcomes::{is_bad, long, long_unless, unless, unless_refused};
 use encodings::rows;
-use instruction_set::instruction::{BlockPlace, DataProcessing, Decoded, Instruction};
-use instruction_set::operands::DataOperation::{Add, Subtract};
-use instruction_set::operands::{
-    Address, ClearField, DataImmediate, DataOperation, ExtractField, FlagSetting, InsertField,
-    MoveImmediate, MoveOperation, MoveTop, Saturate, ShiftedRegister,
+use instruction_set::data_processing::DataOperation::{Add, Subtract};
+use instruction_set::data_processing::{
+    Address, ClearField, DataImmediate, DataOperation, DataProcessing, ExtractField, FlagSetting,
+    InsertField, MoveImmediate, MoveOperation, MoveTop, Saturate, ShiftedRegister,
 };
+use instruction_set::instruction::{BlockPlace, Decoded, Instruction};
 use instruction_set::registers::Register;
 use instruction_set::unpredictable::UnpredictableCase;
 

@@ -10,11 +10,13 @@ ghost use Rattle.instruction_set.specs.RowOperands.{flags_if};
 use encodings::operands::flags_if;
 use encodings::outcomes::{is_bad, long_unless};
 use encodings::rows;
-use instruction_set::instruction::{DataProcessing, Decoded, Instruction};
-use instruction_set::operands::Rearrangement::{
+use instruction_set::data_processing::Rearrangement::{
     CountLeadingZeros, ReverseBits, ReverseHalfwords, ReverseSignedHalfword, ReverseWord,
 };
-use instruction_set::operands::{Extend, Rearrange, Rearrangement, ShiftByRegister};
+use instruction_set::data_processing::{
+    DataProcessing, Extend, Rearrange, Rearrangement, ShiftByRegister,
+};
+use instruction_set::instruction::{Decoded, Instruction};
 use instruction_set::registers::Register;
 use instruction_set::shift::ShiftType;
 use instruction_set::size::Size;

@@ -11,16 +11,18 @@ use crate::long_immediate::{compares_sp, is_refused_destination, is_refused_firs
 use encodings::operands::{flags_if, shifted};
 use encodings::outcomes::{is_bad, long_unless};
 use encodings::rows;
-use instruction_set::instruction::{DataProcessing, Decoded, Instruction};
-use instruction_set::operands::Comparison::{Compare, CompareNegative, Test, TestEquivalence};
-use instruction_set::operands::DataOperation::{
+use instruction_set::data_processing::Comparison::{
+    Compare, CompareNegative, Test, TestEquivalence,
+};
+use instruction_set::data_processing::DataOperation::{
     Add, AddWithCarry, And, BitClear, ExclusiveOr, Or, OrNot, ReverseSubtract, Subtract,
     SubtractWithCarry,
 };
-use instruction_set::operands::{
-    CompareRegister, Comparison, DataOperation, DataRegister, MoveOperation, MoveRegister,
-    ShiftedRegister,
+use instruction_set::data_processing::{
+    CompareRegister, Comparison, DataOperation, DataProcessing, DataRegister, MoveOperation,
+    MoveRegister, ShiftedRegister,
 };
+use instruction_set::instruction::{Decoded, Instruction};
 use instruction_set::registers::Register;
 use instruction_set::shift::{Shift, ShiftType};
 

@@ -11,13 +11,11 @@ ghost use Rattle.instruction_set.specs.RowOperands.{plain_immediate};
 use encodings::operands::{hint, sign_extend};
 use encodings::outcomes::{is_bad, long, placed, unless, unless_refused};
 use encodings::rows;
-use instruction_set::instruction::{
-    BlockPlace, Branch, Decoded, Exclusive, Hint, Instruction, InstructionLength, System,
-};
-use instruction_set::operands::{
-    ConditionalBranch, MoveFromSpecial, MoveToSpecial, Offset, SpecialRegister,
-};
+use instruction_set::branch::{Branch, ConditionalBranch, Offset};
+use instruction_set::instruction::{BlockPlace, Decoded, Instruction, InstructionLength};
+use instruction_set::load_store::Exclusive;
 use instruction_set::registers::Register;
+use instruction_set::system::{Hint, MoveFromSpecial, MoveToSpecial, SpecialRegister, System};
 use instruction_set::unpredictable::UnpredictableCase;
 
 /// Returns a branch's offset from its five fields.

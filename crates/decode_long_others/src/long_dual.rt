@@ -11,12 +11,11 @@ ghost use Rattle.instruction_set.specs.RowOperands.{indexing_of};
 use encodings::operands::{byte_or_halfword, indexed, indexing_of, signed_offset, writes_back};
 use encodings::outcomes::{is_bad, long_unless, placed_unless};
 use encodings::rows;
-use instruction_set::instruction::{
-    BlockPlace, Branch, Decoded, Exclusive, Instruction, InstructionLength, LoadStoreMultiple,
-};
-use instruction_set::operands::{
-    ImmediateAddress, Indexing, LoadDual, LoadDualLiteral, LoadExclusive, StoreDual,
-    StoreExclusive, TableBranch,
+use instruction_set::branch::{Branch, TableBranch};
+use instruction_set::instruction::{BlockPlace, Decoded, Instruction, InstructionLength};
+use instruction_set::load_store::{
+    Exclusive, ImmediateAddress, Indexing, LoadDual, LoadDualLiteral, LoadExclusive,
+    LoadStoreMultiple, StoreDual, StoreExclusive,
 };
 use instruction_set::registers::Register;
 use instruction_set::size::Size;

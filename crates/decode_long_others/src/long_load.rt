@@ -13,14 +13,14 @@ use encodings::operands::{
 };
 use encodings::outcomes::{is_bad, last_only_if, long, long_unless, placed_unless, unless_refused};
 use encodings::rows;
-use instruction_set::instruction::{
-    BlockPlace, Decoded, Hint, Instruction, InstructionLength, LoadStore, System,
-};
-use instruction_set::operands::{
-    ImmediateAddress, LoadForm, LoadImmediate, LoadLiteral, LoadRegister, RegisterAddress,
+use instruction_set::instruction::{BlockPlace, Decoded, Instruction, InstructionLength};
+use instruction_set::load_store::{
+    ImmediateAddress, LoadForm, LoadImmediate, LoadLiteral, LoadRegister, LoadStore,
+    RegisterAddress,
 };
 use instruction_set::registers::Register;
 use instruction_set::size::Size;
+use instruction_set::system::{Hint, System};
 
 /// Returns the size of a byte or halfword, and whether it is signed.
 macro_rules! form {

@@ -8,11 +8,9 @@ ghost use Rattle.instruction_set.specs.LongMultiple.{has_few, load_list_wide_row
 use encodings::operands::is_in_list;
 use encodings::outcomes::{last_only_if, long_unless, placed_unless, unless};
 use encodings::rows;
-use instruction_set::instruction::{
-    BlockPlace, Decoded, Instruction, InstructionLength, LoadStoreMultiple,
-};
-use instruction_set::operands::ListOrder::{DecrementBefore, IncrementAfter};
-use instruction_set::operands::{ListOrder, LoadMultiple, StoreMultiple};
+use instruction_set::instruction::{BlockPlace, Decoded, Instruction, InstructionLength};
+use instruction_set::load_store::ListOrder::{DecrementBefore, IncrementAfter};
+use instruction_set::load_store::{ListOrder, LoadMultiple, LoadStoreMultiple, StoreMultiple};
 use instruction_set::registers::{Register, RegisterList};
 use instruction_set::unpredictable::UnpredictableCase;
 

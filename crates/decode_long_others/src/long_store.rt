@@ -9,8 +9,10 @@ ghost use Rattle.instruction_set.specs.LongStore.{store_rows, store_unprivileged
 use encodings::operands::{at_offset, indexed, indexing_of, signed_offset, writes_back};
 use encodings::outcomes::{is_bad, long_unless};
 use encodings::rows;
-use instruction_set::instruction::{Decoded, Instruction, LoadStore};
-use instruction_set::operands::{ImmediateAddress, RegisterAddress, StoreImmediate, StoreRegister};
+use instruction_set::instruction::{Decoded, Instruction};
+use instruction_set::load_store::{
+    ImmediateAddress, LoadStore, RegisterAddress, StoreImmediate, StoreRegister,
+};
 use instruction_set::registers::Register;
 use instruction_set::size::Size;
 

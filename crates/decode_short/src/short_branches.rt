@@ -8,10 +8,9 @@ ghost use Rattle.instruction_set.specs.ShortBranches.{branch_if_row, branch_row,
 use encodings::operands::sign_extend;
 use encodings::outcomes::{placed, short};
 use encodings::rows;
-use instruction_set::instruction::{
-    BlockPlace, Branch, Decoded, Instruction, InstructionLength, System,
-};
-use instruction_set::operands::{ConditionalBranch, Offset};
+use instruction_set::branch::{Branch, ConditionalBranch, Offset};
+use instruction_set::instruction::{BlockPlace, Decoded, Instruction, InstructionLength};
+use instruction_set::system::System;
 
 /// Decodes a halfword by these rows.
 #[tactic(auto, unfolding(encodings::specs::Masks::by_masks))]

@@ -9,15 +9,15 @@ use crate::short_shifts::{data_number, data_registers};
 use encodings::operands::unshifted;
 use encodings::outcomes::short;
 use encodings::rows;
-use instruction_set::instruction::{DataProcessing, Decoded, Instruction};
-use instruction_set::operands::Comparison::{Compare, CompareNegative, Test};
-use instruction_set::operands::DataOperation::{
+use instruction_set::data_processing::Comparison::{Compare, CompareNegative, Test};
+use instruction_set::data_processing::DataOperation::{
     AddWithCarry, And, BitClear, ExclusiveOr, Or, ReverseSubtract, SubtractWithCarry,
 };
-use instruction_set::operands::{
-    CompareRegister, Comparison, FlagSetting, MoveOperation, MoveRegister, Multiply,
-    ShiftByRegister,
+use instruction_set::data_processing::{
+    CompareRegister, Comparison, DataProcessing, FlagSetting, MoveOperation, MoveRegister,
+    Multiply, ShiftByRegister,
 };
+use instruction_set::instruction::{Decoded, Instruction};
 use instruction_set::registers::Register;
 use instruction_set::shift::ShiftType;
 use instruction_set::shift::ShiftType::{Asr, Lsl, Lsr, Ror};

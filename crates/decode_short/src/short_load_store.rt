@@ -12,12 +12,10 @@ ghost use Rattle.instruction_set.specs.ShortLoadStore.{store_register_row};
 use encodings::operands::{at_offset, is_above_lowest, is_in_list};
 use encodings::outcomes::{short, unless};
 use encodings::rows;
-use instruction_set::instruction::{
-    BlockPlace, Decoded, Instruction, LoadStore, LoadStoreMultiple,
-};
-use instruction_set::operands::{
-    ListOrder, LoadForm, LoadImmediate, LoadLiteral, LoadMultiple, LoadRegister, RegisterAddress,
-    StoreImmediate, StoreMultiple, StoreRegister,
+use instruction_set::instruction::{BlockPlace, Decoded, Instruction};
+use instruction_set::load_store::{
+    ListOrder, LoadForm, LoadImmediate, LoadLiteral, LoadMultiple, LoadRegister, LoadStore,
+    LoadStoreMultiple, RegisterAddress, StoreImmediate, StoreMultiple, StoreRegister,
 };
 use instruction_set::registers::{Register, RegisterList};
 use instruction_set::size::Size;

@@ -12,21 +12,21 @@ ghost use Rattle.instruction_set.specs.ShortMiscellaneous.{rearrange_row, sp_num
 use encodings::operands::{hint, plain_immediate};
 use encodings::outcomes::{last_only_if, placed, placed_unless, short, unless};
 use encodings::rows;
-use instruction_set::instruction::{
-    BlockPlace, Branch, DataProcessing, Decoded, Instruction, InstructionLength, LoadStoreMultiple,
-    System,
-};
-use instruction_set::operands::DataOperation::{Add, Subtract};
-use instruction_set::operands::Rearrangement::{
+use instruction_set::branch::{Branch, CompareAndBranch, IfThen};
+use instruction_set::data_processing::DataOperation::{Add, Subtract};
+use instruction_set::data_processing::Rearrangement::{
     ReverseHalfwords, ReverseSignedHalfword, ReverseWord,
 };
-use instruction_set::operands::{
-    Address, ChangeProcessorState, CompareAndBranch, DataImmediate, DataOperation, Extend,
-    FlagSetting, IfThen, ListOrder, LoadMultiple, Rearrange, Rearrangement, StoreMultiple,
+use instruction_set::data_processing::{
+    Address, DataImmediate, DataOperation, DataProcessing, Extend, FlagSetting, Rearrange,
+    Rearrangement,
 };
+use instruction_set::instruction::{BlockPlace, Decoded, Instruction, InstructionLength};
+use instruction_set::load_store::{ListOrder, LoadMultiple, LoadStoreMultiple, StoreMultiple};
 use instruction_set::registers::{Register, RegisterList};
 use instruction_set::size::Size;
 use instruction_set::size::Size::{Byte, Halfword};
+use instruction_set::system::{ChangeProcessorState, System};
 use instruction_set::unpredictable::UnpredictableCase;
 
 /// Decodes a halfword by these rows.

@@ -9,14 +9,12 @@ ghost use Rattle.instruction_set.specs.ShortShifts.{move_low_row, move_number_ro
 use encodings::operands::{plain_immediate, unshifted};
 use encodings::outcomes::{placed, short};
 use encodings::rows;
-use instruction_set::instruction::{
-    BlockPlace, DataProcessing, Decoded, Instruction, InstructionLength,
+use instruction_set::data_processing::DataOperation::{Add, Subtract};
+use instruction_set::data_processing::{
+    CompareImmediate, Comparison, DataImmediate, DataOperation, DataProcessing, DataRegister,
+    FlagSetting, MoveImmediate, MoveOperation, MoveRegister, ShiftedRegister,
 };
-use instruction_set::operands::DataOperation::{Add, Subtract};
-use instruction_set::operands::{
-    CompareImmediate, Comparison, DataImmediate, DataOperation, DataRegister, FlagSetting,
-    MoveImmediate, MoveOperation, MoveRegister, ShiftedRegister,
-};
+use instruction_set::instruction::{BlockPlace, Decoded, Instruction, InstructionLength};
 use instruction_set::registers::Register;
 use regs::decode_imm_shift;
 

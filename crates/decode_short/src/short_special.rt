@@ -9,13 +9,12 @@ ghost use Rattle.instruction_set.specs.ShortSpecial.{compare_high_row, move_high
 use encodings::operands::unshifted;
 use encodings::outcomes::{last_only_if, placed, placed_unless, short, unless_refused};
 use encodings::rows;
-use instruction_set::instruction::{
-    BlockPlace, Branch, DataProcessing, Decoded, Instruction, InstructionLength,
-};
-use instruction_set::operands::{
-    BranchExchange, CompareRegister, Comparison, DataOperation, DataRegister, FlagSetting,
+use instruction_set::branch::{Branch, BranchExchange};
+use instruction_set::data_processing::{
+    CompareRegister, Comparison, DataOperation, DataProcessing, DataRegister, FlagSetting,
     MoveOperation, MoveRegister,
 };
+use instruction_set::instruction::{BlockPlace, Decoded, Instruction, InstructionLength};
 use instruction_set::registers::Register;
 
 /// Decodes a halfword by these rows.

@@ -56,7 +56,7 @@ placed true x at before [] = begun x at 0 before 0
 placed true x at before (run ∷ runs) =
     placed_above (at == run.low + run.width) x at before run runs (eqb-true at (run.low + run.width))
 
--- a field is the bits of its letter's runs, behind those that stood before
+-- a field is the bits of its letter's runs, after those before
 joined_are : (letter : ℕ) (places : List ℕ) (x before : ℕ)
     → joined_field letter places x before
     ≡ before * 2 ^ width_of (runs_of letter places) + joined_bits (runs_of letter places) x

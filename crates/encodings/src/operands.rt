@@ -8,13 +8,12 @@ ghost use Rattle.instruction_set.specs.RowOperands.{hint_of};
 ghost use Rattle.instruction_set.specs.ShortLoadStore.{is_above_lowest};
 ghost use Rattle.instruction_set.specs.Words.{is_bit, negated, sign_extended};
 
-use instruction_set::instruction::Hint;
-use instruction_set::operands::{
-    FlagSetting, Immediate, ImmediateAddress, Indexing, ShiftedRegister,
-};
+use instruction_set::data_processing::{FlagSetting, Immediate, ShiftedRegister};
+use instruction_set::load_store::{ImmediateAddress, Indexing};
 use instruction_set::registers::Register;
 use instruction_set::shift::{Shift, ShiftType};
 use instruction_set::size::Size;
+use instruction_set::system::Hint;
 use regs::decode_imm_shift;
 
 /// Returns the hint of this number.

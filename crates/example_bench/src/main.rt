@@ -5,7 +5,6 @@
 use board::{Board, read_board};
 use elf::{Image, load};
 use machine::{Event, Events, Fast, Place, PlaceError, event_line};
-use platform::event::EventKind;
 use std::alloc::Global;
 use std::io::Write;
 use std::{env, fs, io};
@@ -83,12 +82,5 @@ fn set_up(machine: &mut Fast, address: u32) -> Result<(), PlaceError> {
 
 /// Returns whether an access is refused.
 fn is_refused(events: &[Event]) -> bool {
-    for event in events {
-        if let EventKind::Accessed(access) = event.what {
-            if access.refused.is_some() {
-                return true;
-            }
-        }
-    }
-    false
+    events.iter().any(|event| event.what.is_refused())
 }

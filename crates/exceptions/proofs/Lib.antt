@@ -1,2 +1,3 @@
+mod Fetching
 mod LineBounds
 mod Serving

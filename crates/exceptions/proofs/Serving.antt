@@ -11,7 +11,7 @@ use Rattle.reference.specs.Accesses.{ListResult, followed, perform, perform_all,
 use Rattle.reference.specs.State.{Bus}
 use Rattle.trace.specs.Emission.{Emission}
 
--- what accesses leave behind lines and values that are there already
+-- what accesses leave after lines and values that are there already
 abbrev pub added_to : List Event → List ℕ → ListResult → ListResult
 added_to events values all = record all { events = events ++ all.events; values = values ++ all.values }
 

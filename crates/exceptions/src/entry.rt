@@ -4,9 +4,8 @@ ghost use Rattle.std.specs.Prelude.{◌≡◌, ◌<◌, ◌≤◌, [], length};
 ghost use Rattle.instruction_set.specs.declared.size.Size.TheVariants.{Word};
 ghost use Rattle.exceptions.specs.Serving.{GoesOnTo, StepsTo};
 ghost use Rattle.reference.specs.LoadStore.{request};
-ghost use Rattle.reference.specs.ExceptionEntry.{words_from as words_from_of, pushes as pushes_of};
-ghost use Rattle.reference.specs.ExceptionEntry.{vector_read as vector_read_of, handler_entered, vector_refused};
-ghost use Rattle.reference.specs.ExceptionEntry.{exception_taken, begin_entry, take_vector};
+ghost use Rattle.reference.specs.ExceptionEntry as spec;
+ghost use Rattle.reference.specs.ExceptionEntry.{handler_entered, vector_refused, exception_taken, begin_entry};
 
 use crate::accesses::{Requests, Values};
 use crate::faults::vector_fault;
@@ -23,7 +22,7 @@ use trace::sink::Sink;
 /// Returns accesses to words that follow one another upward from an address.
 pub fn words_from(kind: Kind, privileged: bool, address: u32, values: &[u32]) -> Requests
     requires { length values.now ≤ 8 }
-    ensures { result.items ≡ words_from_of kind privileged address values.now }
+    ensures { result.items ≡ spec.words_from kind privileged address values.now }
 {
     let mut requests = Requests::new();
     let mut next = address;
@@ -52,7 +51,7 @@ fn word(kind: Kind, privileged: bool, address: u32, value: u32) -> Request
 /// Returns the pushes of a frame, with the privilege of the code that is interrupted.
 #[tactic(auto, unfolding(reference::specs::ExceptionEntry::pushes))]
 fn pushes(regs: &Regs) -> Requests
-    ensures { result.items ≡ pushes_of regs.now }
+    ensures { result.items ≡ spec.pushes regs.now }
 {
     let frame = regs.frame();
     words_from(
@@ -65,7 +64,7 @@ fn pushes(regs: &Regs) -> Requests
 
 impl<D: Decider, C: KeptCode, L: Levels, U: DueTicks> Core<D, C, L, U> {
     /// Pushes the frame: a Stack step.
-    #[tactic(auto, using(crate::proofs::LineBounds::pushed_lines, crate::proofs::LineBounds::pushed_words), unfolding(reference::specs::ExceptionEntry::begin_entry))]
+    #[tactic(auto, using(crate::proofs::LineBounds::pushed), unfolding(reference::specs::ExceptionEntry::begin_entry))]
     pub fn begin_entry<S: Sink>(&mut self, events: &mut S)
         requires { (S.emitted events.old).events ≡ [] }
         ensures { StepsTo S.emitted events.old events.new self.new (begin_entry self.old) }
@@ -85,7 +84,7 @@ impl<D: Decider, C: KeptCode, L: Levels, U: DueTicks> Core<D, C, L, U> {
     #[tactic(auto, unfolding(reference::specs::ExceptionEntry::take_vector))]
     pub fn take_vector<S: Sink>(&mut self, events: &mut S, exc_return: u32)
         requires { (S.emitted events.old).events ≡ [] }
-        ensures { StepsTo S.emitted events.old events.new self.new (take_vector self.old exc_return) }
+        ensures { StepsTo S.emitted events.old events.new self.new (spec.take_vector self.old exc_return) }
     {
         if let Some(exception) = self.candidate() {
             self.take_exception(events, exc_return, exception);
@@ -110,7 +109,7 @@ impl<D: Decider, C: KeptCode, L: Levels, U: DueTicks> Core<D, C, L, U> {
     /// Returns the read of the vector of an exception.
     fn vector_read(&self, exception: u16) -> Request
         requires { exception < 256 }
-        ensures { result ≡ vector_read_of self.now exception }
+        ensures { result ≡ spec.vector_read self.now exception }
     {
         let address = self
             .bus

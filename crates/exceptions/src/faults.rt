@@ -2,12 +2,9 @@
 
 ghost use Rattle.std.specs.Prelude.{◌≡◌, ◌<◌, ◌++◌, ◌∷◌, [], length};
 ghost use Rattle.exceptions.specs.Serving.{GoesOnTo};
-ghost use Rattle.reference.specs.Faults.{access_fault, fault_of as fault_of_access};
-ghost use Rattle.reference.specs.Faults.{usage_fault_of as usage_fault_of_word, mem_manage as mem_manage_of};
-ghost use Rattle.reference.specs.Faults.{bus_fault as bus_fault_of, usage_fault as usage_fault_of_bit};
-ghost use Rattle.reference.specs.Faults.{vector_fault as vector_fault_of, fault_line as fault_line_of, recorded};
-ghost use Rattle.reference.specs.Faults.{pended_by_fault, forced, locked_up, escalated, faulted, failed};
-ghost use Rattle.reference.specs.Faults.{supervisor_called};
+ghost use Rattle.reference.specs.Faults as spec;
+ghost use Rattle.reference.specs.Faults.{access_fault, recorded, pended_by_fault, forced, locked_up, escalated};
+ghost use Rattle.reference.specs.Faults.{faulted, failed, supervisor_called};
 
 use crate::state::Core;
 use access::{Decider, DueTicks, KeptCode, Levels};
@@ -28,7 +25,7 @@ const SVC_LENGTH: u32 = 2;
 
 /// Returns a fault of MemManage.
 fn mem_manage(bits: u32, address: FaultAddress) -> FaultEffect
-    ensures { result ≡ mem_manage_of bits address }
+    ensures { result ≡ spec.mem_manage bits address }
 {
     FaultEffect {
         exception: MEM_MANAGE,
@@ -40,7 +37,7 @@ fn mem_manage(bits: u32, address: FaultAddress) -> FaultEffect
 
 /// Returns a fault of BusFault.
 fn bus_fault(bits: u32, address: FaultAddress) -> FaultEffect
-    ensures { result ≡ bus_fault_of bits address }
+    ensures { result ≡ spec.bus_fault bits address }
 {
     FaultEffect {
         exception: BUS_FAULT,
@@ -52,7 +49,7 @@ fn bus_fault(bits: u32, address: FaultAddress) -> FaultEffect
 
 /// Returns a fault of UsageFault.
 fn usage_fault(bit: u32) -> FaultEffect
-    ensures { result ≡ usage_fault_of_bit bit }
+    ensures { result ≡ spec.usage_fault bit }
 {
     FaultEffect {
         exception: USAGE_FAULT,
@@ -64,7 +61,7 @@ fn usage_fault(bit: u32) -> FaultEffect
 
 /// Returns the fault of a vector that can't be read.
 pub fn vector_fault() -> FaultEffect
-    ensures { result ≡ vector_fault_of }
+    ensures { result ≡ spec.vector_fault }
 {
     FaultEffect {
         exception: HARD_FAULT,
@@ -76,7 +73,7 @@ pub fn vector_fault() -> FaultEffect
 
 /// Returns the fault of a refused access, by what the access was for and what refused it.
 pub fn fault_of(access: &Access, cause: Cause) -> FaultEffect
-    ensures { result ≡ fault_of_access access.now cause }
+    ensures { result ≡ spec.fault_of access.now cause }
 {
     let address = access.address;
     match (access.kind, cause) {
@@ -98,7 +95,7 @@ pub fn fault_of(access: &Access, cause: Cause) -> FaultEffect
 
 /// Returns the fault of an instruction, or of a return.
 pub fn usage_fault_of(fault: UsageFault) -> FaultEffect
-    ensures { result ≡ usage_fault_of_word fault }
+    ensures { result ≡ spec.usage_fault_of fault }
 {
     usage_fault(match fault {
         UsageFault::UndefinedInstruction => UNDEFINSTR,
@@ -125,7 +122,7 @@ impl<D: Decider, C: KeptCode, L: Levels, U: DueTicks> Core<D, C, L, U> {
 
     /// Returns the line of a fault by which this exception became pending, 0 for lockup.
     fn fault_line(&self, exception: u16) -> Event
-        ensures { result ≡ fault_line_of self.now exception }
+        ensures { result ≡ spec.fault_line self.now exception }
     {
         let status = self.bus.system.status();
         Event {

@@ -1,15 +1,14 @@
 //! Exception return (ARM DDI 0403, `ExceptionReturn()`, `DeActivate()` and `PopStack()`).
 
 ghost use Rattle.std.specs.Prelude.{◌≡◌, ◌+◌, ◌<◌, ◌≤◌, length};
-ghost use Rattle.instruction_set.specs.Frames.{has_reserved_ones as has_reserved_ones_of};
-ghost use Rattle.instruction_set.specs.Frames.{returns_to_thread as returns_to_thread_of};
+ghost use Rattle.instruction_set.specs.Frames as frames;
 ghost use Rattle.exceptions.specs.Serving.{GoesOnTo};
 ghost use Rattle.reference.specs.declared.failure.Failure.TheVariants.{Usage};
 ghost use Rattle.reference.specs.declared.failure.UsageFault.TheVariants.{InvalidReturn};
-ghost use Rattle.reference.specs.ExceptionReturn.{is_allowed as is_allowed_of, with_entry, chained};
+ghost use Rattle.reference.specs.ExceptionReturn as spec;
+ghost use Rattle.reference.specs.ExceptionReturn.{with_entry, chained};
 ghost use Rattle.platform.specs.System.{exception_ended};
-ghost use Rattle.reference.specs.ExceptionReturn.{pops as pops_of, returns_privileged as returns_privileged_of};
-ghost use Rattle.reference.specs.ExceptionReturn.{pop_stack, fits_mode as fits_mode_of, unstacked, exception_return};
+ghost use Rattle.reference.specs.ExceptionReturn.{pop_stack, unstacked, exception_return};
 ghost use Rattle.reference.specs.Faults.{failed};
 ghost use Rattle.platform.specs.Priorities.{candidate};
 ghost use Rattle.reference.specs.State.{with_system};
@@ -35,14 +34,14 @@ const XPSR: usize = 7;
 
 /// Returns whether bits 27:4 of an EXC_RETURN are ones.
 fn has_reserved_ones(exc_return: u32) -> bool
-    ensures { result ≡ has_reserved_ones_of exc_return }
+    ensures { result ≡ frames.has_reserved_ones exc_return }
 {
     exc_return >> 4 & 0xFF_FFFF == 0xFF_FFFF
 }
 
 /// Returns whether an EXC_RETURN returns to Thread mode.
 fn returns_to_thread(exc_return: u32) -> bool
-    ensures { result ≡ returns_to_thread_of exc_return }
+    ensures { result ≡ frames.returns_to_thread exc_return }
 {
     exc_return & 15 == 9 || returns_on_psp(exc_return)
 }
@@ -50,7 +49,7 @@ fn returns_to_thread(exc_return: u32) -> bool
 /// Returns whether a frame's IPSR is nonzero exactly where EXC_RETURN names Handler mode.
 fn fits_mode(exc_return: u32, frame: &[u32]) -> bool
     requires { length frame.now ≡ 8 }
-    ensures { result ≡ fits_mode_of exc_return frame.now }
+    ensures { result ≡ spec.fits_mode exc_return frame.now }
 {
     let exception = frame[XPSR] & 0x1FF;
     if returns_to_handler(exc_return) {
@@ -62,7 +61,7 @@ fn fits_mode(exc_return: u32, frame: &[u32]) -> bool
 
 /// Returns whether the code that is returned to is privileged.
 fn returns_privileged(regs: &Regs, exc_return: u32) -> bool
-    ensures { result ≡ returns_privileged_of regs.now exc_return }
+    ensures { result ≡ spec.returns_privileged regs.now exc_return }
 {
     returns_to_handler(exc_return) || !regs.npriv()
 }
@@ -70,7 +69,7 @@ fn returns_privileged(regs: &Regs, exc_return: u32) -> bool
 /// Returns the pops of a frame, with the privilege of the code that is returned to.
 #[tactic(auto, unfolding(reference::specs::ExceptionReturn::pops))]
 fn pops(regs: &Regs, exc_return: u32) -> Requests
-    ensures { result.items ≡ pops_of regs.now exc_return }
+    ensures { result.items ≡ spec.pops regs.now exc_return }
 {
     let blank = [0; 8];
     words_from(
@@ -109,7 +108,7 @@ impl<D: Decider, C: KeptCode, L: Levels, U: DueTicks> Core<D, C, L, U> {
     /// 0001, 1001 or 1101; and a return to Thread mode leaves no other exception active, unless
     /// CCR.NONBASETHRDENA is 1.
     fn is_allowed(&self, exc_return: u32) -> bool
-        ensures { result ≡ is_allowed_of self.now exc_return }
+        ensures { result ≡ spec.is_allowed self.now exc_return }
     {
         let levels = self.bus.system.levels();
         let exception = self.regs.exception();
@@ -155,7 +154,7 @@ impl<D: Decider, C: KeptCode, L: Levels, U: DueTicks> Core<D, C, L, U> {
     }
 
     /// Pops the frame.
-    #[tactic(auto, using(crate::proofs::LineBounds::popped_lines, crate::proofs::LineBounds::popped_words), unfolding(reference::specs::ExceptionReturn::pop_stack))]
+    #[tactic(auto, using(crate::proofs::LineBounds::popped), unfolding(reference::specs::ExceptionReturn::pop_stack))]
     fn pop_stack<S: Sink>(&mut self, events: &mut S, exc_return: u32)
         requires { length (S.emitted events.old).events + 9 ≤ MOST_EVENTS }
         ensures { GoesOnTo S.emitted events.old events.new self.new (λ es. pop_stack self.old es exc_return) }

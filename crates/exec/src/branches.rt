@@ -10,10 +10,10 @@ ghost use Rattle.reference.specs.ProgramCounter.{branches_by};
 use crate::load_store::{joined, transfer};
 use crate::planning::Requests;
 use crate::program_counter::{branch_by, branched, exchange, move_on};
-use instruction_set::instruction::{Branch, InstructionLength};
-use instruction_set::operands::{
-    BranchExchange, CompareAndBranch, ConditionalBranch, IfThen, TableBranch,
+use instruction_set::branch::{
+    Branch, BranchExchange, CompareAndBranch, ConditionalBranch, IfThen, TableBranch,
 };
+use instruction_set::instruction::InstructionLength;
 use instruction_set::registers::Register;
 use platform::access::{Access, Kind};
 use reference::ending::Ending;

@@ -60,7 +60,7 @@ fn plan_family(
         Instruction::LoadStoreMultiple(i) => load_store_multiple::wants(i, regs, requests),
         Instruction::Exclusive(i) => exclusives::wants(i, regs, requests),
         Instruction::Branch(i) => branches::wants(i, regs, traps, requests),
-        Instruction::System(_) => Ok(()),
+        Instruction::System(i) => system::wants(i, requests),
     }
 }
 

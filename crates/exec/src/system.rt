@@ -1,13 +1,17 @@
 //! The instructions for special registers, the hints, SVC and BKPT (ARM DDI 0403, the operation of
 //! CPS, MSR, MRS, SVC, BKPT, WFI and the other hints). None makes an access.
 
-ghost use Rattle.std.specs.Prelude.{◌≡◌};
-ghost use Rattle.exec.specs.Plans.{finished_as};
+ghost use Rattle.std.specs.Prelude.{◌≡◌, []};
+ghost use Rattle.exec.specs.Plans.{finished_as, planned};
 ghost use Rattle.reference.specs.SystemInstructions.{has_no_condition, hint_ending, moves_on_and, system_effect};
+ghost use Rattle.reference.specs.SystemInstructions.{system_requests};
 
+use crate::planning::Requests;
 use crate::program_counter::move_on;
-use instruction_set::instruction::{Hint, InstructionLength, System};
+use instruction_set::instruction::InstructionLength;
+use instruction_set::system::{Hint, System};
 use reference::ending::Ending;
+use reference::failure::Failure;
 use regs::Regs;
 
 /// Returns whether an instruction has no condition, not even that of an IT block.
@@ -22,6 +26,22 @@ pub fn has_no_condition(instruction: &System) -> bool
         | System::MoveFromSpecial(_)
         | System::Hint(_)
         | System::SupervisorCall(_) => false,
+    }
+}
+
+/// Appends no access, and rejects none: each instruction of this family is carried out without one.
+#[inline]
+pub fn wants(instruction: &System, requests: &Requests) -> Result<(), Failure>
+    requires { requests.now.items ≡ [] }
+    ensures { planned requests.now result ≡ system_requests instruction.now }
+{
+    match instruction {
+        System::ChangeProcessorState(_)
+        | System::MoveToSpecial(_)
+        | System::MoveFromSpecial(_)
+        | System::Hint(_)
+        | System::SupervisorCall(_)
+        | System::Breakpoint(_) => Ok(()),
     }
 }
 

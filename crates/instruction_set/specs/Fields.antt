@@ -5,23 +5,23 @@
 use Rattle.std.specs.Prelude.{ℕ, zero, suc, ◌+◌, ◌-◌, ◌*◌, ◌/◌, ◌%◌, ◌^◌, Bool, false, not, ◌||◌, if◌then◌else◌, ℤ, pos}
 use Rattle.std.specs.Prelude.{neg_ℤ, int_lt}
 use Rattle.std.specs.Ordering.{int_eq}
-use Rattle.instruction_set.specs.declared.operands.ClearField.{ClearField}
-use Rattle.instruction_set.specs.declared.operands.Extend.{Extend}
-use Rattle.instruction_set.specs.declared.operands.ExtractField.{ExtractField}
-use Rattle.instruction_set.specs.declared.operands.InsertField.{InsertField}
-use Rattle.instruction_set.specs.declared.operands.Rearrange.{Rearrange}
-use Rattle.instruction_set.specs.declared.operands.Rearrangement.{Rearrangement}
-use Rattle.instruction_set.specs.declared.operands.Rearrangement.TheVariants.{ReverseWord, ReverseHalfwords}
-use Rattle.instruction_set.specs.declared.operands.Rearrangement.TheVariants.{ReverseSignedHalfword, ReverseBits}
-use Rattle.instruction_set.specs.declared.operands.Rearrangement.TheVariants.{CountLeadingZeros}
-use Rattle.instruction_set.specs.declared.operands.Saturate.{Saturate}
+use Rattle.instruction_set.specs.declared.data_processing.ClearField.{ClearField}
+use Rattle.instruction_set.specs.declared.data_processing.Extend.{Extend}
+use Rattle.instruction_set.specs.declared.data_processing.ExtractField.{ExtractField}
+use Rattle.instruction_set.specs.declared.data_processing.InsertField.{InsertField}
+use Rattle.instruction_set.specs.declared.data_processing.Rearrange.{Rearrange}
+use Rattle.instruction_set.specs.declared.data_processing.Rearrangement.{Rearrangement}
+use Rattle.instruction_set.specs.declared.data_processing.Rearrangement.TheVariants.{ReverseWord, ReverseHalfwords}
+use Rattle.instruction_set.specs.declared.data_processing.Rearrangement.TheVariants.{ReverseSignedHalfword, ReverseBits}
+use Rattle.instruction_set.specs.declared.data_processing.Rearrangement.TheVariants.{CountLeadingZeros}
+use Rattle.instruction_set.specs.declared.data_processing.Saturate.{Saturate}
 use Rattle.instruction_set.specs.declared.shift.ShiftType.TheVariants.{Ror}
 use Rattle.instruction_set.specs.declared.size.Size.{Size}
 use Rattle.instruction_set.specs.declared.size.Size.TheVariants.{Byte, Halfword, Word}
 use Rattle.instruction_set.specs.Arithmetic.{signed, shift_c}
 use Rattle.instruction_set.specs.Products.{low_bits}
 use Rattle.instruction_set.specs.Registers.{Registers, register, with_register}
-use Rattle.instruction_set.specs.TwoOperands.{shifted}
+use Rattle.instruction_set.specs.Results.{shifted}
 use Rattle.instruction_set.specs.Words.{bits, bit_at, is_bit, sign_extended}
 
 -- ---- saturation

@@ -25,7 +25,7 @@ pub mod LongLoad
 pub mod LongRegister
 pub mod LongMultiply
 pub mod Decoding
-pub mod TwoOperands
+pub mod Results
 pub mod Products
 pub mod Fields
 pub mod DataProcessing

@@ -2,16 +2,16 @@
 use Rattle.std.specs.Prelude.{ℕ, ◌+◌, ◌*◌, ◌^◌, nat_lt, not, ◌==◌, if◌then◌else◌, List, [], ◌∷◌, Option, Some, None}
 use Rattle.std.specs.Prelude.{codes}
 use Rattle.instruction_set.specs.declared.instruction.BlockPlace.TheVariants as place
-use Rattle.instruction_set.specs.declared.instruction.Branch.TheVariants as branch
+use Rattle.instruction_set.specs.declared.branch.Branch.TheVariants as branch
 use Rattle.instruction_set.specs.declared.instruction.Decoded.{Decoded}
 use Rattle.instruction_set.specs.declared.instruction.Decoded.TheVariants.{Unpredictable}
-use Rattle.instruction_set.specs.declared.instruction.Exclusive.TheVariants as exclusive
-use Rattle.instruction_set.specs.declared.instruction.Hint.{Hint}
-use Rattle.instruction_set.specs.declared.instruction.Hint.TheVariants as hint
+use Rattle.instruction_set.specs.declared.load_store.Exclusive.TheVariants as exclusive
+use Rattle.instruction_set.specs.declared.system.Hint.{Hint}
+use Rattle.instruction_set.specs.declared.system.Hint.TheVariants as hint
 use Rattle.instruction_set.specs.declared.instruction.Instruction.TheVariants.{Branch, Exclusive, System}
 use Rattle.instruction_set.specs.declared.instruction.InstructionLength.TheVariants.{Long}
-use Rattle.instruction_set.specs.declared.instruction.System.TheVariants as system
-use Rattle.instruction_set.specs.declared.operands.SpecialRegister.{SpecialRegister}
+use Rattle.instruction_set.specs.declared.system.System.TheVariants as system
+use Rattle.instruction_set.specs.declared.system.SpecialRegister.{SpecialRegister}
 use Rattle.instruction_set.specs.declared.unpredictable.UnpredictableCase.TheVariants as cause
 use Rattle.instruction_set.specs.Patterns.{unspaced}
 use Rattle.instruction_set.specs.RowOperands.{hint_of, special_of}

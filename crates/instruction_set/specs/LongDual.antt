@@ -2,19 +2,19 @@
 -- encoding").
 use Rattle.std.specs.Prelude.{ℕ, ◌*◌, Bool, ◌&&◌, ◌||◌, ◌==◌, List, [], ◌∷◌, codes}
 use Rattle.instruction_set.specs.declared.instruction.BlockPlace.TheVariants as place
-use Rattle.instruction_set.specs.declared.instruction.Branch.TheVariants as branch
+use Rattle.instruction_set.specs.declared.branch.Branch.TheVariants as branch
 use Rattle.instruction_set.specs.declared.instruction.Decoded.{Decoded}
-use Rattle.instruction_set.specs.declared.instruction.Exclusive.TheVariants as exclusive
+use Rattle.instruction_set.specs.declared.load_store.Exclusive.TheVariants as exclusive
 use Rattle.instruction_set.specs.declared.instruction.Instruction.TheVariants.{Branch, Exclusive, LoadStoreMultiple}
 use Rattle.instruction_set.specs.declared.instruction.InstructionLength.TheVariants.{Long}
-use Rattle.instruction_set.specs.declared.instruction.LoadStoreMultiple.TheVariants as multiple
-use Rattle.instruction_set.specs.declared.operands.ImmediateAddress.{ImmediateAddress}
-use Rattle.instruction_set.specs.declared.operands.Indexing.{Indexing}
-use Rattle.instruction_set.specs.declared.operands.LoadDual.{LoadDual}
-use Rattle.instruction_set.specs.declared.operands.LoadDualLiteral.{LoadDualLiteral}
-use Rattle.instruction_set.specs.declared.operands.LoadExclusive.{LoadExclusive}
-use Rattle.instruction_set.specs.declared.operands.StoreDual.{StoreDual}
-use Rattle.instruction_set.specs.declared.operands.StoreExclusive.{StoreExclusive}
+use Rattle.instruction_set.specs.declared.load_store.LoadStoreMultiple.TheVariants as multiple
+use Rattle.instruction_set.specs.declared.load_store.ImmediateAddress.{ImmediateAddress}
+use Rattle.instruction_set.specs.declared.load_store.Indexing.{Indexing}
+use Rattle.instruction_set.specs.declared.load_store.LoadDual.{LoadDual}
+use Rattle.instruction_set.specs.declared.load_store.LoadDualLiteral.{LoadDualLiteral}
+use Rattle.instruction_set.specs.declared.load_store.LoadExclusive.{LoadExclusive}
+use Rattle.instruction_set.specs.declared.load_store.StoreDual.{StoreDual}
+use Rattle.instruction_set.specs.declared.load_store.StoreExclusive.{StoreExclusive}
 use Rattle.instruction_set.specs.declared.size.Size.{Size}
 use Rattle.instruction_set.specs.declared.size.Size.TheVariants.{Word}
 use Rattle.instruction_set.specs.declared.unpredictable.UnpredictableCase.TheVariants as cause

@@ -3,21 +3,23 @@
 use Rattle.std.specs.Prelude.{ℕ, ◌^◌, nat_lt, Bool, true, false, not, ◌&&◌, ◌||◌, ◌==◌, if◌then◌else◌, List, [], ◌∷◌}
 use Rattle.std.specs.Prelude.{Option, Some, None, codes}
 use Rattle.instruction_set.specs.declared.instruction.BlockPlace.TheVariants as place
-use Rattle.instruction_set.specs.declared.instruction.DataProcessing.TheVariants.{DataImmediate, MoveImmediate}
-use Rattle.instruction_set.specs.declared.instruction.DataProcessing.TheVariants.{CompareImmediate}
+use Rattle.instruction_set.specs.declared.data_processing.DataProcessing.TheVariants.{DataImmediate, MoveImmediate}
+use Rattle.instruction_set.specs.declared.data_processing.DataProcessing.TheVariants.{CompareImmediate}
 use Rattle.instruction_set.specs.declared.instruction.Decoded.{Decoded}
 use Rattle.instruction_set.specs.declared.instruction.Decoded.TheVariants.{Unpredictable}
 use Rattle.instruction_set.specs.declared.instruction.Instruction.TheVariants.{DataProcessing}
-use Rattle.instruction_set.specs.declared.operands.Comparison.{Comparison}
-use Rattle.instruction_set.specs.declared.operands.Comparison.TheVariants.{Test, TestEquivalence, Compare}
-use Rattle.instruction_set.specs.declared.operands.Comparison.TheVariants.{CompareNegative}
-use Rattle.instruction_set.specs.declared.operands.DataOperation.{DataOperation}
-use Rattle.instruction_set.specs.declared.operands.DataOperation.TheVariants.{And, BitClear, Or, OrNot, ExclusiveOr}
-use Rattle.instruction_set.specs.declared.operands.DataOperation.TheVariants.{Add, AddWithCarry, SubtractWithCarry}
-use Rattle.instruction_set.specs.declared.operands.DataOperation.TheVariants.{Subtract, ReverseSubtract}
-use Rattle.instruction_set.specs.declared.operands.Immediate.{Immediate}
-use Rattle.instruction_set.specs.declared.operands.MoveOperation.{MoveOperation}
-use Rattle.instruction_set.specs.declared.operands.MoveOperation.TheVariants.{Move, MoveNot}
+use Rattle.instruction_set.specs.declared.data_processing.Comparison.{Comparison}
+use Rattle.instruction_set.specs.declared.data_processing.Comparison.TheVariants.{Test, TestEquivalence, Compare}
+use Rattle.instruction_set.specs.declared.data_processing.Comparison.TheVariants.{CompareNegative}
+use Rattle.instruction_set.specs.declared.data_processing.DataOperation.{DataOperation}
+use Rattle.instruction_set.specs.declared.data_processing.DataOperation.TheVariants.{And, BitClear, Or, OrNot}
+use Rattle.instruction_set.specs.declared.data_processing.DataOperation.TheVariants.{ExclusiveOr}
+use Rattle.instruction_set.specs.declared.data_processing.DataOperation.TheVariants.{Add, AddWithCarry}
+use Rattle.instruction_set.specs.declared.data_processing.DataOperation.TheVariants.{SubtractWithCarry}
+use Rattle.instruction_set.specs.declared.data_processing.DataOperation.TheVariants.{Subtract, ReverseSubtract}
+use Rattle.instruction_set.specs.declared.data_processing.Immediate.{Immediate}
+use Rattle.instruction_set.specs.declared.data_processing.MoveOperation.{MoveOperation}
+use Rattle.instruction_set.specs.declared.data_processing.MoveOperation.TheVariants.{Move, MoveNot}
 use Rattle.instruction_set.specs.declared.unpredictable.UnpredictableCase.TheVariants as cause
 use Rattle.instruction_set.specs.Arithmetic.{expand_imm}
 use Rattle.instruction_set.specs.Patterns.{unspaced}

@@ -4,14 +4,14 @@ use Rattle.std.specs.Prelude.{ℕ, Bool, true, false, not, ◌&&◌, ◌||◌, �
 use Rattle.instruction_set.specs.declared.instruction.BlockPlace.{BlockPlace}
 use Rattle.instruction_set.specs.declared.instruction.BlockPlace.TheVariants as place
 use Rattle.instruction_set.specs.declared.instruction.Decoded.{Decoded}
-use Rattle.instruction_set.specs.declared.instruction.Hint.TheVariants as hint
+use Rattle.instruction_set.specs.declared.system.Hint.TheVariants as hint
 use Rattle.instruction_set.specs.declared.instruction.Instruction.TheVariants.{LoadStore, System}
 use Rattle.instruction_set.specs.declared.instruction.InstructionLength.TheVariants.{Long}
-use Rattle.instruction_set.specs.declared.instruction.LoadStore.TheVariants as load_store
-use Rattle.instruction_set.specs.declared.instruction.System.TheVariants.{Hint}
-use Rattle.instruction_set.specs.declared.operands.ImmediateAddress.{ImmediateAddress}
-use Rattle.instruction_set.specs.declared.operands.LoadForm.{LoadForm}
-use Rattle.instruction_set.specs.declared.operands.LoadRegister.{LoadRegister}
+use Rattle.instruction_set.specs.declared.load_store.LoadStore.TheVariants as load_store
+use Rattle.instruction_set.specs.declared.system.System.TheVariants.{Hint}
+use Rattle.instruction_set.specs.declared.load_store.ImmediateAddress.{ImmediateAddress}
+use Rattle.instruction_set.specs.declared.load_store.LoadForm.{LoadForm}
+use Rattle.instruction_set.specs.declared.load_store.LoadRegister.{LoadRegister}
 use Rattle.instruction_set.specs.declared.size.Size.{Size}
 use Rattle.instruction_set.specs.declared.size.Size.TheVariants.{Word}
 use Rattle.instruction_set.specs.declared.unpredictable.UnpredictableCase.TheVariants as cause

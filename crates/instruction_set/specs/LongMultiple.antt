@@ -5,10 +5,10 @@ use Rattle.instruction_set.specs.declared.instruction.BlockPlace.TheVariants as 
 use Rattle.instruction_set.specs.declared.instruction.Decoded.{Decoded}
 use Rattle.instruction_set.specs.declared.instruction.Instruction.TheVariants.{LoadStoreMultiple}
 use Rattle.instruction_set.specs.declared.instruction.InstructionLength.TheVariants.{Long}
-use Rattle.instruction_set.specs.declared.instruction.LoadStoreMultiple.TheVariants as multiple
-use Rattle.instruction_set.specs.declared.operands.ListOrder.TheVariants.{IncrementAfter, DecrementBefore}
-use Rattle.instruction_set.specs.declared.operands.LoadMultiple.{LoadMultiple}
-use Rattle.instruction_set.specs.declared.operands.StoreMultiple.{StoreMultiple}
+use Rattle.instruction_set.specs.declared.load_store.LoadStoreMultiple.TheVariants as multiple
+use Rattle.instruction_set.specs.declared.load_store.ListOrder.TheVariants.{IncrementAfter, DecrementBefore}
+use Rattle.instruction_set.specs.declared.load_store.LoadMultiple.{LoadMultiple}
+use Rattle.instruction_set.specs.declared.load_store.StoreMultiple.{StoreMultiple}
 use Rattle.instruction_set.specs.declared.unpredictable.UnpredictableCase.TheVariants as cause
 use Rattle.instruction_set.specs.Patterns.{unspaced}
 use Rattle.instruction_set.specs.Rows.{Row, long, placed, last_only_if, unless}

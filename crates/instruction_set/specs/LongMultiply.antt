@@ -2,16 +2,16 @@
 -- accumulate, and divide", and the coprocessors' (ARM DDI 0403, "32-bit Thumb instruction encoding").
 use Rattle.std.specs.Prelude.{ℕ, ◌||◌, ◌==◌, List, [], ◌∷◌, codes}
 use Rattle.instruction_set.specs.declared.instruction.BlockPlace.TheVariants as place
-use Rattle.instruction_set.specs.declared.instruction.DataProcessing.TheVariants as processing
+use Rattle.instruction_set.specs.declared.data_processing.DataProcessing.TheVariants as processing
 use Rattle.instruction_set.specs.declared.instruction.Decoded.{Decoded}
 use Rattle.instruction_set.specs.declared.instruction.Decoded.TheVariants.{NoCoprocessor}
 use Rattle.instruction_set.specs.declared.instruction.Instruction.TheVariants.{DataProcessing}
-use Rattle.instruction_set.specs.declared.operands.Accumulation.{Accumulation}
-use Rattle.instruction_set.specs.declared.operands.Accumulation.TheVariants as sum
-use Rattle.instruction_set.specs.declared.operands.Divide.{Divide}
-use Rattle.instruction_set.specs.declared.operands.FlagSetting.TheVariants as flags
-use Rattle.instruction_set.specs.declared.operands.MultiplyAccumulate.{MultiplyAccumulate}
-use Rattle.instruction_set.specs.declared.operands.MultiplyLong.{MultiplyLong}
+use Rattle.instruction_set.specs.declared.data_processing.Accumulation.{Accumulation}
+use Rattle.instruction_set.specs.declared.data_processing.Accumulation.TheVariants as sum
+use Rattle.instruction_set.specs.declared.data_processing.Divide.{Divide}
+use Rattle.instruction_set.specs.declared.data_processing.FlagSetting.TheVariants as flags
+use Rattle.instruction_set.specs.declared.data_processing.MultiplyAccumulate.{MultiplyAccumulate}
+use Rattle.instruction_set.specs.declared.data_processing.MultiplyLong.{MultiplyLong}
 use Rattle.instruction_set.specs.declared.unpredictable.UnpredictableCase.TheVariants as cause
 use Rattle.instruction_set.specs.Patterns.{unspaced}
 use Rattle.instruction_set.specs.Rows.{Letters, Row, long, unless, is_bad}

@@ -2,15 +2,15 @@
 -- encoding").
 use Rattle.std.specs.Prelude.{ℕ, ◌+◌, ◌-◌, ◌*◌, ◌^◌, nat_lt, true, false, ◌||◌, List, [], ◌∷◌, codes}
 use Rattle.instruction_set.specs.declared.instruction.BlockPlace.TheVariants as place
-use Rattle.instruction_set.specs.declared.instruction.DataProcessing.TheVariants as processing
+use Rattle.instruction_set.specs.declared.data_processing.DataProcessing.TheVariants as processing
 use Rattle.instruction_set.specs.declared.instruction.Decoded.{Decoded}
 use Rattle.instruction_set.specs.declared.instruction.Instruction.TheVariants.{DataProcessing}
-use Rattle.instruction_set.specs.declared.operands.DataOperation.{DataOperation}
-use Rattle.instruction_set.specs.declared.operands.DataOperation.TheVariants.{Add, Subtract}
-use Rattle.instruction_set.specs.declared.operands.ExtractField.{ExtractField}
-use Rattle.instruction_set.specs.declared.operands.FlagSetting.TheVariants as flags
-use Rattle.instruction_set.specs.declared.operands.MoveOperation.TheVariants.{Move}
-use Rattle.instruction_set.specs.declared.operands.Saturate.{Saturate}
+use Rattle.instruction_set.specs.declared.data_processing.DataOperation.{DataOperation}
+use Rattle.instruction_set.specs.declared.data_processing.DataOperation.TheVariants.{Add, Subtract}
+use Rattle.instruction_set.specs.declared.data_processing.ExtractField.{ExtractField}
+use Rattle.instruction_set.specs.declared.data_processing.FlagSetting.TheVariants as flags
+use Rattle.instruction_set.specs.declared.data_processing.MoveOperation.TheVariants.{Move}
+use Rattle.instruction_set.specs.declared.data_processing.Saturate.{Saturate}
 use Rattle.instruction_set.specs.declared.unpredictable.UnpredictableCase.TheVariants as cause
 use Rattle.instruction_set.specs.LongImmediate.{is_refused_destination}
 use Rattle.instruction_set.specs.Patterns.{unspaced}

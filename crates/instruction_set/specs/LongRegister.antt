@@ -2,15 +2,15 @@
 -- instruction encoding").
 use Rattle.std.specs.Prelude.{ℕ, ◌*◌, not, ◌||◌, ◌==◌, if◌then◌else◌, List, [], ◌∷◌, codes}
 use Rattle.instruction_set.specs.declared.instruction.BlockPlace.TheVariants as place
-use Rattle.instruction_set.specs.declared.instruction.DataProcessing.TheVariants as processing
+use Rattle.instruction_set.specs.declared.data_processing.DataProcessing.TheVariants as processing
 use Rattle.instruction_set.specs.declared.instruction.Decoded.{Decoded}
 use Rattle.instruction_set.specs.declared.instruction.Instruction.TheVariants.{DataProcessing}
-use Rattle.instruction_set.specs.declared.operands.Extend.{Extend}
-use Rattle.instruction_set.specs.declared.operands.Rearrangement.{Rearrangement}
-use Rattle.instruction_set.specs.declared.operands.Rearrangement.TheVariants.{ReverseWord, ReverseHalfwords}
-use Rattle.instruction_set.specs.declared.operands.Rearrangement.TheVariants.{ReverseSignedHalfword, ReverseBits}
-use Rattle.instruction_set.specs.declared.operands.Rearrangement.TheVariants.{CountLeadingZeros}
-use Rattle.instruction_set.specs.declared.operands.ShiftByRegister.{ShiftByRegister}
+use Rattle.instruction_set.specs.declared.data_processing.Extend.{Extend}
+use Rattle.instruction_set.specs.declared.data_processing.Rearrangement.{Rearrangement}
+use Rattle.instruction_set.specs.declared.data_processing.Rearrangement.TheVariants.{ReverseWord, ReverseHalfwords}
+use Rattle.instruction_set.specs.declared.data_processing.Rearrangement.TheVariants.{ReverseSignedHalfword, ReverseBits}
+use Rattle.instruction_set.specs.declared.data_processing.Rearrangement.TheVariants.{CountLeadingZeros}
+use Rattle.instruction_set.specs.declared.data_processing.ShiftByRegister.{ShiftByRegister}
 use Rattle.instruction_set.specs.declared.shift.ShiftType.{ShiftType}
 use Rattle.instruction_set.specs.declared.shift.ShiftType.TheVariants.{Lsl, Lsr, Asr, Ror}
 use Rattle.instruction_set.specs.declared.size.Size.{Size}

@@ -1,19 +1,21 @@
 -- The rows of 32 bits in "Data processing (shifted register)" (ARM DDI 0403, "32-bit Thumb instruction encoding").
 use Rattle.std.specs.Prelude.{ℕ, nat_lt, Bool, true, false, not, ◌&&◌, ◌||◌, ◌==◌, if◌then◌else◌, List, [], ◌∷◌, codes}
 use Rattle.instruction_set.specs.declared.instruction.BlockPlace.TheVariants as place
-use Rattle.instruction_set.specs.declared.instruction.DataProcessing.TheVariants.{DataRegister, MoveRegister}
-use Rattle.instruction_set.specs.declared.instruction.DataProcessing.TheVariants.{CompareRegister}
+use Rattle.instruction_set.specs.declared.data_processing.DataProcessing.TheVariants.{DataRegister, MoveRegister}
+use Rattle.instruction_set.specs.declared.data_processing.DataProcessing.TheVariants.{CompareRegister}
 use Rattle.instruction_set.specs.declared.instruction.Decoded.{Decoded}
 use Rattle.instruction_set.specs.declared.instruction.Instruction.TheVariants.{DataProcessing}
-use Rattle.instruction_set.specs.declared.operands.Comparison.{Comparison}
-use Rattle.instruction_set.specs.declared.operands.Comparison.TheVariants.{Test, TestEquivalence, Compare}
-use Rattle.instruction_set.specs.declared.operands.Comparison.TheVariants.{CompareNegative}
-use Rattle.instruction_set.specs.declared.operands.DataOperation.{DataOperation}
-use Rattle.instruction_set.specs.declared.operands.DataOperation.TheVariants.{And, BitClear, Or, OrNot, ExclusiveOr}
-use Rattle.instruction_set.specs.declared.operands.DataOperation.TheVariants.{Add, AddWithCarry, SubtractWithCarry}
-use Rattle.instruction_set.specs.declared.operands.DataOperation.TheVariants.{Subtract, ReverseSubtract}
-use Rattle.instruction_set.specs.declared.operands.MoveOperation.TheVariants.{Move, MoveNot}
-use Rattle.instruction_set.specs.declared.operands.ShiftedRegister.{ShiftedRegister}
+use Rattle.instruction_set.specs.declared.data_processing.Comparison.{Comparison}
+use Rattle.instruction_set.specs.declared.data_processing.Comparison.TheVariants.{Test, TestEquivalence, Compare}
+use Rattle.instruction_set.specs.declared.data_processing.Comparison.TheVariants.{CompareNegative}
+use Rattle.instruction_set.specs.declared.data_processing.DataOperation.{DataOperation}
+use Rattle.instruction_set.specs.declared.data_processing.DataOperation.TheVariants.{And, BitClear, Or, OrNot}
+use Rattle.instruction_set.specs.declared.data_processing.DataOperation.TheVariants.{ExclusiveOr}
+use Rattle.instruction_set.specs.declared.data_processing.DataOperation.TheVariants.{Add, AddWithCarry}
+use Rattle.instruction_set.specs.declared.data_processing.DataOperation.TheVariants.{SubtractWithCarry}
+use Rattle.instruction_set.specs.declared.data_processing.DataOperation.TheVariants.{Subtract, ReverseSubtract}
+use Rattle.instruction_set.specs.declared.data_processing.MoveOperation.TheVariants.{Move, MoveNot}
+use Rattle.instruction_set.specs.declared.data_processing.ShiftedRegister.{ShiftedRegister}
 use Rattle.instruction_set.specs.declared.shift.Shift.{Shift}
 use Rattle.instruction_set.specs.declared.shift.ShiftType.{ShiftType}
 use Rattle.instruction_set.specs.declared.shift.ShiftType.TheVariants.{Lsl, Lsr, Asr, Ror, Rrx}

@@ -4,9 +4,9 @@ use Rattle.std.specs.Prelude.{ℕ, Bool, true, false, not, ◌&&◌, ◌||◌, �
 use Rattle.instruction_set.specs.declared.instruction.BlockPlace.TheVariants as place
 use Rattle.instruction_set.specs.declared.instruction.Decoded.{Decoded}
 use Rattle.instruction_set.specs.declared.instruction.Instruction.TheVariants.{LoadStore}
-use Rattle.instruction_set.specs.declared.instruction.LoadStore.TheVariants as load_store
-use Rattle.instruction_set.specs.declared.operands.ImmediateAddress.{ImmediateAddress}
-use Rattle.instruction_set.specs.declared.operands.StoreRegister.{StoreRegister}
+use Rattle.instruction_set.specs.declared.load_store.LoadStore.TheVariants as load_store
+use Rattle.instruction_set.specs.declared.load_store.ImmediateAddress.{ImmediateAddress}
+use Rattle.instruction_set.specs.declared.load_store.StoreRegister.{StoreRegister}
 use Rattle.instruction_set.specs.declared.size.Size.{Size}
 use Rattle.instruction_set.specs.declared.size.Size.TheVariants.{Byte, Halfword, Word}
 use Rattle.instruction_set.specs.declared.unpredictable.UnpredictableCase.TheVariants as cause

@@ -2,15 +2,15 @@
 -- UMULL, SMLAL, UMLAL, SDIV and UDIV, the operation of each).
 use Rattle.std.specs.Prelude.{ℕ, ◌+◌, ◌-◌, ◌*◌, ◌/◌, ◌%◌, ◌^◌, nat_lt, Bool, ◌==◌, if◌then◌else◌, ℤ, pos, negsuc, ◌+ℤ◌}
 use Rattle.std.specs.Prelude.{◌-ℤ◌, ◌*ℤ◌, int_div}
-use Rattle.instruction_set.specs.declared.operands.Accumulation.{Accumulation}
-use Rattle.instruction_set.specs.declared.operands.Accumulation.TheVariants.{Add, Subtract}
-use Rattle.instruction_set.specs.declared.operands.Divide.{Divide}
-use Rattle.instruction_set.specs.declared.operands.Multiply.{Multiply}
-use Rattle.instruction_set.specs.declared.operands.MultiplyAccumulate.{MultiplyAccumulate}
-use Rattle.instruction_set.specs.declared.operands.MultiplyLong.{MultiplyLong}
+use Rattle.instruction_set.specs.declared.data_processing.Accumulation.{Accumulation}
+use Rattle.instruction_set.specs.declared.data_processing.Accumulation.TheVariants.{Add, Subtract}
+use Rattle.instruction_set.specs.declared.data_processing.Divide.{Divide}
+use Rattle.instruction_set.specs.declared.data_processing.Multiply.{Multiply}
+use Rattle.instruction_set.specs.declared.data_processing.MultiplyAccumulate.{MultiplyAccumulate}
+use Rattle.instruction_set.specs.declared.data_processing.MultiplyLong.{MultiplyLong}
 use Rattle.instruction_set.specs.Arithmetic.{signed}
 use Rattle.instruction_set.specs.Registers.{Registers, register, with_register, with_result}
-use Rattle.instruction_set.specs.TwoOperands.{written}
+use Rattle.instruction_set.specs.Results.{written}
 use Rattle.instruction_set.specs.Words.{word_sum, negated}
 
 -- ---- integers and their bits

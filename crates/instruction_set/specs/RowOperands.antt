@@ -1,18 +1,18 @@
 -- Operands and choices that rows of several tables have in common.
 use Rattle.std.specs.Prelude.{ℕ, Bool, ◌==◌, if◌then◌else◌, None, true, false, Option, Some}
-use Rattle.instruction_set.specs.declared.instruction.Hint.{Hint}
-use Rattle.instruction_set.specs.declared.instruction.Hint.TheVariants as hint
-use Rattle.instruction_set.specs.declared.operands.FlagSetting.{FlagSetting}
-use Rattle.instruction_set.specs.declared.operands.FlagSetting.TheVariants as flags
-use Rattle.instruction_set.specs.declared.operands.Immediate.{Immediate}
-use Rattle.instruction_set.specs.declared.operands.ImmediateAddress.{ImmediateAddress}
-use Rattle.instruction_set.specs.declared.operands.Indexing.{Indexing}
-use Rattle.instruction_set.specs.declared.operands.Indexing.TheVariants.{Offset, PreIndexed, PostIndexed}
-use Rattle.instruction_set.specs.declared.operands.ShiftedRegister.{ShiftedRegister}
-use Rattle.instruction_set.specs.declared.operands.SpecialRegister.{SpecialRegister}
-use Rattle.instruction_set.specs.declared.operands.SpecialRegister.TheVariants.{Apsr, Iapsr, Eapsr, Xpsr, Ipsr, Epsr}
-use Rattle.instruction_set.specs.declared.operands.SpecialRegister.TheVariants.{Iepsr, Msp, Psp, Primask, Basepri}
-use Rattle.instruction_set.specs.declared.operands.SpecialRegister.TheVariants.{BasepriMax, Faultmask, Control}
+use Rattle.instruction_set.specs.declared.system.Hint.{Hint}
+use Rattle.instruction_set.specs.declared.system.Hint.TheVariants as hint
+use Rattle.instruction_set.specs.declared.data_processing.FlagSetting.{FlagSetting}
+use Rattle.instruction_set.specs.declared.data_processing.FlagSetting.TheVariants as flags
+use Rattle.instruction_set.specs.declared.data_processing.Immediate.{Immediate}
+use Rattle.instruction_set.specs.declared.load_store.ImmediateAddress.{ImmediateAddress}
+use Rattle.instruction_set.specs.declared.load_store.Indexing.{Indexing}
+use Rattle.instruction_set.specs.declared.load_store.Indexing.TheVariants.{Offset, PreIndexed, PostIndexed}
+use Rattle.instruction_set.specs.declared.data_processing.ShiftedRegister.{ShiftedRegister}
+use Rattle.instruction_set.specs.declared.system.SpecialRegister.{SpecialRegister}
+use Rattle.instruction_set.specs.declared.system.SpecialRegister.TheVariants.{Apsr, Iapsr, Eapsr, Xpsr, Ipsr, Epsr}
+use Rattle.instruction_set.specs.declared.system.SpecialRegister.TheVariants.{Iepsr, Msp, Psp, Primask, Basepri}
+use Rattle.instruction_set.specs.declared.system.SpecialRegister.TheVariants.{BasepriMax, Faultmask, Control}
 use Rattle.instruction_set.specs.declared.shift.ShiftType.TheVariants.{Lsl}
 use Rattle.instruction_set.specs.declared.size.Size.{Size}
 use Rattle.instruction_set.specs.declared.size.Size.TheVariants.{Byte, Halfword}

@@ -2,12 +2,12 @@
 -- Thumb instruction encoding").
 use Rattle.std.specs.Prelude.{ℕ, ◌*◌, List, [], ◌∷◌, codes}
 use Rattle.instruction_set.specs.declared.instruction.BlockPlace.TheVariants as place
-use Rattle.instruction_set.specs.declared.instruction.Branch.TheVariants as branch
+use Rattle.instruction_set.specs.declared.branch.Branch.TheVariants as branch
 use Rattle.instruction_set.specs.declared.instruction.Decoded.{Decoded}
 use Rattle.instruction_set.specs.declared.instruction.Decoded.TheVariants.{Undefined}
 use Rattle.instruction_set.specs.declared.instruction.Instruction.TheVariants.{Branch, System}
 use Rattle.instruction_set.specs.declared.instruction.InstructionLength.TheVariants.{Short}
-use Rattle.instruction_set.specs.declared.instruction.System.TheVariants.{SupervisorCall}
+use Rattle.instruction_set.specs.declared.system.System.TheVariants.{SupervisorCall}
 use Rattle.instruction_set.specs.Patterns.{unspaced}
 use Rattle.instruction_set.specs.Rows.{Row, short, placed}
 use Rattle.instruction_set.specs.Words.{sign_extended}

@@ -1,16 +1,16 @@
 -- The rows of 16 bits in "Data processing" (ARM DDI 0403, "16-bit Thumb instruction encoding").
 use Rattle.std.specs.Prelude.{ℕ, List, [], ◌∷◌, codes}
-use Rattle.instruction_set.specs.declared.instruction.DataProcessing.TheVariants.{MoveRegister, CompareRegister}
-use Rattle.instruction_set.specs.declared.instruction.DataProcessing.TheVariants.{ShiftByRegister, Multiply}
+use Rattle.instruction_set.specs.declared.data_processing.DataProcessing.TheVariants.{MoveRegister, CompareRegister}
+use Rattle.instruction_set.specs.declared.data_processing.DataProcessing.TheVariants.{ShiftByRegister, Multiply}
 use Rattle.instruction_set.specs.declared.instruction.Decoded.{Decoded}
 use Rattle.instruction_set.specs.declared.instruction.Instruction.TheVariants.{DataProcessing}
-use Rattle.instruction_set.specs.declared.operands.Comparison.{Comparison}
-use Rattle.instruction_set.specs.declared.operands.Comparison.TheVariants.{Test, Compare, CompareNegative}
-use Rattle.instruction_set.specs.declared.operands.DataOperation.TheVariants.{And, BitClear, Or, ExclusiveOr}
-use Rattle.instruction_set.specs.declared.operands.DataOperation.TheVariants.{AddWithCarry, SubtractWithCarry}
-use Rattle.instruction_set.specs.declared.operands.DataOperation.TheVariants.{ReverseSubtract}
-use Rattle.instruction_set.specs.declared.operands.FlagSetting.TheVariants as flags
-use Rattle.instruction_set.specs.declared.operands.MoveOperation.TheVariants.{MoveNot}
+use Rattle.instruction_set.specs.declared.data_processing.Comparison.{Comparison}
+use Rattle.instruction_set.specs.declared.data_processing.Comparison.TheVariants.{Test, Compare, CompareNegative}
+use Rattle.instruction_set.specs.declared.data_processing.DataOperation.TheVariants.{And, BitClear, Or, ExclusiveOr}
+use Rattle.instruction_set.specs.declared.data_processing.DataOperation.TheVariants.{AddWithCarry, SubtractWithCarry}
+use Rattle.instruction_set.specs.declared.data_processing.DataOperation.TheVariants.{ReverseSubtract}
+use Rattle.instruction_set.specs.declared.data_processing.FlagSetting.TheVariants as flags
+use Rattle.instruction_set.specs.declared.data_processing.MoveOperation.TheVariants.{MoveNot}
 use Rattle.instruction_set.specs.declared.shift.ShiftType.{ShiftType}
 use Rattle.instruction_set.specs.declared.shift.ShiftType.TheVariants.{Lsl, Lsr, Asr, Ror}
 use Rattle.instruction_set.specs.Patterns.{unspaced}

@@ -4,10 +4,10 @@ use Rattle.std.specs.Prelude.{ℕ, ◌*◌, ◌%◌, ◌^◌, Bool, true, false,
 use Rattle.instruction_set.specs.declared.instruction.BlockPlace.TheVariants as place
 use Rattle.instruction_set.specs.declared.instruction.Decoded.{Decoded}
 use Rattle.instruction_set.specs.declared.instruction.Instruction.TheVariants.{LoadStore, LoadStoreMultiple}
-use Rattle.instruction_set.specs.declared.instruction.LoadStore.TheVariants.{LoadImmediate, LoadRegister, LoadLiteral}
-use Rattle.instruction_set.specs.declared.instruction.LoadStore.TheVariants.{StoreImmediate, StoreRegister}
-use Rattle.instruction_set.specs.declared.instruction.LoadStoreMultiple.TheVariants.{LoadMultiple, StoreMultiple}
-use Rattle.instruction_set.specs.declared.operands.ListOrder.TheVariants.{IncrementAfter}
+use Rattle.instruction_set.specs.declared.load_store.LoadStore.TheVariants.{LoadImmediate, LoadRegister, LoadLiteral}
+use Rattle.instruction_set.specs.declared.load_store.LoadStore.TheVariants.{StoreImmediate, StoreRegister}
+use Rattle.instruction_set.specs.declared.load_store.LoadStoreMultiple.TheVariants.{LoadMultiple, StoreMultiple}
+use Rattle.instruction_set.specs.declared.load_store.ListOrder.TheVariants.{IncrementAfter}
 use Rattle.instruction_set.specs.declared.size.Size.{Size}
 use Rattle.instruction_set.specs.declared.size.Size.TheVariants.{Byte, Halfword, Word}
 use Rattle.instruction_set.specs.declared.unpredictable.UnpredictableCase.TheVariants.{FewRegisters, StoredBase}

@@ -2,22 +2,22 @@
 -- Thumb instruction encoding").
 use Rattle.std.specs.Prelude.{ℕ, ◌+◌, ◌*◌, ◌^◌, Bool, true, false, not, ◌&&◌, ◌||◌, ◌==◌, List, [], ◌∷◌, codes}
 use Rattle.instruction_set.specs.declared.instruction.BlockPlace.TheVariants as place
-use Rattle.instruction_set.specs.declared.instruction.Branch.TheVariants as branch
-use Rattle.instruction_set.specs.declared.instruction.DataProcessing.TheVariants.{DataImmediate, Address, Extend}
-use Rattle.instruction_set.specs.declared.instruction.DataProcessing.TheVariants.{Rearrange}
+use Rattle.instruction_set.specs.declared.branch.Branch.TheVariants as branch
+use Rattle.instruction_set.specs.declared.data_processing.DataProcessing.TheVariants.{DataImmediate, Address, Extend}
+use Rattle.instruction_set.specs.declared.data_processing.DataProcessing.TheVariants.{Rearrange}
 use Rattle.instruction_set.specs.declared.instruction.Decoded.{Decoded}
 use Rattle.instruction_set.specs.declared.instruction.Instruction.TheVariants.{Branch, DataProcessing}
 use Rattle.instruction_set.specs.declared.instruction.Instruction.TheVariants.{LoadStoreMultiple, System}
 use Rattle.instruction_set.specs.declared.instruction.InstructionLength.TheVariants.{Short}
-use Rattle.instruction_set.specs.declared.instruction.LoadStoreMultiple.TheVariants.{LoadMultiple, StoreMultiple}
-use Rattle.instruction_set.specs.declared.instruction.System.TheVariants.{ChangeProcessorState, Hint, Breakpoint}
-use Rattle.instruction_set.specs.declared.operands.DataOperation.{DataOperation}
-use Rattle.instruction_set.specs.declared.operands.DataOperation.TheVariants.{Add, Subtract}
-use Rattle.instruction_set.specs.declared.operands.FlagSetting.TheVariants as flags
-use Rattle.instruction_set.specs.declared.operands.ListOrder.TheVariants.{IncrementAfter, DecrementBefore}
-use Rattle.instruction_set.specs.declared.operands.Rearrangement.{Rearrangement}
-use Rattle.instruction_set.specs.declared.operands.Rearrangement.TheVariants.{ReverseWord, ReverseHalfwords}
-use Rattle.instruction_set.specs.declared.operands.Rearrangement.TheVariants.{ReverseSignedHalfword}
+use Rattle.instruction_set.specs.declared.load_store.LoadStoreMultiple.TheVariants.{LoadMultiple, StoreMultiple}
+use Rattle.instruction_set.specs.declared.system.System.TheVariants.{ChangeProcessorState, Hint, Breakpoint}
+use Rattle.instruction_set.specs.declared.data_processing.DataOperation.{DataOperation}
+use Rattle.instruction_set.specs.declared.data_processing.DataOperation.TheVariants.{Add, Subtract}
+use Rattle.instruction_set.specs.declared.data_processing.FlagSetting.TheVariants as flags
+use Rattle.instruction_set.specs.declared.load_store.ListOrder.TheVariants.{IncrementAfter, DecrementBefore}
+use Rattle.instruction_set.specs.declared.data_processing.Rearrangement.{Rearrangement}
+use Rattle.instruction_set.specs.declared.data_processing.Rearrangement.TheVariants.{ReverseWord, ReverseHalfwords}
+use Rattle.instruction_set.specs.declared.data_processing.Rearrangement.TheVariants.{ReverseSignedHalfword}
 use Rattle.instruction_set.specs.declared.size.Size.{Size}
 use Rattle.instruction_set.specs.declared.size.Size.TheVariants.{Byte, Halfword}
 use Rattle.instruction_set.specs.declared.unpredictable.UnpredictableCase.TheVariants.{FewRegisters, ItBlock, Registers}

@@ -2,17 +2,17 @@
 -- encoding").
 use Rattle.std.specs.Prelude.{ℕ, List, [], ◌∷◌, codes}
 use Rattle.instruction_set.specs.declared.instruction.BlockPlace.TheVariants as place
-use Rattle.instruction_set.specs.declared.instruction.DataProcessing.TheVariants.{DataImmediate, DataRegister}
-use Rattle.instruction_set.specs.declared.instruction.DataProcessing.TheVariants.{MoveImmediate, MoveRegister}
-use Rattle.instruction_set.specs.declared.instruction.DataProcessing.TheVariants.{CompareImmediate}
+use Rattle.instruction_set.specs.declared.data_processing.DataProcessing.TheVariants.{DataImmediate, DataRegister}
+use Rattle.instruction_set.specs.declared.data_processing.DataProcessing.TheVariants.{MoveImmediate, MoveRegister}
+use Rattle.instruction_set.specs.declared.data_processing.DataProcessing.TheVariants.{CompareImmediate}
 use Rattle.instruction_set.specs.declared.instruction.Decoded.{Decoded}
 use Rattle.instruction_set.specs.declared.instruction.Instruction.TheVariants.{DataProcessing}
 use Rattle.instruction_set.specs.declared.instruction.InstructionLength.TheVariants.{Short}
-use Rattle.instruction_set.specs.declared.operands.Comparison.TheVariants.{Compare}
-use Rattle.instruction_set.specs.declared.operands.DataOperation.{DataOperation}
-use Rattle.instruction_set.specs.declared.operands.DataOperation.TheVariants.{Add, Subtract}
-use Rattle.instruction_set.specs.declared.operands.FlagSetting.TheVariants as flags
-use Rattle.instruction_set.specs.declared.operands.MoveOperation.TheVariants.{Move}
+use Rattle.instruction_set.specs.declared.data_processing.Comparison.TheVariants.{Compare}
+use Rattle.instruction_set.specs.declared.data_processing.DataOperation.{DataOperation}
+use Rattle.instruction_set.specs.declared.data_processing.DataOperation.TheVariants.{Add, Subtract}
+use Rattle.instruction_set.specs.declared.data_processing.FlagSetting.TheVariants as flags
+use Rattle.instruction_set.specs.declared.data_processing.MoveOperation.TheVariants.{Move}
 use Rattle.instruction_set.specs.Arithmetic.{decode_imm_shift}
 use Rattle.instruction_set.specs.Patterns.{unspaced}
 use Rattle.instruction_set.specs.RowOperands.{unshifted, plain_immediate}

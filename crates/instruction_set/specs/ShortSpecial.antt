@@ -2,16 +2,16 @@
 -- encoding").
 use Rattle.std.specs.Prelude.{ℕ, nat_lt, true, false, ◌&&◌, ◌||◌, ◌==◌, List, [], ◌∷◌, codes}
 use Rattle.instruction_set.specs.declared.instruction.BlockPlace.TheVariants as place
-use Rattle.instruction_set.specs.declared.instruction.Branch.TheVariants as branch
-use Rattle.instruction_set.specs.declared.instruction.DataProcessing.TheVariants.{DataRegister, MoveRegister}
-use Rattle.instruction_set.specs.declared.instruction.DataProcessing.TheVariants.{CompareRegister}
+use Rattle.instruction_set.specs.declared.branch.Branch.TheVariants as branch
+use Rattle.instruction_set.specs.declared.data_processing.DataProcessing.TheVariants.{DataRegister, MoveRegister}
+use Rattle.instruction_set.specs.declared.data_processing.DataProcessing.TheVariants.{CompareRegister}
 use Rattle.instruction_set.specs.declared.instruction.Decoded.{Decoded}
 use Rattle.instruction_set.specs.declared.instruction.Instruction.TheVariants.{Branch, DataProcessing}
 use Rattle.instruction_set.specs.declared.instruction.InstructionLength.TheVariants.{Short}
-use Rattle.instruction_set.specs.declared.operands.Comparison.TheVariants.{Compare}
-use Rattle.instruction_set.specs.declared.operands.DataOperation.TheVariants.{Add}
-use Rattle.instruction_set.specs.declared.operands.FlagSetting.TheVariants as flags
-use Rattle.instruction_set.specs.declared.operands.MoveOperation.TheVariants.{Move}
+use Rattle.instruction_set.specs.declared.data_processing.Comparison.TheVariants.{Compare}
+use Rattle.instruction_set.specs.declared.data_processing.DataOperation.TheVariants.{Add}
+use Rattle.instruction_set.specs.declared.data_processing.FlagSetting.TheVariants as flags
+use Rattle.instruction_set.specs.declared.data_processing.MoveOperation.TheVariants.{Move}
 use Rattle.instruction_set.specs.declared.unpredictable.UnpredictableCase.TheVariants.{Registers}
 use Rattle.instruction_set.specs.Patterns.{unspaced}
 use Rattle.instruction_set.specs.RowOperands.{unshifted}

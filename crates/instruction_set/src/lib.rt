@@ -3,9 +3,12 @@
 //! their decoding, and the instructions that compute; docs/REFERENCE.md says in which order to read them.
 #![tactic(auto)]
 
+pub mod branch;
+pub mod data_processing;
 pub mod instruction;
-pub mod operands;
+pub mod load_store;
 pub mod registers;
 pub mod shift;
 pub mod size;
+pub mod system;
 pub mod unpredictable;

@@ -1,6 +1,7 @@
 pub mod AtOnce
 pub mod Fetching
 mod Foreseen
+mod Known
 mod Loading
 pub mod Running
 mod StepBounds

@@ -1,16 +1,15 @@
 -- Segments that are loaded one after another.
 use Rattle.std.proofs.Common.{◌≡◌, ℕ, ◌+◌, ◌-◌, ◌<◌, ◌≤◌, Bool, true, false, ◌&&◌, ◌||◌, List, [], ◌∷◌, length, drop}
-use Rattle.std.proofs.Common.{map, get_or, refl, sym, ◌∙◌, add-one, arith, length-append, length-drop}
+use Rattle.std.proofs.Common.{map, get_or, refl, sym, ◌∙◌, add-one, arith}
 use Rattle.std.proofs.Math.Seq.{drop-cons}
 use Rattle.std.proofs.lemmas.Bool.{and_parts}
 use Rattle.std.proofs.lemmas.Bool.Decides.{nat_tests}
-use Rattle.std.proofs.lemmas.List.{length-take}
 use Rattle.elf.specs.declared.image.Segment.{Segment as Lent}
 use Rattle.elf.specs.Segment.{segment_of}
 use Rattle.platform.specs.Images.{Segment}
-use Rattle.platform.specs.Memory.{Memory, is_in_flash, is_in_ram, is_within, overwritten, with_bytes}
+use Rattle.platform.specs.Memory.{Memory, is_in_flash, is_in_ram, is_within, overwritten}
 use Rattle.space.proofs.Blocks.{length-with_bytes}
-use Rattle.reference.specs.Start.{is_placed, are_placed, image_loaded}
+use Rattle.platform.specs.Images.{is_placed, are_placed, image_loaded}
 
 -- the segment at a place, and the later ones
 front : (segments : List Lent) (i : ℕ) (d : Lent) → i < length segments
@@ -68,7 +67,7 @@ placed_alike : (m n : Memory) (segments : List Segment) → AreAlike m n → are
 placed_alike m n [] same = refl
 placed_alike m n (s ∷ segments) same = rw (same.base, same.flash, same.ram, placed_alike m n segments same) refl
 
--- those behind stay placed
+-- those after it stay placed
 stay_placed : (m : Memory) (a : ℕ) (bytes : List ℕ) (segments : List Segment)
     → (is_in_flash m a (length bytes) || is_in_ram m a (length bytes)) ≡ true → are_placed m segments ≡ true
     → are_placed (overwritten m a bytes) segments ≡ true

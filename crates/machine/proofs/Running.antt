@@ -8,10 +8,10 @@ use Rattle.std.proofs.KnownBytes.{Appends-trans}
 use Rattle.platform.specs.declared.event.Event.{Event}
 use Rattle.platform.specs.declared.stop.Stop.{Stop}
 use Rattle.platform.specs.declared.stop.Stop.TheVariants.{StepLimit}
-use Rattle.reference.specs.Run.{after, events_of, ending_of, trace}
+use Rattle.reference.specs.Run.{after, events_of, ending_of}
 use Rattle.reference.specs.State.{State}
 use Rattle.reference.specs.Step.{step, unless_stopped}
-use Rattle.platform.specs.Text.{lines, line, stop_line}
+use Rattle.platform.specs.Events.{lines}
 use Rattle.output.specs.Gathered.{GrowsByPrefix}
 use Rattle.output.specs.Output.{IsCutAfter, IsCutShort}
 use Rattle.trace.proofs.Selecting.{lines-append}
@@ -95,13 +95,13 @@ cut_after old mid new before text went cut = record {
   went = Appends-trans old mid new before cut.front went cut.went;
 }
 
--- the machine stands behind all steps
+-- the machine after all steps
 pub all_made : (limit n : ℕ) (s core : State) → n ≤ limit → core ≡ after n s → (n ≡ limit) ⊎ IsSome core.stop
     → core ≡ after limit s
 all_made limit n s core few now ends =
     let ends' : (n ≡ limit) ⊎ IsSome (after n s).stop = rw (← now) ends in now ∙ sym (over n limit s few ends').0
 
--- the state behind one step more
+-- the state after one step more
 pub after_on : (n : ℕ) (s core : State) → core ≡ after n s → (step core).state ≡ after (n + 1) s
 after_on n s core now = rw (now, after_more n s) refl
 

@@ -8,7 +8,8 @@ use Rattle.machine.specs.Whole.{Whole}
 use Rattle.reference.specs.Run.{after, events_of, ending_of}
 use Rattle.reference.specs.State.{State}
 use Rattle.reference.specs.Step.{step}
-use Rattle.platform.specs.Text.{lines, stop_line}
+use Rattle.platform.specs.Events.{lines}
+use Rattle.platform.specs.Text.{stop_line}
 
 -- the lines of all steps but the last one went out, and a proper prefix of that one's lines
 abbrev pub CutInStep : State → ℕ → Option (List ℕ) → Option (List ℕ) → Type 0

@@ -16,7 +16,7 @@ ghost use Rattle.reference.specs.Start.{start};
 ghost use Rattle.platform.specs.Status.{read_status};
 ghost use Rattle.output.specs.Output.{Put, WritesAll};
 ghost use Rattle.reference.specs.Step.{step};
-ghost use Rattle.platform.specs.Text.{lines};
+ghost use Rattle.platform.specs.Events.{lines};
 ghost use Rattle.task_laws.specs.Foresight.{next_kind_of};
 ghost use Rattle.task_laws.specs.Tasks.{is_task};
 ghost use Rattle.trace.specs.Emission.{with_emitted};

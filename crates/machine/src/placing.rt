@@ -9,9 +9,9 @@ ghost use Rattle.reference.specs.Places.{place, is_there, is_word_aligned, speci
 
 use crate::stepping::Processor;
 use access::{Decider, DueTicks, KeptCode, Levels};
-use instruction_set::operands::SpecialRegister;
 use instruction_set::registers::Register;
 use instruction_set::size::Size;
+use instruction_set::system::SpecialRegister;
 use platform::access::{Access, Kind, Performed, Request, Rule};
 use platform::error::PlaceError;
 use platform::map::is_in_ppb;

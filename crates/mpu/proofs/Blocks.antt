@@ -39,7 +39,7 @@ alike_below m a b (suc n) same =
 not_at : (x y : ℕ) → (x ≡ y → ⊥) → (x == y) ≡ false
 not_at x y h = grind (arith, nat_tests)
 
--- regions agree with no address before or behind their block
+-- regions agree with no address before or after their block
 pub outside_before : (r : Region) (a s first : ℕ) → s ≡ size r.attributes → first ≡ r.base / 2 ^ (s + 1) * 2 ^ (s + 1)
     → a < first → agrees r a ≡ false
 outside_before r a s first e f h = lead (rw e at f)

@@ -9,11 +9,11 @@
 use Rattle.std.proofs.Common.{◌≡◌, ℕ, zero, suc, ◌+◌, ◌*◌, ◌/◌, ◌%◌, ◌^◌, ◌<◌, Bool, true, false, not, ◌&&◌, ◌||◌}
 use Rattle.std.proofs.Common.{◌==◌, nat_lt, bit_and, Result, Ok, Err, arith}
 use Rattle.std.proofs.lemmas.Bool.{cond_both}
-use Rattle.instruction_set.specs.declared.operands.ChangeProcessorState.{ChangeProcessorState}
-use Rattle.instruction_set.specs.declared.operands.SpecialRegister.{SpecialRegister}
-use Rattle.instruction_set.specs.declared.operands.SpecialRegister.TheVariants.{Apsr, Iapsr, Eapsr, Xpsr, Ipsr, Epsr}
-use Rattle.instruction_set.specs.declared.operands.SpecialRegister.TheVariants.{Iepsr, Msp, Psp, Primask, Basepri}
-use Rattle.instruction_set.specs.declared.operands.SpecialRegister.TheVariants.{BasepriMax, Faultmask, Control}
+use Rattle.instruction_set.specs.declared.system.ChangeProcessorState.{ChangeProcessorState}
+use Rattle.instruction_set.specs.declared.system.SpecialRegister.{SpecialRegister}
+use Rattle.instruction_set.specs.declared.system.SpecialRegister.TheVariants.{Apsr, Iapsr, Eapsr, Xpsr, Ipsr, Epsr}
+use Rattle.instruction_set.specs.declared.system.SpecialRegister.TheVariants.{Iepsr, Msp, Psp, Primask, Basepri}
+use Rattle.instruction_set.specs.declared.system.SpecialRegister.TheVariants.{BasepriMax, Faultmask, Control}
 use Rattle.instruction_set.specs.Words.{is_bit}
 use Rattle.platform.specs.declared.exception.TheConstants.{NMI, MEM_MANAGE, BUS_FAULT, USAGE_FAULT, SV_CALL, PEND_SV}
 use Rattle.platform.specs.declared.exception.TheConstants.{SYS_TICK, FIRST_INTERRUPT, EXCEPTIONS}

@@ -6,7 +6,7 @@
 --   exceptions, as a contract sees them, change by that one.
 -- - In each, an exception is the one that changes or another one: `lead` splits on `y == x`. What isn't waiting is in
 --   no set (`absent`, `free`), so moving its priority byte or its enabled bit moves nothing.
-use Rattle.std.proofs.Common.{◌≡◌, ℕ, ◌<◌, Bool, true, false, not, ◌&&◌, ◌||◌, ◌==◌, if◌then◌else◌, List, set}
+use Rattle.std.proofs.Common.{◌≡◌, ℕ, ◌<◌, Bool, true, false, not, ◌&&◌, ◌||◌, ◌==◌, if◌then◌else◌, List}
 use Rattle.std.proofs.Common.{slice_index, slice_set, refl, sym, ◌∙◌, ap, arith}
 use Rattle.std.proofs.Math.Bool.{or-true, or-false}
 use Rattle.std.proofs.lemmas.Bool.{eqb-true, eqb-false, false_from_ne_true}

@@ -1,5 +1,5 @@
 -- After a reset no exception is in a set, and the settings are those of the reset.
-use Rattle.std.proofs.Common.{◌≡◌, ℕ, ◌<◌, ◌≤◌, lit<, Bool, false, List, replicate, slice_index, refl, sym, subst}
+use Rattle.std.proofs.Common.{◌≡◌, ℕ, ◌<◌, ◌≤◌, lit<, false, List, replicate, slice_index, refl, sym, subst}
 use Rattle.std.proofs.Math.Nat.{min-le_right}
 use Rattle.nvic.specs.declared.settings.Settings.{Settings}
 use Rattle.nvic.specs.Settings.{settings_of}

@@ -1,7 +1,7 @@
 //! The exceptions as sets of bits, one for each priority byte.
 
 ghost use Rattle.std.specs.Prelude.{◌≡◌, ◌&&◌, ◌==◌, ◌<◌, false, not, slice_index, slice_set};
-ghost use Rattle.nvic_levels.specs.Sets.{is_levelled as is_levelled_of};
+ghost use Rattle.nvic_levels.specs.Sets as sets;
 ghost use Rattle.platform.specs.declared.exception.TheConstants.{NMI, HARD_FAULT};
 ghost use Rattle.platform.specs.Priorities as spec;
 ghost use Rattle.platform.specs.Priorities.{is_in_words, is_fixed, is_in, is_ready};
@@ -120,7 +120,7 @@ impl BitLevels {
 /// Returns whether an exception is in the set of its priority byte where it's pending: it's
 /// enabled, and its priority isn't fixed.
 fn is_levelled(enabled: &Set, number: u8) -> bool
-    ensures { result ≡ is_levelled_of enabled.now number }
+    ensures { result ≡ sets.is_levelled enabled.now number }
 {
     let is_enabled = is_always_enabled(u16::from(number)) || has(enabled, number);
     is_enabled && !matches!(u16::from(number), NMI | HARD_FAULT)

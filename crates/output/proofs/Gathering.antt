@@ -6,7 +6,7 @@ use Rattle.std.proofs.KnownBytes.{append_known-passed}
 use Rattle.std.proofs.lemmas.List.{take-append-drop, drop-drop, append-nil}
 use Rattle.std.specs.Io.KnownBytes.{Appends, Keeps, append_known}
 use Rattle.platform.specs.declared.event.Event.{Event}
-use Rattle.platform.specs.Text.{line}
+use Rattle.platform.specs.Events.{line}
 use Rattle.output.specs.Output.{HandsOn, IsCutShort, Took, Writing, with_page}
 
 -- the writer took n more bytes of the page

@@ -138,7 +138,7 @@ impl<I: In + Drop> Cut<I> {
         }
     }
 
-    /// Fails, unless so many calls have failed that no more can be counted.
+    /// Fails, unless the count of failed calls is at its highest value.
     fn fail(&mut self, room: &mut [u8]) -> Result<usize, IoError>
         ensures received { Received (with_misses self.old.failed (I.reading self.old.inner))
             (with_misses self.new.failed (I.reading self.new.inner)) room.new result }

@@ -2,7 +2,7 @@
 
 ghost use Rattle.std.specs.Prelude.{◌≡◌, ◌+◌, ◌≤◌, [], length, drop, OnOk, OnErr};
 ghost use Rattle.output.specs.Output.{with_page};
-ghost use Rattle.platform.specs.Text.{line};
+ghost use Rattle.platform.specs.Events.{line};
 ghost use Rattle.std.specs.Io.KnownBytes.{append_known, Keeps};
 
 use crate::writer::{IoError, LineRoom, Out};

@@ -3,7 +3,7 @@
 ghost use Rattle.std.specs.Prelude.{◌≡◌, ◌<◌, true, [], ◌∷◌, OnErr};
 ghost use Rattle.output.specs.Input.{Reading, Received};
 ghost use Rattle.output.specs.Output.{HandsOn, Put, Took, Writing};
-ghost use Rattle.platform.specs.Text.{line};
+ghost use Rattle.platform.specs.Events.{line};
 
 use platform::event::Event;
 use std::io::{Read, Write};

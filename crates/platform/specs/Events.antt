@@ -1,11 +1,35 @@
--- The events of a step: what each kind of event is to the selections of the trace, to the laws and to a survey.
-use Rattle.std.specs.Prelude.{ℕ, Bool, true, false, is_some, Option, Some, None}
+-- The events of a step: the line of the trace that each kind of event has (profile), and what each kind is to the
+-- selections of the trace, to the laws and to a survey.
+use Rattle.std.specs.Prelude.{ℕ, Bool, true, false, List, [], ◌∷◌, ◌++◌, is_some, Option, Some, None, codes, decimal}
 use Rattle.std.specs.Option.{option_map_or}
 use Rattle.platform.specs.declared.access.DecidedAccess.{DecidedAccess}
+use Rattle.platform.specs.declared.event.Event.{Event}
 use Rattle.platform.specs.declared.event.EventKind.{EventKind}
 use Rattle.platform.specs.declared.event.EventKind.TheVariants.{Accessed, ConsoleByte, ReturnBegan, HandlerEntered}
 use Rattle.platform.specs.declared.event.EventKind.TheVariants.{FaultRecorded}
 use Rattle.platform.specs.declared.event.RecordedFault.{RecordedFault}
+use Rattle.platform.specs.Text.{hex_byte, hex_word, decided_text, fault_text, line_feed}
+
+-- ---- its line
+
+-- what its line says after the tick: see `Text` for the words
+abbrev pub event_text : EventKind → List ℕ
+event_text (Accessed a) = decided_text a
+event_text (ConsoleByte byte) = codes "O " ++ hex_byte byte
+event_text (ReturnBegan exc_return) = codes "R " ++ hex_word exc_return
+event_text (HandlerEntered exception) = codes "X " ++ decimal exception
+event_text (FaultRecorded f) = codes "! " ++ fault_text f
+
+-- the line of an event
+unfoldable pub line : Event → List ℕ
+line e = ((decimal e.tick ++ codes " ") ++ event_text e.what) ++ line_feed
+
+-- the lines of events, one after another
+unfoldable pub lines : List Event → List ℕ
+lines [] = []
+lines (e ∷ es) = line e ++ lines es
+
+-- ---- what it is
 
 -- the access that was decided
 abbrev pub access_of : EventKind → Option DecidedAccess

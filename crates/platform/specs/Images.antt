@@ -1,6 +1,7 @@
--- The image in an ELF file (TIS ELF 1.2, "ELF Header" and "Program Header"). The order in which a file is refused is
--- the profile's.
-use Rattle.std.specs.Prelude.{ℕ, zero, suc, ◌+◌, ◌*◌, ◌<◌, ◌≤◌, max, min, Bool, false, ◌&&◌, ◌||◌, not, nat_lt, ◌==◌}
+-- The image in an ELF file (TIS ELF 1.2, "ELF Header" and "Program Header"), whether its segments lie in memory, and
+-- memory with them. The order in which a file is refused is the profile's.
+use Rattle.std.specs.Prelude.{ℕ, zero, suc, ◌+◌, ◌*◌, ◌<◌, ◌≤◌, max, min, Bool, true, false, ◌&&◌, ◌||◌, not, nat_lt}
+use Rattle.std.specs.Prelude.{◌==◌}
 use Rattle.std.specs.Prelude.{if◌then◌else◌, List, [], ◌∷◌, length, slice_index, slice_range, Result, Ok, Err}
 use Rattle.std.specs.List.{AllPairs, list_any}
 use Rattle.platform.specs.declared.error.LoadError.{LoadError}
@@ -8,6 +9,7 @@ pub use Rattle.platform.specs.Memory.{number_in}
 use Rattle.platform.specs.declared.error.LoadError.TheVariants.{Truncated, NotElf, NotElf32Little, NotExecutable}
 use Rattle.platform.specs.declared.error.LoadError.TheVariants.{NotArm, HeaderSize, SegmentOutsideFile, SegmentOverlap}
 use Rattle.platform.specs.declared.error.LoadError.TheVariants.{TooManySegments}
+use Rattle.platform.specs.Memory.{Memory, is_in_flash, is_in_ram, overwritten}
 
 -- bytes that are at an address before the first step
 pub record Segment : Type 0 where
@@ -151,3 +153,18 @@ image_of file =
     else if not (e_type file == executable_type) then Err NotExecutable
     else if not (e_machine file == arm_machine) then Err NotArm
     else table_of file
+
+-- ---- its place in memory
+
+-- whether a segment lies wholly in flash or wholly in RAM
+abbrev pub is_placed : Memory → Segment → Bool
+is_placed m s = is_in_flash m s.address (length s.bytes) || is_in_ram m s.address (length s.bytes)
+
+-- memory with the segments in it, in their order
+abbrev pub image_loaded : Memory → List Segment → Memory
+image_loaded m [] = m
+image_loaded m (s ∷ segments) = image_loaded (overwritten m s.address s.bytes) segments
+
+abbrev pub are_placed : Memory → List Segment → Bool
+are_placed m [] = true
+are_placed m (s ∷ segments) = is_placed m s && are_placed m segments

@@ -16,8 +16,8 @@ pub mod System
 pub mod SpecialRegisters
 pub mod Rules
 pub mod Space
-pub mod Events
 pub mod Text
+pub mod Events
 pub mod Images
 pub mod Boards
 pub mod SystemInvariant

@@ -1,11 +1,11 @@
 -- The special registers: what MRS reads, and what MSR and CPS write (ARM DDI 0403, the operation of MRS, MSR and CPS).
 -- The stack pointers, CONTROL and the parts of xPSR are in fields of `Registers`. The masks are in `Nvic`.
 use Rattle.std.specs.Prelude.{ℕ, ◌+◌, ◌%◌, ◌^◌, Bool, true, false, not, ◌&&◌, ◌||◌, ◌==◌, nat_lt, if◌then◌else◌}
-use Rattle.instruction_set.specs.declared.operands.ChangeProcessorState.{ChangeProcessorState}
-use Rattle.instruction_set.specs.declared.operands.SpecialRegister.{SpecialRegister}
-use Rattle.instruction_set.specs.declared.operands.SpecialRegister.TheVariants.{Apsr, Iapsr, Eapsr, Xpsr, Ipsr, Epsr}
-use Rattle.instruction_set.specs.declared.operands.SpecialRegister.TheVariants.{Iepsr, Msp, Psp, Primask, Basepri}
-use Rattle.instruction_set.specs.declared.operands.SpecialRegister.TheVariants.{BasepriMax, Faultmask, Control}
+use Rattle.instruction_set.specs.declared.system.ChangeProcessorState.{ChangeProcessorState}
+use Rattle.instruction_set.specs.declared.system.SpecialRegister.{SpecialRegister}
+use Rattle.instruction_set.specs.declared.system.SpecialRegister.TheVariants.{Apsr, Iapsr, Eapsr, Xpsr, Ipsr, Epsr}
+use Rattle.instruction_set.specs.declared.system.SpecialRegister.TheVariants.{Iepsr, Msp, Psp, Primask, Basepri}
+use Rattle.instruction_set.specs.declared.system.SpecialRegister.TheVariants.{BasepriMax, Faultmask, Control}
 use Rattle.instruction_set.specs.Registers.{Registers, is_privileged, apsr, flags_of, control, stack_pointer, weighed}
 use Rattle.instruction_set.specs.Registers.{control_written}
 use Rattle.instruction_set.specs.Words.{is_bit}

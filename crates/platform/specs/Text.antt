@@ -1,4 +1,5 @@
--- The text of the trace (profile): one line for each event, and one for the stop. Each line ends with a line feed.
+-- The words of the trace (profile): of accesses, rules, outcomes and faults, and the line of the stop. The lines of
+-- events are in `Events`. Each line ends with a line feed.
 -- Ticks, sizes, and the numbers of regions, exceptions and breakpoints are decimal, all other numbers hexadecimal, in
 -- upper case.
 use Rattle.std.specs.Prelude.{ℕ, ◌+◌, ◌/◌, ◌%◌, nat_lt, Bool, true, false, if◌then◌else◌, List, [], ◌∷◌, ◌++◌, Option}
@@ -20,10 +21,6 @@ use Rattle.platform.specs.declared.access.Kind.TheVariants.{Fetch, Load, Store, 
 use Rattle.platform.specs.declared.access.Rule.{Rule}
 use Rattle.platform.specs.declared.access.Rule.TheVariants.{NeverExecute, VectorRead, PrivatePeripheralBus, MpuOff}
 use Rattle.platform.specs.declared.access.Rule.TheVariants.{NegativePriority, Region, Background, NoRegion}
-use Rattle.platform.specs.declared.event.Event.{Event}
-use Rattle.platform.specs.declared.event.EventKind.{EventKind}
-use Rattle.platform.specs.declared.event.EventKind.TheVariants.{Accessed, ConsoleByte, ReturnBegan, HandlerEntered}
-use Rattle.platform.specs.declared.event.EventKind.TheVariants.{FaultRecorded}
 use Rattle.platform.specs.declared.event.RecordedFault.{RecordedFault}
 use Rattle.platform.specs.declared.stop.LeftOut.{LeftOut}
 use Rattle.platform.specs.declared.stop.LeftOut.TheVariants.{ExclusiveDevice, UnalignedDevice, RegisterWidth}
@@ -92,22 +89,6 @@ decided_text d =
 -- the exception, CFSR and HFSR
 abbrev pub fault_text : RecordedFault → List ℕ
 fault_text f = (((decimal f.exception ++ codes " ") ++ hex_word f.cfsr) ++ codes " ") ++ hex_word f.hfsr
-
-abbrev pub event_text : EventKind → List ℕ
-event_text (Accessed a) = decided_text a
-event_text (ConsoleByte byte) = codes "O " ++ hex_byte byte
-event_text (ReturnBegan exc_return) = codes "R " ++ hex_word exc_return
-event_text (HandlerEntered exception) = codes "X " ++ decimal exception
-event_text (FaultRecorded f) = codes "! " ++ fault_text f
-
--- the line of an event
-unfoldable pub line : Event → List ℕ
-line e = ((decimal e.tick ++ codes " ") ++ event_text e.what) ++ line_feed
-
--- the lines of events, one after another
-unfoldable pub lines : List Event → List ℕ
-lines [] = []
-lines (e ∷ es) = line e ++ lines es
 
 abbrev pub unpredictable_text : UnpredictableCase → List ℕ
 unpredictable_text Encoding = codes "encoding"

@@ -5,7 +5,7 @@ use Rattle.elf.specs.Segment.{segment_in, segment_of}
 use Rattle.platform.specs.declared.error.LoadError.{LoadError}
 use Rattle.platform.specs.Images.{Segment, is_segment, program_header_size, segment_end, share_an_address}
 use Rattle.platform.specs.Memory.{Memory}
-use Rattle.reference.specs.Start.{is_placed}
+use Rattle.platform.specs.Images.{is_placed}
 use Rattle.reasons.specs.declared.header.HeaderTable.{HeaderTable}
 use Rattle.reasons.specs.declared.header.NumberedSegment.{NumberedSegment}
 

@@ -163,9 +163,8 @@ fn overlap<'a>(
     ensures { IsFirstPair (λ k. segment_if file.now (header_at table k)) table.count result }
 {
     'headers: for index in 0..table.count {
-        match overlap_at(file, table, index) {
-            Some(pair) => return Some(pair),
-            None => {}
+        if let Some(pair) = overlap_at(file, table, index) {
+            return Some(pair);
         }
     }
     None
@@ -183,13 +182,9 @@ fn overlap_at<'a>(
     requires within { table.end ≤ length file.now }
     ensures { PicksPair (λ k. segment_if file.now (header_at table k)) table.count index result }
 {
-    match segment_at(file, table, index) {
-        Some(one) => match overlap_with(file, table, &one) {
-            Some(other) => Some((one, other)),
-            None => None,
-        },
-        None => None,
-    }
+    let one = segment_at(file, table, index)?;
+    let other = overlap_with(file, table, &one)?;
+    Some((one, other))
 }
 
 /// Returns the first segment after another that shares an address with it.
@@ -204,9 +199,8 @@ fn overlap_with<'a>(
         (λ k. segment_if file.now (header_at table k)) (segment_of one.now.segment) one.now.index) table.count result }
 {
     'headers: for index in 0..table.count {
-        match overlap_with_at(file, table, one, index) {
-            Some(other) => return Some(other),
-            None => {}
+        if let Some(other) = overlap_with_at(file, table, one, index) {
+            return Some(other);
         }
     }
     None
@@ -229,15 +223,11 @@ fn overlap_with_at<'a>(
     if index <= one.index {
         return None;
     }
-    match segment_at(file, table, index) {
-        Some(other) => {
-            if share_an_address(&one.segment, &other.segment) {
-                Some(other)
-            } else {
-                None
-            }
-        }
-        None => None,
+    let other = segment_at(file, table, index)?;
+    if share_an_address(&one.segment, &other.segment) {
+        Some(other)
+    } else {
+        None
     }
 }
 

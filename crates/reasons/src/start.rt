@@ -4,7 +4,7 @@ ghost use Rattle.std.specs.Prelude.{◌≡◌, ◌+◌, ◌*◌, ◌≤◌, ◌<
 ghost use Rattle.elf.specs.Segment.{segment_of};
 ghost use Rattle.reasons.specs.Segments.{IsFirstOf, IsUnplaced, Picks, header_at, segment_if};
 ghost use Rattle.platform.specs.Boards.{numbers_of};
-ghost use Rattle.reference.specs.Start.{is_placed};
+ghost use Rattle.platform.specs.Images.{is_placed};
 ghost use Rattle.platform.specs.Boards.{blank};
 
 use crate::header::{HeaderTable, NumberedSegment, segment_at, whole_table};
@@ -60,9 +60,8 @@ fn first_unplaced<'a>(
         result }
 {
     'headers: for index in 0..table.count {
-        match unplaced_at(file, table, index, layout) {
-            Some(numbered) => return Some(numbered),
-            None => {}
+        if let Some(numbered) = unplaced_at(file, table, index, layout) {
+            return Some(numbered);
         }
     }
     None

@@ -1,14 +1,14 @@
 -- The branches and IT (ARM DDI 0403, the operation of B, BL, BX, BLX, CBZ, CBNZ, TBB, TBH and IT): the accesses of
 -- each, and where it goes on.
 use Rattle.std.specs.Prelude.{ℕ, ◌+◌, ◌*◌, ◌/◌, ◌%◌, ◌^◌, Bool, not, ◌==◌, if◌then◌else◌, List, [], Result, Ok}
-use Rattle.instruction_set.specs.declared.instruction.Branch.{Branch}
-use Rattle.instruction_set.specs.declared.instruction.Branch.TheVariants as branch
+use Rattle.instruction_set.specs.declared.branch.Branch.{Branch}
+use Rattle.instruction_set.specs.declared.branch.Branch.TheVariants as branch
 use Rattle.instruction_set.specs.declared.instruction.InstructionLength.{InstructionLength}
-use Rattle.instruction_set.specs.declared.operands.BranchExchange.{BranchExchange}
-use Rattle.instruction_set.specs.declared.operands.CompareAndBranch.{CompareAndBranch}
-use Rattle.instruction_set.specs.declared.operands.ConditionalBranch.{ConditionalBranch}
-use Rattle.instruction_set.specs.declared.operands.IfThen.{IfThen}
-use Rattle.instruction_set.specs.declared.operands.TableBranch.{TableBranch}
+use Rattle.instruction_set.specs.declared.branch.BranchExchange.{BranchExchange}
+use Rattle.instruction_set.specs.declared.branch.CompareAndBranch.{CompareAndBranch}
+use Rattle.instruction_set.specs.declared.branch.ConditionalBranch.{ConditionalBranch}
+use Rattle.instruction_set.specs.declared.branch.IfThen.{IfThen}
+use Rattle.instruction_set.specs.declared.branch.TableBranch.{TableBranch}
 use Rattle.instruction_set.specs.Arithmetic.{condition_holds}
 use Rattle.instruction_set.specs.Registers.{Registers, register, with_register, with_exchange, is_privileged}
 use Rattle.instruction_set.specs.Sizes.{bytes_in, instruction_bytes}

@@ -1,10 +1,10 @@
 -- The exclusive loads and stores and CLREX, with the local monitor of `Monitor` (ARM DDI 0403, "Synchronization and
 -- semaphores"). A store that fails is decided as a store is (profile).
 use Rattle.std.specs.Prelude.{ℕ, Bool, not, if◌then◌else◌, List, [], ◌∷◌, Result, Ok, Err}
-use Rattle.instruction_set.specs.declared.instruction.Exclusive.{Exclusive}
-use Rattle.instruction_set.specs.declared.instruction.Exclusive.TheVariants.{Load, Store, Clear}
+use Rattle.instruction_set.specs.declared.load_store.Exclusive.{Exclusive}
+use Rattle.instruction_set.specs.declared.load_store.Exclusive.TheVariants.{Load, Store, Clear}
 use Rattle.instruction_set.specs.declared.instruction.InstructionLength.{InstructionLength}
-use Rattle.instruction_set.specs.declared.operands.StoreExclusive.{StoreExclusive}
+use Rattle.instruction_set.specs.declared.load_store.StoreExclusive.{StoreExclusive}
 use Rattle.instruction_set.specs.declared.size.Size.{Size}
 use Rattle.instruction_set.specs.Monitor.{is_marked, with_mark, without_mark}
 use Rattle.instruction_set.specs.Registers.{Registers, register, with_register, is_privileged}

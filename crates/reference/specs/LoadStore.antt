@@ -4,14 +4,14 @@ use Rattle.std.specs.Prelude.{ℕ, ◌+◌, ◌*◌, ◌%◌, ◌^◌, Bool, not
 use Rattle.std.specs.Prelude.{Err}
 use Rattle.std.specs.List.{list_any}
 use Rattle.instruction_set.specs.declared.instruction.InstructionLength.{InstructionLength}
-use Rattle.instruction_set.specs.declared.instruction.LoadStore.{LoadStore}
-use Rattle.instruction_set.specs.declared.instruction.LoadStore.TheVariants.{LoadImmediate, LoadRegister, LoadLiteral}
-use Rattle.instruction_set.specs.declared.instruction.LoadStore.TheVariants.{StoreImmediate, StoreRegister}
-use Rattle.instruction_set.specs.declared.operands.ImmediateAddress.{ImmediateAddress}
-use Rattle.instruction_set.specs.declared.operands.Indexing.{Indexing}
-use Rattle.instruction_set.specs.declared.operands.Indexing.TheVariants.{Offset, PreIndexed, PostIndexed}
-use Rattle.instruction_set.specs.declared.operands.LoadForm.{LoadForm}
-use Rattle.instruction_set.specs.declared.operands.RegisterAddress.{RegisterAddress}
+use Rattle.instruction_set.specs.declared.load_store.LoadStore.{LoadStore}
+use Rattle.instruction_set.specs.declared.load_store.LoadStore.TheVariants.{LoadImmediate, LoadRegister, LoadLiteral}
+use Rattle.instruction_set.specs.declared.load_store.LoadStore.TheVariants.{StoreImmediate, StoreRegister}
+use Rattle.instruction_set.specs.declared.load_store.ImmediateAddress.{ImmediateAddress}
+use Rattle.instruction_set.specs.declared.load_store.Indexing.{Indexing}
+use Rattle.instruction_set.specs.declared.load_store.Indexing.TheVariants.{Offset, PreIndexed, PostIndexed}
+use Rattle.instruction_set.specs.declared.load_store.LoadForm.{LoadForm}
+use Rattle.instruction_set.specs.declared.load_store.RegisterAddress.{RegisterAddress}
 use Rattle.instruction_set.specs.declared.shift.ShiftType.TheVariants.{Lsl}
 use Rattle.instruction_set.specs.declared.size.Size.{Size}
 use Rattle.instruction_set.specs.declared.size.Size.TheVariants.{Byte, Word}
@@ -21,7 +21,7 @@ use Rattle.instruction_set.specs.Fields.{extended, width_of}
 use Rattle.instruction_set.specs.Registers.{Registers, register, with_register, is_privileged}
 use Rattle.instruction_set.specs.RowOperands.{writes_back}
 use Rattle.instruction_set.specs.Sizes.{bytes_in}
-use Rattle.instruction_set.specs.TwoOperands.{aligned_pc}
+use Rattle.instruction_set.specs.DataProcessing.{aligned_pc}
 use Rattle.instruction_set.specs.Words.{word_sum}
 use Rattle.platform.specs.declared.access.Kind.{Kind}
 use Rattle.platform.specs.declared.access.Kind.TheVariants.{Load, Store}

@@ -4,12 +4,12 @@ use Rattle.std.specs.Prelude.{ℕ, ◌*◌, Bool, if◌then◌else◌, List, [],
 use Rattle.std.specs.Int.RustNames.{count_ones}
 use Rattle.std.specs.List.{filter, range_with_len}
 use Rattle.instruction_set.specs.declared.instruction.InstructionLength.{InstructionLength}
-use Rattle.instruction_set.specs.declared.instruction.LoadStoreMultiple.{LoadStoreMultiple}
-use Rattle.instruction_set.specs.declared.instruction.LoadStoreMultiple.TheVariants as family
-use Rattle.instruction_set.specs.declared.operands.ListOrder.{ListOrder}
-use Rattle.instruction_set.specs.declared.operands.ListOrder.TheVariants.{IncrementAfter, DecrementBefore}
-use Rattle.instruction_set.specs.declared.operands.LoadDualLiteral.{LoadDualLiteral}
-use Rattle.instruction_set.specs.declared.operands.LoadMultiple.{LoadMultiple}
+use Rattle.instruction_set.specs.declared.load_store.LoadStoreMultiple.{LoadStoreMultiple}
+use Rattle.instruction_set.specs.declared.load_store.LoadStoreMultiple.TheVariants as family
+use Rattle.instruction_set.specs.declared.load_store.ListOrder.{ListOrder}
+use Rattle.instruction_set.specs.declared.load_store.ListOrder.TheVariants.{IncrementAfter, DecrementBefore}
+use Rattle.instruction_set.specs.declared.load_store.LoadDualLiteral.{LoadDualLiteral}
+use Rattle.instruction_set.specs.declared.load_store.LoadMultiple.{LoadMultiple}
 use Rattle.instruction_set.specs.declared.size.Size.TheVariants.{Word}
 use Rattle.instruction_set.specs.declared.unpredictable.UnpredictableCase.TheVariants.{LiteralPc}
 use Rattle.instruction_set.specs.Registers.{Registers, register, with_register, is_privileged}

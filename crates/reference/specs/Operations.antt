@@ -6,7 +6,7 @@ use Rattle.std.specs.Prelude.{ℕ, Bool, false, not, ◌&&◌, ◌||◌, if◌th
 use Rattle.instruction_set.specs.declared.instruction.BlockPlace.{BlockPlace}
 use Rattle.instruction_set.specs.declared.instruction.BlockPlace.TheVariants.{Anywhere, LastOnly, Never}
 use Rattle.instruction_set.specs.declared.instruction.CodedInstruction.{CodedInstruction}
-use Rattle.instruction_set.specs.declared.instruction.DataProcessing.{DataProcessing as DataProcessingForm}
+use Rattle.instruction_set.specs.declared.data_processing.DataProcessing.{DataProcessing as DataProcessingForm}
 use Rattle.instruction_set.specs.declared.instruction.Instruction.{Instruction}
 use Rattle.instruction_set.specs.declared.instruction.Instruction.TheVariants.{DataProcessing, LoadStore}
 use Rattle.instruction_set.specs.declared.instruction.Instruction.TheVariants.{LoadStoreMultiple, Exclusive, Branch}
@@ -27,7 +27,7 @@ use Rattle.reference.specs.Exclusives.{exclusive_requests, exclusive_effect}
 use Rattle.reference.specs.LoadStore.{load_store_requests, load_store_effect}
 use Rattle.reference.specs.LoadStoreMultiple.{load_store_multiple_requests, load_store_multiple_effect}
 use Rattle.reference.specs.ProgramCounter.{Finished, moves_on, branches}
-use Rattle.reference.specs.SystemInstructions.{has_no_condition, system_effect}
+use Rattle.reference.specs.SystemInstructions.{has_no_condition, system_requests, system_effect}
 
 -- ---- before an instruction
 
@@ -70,7 +70,7 @@ requests_of traps (LoadStore i) r = load_store_requests traps i r
 requests_of traps (LoadStoreMultiple i) r = load_store_multiple_requests i r
 requests_of traps (Exclusive i) r = exclusive_requests i r
 requests_of traps (Branch i) r = branch_requests traps i r
-requests_of traps (System i) r = Ok []
+requests_of traps (System i) r = system_requests i
 
 -- the accesses of an instruction, after the checks in their order: a stop where its position in the IT block isn't
 -- allowed, else none where its condition fails, else those of its family

@@ -2,7 +2,7 @@
 -- no line (profile).
 use Rattle.std.specs.Prelude.{ℕ, ◌%◌, Bool, true, not, ◌||◌, nat_lt, ◌==◌, if◌then◌else◌, is_some, Option, Some, None}
 use Rattle.std.specs.Prelude.{Result, Ok, Err}
-use Rattle.instruction_set.specs.declared.operands.SpecialRegister.{SpecialRegister}
+use Rattle.instruction_set.specs.declared.system.SpecialRegister.{SpecialRegister}
 use Rattle.instruction_set.specs.declared.size.Size.TheVariants as size
 use Rattle.instruction_set.specs.Registers.{is_handler, with_register}
 use Rattle.instruction_set.specs.RowOperands.{special_of}

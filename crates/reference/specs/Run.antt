@@ -5,7 +5,8 @@ use Rattle.platform.specs.declared.stop.Stop.{Stop}
 use Rattle.platform.specs.declared.stop.Stop.TheVariants.{StepLimit}
 use Rattle.reference.specs.State.{State}
 use Rattle.reference.specs.Step.{step}
-use Rattle.platform.specs.Text.{lines, stop_line}
+use Rattle.platform.specs.Events.{lines}
+use Rattle.platform.specs.Text.{stop_line}
 
 -- the state after n steps: a stopped machine stays as it is
 unfoldable pub after : ℕ → State → State

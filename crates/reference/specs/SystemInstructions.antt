@@ -1,14 +1,16 @@
 -- The instructions for special registers, the hints, SVC and BKPT (ARM DDI 0403, the operation of CPS, MSR, MRS, SVC,
 -- BKPT, WFI and the other hints): none makes an access, and what each does besides advancing the PC is its ending.
-use Rattle.std.specs.Prelude.{Bool, true, false}
-use Rattle.instruction_set.specs.declared.instruction.Hint.{Hint}
-use Rattle.instruction_set.specs.declared.instruction.Hint.TheVariants as hint
+use Rattle.std.specs.Prelude.{Bool, true, false, List, [], Result, Ok}
+use Rattle.instruction_set.specs.declared.system.Hint.{Hint}
+use Rattle.instruction_set.specs.declared.system.Hint.TheVariants as hint
 use Rattle.instruction_set.specs.declared.instruction.InstructionLength.{InstructionLength}
-use Rattle.instruction_set.specs.declared.instruction.System.{System}
-use Rattle.instruction_set.specs.declared.instruction.System.TheVariants as system
+use Rattle.instruction_set.specs.declared.system.System.{System}
+use Rattle.instruction_set.specs.declared.system.System.TheVariants as system
 use Rattle.instruction_set.specs.Registers.{Registers, register}
+use Rattle.platform.specs.declared.access.Request.{Request}
 use Rattle.reference.specs.declared.ending.Ending.{Ending}
 use Rattle.reference.specs.declared.ending.Ending.TheVariants as ending
+use Rattle.reference.specs.declared.failure.Failure.{Failure}
 use Rattle.reference.specs.ProgramCounter.{Finished, moves_on}
 
 -- whether an instruction has no condition, not even that of an IT block: BKPT
@@ -19,6 +21,15 @@ has_no_condition (system.MoveFromSpecial o) = false
 has_no_condition (system.Hint hint) = false
 has_no_condition (system.SupervisorCall number) = false
 has_no_condition (system.Breakpoint number) = true
+
+-- no access, and none of these stops before it is carried out
+abbrev pub system_requests : System → Result (List Request) Failure
+system_requests (system.ChangeProcessorState o) = Ok []
+system_requests (system.MoveToSpecial o) = Ok []
+system_requests (system.MoveFromSpecial o) = Ok []
+system_requests (system.Hint hint) = Ok []
+system_requests (system.SupervisorCall number) = Ok []
+system_requests (system.Breakpoint number) = Ok []
 
 -- WFI sleeps; all other hints do nothing (profile)
 abbrev pub hint_ending : Hint → Ending

@@ -1,6 +1,6 @@
 //! What is left to do of an instruction.
 
-use instruction_set::operands::{ChangeProcessorState, MoveFromSpecial, SpecialRegister};
+use instruction_set::system::{ChangeProcessorState, MoveFromSpecial, SpecialRegister};
 
 /// What is left to do of an instruction after `effect` has set the registers.
 #[derive(Clone, Copy)]

@@ -174,7 +174,7 @@ fn write_step<W: Write>(
     Ok(if belongs { Some(cell) } else { None })
 }
 
-/// Writes a run of cells of one row, up to one behind the last, if there is one.
+/// Writes the cells of one row from `begin` to the one before `end`, if a run has begun.
 fn write_rest<W: Write>(
     out: &mut W,
     begin: Option<usize>,
@@ -230,7 +230,7 @@ fn write_states<W: Write>(
     write_state(out, cells, state, begin, count)
 }
 
-/// Writes the text of a run of equal cells, up to one behind the last, if they are touched or granted.
+/// Writes the text of the equal cells from `begin` to the one before `end`, if they are touched or granted.
 fn write_state<W: Write>(
     out: &mut W,
     cells: &Cells,

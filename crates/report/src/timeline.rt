@@ -193,7 +193,7 @@ fn write_columns<W: Write>(out: &mut W, timeline: &Timeline, mark: Mark) -> io::
     }
 }
 
-/// Writes the box of the columns from the first up to one behind the last.
+/// Writes the box of the columns from `first` to the one before `end`.
 fn write_run<W: Write>(out: &mut W, first: usize, end: usize) -> io::Result<()> {
     write_area(
         out,

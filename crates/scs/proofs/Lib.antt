@@ -2,3 +2,4 @@ mod Places
 mod Refused
 pub mod Refusals
 pub mod Sound
+pub mod SysTickReads

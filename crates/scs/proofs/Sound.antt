@@ -3,8 +3,8 @@ use Rattle.std.proofs.Common.{◌≡◌, ◌⊎◌, ℕ, ◌+◌, Bool, List, ar
 use Rattle.clock.proofs.Scripts.{applies_those}
 use Rattle.clock.proofs.Timers.{counted_bits, read_bits, write_bits}
 use Rattle.clock.specs.Laws.{IsSortedFrom}
-use Rattle.instruction_set.specs.declared.operands.ChangeProcessorState.{ChangeProcessorState}
-use Rattle.instruction_set.specs.declared.operands.SpecialRegister.{SpecialRegister}
+use Rattle.instruction_set.specs.declared.system.ChangeProcessorState.{ChangeProcessorState}
+use Rattle.instruction_set.specs.declared.system.SpecialRegister.{SpecialRegister}
 use Rattle.mpu.proofs.Writes.{sound_at_reset, sound_after_write}
 use Rattle.nvic.proofs.Boards.{reset_of_board, of_board_kept}
 use Rattle.nvic.proofs.Systems.{Parts, HasParts, PartsAreKept, access_kept, tick_kept, msr_kept, cps_kept}

@@ -2,8 +2,7 @@
 
 ghost use Rattle.std.specs.Prelude.{◌≡◌, ◌<◌, ◌%◌, ◌^◌};
 ghost use Rattle.instruction_set.specs.Sizes.{bytes_in};
-ghost use Rattle.platform.specs.System.{register_at as register_at_of, has_width as has_width_of};
-ghost use Rattle.platform.specs.System.{first_byte as first_byte_of, part_of as part_of_word, in_place as in_place_of};
+ghost use Rattle.platform.specs.System as spec;
 
 use crate::control::control_at;
 use crate::handlers::handler_priority_at;
@@ -18,7 +17,7 @@ use platform::system::SystemRegister;
 /// Returns the register at the address of a word of the Private Peripheral Bus.
 #[tactic(auto, unfolding(platform::specs::System::register_at))]
 pub fn register_at(word: u32) -> SystemRegister
-    ensures { result ≡ register_at_of word }
+    ensures { result ≡ spec.register_at word }
 {
     if let Some(register) = systick_at(word) {
         return SystemRegister::SysTick(register);
@@ -47,7 +46,7 @@ pub fn register_at(word: u32) -> SystemRegister
 /// Returns whether a register takes accesses of a size.
 #[tactic(auto, unfolding(platform::specs::System::has_width))]
 pub fn has_width(register: SystemRegister, size: Size) -> bool
-    ensures { result ≡ has_width_of register size }
+    ensures { result ≡ spec.has_width register size }
 {
     match register {
         SystemRegister::Priorities(_) | SystemRegister::Unlisted => true,
@@ -61,7 +60,7 @@ pub fn has_width(register: SystemRegister, size: Size) -> bool
 
 /// Returns the first byte of a word that an access moves, from 0 to 3.
 pub fn first_byte(request: &Request) -> u32
-    ensures value { result ≡ first_byte_of request.now.access.size request.now.access.address }
+    ensures value { result ≡ spec.first_byte request.now.access.size request.now.access.address }
     ensures small { result < 4 }
 {
     match request.access.size {
@@ -85,7 +84,7 @@ fn lowest_bytes(size: Size, value: u32) -> u32
 
 /// Returns the bytes of a word that an access reads.
 pub fn part_of(request: &Request, word: u32) -> u32
-    ensures value { result ≡ part_of_word request.now word }
+    ensures value { result ≡ spec.part_of request.now word }
     ensures narrow { result < 256 ^ bytes_in request.now.access.size }
 {
     lowest_bytes(request.access.size, word >> (8 * first_byte(request)))
@@ -94,7 +93,7 @@ pub fn part_of(request: &Request, word: u32) -> u32
 /// Returns a word with the bytes that an access writes in their place, and 0 in the others.
 #[tactic(auto, using(crate::proofs::Places::placed))]
 pub fn in_place(request: &Request) -> u32
-    ensures { result ≡ in_place_of request.now }
+    ensures { result ≡ spec.in_place request.now }
 {
     lowest_bytes(request.access.size, request.value) << (8 * first_byte(request))
 }

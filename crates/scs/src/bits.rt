@@ -1,14 +1,14 @@
 //! The bits of a word.
 
 ghost use Rattle.std.specs.Prelude.{◌≡◌, ◌<◌};
-ghost use Rattle.instruction_set.specs.Registers.{weighed as weighed_of};
-ghost use Rattle.instruction_set.specs.Words.{is_bit as is_bit_of};
+ghost use Rattle.instruction_set.specs.Registers as registers;
+ghost use Rattle.instruction_set.specs.Words as words;
 
 /// Returns whether a bit of a word is 1.
 #[inline]
 pub fn is_bit(word: u32, bit: u32) -> bool
     requires { bit < 32 }
-    ensures { result ≡ is_bit_of word bit }
+    ensures { result ≡ words.is_bit word bit }
 {
     word >> bit & 1 == 1
 }
@@ -16,7 +16,7 @@ pub fn is_bit(word: u32, bit: u32) -> bool
 /// Returns the weight of a bit that is 1, and otherwise 0.
 #[inline]
 pub fn weighed(bit: bool, weight: u32) -> u32
-    ensures { result ≡ weighed_of bit weight }
+    ensures { result ≡ registers.weighed bit weight }
 {
     if bit { weight } else { 0 }
 }

@@ -1,9 +1,7 @@
 //! ICTR, CPUID, ICSR, AIRCR, SHCSR and STIR.
 
 ghost use Rattle.std.specs.Prelude.{◌≡◌};
-ghost use Rattle.platform.specs.Control.{control_at as control_at_of, rettobase as rettobase_of, icsr as icsr_of};
-ghost use Rattle.platform.specs.Control.{set_or_cleared, write_icsr as write_icsr_of, write_aircr as write_aircr_of};
-ghost use Rattle.platform.specs.Control.{read_control as read_control_of, write_control as write_control_of};
+ghost use Rattle.platform.specs.Control as spec;
 ghost use Rattle.scs.specs.Writes.{after_write, answered};
 
 use crate::bits::{is_bit, weighed};
@@ -27,7 +25,7 @@ const VECTKEY: u32 = 0x05FA;
 /// Returns the register at the address of a word, if it is one of these.
 #[tactic(auto, unfolding(platform::specs::Control::control_at))]
 pub fn control_at(word: u32) -> Option<ControlRegister>
-    ensures { result ≡ control_at_of word }
+    ensures { result ≡ spec.control_at word }
 {
     match word {
         0xE000_E004 => Some(ControlRegister::Ictr),
@@ -43,7 +41,7 @@ pub fn control_at(word: u32) -> Option<ControlRegister>
 /// Reads a register while IPSR is `exception`.
 #[tactic(auto, unfolding(platform::specs::Control::read_control))]
 pub fn read_control<L: Levels>(levels: &L, exception: u16, register: ControlRegister) -> u32
-    ensures { result ≡ read_control_of exception (L.content levels.now) register }
+    ensures { result ≡ spec.read_control exception (L.content levels.now) register }
 {
     match register {
         ControlRegister::Ictr => ictr(levels),
@@ -63,8 +61,8 @@ pub fn write_control<L: Levels>(
     value: u32,
 ) -> Result<(), Stop>
     ensures state { L.content levels.new
-        ≡ after_write (L.content levels.old) (write_control_of (L.content levels.old) register value) }
-    ensures answer { result ≡ answered (write_control_of (L.content levels.old) register value) }
+        ≡ after_write (L.content levels.old) (spec.write_control (L.content levels.old) register value) }
+    ensures answer { result ≡ answered (spec.write_control (L.content levels.old) register value) }
 {
     match register {
         ControlRegister::Ictr | ControlRegister::Cpuid => Ok(()),
@@ -80,7 +78,7 @@ pub fn write_control<L: Levels>(
 
 /// Returns ICSR.RETTOBASE: a handler runs, and no exception but its own is active.
 fn rettobase<L: Levels>(levels: &L, exception: u16) -> bool
-    ensures { result ≡ rettobase_of (L.content levels.now) exception }
+    ensures { result ≡ spec.rettobase (L.content levels.now) exception }
 {
     exception != 0 && !levels.is_other_active(exception)
 }
@@ -88,7 +86,7 @@ fn rettobase<L: Levels>(levels: &L, exception: u16) -> bool
 /// Reads ICSR while IPSR is `exception`.
 #[tactic(auto, unfolding(platform::specs::Control::icsr))]
 fn icsr<L: Levels>(levels: &L, exception: u16) -> u32
-    ensures { result ≡ icsr_of (L.content levels.now) exception }
+    ensures { result ≡ spec.icsr (L.content levels.now) exception }
 {
     u32::from(exception % 512)
         + weighed(rettobase(levels, exception), 1 << 11)
@@ -101,7 +99,7 @@ fn icsr<L: Levels>(levels: &L, exception: u16) -> u32
 
 /// Makes an exception pending or clears it, by its set bit and its clear bit in ICSR.
 fn set_or_clear<L: Levels>(levels: &mut L, number: u16, set: bool, clear: bool)
-    ensures { L.content levels.new ≡ set_or_cleared (L.content levels.old) number set clear }
+    ensures { L.content levels.new ≡ spec.set_or_cleared (L.content levels.old) number set clear }
 {
     if set {
         levels.pend(number);
@@ -114,8 +112,8 @@ fn set_or_clear<L: Levels>(levels: &mut L, number: u16, set: bool, clear: bool)
 #[tactic(auto, unfolding(platform::specs::Control::write_icsr))]
 fn write_icsr<L: Levels>(levels: &mut L, value: u32) -> Result<(), Stop>
     ensures state { L.content levels.new
-        ≡ after_write (L.content levels.old) (write_icsr_of (L.content levels.old) value) }
-    ensures answer { result ≡ answered (write_icsr_of (L.content levels.old) value) }
+        ≡ after_write (L.content levels.old) (spec.write_icsr (L.content levels.old) value) }
+    ensures answer { result ≡ answered (spec.write_icsr (L.content levels.old) value) }
 {
     if is_bit(value, 28) && is_bit(value, 27) || is_bit(value, 26) && is_bit(value, 25) {
         return Err(Stop::Unpredictable(UnpredictableCase::Icsr));
@@ -130,8 +128,8 @@ fn write_icsr<L: Levels>(levels: &mut L, value: u32) -> Result<(), Stop>
 #[tactic(auto, unfolding(platform::specs::Control::write_aircr))]
 fn write_aircr<L: Levels>(levels: &mut L, value: u32) -> Result<(), Stop>
     ensures state { L.content levels.new
-        ≡ after_write (L.content levels.old) (write_aircr_of (L.content levels.old) value) }
-    ensures answer { result ≡ answered (write_aircr_of (L.content levels.old) value) }
+        ≡ after_write (L.content levels.old) (spec.write_aircr (L.content levels.old) value) }
+    ensures answer { result ≡ answered (spec.write_aircr (L.content levels.old) value) }
 {
     if value >> 16 != VECTKEY {
         return Ok(());

@@ -1,12 +1,7 @@
 //! SHPR1 to SHPR3, and SHCSR.
 
 ghost use Rattle.std.specs.Prelude.{◌≡◌, ◌<◌, ◌^◌};
-ghost use Rattle.platform.specs.Handlers.{handler_priority_at as handler_priority_at_of};
-ghost use Rattle.platform.specs.Handlers.{handlers_active as handlers_active_of};
-ghost use Rattle.platform.specs.Handlers.{handlers_pending as handlers_pending_of};
-ghost use Rattle.platform.specs.Handlers.{handlers_enabled as handlers_enabled_of, with_handlers_pending};
-ghost use Rattle.platform.specs.Handlers.{with_handlers_enabled, read_shcsr as read_shcsr_of};
-ghost use Rattle.platform.specs.Handlers.{write_shcsr as write_shcsr_of};
+ghost use Rattle.platform.specs.Handlers as spec;
 ghost use Rattle.platform.specs.Priorities.{with_pending, with_enabled};
 ghost use Rattle.scs.specs.Writes.{after_write, answered};
 
@@ -21,7 +16,7 @@ const ACTIVE: u32 = 0xC8B;
 /// Returns the exception whose priority is the lowest byte of a word of SHPR1 to SHPR3.
 #[tactic(auto, unfolding(platform::specs::Handlers::handler_priority_at))]
 pub fn handler_priority_at(word: u32) -> Option<u8>
-    ensures { result ≡ handler_priority_at_of word }
+    ensures { result ≡ spec.handler_priority_at word }
 {
     match word {
         0xE000_ED18..=0xE000_ED23 => Some((word - 0xE000_ED18) as u8 + MEM_MANAGE as u8),
@@ -32,7 +27,7 @@ pub fn handler_priority_at(word: u32) -> Option<u8>
 /// Reads the active bits of SHCSR.
 #[tactic(auto, unfolding(platform::specs::Handlers::handlers_active))]
 fn handlers_active<L: Levels>(levels: &L) -> u32
-    ensures value { result ≡ handlers_active_of (L.content levels.now) }
+    ensures value { result ≡ spec.handlers_active (L.content levels.now) }
     ensures small { result < 2 ^ 12 }
 {
     weighed(levels.is_active(MEM_MANAGE), 1)
@@ -46,7 +41,7 @@ fn handlers_active<L: Levels>(levels: &L) -> u32
 /// Reads the pending bits of SHCSR.
 #[tactic(auto, unfolding(platform::specs::Handlers::handlers_pending))]
 fn handlers_pending<L: Levels>(levels: &L) -> u32
-    ensures value { result ≡ handlers_pending_of (L.content levels.now) }
+    ensures value { result ≡ spec.handlers_pending (L.content levels.now) }
     ensures small { result < 2 ^ 16 }
 {
     weighed(levels.is_pending(USAGE_FAULT), 1 << 12)
@@ -58,7 +53,7 @@ fn handlers_pending<L: Levels>(levels: &L) -> u32
 /// Reads the enable bits of SHCSR.
 #[tactic(auto, unfolding(platform::specs::Handlers::handlers_enabled))]
 fn handlers_enabled<L: Levels>(levels: &L) -> u32
-    ensures value { result ≡ handlers_enabled_of (L.content levels.now) }
+    ensures value { result ≡ spec.handlers_enabled (L.content levels.now) }
     ensures small { result < 2 ^ 19 }
 {
     weighed(levels.is_enabled(MEM_MANAGE), 1 << 16)
@@ -69,7 +64,7 @@ fn handlers_enabled<L: Levels>(levels: &L) -> u32
 /// Reads SHCSR.
 #[tactic(auto, unfolding(platform::specs::Handlers::read_shcsr))]
 pub fn read_shcsr<L: Levels>(levels: &L) -> u32
-    ensures { result ≡ read_shcsr_of (L.content levels.now) }
+    ensures { result ≡ spec.read_shcsr (L.content levels.now) }
 {
     handlers_active(levels) + handlers_pending(levels) + handlers_enabled(levels)
 }
@@ -99,7 +94,7 @@ fn set_enabled<L: Levels>(levels: &mut L, number: u16, on: bool)
 /// Writes the pending bits of SHCSR.
 #[tactic(auto, unfolding(platform::specs::Handlers::with_handlers_pending))]
 fn set_handlers_pending<L: Levels>(levels: &mut L, value: u32)
-    ensures { L.content levels.new ≡ with_handlers_pending (L.content levels.old) value }
+    ensures { L.content levels.new ≡ spec.with_handlers_pending (L.content levels.old) value }
 {
     set_pending(levels, USAGE_FAULT, is_bit(value, 12));
     set_pending(levels, MEM_MANAGE, is_bit(value, 13));
@@ -110,7 +105,7 @@ fn set_handlers_pending<L: Levels>(levels: &mut L, value: u32)
 /// Writes the enable bits of SHCSR.
 #[tactic(auto, unfolding(platform::specs::Handlers::with_handlers_enabled))]
 fn set_handlers_enabled<L: Levels>(levels: &mut L, value: u32)
-    ensures { L.content levels.new ≡ with_handlers_enabled (L.content levels.old) value }
+    ensures { L.content levels.new ≡ spec.with_handlers_enabled (L.content levels.old) value }
 {
     set_enabled(levels, MEM_MANAGE, is_bit(value, 16));
     set_enabled(levels, BUS_FAULT, is_bit(value, 17));
@@ -121,8 +116,8 @@ fn set_handlers_enabled<L: Levels>(levels: &mut L, value: u32)
 #[tactic(auto, unfolding(platform::specs::Handlers::write_shcsr))]
 pub fn write_shcsr<L: Levels>(levels: &mut L, value: u32) -> Result<(), Stop>
     ensures state { L.content levels.new
-        ≡ after_write (L.content levels.old) (write_shcsr_of (L.content levels.old) value) }
-    ensures answer { result ≡ answered (write_shcsr_of (L.content levels.old) value) }
+        ≡ after_write (L.content levels.old) (spec.write_shcsr (L.content levels.old) value) }
+    ensures answer { result ≡ answered (spec.write_shcsr (L.content levels.old) value) }
 {
     if value & ACTIVE != handlers_active(levels) {
         return Err(Stop::OutOfProfile(LeftOut::ActiveBit));

@@ -1,14 +1,7 @@
 //! ICTR, ISER, ICER, ISPR, ICPR, IABR, IPR and STIR.
 
 ghost use Rattle.std.specs.Prelude.{◌≡◌, ◌<◌, ◌^◌};
-ghost use Rattle.platform.specs.Interrupts.{ictr as ictr_of, interrupts_at as interrupts_at_of};
-ghost use Rattle.platform.specs.Interrupts.{word_number as word_number_of, first_exception as first_exception_of};
-ghost use Rattle.platform.specs.Interrupts.{is_shown as is_shown_of, with_one, with_bit as with_bit_of};
-ghost use Rattle.platform.specs.Interrupts.{read_interrupts as read_interrupts_of};
-ghost use Rattle.platform.specs.Interrupts.{write_interrupts as write_interrupts_of};
-ghost use Rattle.platform.specs.Interrupts.{interrupt_priority_at as interrupt_priority_at_of};
-ghost use Rattle.platform.specs.Interrupts.{read_priorities as read_priorities_of};
-ghost use Rattle.platform.specs.Interrupts.{write_priorities as write_priorities_of, triggered};
+ghost use Rattle.platform.specs.Interrupts as spec;
 
 use crate::bits::is_bit;
 use nvic::Levels;
@@ -20,7 +13,7 @@ const IPR_BASE: u32 = 0xE000_E400;
 
 /// Reads ICTR.
 pub fn ictr<L: Levels>(levels: &L) -> u32
-    ensures { result ≡ ictr_of (L.content levels.now) }
+    ensures { result ≡ spec.ictr (L.content levels.now) }
 {
     u32::from(levels.interrupts().saturating_sub(1)) / 32
 }
@@ -28,7 +21,7 @@ pub fn ictr<L: Levels>(levels: &L) -> u32
 /// Returns the register that has a word at this address, if it is one of these.
 #[tactic(auto, unfolding(platform::specs::Interrupts::interrupts_at))]
 pub fn interrupts_at(word: u32) -> Option<InterruptRegister>
-    ensures { result ≡ interrupts_at_of word }
+    ensures { result ≡ spec.interrupts_at word }
 {
     match word / 32 * 32 {
         0xE000_E100 => Some(InterruptRegister::Iser),
@@ -42,14 +35,14 @@ pub fn interrupts_at(word: u32) -> Option<InterruptRegister>
 
 /// Returns the number of a word in its register, from 0 to 7.
 pub fn word_number(word: u32) -> u8
-    ensures { result ≡ word_number_of word }
+    ensures { result ≡ spec.word_number word }
 {
     (word / 4 % 8) as u8
 }
 
 /// Returns the exception of bit 0 in a word.
 fn first_exception(word: u8) -> u16
-    ensures value { result ≡ first_exception_of word }
+    ensures value { result ≡ spec.first_exception word }
     ensures small { result < 2 ^ 15 }
 {
     FIRST_INTERRUPT + 32 * u16::from(word)
@@ -57,7 +50,7 @@ fn first_exception(word: u8) -> u16
 
 /// Returns whether a register reads 1 at the bit of an exception.
 fn is_shown<L: Levels>(levels: &L, register: InterruptRegister, number: u16) -> bool
-    ensures { result ≡ is_shown_of (L.content levels.now) register number }
+    ensures { result ≡ spec.is_shown (L.content levels.now) register number }
 {
     match register {
         InterruptRegister::Iser | InterruptRegister::Icer => levels.is_enabled(number),
@@ -69,7 +62,7 @@ fn is_shown<L: Levels>(levels: &L, register: InterruptRegister, number: u16) -> 
 /// Reads a word of a register.
 #[tactic(auto, unfolding(platform::specs::Interrupts::read_interrupts))]
 pub fn read_interrupts<L: Levels>(levels: &L, register: InterruptRegister, word: u8) -> u32
-    ensures { result ≡ read_interrupts_of (L.content levels.now) register word }
+    ensures { result ≡ spec.read_interrupts (L.content levels.now) register word }
 {
     let first = first_exception(word);
     let mut value = 0;
@@ -85,7 +78,7 @@ pub fn read_interrupts<L: Levels>(levels: &L, register: InterruptRegister, word:
 /// Writes 1 to the bit of an exception.
 #[tactic(auto, unfolding(platform::specs::Interrupts::with_one))]
 fn write_one<L: Levels>(levels: &mut L, register: InterruptRegister, number: u16)
-    ensures { L.content levels.new ≡ with_one (L.content levels.old) register number }
+    ensures { L.content levels.new ≡ spec.with_one (L.content levels.old) register number }
 {
     match register {
         InterruptRegister::Iser => levels.enable(number),
@@ -107,7 +100,7 @@ fn write_bit<L: Levels>(
 )
     requires of_word { bit < 32 }
     requires small { first < 2 ^ 15 }
-    ensures { L.content levels.new ≡ with_bit_of (L.content levels.old) register first value bit }
+    ensures { L.content levels.new ≡ spec.with_bit (L.content levels.old) register first value bit }
 {
     if is_bit(value, u32::from(bit)) {
         write_one(levels, register, first + bit);
@@ -122,7 +115,7 @@ pub fn write_interrupts<L: Levels>(
     word: u8,
     value: u32,
 )
-    ensures { L.content levels.new ≡ write_interrupts_of (L.content levels.old) register word value }
+    ensures { L.content levels.new ≡ spec.write_interrupts (L.content levels.old) register word value }
 {
     let first = first_exception(word);
     #[tactic(auto, unfolding(platform::specs::Interrupts::with_bits_below))]
@@ -134,7 +127,7 @@ pub fn write_interrupts<L: Levels>(
 /// Returns the exception whose priority is the lowest byte of a word of IPR.
 #[tactic(auto, unfolding(platform::specs::Interrupts::interrupt_priority_at))]
 pub fn interrupt_priority_at(word: u32) -> Option<u8>
-    ensures { result ≡ interrupt_priority_at_of word }
+    ensures { result ≡ spec.interrupt_priority_at word }
 {
     let end = IPR_BASE + u32::from(MOST_INTERRUPTS);
     if IPR_BASE <= word && word < end {
@@ -147,7 +140,7 @@ pub fn interrupt_priority_at(word: u32) -> Option<u8>
 /// Reads the priority bytes of four exceptions, the first of them lowest.
 #[tactic(auto, unfolding(platform::specs::Interrupts::read_priorities))]
 pub fn read_priorities<L: Levels>(levels: &L, first: u8) -> u32
-    ensures { result ≡ read_priorities_of (L.content levels.now) first }
+    ensures { result ≡ spec.read_priorities (L.content levels.now) first }
 {
     let first = u16::from(first);
     u32::from(levels.priority(first))
@@ -160,7 +153,7 @@ pub fn read_priorities<L: Levels>(levels: &L, first: u8) -> u32
 pub fn write_priorities<L: Levels>(levels: &mut L, first: u16, value: u32, count: u32)
     requires small { first < 2 ^ 15 }
     requires few { count < 5 }
-    ensures { L.content levels.new ≡ write_priorities_of (L.content levels.old) first value count }
+    ensures { L.content levels.new ≡ spec.write_priorities (L.content levels.old) first value count }
 {
     #[tactic(auto, unfolding(platform::specs::Interrupts::write_priorities))]
     'each: for index in 0..count {
@@ -172,7 +165,7 @@ pub fn write_priorities<L: Levels>(levels: &mut L, first: u16, value: u32, count
 /// Writes STIR: the interrupt whose number is in bits 8:0 becomes pending.
 #[tactic(auto, unfolding(platform::specs::Interrupts::triggered))]
 pub fn trigger<L: Levels>(levels: &mut L, value: u32)
-    ensures { L.content levels.new ≡ triggered (L.content levels.old) value }
+    ensures { L.content levels.new ≡ spec.triggered (L.content levels.old) value }
 {
     levels.pend(FIRST_INTERRUPT + (value % 512) as u16);
 }

@@ -3,8 +3,8 @@
 
 ghost use Rattle.std.specs.Prelude.{◌≡◌, ◌⊎◌, ℕ, Bool, List};
 ghost use Rattle.clock.specs.Laws.{IsSortedFrom};
-ghost use Rattle.instruction_set.specs.declared.operands.ChangeProcessorState.{ChangeProcessorState};
-ghost use Rattle.instruction_set.specs.declared.operands.SpecialRegister.{SpecialRegister};
+ghost use Rattle.instruction_set.specs.declared.system.ChangeProcessorState.{ChangeProcessorState};
+ghost use Rattle.instruction_set.specs.declared.system.SpecialRegister.{SpecialRegister};
 ghost use Rattle.platform.specs.declared.access.Request.{Request};
 ghost use Rattle.platform.specs.declared.access.Rule.{Rule};
 ghost use Rattle.platform.specs.declared.script.ScriptedEvent.{ScriptedEvent as TheEvent};

@@ -1,21 +1,16 @@
 //! The special registers: what MRS reads, and what MSR and CPS write.
 
 ghost use Rattle.std.specs.Prelude.{◌≡◌};
-ghost use Rattle.platform.specs.Priorities.{kept as kept_of};
-ghost use Rattle.platform.specs.SpecialRegisters.{is_hidden as is_hidden_of, special_value as special_value_of};
-ghost use Rattle.platform.specs.SpecialRegisters.{read_special as read_special_of, is_open as is_open_of};
-ghost use Rattle.platform.specs.SpecialRegisters.{with_special, write_special as write_special_of, faultmask_written};
-ghost use Rattle.platform.specs.SpecialRegisters.{is_tighter as is_tighter_of, basepri_max_written};
-ghost use Rattle.platform.specs.SpecialRegisters.{with_mask as with_mask_of, write_mask as write_mask_of};
-ghost use Rattle.platform.specs.SpecialRegisters.{change_state as change_state_of};
+ghost use Rattle.platform.specs.Priorities as priorities;
+ghost use Rattle.platform.specs.SpecialRegisters as spec;
 
-use instruction_set::operands::{ChangeProcessorState, SpecialRegister};
+use instruction_set::system::{ChangeProcessorState, SpecialRegister};
 use nvic::{Levels, Masks, Priority};
 use regs::{Regs, flags_of};
 
 /// Returns whether unprivileged code reads a register as 0.
 fn is_hidden(special: SpecialRegister) -> bool
-    ensures { result ≡ is_hidden_of special }
+    ensures { result ≡ spec.is_hidden special }
 {
     matches!(
         special,
@@ -31,7 +26,7 @@ fn is_hidden(special: SpecialRegister) -> bool
 /// Reads a register as MRS does.
 #[tactic(auto, unfolding(platform::specs::SpecialRegisters::read_special))]
 pub fn read_special(regs: &Regs, masks: Masks, special: SpecialRegister) -> u32
-    ensures { result ≡ read_special_of regs.now masks special }
+    ensures { result ≡ spec.read_special regs.now masks special }
 {
     if is_hidden(special) && !regs.is_privileged() {
         return 0;
@@ -42,7 +37,7 @@ pub fn read_special(regs: &Regs, masks: Masks, special: SpecialRegister) -> u32
 /// Reads a register as privileged code does.
 #[tactic(auto, unfolding(platform::specs::SpecialRegisters::special_value))]
 fn special_value(regs: &Regs, masks: Masks, special: SpecialRegister) -> u32
-    ensures { result ≡ special_value_of regs.now masks special }
+    ensures { result ≡ spec.special_value regs.now masks special }
 {
     let exception = u32::from(regs.exception());
     match special {
@@ -61,7 +56,7 @@ fn special_value(regs: &Regs, masks: Masks, special: SpecialRegister) -> u32
 
 /// Returns whether unprivileged code writes a register: APSR, alone or with others.
 fn is_open(special: SpecialRegister) -> bool
-    ensures { result ≡ is_open_of special }
+    ensures { result ≡ spec.is_open special }
 {
     matches!(
         special,
@@ -75,7 +70,7 @@ fn is_open(special: SpecialRegister) -> bool
 /// Writes the core registers as MSR does.
 #[tactic(auto, unfolding(platform::specs::SpecialRegisters::write_special))]
 pub fn write_special(regs: &mut Regs, special: SpecialRegister, value: u32)
-    ensures { regs.new ≡ write_special_of regs.old special value }
+    ensures { regs.new ≡ spec.write_special regs.old special value }
 {
     if regs.is_privileged() || is_open(special) {
         set_special(regs, special, value);
@@ -85,7 +80,7 @@ pub fn write_special(regs: &mut Regs, special: SpecialRegister, value: u32)
 /// Writes the core registers as MSR of privileged code does.
 #[tactic(auto, unfolding(platform::specs::SpecialRegisters::with_special))]
 pub fn set_special(regs: &mut Regs, special: SpecialRegister, value: u32)
-    ensures { regs.new ≡ with_special regs.old special value }
+    ensures { regs.new ≡ spec.with_special regs.old special value }
 {
     match special {
         SpecialRegister::Apsr
@@ -108,7 +103,7 @@ pub fn set_special(regs: &mut Regs, special: SpecialRegister, value: u32)
 /// Writes the masks as MSR does, by code that is privileged or not.
 #[tactic(auto, unfolding(platform::specs::SpecialRegisters::write_mask))]
 pub fn write_mask<L: Levels>(levels: &mut L, privileged: bool, special: SpecialRegister, value: u32)
-    ensures { L.content levels.new ≡ write_mask_of privileged (L.content levels.old) special value }
+    ensures { L.content levels.new ≡ spec.write_mask privileged (L.content levels.old) special value }
 {
     if privileged {
         set_mask(levels, special, value);
@@ -118,7 +113,7 @@ pub fn write_mask<L: Levels>(levels: &mut L, privileged: bool, special: SpecialR
 /// Writes the masks as MSR of privileged code does.
 #[tactic(auto, unfolding(platform::specs::SpecialRegisters::with_mask))]
 pub fn set_mask<L: Levels>(levels: &mut L, special: SpecialRegister, value: u32)
-    ensures { L.content levels.new ≡ with_mask_of (L.content levels.old) special value }
+    ensures { L.content levels.new ≡ spec.with_mask (L.content levels.old) special value }
 {
     match special {
         SpecialRegister::Primask => levels.set_primask(value & 1 == 1),
@@ -141,7 +136,7 @@ pub fn set_mask<L: Levels>(levels: &mut L, special: SpecialRegister, value: u32)
 /// Writes FAULTMASK, which becomes 1 only at an execution priority above -1.
 #[tactic(auto, unfolding(platform::specs::SpecialRegisters::faultmask_written))]
 fn write_faultmask<L: Levels>(levels: &mut L, on: bool)
-    ensures { L.content levels.new ≡ faultmask_written (L.content levels.old) on }
+    ensures { L.content levels.new ≡ spec.faultmask_written (L.content levels.old) on }
 {
     if !on || Priority::HARD_FAULT.is_below(levels.execution_priority()) {
         levels.set_faultmask(on);
@@ -150,7 +145,7 @@ fn write_faultmask<L: Levels>(levels: &mut L, on: bool)
 
 /// Returns whether a write of `value` to BASEPRI_MAX sets BASEPRI, which is `basepri` now.
 fn is_tighter(basepri: u8, value: u8) -> bool
-    ensures { result ≡ is_tighter_of basepri value }
+    ensures { result ≡ spec.is_tighter basepri value }
 {
     value != 0 && (value < basepri || basepri == 0)
 }
@@ -158,7 +153,7 @@ fn is_tighter(basepri: u8, value: u8) -> bool
 /// Writes BASEPRI_MAX, which only makes BASEPRI mask more.
 #[tactic(auto, unfolding(platform::specs::SpecialRegisters::basepri_max_written))]
 fn write_basepri_max<L: Levels>(levels: &mut L, byte: u8)
-    ensures { L.content levels.new ≡ basepri_max_written (L.content levels.old) byte }
+    ensures { L.content levels.new ≡ spec.basepri_max_written (L.content levels.old) byte }
 {
     let value = kept(levels.priority_bits(), byte);
     if is_tighter(levels.masks().basepri, value) {
@@ -168,7 +163,7 @@ fn write_basepri_max<L: Levels>(levels: &mut L, byte: u8)
 
 /// Returns the top bits of a priority byte that a board keeps.
 fn kept(priority_bits: u8, byte: u8) -> u8
-    ensures { result ≡ kept_of priority_bits byte }
+    ensures { result ≡ priorities.kept priority_bits byte }
 {
     let dropped = 8u8.saturating_sub(priority_bits);
     (byte as u16 >> dropped << dropped) as u8
@@ -177,7 +172,7 @@ fn kept(priority_bits: u8, byte: u8) -> u8
 /// Changes the masks as CPS does, by code that is privileged or not.
 #[tactic(auto, unfolding(platform::specs::SpecialRegisters::change_state))]
 pub fn change_state<L: Levels>(levels: &mut L, privileged: bool, operands: &ChangeProcessorState)
-    ensures { L.content levels.new ≡ change_state_of privileged (L.content levels.old) operands.now }
+    ensures { L.content levels.new ≡ spec.change_state privileged (L.content levels.old) operands.now }
 {
     if !privileged {
         return;

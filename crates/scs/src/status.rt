@@ -1,9 +1,9 @@
 //! VTOR, SCR, CCR, CFSR, HFSR, MMFAR and BFAR.
 
 ghost use Rattle.std.specs.Prelude.{◌≡◌};
-ghost use Rattle.platform.specs.Status.{has_parts as has_parts_of, status_at as status_at_of, reset_status};
-ghost use Rattle.platform.specs.Status.{nonbasethrdena, usersetmpend, unalign_trp, div_0_trp, read_status};
-ghost use Rattle.platform.specs.Status.{write_status, write_scr, write_ccr, with_fault_bits, with_mmfar, with_bfar};
+ghost use Rattle.platform.specs.Status as spec;
+ghost use Rattle.platform.specs.Status.{reset_status, nonbasethrdena, usersetmpend, unalign_trp, div_0_trp};
+ghost use Rattle.platform.specs.Status.{read_status, write_status, write_scr, write_ccr};
 ghost use Rattle.scs.specs.Writes.{after_write, answered};
 
 use crate::bits::is_bit;
@@ -106,7 +106,7 @@ impl Status {
 
     /// Sets bits of CFSR and HFSR, as a fault does.
     pub fn set_fault_bits(&mut self, cfsr: u32, hfsr: u32)
-        ensures { self.new ≡ with_fault_bits self.old cfsr hfsr }
+        ensures { self.new ≡ spec.with_fault_bits self.old cfsr hfsr }
     {
         self.cfsr |= cfsr;
         self.hfsr |= hfsr;
@@ -114,14 +114,14 @@ impl Status {
 
     /// Sets MMFAR, as a MemManage fault does.
     pub fn set_mmfar(&mut self, address: u32)
-        ensures { self.new ≡ with_mmfar self.old address }
+        ensures { self.new ≡ spec.with_mmfar self.old address }
     {
         self.mmfar = address;
     }
 
     /// Sets BFAR, as a BusFault does.
     pub fn set_bfar(&mut self, address: u32)
-        ensures { self.new ≡ with_bfar self.old address }
+        ensures { self.new ≡ spec.with_bfar self.old address }
     {
         self.bfar = address;
     }
@@ -204,7 +204,7 @@ impl Status {
 /// Returns the register at the address of a word, if it is one of these.
 #[tactic(auto, unfolding(platform::specs::Status::status_at))]
 pub fn status_at(word: u32) -> Option<StatusRegister>
-    ensures { result ≡ status_at_of word }
+    ensures { result ≡ spec.status_at word }
 {
     match word {
         0xE000_ED08 => Some(StatusRegister::Vtor),
@@ -220,7 +220,7 @@ pub fn status_at(word: u32) -> Option<StatusRegister>
 
 /// Returns whether a register takes bytes and halfwords: CFSR, which is three in one word.
 pub fn has_parts(register: StatusRegister) -> bool
-    ensures { result ≡ has_parts_of register }
+    ensures { result ≡ spec.has_parts register }
 {
     matches!(register, StatusRegister::Cfsr)
 }

@@ -8,8 +8,9 @@ ghost use Rattle.platform.specs.Outcomes.{IsOf, LeavesUnlessDone};
 ghost use Rattle.platform.specs.System.{reset_system, after_tick, deactivated, after_read, register_written};
 ghost use Rattle.platform.specs.System.{register_access, system_access, with_nvic, mpu_written};
 ghost use Rattle.platform.specs.System as spec;
-ghost use Rattle.platform.specs.Interrupts.{write_priorities as write_priorities_of};
-ghost use Rattle.platform.specs.Regions.{is_on, shown, write as write_mpu_of};
+ghost use Rattle.platform.specs.Interrupts as nvic;
+ghost use Rattle.platform.specs.Regions as mpu;
+ghost use Rattle.platform.specs.Regions.{is_on, shown};
 ghost use Rattle.platform.specs.Priorities.{is_below_zero, with_pending, with_active, with_faultmask};
 ghost use Rattle.platform.specs.Rules.{decision_of, is_off_below_zero};
 ghost use Rattle.platform.specs.SpecialRegisters.{with_special, with_mask};
@@ -24,7 +25,7 @@ use crate::special;
 use crate::status::Status;
 use crate::systick::{read_systick, write_systick};
 use clock::{Clock, DueTicks, ScriptedEvent};
-use instruction_set::operands::{ChangeProcessorState, SpecialRegister};
+use instruction_set::system::{ChangeProcessorState, SpecialRegister};
 use mpu::{Decider, MpuRegister, MpuRegs, stop_of, uses_regions};
 use nvic::{Levels, Masks};
 use platform::access::{Access, Decision, Performed, Request, Rule};
@@ -414,7 +415,7 @@ impl<D: Decider, L: Levels, U: DueTicks> System<D, L, U> {
     /// Writes priority bytes, as many as the access moves.
     fn write_priorities(&mut self, request: &Request, first: u8)
         ensures { self.new ≡ with_nvic self.old
-            (write_priorities_of self.old.nvic
+            (nvic.write_priorities self.old.nvic
             (first + spec.first_byte request.now.access.size request.now.access.address) request.now.value
             (bytes_in request.now.access.size)) }
     {
@@ -430,8 +431,8 @@ impl<D: Decider, L: Levels, U: DueTicks> System<D, L, U> {
     /// Writes a register of the MPU, and reloads the decider.
     fn write_mpu(&mut self, register: MpuRegister, value: u32) -> Result<(), Stop>
         ensures system { self.new ≡ after_write self.old
-            (mpu_written self.old (write_mpu_of self.old.mpu register value)) }
-        ensures answer { result ≡ answered (mpu_written self.old (write_mpu_of self.old.mpu register value)) }
+            (mpu_written self.old (mpu.write self.old.mpu register value)) }
+        ensures answer { result ≡ answered (mpu_written self.old (mpu.write self.old.mpu register value)) }
     {
         match self.mpu.write_reg(register, value) {
             Ok(()) => {

@@ -2,8 +2,7 @@
 
 ghost use Rattle.std.specs.Prelude.{◌≡◌};
 ghost use Rattle.clock.specs.DueTicks.{IsRight};
-ghost use Rattle.platform.specs.SysTickRegisters.{systick_at as systick_at_of, read_systick as read_systick_of};
-ghost use Rattle.platform.specs.SysTickRegisters.{after_systick_read, write_systick as write_systick_of};
+ghost use Rattle.platform.specs.SysTickRegisters as spec;
 
 use clock::{Clock, DueTicks};
 use platform::system::SysTickRegister;
@@ -11,7 +10,7 @@ use platform::system::SysTickRegister;
 /// Returns the register at the address of a word, if it is one of these.
 #[tactic(auto, unfolding(platform::specs::SysTickRegisters::systick_at))]
 pub fn systick_at(word: u32) -> Option<SysTickRegister>
-    ensures { result ≡ systick_at_of word }
+    ensures { result ≡ spec.systick_at word }
 {
     match word {
         0xE000_E010 => Some(SysTickRegister::Csr),
@@ -22,12 +21,12 @@ pub fn systick_at(word: u32) -> Option<SysTickRegister>
 }
 
 /// Reads a register; a read of SYST_CSR clears COUNTFLAG.
-#[tactic(auto, unfolding(platform::specs::SysTickRegisters::read_systick, platform::specs::SysTickRegisters::after_systick_read))]
+#[tactic(auto, unfolding(crate::proofs::SysTickReads::value_and_effect))]
 pub fn read_systick<U: DueTicks>(clock: &mut Clock<U>, register: SysTickRegister) -> u32
     requires { IsRight clock.old }
-    ensures value { result ≡ read_systick_of clock.old.time.systick register }
+    ensures value { result ≡ spec.read_systick clock.old.time.systick register }
     ensures time { clock.new.time
-        ≡ record clock.old.time { systick = after_systick_read clock.old.time.systick register } }
+        ≡ record clock.old.time { systick = spec.after_systick_read clock.old.time.systick register } }
     ensures right { IsRight clock.new }
 {
     match register {
@@ -41,7 +40,7 @@ pub fn read_systick<U: DueTicks>(clock: &mut Clock<U>, register: SysTickRegister
 #[tactic(auto, unfolding(platform::specs::SysTickRegisters::write_systick))]
 pub fn write_systick<U: DueTicks>(clock: &mut Clock<U>, register: SysTickRegister, value: u32)
     ensures time { clock.new.time
-        ≡ record clock.old.time { systick = write_systick_of clock.old.time.systick register value } }
+        ≡ record clock.old.time { systick = spec.write_systick clock.old.time.systick register value } }
     ensures right { IsRight clock.new }
 {
     match register {

@@ -10,28 +10,28 @@
 use Rattle.std.proofs.Common.{ℕ, Bool, List, [], ◌∷◌, drop, slice_index, arith, ◌≡◌, ◌^◌, ◌<◌, true, ◌==◌, slice_set}
 use Rattle.std.proofs.Common.{Option}
 use Rattle.std.proofs.lemmas.Bool.{cond_both, and_parts}
-use Rattle.instruction_set.specs.declared.instruction.Branch.{Branch}
-use Rattle.instruction_set.specs.declared.instruction.Branch.TheVariants as branch
+use Rattle.instruction_set.specs.declared.branch.Branch.{Branch}
+use Rattle.instruction_set.specs.declared.branch.Branch.TheVariants as branch
 use Rattle.instruction_set.specs.declared.instruction.CodedInstruction.{CodedInstruction}
-use Rattle.instruction_set.specs.declared.instruction.DataProcessing.{DataProcessing}
-use Rattle.instruction_set.specs.declared.instruction.DataProcessing.TheVariants as data_processing
-use Rattle.instruction_set.specs.declared.instruction.Exclusive.{Exclusive}
-use Rattle.instruction_set.specs.declared.instruction.Exclusive.TheVariants as exclusive
-use Rattle.instruction_set.specs.declared.instruction.Hint.{Hint}
-use Rattle.instruction_set.specs.declared.instruction.Hint.TheVariants as hint
+use Rattle.instruction_set.specs.declared.data_processing.DataProcessing.{DataProcessing}
+use Rattle.instruction_set.specs.declared.data_processing.DataProcessing.TheVariants as data_processing
+use Rattle.instruction_set.specs.declared.load_store.Exclusive.{Exclusive}
+use Rattle.instruction_set.specs.declared.load_store.Exclusive.TheVariants as exclusive
+use Rattle.instruction_set.specs.declared.system.Hint.{Hint}
+use Rattle.instruction_set.specs.declared.system.Hint.TheVariants as hint
 use Rattle.instruction_set.specs.declared.instruction.Instruction.{Instruction}
 use Rattle.instruction_set.specs.declared.instruction.Instruction.TheVariants as family
 use Rattle.instruction_set.specs.declared.instruction.InstructionLength.{InstructionLength}
-use Rattle.instruction_set.specs.declared.instruction.LoadStore.{LoadStore}
-use Rattle.instruction_set.specs.declared.instruction.LoadStore.TheVariants as load_store
-use Rattle.instruction_set.specs.declared.instruction.LoadStoreMultiple.{LoadStoreMultiple}
-use Rattle.instruction_set.specs.declared.instruction.LoadStoreMultiple.TheVariants as multiple
-use Rattle.instruction_set.specs.declared.instruction.System.{System}
-use Rattle.instruction_set.specs.declared.instruction.System.TheVariants as system
-use Rattle.instruction_set.specs.declared.operands.FlagSetting.{FlagSetting}
-use Rattle.instruction_set.specs.declared.operands.ImmediateAddress.{ImmediateAddress}
-use Rattle.instruction_set.specs.declared.operands.ListOrder.{ListOrder}
-use Rattle.instruction_set.specs.declared.operands.LoadMultiple.{LoadMultiple}
+use Rattle.instruction_set.specs.declared.load_store.LoadStore.{LoadStore}
+use Rattle.instruction_set.specs.declared.load_store.LoadStore.TheVariants as load_store
+use Rattle.instruction_set.specs.declared.load_store.LoadStoreMultiple.{LoadStoreMultiple}
+use Rattle.instruction_set.specs.declared.load_store.LoadStoreMultiple.TheVariants as multiple
+use Rattle.instruction_set.specs.declared.system.System.{System}
+use Rattle.instruction_set.specs.declared.system.System.TheVariants as system
+use Rattle.instruction_set.specs.declared.data_processing.FlagSetting.{FlagSetting}
+use Rattle.instruction_set.specs.declared.load_store.ImmediateAddress.{ImmediateAddress}
+use Rattle.instruction_set.specs.declared.load_store.ListOrder.{ListOrder}
+use Rattle.instruction_set.specs.declared.load_store.LoadMultiple.{LoadMultiple}
 use Rattle.instruction_set.specs.declared.registers.Flags.{Flags}
 use Rattle.instruction_set.specs.declared.registers.Marked.{Marked}
 use Rattle.instruction_set.specs.Arithmetic.{condition_holds}
@@ -40,7 +40,7 @@ use Rattle.instruction_set.specs.Registers.{Registers, register, with_register, 
 use Rattle.instruction_set.specs.Registers.{stack_pointer, with_sp, code_address, with_pc}
 use Rattle.instruction_set.specs.RowOperands.{writes_back}
 use Rattle.instruction_set.specs.Sizes.{instruction_bytes}
-use Rattle.instruction_set.specs.TwoOperands.{sets_flags, written}
+use Rattle.instruction_set.specs.Results.{sets_flags, written}
 use Rattle.instruction_set.specs.Words.{is_bit, low_word, word_sum}
 use Rattle.reference.specs.declared.ending.Ending.{Ending}
 use Rattle.reference.specs.declared.ending.Ending.TheVariants as ending

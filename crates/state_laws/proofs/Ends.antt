@@ -10,7 +10,7 @@ use Rattle.std.proofs.Common.{Option, Some, None, Result, Ok, Err, refl, sym, su
 use Rattle.std.proofs.lemmas.Bool.{cond_both}
 use Rattle.std.proofs.lemmas.Bool.Decides.{nat_tests}
 use Rattle.instruction_set.specs.declared.instruction.CodedInstruction.{CodedInstruction}
-use Rattle.instruction_set.specs.declared.operands.SpecialRegister.{SpecialRegister}
+use Rattle.instruction_set.specs.declared.system.SpecialRegister.{SpecialRegister}
 use Rattle.instruction_set.specs.Registers.{Registers, is_handler}
 use Rattle.instruction_set.specs.RowOperands.{special_of}
 use Rattle.mpu.proofs.Writes.{sound_at_reset}
@@ -31,7 +31,8 @@ use Rattle.platform.specs.SystemInvariant.{IsBoard, SystemInvariant}
 use Rattle.platform.specs.Map.{is_in_ppb}
 use Rattle.platform.specs.Memory.{bytes_of}
 use Rattle.reference.specs.Places.{is_word_aligned, is_there, special_taken, register_taken, store_of, taken, place}
-use Rattle.reference.specs.Start.{are_placed, start}
+use Rattle.platform.specs.Images.{are_placed}
+use Rattle.reference.specs.Start.{start}
 use Rattle.platform.specs.Boards.{blank}
 use Rattle.reference.specs.State.{Bus, State, ticked}
 use Rattle.reference.specs.Step.{step}

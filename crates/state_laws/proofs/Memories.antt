@@ -14,7 +14,7 @@ use Rattle.platform.specs.Map.{is_in_window}
 use Rattle.platform.specs.Memory.{Memory, is_in_flash, is_in_ram, bytes_of, overwritten}
 use Rattle.platform.specs.Outcomes.{Outcome}
 use Rattle.platform.specs.Space.{written_to, space_access}
-use Rattle.reference.specs.Start.{image_loaded}
+use Rattle.platform.specs.Images.{image_loaded}
 use Rattle.platform.specs.Boards.{blank}
 use Rattle.space.proofs.Blocks.{length-with_bytes}
 

@@ -5,10 +5,10 @@ use Rattle.std.proofs.lemmas.Bool.{cond_both}
 use Rattle.std.proofs.lemmas.List.{length-set, length-replicate}
 use Rattle.instruction_set.specs.declared.instruction.InstructionLength.{InstructionLength}
 use Rattle.instruction_set.specs.declared.instruction.InstructionLength.TheVariants.{Short, Long}
-use Rattle.instruction_set.specs.declared.operands.SpecialRegister.{SpecialRegister}
-use Rattle.instruction_set.specs.declared.operands.SpecialRegister.TheVariants.{Apsr, Iapsr, Eapsr, Xpsr, Ipsr, Epsr}
-use Rattle.instruction_set.specs.declared.operands.SpecialRegister.TheVariants.{Iepsr, Msp, Psp, Primask, Basepri}
-use Rattle.instruction_set.specs.declared.operands.SpecialRegister.TheVariants.{BasepriMax, Faultmask, Control}
+use Rattle.instruction_set.specs.declared.system.SpecialRegister.{SpecialRegister}
+use Rattle.instruction_set.specs.declared.system.SpecialRegister.TheVariants.{Apsr, Iapsr, Eapsr, Xpsr, Ipsr, Epsr}
+use Rattle.instruction_set.specs.declared.system.SpecialRegister.TheVariants.{Iepsr, Msp, Psp, Primask, Basepri}
+use Rattle.instruction_set.specs.declared.system.SpecialRegister.TheVariants.{BasepriMax, Faultmask, Control}
 use Rattle.instruction_set.specs.declared.registers.Flags.{Flags}
 use Rattle.instruction_set.specs.Arithmetic.{in_it_block, it_advance}
 use Rattle.instruction_set.specs.Registers.{Registers, is_privileged, stack_pointer, flags_of, reset_registers}

@@ -1,5 +1,5 @@
 -- Entry and return: the frame, the vector, and the points of a return.
-use Rattle.std.proofs.Common.{◌≡◌, inl, ℕ, Bool, true, false, not, List, [], ◌∷◌, ◌++◌, Option, Some, None, refl}
+use Rattle.std.proofs.Common.{◌≡◌, ℕ, Bool, true, false, not, List, [], ◌∷◌, ◌++◌, Option, Some, None, refl}
 use Rattle.std.proofs.lemmas.Bool.{cond_both}
 use Rattle.instruction_set.specs.Frames.{has_reserved_ones, popped_pc}
 use Rattle.instruction_set.specs.Words.{is_bit}
@@ -20,17 +20,21 @@ use Rattle.platform.specs.System.{exception_ended}
 use Rattle.platform.specs.Memory.{Memory}
 use Rattle.reference.specs.State.{State, with_bus, with_system}
 use Rattle.step_laws.specs.AccessLaw.{OnlyCovered}
-use Rattle.step_laws.proofs.Lines.{unrefused-nil, unrefused-cons, unrefused-append, EndIn, failure_in, ends-append}
-use Rattle.step_laws.proofs.Lines.{covered-append, covered-more}
+use Rattle.step_laws.proofs.Lines.{unrefused-append, EndIn, failure_in, ends-append, covered-append}
 use Rattle.step_laws.proofs.Bytes.{perform_writes, shown_ends, ServedWell, served_well}
 use Rattle.step_laws.proofs.Faults.{IsLawful, MayGoOn, at_first, goes_on_lawful, failed_unrefused, failed_lawful}
-use Rattle.step_laws.proofs.Faults.{line_added, vector_refused_lawful}
+use Rattle.step_laws.proofs.Faults.{ends, line_added, vector_refused_lawful}
 
 -- ---- entry
 
 stacked_lawful : (old : Memory) (s : State) (all : ListResult) (end : Option Failure) → all.failure ≡ end →
     ServedWell old all → IsLawful old (stacked s all end)
-stacked_lawful old s all None e well = record { one_refusal = inl (rw e at well.ends); only_covered = well.only }
+stacked_lawful old s all None e well =
+    let ready : MayGoOn old (with_bus s all.bus) all.events = record {
+      unrefused = rw e at well.ends;
+      only = well.only;
+    } in
+    search ends
 stacked_lawful old s all (Some why) e well =
     failed_lawful old (with_bus s all.bus) all.events why (rw e at well.ends) well.only
 
@@ -45,14 +49,12 @@ entry_lawful s =
 vector_lawful : (old : Memory) (s : State) (x e : ℕ) (events : List Event) (q : Request) (p : Performed) →
     q.access.kind ≡ Vector → EndIn (failure_in (value_of q p)) events → OnlyCovered old s.bus.memory events →
     IsLawful old (vector_taken s events x e (value_of q p))
-vector_lawful old s x e events q (performed.Done access) kind end only = record {
-  one_refusal = inl (unrefused-append events _ end (unrefused-cons _ [] refl unrefused-nil));
-  only_covered = covered-more old s.bus.memory events _ only;
-}
+vector_lawful old s x e events q (performed.Done access) kind end only =
+    let ready : MayGoOn old s events = record { unrefused = end; only = only } in search ends
 vector_lawful old s x e events q (performed.Denied rule cause) kind end only =
     vector_refused_lawful old s events x q.access cause kind end only
 vector_lawful old s x e events q (performed.Stop why) kind end only =
-    record { one_refusal = inl end; only_covered = only }
+    let ready : MayGoOn old s events = record { unrefused = end; only = only } in search ends
 
 taken_lawful : (s : State) (e x : ℕ) → IsLawful s.bus.memory (exception_taken s e x)
 unfolding exception_taken
@@ -83,8 +85,7 @@ unstacked_lawful old s events e frame ready =
     (λ is. failed_unrefused old (with_entry s e) events (failure.Usage InvalidReturn)
     (record { unrefused = ready.unrefused; only = ready.only }))
     (λ is. cond_both (is_bit (popped_pc frame) 0) _ _ (IsLawful old)
-    (λ odd. record { one_refusal = inl ready.unrefused; only_covered = ready.only })
-    (λ even. record { one_refusal = inl ready.unrefused; only_covered = ready.only }))
+    (λ odd. search ends) (λ even. search ends))
 
 read_lawful : (old : Memory) (s : State) (events : List Event) (e : ℕ) (all : ListResult) (end : Option Failure) →
     all.failure ≡ end → MayGoOn old s events → ServedWell s.bus.memory all →
@@ -108,7 +109,7 @@ popped_lawful old s events e ready =
 
 chained_lawful : (old : Memory) (s : State) (events : List Event) (e : ℕ) (next : Option ℕ) →
     MayGoOn old s events → IsLawful old (chained s events e next)
-chained_lawful old s events e (Some x) ready = record { one_refusal = inl ready.unrefused; only_covered = ready.only }
+chained_lawful old s events e (Some x) ready = search ends
 chained_lawful old s events e None ready = popped_lawful old s events e ready
 
 returned_lawful : (old : Memory) (s : State) (events : List Event) (e : ℕ) (allowed : Bool) →
@@ -123,8 +124,8 @@ pub return_lawful : (old : Memory) (s : State) (before : List Event) (e : ℕ) �
     IsLawful old (exception_return s before e)
 unfolding exception_return
 return_lawful old s before e ready =
-    let more = line_added old s before (return_line s e) refl ready in
+    let more = line_added old s.bus.memory before (return_line s e) refl ready in
     cond_both (has_reserved_ones e) _ _ (IsLawful old)
     (λ ones. returned_lawful old (with_system s (exception_ended s.bus.system s.registers.exception))
     (before ++ return_line s e ∷ []) e (is_allowed s e) (record { unrefused = more.unrefused; only = more.only }))
-    (λ other. record { one_refusal = inl more.unrefused; only_covered = more.only })
+    (λ other. search ends)

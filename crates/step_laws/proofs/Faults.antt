@@ -46,10 +46,14 @@ pub record IsLawful (old : Memory) (step : Stepped) : Type 0 where
   pub one_refusal : OneRefusal step.events
   pub only_covered : OnlyCovered old step.state.bus.memory step.events
 
--- a phase may go on with these lines
-pub record MayGoOn (old : Memory) (s : State) (events : List Event) : Type 0 where
+-- lines without a refusal, and memory differs from the old one only where they say
+pub record AreOpen (old new : Memory) (events : List Event) : Type 0 where
   pub unrefused : NoneRefused events
-  pub only : OnlyCovered old s.bus.memory events
+  pub only : OnlyCovered old new events
+
+-- a phase may go on with these lines
+abbrev pub MayGoOn : Memory → State → List Event → Type 0
+MayGoOn old s events = AreOpen old s.bus.memory events
 
 -- the first phase may
 pub at_first : (old : Memory) (s : State) → s.bus.memory ≡ old → MayGoOn old s []
@@ -61,14 +65,23 @@ unrefused_other : (what : EventKind) → access_of what ≡ None → is_refused 
 unrefused_other what other = rw other refl
 
 -- a line that is of no access may be added
-pub line_added : (old : Memory) (s : State) (events : List Event) (e : Event) → access_of e.what ≡ None →
-    MayGoOn old s events → MayGoOn old s (events ++ e ∷ [])
-line_added old s events e other ready = record {
+pub line_added : (old new : Memory) (events : List Event) (e : Event) → access_of e.what ≡ None →
+    AreOpen old new events → AreOpen old new (events ++ e ∷ [])
+line_added old new events e other ready = record {
   unrefused =
       unrefused-append events (e ∷ []) ready.unrefused
       (unrefused-cons e [] (unrefused_other e.what other) unrefused-nil);
-  only = covered-more old s.bus.memory events (e ∷ []) ready.only;
+  only = covered-more old new events (e ∷ []) ready.only;
 }
+
+-- a step that ends here
+pub goes_on_lawful : (old : Memory) (s : State) (events : List Event) → MayGoOn old s events →
+    IsLawful old (record { state = s; events = events })
+goes_on_lawful old s events ready = record { one_refusal = inl ready.unrefused; only_covered = ready.only }
+
+-- a step may end without a failure, with lines of its own that are of no access: so a proof of such an end, `search
+-- ends`, names none of its lines
+pub ruleset ends = (goes_on_lawful, line_added)
 
 -- ---- the line of a fault
 
@@ -224,19 +237,13 @@ faulted_refused : (old : Memory) (s : State) (events : List Event) (access : Acc
 unfolding faulted
 faulted_refused old s events access cause last only = escalated_refused old s events access cause _ last only
 
--- a step that ends here
-pub goes_on_lawful : (old : Memory) (s : State) (events : List Event) → MayGoOn old s events →
-    IsLawful old (record { state = s; events = events })
-goes_on_lawful old s events ready = record { one_refusal = inl ready.unrefused; only_covered = ready.only }
-
 -- a failure that isn't of an access
 pub failed_unrefused : (old : Memory) (s : State) (events : List Event) (why : Failure) → MayGoOn old s events →
     IsLawful old (failed s events why)
 failed_unrefused old s events (failure.Refused access cause) ready =
     faulted_unrefused old s events (fault_of access cause) ready
 failed_unrefused old s events (failure.Usage fault) ready = faulted_unrefused old s events (usage_fault_of fault) ready
-failed_unrefused old s events (failure.Stop why) ready =
-    record { one_refusal = inl ready.unrefused; only_covered = ready.only }
+failed_unrefused old s events (failure.Stop why) ready = search ends
 
 -- a failure of an access
 pub failed_lawful : (old : Memory) (s : State) (events : List Event) (why : Failure) → EndIn (Some why) events →
@@ -281,7 +288,7 @@ vector_refused_lawful old s events x access cause kind last only =
 -- SVC
 called_lawful : (old : Memory) (s : State) (events : List Event) (e : Escalation) → MayGoOn old s events →
     IsLawful old (supervisor_called_by s events e)
-called_lawful old s events Itself ready = record { one_refusal = inl ready.unrefused; only_covered = ready.only }
+called_lawful old s events Itself ready = search ends
 called_lawful old s events HardFault ready = escalated_unrefused old s events SV_CALL HardFault ready
 called_lawful old s events Lockup ready = escalated_unrefused old s events SV_CALL Lockup ready
 

@@ -34,24 +34,20 @@ use Rattle.step_laws.proofs.Lines.{unrefused-nil, unrefused-append, EndIn, failu
 use Rattle.step_laws.proofs.Lines.{covered-append, covered-same}
 use Rattle.step_laws.proofs.Bytes.{perform_writes, shown_ends, ServedWell, served_well}
 use Rattle.step_laws.proofs.Faults.{IsLawful, MayGoOn, at_first, goes_on_lawful, failed_unrefused, failed_lawful}
-use Rattle.step_laws.proofs.Faults.{supervisor_lawful}
+use Rattle.step_laws.proofs.Faults.{ends, supervisor_lawful}
 use Rattle.step_laws.proofs.Exceptions.{entry_lawful, vector_step_lawful, return_lawful}
 
 -- ---- the end of an instruction
 
 ended_lawful : (old : Memory) (s : State) (events : List Event) (end : Ending) → MayGoOn old s events →
     IsLawful old (ended s events end)
-ended_lawful old s events ending.Next ready = goes_on_lawful old s events ready
-ended_lawful old s events (ending.ReadSpecial o) ready =
-    record { one_refusal = inl ready.unrefused; only_covered = ready.only }
-ended_lawful old s events (ending.WriteSpecial special value) ready =
-    record { one_refusal = inl ready.unrefused; only_covered = ready.only }
-ended_lawful old s events (ending.ChangeState o) ready =
-    record { one_refusal = inl ready.unrefused; only_covered = ready.only }
-ended_lawful old s events ending.Sleep ready = record { one_refusal = inl ready.unrefused; only_covered = ready.only }
+ended_lawful old s events ending.Next ready = search ends
+ended_lawful old s events (ending.ReadSpecial o) ready = search ends
+ended_lawful old s events (ending.WriteSpecial special value) ready = search ends
+ended_lawful old s events (ending.ChangeState o) ready = search ends
+ended_lawful old s events ending.Sleep ready = search ends
 ended_lawful old s events (ending.SupervisorCall number) ready = supervisor_lawful old s events ready
-ended_lawful old s events (ending.Breakpoint number) ready =
-    record { one_refusal = inl ready.unrefused; only_covered = ready.only }
+ended_lawful old s events (ending.Breakpoint number) ready = search ends
 ended_lawful old s events (ending.ExceptionReturn value) ready = return_lawful old s events value ready
 
 finished_lawful : (old : Memory) (s : State) (events : List Event) (f : Finished) → MayGoOn old s events →
@@ -104,8 +100,7 @@ executed_lawful old s events length decoded.Undefined ready =
     meaningless_lawful old s events length UndefinedInstruction ready
 executed_lawful old s events length decoded.NoCoprocessor ready =
     meaningless_lawful old s events length NoCoprocessor ready
-executed_lawful old s events length (decoded.Unpredictable place why) ready =
-    record { one_refusal = inl ready.unrefused; only_covered = ready.only }
+executed_lawful old s events length (decoded.Unpredictable place why) ready = search ends
 
 -- ---- the fetches
 

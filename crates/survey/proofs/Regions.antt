@@ -1,6 +1,12 @@
 -- A step leaves the registers of the MPU as they are, unless one of its events is a write to the Private Peripheral
--- Bus that was carried out: an access, a list of them, a failure, an entry, a return, and the phases of a step from the
--- last one up.
+-- Bus that was carried out.
+--
+-- - `Stays` is the claim for a step, and `StaysSoFar` for a phase with the events before it: without such a write among
+--   the events, the registers are the old ones. `none_first` and `none_later` say so of the parts of a list of events.
+-- - One access: `register_stays` splits on what a write to a register changes, and `access_stays` takes it to the bus.
+-- - The lemmas then follow `reference` from the last phase up: a list of accesses, failures, entry, return, an
+--   instruction, the fetches. `cond_both` takes both branches of a test.
+-- - `regions_stay` is the law: a step is its tick, which leaves the registers, and a phase.
 use Rattle.std.proofs.Common.{◌≡◌, ℕ, nat_le, Bool, true, false, not, ◌||◌, ◌==◌, List, [], ◌∷◌, ◌++◌, ◌*◌, ◌/◌}
 use Rattle.std.proofs.Common.{Option, Some, None, Result, Ok, Err, refl, sym, ◌∙◌}
 use Rattle.std.proofs.lemmas.Bool.{cond_both, or_parts}
@@ -156,18 +162,27 @@ list_stays exception tick b (q ∷ qs) none =
 
 -- ---- failures
 
+-- registers that are as they were, unless one of these events is such a write
+record HaveStayed (old new : Mpu) (events : List Event) : Type 0 where
+  stayed : some_writes_system events ≡ false → new ≡ old
+
 -- what holds of a step, and of a phase with its events so far, since these were the registers
 abbrev Stays : Mpu → Stepped → Type 0
-Stays old r = some_writes_system r.events ≡ false → r.state.bus.system.mpu ≡ old
+Stays old r = HaveStayed old r.state.bus.system.mpu r.events
 
 abbrev StaysSoFar : Mpu → State → List Event → Type 0
-StaysSoFar old s events = some_writes_system events ≡ false → s.bus.system.mpu ≡ old
+StaysSoFar old s events = HaveStayed old s.bus.system.mpu events
+
+-- more events: so a proof of the end of a step, `search more_stay`, names none of its lines
+more_stay : (old new : Mpu) (events more : List Event) → HaveStayed old new events
+    → HaveStayed old new (events ++ more)
+more_stay old new events more h = record { stayed = λ none. h.stayed (none_first events more none) }
 
 escalated_stays : (old : Mpu) (s : State) (events : List Event) (x : ℕ) (e : Escalation) → StaysSoFar old s events
     → Stays old (escalated s events x e)
-escalated_stays old s events x Itself h none = h (none_first events _ none)
-escalated_stays old s events x HardFault h none = h (none_first events _ none)
-escalated_stays old s events x Lockup h none = h (none_first events _ none)
+escalated_stays old s events x Itself h = search more_stay
+escalated_stays old s events x HardFault h = search more_stay
+escalated_stays old s events x Lockup h = search more_stay
 
 faulted_stays : (old : Mpu) (s : State) (events : List Event) (f : FaultEffect) → StaysSoFar old s events
     → Stays old (faulted s events f)
@@ -178,11 +193,11 @@ failed_stays : (old : Mpu) (s : State) (events : List Event) (why : Failure) →
     → Stays old (failed s events why)
 failed_stays old s events (failure.Refused access cause) h = faulted_stays old s events (fault_of access cause) h
 failed_stays old s events (failure.Usage fault) h = faulted_stays old s events (usage_fault_of fault) h
-failed_stays old s events (failure.Stop why) h = h
+failed_stays old s events (failure.Stop why) h = search more_stay
 
 called_stays : (old : Mpu) (s : State) (events : List Event) (e : Escalation) → StaysSoFar old s events
     → Stays old (supervisor_called_by s events e)
-called_stays old s events Itself h = h
+called_stays old s events Itself h = search more_stay
 called_stays old s events HardFault h = escalated_stays old s events SV_CALL HardFault h
 called_stays old s events Lockup h = escalated_stays old s events SV_CALL Lockup h
 
@@ -195,8 +210,9 @@ supervisor_stays old s events h = called_stays old s events _ h
 
 stacked_stays : (old : Mpu) (s : State) (all : ListResult) (end : Option Failure) → ListStays old all
     → Stays old (stacked s all end)
-stacked_stays old s all None h = h
-stacked_stays old s all (Some why) h = failed_stays old (with_bus s all.bus) all.events why h
+stacked_stays old s all None h =
+    let ready : StaysSoFar old (with_bus s all.bus) all.events = record { stayed = h } in search more_stay
+stacked_stays old s all (Some why) h = failed_stays old (with_bus s all.bus) all.events why (record { stayed = h })
 
 entry_stays : (s : State) → Stays s.bus.system.mpu (begin_entry s)
 unfolding begin_entry
@@ -207,12 +223,11 @@ entry_stays s =
 
 vector_stays : (old : Mpu) (s : State) (events : List Event) (x e : ℕ) (answer : Result ℕ Failure)
     → StaysSoFar old s events → Stays old (vector_taken s events x e answer)
-vector_stays old s events x e (Ok vector) h = λ none. h (none_first events _ none)
+vector_stays old s events x e (Ok vector) h = search more_stay
 vector_stays old s events x e (Err (failure.Refused access cause)) h =
-    cond_both (is_fixed x) _ _ (Stays old) (λ fixed none. h (none_first events _ none))
-    (λ other none. h (none_first events _ none))
+    cond_both (is_fixed x) _ _ (Stays old) (λ fixed. search more_stay) (λ other. search more_stay)
 vector_stays old s events x e (Err (failure.Usage fault)) h = failed_stays old s events (failure.Usage fault) h
-vector_stays old s events x e (Err (failure.Stop why)) h = h
+vector_stays old s events x e (Err (failure.Stop why)) h = search more_stay
 
 taken_stays : (s : State) (e x : ℕ) → Stays s.bus.system.mpu (exception_taken s e x)
 unfolding exception_taken
@@ -220,10 +235,11 @@ taken_stays s e x =
     let q = vector_read s x in
     let answer = perform s.registers.exception s.bus q in
     vector_stays s.bus.system.mpu (with_bus s answer.after) (access_lines s.bus.system.time.ticks q answer.performed)
-    x e (value_of q answer.performed) (access_stays s.registers.exception s.bus.system.time.ticks s.bus q)
+    x e (value_of q answer.performed)
+    (record { stayed = access_stays s.registers.exception s.bus.system.time.ticks s.bus q })
 
 any_stays : (s : State) (e : ℕ) (next : Option ℕ) → Stays s.bus.system.mpu (taken_if_any s e next)
-any_stays s e None = λ none. refl
+any_stays s e None = record { stayed = λ none. refl }
 any_stays s e (Some x) = taken_stays s e x
 
 vector_step_stays : (s : State) (e : ℕ) → Stays s.bus.system.mpu (take_vector s e)
@@ -238,14 +254,16 @@ unfolding unstacked
 unstacked_stays old s events e frame h =
     cond_both (not (fits_mode e frame)) _ _ (Stays old)
     (λ is. failed_stays old (with_entry s e) events (failure.Usage InvalidReturn) h)
-    (λ is. cond_both (is_bit (popped_pc frame) 0) _ _ (Stays old) (λ odd. h) (λ even. h))
+    (λ is. cond_both (is_bit (popped_pc frame) 0) _ _ (Stays old) (λ odd. search more_stay)
+    (λ even. search more_stay))
 
 -- events of accesses after others
 both_stay : (old : Mpu) (s after : State) (events : List Event) (all : ListResult) → StaysSoFar old s events
     → ListStays s.bus.system.mpu all → after.bus.system.mpu ≡ all.bus.system.mpu
     → StaysSoFar old after (events ++ all.events)
-both_stay old s after events all h served is none =
-    is ∙ served (none_later events all.events none) ∙ h (none_first events all.events none)
+both_stay old s after events all h served is = record {
+  stayed = λ none. is ∙ served (none_later events all.events none) ∙ h.stayed (none_first events all.events none);
+}
 
 read_frame_stays : (old : Mpu) (s : State) (events : List Event) (e : ℕ) (all : ListResult) (end : Option Failure)
     → StaysSoFar old s events → ListStays s.bus.system.mpu all → Stays old (frame_read s events e all end)
@@ -266,7 +284,7 @@ popped_stays old s events e h =
 
 chained_stays : (old : Mpu) (s : State) (events : List Event) (e : ℕ) (next : Option ℕ) → StaysSoFar old s events
     → Stays old (chained s events e next)
-chained_stays old s events e (Some x) h = h
+chained_stays old s events e (Some x) h = search more_stay
 chained_stays old s events e None h = popped_stays old s events e h
 
 returned_stays : (old : Mpu) (s : State) (events : List Event) (e : ℕ) (allowed : Bool) → StaysSoFar old s events
@@ -291,20 +309,22 @@ return_stays old s before e h =
     cond_both (has_reserved_ones e) _ _ (Stays old)
     (λ ones. returned_stays old (with_system s (exception_ended s.bus.system s.registers.exception))
     (before ++ return_line s e ∷ []) e (is_allowed s e)
-    (λ none. handler_stays s.bus.system s.registers.exception ∙ h (none_first before _ none)))
-    (λ other none. h (none_first before _ none))
+    (record {
+      stayed = λ none. handler_stays s.bus.system s.registers.exception ∙ h.stayed (none_first before _ none);
+    }))
+    (λ other. search more_stay)
 
 -- ---- an instruction
 
 ended_stays : (old : Mpu) (s : State) (events : List Event) (end : Ending) → StaysSoFar old s events
     → Stays old (ended s events end)
-ended_stays old s events ending.Next h = h
-ended_stays old s events (ending.ReadSpecial o) h = h
-ended_stays old s events (ending.WriteSpecial special value) h = h
-ended_stays old s events (ending.ChangeState o) h = h
-ended_stays old s events ending.Sleep h = h
+ended_stays old s events ending.Next h = search more_stay
+ended_stays old s events (ending.ReadSpecial o) h = search more_stay
+ended_stays old s events (ending.WriteSpecial special value) h = search more_stay
+ended_stays old s events (ending.ChangeState o) h = search more_stay
+ended_stays old s events ending.Sleep h = search more_stay
 ended_stays old s events (ending.SupervisorCall number) h = supervisor_stays old s events h
-ended_stays old s events (ending.Breakpoint number) h = h
+ended_stays old s events (ending.Breakpoint number) h = search more_stay
 ended_stays old s events (ending.ExceptionReturn value) h = return_stays old s events value h
 
 finished_stays : (old : Mpu) (s : State) (events : List Event) (f : Finished) → StaysSoFar old s events
@@ -347,15 +367,17 @@ executed_stays old s events length (decoded.Instr i) h = planned_stays old s eve
 executed_stays old s events length decoded.Undefined h =
     meaningless_stays old s events length UndefinedInstruction h
 executed_stays old s events length decoded.NoCoprocessor h = meaningless_stays old s events length NoCoprocessor h
-executed_stays old s events length (decoded.Unpredictable place why) h = h
+executed_stays old s events length (decoded.Unpredictable place why) h = search more_stay
 
 -- ---- the fetches
 
 fetch_stays : (old : Mpu) (s : State) (events : List Event) (q : Request) → StaysSoFar old s events
     → StaysSoFar old (with_bus s (perform s.registers.exception s.bus q).after) (with_access_lines s events q)
-fetch_stays old s events q h none =
-    access_stays s.registers.exception s.bus.system.time.ticks s.bus q (none_later events _ none)
-    ∙ h (none_first events _ none)
+fetch_stays old s events q h = record {
+  stayed = λ none.
+      access_stays s.registers.exception s.bus.system.time.ticks s.bus q (none_later events _ none)
+      ∙ h.stayed (none_first events _ none);
+}
 
 second_stays : (old : Mpu) (s : State) (events : List Event) (hw1 : ℕ) (answer : Result ℕ Failure)
     → StaysSoFar old s events → Stays old (fetched_second s events hw1 answer)
@@ -380,9 +402,10 @@ instruction_stays : (s : State) → Stays s.bus.system.mpu (instruction s)
 unfolding instruction
 instruction_stays s =
     let old = s.bus.system.mpu in
+    let ready : StaysSoFar old s [] = record { stayed = λ none. refl } in
     cond_both s.registers.thumb _ _ (Stays old)
-    (λ thumb. first_stays old _ _ _ (fetch_stays old s [] (fetching s.registers s.registers.pc) (λ none. refl)))
-    (λ arm. failed_stays old s [] (failure.Usage InvalidState) (λ none. refl))
+    (λ thumb. first_stays old _ _ _ (fetch_stays old s [] (fetching s.registers s.registers.pc) ready))
+    (λ arm. failed_stays old s [] (failure.Usage InvalidState) ready)
 
 -- ---- the step
 
@@ -391,7 +414,7 @@ unfolding phase
 phase_stays s (Some e) next = vector_step_stays s e
 phase_stays s None (Some x) = entry_stays s
 phase_stays s None None =
-    cond_both (sleeps_on s) _ _ (Stays s.bus.system.mpu) (λ sleeps none. refl)
+    cond_both (sleeps_on s) _ _ (Stays s.bus.system.mpu) (λ sleeps. record { stayed = λ none. refl })
     (λ wakes. instruction_stays (record s { asleep = false }))
 
 -- a tick leaves the registers
@@ -401,13 +424,14 @@ tick_stays s = refl
 
 running_stays : (s : State) → Stays s.bus.system.mpu (running s)
 running_stays s =
-    cond_both (nat_le last_tick s.bus.system.time.ticks) _ _ (Stays s.bus.system.mpu) (λ late none. refl)
-    (λ early none. phase_stays (ticked s) s.entry _ none ∙ tick_stays s)
+    cond_both (nat_le last_tick s.bus.system.time.ticks) _ _ (Stays s.bus.system.mpu)
+    (λ late. record { stayed = λ none. refl })
+    (λ early. record { stayed = λ none. (phase_stays (ticked s) s.entry _).stayed none ∙ tick_stays s })
 
 stopped_stays : (s : State) (why : Option Stop) → Stays s.bus.system.mpu (unless_stopped s why)
 stopped_stays s None = running_stays s
-stopped_stays s (Some why) = λ none. refl
+stopped_stays s (Some why) = record { stayed = λ none. refl }
 
 pub regions_stay : RegionsStay
 unfolding step
-regions_stay s = stopped_stays s s.stop
+regions_stay s = (stopped_stays s s.stop).stayed

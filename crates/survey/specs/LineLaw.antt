@@ -6,7 +6,7 @@ use Rattle.platform.specs.declared.access.Kind.{Kind}
 use Rattle.platform.specs.declared.access.Rule.{Rule}
 use Rattle.platform.specs.declared.event.Event.{Event}
 use Rattle.platform.specs.declared.event.EventKind.TheVariants.{Accessed}
-use Rattle.platform.specs.Text.{line, lines}
+use Rattle.platform.specs.Events.{line, lines}
 use Rattle.survey.specs.Counts.{place_of}
 use Rattle.survey.specs.CountLaw.{is_counted_at}
 

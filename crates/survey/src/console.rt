@@ -62,9 +62,8 @@ impl Console {
     pub fn take_any_byte(&mut self, byte: Option<u8>)
         ensures { self.new ≡ with_any_byte self.old byte }
     {
-        match byte {
-            None => {}
-            Some(byte) => self.take_byte(byte),
+        if let Some(byte) = byte {
+            self.take_byte(byte);
         }
     }
 

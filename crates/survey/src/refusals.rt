@@ -88,9 +88,8 @@ impl Refusals {
     pub fn take_any_fault(&mut self, fault: Option<&RecordedFault>)
         ensures { self.new ≡ with_any_fault self.old (option_copied fault.entry) }
     {
-        match fault {
-            None => {}
-            Some(fault) => self.take_fault(fault),
+        if let Some(fault) = fault {
+            self.take_fault(fault);
         }
     }
 

@@ -1,21 +1,25 @@
 -- The accesses of an instruction of unprivileged code.
-use Rattle.std.proofs.Common.{◌≡◌, inl, inr, ℕ, ◌%◌, Bool, false, not, ◌&&◌, ◌==◌, List, [], ◌∷◌, refl, arith}
+use Rattle.std.proofs.Common.{◌≡◌, inl, inr, ℕ, ◌%◌, Bool, false, not, ◌&&◌, ◌==◌, if◌then◌else◌, List, [], ◌∷◌, refl, arith, Result, Ok, Err}
 use Rattle.std.proofs.Common.{eqb-true}
 use Rattle.std.proofs.lemmas.Bool.{cond_both, not-false, and_left}
-use Rattle.instruction_set.specs.declared.instruction.Branch.{Branch}
-use Rattle.instruction_set.specs.declared.instruction.Branch.TheVariants as branch
+use Rattle.instruction_set.specs.declared.branch.Branch.{Branch}
+use Rattle.instruction_set.specs.declared.branch.Branch.TheVariants as branch
 use Rattle.instruction_set.specs.declared.instruction.CodedInstruction.{CodedInstruction}
-use Rattle.instruction_set.specs.declared.instruction.Exclusive.{Exclusive}
-use Rattle.instruction_set.specs.declared.instruction.Exclusive.TheVariants as exclusive
+use Rattle.instruction_set.specs.declared.load_store.Exclusive.{Exclusive}
+use Rattle.instruction_set.specs.declared.load_store.Exclusive.TheVariants as exclusive
 use Rattle.instruction_set.specs.declared.instruction.Instruction.{Instruction}
 use Rattle.instruction_set.specs.declared.instruction.Instruction.TheVariants as family
-use Rattle.instruction_set.specs.declared.instruction.LoadStore.{LoadStore}
-use Rattle.instruction_set.specs.declared.instruction.LoadStore.TheVariants as load_store
-use Rattle.instruction_set.specs.declared.instruction.LoadStoreMultiple.{LoadStoreMultiple}
-use Rattle.instruction_set.specs.declared.instruction.LoadStoreMultiple.TheVariants as multiple
-use Rattle.instruction_set.specs.declared.operands.LoadForm.{LoadForm}
+use Rattle.instruction_set.specs.declared.load_store.LoadStore.{LoadStore}
+use Rattle.instruction_set.specs.declared.load_store.LoadStore.TheVariants as load_store
+use Rattle.instruction_set.specs.declared.load_store.LoadStoreMultiple.{LoadStoreMultiple}
+use Rattle.instruction_set.specs.declared.load_store.LoadStoreMultiple.TheVariants as multiple
+use Rattle.instruction_set.specs.declared.load_store.LoadForm.{LoadForm}
 use Rattle.instruction_set.specs.declared.size.Size.{Size}
 use Rattle.instruction_set.specs.declared.size.Size.TheVariants.{Word}
+use Rattle.instruction_set.specs.declared.system.Hint.{Hint}
+use Rattle.instruction_set.specs.declared.system.Hint.TheVariants as hint
+use Rattle.instruction_set.specs.declared.system.System.{System}
+use Rattle.instruction_set.specs.declared.system.System.TheVariants as system
 use Rattle.instruction_set.specs.DataProcessing.{divides_by_zero}
 use Rattle.instruction_set.specs.Registers.{Registers, register, is_privileged}
 use Rattle.instruction_set.specs.Sizes.{bytes_in}
@@ -23,6 +27,7 @@ use Rattle.instruction_set.specs.Words.{word_sum}
 use Rattle.platform.specs.declared.access.Kind.{Kind}
 use Rattle.platform.specs.declared.access.Kind.TheVariants.{Load, Store, Probe}
 use Rattle.platform.specs.declared.access.Request.{Request}
+use Rattle.reference.specs.declared.failure.Failure.{Failure}
 use Rattle.reference.specs.declared.failure.Traps.{Traps}
 use Rattle.reference.specs.Branches.{branch_requests}
 use Rattle.reference.specs.Exclusives.{exclusive_access, exclusive_requests, passes}
@@ -33,6 +38,7 @@ use Rattle.platform.specs.Map.{has_side_effects}
 use Rattle.platform.specs.Memory.{bytes_of}
 use Rattle.reference.specs.Operations.{is_misplaced, is_carried_out, requests_of, wants}
 use Rattle.reference.specs.Step.{fetching}
+use Rattle.reference.specs.SystemInstructions.{system_requests}
 use Rattle.task_laws.specs.TaskLaw.{IsTaskKind, IsOfTask, AreOfTask, AskOfTask, RequestsLaw}
 
 -- ---- what an access is for
@@ -143,6 +149,30 @@ module _ (r : Registers) (t : is_privileged r ≡ false) where
   branch_asked traps (branch.Table o) = transfer_asked traps Load _ o.size _ 0 t loads
   branch_asked traps i = tt
 
+  -- ---- special registers, hints and calls
+
+  -- a hint has no access; the first line splits the cases, so that one may also stop
+  hint_asked : (h : Hint) → AskOfTask (system_requests (system.Hint h))
+  hint_asked hint.WaitForInterrupt = tt
+  hint_asked it = tt
+
+  either_asked : (b : Bool) (x y : Result (List Request) Failure) → AskOfTask x → AskOfTask y →
+      AskOfTask (if b then x else y)
+  either_asked b x y one other = cond_both b _ _ AskOfTask (λ e. one) (λ e. other)
+
+  none_asked : AskOfTask (Ok [])
+  none_asked = tt
+
+  stop_asked : (why : Failure) → AskOfTask (Err why)
+  stop_asked why = tt
+
+  -- no access, or a stop: so a proof by `search asked` holds for any stop
+  ruleset asked = (either_asked, none_asked, stop_asked)
+
+  system_asked : (i : System) → AskOfTask (system_requests i)
+  system_asked (system.Hint h) = hint_asked h
+  system_asked i = search asked
+
   -- ---- an instruction
 
   requests_asked : (traps : Traps) (i : Instruction) → AskOfTask (requests_of traps i r)
@@ -153,7 +183,7 @@ module _ (r : Registers) (t : is_privileged r ≡ false) where
   requests_asked traps (family.LoadStoreMultiple i) = multiple_asked i
   requests_asked traps (family.Exclusive i) = exclusive_asked i
   requests_asked traps (family.Branch i) = branch_asked traps i
-  requests_asked traps (family.System i) = tt
+  requests_asked traps (family.System i) = system_asked i
 
   -- what an instruction of a task wants is as unprivileged code makes it
   pub wants_asked : (traps : Traps) (i : CodedInstruction) → AskOfTask (wants traps i r)

@@ -1,9 +1,9 @@
 -- Registers in unprivileged Thread mode: what an instruction leaves of them, and what MSR and CPS do there.
 use Rattle.std.proofs.Common.{◌≡◌, ℕ, true, false, refl, ◌∙◌}
 use Rattle.std.proofs.lemmas.Bool.{cond_both}
-use Rattle.instruction_set.specs.declared.operands.ChangeProcessorState.{ChangeProcessorState}
-use Rattle.instruction_set.specs.declared.operands.SpecialRegister.{SpecialRegister}
-use Rattle.instruction_set.specs.declared.operands.SpecialRegister.TheVariants.{Apsr, Iapsr, Eapsr, Xpsr}
+use Rattle.instruction_set.specs.declared.system.ChangeProcessorState.{ChangeProcessorState}
+use Rattle.instruction_set.specs.declared.system.SpecialRegister.{SpecialRegister}
+use Rattle.instruction_set.specs.declared.system.SpecialRegister.TheVariants.{Apsr, Iapsr, Eapsr, Xpsr}
 use Rattle.instruction_set.specs.Registers.{Registers, is_handler, is_privileged}
 use Rattle.platform.specs.Priorities.{Nvic}
 use Rattle.platform.specs.SpecialRegisters.{is_open, with_special, write_special, write_mask, change_state}

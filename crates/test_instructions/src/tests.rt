@@ -8,7 +8,6 @@ use edge_stops::STOPS;
 use edges::EDGES;
 use exec::{Failure, Requests, Traps, finish, wants};
 use instruction_set::registers::Register;
-use instruction_set::unpredictable::UnpredictableCase;
 use lines::Case;
 use long_data_first::LONG_DATA_FIRST;
 use long_data_second::LONG_DATA_SECOND;
@@ -16,7 +15,7 @@ use long_others_first::LONG_OTHERS_FIRST;
 use long_others_second::{LONG_OTHERS_SECOND, SPECIAL_REGISTERS};
 use memory::Memory;
 use nvic::{Levels, PlainLevels};
-use platform::stop::{LeftOut, Stop};
+use platform::stop::{NamedStop, Stop};
 use reference::ending::Ending;
 use reference::failure::UsageFault;
 use regs::Regs;
@@ -172,36 +171,35 @@ fn cases_of_other_machines() -> Result<(), Fail> {
 }
 
 /// The word of a row for what ends an instruction before its end.
-fn word_of(failure: Failure) -> &'static str {
+fn word_of(failure: Failure) -> &'static [u8] {
     match failure {
-        Failure::Stop(Stop::Unpredictable(UnpredictableCase::ItBlock)) => "it-block",
-        Failure::Stop(Stop::Unpredictable(UnpredictableCase::LoadPc)) => "load-pc",
-        Failure::Stop(Stop::Unpredictable(UnpredictableCase::LiteralPc)) => "literal-pc",
-        Failure::Stop(Stop::OutOfProfile(LeftOut::ExclusiveDevice)) => "exclusive-device",
-        Failure::Stop(Stop::OutOfProfile(LeftOut::UnalignedDevice)) => "unaligned-device",
-        Failure::Usage(UsageFault::Unaligned) => "unaligned",
-        Failure::Usage(_) => "another fault",
-        Failure::Refused(_, _) => "refused",
-        Failure::Stop(_) => "another stop",
+        Failure::Stop(Stop::Unpredictable(case)) => case.word(),
+        Failure::Stop(Stop::OutOfProfile(case)) => case.word(),
+        Failure::Stop(
+            Stop::StepLimit | Stop::Breakpoint(_) | Stop::Lockup | Stop::ResetRequested,
+        ) => b"another stop",
+        Failure::Usage(UsageFault::Unaligned) => b"unaligned",
+        Failure::Usage(_) => b"another fault",
+        Failure::Refused(_, _) => b"refused",
     }
 }
 
 /// The word of a row for what an instruction ends in.
-fn word_of_ending(ending: Ending) -> &'static str {
+fn word_of_ending(ending: Ending) -> &'static [u8] {
     match ending {
-        Ending::Next => "goes-on",
-        Ending::ReadSpecial(_) => "reads-special",
-        Ending::WriteSpecial(_, _) => "writes-special",
-        Ending::ChangeState(_) => "changes-state",
-        Ending::Sleep => "sleeps",
-        Ending::SupervisorCall(_) => "supervisor-call",
-        Ending::Breakpoint(_) => "breakpoint",
-        Ending::ExceptionReturn(_) => "returns",
+        Ending::Next => b"goes-on",
+        Ending::ReadSpecial(_) => b"reads-special",
+        Ending::WriteSpecial(_, _) => b"writes-special",
+        Ending::ChangeState(_) => b"changes-state",
+        Ending::Sleep => b"sleeps",
+        Ending::SupervisorCall(_) => b"supervisor-call",
+        Ending::Breakpoint(_) => b"breakpoint",
+        Ending::ExceptionReturn(_) => b"returns",
     }
 }
 
 /// The word of a row for how the first instruction of a case ends.
-fn end_of(text: &str) -> Option<&'static str> {
+fn end_of(text: &str) -> Option<&'static [u8]> {
     let mut case = Case::of(text)?;
     match step(&mut case.regs, &mut case.memory) {
         Ok(ending) => Some(word_of_ending(ending)),
@@ -215,7 +213,7 @@ struct Ends;
 
 impl Rows for Ends {
     fn holds(&mut self, text: &str) -> Option<bool> {
-        Some(word(text, 0) == end_of(text)?)
+        Some(word(text, 0).as_bytes() == end_of(text)?)
     }
 }
 

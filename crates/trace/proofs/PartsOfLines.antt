@@ -5,7 +5,8 @@ use Rattle.std.specs.Prelude.{codes}
 use Rattle.platform.specs.declared.access.DecidedAccess.{DecidedAccess}
 use Rattle.platform.specs.declared.event.Event.{Event}
 use Rattle.platform.specs.declared.event.EventKind.TheVariants.{Accessed}
-use Rattle.platform.specs.Text.{line, line_feed, outcome_text, rule_text}
+use Rattle.platform.specs.Events.{line}
+use Rattle.platform.specs.Text.{line_feed, outcome_text, rule_text}
 use Rattle.trace.specs.Tails.{access_head, tail}
 
 -- a line is its tick and its tail

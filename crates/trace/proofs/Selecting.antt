@@ -12,7 +12,7 @@ use Rattle.platform.specs.declared.event.EventKind.TheVariants.{Accessed}
 use Rattle.platform.specs.Events.{byte_of}
 use Rattle.reference.specs.Run.{events_of, trace}
 use Rattle.reference.specs.State.{State}
-use Rattle.platform.specs.Text.{line, lines}
+use Rattle.platform.specs.Events.{line, lines}
 use Rattle.trace.specs.declared.selection.TraceSelection.{TraceSelection}
 use Rattle.trace.specs.declared.selection.TraceSelection.TheVariants as which
 use Rattle.trace.specs.Selection.{last_printed, printed, selected_events, selected_text, selected_trace}

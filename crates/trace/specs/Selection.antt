@@ -8,7 +8,8 @@ use Rattle.platform.specs.declared.stop.Stop.{Stop}
 use Rattle.platform.specs.Events.{byte_of, is_entry_or_return, is_refused, recorded_fault_of}
 use Rattle.reference.specs.Run.{ending_of, events_of}
 use Rattle.reference.specs.State.{State}
-use Rattle.platform.specs.Text.{line_feed, lines, stop_line}
+use Rattle.platform.specs.Text.{line_feed, stop_line}
+use Rattle.platform.specs.Events.{lines}
 use Rattle.trace.specs.declared.selection.TraceSelection.{TraceSelection}
 use Rattle.trace.specs.declared.selection.TraceSelection.TheVariants as which
 

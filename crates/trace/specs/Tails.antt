@@ -3,7 +3,8 @@ use Rattle.std.specs.Prelude.{ℕ, List, ◌++◌, codes, decimal}
 use Rattle.instruction_set.specs.Sizes.{bytes_in}
 use Rattle.platform.specs.declared.access.Access.{Access}
 use Rattle.platform.specs.declared.event.EventKind.{EventKind}
-use Rattle.platform.specs.Text.{kind_text, hex_word, privilege_text, event_text, line_feed}
+use Rattle.platform.specs.Text.{kind_text, hex_word, privilege_text, line_feed}
+use Rattle.platform.specs.Events.{event_text}
 
 -- all of a line but its tick
 unfoldable pub tail : EventKind → List ℕ

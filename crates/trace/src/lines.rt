@@ -3,7 +3,9 @@
 ghost use Rattle.std.specs.Prelude.{◌≡◌, ◌+◌, ◌≤◌, ◌++◌, length, codes, decimal};
 ghost use Rattle.platform.specs.declared.event.EventKind.TheVariants.{Accessed, ConsoleByte, ReturnBegan};
 ghost use Rattle.platform.specs.declared.event.EventKind.TheVariants.{HandlerEntered, FaultRecorded};
-ghost use Rattle.platform.specs.Text.{line, stop_line as line_of_stop, stop_text, outcome_text, rule_text, line_feed};
+ghost use Rattle.platform.specs.Events.{line};
+ghost use Rattle.platform.specs.Text as spec;
+ghost use Rattle.platform.specs.Text.{stop_text, outcome_text, rule_text, line_feed};
 ghost use Rattle.trace.specs.Tails.{access_head, tail};
 
 use crate::digits::LineDigits;
@@ -44,7 +46,7 @@ pub fn event_line(event: &Event) -> Text
 
 /// Returns the line of a stop.
 pub fn stop_line(stop: &Stop) -> Text
-    ensures { result ≡ line_of_stop stop.now }
+    ensures { result ≡ spec.stop_line stop.now }
 {
     let mut text = Page::new();
     text.put_stop(stop);
@@ -71,7 +73,7 @@ impl<const ROOM: usize> Page<ROOM> {
     #[tactic(auto, unfolding(platform::specs::Text::stop_line))]
     pub fn put_stop(&mut self, stop: &Stop)
         requires { length self.old + 64 ≤ ROOM }
-        ensures text { self.new ≡ self.old ++ line_of_stop stop.now }
+        ensures text { self.new ≡ self.old ++ spec.stop_line stop.now }
         ensures short { length self.new ≤ length self.old + 64 }
     {
         self.put(b"stop ");

@@ -229,7 +229,7 @@ before 0 2
 flags 10000000
 after 0 8
 
-ADR behind a halfword: PC is rounded down; ADR R0, #8
+ADR after a halfword: PC is rounded down; ADR R0, #8
 code 0102 A002
 before 0 5
 flags F8000000

@@ -48,7 +48,7 @@ before 0 20000000 2 77 3 AABBCCDD
 memory 20000004 5
 after 1 5 2 1
 
-STREX fails behind an LDREXB of the same address
+STREX fails after an LDREXB of the same address
 code 0100 E8D0 1F4F E840 3200
 before 0 20000000 2 77 3 AABBCCDD
 memory 20000000 8685
@@ -420,7 +420,7 @@ BL sets LR
 code 0100 F000 F880
 after E 105 F 204
 
-BLX R3 sets LR behind two bytes
+BLX R3 sets LR after two bytes
 code 0100 4798
 before 3 201
 after E 103 F 200

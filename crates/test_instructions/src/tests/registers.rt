@@ -112,7 +112,7 @@ impl Rows for Next {
 
 /// PC; how many bytes it goes on, or the address that it branches to; PC then; what the row is.
 const NEXT: &str = "\
-100 | on 4 | 104 | goes on behind 32 bits
+100 | on 4 | 104 | goes on after 32 bits
 104 | to FFFFFFFF | FFFFFFFE | a branch clears bit 0
 FFFFFFFE | on 2 | 0 | goes on across the end";
 

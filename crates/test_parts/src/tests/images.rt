@@ -160,8 +160,8 @@ struct Beginnings;
 impl Rows for Beginnings {
     fn holds(&mut self, row: &str) -> Option<bool> {
         let file = edited(WORKED, part(row, 0))?;
-        let [least, behind] = numbers::<2>(part(row, 1))?;
-        'lengths: for length in least..behind {
+        let [least, end] = numbers::<2>(part(row, 1))?;
+        'lengths: for length in least..end {
             let beginning = file.as_slice().get(..length as usize)?;
             if !is_answered_so(beginning, part(row, 2)) {
                 return Some(false);

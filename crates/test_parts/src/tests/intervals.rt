@@ -119,7 +119,7 @@ const AGREEMENTS: &str = "\
 10 1 20000012:03000013 20000019:01000013 | | 3 | region 9 above region 2
 8 5 20000010:03000013 | E000ED94:00000000 E000ED94:00000005 | 3 | the MPU is switched off, and on again
 8 5 20000010:01000013 | E000EDA0:03000013 E000EDA0:02000013 E000EDA0:13000013 | 3 | AP and XN change
-8 1 20000010:03000013 | E000ED94:00000005 E000ED94:00000001 | 3 | the default map behind the regions comes and goes
+8 1 20000010:03000013 | E000ED94:00000005 E000ED94:00000001 | 3 | the default map under the regions comes and goes
 8 1 20000010:03000013 | E000ED94:00000003 E000ED94:00000001 | 3 | the regions below priority 0 come and go
 8 5 20000110:0300AA0F | E000EDA0:0300550F E000EDA0:0300000F | 3 | other eighths are switched off, then none";
 

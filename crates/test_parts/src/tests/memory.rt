@@ -39,14 +39,14 @@ impl Rows for Accesses {
 const ACCESSES: &str = "\
 F halfword 00000000 00000000 p | 0000FFFF | erased flash
 L word 00000FFC 00000000 p | FFFFFFFF | the last word of flash
-L word 00001000 00000000 p | none | behind flash
+L word 00001000 00000000 p | none | after flash
 S word 00000000 00000001 p | none | a store to flash
 S word 20000000 11223344 p | 00000000 | a store to RAM
 L byte 20000000 00000000 p | 00000044 | the lowest byte stands first
 L halfword 20000002 00000000 p | 00001122 | the upper halfword
 push word 20001FFC 00000007 p | 00000000 | a push to RAM
 pop word 20001FFC 00000000 p | 00000007 | a pop from RAM
-L byte 20002000 00000000 p | none | behind RAM
+L byte 20002000 00000000 p | none | after RAM
 S word 40000000 00000007 p | 00000000 | a word to OUT
 S byte 40000000 00000007 p | none | a byte to OUT
 L word 40000004 00000000 p | 00000005 | a word from TICK
@@ -81,9 +81,9 @@ impl Rows for Places {
 /// Flash or RAM, an address and how many bytes; whether they lie in it; what the row is.
 const PLACES: &str = "\
 flash 00000FFE 2 | in | the last halfword of flash
-flash 00000FFF 2 | out | half behind flash
+flash 00000FFF 2 | out | half after flash
 ram 20001FFE 2 | in | the last halfword of RAM
-ram 20001FFF 2 | out | half behind RAM";
+ram 20001FFF 2 | out | half after RAM";
 
 #[test]
 fn places_in_flash_and_ram(rt: HostRuntime) -> Result<(), Fail> {
@@ -115,7 +115,7 @@ const BYTES: &str = "\
 vector 1 | 04030201 | the bytes that were put there
 vector 0 | FFFFFFFF | erased flash before them
 byte 00000005 | 02 | the second of them
-byte 00001000 | none | behind flash";
+byte 00001000 | none | after flash";
 
 #[test]
 fn bytes_that_a_debugger_puts(rt: HostRuntime) -> Result<(), Fail> {

@@ -138,7 +138,7 @@ const CANDIDATES_UNDER_MASKS: &str = "\
 0 | | 10:F0 | basepri 00 | 10 | BASEPRI 0 masks nothing
 0 | | 10:F0 | basepri 0F | 10 | nor do bits that aren't kept
 0 | | 10:40 | basepri 40 | none | a priority masks itself
-0 | | 10:50 | basepri 40 | none | and what is behind it
+0 | | 10:50 | basepri 40 | none | and what comes after it
 0 | | 10:30 | basepri 40 | 10 | and not what is above it
 5 | | 10:50 | basepri 60 | none | a group masks itself
 5 | | 10:30 | basepri 60 | 10 | and not the one above
@@ -318,10 +318,10 @@ const NUMBERS: &str = "\
 4 | yes no no | F0 | MemManage
 5 | yes no no | F0 | BusFault
 6 | yes no no | F0 | UsageFault
-7 | no no no | 00 | behind UsageFault
+7 | no no no | 00 | after UsageFault
 A | no no no | 00 | before SVCall
 B | yes yes yes | F0 | SVCall
-C | no no no | 00 | behind SVCall
+C | no no no | 00 | after SVCall
 E | yes yes yes | F0 | PendSV
 F | yes yes yes | F0 | SysTick
 10 | yes no no | F0 | line 0

@@ -84,10 +84,10 @@ impl Rows for Shown {
 const SHOWN: &str = "\
 task 8 | 0 | 20000000 03008013 | the first region
 task 8 | 1 | 00000001 06000017 | the second region
-task 8 | 8 | none | behind the last of eight
+task 8 | 8 | none | after the last of eight
 sixteen 10 | 9 | 20000009 01000013 | region 9
 sixteen 10 | F | 0000000F 00000000 | the last of sixteen
-sixteen 10 | 10 | none | behind the last of sixteen";
+sixteen 10 | 10 | none | after the last of sixteen";
 
 #[test]
 fn regions_that_are_shown() -> Result<(), Fail> {

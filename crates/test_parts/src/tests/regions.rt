@@ -45,12 +45,12 @@ smallest | L 20000040 u | r0 ok | the first of 32 bytes
 smallest | L 2000005F u | r0 ok | the last of 32 bytes
 smallest | L 20000060 u | none mpu | above 32 bytes
 one-above | L 200000FF u | r0 mpu | below the higher region
-one-above | L 20000100 u | r0 mpu | the lower region behind an eighth
+one-above | L 20000100 u | r0 mpu | the lower region under an eighth
 one-above | L 2000011F u | r0 mpu | the last byte of that eighth
 one-above | L 20000120 u | r1 ok | the higher region
 one-above | L 200001FF u | r1 ok | the last byte of the higher region
 one-above | L 20000200 u | r0 mpu | above the higher region
-one-alone | L 20000100 u | none mpu | no region behind an eighth
+one-alone | L 20000100 u | none mpu | no region under an eighth
 one-alone | L 20000120 u | r1 ok | the next eighth
 uneven | L 20000000 u | r0 ok | below an uneven base
 uneven | L 200003FF u | r0 ok | the end over an uneven base

@@ -13,7 +13,7 @@ smallest | 8 1 20000050:03000009 | 32 bytes for all
 one-above | 8 1 20000010:05000013 20000111:0300010F | 1 KiB for privileged code to read; in it 256 bytes for all
 one-alone | 8 1 20000111:0300010F | the 256 bytes alone, whose first eighth is switched off
 uneven | 8 1 20000230:03000013 | a base with bits below the size of its region, which is 1 KiB
-background | 8 5 20000010:03000013 | 1 KiB for all, and the default map behind it for privileged code
+background | 8 5 20000010:03000013 | 1 KiB for all, and the default map under it for privileged code
 disabled | 8 1 20000010:03000012 | a region that isn't enabled
 below-zero | 8 3 20000010:03000013 | the MPU is on, and below priority 0 too
 off | 8 0 20000010:00000013 | the MPU is off

@@ -1,7 +1,7 @@
 //! MRS, MSR and CPS (ARM DDI 0403, the operation of each), on a board with 4 priority bits.
 
 use clock::Counting;
-use instruction_set::operands::{ChangeProcessorState, SpecialRegister};
+use instruction_set::system::{ChangeProcessorState, SpecialRegister};
 use mpu::Search;
 use nvic::PlainLevels;
 use regs::Regs;

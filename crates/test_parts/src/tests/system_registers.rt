@@ -4,12 +4,11 @@
 use super::words::request;
 use clock::Counting;
 use instruction_set::size::Size;
-use instruction_set::unpredictable::UnpredictableCase;
 use mpu::Search;
 use nvic::PlainLevels;
 use platform::access::{Access, Kind, Performed, Request, Rule};
 use platform::script::{InterruptNumber, ScriptedEvent, Signal};
-use platform::stop::{LeftOut, Stop};
+use platform::stop::{NamedStop, Stop};
 use scs::System;
 use std::alloc::Global;
 use std::test::*;
@@ -35,19 +34,13 @@ fn access_of(kind: Kind, size: Size, address: u32, value: u32, privileged: bool)
     }
 }
 
-/// The word of a stop, or `stop` for one that no register makes.
-fn stop_word(stop: Stop) -> &'static str {
+/// The word of a stop, or `stop` for one that no access makes.
+fn stop_word(stop: Stop) -> &'static [u8] {
     match stop {
-        Stop::Unpredictable(UnpredictableCase::MpuRegion) => "mpu-region",
-        Stop::Unpredictable(UnpredictableCase::MpuControl) => "mpu-ctrl",
-        Stop::Unpredictable(UnpredictableCase::Icsr) => "icsr",
-        Stop::OutOfProfile(LeftOut::RegisterWidth) => "register-width",
-        Stop::OutOfProfile(LeftOut::ActiveBit) => "active-bit",
-        Stop::OutOfProfile(LeftOut::IgnoredBusFaults) => "bfhfnmign",
-        Stop::OutOfProfile(LeftOut::SleepOnExit) => "sleeponexit",
-        Stop::OutOfProfile(LeftOut::ResetControl) => "aircr",
-        Stop::ResetRequested => "reset",
-        _ => "stop",
+        Stop::Unpredictable(case) => case.word(),
+        Stop::OutOfProfile(case) => case.word(),
+        Stop::ResetRequested => b"reset",
+        Stop::StepLimit | Stop::Breakpoint(_) | Stop::Lockup => b"stop",
     }
 }
 
@@ -61,7 +54,7 @@ fn is_outcome(performed: Performed, wanted: &str) -> bool {
     match performed {
         Performed::Done(done) => number(wanted) == Some(done.value),
         Performed::Denied(_, _) => wanted == "bus",
-        Performed::Stop(stop) => wanted == stop_word(stop),
+        Performed::Stop(stop) => wanted.as_bytes() == stop_word(stop),
     }
 }
 

@@ -36,7 +36,7 @@ trace 1 L 40000000 4 p bus off
 trace 1 ! 3 00008200 40000000
 trace stop steps
 
-nothing stands behind the window
+nothing is after the window
 word 100 6801
 reg F 100
 reg 0 40001000

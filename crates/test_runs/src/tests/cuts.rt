@@ -383,7 +383,7 @@ const ANSWERED: [(usize, usize, usize); 8] = [
     (100, 99, 86),
 ];
 
-/// How many bytes are answered where the reader fails after so many bytes.
+/// Returns the number of bytes that are answered where the reader fails after `read` bytes.
 fn answered(read: usize) -> usize {
     let mut count = 0;
     'rows: for (least, _, failed) in ANSWERED.iter() {

@@ -16,9 +16,17 @@ use std::test::*;
 use std::{fs, io, str};
 use test_tables::{Rows, byte_at, check_between, number_at};
 
-/// The file examples/first.elf: MOV R0, #5 and BKPT 0 at address 8.
-pub(super) static FIRST: [u8; 96] =
-    *b"\x7fELF\x01\x01\x01\0\0\0\0\0\0\0\0\0\x02\0\x28\0\x01\0\0\0\0\0\0\0\x34\0\0\0\0\0\0\0\0\0\0\x05\x34\0\x20\0\x01\0\0\0\0\0\0\0\x01\0\0\0\x54\0\0\0\0\0\0\0\0\0\0\0\x0c\0\0\0\x0c\0\0\0\x05\0\0\0\x04\0\0\0\0\x10\0\x20\x09\0\0\0\x05\x20\0\xbe";
+/// The file examples/first.elf: MOV R0, #5 and BKPT 0 at address 8. Its lines are four of the ELF header, as in
+/// `NO_SEGMENTS`; two of the program header; the vector table; and the code.
+pub(super) static FIRST: [u8; 96] = *b"\
+\x7fELF\x01\x01\x01\0\0\0\0\0\0\0\0\0\
+\x02\0\x28\0\x01\0\0\0\0\0\0\0\
+\x34\0\0\0\0\0\0\0\0\0\0\x05\
+\x34\0\x20\0\x01\0\0\0\0\0\0\0\
+\x01\0\0\0\x54\0\0\0\0\0\0\0\0\0\0\0\
+\x0c\0\0\0\x0c\0\0\0\x05\0\0\0\x04\0\0\0\
+\0\x10\0\x20\x09\0\0\0\
+\x05\x20\0\xbe";
 
 /// The small board: 4 KiB of flash at 0 and 8 KiB of RAM.
 pub(super) const SMALL: &str =

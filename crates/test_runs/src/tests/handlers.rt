@@ -378,7 +378,7 @@ trace stop steps
 after byte 20000FF8 0
 after byte 20000FF9 1
 
-SVC is taken, and returns behind itself
+SVC is taken, and returns after itself
 vectors 201
 special 8 20001000
 reg F 100

@@ -10,9 +10,13 @@ use platform::mpu::MOST_REGIONS;
 use std::alloc::{AllocError, Global};
 use test_tables::{byte_at, number_at, word};
 
-/// An ELF file without program headers: all of flash is 0xFF.
-pub(super) static NO_SEGMENTS: [u8; 52] =
-    *b"\x7fELF\x01\x01\x01\0\0\0\0\0\0\0\0\0\x02\0\x28\0\x01\0\0\0\0\0\0\0\x34\0\0\0\0\0\0\0\0\0\0\x05\x34\0\x20\0\0\0\0\0\0\0\0\0";
+/// An ELF file without program headers: all of flash is 0xFF. Its lines are e_ident, then the fields up to e_entry, up
+/// to e_flags, and the others.
+pub(super) static NO_SEGMENTS: [u8; 52] = *b"\
+\x7fELF\x01\x01\x01\0\0\0\0\0\0\0\0\0\
+\x02\0\x28\0\x01\0\0\0\0\0\0\0\
+\x34\0\0\0\0\0\0\0\0\0\0\x05\
+\x34\0\x20\0\0\0\0\0\0\0\0\0";
 
 /// The interrupt line that an event is on, if there can be one of its number.
 fn interrupt_number(line: &str) -> Option<InterruptNumber> {

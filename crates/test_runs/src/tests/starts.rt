@@ -35,9 +35,9 @@ const BYTES: &str = "\
 byte FFFF none | below flash
 byte 10000 FF | the first byte of flash
 byte 103FF FF | the last byte of flash
-byte 10400 none | behind flash
+byte 10400 none | after flash
 byte 200003FF 0 | the last byte of RAM
-byte 20000400 none | behind RAM";
+byte 20000400 none | after RAM";
 
 /// A machine with flash that begins at 0x10000.
 fn high_machine(alloc: Global) -> Option<Slow> {

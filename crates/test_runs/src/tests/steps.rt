@@ -9,16 +9,16 @@ fn tells(machine: &mut Slow, events: &mut Events, line: &str) -> bool {
     if machine.step(events).is_some() || events.len() != 1 {
         return false;
     }
-    let told = events.as_slice();
-    event_line(&told[0]).as_slice() == line.as_bytes()
+    let lines = events.as_slice();
+    event_line(&lines[0]).as_slice() == line.as_bytes()
 }
 
 /// Returns whether a machine stops, or has stopped, by a step of this number of events.
-fn stops(machine: &mut Slow, events: &mut Events, told: usize, line: &str) -> bool {
+fn stops(machine: &mut Slow, events: &mut Events, count: usize, line: &str) -> bool {
     let Some(stop) = machine.step(events) else {
         return false;
     };
-    events.len() == told && stop_line(&stop).as_slice() == line.as_bytes()
+    events.len() == count && stop_line(&stop).as_slice() == line.as_bytes()
 }
 
 /// MOV R0, #7, and BKPT.

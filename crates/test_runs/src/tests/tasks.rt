@@ -315,7 +315,7 @@ trace 1 F 00000100 2 u ok r1
 trace 2 F 00000100 2 u ok r1
 trace 3 F 00000100 2 u ok r1
 
-privileged code alone has the default map behind the regions
+privileged code alone has the default map under the regions
 word 100 7801
 word E000ED9C 00000011
 word E000EDA0 06000017

@@ -18,7 +18,7 @@ const MARKS: [(&str, Mark); 8] = [
     ("last", Mark::Handler(23)),
 ];
 
-/// Columns after so many ticks.
+/// The columns after the ticks of a row.
 #[derive(Drop)]
 struct Columns {
     alloc: Global,

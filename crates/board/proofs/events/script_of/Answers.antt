@@ -11,7 +11,7 @@ returns-in_err-at c =
     (inl ((refused _ _ _ _ _ _ _ _ c.values-test.true c.value-item.is (sym c.timely_event.ensures ∙ c.in_err-at.was)
     c.values.invariant.whole)))
 
--- an event is put behind those that were read
+-- an event is put after those that were read
 pub values-preserved : goal.values-preserved
 values-preserved c = record {
   done = c.values.invariant.done ++ c.in_ok-at.field-0 ∷ [];

@@ -1,7 +1,7 @@
 use Rattle.std.proofs.Common.{◌≡◌, map, drop}
 use Rattle.elf.specs.Segment.{segment_of}
 use Rattle.platform.specs.Boards.{numbers_of}
-use Rattle.reference.specs.Start.{are_placed}
+use Rattle.platform.specs.Images.{are_placed}
 use Rattle.platform.specs.Boards.{blank}
 use Rattle.machine.proofs.start.are_placed.Given as goal
 

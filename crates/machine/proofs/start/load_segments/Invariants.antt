@@ -1,6 +1,6 @@
 use Rattle.std.proofs.Common.{◌≡◌, true, map, drop}
 use Rattle.elf.specs.Segment.{segment_of}
-use Rattle.reference.specs.Start.{are_placed, image_loaded}
+use Rattle.platform.specs.Images.{are_placed, image_loaded}
 use Rattle.machine.proofs.start.load_segments.Given as goal
 
 -- those from the index on are still to be loaded

@@ -1,7 +1,7 @@
 use Rattle.std.proofs.Common.{◌≡◌, ◌-◌, ◌≤◌}
 use Rattle.std.specs.Io.KnownBytes.{Appends}
 use Rattle.reference.specs.Run.{after, events_of}
-use Rattle.platform.specs.Text.{lines}
+use Rattle.platform.specs.Events.{lines}
 use Rattle.task_laws.specs.Tasks.{AreInstructions}
 use Rattle.machine.proofs.task.run_task_core.Given as goal
 

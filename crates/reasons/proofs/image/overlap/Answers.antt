@@ -9,7 +9,7 @@ headers-init c = λ k below. absurd (omega (arith, below))
 pub headers-preserved : goal.headers-preserved
 headers-preserved c =
     none_more (λ m. SharesAny (λ k. segment_if c.args.file.now (header_at c.args.table k)) c.args.table.count
-    (segment_if c.args.file.now (header_at c.args.table m)) m) c.headers.index c.headers.invariant c.in-None.ensures
+    (segment_if c.args.file.now (header_at c.args.table m)) m) c.headers.index c.headers.invariant c.in_default.ensures
 
 pub returns-in-Some : goal.returns-in-Some
 returns-in-Some c =

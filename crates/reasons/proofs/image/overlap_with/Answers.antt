@@ -10,7 +10,7 @@ headers-init c = λ k below. absurd (omega (arith, below))
 pub headers-preserved : goal.headers-preserved
 headers-preserved c =
     none_more (SharesLater (λ k. segment_if c.args.file.now (header_at c.args.table k))
-    (segment_of c.args.one.now.segment) c.args.one.now.index) c.headers.index c.headers.invariant c.in-None.ensures
+    (segment_of c.args.one.now.segment) c.args.one.now.index) c.headers.index c.headers.invariant c.in_default.ensures
 
 pub returns-in-Some : goal.returns-in-Some
 returns-in-Some c =

@@ -11,7 +11,7 @@ headers-init c = λ k below. absurd (omega (arith, below))
 pub headers-preserved : goal.headers-preserved
 headers-preserved c =
     none_more (λ k. IsUnplaced (blank (numbers_of c.args.layout.now))
-    (segment_if c.args.file.now (header_at c.args.table k))) c.headers.index c.headers.invariant c.in-None.ensures
+    (segment_if c.args.file.now (header_at c.args.table k))) c.headers.index c.headers.invariant c.in_default.ensures
 
 pub returns-in-Some : goal.returns-in-Some
 returns-in-Some c =

@@ -1,10 +1,13 @@
 //! An instruction as the numbers of a line of the tables: a function for each family of shapes.
 
-use instruction_set::instruction::{
-    Branch, DataProcessing, Exclusive, Instruction, LoadStore, LoadStoreMultiple, System,
+use instruction_set::branch::Branch;
+use instruction_set::data_processing::{DataProcessing, ShiftedRegister};
+use instruction_set::instruction::Instruction;
+use instruction_set::load_store::{
+    Exclusive, ImmediateAddress, LoadForm, LoadStore, LoadStoreMultiple, RegisterAddress,
 };
-use instruction_set::operands::{ImmediateAddress, LoadForm, RegisterAddress, ShiftedRegister};
 use instruction_set::registers::Register;
+use instruction_set::system::System;
 
 /// The number of the variant, and then the operands.
 pub type Listed = [u32; 8];

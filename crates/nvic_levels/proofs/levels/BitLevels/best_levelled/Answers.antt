@@ -7,21 +7,20 @@ returns-in-Some c =
     let nmi = rw (← c.self.view_is) at c.requires.nmi in
     let fault = rw (← c.self.view_is) at c.requires.hard_fault in
     let e = c.in-Some.ensures in
+    let s = c.self.inside in
+    let view = of_view s.levels s.held s.enabled s.active s.settings.priorities s.settings.group s.settings.masks
+    s.settings.interrupts s.settings.priority_bits c.self.invariant.2 in
     rw (c.from.ensures, ← c.self.view_is)
-    (best_found _ c.self.inside.levels c.self.inside.held c.self.inside.enabled e.0 c.in-Some.number
-    (of_view c.self.inside.levels c.self.inside.held c.self.inside.enabled c.self.inside.active c.self.inside.settings.priorities
-    c.self.inside.settings.group c.self.inside.settings.masks c.self.inside.settings.interrupts c.self.inside.settings.priority_bits c.self.invariant.2) nmi fault
-    e.1
-    e.2)
+    (best_found _ s.levels s.held s.enabled e.0 c.in-Some.number view nmi fault e.1 e.2)
 
 pub returns-in-None : goal.returns-in-None
 returns-in-None c =
     let nmi = rw (← c.self.view_is) at c.requires.nmi in
     let fault = rw (← c.self.view_is) at c.requires.hard_fault in
-    rw (← c.self.view_is) (best_absent _ c.self.inside.levels c.self.inside.held c.self.inside.enabled
-    (of_view c.self.inside.levels c.self.inside.held c.self.inside.enabled c.self.inside.active c.self.inside.settings.priorities
-    c.self.inside.settings.group c.self.inside.settings.masks c.self.inside.settings.interrupts c.self.inside.settings.priority_bits c.self.invariant.2) nmi fault
-    c.in-None.ensures)
+    let s = c.self.inside in
+    let view = of_view s.levels s.held s.enabled s.active s.settings.priorities s.settings.group s.settings.masks
+    s.settings.interrupts s.settings.priority_bits c.self.invariant.2 in
+    rw (← c.self.view_is) (best_absent _ s.levels s.held s.enabled view nmi fault c.in-None.ensures)
 
 pub first_of-requires : goal.first_of-requires
 first_of-requires c = spaced _ _ _ _ _ c.self.invariant.2 c.self.invariant.3

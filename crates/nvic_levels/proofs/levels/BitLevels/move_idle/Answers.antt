@@ -18,7 +18,7 @@ pub returns : goal.returns
 returns c =
     let small : c.args.number < 256 = omega arith in
     let out = rw (← c.self.view_is) at c.requires.idle in
-    let same = seen_moved c.self.inside.levels c.self.inside.held c.self.inside.enabled c.self.inside.settings.priorities
-    c.args.number c.args.byte
-    small c.self.invariant.2 (sym (flag _ c.args.number small) ∙ out) in
+    let s = c.self.inside in
+    let same = seen_moved s.levels s.held s.enabled s.settings.priorities c.args.number c.args.byte small
+    c.self.invariant.2 (sym (flag _ c.args.number small) ∙ out) in
     rw (← c.self.view_is) (rw same refl)

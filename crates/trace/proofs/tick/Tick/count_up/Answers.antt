@@ -1,4 +1,4 @@
-use Rattle.std.proofs.Common.{◌≡◌, ℕ, suc, ◌+◌, ◌-◌, ◌<◌, ◌^◌, length, arith}
+use Rattle.std.proofs.Common.{◌≡◌, suc, ◌+◌, ◌-◌, ◌<◌, ◌^◌, length, arith}
 use Rattle.trace.proofs.Ticks.{counted_up}
 use Rattle.trace.proofs.tick.Tick.count_up.Goals as goal
 
