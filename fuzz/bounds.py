@@ -3,8 +3,9 @@
 # KiB of stack: without its board, for a byte of the board's file, and at most.
 STACK, STACK_OF_BOARD, MOST_STACK = 192, 0.25, 2048
 
-# KiB of address space: of the program with 2 MiB of flash and RAM, for a byte of the image's file, and of the board's.
-SPACE, SPACE_OF_IMAGE, SPACE_OF_BOARD = 16 * 1024, 4 / 1024, 1
+# KiB of address space: of the program with 2 MiB of flash and RAM and 14 MiB of kept instructions, for a byte of the
+# image's file, and of the board's.
+SPACE, SPACE_OF_IMAGE, SPACE_OF_BOARD = 24 * 1024, 4 / 1024, 1
 
 # Seconds of processor time: of a start, of a byte that is written, of a step, of a byte of the board or the commands.
 START, WRITTEN, STEP, READ = 0.5, 1e-6, 20e-6, 10e-6
