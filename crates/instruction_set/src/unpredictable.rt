@@ -1,7 +1,7 @@
 //! The cases that the manual calls UNPREDICTABLE.
 
 /// The cases that stop the machine: UNPREDICTABLE, or a stored value that is UNKNOWN.
-#[derive(Clone, Copy)]
+#[derive(Clone, Copy, PartialEq, Eq)]
 pub enum UnpredictableCase {
     /// A bit that should be 0 or should be 1 isn't.
     Encoding,

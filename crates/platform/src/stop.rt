@@ -5,7 +5,7 @@ ghost use Rattle.std.specs.Prelude.{◌≡◌, ◌≤◌, ℕ, List, Some, lengt
 use instruction_set::unpredictable::UnpredictableCase;
 
 /// Why a run ended. After any of these but `StepLimit` the machine makes no further step.
-#[derive(Clone, Copy)]
+#[derive(Clone, Copy, PartialEq, Eq)]
 pub enum Stop {
     /// As many steps were made as the limit allows.
     StepLimit,
@@ -23,7 +23,7 @@ pub enum Stop {
 }
 
 /// What this project's profile leaves out.
-#[derive(Clone, Copy)]
+#[derive(Clone, Copy, PartialEq, Eq)]
 pub enum LeftOut {
     /// An aligned exclusive access to the device window or the Private Peripheral Bus.
     ExclusiveDevice,
