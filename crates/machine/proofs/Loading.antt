@@ -2,7 +2,7 @@
 use Rattle.std.proofs.Common.{◌≡◌, ℕ, ◌+◌, ◌-◌, ◌<◌, ◌≤◌, Bool, true, false, ◌&&◌, ◌||◌, List, [], ◌∷◌, length, drop}
 use Rattle.std.proofs.Common.{map, get_or, refl, sym, ◌∙◌, add-one, arith}
 use Rattle.std.proofs.Math.Seq.{drop-cons}
-use Rattle.std.proofs.lemmas.Bool.{and_parts}
+use Rattle.std.proofs.lemmas.Bool.{and_left, and_parts}
 use Rattle.std.proofs.lemmas.Bool.Decides.{nat_tests}
 use Rattle.elf.specs.declared.image.Segment.{Segment as Lent}
 use Rattle.elf.specs.Segment.{segment_of}
@@ -16,14 +16,10 @@ front : (segments : List Lent) (i : ℕ) (d : Lent) → i < length segments
     → map segment_of (drop i segments) ≡ segment_of (get_or segments i d) ∷ map segment_of (drop (i + 1) segments)
 front segments i d below = rw (add-one, drop-cons segments i d) refl
 
-first_false : (x y : Bool) → x ≡ false → (x && y) ≡ false
-first_false true y e = absurd cc
-first_false false y e = refl
-
 -- one that isn't placed decides for all
 pub not_placed : (m : Memory) (segments : List Lent) (i : ℕ) (d : Lent) → i < length segments
     → is_placed m (segment_of (get_or segments i d)) ≡ false → are_placed m (map segment_of (drop i segments)) ≡ false
-not_placed m segments i d below out = rw (front segments i d below) (first_false _ _ out)
+not_placed m segments i d below out = rw (front segments i d below) (and_left _ _ out)
 
 -- the next one is placed, and the later ones are
 pub next_placed : (m : Memory) (segments : List Lent) (i : ℕ) (d : Lent) → i < length segments

@@ -6,6 +6,7 @@ use Rattle.std.specs.Prelude.{IfSome}
 use Rattle.std.specs.List.{All, refill}
 use Rattle.std.specs.List.Sorted.{IsNonDecreasing, IsPermutation}
 use Rattle.std.proofs.lemmas.Bool.{cases_lt}
+use Rattle.std.proofs.lemmas.Grind.{get_or_default_zero}
 use Rattle.std.proofs.lemmas.List.Elements.{All-nil, All-push}
 use Rattle.std.proofs.lemmas.List.Sorted.{All-permutation, IsPermutation-sym}
 use Rattle.mpu_table.proofs.Cuts.{owner_alike}
@@ -32,12 +33,6 @@ parts_sorted points sorted m moved parts k h a b order small clear =
 pub refilled : (xs ws : List ℕ) → length ws ≡ length xs → refill (length xs) xs ws ≡ ws
 refilled xs ws e = rw (← e) (take-append_seam ws (drop (length ws) xs))
 
--- the default of an index in range is never read
-any_default : (xs : List ℕ) (k d : ℕ) → k < length xs → get_or xs k d ≡ get_or xs k 0
-any_default [] k d h = absurd (omega arith)
-any_default (x ∷ xs) zero d h = refl
-any_default (x ∷ xs) (suc k) d h = any_default xs k d (omega arith)
-
 -- an address is below all points from the i-th on
 abbrev IsBelow : List ℕ → ℕ → ℕ → Type 0
 IsBelow points i a = (j : ℕ) → i ≤ j → j < length points → a < get_or points j 0
@@ -51,7 +46,7 @@ owned_first m points parts a from small below =
     sym (owner_alike points m 0 a parts from small (λ k d h. inr (clear k d h)))
   where
     clear : (k d : ℕ) → k < length points → a < get_or points k d
-    clear k d h = let e = any_default points k d h in let f = below k (omega arith) h in omega (arith, e, f)
+    clear k d h = let e = get_or_default_zero points k d h in let f = below k (omega arith) h in omega (arith, e, f)
 
 -- from a point on, up to the next
 owned_from : (m : Mpu) (points : List ℕ) (i a : ℕ) → PartsRegions points m → IsNonDecreasing points → i < length points
@@ -64,9 +59,9 @@ owned_from m points i a parts order room from small below =
       where
         lead : ((i < k) ⊎ (k ≤ i)) → (get_or points k d ≤ get_or points i 0) ⊎ (a < get_or points k d)
         lead (inl after) =
-            let e = any_default points k d h in let f = below k (omega arith) h in inr (omega (arith, e, f))
+            let e = get_or_default_zero points k d h in let f = below k (omega arith) h in inr (omega (arith, e, f))
         lead (inr upto) =
-            let e = any_default points k d h in let f = order k i 0 upto room in inl (omega (arith, e, f))
+            let e = get_or_default_zero points k d h in let f = order k i 0 upto room in inl (omega (arith, e, f))
 
 -- before a point
 owned_before : (m : Mpu) (points : List ℕ) (i first a : ℕ) (region : Option ℕ) → HaveOwner m points i first region

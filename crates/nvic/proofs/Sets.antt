@@ -1,14 +1,11 @@
 -- Sets of exceptions that eight words hold: a word that is 0 has none of its exceptions.
 use Rattle.std.proofs.Common.{◌≡◌, ℕ, zero, suc, ◌+◌, ◌*◌, ◌/◌, ◌%◌, ◌^◌, ◌<◌, ◌≤◌, false, List}
 use Rattle.std.proofs.Common.{slice_index, bit_or, refl, ◌∙◌, ap, arith, below_more}
-use Rattle.std.proofs.Math.Nat.{zero-div}
 use Rattle.std.proofs.lemmas.Nat.{le_or_l, le_or_r}
 use Rattle.instruction_set.specs.Words.{is_bit}
+use Rattle.platform.proofs.Bits.{no_bit}
 use Rattle.platform.specs.declared.exception.TheConstants.{EXCEPTIONS}
 use Rattle.platform.specs.Priorities.{Nvic, is_in_words, with_due, with_due_at, with_due_below}
-
-pub no_bit : (k : ℕ) → is_bit 0 k ≡ false
-no_bit k = rw (zero-div (2 ^ k)) refl
 
 or_zero : (a b : ℕ) → bit_or a b ≡ 0 → (a ≡ 0) × (b ≡ 0)
 or_zero a b e =

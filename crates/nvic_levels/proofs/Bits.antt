@@ -7,26 +7,17 @@ use Rattle.std.proofs.Common.{arith, ap, refl, ◌∙◌, ◌≤◌, ◌⊎◌, 
 use Rattle.std.proofs.Common.{w32}
 use Rattle.std.proofs.lemmas.Bool.{cases_lt, eq-eqb}
 use Rattle.std.proofs.lemmas.Grind.{common_steps}
-use Rattle.std.proofs.lemmas.Nat.Bits.{bit_at_set_same, bit_at_set_other, bit_at_clear_same, bit_at_clear_other}
+use Rattle.std.proofs.lemmas.Nat.Bits.{bit_at_clear_same, bit_at_clear_other}
 use Rattle.std.proofs.lemmas.Nat.Bits.{bit_at-trailing_zeros}
 use Rattle.nvic_levels.specs.Sets.{level, AreEmpty, IsFirstOf}
 use Rattle.instruction_set.specs.Words.{bit_at, is_bit}
 use Rattle.platform.specs.declared.exception.TheConstants.{EXCEPTIONS}
 use Rattle.platform.specs.Priorities.{is_in_words}
-use Rattle.nvic.proofs.Sets.{no_bit}
+use Rattle.platform.proofs.Bits.{with_bit, bit_set, bit_kept, no_bit}
 
--- a word with bit k set, and one with bit k cleared
-abbrev with_bit : ℕ → ℕ → ℕ
-with_bit v k = bit_or v (1 * 2 ^ k % 2 ^ 32)
-
+-- a word with bit k cleared
 abbrev without_bit : ℕ → ℕ → ℕ
 without_bit v k = bit_and v (bit_not w32 (1 * 2 ^ k % 2 ^ 32))
-
-bit_set : (v k : ℕ) → k < 32 → is_bit (with_bit v k) k ≡ true
-bit_set v k h = eq-eqb _ _ (bit_at_set_same w32 v k h)
-
-bit_kept : (v k i : ℕ) → k < 32 → i ≢ k → is_bit (with_bit v k) i ≡ is_bit v i
-bit_kept v k i h d = ap (λ b. b == 1) (bit_at_set_other w32 v k h i d)
 
 bit_cleared : (v k : ℕ) → k < 32 → is_bit (without_bit v k) k ≡ false
 bit_cleared v k h = ap (λ b. b == 1) (bit_at_clear_same w32 v k h)

@@ -19,10 +19,9 @@ use Rattle.platform.specs.Outcomes.{Outcome, done, within}
 use Rattle.platform.specs.Space.{written_to, space_access}
 use Rattle.reference.specs.State.{Bus}
 use Rattle.step_laws.specs.AccessLaw.{NoneRefused, are_covering, OnlyCovered}
-use Rattle.space.proofs.Blocks.{IsOutside, blocks_kept}
+use Rattle.space.proofs.Blocks.{IsOutside, blocks_kept, length-bytes_of}
 use Rattle.step_laws.proofs.Lines.{unrefused-nil, unrefused-cons, EndIn, failure_in, ends-append}
 use Rattle.step_laws.proofs.Lines.{covered-append, covered-same}
-use Rattle.step_laws.proofs.Stored.{length-bytes_of}
 
 -- ---- the bytes of one access
 

@@ -15,10 +15,6 @@ IsWord m a v = (k : ℕ) → k < 4 → byte_at m (a + k) ≡ Some (get_or (bytes
 
 -- ---- what was written
 
-pub length-bytes_of : (n v : ℕ) → length (bytes_of n v) ≡ n
-length-bytes_of zero v = refl
-length-bytes_of (suc n) v = ap suc (length-bytes_of n _)
-
 -- a byte of a block at a place where bytes were written is the byte that was written there
 pub written_in : (block bytes : List ℕ) (a k : ℕ) → a + length bytes ≤ length block → k < length bytes →
     get_or (with_bytes block a bytes) (a + k) 0 ≡ get_or bytes k 0

@@ -12,10 +12,11 @@ use Rattle.std.proofs.Common.{set, add-zero, add-one}
 use Rattle.std.proofs.lemmas.Bool.{cases_eq, eq-eqb, ne_eqb, eqb-true, eqb-false, ltb-true, ltb-false}
 use Rattle.std.proofs.lemmas.Grind.{common_steps}
 use Rattle.std.proofs.lemmas.List.{length-set}
-use Rattle.std.proofs.lemmas.Nat.Bits.{bit_at_above, bit_at_or, bit_at-pow_same, bit_at-pow_other}
+use Rattle.std.proofs.lemmas.Nat.Bits.{bit_at_or, bit_at-pow_same, bit_at-pow_other}
 use Rattle.std.proofs.Math.Bool.{or_assoc, or-false}
 use Rattle.std.proofs.Math.Nat.{add-suc}
 use Rattle.instruction_set.specs.Words.{bit_at, is_bit}
+use Rattle.platform.proofs.Bits.{no_bit}
 use Rattle.survey.specs.declared.mark.Mark.{Mark}
 use Rattle.survey.specs.TimeLaw.{some_makes}
 use Rattle.survey.specs.Timeline.{Timeline, appended, begun, join_at, joined, joined_to, with_bit, mark_number, marked}
@@ -46,9 +47,6 @@ power_bit m k = elim (cases_eq k m) [
 
 marked_bit : (x m k : ℕ) → is_bit (bit_or x (2 ^ m)) k ≡ (is_bit x k || (m == k))
 marked_bit x m k = or_bit x (2 ^ m) k ∙ ap (λ b. is_bit x k || b) (power_bit m k)
-
-zero_bit : (k : ℕ) → is_bit 0 k ≡ false
-zero_bit k = ap (λ n. n == 1) (bit_at_above 0 0 k (omega arith) (omega arith))
 
 -- Joined columns
 
@@ -171,7 +169,7 @@ appended_begun f k n t full = record {
     final = λ c is.
         let same : c ≡ t.used = let h : c + 1 ≡ t.used + 1 = is in omega (arith, h) in
         let here : t.used < length t.columns = omega (arith, full.long, full.room) in
-        rw same (ap (λ x. is_bit x k) (set_same t.columns t.used 0 here) ∙ zero_bit k);
+        rw same (ap (λ x. is_bit x k) (set_same t.columns t.used 0 here) ∙ no_bit k);
   };
 }
 

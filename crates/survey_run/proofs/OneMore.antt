@@ -1,5 +1,6 @@
 -- A survey of one event more, and the moment of the next step.
 use Rattle.std.proofs.Common.{◌≡◌, Bool, true, false, ◌||◌, List, [], ◌∷◌, ◌++◌, refl, sym, ap, ◌∙◌}
+use Rattle.std.proofs.Math.Bool.{or-false}
 use Rattle.std.proofs.lemmas.List.{map-append}
 use Rattle.platform.specs.declared.event.Event.{Event}
 use Rattle.reference.specs.State.{State}
@@ -33,13 +34,9 @@ joined : (a x y z : Bool) → x ≡ (y || z) → (a || x) ≡ ((a || y) || z)
 joined true x y z e = refl
 joined false x y z e = e
 
-or_none : (a : Bool) → (a || false) ≡ a
-or_none true = refl
-or_none false = refl
-
 one_written : (es : List Event) (e : Event)
     → some_writes_system (es ++ e ∷ []) ≡ (some_writes_system es || writes_system e.what)
-one_written [] e = or_none (writes_system e.what)
+one_written [] e = or-false (writes_system e.what)
 one_written (first ∷ es) e = joined (writes_system first.what) _ _ _ (one_written es e)
 
 pub more_written : (before now : Bool) (es later : List Event) (e : Event) → before ≡ some_writes_system es

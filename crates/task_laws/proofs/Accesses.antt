@@ -31,7 +31,7 @@ use Rattle.task_laws.specs.TaskLaw.{IsOfTask, AreOfTask}
 use Rattle.task_laws.proofs.Blocks.{decided_alike, one_block}
 use Rattle.task_laws.proofs.Memories.{AllIn, both, number_alike, written_alike, rest_kept, agree_then}
 use Rattle.task_laws.proofs.Priorities.{Decides, system_decides}
-use Rattle.step_laws.proofs.Stored.{length-bytes_of}
+use Rattle.space.proofs.Blocks.{length-bytes_of}
 
 -- ---- what a granted access may read and write
 

@@ -5,10 +5,8 @@ use Rattle.std.proofs.lemmas.List.{append-nil}
 use Rattle.std.proofs.lemmas.List.Elements.{filter-append, filter_map-append}
 use Rattle.std.specs.List.{cons_option, last_or}
 use Rattle.std.specs.Option.{option_or}
-use Rattle.platform.specs.declared.access.DecidedAccess.{DecidedAccess}
 use Rattle.platform.specs.declared.event.Event.{Event}
 use Rattle.platform.specs.declared.event.EventKind.{EventKind}
-use Rattle.platform.specs.declared.event.EventKind.TheVariants.{Accessed}
 use Rattle.platform.specs.Events.{byte_of}
 use Rattle.reference.specs.Run.{events_of, trace}
 use Rattle.reference.specs.State.{State}
@@ -135,12 +133,3 @@ byte_selected selection e byte chosen bare is =
     selected_alone selection e chosen
     ∙ ap (λ (b : Bool). if b then printed (e ∷ []) else lines (e ∷ [])) bare
     ∙ ap (λ (o : Option ℕ). cons_option o []) is
-
--- a selection that has accesses writes lines
-pub accesses_lined : (selection : TraceSelection) (a : DecidedAccess) → selects selection (Accessed a) ≡ true
-    → writes_bytes selection ≡ false
-accesses_lined which.All a chosen = refl
-accesses_lined which.Refused a chosen = refl
-accesses_lined which.Exceptions a chosen = refl
-accesses_lined which.Console a chosen = absurd cc
-accesses_lined which.Nothing a chosen = refl
