@@ -2,10 +2,10 @@
 //! timer, SysTick"; the rest is this project's profile).
 #![tactic(auto)]
 
-ghost use Rattle.std.specs.Prelude.{◌≡◌, ℕ, ◌+◌, ◌^◌, ◌<◌, ◌≤◌, true, false};
+ghost use Rattle.std.specs.Prelude.{◌≡◌, ◌↔◌, ℕ, ◌+◌, ◌^◌, ◌<◌, ◌≤◌, true, false, IsTrue};
 ghost use Rattle.clock.specs.DueTicks.{IsRight, IsQuiet};
-ghost use Rattle.platform.specs.Time.{time_after_tick, counted, timer_pends, tick_pends, script_due};
-ghost use Rattle.platform.specs.Time.{event_applies_next, passed, is_high, start_time, csr, after_csr_read, with_csr};
+ghost use Rattle.platform.specs.Time.{time_after_tick, counted, tick_pends, script_due};
+ghost use Rattle.platform.specs.Time.{passed, is_high, start_time, csr, after_csr_read, with_csr};
 ghost use Rattle.platform.specs.Time.{with_rvr, with_cvr_cleared, IsSetOf};
 
 mod ahead;
@@ -90,16 +90,7 @@ impl<U: DueTicks> Clock<U> {
         interrupts::is_high(&self.high, interrupt)
     }
 
-    /// Returns whether an event of the script applies in the next tick.
-    #[inline]
-    fn event_applies_next(&self) -> bool
-        requires { self.now.time.ticks < 2 ^ 48 }
-        ensures { result ≡ event_applies_next self.now.time }
-    {
-        self.next_event() <= self.ticks + 1
-    }
-
-    /// Returns what the next tick would pend. The clock mustn't be at its end, as for `tick`.
+    /// Returns what the next tick would pend. The clock mustn't be at its end, as for `tick_due`.
     #[inline]
     #[tactic(auto, using(crate::proofs::Quiet::right_pends))]
     pub fn peek(&self) -> Due
@@ -120,35 +111,9 @@ impl<U: DueTicks> Clock<U> {
         requires { self.now.time.ticks < 2 ^ 48 }
         ensures { IsSetOf result (tick_pends self.now.time) }
     {
-        let mut due = NOTHING;
         let script = &self.script[self.done..];
         let count = script::due_count(self.ticks + 1, script);
-        sets::put_events(&mut due, &script[..count]);
-        sets::put_timer(&mut due, &self.systick());
-        due
-    }
-
-    /// Makes the next tick. Returns the exceptions that it pends.
-    #[inline]
-    #[tactic(auto, using(crate::proofs::Quiet::right_lemmas))]
-    pub fn tick(&mut self) -> Due
-        requires { self.old.time.ticks < 2 ^ 48 }
-        ensures time { IsRight self.old → self.new.time ≡ time_after_tick self.old.time }
-        ensures due { IsRight self.old → IsSetOf result (tick_pends self.old.time) }
-        ensures right { IsRight self.old → IsRight self.new }
-        ensures passes { IsQuiet self.old → self.new ≡ record self.old { time = passed self.old.time } }
-        ensures quiet { IsQuiet self.old → IsSetOf result (λ _. false) }
-    {
-        if self.timer.is_quiet_after(self.ticks) {
-            self.ticks += 1;
-            return NOTHING;
-        }
-        if !self.event_applies_next() {
-            return self.pass();
-        }
-        let due = self.due_next();
-        self.count();
-        due
+        sets::due_of(&script[..count], &self.systick())
     }
 
     /// Makes the next tick if the due tick that is kept says that nothing is due at it. Returns whether it did.
@@ -156,7 +121,9 @@ impl<U: DueTicks> Clock<U> {
     #[tactic(auto, using(crate::proofs::Quiet::right_lemmas))]
     pub fn tick_quietly(&mut self) -> bool
         requires { self.old.time.ticks < 2 ^ 48 }
+        ensures answer { IsTrue result ↔ IsQuiet self.old }
         ensures same { result ≡ false → self.new ≡ self.old }
+        ensures passes { result ≡ true → self.new ≡ record self.old { time = passed self.old.time } }
         ensures time { result ≡ true → IsRight self.old → self.new.time ≡ time_after_tick self.old.time }
         ensures quiet { result ≡ true → IsRight self.old → (number : ℕ) → tick_pends self.old.time number ≡ false }
         ensures right { IsRight self.old → IsRight self.new }
@@ -168,43 +135,20 @@ impl<U: DueTicks> Clock<U> {
         false
     }
 
-    /// Makes the next tick, in which no event of the script applies. Returns the exceptions that it
-    /// pends.
-    #[inline]
-    #[tactic(auto, using(crate::proofs::Quiet::no_event_next, crate::proofs::Quiet::no_event_pends))]
-    fn pass(&mut self) -> Due
-        requires bounded { self.old.time.ticks < 2 ^ 48 }
-        requires quiet { event_applies_next self.old.time ≡ false }
+    /// Makes the next tick, whatever is due at it. Returns the exceptions that it pends.
+    #[tactic(auto, unfolding(platform::specs::Time::tick_pends, platform::specs::Time::time_after_tick))]
+    pub fn tick_due(&mut self) -> Due
+        requires { self.old.time.ticks < 2 ^ 48 }
         ensures time { self.new.time ≡ time_after_tick self.old.time }
         ensures due { IsSetOf result (tick_pends self.old.time) }
         ensures right { IsRight self.new }
     {
-        let due = self.due_of_timer();
-        self.count_on();
-        due
-    }
-
-    /// Returns what SysTick's next count pends.
-    #[inline]
-    fn due_of_timer(&self) -> Due
-        ensures { IsSetOf result (timer_pends self.now.time.systick) }
-    {
-        let mut due = NOTHING;
-        sets::put_timer(&mut due, &self.systick());
-        due
-    }
-
-    /// Makes a tick in which events of the script may apply.
-    #[tactic(auto, unfolding(platform::specs::Time::time_after_tick))]
-    fn count(&mut self)
-        requires { self.old.time.ticks < 2 ^ 48 }
-        ensures time { self.new.time ≡ time_after_tick self.old.time }
-        ensures right { IsRight self.new }
-    {
         let count = script::due_count(self.ticks + 1, &self.script[self.done..]);
+        let due = sets::due_of(&self.script[self.done..self.done + count], &self.systick());
         interrupts::take_events(&mut self.high, &self.script[self.done..self.done + count]);
         self.done += count;
         self.count_on();
+        due
     }
 
     /// Advances the clock and SysTick by one. Its caller has applied the events of that tick.

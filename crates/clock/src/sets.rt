@@ -3,7 +3,7 @@
 ghost use Rattle.std.specs.Prelude.{◌≡◌, ◌==◌, ◌||◌, ◌<◌, ℕ};
 ghost use Rattle.std.specs.List.{list_any};
 ghost use Rattle.platform.specs.Priorities.{is_in_words};
-ghost use Rattle.platform.specs.Time.{pends, interrupt_exception, timer_pends};
+ghost use Rattle.platform.specs.Time.{IsSetOf, pends, interrupt_exception, timer_pends};
 
 use crate::timer::SysTick;
 use platform::exception::{FIRST_INTERRUPT, NMI, SYS_TICK};
@@ -43,8 +43,18 @@ fn exception_of(interrupt: InterruptNumber) -> u8
     FIRST_INTERRUPT as u8 + interrupt.number()
 }
 
+/// Returns the set of the exceptions that events pend, and SysTick's next count.
+pub fn due_of(events: &[ScriptedEvent], timer: &SysTick) -> Due
+    ensures { IsSetOf result (λ n. timer_pends timer.now n || list_any (λ e. pends e.what n) events.now) }
+{
+    let mut due = NOTHING;
+    put_events(&mut due, events);
+    put_timer(&mut due, timer);
+    due
+}
+
 /// Puts the exceptions that events pend into a set.
-pub fn put_events(due: &mut Due, events: &[ScriptedEvent])
+fn put_events(due: &mut Due, events: &[ScriptedEvent])
     ensures { (n : ℕ) → n < 256 → is_in_words due.new n
         ≡ (list_any (λ e. pends e.what n) events.now || is_in_words due.old n) }
 {
@@ -55,7 +65,7 @@ pub fn put_events(due: &mut Due, events: &[ScriptedEvent])
 
 /// Puts SysTick's exception into a set, where its next count pends it.
 #[inline]
-pub fn put_timer(due: &mut Due, timer: &SysTick)
+fn put_timer(due: &mut Due, timer: &SysTick)
     ensures { (n : ℕ) → n < 256 → is_in_words due.new n ≡ (timer_pends timer.now n || is_in_words due.old n) }
 {
     if timer.will_pend() {

@@ -10,7 +10,7 @@ const LAST: u64 = 1 << 48;
 fn counting_reaches_the_last_tick(rt: HostRuntime) -> Result<(), Fail> {
     let mut clock: Clock<Counting> = Clock::new(Vec::new(rt.alloc()));
     clock.ticks = LAST - 1;
-    let due = clock.tick();
+    let due = clock.tick_due();
     assert_eq!(rt; clock.now(), LAST);
     assert_eq!(rt; due, [0; 8]);
     Ok(())
@@ -20,8 +20,7 @@ fn counting_reaches_the_last_tick(rt: HostRuntime) -> Result<(), Fail> {
 fn ahead_reaches_the_last_tick(rt: HostRuntime) -> Result<(), Fail> {
     let mut clock: Clock<Ahead> = Clock::new(Vec::new(rt.alloc()));
     clock.ticks = LAST - 1;
-    let due = clock.tick();
+    assert!(rt; clock.tick_quietly());
     assert_eq!(rt; clock.now(), LAST);
-    assert_eq!(rt; due, [0; 8]);
     Ok(())
 }

@@ -168,10 +168,6 @@ abbrev pub script_due : List ScriptedEvent → ℕ
 script_due [] = never
 script_due (e ∷ events) = e.at
 
--- whether an event of the script applies in the next tick
-abbrev pub event_applies_next : Time → Bool
-event_applies_next t = nat_le (script_due t.script) (t.ticks + 1)
-
 -- the earlier of SysTick's next 0 and the tick `event` of the script's next event, but no later than `never`
 abbrev pub next_due : ℕ → SysTick → ℕ → ℕ
 next_due ticks t event = min never (min (timer_due ticks t) event)

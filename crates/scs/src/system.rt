@@ -104,7 +104,7 @@ impl<D: Decider, L: Levels, U: DueTicks> System<D, L, U> {
         requires { self.old.time.ticks < 2 ^ 48 }
         ensures { self.new ≡ after_tick self.old }
     {
-        let due = self.clock.tick();
+        let due = self.clock.tick_due();
         self.levels.pend_due(&due);
     }
 

@@ -86,7 +86,7 @@ fn counting(alloc: Global, values: &str) -> Option<Clock<Counting>> {
 /// A tick of a clock that isn't at its end.
 fn tick(clock: &mut Clock<Counting>) -> Option<Due> {
     if clock.now() < LAST {
-        Some(clock.tick())
+        Some(clock.tick_due())
     } else {
         None
     }
