@@ -8,7 +8,7 @@ use Rattle.reference.specs.declared.failure.Failure.{Failure}
 use Rattle.platform.specs.declared.access.Request.{Request}
 use Rattle.platform.specs.declared.event.Event.{Event}
 use Rattle.reference.specs.Accesses.{ListResult, followed, perform, perform_all, access_lines, value_of}
-use Rattle.reference.specs.State.{Bus}
+use Rattle.reference.specs.State.{Bus, State, with_bus}
 use Rattle.trace.specs.Emission.{Emission}
 
 -- what accesses leave after lines and values that are there already
@@ -104,3 +104,17 @@ still_before start mid new events grown same =
     let whole : new ≡ record start { events = events } =
     grown ∙ ap (λ (m : Emission). record m { events = events }) same in
     whole ∙ ap (λ (es : List Event). record start { events = es }) (sym (ap (λ (e : Emission). e.events) whole))
+
+-- the exception that runs, while the bus alone has changed
+pub same_exception : (first mid : State) → mid ≡ with_bus first mid.bus
+    → mid.registers.exception ≡ first.registers.exception
+same_exception first mid same = ap (λ (s : State). s.registers.exception) same
+
+-- after one access more the bus alone has changed
+pub bus_changed : (first mid new : State) (after : Bus) → mid ≡ with_bus first mid.bus → new ≡ with_bus mid after
+    → new ≡ with_bus first after
+bus_changed first mid new after same made = made ∙ ap (λ (s : State). with_bus s after) same
+
+-- and it is the bus of that state
+pub own_bus : (first new : State) (after : Bus) → new ≡ with_bus first after → new ≡ with_bus first new.bus
+own_bus first new after made = made ∙ ap (λ (b : Bus). with_bus first b) (sym (ap (λ (s : State). s.bus) made))

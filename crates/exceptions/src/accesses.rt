@@ -1,10 +1,9 @@
-//! The accesses of a step, one by one, and their lines.
+//! The accesses of a step, whatever they are, and their lines.
 
 ghost use Rattle.std.specs.Prelude.{◌≡◌, ◌+◌, ◌≤◌, ◌<◌, ◌^◌, ◌++◌, length, IfOk};
-ghost use Rattle.exceptions.specs.LineBounds.{lines_of, most_lines};
-ghost use Rattle.exceptions.specs.Serving.{Serves};
+ghost use Rattle.exceptions.specs.LineBounds.{lines_of};
 ghost use Rattle.instruction_set.specs.Sizes.{bytes_in};
-ghost use Rattle.reference.specs.Accesses.{accessed, access_lines, value_of, perform, perform_all};
+ghost use Rattle.reference.specs.Accesses.{accessed, access_lines, value_of, perform};
 ghost use Rattle.platform.specs.declared.access.Performed.TheVariants.{Done};
 ghost use Rattle.platform.specs.declared.event.EventKind.TheVariants.{ConsoleByte};
 ghost use Rattle.platform.specs.Outcomes.{IsOf};
@@ -23,70 +22,11 @@ pub type Requests = Bounded<Request, MOST_REQUESTS>;
 /// The values that an instruction read, in the order of its accesses.
 pub type Values = Bounded<u32, MOST_REQUESTS>;
 
-/// Makes accesses one by one, each in the state that the one before left, to the first failure.
-/// `exception` is the number of the exception that runs. `values` becomes what they read. Its
-/// definition is `perform_all` of Accesses.antt; `served` of Step.antt is the rest of a step after it.
-#[inline(always)]
-pub fn perform_all<D: Decider, C: KeptCode, L: Levels, U: DueTicks, S: Sink>(
-    exception: u16,
-    bus: &mut Bus<D, C, L, U>,
-    tick: u64,
-    events: &mut S,
-    requests: &[Request],
-    values: &mut Values,
-) -> Result<(), Failure>
-    requires room { length (S.emitted events.old).events + most_lines requests.now ≤ MOST_EVENTS }
-    requires few { length requests.now ≤ MOST_REQUESTS }
-    ensures bus { bus.new ≡ (perform_all exception tick bus.old requests.now).bus }
-    ensures events { S.emitted events.new
-        ≡ with_emitted (S.emitted events.old)
-        ((S.emitted events.old).events ++ (perform_all exception tick bus.old requests.now).events) }
-    ensures answer { Serves (perform_all exception tick bus.old requests.now) values.new result }
-    ensures room { length (S.emitted events.new).events
-        ≤ length (S.emitted events.old).events + most_lines requests.now }
-    ensures whole { IfOk result (λ done. length values.new.items ≡ length requests.now) }
-{
-    values.clear();
-    'requests: for request in requests {
-        match access(exception, bus, tick, events, request) {
-            Ok(value) => values.push(value),
-            Err(failure) => return Err(failure),
-        }
-    }
-    Ok(())
-}
-
-/// Makes one access, and appends its lines. Most are to flash or RAM, by a rule that is kept.
-#[inline(always)]
-pub fn access<D: Decider, C: KeptCode, L: Levels, U: DueTicks, S: Sink>(
-    exception: u16,
-    bus: &mut Bus<D, C, L, U>,
-    tick: u64,
-    events: &mut S,
-    request: &Request,
-) -> Result<u32, Failure>
-    requires { length (S.emitted events.old).events + lines_of request.now ≤ MOST_EVENTS }
-    ensures bus { bus.new ≡ (perform exception bus.old request.now).after }
-    ensures events { S.emitted events.new
-        ≡ with_emitted (S.emitted events.old)
-        ((S.emitted events.old).events ++ access_lines tick request.now
-        (perform exception bus.old request.now).performed) }
-    ensures room { length (S.emitted events.new).events ≤ length (S.emitted events.old).events + lines_of request.now }
-    ensures answer { result ≡ value_of request.now (perform exception bus.old request.now).performed }
-    ensures narrow { IfOk result (λ value. value < 256 ^ bytes_in request.now.access.size) }
-{
-    if let Some(done) = bus.perform_at_once(request) {
-        events.emit(accessed(tick, request, done.rule, None));
-        return Ok(done.value);
-    }
-    access_whole(exception, bus, tick, events, *request)
-}
-
 /// Makes one access, whatever it is, and appends its lines. It takes a copy, so that the compiler can keep the request
 /// of an access that never comes here in the host's registers.
 #[cold]
 #[inline(never)]
-fn access_whole<D: Decider, C: KeptCode, L: Levels, U: DueTicks, S: Sink>(
+pub fn access_whole<D: Decider, C: KeptCode, L: Levels, U: DueTicks, S: Sink>(
     exception: u16,
     bus: &mut Bus<D, C, L, U>,
     tick: u64,

@@ -99,7 +99,8 @@ impl<D: Decider, C: KeptCode, L: Levels, U: DueTicks> Core<D, C, L, U> {
         ensures { StepsTo S.emitted events.old events.new self.new (exception_taken self.old exc_return exception) }
     {
         let request = self.vector_read(exception);
-        match self.access(events, &request) {
+        let tick = self.ticks();
+        match self.access(tick, events, &request) {
             Ok(vector) => self.enter_handler(events, exc_return, exception, vector),
             Err(Failure::Refused(_, _)) => self.refuse_vector(events, exception),
             Err(failure) => self.fail(events, failure),
