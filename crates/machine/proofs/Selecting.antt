@@ -18,6 +18,7 @@ use Rattle.platform.specs.declared.stop.Stop.TheVariants.{StepLimit}
 use Rattle.reference.specs.Run.{after, events_of, ending_of}
 use Rattle.reference.specs.State.{State}
 use Rattle.reference.specs.Step.{step}
+use Rattle.platform.specs.Events.{lines}
 use Rattle.platform.specs.Text.{stop_line}
 use Rattle.trace.proofs.Selecting.{all_lines, last-nil, selected-append, selected-nil}
 use Rattle.trace.specs.declared.selection.TraceSelection.{TraceSelection}
@@ -143,7 +144,7 @@ selected_left_prefix selection n s steps old new last left = elim left.cut [
 
 -- with all events it is a run that writes its whole trace
 leaves_all : (n : ℕ) (s : State) (steps : ℕ) (old new : Writing) (last : State)
-    → SelectedLeaves which.All n s steps old new last → Leaves n s steps old new last
+    → SelectedLeaves which.All n s steps old new last → Leaves lines (stop_line (ending_of n s)) n s steps old new last
 leaves_all n s steps old new last left = record {
   few = left.few;
   made = left.made;

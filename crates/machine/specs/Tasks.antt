@@ -45,7 +45,7 @@ pub record TaskIsCut (n : ℕ) (s : State) (old new : Writing) (last : State) (s
   pub few : steps ≤ n
   pub instructions : AreInstructions steps s
   pub state : last ≡ after steps s
-  pub cut : CutInStep s steps old.written new.written
+  pub cut : CutInStep lines s steps old.written new.written
 
 -- a run that failed: a task ran, and its run was cut short; or the machine was broken before, and nothing was done
 abbrev pub TaskFails : ℕ → Whole → Whole → Writing → Writing → RunError → Type 0
