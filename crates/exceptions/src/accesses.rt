@@ -10,17 +10,10 @@ ghost use Rattle.platform.specs.Outcomes.{IsOf};
 ghost use Rattle.trace.specs.Emission.{with_emitted};
 
 use access::{Bus, Decider, DueTicks, KeptCode, Levels};
-use bounded::Bounded;
-use platform::access::{Cause, DecidedAccess, DoneAccess, MOST_REQUESTS, Performed, Request, Rule};
+use platform::access::{Cause, DecidedAccess, DoneAccess, Performed, Request, Rule};
 use platform::event::{Event, EventKind, MOST_EVENTS};
 use reference::failure::Failure;
 use trace::sink::Sink;
-
-/// The accesses of an instruction, or of a frame, in their order.
-pub type Requests = Bounded<Request, MOST_REQUESTS>;
-
-/// The values that an instruction read, in the order of its accesses.
-pub type Values = Bounded<u32, MOST_REQUESTS>;
 
 /// Makes one access, whatever it is, and appends its lines. It takes a copy, so that the compiler can keep the request
 /// of an access that never comes here in the host's registers.

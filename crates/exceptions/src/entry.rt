@@ -7,7 +7,6 @@ ghost use Rattle.reference.specs.LoadStore.{request};
 ghost use Rattle.reference.specs.ExceptionEntry as spec;
 ghost use Rattle.reference.specs.ExceptionEntry.{handler_entered, vector_refused, exception_taken, begin_entry};
 
-use crate::accesses::{Requests, Values};
 use crate::faults::vector_fault;
 use crate::state::Core;
 use access::{Decider, DueTicks, KeptCode, Levels};
@@ -15,6 +14,7 @@ use instruction_set::size::Size;
 use platform::access::{Access, Kind, Request};
 use platform::event::{Event, EventKind, MOST_EVENTS};
 use platform::exception::{HARD_FAULT, NMI};
+use reference::accesses::{Requests, Values};
 use reference::failure::Failure;
 use regs::Regs;
 use trace::sink::Sink;

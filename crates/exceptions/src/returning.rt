@@ -13,7 +13,6 @@ ghost use Rattle.reference.specs.Faults.{failed};
 ghost use Rattle.platform.specs.Priorities.{candidate};
 ghost use Rattle.reference.specs.State.{with_system};
 
-use crate::accesses::{Requests, Values};
 use crate::entry::words_from;
 use crate::state::Core;
 use access::{Decider, DueTicks, KeptCode, Levels};
@@ -22,6 +21,7 @@ use platform::access::Kind;
 use platform::event::{Event, EventKind, MOST_EVENTS};
 use platform::exception::NMI;
 use platform::stop::Stop;
+use reference::accesses::{Requests, Values};
 use reference::failure::{Failure, UsageFault};
 use regs::{Regs, returns_on_psp, returns_to_handler};
 use trace::sink::Sink;

@@ -8,7 +8,6 @@ ghost use Rattle.reference.specs.Branches.{table_branch, begun, if_then};
 ghost use Rattle.reference.specs.ProgramCounter.{branches_by};
 
 use crate::load_store::{joined, transfer};
-use crate::planning::Requests;
 use crate::program_counter::{branch_by, branched, exchange, move_on};
 use instruction_set::branch::{
     Branch, BranchExchange, CompareAndBranch, ConditionalBranch, IfThen, TableBranch,
@@ -16,6 +15,7 @@ use instruction_set::branch::{
 use instruction_set::instruction::InstructionLength;
 use instruction_set::registers::Register;
 use platform::access::{Access, Kind};
+use reference::accesses::Requests;
 use reference::ending::Ending;
 use reference::failure::{Failure, Traps};
 use regs::Regs;

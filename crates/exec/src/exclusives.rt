@@ -10,7 +10,6 @@ ghost use Rattle.reference.specs.LoadStore.{joined};
 ghost use Rattle.reference.specs.ProgramCounter.{moves_on};
 
 use crate::load_store::joined;
-use crate::planning::Requests;
 use crate::program_counter::move_on;
 use instruction_set::instruction::InstructionLength;
 use instruction_set::load_store::{Exclusive, LoadExclusive, StoreExclusive};
@@ -18,6 +17,7 @@ use instruction_set::registers::Register;
 use platform::access::{Access, Kind, Request};
 use platform::map::has_side_effects;
 use platform::stop::{LeftOut, Stop};
+use reference::accesses::Requests;
 use reference::ending::Ending;
 use reference::failure::{Failure, UsageFault};
 use regs::Regs;

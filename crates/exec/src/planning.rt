@@ -6,16 +6,13 @@ ghost use Rattle.exec.specs.Plans.{planned};
 ghost use Rattle.reference.specs.Operations.{wants, requests_of, is_misplaced, is_carried_out, is_unconditional};
 
 use crate::{branches, exclusives, load_store, load_store_multiple, processing, system};
-use bounded::Bounded;
 use instruction_set::instruction::{BlockPlace, CodedInstruction, Instruction};
 use instruction_set::unpredictable::UnpredictableCase;
-use platform::access::{MOST_REQUESTS, Request};
+use platform::access::MOST_REQUESTS;
 use platform::stop::Stop;
+use reference::accesses::Requests;
 use reference::failure::{Failure, Traps};
 use regs::Regs;
-
-/// The accesses of an instruction, in their order.
-pub type Requests = Bounded<Request, MOST_REQUESTS>;
 
 /// Fills `requests` with the accesses of an instruction, unless it faults or stops. Where its
 /// condition fails it has none.

@@ -6,10 +6,10 @@ ghost use Rattle.exec.specs.Plans.{finished_as, planned};
 ghost use Rattle.reference.specs.SystemInstructions.{has_no_condition, hint_ending, moves_on_and, system_effect};
 ghost use Rattle.reference.specs.SystemInstructions.{system_requests};
 
-use crate::planning::Requests;
 use crate::program_counter::move_on;
 use instruction_set::instruction::InstructionLength;
 use instruction_set::system::{Hint, System};
+use reference::accesses::Requests;
 use reference::ending::Ending;
 use reference::failure::Failure;
 use regs::Regs;

@@ -33,6 +33,6 @@ pub use readers::{Execution, RegValues};
 pub use reference::place::Place;
 pub use task::end_of_task;
 pub use task_laws::{StepKind, TaskEnd};
-pub use trace::lines::{Text, event_line, stop_line};
+pub use trace::lines::{LinePage, event_line, stop_line};
 pub use trace::selection::TraceSelection;
 pub use trace::sink::{Events, Sink};

@@ -17,4 +17,4 @@ pub use event_lines::EventLines;
 pub use history::History;
 pub use paged::Paged;
 pub use view::{AllEvents, ConsoleBytes, ExceptionEvents, NoEvents, RefusedEvents, View};
-pub use writer::{In, IoError, LinePage, LineRoom, Out, Over};
+pub use writer::{In, IoError, LineRoom, Out, Over};

@@ -11,10 +11,7 @@ use std::marker::Model;
 use std::sync::ledger::{Blank, Book, Ledger, Share};
 use thiserror::Error;
 use trace::digits::LineDigits;
-use trace::page::Page;
-
-/// Room for one line; the same type as `Text` of `trace`.
-pub type LinePage = Page<64>;
+use trace::lines::LinePage;
 
 /// Room for the text of one line, and its digits, which are kept for later ones.
 #[derive(Drop)]

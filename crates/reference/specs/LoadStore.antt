@@ -14,7 +14,7 @@ use Rattle.instruction_set.specs.declared.load_store.LoadForm.{LoadForm}
 use Rattle.instruction_set.specs.declared.load_store.RegisterAddress.{RegisterAddress}
 use Rattle.instruction_set.specs.declared.shift.ShiftType.TheVariants.{Lsl}
 use Rattle.instruction_set.specs.declared.size.Size.{Size}
-use Rattle.instruction_set.specs.declared.size.Size.TheVariants.{Byte, Word}
+use Rattle.instruction_set.specs.declared.size.Size.TheVariants.{Byte, Halfword, Word}
 use Rattle.instruction_set.specs.declared.unpredictable.UnpredictableCase.TheVariants.{LoadPc}
 use Rattle.instruction_set.specs.Arithmetic.{shift_c}
 use Rattle.instruction_set.specs.Fields.{extended, width_of}
@@ -24,7 +24,7 @@ use Rattle.instruction_set.specs.Sizes.{bytes_in}
 use Rattle.instruction_set.specs.DataProcessing.{aligned_pc}
 use Rattle.instruction_set.specs.Words.{word_sum}
 use Rattle.platform.specs.declared.access.Kind.{Kind}
-use Rattle.platform.specs.declared.access.Kind.TheVariants.{Load, Store}
+use Rattle.platform.specs.declared.access.Kind.TheVariants.{Fetch, Load, Store}
 use Rattle.platform.specs.declared.access.Request.{Request}
 use Rattle.reference.specs.declared.failure.Failure.{Failure}
 use Rattle.reference.specs.declared.failure.Failure.TheVariants.{Usage, Stop}
@@ -70,6 +70,10 @@ literal_address offset r = word_sum (aligned_pc r) offset
 abbrev pub request : Kind → Bool → Size → ℕ → ℕ → Request
 request kind privileged size address value =
     record { access = record { address = address; kind = kind; size = size; privileged = privileged }; value = value }
+
+-- the fetch of a halfword
+abbrev pub fetch_at : ℕ → Bool → Request
+fetch_at address privileged = request Fetch privileged Halfword address 0
 
 -- whether an address is a multiple of the size in bytes
 abbrev pub is_aligned : Size → ℕ → Bool

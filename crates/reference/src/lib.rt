@@ -3,6 +3,7 @@
 //! read them.
 #![tactic(auto)]
 
+pub mod accesses;
 pub mod ending;
 pub mod failure;
 pub mod place;

@@ -23,10 +23,11 @@ use Rattle.reference.specs.declared.failure.UsageFault.{UsageFault}
 use Rattle.reference.specs.declared.failure.UsageFault.TheVariants.{UndefinedInstruction, NoCoprocessor, InvalidState}
 use Rattle.platform.specs.declared.stop.Stop.{Stop}
 use Rattle.reference.specs.Accesses.{ListResult, perform_all, perform}
+use Rattle.reference.specs.LoadStore.{fetch_at}
 use Rattle.reference.specs.Operations.{result_of}
 use Rattle.reference.specs.ProgramCounter.{Finished, moves_on}
 use Rattle.reference.specs.State.{State, ticked, with_bus, with_registers}
-use Rattle.reference.specs.Step.{ended, finished, served, performed_all, planned, without_meaning, executed, fetching}
+use Rattle.reference.specs.Step.{ended, finished, served, performed_all, planned, without_meaning, executed}
 use Rattle.reference.specs.Step.{fetched_second, with_second, fetched_first, instruction, sleeps_on, phase, running}
 use Rattle.reference.specs.Step.{unless_stopped, step}
 use Rattle.platform.specs.Time.{last_tick, tick_pends}
@@ -140,7 +141,8 @@ module _ (interrupts bits : ℕ) where
   unfolding with_second
   with_second_good s events hw1 out h =
       cond_both (is_long hw1) _ _ (LeavesGood interrupts bits)
-      (λ long. second_good _ _ hw1 _ out (after_one s (fetching s.registers (word_sum s.registers.pc 2)) h))
+      (λ long. second_good _ _ hw1 _ out
+          (after_one s (fetch_at (word_sum s.registers.pc 2) (is_privileged s.registers)) h))
       (λ short. executed_good s events Short _ out h)
 
   first_good : (s : State) (events : List Event) (answer : Result ℕ Failure) → s.entry ≡ None → IsGood interrupts bits s
@@ -154,7 +156,7 @@ module _ (interrupts bits : ℕ) where
   unfolding instruction
   instruction_good s out h =
       cond_both s.registers.thumb _ _ (LeavesGood interrupts bits)
-      (λ thumb. first_good _ _ _ out (after_one s (fetching s.registers s.registers.pc) h))
+      (λ thumb. first_good _ _ _ out (after_one s (fetch_at s.registers.pc (is_privileged s.registers)) h))
       (λ arm. failed_good interrupts bits s [] (failure.Usage InvalidState) h)
 
   -- ---- the step

@@ -9,6 +9,7 @@ use Rattle.instruction_set.specs.declared.instruction.InstructionLength.{Instruc
 use Rattle.instruction_set.specs.declared.instruction.InstructionLength.TheVariants.{Short, Long}
 use Rattle.instruction_set.specs.Arithmetic.{condition_passed}
 use Rattle.instruction_set.specs.Decoding.{is_long}
+use Rattle.instruction_set.specs.Registers.{is_privileged}
 use Rattle.instruction_set.specs.Words.{word_sum}
 use Rattle.platform.specs.declared.access.Request.{Request}
 use Rattle.reference.specs.declared.ending.Ending.{Ending}
@@ -21,10 +22,11 @@ use Rattle.reference.specs.declared.failure.UsageFault.TheVariants.{UndefinedIns
 use Rattle.platform.specs.declared.stop.Stop.{Stop}
 use Rattle.reference.specs.Accesses.{ListResult, perform, access_lines, value_of}
 use Rattle.platform.specs.Memory.{Memory}
+use Rattle.reference.specs.LoadStore.{fetch_at}
 use Rattle.reference.specs.Operations.{result_of}
 use Rattle.reference.specs.ProgramCounter.{Finished, moves_on}
 use Rattle.reference.specs.State.{State, ticked, with_bus, with_registers}
-use Rattle.reference.specs.Step.{ended, finished, served, performed_all, planned, without_meaning, executed, fetching}
+use Rattle.reference.specs.Step.{ended, finished, served, performed_all, planned, without_meaning, executed}
 use Rattle.reference.specs.Step.{with_access_lines, fetched_second, with_second, fetched_first, instruction, sleeps_on}
 use Rattle.reference.specs.Step.{phase}
 use Rattle.reference.specs.Step.{running, unless_stopped, step}
@@ -136,7 +138,7 @@ unfolding with_second
 with_second_lawful old s events hw1 ready =
     cond_both (is_long hw1) _ _ (IsLawful old)
     (λ long. second_lawful old _ _ hw1 _
-    (fetch_leaves old s events (fetching s.registers (word_sum s.registers.pc 2)) ready))
+    (fetch_leaves old s events (fetch_at (word_sum s.registers.pc 2) (is_privileged s.registers)) ready))
     (λ short. executed_lawful old s events Short _ ready)
 
 first_lawful : (old : Memory) (s : State) (events : List Event) (answer : Result ℕ Failure) →
@@ -152,7 +154,7 @@ instruction_lawful s =
     let ready = at_first s.bus.memory s refl in
     cond_both s.registers.thumb _ _ (IsLawful s.bus.memory)
     (λ thumb. first_lawful s.bus.memory _ _ _
-    (fetch_leaves s.bus.memory s [] (fetching s.registers s.registers.pc) ready))
+    (fetch_leaves s.bus.memory s [] (fetch_at s.registers.pc (is_privileged s.registers)) ready))
     (λ arm. failed_unrefused s.bus.memory s [] (failure.Usage InvalidState) ready)
 
 -- ---- the step

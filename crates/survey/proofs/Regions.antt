@@ -19,6 +19,7 @@ use Rattle.instruction_set.specs.declared.instruction.InstructionLength.TheVaria
 use Rattle.instruction_set.specs.Arithmetic.{condition_passed}
 use Rattle.instruction_set.specs.Decoding.{is_long}
 use Rattle.instruction_set.specs.Frames.{has_reserved_ones, popped_pc}
+use Rattle.instruction_set.specs.Registers.{is_privileged}
 use Rattle.instruction_set.specs.Words.{is_bit, word_sum}
 use Rattle.platform.specs.declared.access.Kind.{Kind}
 use Rattle.platform.specs.declared.access.Kind.TheVariants.{Fetch, Load, Store, Push, Pop, Vector, Probe}
@@ -50,13 +51,14 @@ use Rattle.reference.specs.Faults.{escalated, failed, fault_of, faulted, recorde
 use Rattle.reference.specs.Faults.{supervisor_called_by, usage_fault_of}
 use Rattle.platform.specs.Kinds.{is_load, is_probe, is_store, is_write}
 use Rattle.platform.specs.Map.{is_in_ppb}
+use Rattle.reference.specs.LoadStore.{fetch_at}
 use Rattle.reference.specs.Operations.{result_of}
 use Rattle.platform.specs.Outcomes.{Outcome, within}
 use Rattle.platform.specs.Priorities.{is_fixed}
 use Rattle.reference.specs.ProgramCounter.{Finished, moves_on}
 use Rattle.platform.specs.Regions.{Mpu}
 use Rattle.reference.specs.State.{Bus, State, Stepped, ticked, with_bus, with_registers, with_system}
-use Rattle.reference.specs.Step.{ended, executed, fetched_first, fetched_second, fetching, finished, instruction}
+use Rattle.reference.specs.Step.{ended, executed, fetched_first, fetched_second, finished, instruction}
 use Rattle.reference.specs.Step.{performed_all, phase, planned, running, served, sleeps_on, step, unless_stopped}
 use Rattle.reference.specs.Step.{with_access_lines, with_second, without_meaning}
 use Rattle.platform.specs.System.{System, after_read, after_tick, deactivated, has_access, has_width, is_held}
@@ -390,7 +392,7 @@ unfolding with_second
 with_second_stays old s events hw1 h =
     cond_both (is_long hw1) _ _ (Stays old)
     (λ long. second_stays old _ _ hw1 _
-    (fetch_stays old s events (fetching s.registers (word_sum s.registers.pc 2)) h))
+    (fetch_stays old s events (fetch_at (word_sum s.registers.pc 2) (is_privileged s.registers)) h))
     (λ short. executed_stays old s events Short _ h)
 
 first_stays : (old : Mpu) (s : State) (events : List Event) (answer : Result ℕ Failure) → StaysSoFar old s events
@@ -404,7 +406,7 @@ instruction_stays s =
     let old = s.bus.system.mpu in
     let ready : StaysSoFar old s [] = record { stayed = λ none. refl } in
     cond_both s.registers.thumb _ _ (Stays old)
-    (λ thumb. first_stays old _ _ _ (fetch_stays old s [] (fetching s.registers s.registers.pc) ready))
+    (λ thumb. first_stays old _ _ _ (fetch_stays old s [] (fetch_at s.registers.pc (is_privileged s.registers)) ready))
     (λ arm. failed_stays old s [] (failure.Usage InvalidState) ready)
 
 -- ---- the step

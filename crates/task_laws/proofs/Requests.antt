@@ -32,12 +32,11 @@ use Rattle.reference.specs.declared.failure.Traps.{Traps}
 use Rattle.reference.specs.Branches.{branch_requests}
 use Rattle.reference.specs.Exclusives.{exclusive_access, exclusive_requests, passes}
 use Rattle.reference.specs.LoadStore.{is_aligned, byte_requests, meets_device, unaligned, transfer, load}
-use Rattle.reference.specs.LoadStore.{load_store_requests}
+use Rattle.reference.specs.LoadStore.{fetch_at, load_store_requests}
 use Rattle.reference.specs.LoadStoreMultiple.{word_requests, several, load_store_multiple_requests}
 use Rattle.platform.specs.Map.{has_side_effects}
 use Rattle.platform.specs.Memory.{bytes_of}
 use Rattle.reference.specs.Operations.{is_misplaced, is_carried_out, requests_of, wants}
-use Rattle.reference.specs.Step.{fetching}
 use Rattle.reference.specs.SystemInstructions.{system_requests}
 use Rattle.task_laws.specs.TaskLaw.{IsTaskKind, IsOfTask, AreOfTask, AskOfTask, RequestsLaw}
 
@@ -194,7 +193,7 @@ module _ (r : Registers) (t : is_privileged r ≡ false) where
       (λ f. tt))
 
   -- a fetch of unprivileged code
-  pub fetch_of : (address : ℕ) → address % 2 ≡ 0 → IsOfTask (fetching r address)
+  pub fetch_of : (address : ℕ) → address % 2 ≡ 0 → IsOfTask (fetch_at address (is_privileged r))
   fetch_of address even = record { unprivileged = t; kind = inl refl; aligned = even }
 
 pub requests_law : (r : Registers) → RequestsLaw r

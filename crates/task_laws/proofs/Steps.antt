@@ -15,7 +15,7 @@ use Rattle.instruction_set.specs.declared.instruction.InstructionLength.{Instruc
 use Rattle.instruction_set.specs.declared.instruction.InstructionLength.TheVariants.{Short, Long}
 use Rattle.instruction_set.specs.Arithmetic.{condition_passed}
 use Rattle.instruction_set.specs.Decoding.{is_long}
-use Rattle.instruction_set.specs.Registers.{Registers}
+use Rattle.instruction_set.specs.Registers.{Registers, is_privileged}
 use Rattle.instruction_set.specs.Words.{word_sum}
 use Rattle.platform.specs.declared.access.Request.{Request}
 use Rattle.reference.specs.declared.ending.Ending.{Ending}
@@ -33,6 +33,7 @@ use Rattle.reference.specs.Accesses.{ListResult, perform, perform_all, access_li
 use Rattle.reference.specs.Faults.{fault_of, usage_fault_of, recorded, with_status, pended, escalated, faulted, failed}
 use Rattle.reference.specs.Faults.{supervisor_called_by, supervisor_called}
 use Rattle.platform.specs.Memory.{Memory}
+use Rattle.reference.specs.LoadStore.{fetch_at}
 use Rattle.reference.specs.Operations.{result_of}
 use Rattle.platform.specs.Outcomes.{Outcome}
 use Rattle.platform.specs.Priorities.{Nvic, is_below_zero}
@@ -41,7 +42,7 @@ use Rattle.platform.specs.Regions.{Mpu, IsSound}
 use Rattle.platform.specs.SpecialRegisters.{write_special}
 use Rattle.reference.specs.State.{Bus, State, Stepped, ticked, with_bus, with_system, with_registers, with_exceptions}
 use Rattle.platform.specs.Status.{Status}
-use Rattle.reference.specs.Step.{ended, finished, served, performed_all, planned, without_meaning, executed, fetching}
+use Rattle.reference.specs.Step.{ended, finished, served, performed_all, planned, without_meaning, executed}
 use Rattle.reference.specs.Step.{fetched_second, with_second, fetched_first, instruction, step, traps}
 use Rattle.platform.specs.System.{System}
 use Rattle.state_laws.proofs.Effects.{IsEndIn, Leaves, register_kept, moves_on_kept, result_kept}
@@ -273,7 +274,7 @@ module _ (m : Mpu) (z : Bool) (old : Memory) where
       SameStep (with_second s events hw1) (with_second (with_memory s k) events hw1)
   unfolding with_second
   with_second_alike events hw1 s k even r =
-      let q = fetching s.registers (word_sum s.registers.pc 2) in
+      let q = fetch_at (word_sum s.registers.pc 2) (is_privileged s.registers) in
       let next : word_sum s.registers.pc 2 % 2 ≡ 0 = omega arith in
       both SameStep (is_long hw1) _ _ _ _
       (λ long. after_access s k q (rest_of_second events hw1 q)
@@ -291,7 +292,7 @@ module _ (m : Mpu) (z : Bool) (old : Memory) where
       SameStep (instruction s) (instruction (with_memory s k))
   unfolding instruction
   instruction_alike s k even r =
-      let q = fetching s.registers s.registers.pc in
+      let q = fetch_at s.registers.pc (is_privileged s.registers) in
       both SameStep s.registers.thumb _ _ _ _
       (λ thumb. after_access s k q (rest_of_first q)
       (fetch_of s.registers (unprivileged_is s.registers r.thread) _ even) r

@@ -10,10 +10,11 @@ use Rattle.reference.specs.declared.failure.Failure.{Failure}
 use Rattle.reference.specs.declared.failure.Traps.{Traps}
 use Rattle.reference.specs.Accesses.{perform}
 use Rattle.reference.specs.Invariant.{Invariant}
+use Rattle.reference.specs.LoadStore.{fetch_at}
 use Rattle.reference.specs.Operations.{wants}
 use Rattle.reference.specs.Run.{after, events_of}
 use Rattle.reference.specs.State.{State, with_bus}
-use Rattle.reference.specs.Step.{fetching, step}
+use Rattle.reference.specs.Step.{step}
 use Rattle.task_laws.specs.declared.task.TaskEnd.{TaskEnd}
 use Rattle.task_laws.specs.Foresight.{is_instruction_next}
 use Rattle.task_laws.specs.Sight.{KeepsDenied, Same}
@@ -45,7 +46,7 @@ abbrev pub RequestsLaw : Registers → Type 0
 RequestsLaw r =
     is_privileged r ≡ false →
     ((traps : Traps) (i : CodedInstruction) → AskOfTask (wants traps i r))
-    × ((address : ℕ) → address % 2 ≡ 0 → IsOfTask (fetching r address))
+    × ((address : ℕ) → address % 2 ≡ 0 → IsOfTask (fetch_at address (is_privileged r)))
 
 -- the state after an access
 abbrev pub performed_in : State → Request → State

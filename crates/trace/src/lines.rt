@@ -30,12 +30,12 @@ const RULE_ROOM: usize = 22;
 /// The most bytes between `stop ` and the line feed.
 const STOP_ROOM: usize = 40;
 
-/// The text of one line, at most 64 bytes.
-pub type Text = Page<64>;
+/// Room for the text of one line, at most 64 bytes.
+pub type LinePage = Page<64>;
 
 /// Returns the line of an event.
 #[tactic(auto, using(crate::proofs::PartsOfLines::tick_and_tail))]
-pub fn event_line(event: &Event) -> Text
+pub fn event_line(event: &Event) -> LinePage
     ensures { result ≡ line event.now }
 {
     let mut text = Page::new();
@@ -45,7 +45,7 @@ pub fn event_line(event: &Event) -> Text
 }
 
 /// Returns the line of a stop.
-pub fn stop_line(stop: &Stop) -> Text
+pub fn stop_line(stop: &Stop) -> LinePage
     ensures { result ≡ spec.stop_line stop.now }
 {
     let mut text = Page::new();

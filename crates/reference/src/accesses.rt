@@ -1,0 +1,10 @@
+//! Lists of accesses, and of what they read.
+
+use bounded::Bounded;
+use platform::access::{MOST_REQUESTS, Request};
+
+/// The accesses of an instruction, or of a frame, in their order.
+pub type Requests = Bounded<Request, MOST_REQUESTS>;
+
+/// The values that an instruction read, in the order of its accesses.
+pub type Values = Bounded<u32, MOST_REQUESTS>;
