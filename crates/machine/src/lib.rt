@@ -16,7 +16,7 @@ pub use access::{
 };
 pub use board::{Board, InterruptNumber, ScriptedEvent, Signal};
 pub use decode::Reread;
-pub use decode_table::{BoardDecodeTable, DecodeTable};
+pub use decode_table::BoardDecodeTable;
 pub use foresight::is_instruction;
 pub use machine::{Fast, Machine, RunError, Slow};
 pub use mpu_table::{KeptDecisions, Table};

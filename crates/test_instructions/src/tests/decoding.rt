@@ -4,11 +4,12 @@ ghost use Rattle.std.specs.Prelude.{◌<◌};
 
 use assembled::{COPROCESSORS, LONG_CONTROL, LONG_DATA, LONG_OTHERS, SHORT, UNDEFINED};
 use decode::{Decoded, KeptCode, Reread, decode, is_long};
-use decode_table::DecodeTable;
+use decode_table::BoardDecodeTable;
 use operands::all_operands;
+use std::alloc::Global;
 use std::test::*;
 use stops::STOPS;
-use test_tables::{Rows, byte_at, check, halfword_at, numbers, part};
+use test_tables::{Rows, byte_at, check, halfword_at, number_at, numbers, part};
 
 mod assembled;
 mod operands;
@@ -158,7 +159,7 @@ fn constant_of(decoded: &Decoded) -> Option<u32> {
 
 #[test]
 fn a_line_is_kept_until_it_is_written(rt: HostRuntime) -> Result<(), Fail> {
-    let mut table = DecodeTable::fresh(rt.alloc(), 0x800)
+    let mut table = BoardDecodeTable::fresh(rt.alloc(), 0x1000)
         .ok()
         .ok_or("no memory")?;
     assert!(rt;
@@ -175,4 +176,48 @@ fn a_line_is_kept_until_it_is_written(rt: HostRuntime) -> Result<(), Fail> {
         "MOVS R0, #6"
     );
     Ok(())
+}
+
+/// Memories of boards, and two addresses: whether both have their instructions once each was fetched, or they share a
+/// place, so that the second instruction takes it. Whatever is kept, an address never has another one's instruction.
+#[derive(Drop)]
+struct Places {
+    alloc: Global,
+}
+
+impl Rows for Places {
+    fn holds(&mut self, row: &str) -> Option<bool> {
+        let bytes = number_at(part(row, 0), 0)?;
+        let [first, second] = numbers::<2>(part(row, 1))?;
+        let stays = byte_at(part(row, 2), 0)?;
+        let mut table = BoardDecodeTable::fresh(self.alloc, bytes as usize).ok()?;
+        let was_5 = constant_of(&table.fetch(first, 0x2005, 0)) == Some(5);
+        let was_6 = constant_of(&table.fetch(second, 0x2006, 0)) == Some(6);
+        let is_kept = table.kept(first).is_some() && table.kept(second).is_some();
+        let still_6 = constant_of(&table.fetch(second, 0x2007, 0)) == Some(6);
+        let now = constant_of(&table.fetch(first, 0x2007, 0));
+        let is_right = now == Some(if stays == 1 { 5 } else { 7 });
+        Some(was_5 && was_6 && is_kept == (stays == 1) && still_6 && is_right)
+    }
+}
+
+/// The bytes of flash and RAM; two addresses; 1 if both instructions stay, 0 if they share a place; what the row is.
+const SHARED_PLACES: &str = "\
+1000 | 100 500 | 1 | 4 KiB: 512 places would be too few for addresses 1 KiB apart
+1000 | 100 900 | 0 | 4 KiB: 1,024 places, so addresses 2 KiB apart share one
+1000 | 0 7FE | 1 | the first of 1,024 places and the last
+1000 | 0 800 | 0 | the first place again
+1000 | 100 102 | 1 | one halfword after the other
+1000 | 100 20000100 | 0 | an address of flash and one of RAM
+4 | 100 500 | 1 | no fewer places than 1,024
+4 | 100 900 | 0 | and no more for 4 bytes
+1004 | 100 900 | 1 | 4 KiB and 4 bytes: 2,048 places
+1004 | 100 1100 | 0 | which addresses 4 KiB apart share
+2000 | 100 900 | 1 | 8 KiB: 2,048 places
+2000 | 100 1100 | 0 | and no more";
+
+#[test]
+fn a_small_board_has_1024_places(rt: HostRuntime) -> Result<(), Fail> {
+    let alloc = rt.alloc();
+    check(SHARED_PLACES, &mut Places { alloc })
 }
