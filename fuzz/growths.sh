@@ -4,7 +4,8 @@
 # nothing on standard output: `marm: io` (5), `marm: board 7 OutOfMemory` (3), `marm: start 11 NoMemory` (3). Of a file
 # that is refused the lines below the first may be missing. A segment outside of memory is never NoMemory. After each
 # such run one without a refusal gives the whole answer. Prints for each case how many growths there are and how the
-# runs ended, and ends with 1 where an answer was another.
+# runs ended. Ends with 1 where an answer was another, where the growths of a case weren't counted, as of a program that
+# is linked statically, and where no case has a growth.
 # Usage: fuzz/growths.sh [PROGRAM]
 set -euo pipefail
 top=$(cd "$(dirname "${BASH_SOURCE[0]}")/.." && pwd)
@@ -41,7 +42,12 @@ try() {
     local name=$1 number growths refusals=0 same=0
     local -A ends=()
     shift
+    rm -f count
     answer 0 "$@"
+    if [ ! -s count ]; then
+        echo "$name: $marm wrote no count of its growths: growths.so wasn't loaded" >&2
+        exit 1
+    fi
     cp out whole.out
     cp err whole.err
     local whole=$status line=$first
@@ -90,4 +96,8 @@ try "a wrong option" run --frob
 try "help" --help
 try "the version" --version
 echo "$total growths, $wrong wrong answers"
+if [ "$total" = 0 ]; then
+    echo "no growth of memory was seen, so none was refused" >&2
+    exit 1
+fi
 [ "$wrong" = 0 ]
