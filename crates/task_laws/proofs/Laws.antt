@@ -197,7 +197,7 @@ step_law s t inv task same next =
 
 -- ---- how a run of a task ends
 
-end_there : (n steps : ℕ) (s : State) (k : Memory) (end : TaskEnd) → Ends n steps s end →
+pub end_there : (n steps : ℕ) (s : State) (k : Memory) (end : TaskEnd) → Ends n steps s end →
     Ends n steps (with_memory s k) end
 end_there n steps s k task_end.Done e = e
 end_there n steps s k task_end.Other e = e

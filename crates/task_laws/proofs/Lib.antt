@@ -8,3 +8,4 @@ mod Tasks
 mod Requests
 mod Steps
 mod Laws
+pub mod Endings

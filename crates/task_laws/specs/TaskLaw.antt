@@ -1,5 +1,5 @@
--- The laws of tasks: of one access, of one step, of n steps, and of a run.
-use Rattle.std.specs.Prelude.{◌≡◌, ◌⊎◌, ℕ, ◌%◌, false, true, List, [], ◌∷◌, Result, Ok, Err}
+-- The laws of tasks: of one access, of one step, of n steps, of a run, and of two runs.
+use Rattle.std.specs.Prelude.{◌≡◌, ◌⊎◌, ℕ, ◌%◌, ◌≤◌, false, true, ◌||◌, is_some, List, [], ◌∷◌, Result, Ok, Err}
 use Rattle.instruction_set.specs.declared.instruction.CodedInstruction.{CodedInstruction}
 use Rattle.instruction_set.specs.Registers.{Registers, is_privileged}
 use Rattle.instruction_set.specs.Sizes.{bytes_in}
@@ -102,3 +102,30 @@ abbrev pub EndsAlike : ℕ → State → State → ℕ → TaskEnd → Type 0
 EndsAlike n s t steps end =
     Invariant s → is_task s ≡ true → Same s t → AreInstructions steps s → Ends n steps (after steps s) end →
     AreInstructions steps t × Ends n steps (after steps t) end × (events_of steps t ≡ events_of steps s)
+
+-- ---- two runs
+
+-- a run of at most n steps from a state ended so: it made `steps` steps, each of them an Instruction step
+pub record EndsAfter (n : ℕ) (s : State) (steps : ℕ) (end : TaskEnd) : Type 0 where
+  pub few : steps ≤ n
+  pub instructions : AreInstructions steps s
+  pub ends : Ends n steps (after steps s) end
+
+-- a run of at most n steps from a state ends in one way: after one number of steps, for one reason
+abbrev pub EndsInOneWay : ℕ → State → ℕ → ℕ → TaskEnd → TaskEnd → Type 0
+EndsInOneWay n s a b x y = EndsAfter n s a x → EndsAfter n s b y → (a ≡ b) × (x ≡ y)
+
+-- a run of a steps from s and one of b steps from t: they made equally many steps, with equal events, and ended for the
+-- same reason, and the states after them look the same
+pub record EndedAlike (s t : State) (a b : ℕ) (x y : TaskEnd) : Type 0 where
+  pub steps : b ≡ a
+  pub end : y ≡ x
+  pub events : events_of b t ≡ events_of a s
+  pub same : Same (after a s) (after b t)
+
+-- where a task runs in s, or the machine has stopped, and t looks the same: a run of at most n steps from t ended as one
+-- from s did
+abbrev pub TwoRunsLaw : ℕ → State → State → ℕ → ℕ → TaskEnd → TaskEnd → Type 0
+TwoRunsLaw n s t a b x y =
+    Invariant s → is_some s.stop || is_task s ≡ true → Same s t → EndsAfter n s a x → EndsAfter n t b y →
+    EndedAlike s t a b x y

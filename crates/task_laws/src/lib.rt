@@ -9,7 +9,8 @@ ghost use Rattle.std.specs.Prelude.{ℕ};
 ghost use Rattle.instruction_set.specs.Registers.{Registers};
 ghost use Rattle.platform.specs.declared.access.Request.{Request};
 ghost use Rattle.reference.specs.State.{State};
-ghost use Rattle.task_laws.specs.TaskLaw.{AccessLaw, EndsAlike, RequestsLaw, RunLaw, StepLaw, UnprivilegedRunLaw};
+ghost use Rattle.task_laws.specs.TaskLaw.{AccessLaw, EndsAlike, EndsInOneWay, RequestsLaw, RunLaw, StepLaw};
+ghost use Rattle.task_laws.specs.TaskLaw.{TwoRunsLaw, UnprivilegedRunLaw};
 ghost use Rattle.task_laws.specs.declared.task.TaskEnd.{TaskEnd as End};
 
 pub use foresight::StepKind;
@@ -44,4 +45,12 @@ pub fn tasks_are_kept_apart()
 /// the same reason, with the same events.
 pub fn runs_of_tasks_end_alike()
     ensures { (n : ℕ) (s t : State) (steps : ℕ) (end : End) → EndsAlike n s t steps end }
+{}
+
+/// A run of Instruction steps, at most n of them, ends in one way: after one number of steps and for one
+/// reason. So two such runs from states that look the same to a task make equally many steps, with equal
+/// events, end for the same reason, and the states after them look the same to it.
+pub fn runs_of_tasks_end_in_one_way()
+    ensures one_way { (n : ℕ) (s : State) (a b : ℕ) (x y : End) → EndsInOneWay n s a b x y }
+    ensures two_states { (n : ℕ) (s t : State) (a b : ℕ) (x y : End) → TwoRunsLaw n s t a b x y }
 {}
