@@ -1,2 +1,3 @@
+pub mod Popping
 pub mod Shifts
 pub mod Sums

@@ -1,11 +1,12 @@
 //! The registers on the way into a handler and out of it (ARM DDI 0403, `PushStack()`,
 //! `ExceptionTaken()` and `PopStack()`).
 
-ghost use Rattle.std.specs.Prelude.{◌≡◌, ◌<◌, length};
+ghost use Rattle.std.specs.Prelude.{◌≡◌, ◌<◌, ◌%◌, ◌^◌, length, None};
 ghost use Rattle.instruction_set.specs.Frames as spec;
-ghost use Rattle.instruction_set.specs.Frames.{frame_base, with_frame, in_handler, frame_pointer, general_popped};
-ghost use Rattle.instruction_set.specs.Frames.{popped};
+ghost use Rattle.instruction_set.specs.Frames.{frame_base, with_frame, in_handler, frame_pointer, with_frame_pointer};
+ghost use Rattle.instruction_set.specs.Frames.{general_popped, popped, popped_pc, popped_xpsr};
 ghost use Rattle.instruction_set.specs.Registers.{sp};
+ghost use Rattle.instruction_set.specs.Words.{is_bit};
 
 use crate::{Regs, flags_of, weighed};
 
@@ -63,13 +64,14 @@ impl Regs {
         ensures { result ≡ spec.frame self.now }
     {
         let xpsr = self.xpsr() + weighed(self.sp() >> 2 & 1 == 1, 1 << 9);
+        let general = self.general();
         [
-            self.general[0],
-            self.general[1],
-            self.general[2],
-            self.general[3],
-            self.general[12],
-            self.lr,
+            general[0],
+            general[1],
+            general[2],
+            general[3],
+            general[12],
+            self.link(),
             self.pc,
             xpsr,
         ]
@@ -90,10 +92,9 @@ impl Regs {
         ensures { self.new ≡ in_handler self.old exception exc_return vector }
     {
         self.branch_exchange(vector);
-        self.lr = exc_return;
+        self.set_link(exc_return);
         self.it_state = 0;
-        self.exception = exception;
-        self.process_stack = false;
+        self.set_mode(exception, false);
         self.clear_mark();
     }
 
@@ -102,34 +103,32 @@ impl Regs {
         ensures { result ≡ frame_pointer self.now exc_return }
     {
         if returns_on_psp(exc_return) {
-            self.psp
+            self.process_stack()
         } else {
-            self.msp
+            self.main_stack()
         }
     }
 
+    /// Sets the stack pointer that an EXC_RETURN names.
+    fn set_returned_stack(&mut self, exc_return: u32, value: u32)
+        ensures { self.new ≡ with_frame_pointer self.old exc_return value }
+    {
+        self.set_stack(returns_on_psp(exc_return), value);
+    }
+
     /// Takes the registers from a frame, as a return with this EXC_RETURN does.
-    #[tactic(auto, unfolding(instruction_set::specs::Frames::popped))]
     pub fn pop_frame(&mut self, exc_return: u32, frame: &[u32])
         requires { length frame.now ≡ 8 }
         ensures { self.new ≡ popped self.old exc_return frame.now }
     {
         let xpsr = frame_word(frame, 7);
         let above = above_frame(self.returned_stack(exc_return), xpsr);
-        self.process_stack = returns_on_psp(exc_return);
-        if self.process_stack {
-            self.psp = above;
-        } else {
-            self.msp = above;
-        }
+        self.set_returned_stack(exc_return, above);
         self.pop_general(frame);
-        self.lr = frame_word(frame, 5);
-        self.pc = frame_word(frame, 6);
-        self.flags = flags_of(xpsr);
-        self.it_state = it_of(xpsr);
-        self.thumb = xpsr >> 24 & 1 == 1;
-        self.exception = (xpsr & 0x1FF) as u16;
-        self.monitor = None;
+        self.set_link(frame_word(frame, 5));
+        self.set_flags(flags_of(xpsr));
+        self.resume(frame);
+        self.set_mode(exception_of(xpsr), returns_on_psp(exc_return));
     }
 
     /// Takes R0 to R3 and R12 from a frame.
@@ -137,11 +136,28 @@ impl Regs {
         requires { length frame.now ≡ 8 }
         ensures { self.new ≡ record self.old { general = general_popped self.old.general frame.now } }
     {
-        self.general[0] = frame_word(frame, 0);
-        self.general[1] = frame_word(frame, 1);
-        self.general[2] = frame_word(frame, 2);
-        self.general[3] = frame_word(frame, 3);
-        self.general[12] = frame_word(frame, 4);
+        self.words[0] = frame_word(frame, 0);
+        self.words[1] = frame_word(frame, 1);
+        self.words[2] = frame_word(frame, 2);
+        self.words[3] = frame_word(frame, 3);
+        self.words[12] = frame_word(frame, 4);
+    }
+
+    /// Takes PC, IT and T from a frame, and marks nothing.
+    fn resume(&mut self, frame: &[u32])
+        requires { length frame.now ≡ 8 }
+        ensures { self.new ≡ record self.old {
+          pc = popped_pc frame.now;
+          it_state = spec.it_of (popped_xpsr frame.now);
+          thumb = is_bit (popped_xpsr frame.now) 24;
+          monitor = None;
+        } }
+    {
+        let xpsr = frame_word(frame, 7);
+        self.pc = frame_word(frame, 6);
+        self.it_state = it_of(xpsr);
+        self.thumb = thumb_of(xpsr);
+        self.monitor = None;
     }
 }
 
@@ -162,9 +178,24 @@ fn above_frame(base: u32, xpsr: u32) -> u32
     if xpsr >> 9 & 1 == 1 { above | 4 } else { above }
 }
 
+/// Returns EPSR.T of an xPSR.
+fn thumb_of(xpsr: u32) -> bool
+    ensures { result ≡ is_bit xpsr 24 }
+{
+    xpsr >> 24 & 1 == 1
+}
+
 /// Returns EPSR.IT of an xPSR.
 fn it_of(xpsr: u32) -> u8
     ensures { result ≡ spec.it_of xpsr }
 {
     ((xpsr >> 10 & 63) * 4 + (xpsr >> 25 & 3)) as u8
+}
+
+/// Returns IPSR of an xPSR.
+fn exception_of(xpsr: u32) -> u16
+    ensures value { result ≡ xpsr % 2 ^ 9 }
+    ensures small { result < 512 }
+{
+    (xpsr & 0x1FF) as u16
 }

@@ -2,10 +2,9 @@
 //! stack pointers, LR, PC, and what xPSR and CONTROL hold.
 #![tactic(auto)]
 
-ghost use Rattle.std.specs.Prelude.{◌≡◌, ◌<◌, ◌≤◌, ◌-◌, ◌*◌, ◌/◌, ◌^◌};
+ghost use Rattle.std.specs.Prelude.{◌≡◌, ◌<◌, ◌-◌, ◌*◌, ◌/◌, ◌^◌};
 ghost use Rattle.instruction_set.specs.Registers as spec;
-ghost use Rattle.instruction_set.specs.Registers.{with_register, with_pc, with_exchange, flags_of, with_sp};
-ghost use Rattle.instruction_set.specs.Registers.{stack_pointer, reset_registers, control_written};
+ghost use Rattle.instruction_set.specs.Registers.{with_register, with_pc, with_exchange, reset_registers};
 ghost use Rattle.instruction_set.specs.Words.{word_sum};
 
 use instruction_set::registers::Marked;
@@ -14,10 +13,13 @@ use std::marker::Model;
 
 mod arithmetic;
 mod conditions;
+mod flags;
 mod frames;
 mod monitor;
+mod stack_pointers;
 
 pub use arithmetic::{Shift, ShiftType, add_with_carry, decode_imm_shift, expand_imm, shift_c};
+pub use flags::flags_of;
 pub use frames::{returns_on_psp, returns_to_handler};
 
 /// The number of the stack pointer.
@@ -29,33 +31,48 @@ const LR: u8 = 14;
 /// The core registers. A contract sees them as the reference's `Registers`.
 #[derive(Drop)]
 pub struct Regs {
-    general: [u32; 13],
-    msp: u32,
-    psp: u32,
-    lr: u32,
+    /// R0 to R12, the stack pointer in use and LR, each at its number. The word at 15 isn't used: PC is `pc`.
+    words: [u32; 16],
+    /// The stack pointer that isn't in use.
+    other_sp: u32,
     pc: u32,
-    flags: Flags,
+    /// A word whose bit 31 is N.
+    negative_result: u32,
+    /// A word that is 0 where Z is set, and only there.
+    zero_result: u32,
+    carry: bool,
+    overflow: bool,
+    saturated: bool,
     it_state: u8,
     thumb: bool,
     exception: u16,
     unprivileged: bool,
     process_stack: bool,
+    /// Whether the stack pointer in use is PSP.
+    on_psp: bool,
     monitor: Option<Marked>,
 }
 
 impl Model for Regs {
-    ghost use Rattle.std.specs.Prelude.{◌<◌};
+    ghost use Rattle.std.specs.Prelude.{◌≡◌, ◌==◌, ◌&&◌, ◌<◌, not, take, slice_index, if◌then◌else◌};
     ghost use Rattle.instruction_set.specs.Registers.{Registers};
+    ghost use Rattle.instruction_set.specs.Words.{is_bit};
 
     ghost Value = { Registers };
 
     ghost view = { λ r. record {
-      general = r.general;
-      msp = r.msp;
-      psp = r.psp;
-      lr = r.lr;
+      general = take 13 r.words;
+      msp = if r.on_psp then r.other_sp else slice_index r.words 13;
+      psp = if r.on_psp then slice_index r.words 13 else r.other_sp;
+      lr = slice_index r.words 14;
       pc = r.pc;
-      flags = r.flags;
+      flags = record {
+        negative = is_bit r.negative_result 31;
+        zero = r.zero_result == 0;
+        carry = r.carry;
+        overflow = r.overflow;
+        saturated = r.saturated;
+      };
       it_state = r.it_state;
       thumb = r.thumb;
       exception = r.exception;
@@ -64,7 +81,8 @@ impl Model for Regs {
       monitor = r.monitor;
     } };
 
-    ghost invariant = { λ r. r.exception < 512 };
+    ghost invariant = { λ r. (r.exception < 512)
+        × (r.on_psp ≡ (not (not (r.exception == 0)) && r.process_stack)) };
 }
 
 impl Regs {
@@ -72,24 +90,24 @@ impl Regs {
     pub fn reset(stack: u32, entry: u32) -> Self
         ensures { result ≡ reset_registers stack entry }
     {
+        let mut words = [0; 16];
+        words[SP as usize] = stack & !3;
+        words[LR as usize] = 0xFFFF_FFFF;
         Regs {
-            general: [0; 13],
-            msp: stack & !3,
-            psp: 0,
-            lr: 0xFFFF_FFFF,
+            words,
+            other_sp: 0,
             pc: entry & !1,
-            flags: Flags {
-                negative: false,
-                zero: false,
-                carry: false,
-                overflow: false,
-                saturated: false,
-            },
+            negative_result: 0,
+            zero_result: 1,
+            carry: false,
+            overflow: false,
+            saturated: false,
             it_state: 0,
             thumb: entry & 1 == 1,
             exception: 0,
             unprivileged: false,
             process_stack: false,
+            on_psp: false,
             monitor: None,
         }
     }
@@ -100,15 +118,20 @@ impl Regs {
         ensures { result ≡ spec.register self.now register }
     {
         let number = register.number();
-        if number < SP {
-            self.general[number as usize]
-        } else if number == SP {
-            self.sp()
-        } else if number == LR {
-            self.lr
+        if number <= LR {
+            self.word(number)
         } else {
             self.pc.wrapping_add(4)
         }
+    }
+
+    /// `R[n]` of a register other than the PC.
+    #[inline]
+    fn word(&self, number: u8) -> u32
+        requires { number < 15 }
+        ensures { result ≡ spec.register self.now number }
+    {
+        self.words[number as usize]
     }
 
     /// `R[n] = value`, where a write to SP clears its bits 1:0, and one to PC branches.
@@ -118,49 +141,24 @@ impl Regs {
     {
         let number = register.number();
         if number < SP {
-            self.general[number as usize] = value;
+            self.words[number as usize] = value;
         } else if number == SP {
             self.set_sp(value);
         } else if number == LR {
-            self.lr = value;
+            self.set_link(value);
         } else {
             self.branch(value);
         }
-    }
-
-    /// Returns the stack pointer in use.
-    #[inline]
-    pub fn sp(&self) -> u32
-        ensures { result ≡ spec.sp self.now }
-    {
-        if self.uses_psp() { self.psp } else { self.msp }
-    }
-
-    /// Sets the stack pointer in use to a value, whose bits 1:0 are cleared.
-    #[inline]
-    fn set_sp(&mut self, value: u32)
-        ensures { self.new ≡ with_sp self.old value }
-    {
-        if self.uses_psp() {
-            self.psp = value & !3;
-        } else {
-            self.msp = value & !3;
-        }
-    }
-
-    /// Returns whether SP is PSP: `LookUpSP()`.
-    #[inline]
-    fn uses_psp(&self) -> bool
-        ensures { result ≡ spec.uses_psp self.now }
-    {
-        !self.is_handler() && self.process_stack
     }
 
     /// R0 to R12.
     pub fn general(&self) -> [u32; 13]
         ensures { result ≡ self.now.general }
     {
-        self.general
+        let w = &self.words;
+        [
+            w[0], w[1], w[2], w[3], w[4], w[5], w[6], w[7], w[8], w[9], w[10], w[11], w[12],
+        ]
     }
 
     /// Returns the address of the instruction that is executed; between steps, of the next one.
@@ -194,22 +192,6 @@ impl Regs {
         ensures { self.new ≡ record self.old { pc = word_sum self.old.pc length } }
     {
         self.pc = self.pc.wrapping_add(length);
-    }
-
-    /// Returns the flags of APSR.
-    #[inline]
-    pub fn flags(&self) -> Flags
-        ensures { result ≡ self.now.flags }
-    {
-        self.flags
-    }
-
-    /// Sets the five flags.
-    #[inline]
-    pub fn set_flags(&mut self, flags: Flags)
-        ensures { self.new ≡ record self.old { flags = flags } }
-    {
-        self.flags = flags;
     }
 
     /// Sets the eight bits of EPSR.IT.
@@ -268,28 +250,20 @@ impl Regs {
         self.it_state
     }
 
-    /// MSP, the main stack pointer.
-    #[inline]
-    pub fn main_stack(&self) -> u32
-        ensures { result ≡ self.now.msp }
-    {
-        self.msp
-    }
-
-    /// PSP, the process stack pointer.
-    #[inline]
-    pub fn process_stack(&self) -> u32
-        ensures { result ≡ self.now.psp }
-    {
-        self.psp
-    }
-
     /// LR, the link register.
     #[inline]
     pub fn link(&self) -> u32
         ensures { result ≡ self.now.lr }
     {
-        self.lr
+        self.words[LR as usize]
+    }
+
+    /// Sets LR.
+    #[inline]
+    fn set_link(&mut self, value: u32)
+        ensures { self.new ≡ record self.old { lr = value } }
+    {
+        self.words[LR as usize] = value;
     }
 
     /// xPSR: APSR, EPSR and IPSR in one word.
@@ -303,63 +277,6 @@ impl Regs {
             + weighed(self.thumb, 1 << 24)
             + (it_state / 4 << 10)
             + self.exception as u32
-    }
-
-    /// APSR: the flags in bits 31:27.
-    pub fn apsr(&self) -> u32
-        ensures value { result ≡ spec.apsr self.now.flags }
-        ensures room { result ≤ 2 ^ 32 - 2 ^ 27 }
-    {
-        weighed(self.flags.negative, 1 << 31)
-            + weighed(self.flags.zero, 1 << 30)
-            + weighed(self.flags.carry, 1 << 29)
-            + weighed(self.flags.overflow, 1 << 28)
-            + weighed(self.flags.saturated, 1 << 27)
-    }
-
-    /// CONTROL: nPRIV and SPSEL.
-    pub fn control(&self) -> u32
-        ensures { result ≡ spec.control self.now }
-    {
-        weighed(self.unprivileged, 1) + weighed(self.process_stack, 2)
-    }
-
-    /// Sets MSP to a value, whose bits 1:0 are cleared.
-    pub fn set_main_stack(&mut self, value: u32)
-        ensures { self.new ≡ record self.old { msp = stack_pointer value } }
-    {
-        self.msp = value & !3;
-    }
-
-    /// Sets PSP to a value, whose bits 1:0 are cleared.
-    pub fn set_process_stack(&mut self, value: u32)
-        ensures { self.new ≡ record self.old { psp = stack_pointer value } }
-    {
-        self.psp = value & !3;
-    }
-
-    /// Writes CONTROL as MSR does: nPRIV (bit 0), and in Thread mode SPSEL (bit 1).
-    pub fn write_control(&mut self, value: u32)
-        ensures { self.new ≡ control_written self.old value }
-    {
-        self.unprivileged = value & 1 == 1;
-        if self.exception == 0 {
-            self.process_stack = value >> 1 & 1 == 1;
-        }
-    }
-}
-
-/// Returns the flags in bits 31:27 of a word, as MSR writes them to APSR.
-#[inline]
-pub fn flags_of(word: u32) -> Flags
-    ensures { result ≡ flags_of word }
-{
-    Flags {
-        negative: word >> 31 & 1 == 1,
-        zero: word >> 30 & 1 == 1,
-        carry: word >> 29 & 1 == 1,
-        overflow: word >> 28 & 1 == 1,
-        saturated: word >> 27 & 1 == 1,
     }
 }
 

@@ -1,0 +1,63 @@
+//! The flags of APSR (ARM DDI 0403, "The Application Program Status Register"). N and Z are kept as the results
+//! that they are of, so that most instructions set them by a store each.
+
+ghost use Rattle.std.specs.Prelude.{◌≡◌, ◌≤◌, ◌-◌, ◌^◌};
+ghost use Rattle.instruction_set.specs.Registers as spec;
+ghost use Rattle.instruction_set.specs.Registers.{flags_of};
+
+use crate::{Flags, Regs, weighed};
+
+impl Regs {
+    /// Returns the flags of APSR.
+    #[inline]
+    pub fn flags(&self) -> Flags
+        ensures { result ≡ self.now.flags }
+    {
+        Flags {
+            negative: self.negative_result >> 31 == 1,
+            zero: self.zero_result == 0,
+            carry: self.carry,
+            overflow: self.overflow,
+            saturated: self.saturated,
+        }
+    }
+
+    /// Sets the five flags.
+    #[inline]
+    pub fn set_flags(&mut self, flags: Flags)
+        ensures { self.new ≡ record self.old { flags = flags } }
+    {
+        self.negative_result = weighed(flags.negative, 1 << 31);
+        self.zero_result = weighed(!flags.zero, 1);
+        self.carry = flags.carry;
+        self.overflow = flags.overflow;
+        self.saturated = flags.saturated;
+    }
+
+    /// APSR: the flags in bits 31:27.
+    pub fn apsr(&self) -> u32
+        ensures value { result ≡ spec.apsr self.now.flags }
+        ensures room { result ≤ 2 ^ 32 - 2 ^ 27 }
+    {
+        let flags = self.flags();
+        weighed(flags.negative, 1 << 31)
+            + weighed(flags.zero, 1 << 30)
+            + weighed(flags.carry, 1 << 29)
+            + weighed(flags.overflow, 1 << 28)
+            + weighed(flags.saturated, 1 << 27)
+    }
+}
+
+/// Returns the flags in bits 31:27 of a word, as MSR writes them to APSR.
+#[inline]
+pub fn flags_of(word: u32) -> Flags
+    ensures { result ≡ flags_of word }
+{
+    Flags {
+        negative: word >> 31 & 1 == 1,
+        zero: word >> 30 & 1 == 1,
+        carry: word >> 29 & 1 == 1,
+        overflow: word >> 28 & 1 == 1,
+        saturated: word >> 27 & 1 == 1,
+    }
+}
