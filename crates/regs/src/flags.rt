@@ -1,5 +1,5 @@
-//! The flags of APSR (ARM DDI 0403, "The Application Program Status Register"). N and Z are kept as the results
-//! that they are of, so that most instructions set them by a store each.
+//! The flags of APSR (ARM DDI 0403, "Registers" of the programmers' model). N and Z are kept as words: N is bit 31 of
+//! one, and Z is set if the other is 0. So the result of an instruction can be stored for both as it is.
 
 ghost use Rattle.std.specs.Prelude.{◌≡◌, ◌≤◌, ◌-◌, ◌^◌};
 ghost use Rattle.instruction_set.specs.Registers as spec;

@@ -143,7 +143,7 @@ impl Regs {
         self.words[12] = frame_word(frame, 4);
     }
 
-    /// Takes PC, IT and T from a frame, and marks nothing.
+    /// Takes PC, IT and T from a frame, and clears the local monitor.
     fn resume(&mut self, frame: &[u32])
         requires { length frame.now ≡ 8 }
         ensures { self.new ≡ record self.old {

@@ -38,7 +38,7 @@ pub struct Regs {
     pc: u32,
     /// A word whose bit 31 is N.
     negative_result: u32,
-    /// A word that is 0 where Z is set, and only there.
+    /// A word that is 0 if Z is set, and only then.
     zero_result: u32,
     carry: bool,
     overflow: bool,

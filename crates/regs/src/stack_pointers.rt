@@ -1,5 +1,5 @@
-//! The two stack pointers, and which of them is SP (ARM DDI 0403, "The SP registers"). The one in use is kept at its
-//! register's number, so what changes the choice exchanges the two.
+//! The two stack pointers, and which of them is SP (ARM DDI 0403, `LookUpSP()`). The one in use is kept at the number
+//! of SP, so a change of the mode or of CONTROL.SPSEL exchanges the two where it selects the other one.
 
 ghost use Rattle.std.specs.Prelude.{◌≡◌, ◌<◌, if◌then◌else◌};
 ghost use Rattle.instruction_set.specs.Registers as spec;
@@ -70,7 +70,7 @@ impl Regs {
         self.set_stack(true, value & !3);
     }
 
-    /// Sets PSP or MSP to a value as it is.
+    /// Sets PSP if `process` is set, else MSP, to all 32 bits of a value.
     #[inline]
     pub(crate) fn set_stack(&mut self, process: bool, value: u32)
         ensures { self.new ≡ (if process then record self.old { psp = value } else record self.old { msp = value }) }
