@@ -14,7 +14,9 @@ A page is README.md, CONTRIBUTING.md, docs/*.md or crates/*/README.md. A name is
     `Owner::name`            the same, of that type, trait, module or crate
     `Owner.name`             the same
     `a/path.rt`, `file.rt`   a file or folder, from the top, from the page's crate, or the end of one path alone
-    `a-word`                 a word that src/ or specs/ write or read: a stop, a key, a rule
+    `a-word`                 a word that src/ or specs/ write or read: a stop, a key, a rule. A text of three words or
+                             more is a message, and its words are no names
+    `--option`               an option of the program, or of the script `marm`, in docs/marm.1 or in the script
     `some code = 1`          each name in it
     `command word ..`        the files in it
 
@@ -40,11 +42,14 @@ from marks import Marks
 
 TOP = os.path.dirname(os.path.dirname(os.path.abspath(__file__)))
 
+MANUAL_PAGE = "docs/marm.1"
+SCRIPT = "marm"
+
 # ---- what is no name of the repository -------------------------------------------------------------------------
 
 # programs, and the first words of commands
 COMMANDS = set("""rt make man groff python3 valgrind taskset ld.lld arm-none-eabi-ld arm-none-eabi-gcc clang gcc git apt-get
-llvm-readelf llvm-objdump llvm-mc llvm-objcopy qemu-system-arm readelf awk date""".split())
+llvm-readelf llvm-objdump llvm-mc llvm-objcopy qemu-system-arm readelf awk date ulimit""".split())
 
 # what `rt` takes: its words and options
 RT_WORDS = set("""check ci test try lib lemma fmt tidy plant must-fail version doc run new verdict all names help --only
@@ -52,7 +57,7 @@ RT_WORDS = set("""check ci test try lib lemma fmt tidy plant must-fail version d
 
 # words of Rust, of antt, of std and of the kit's libraries that pages speak of
 LANGUAGE = set("""crate usize u8 u16 u32 u64 i32 i64 bool str String Vec Option Result Some None Ok Err true false self mut
-fn pub impl struct enum trait match for in let if else use mod unsafe derive cold Default Clone Copy Drop Model Write
+fn pub impl struct enum trait match for in let if else use mod unsafe derive while cold Default Clone Copy Drop Model Write
 Read Global panic unwrap refl rw let's suc zero omega is_err split_at abbrev unfoldable record data with where opaque ghost ensures
 requires using unfolding auto search simp loop items view invariant Value ArrayVec codes decimal find Appends Keeps
 OnOk OnErr IfOk IfErr OnTrue OnFalse IsSome IsOk All AllPairs append_known is_utf8 parse_document Members length drop
@@ -72,7 +77,7 @@ MANUAL = re.compile(r"""^(R\d+|R\[n\]|[A-Z][A-Z0-9_]+(\.[A-Z0-9_]+)?   # registe
 
 # variables, letters of a row, and words that stand for others
 PLACEHOLDERS = set("""N NAME FILE IMAGE BOARD STEPS COUNT SEED ROUNDS PAGE WORD WORDS HEAD F T U C D L K E W ROOM number
-name x i f b o z a c s n e mmm ddd .. steps""".split())
+name x i f b o z a c s n e d t mmm nnn ddd .. steps""".split())
 
 # pages that speak of examples/, bench/, crosscheck/ and fuzz/ too
 EXAMPLE_PAGES = {
@@ -100,16 +105,22 @@ def tracked():
 
 ITEM = re.compile(r"\b(?:fn|struct|enum|trait|type|const|static|mod|ghost|ensures|requires|label)\s+([A-Za-z_]\w*)")
 TYPED = re.compile(r"\b([a-z_]\w*)\s*:(?!:)")
-VARIANT = re.compile(r"^\s+([A-Z]\w*)\s*(?:[,({]|$)", re.M)
+VARIANT = re.compile(r"^\s+([A-Z]\w*)\s*(?:[,({]|= \d|$)", re.M)
 MACRO = re.compile(r"macro_rules!\s*(\w+)")
 BLOCK = re.compile(r"^(?:pub(?:\([a-z]+\))?\s+)?(impl|trait|enum|struct)\b([^{;]*)\{(.*?)^\}", re.M | re.S)
 TEXT = re.compile(r'"([^"\\\n]{1,60})"')
 SPEC = re.compile(r"^\s*(?:(?:abbrev|unfoldable|opaque|pub|record|data|mod|private|syntax)\s+)*([A-Za-z_][\w'-]*)\s*[:({]?", re.M)
-WORD = re.compile(r"[A-Za-z_][\w']*")
+# what counts as a name in the manual page and in the script that runs the program: their other words are prose
+OPTION = re.compile(r"(?<![\w-])--[a-z][\w-]*")
 
 
 def without_comments(text):
     return re.sub(r"//[^\n]*", "", text)
+
+
+def words_of_texts(code):
+    """Returns the words of the texts in code that have at most two: a longer one is a message, whose words are prose."""
+    return {word for text in TEXT.findall(code) if len(text.split()) <= 2 for word in re.findall(r"[\w-]+", text)}
 
 
 class Repository:
@@ -140,8 +151,11 @@ class Repository:
                 found = self.rust(read(path), parts[1].startswith("test_") if len(parts) > 1 else False)
             elif path.endswith(".antt"):
                 found = self.definitions(read(path))
-            elif path.endswith((".c", ".h", ".s", ".ld", ".py", ".sh", "Makefile", ".toml", ".in", ".1")) or parts[-1] == "marm":
-                (self.texts if parts[-1] in ("marm.1", "marm") else self.examples).update(re.findall(r"[\w.-]+", read(path)))
+            elif path in (MANUAL_PAGE, SCRIPT):
+                self.texts.update(OPTION.findall(read(path).replace("\\-", "-")))
+                continue
+            elif path.endswith((".c", ".h", ".s", ".ld", ".py", ".sh", "Makefile", ".toml", ".in")):
+                self.examples.update(re.findall(r"[\w.-]+", read(path)))
                 continue
             else:
                 continue
@@ -153,14 +167,14 @@ class Repository:
                 if parts[2] == "must-fail":
                     self.names.add(parts[-1])
         self.names_of_files = {os.path.splitext(os.path.basename(path))[0] for path in self.files}
+        self.names_of_files |= {folder for folder in self.folders if "/" not in folder}
         self.names |= self.names_of_files
 
     def rust(self, text, is_test):
         code = without_comments(text)
         found = set(ITEM.findall(code)) | set(MACRO.findall(code)) | set(TYPED.findall(code)) | set(VARIANT.findall(code))
         if not is_test:
-            for words in TEXT.findall(code):
-                self.texts.update(re.findall(r"[\w-]+", words))
+            self.texts.update(words_of_texts(code))
         for kind, head, body in BLOCK.findall(code):
             owner = re.sub(r"<[^<>]*>", "", re.sub(r"<[^<>]*>", "", head)).split(" where ")[0].strip()
             trait = None
@@ -177,8 +191,7 @@ class Repository:
 
     def definitions(self, text):
         code = re.sub(r"--[^\n]*", "", text)
-        for words in TEXT.findall(code):
-            self.texts.update(re.findall(r"[\w-]+", words))
+        self.texts.update(words_of_texts(code))
         return set(SPEC.findall(code))
 
     def has(self, name, page):
@@ -286,10 +299,10 @@ PAGE_ID = re.compile(r"(data|cells|lane|refusal|region|[rs]\d+|none|bg)-[\w-]+|c
 
 
 # options of compilers, linkers and disassemblers
-OPTIONS = set("-pie -shared -r -Oz -O0 -O1 -O2 -O3 -Os -Wl,-n -n -T --mcpu=cortex-m3 -mthumb -mcpu=cortex-m3 -nostdlib".split())
+OPTIONS = set("-pie -shared -r -Oz -O0 -O1 -O2 -O3 -Os -Wl,-n -n -T --mcpu=cortex-m3 -mthumb -mcpu=cortex-m3 -nostdlib -s".split())
 
 # words of a message or of an example that are quoted whole
-ENGLISH = set("marm is it takes at and the before event of other entries has ended all run out lost ahead to none".split())
+ENGLISH = set("marm is it takes an at and the before event of other entries has ended all run out lost ahead to none".split())
 
 # ---- a page ----------------------------------------------------------------------------------------------------
 
@@ -388,8 +401,6 @@ def lists(repo):
              and f"({os.path.basename(path)})" not in text]
     return lost
 
-
-MANUAL_PAGE = "docs/marm.1"
 
 # where the help lists the debugger's commands
 HELP_OF_DEBUG = "crates/command_line/src/texts.rt"
