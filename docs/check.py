@@ -67,7 +67,7 @@ take unwrap_or Prelude Type nat_le nat_lt is_some Invariants Answers Proof old n
 OUTSIDE = set("""e_ident EI_CLASS EI_DATA e_type e_machine e_phoff e_phentsize e_phnum e_entry e_version e_flags e_ehsize
 p_type p_offset p_paddr p_filesz p_vaddr p_memsz p_flags p_align MEMORY PHDRS FILEHDR FLASH RAM AT LOADADDR ORIGIN
 PROVIDE KEEP memcpy memmove memset strcmp strstr printf malloc _sbrk _write _exit _read _close _fstat _isatty _lseek
-mps2-an385 lm3s6965evb stm32vldiscovery -singlestep armv7m_nvic_complete_irq start.elf hello-newlib.elf hello-plain.elf objects.cpp preinit_array init_array ARM.exidx ARM.extab arm-none-eabi-size .bss .data setpan setend hi.c /opt/rattle""".split())
+mps2-an385 lm3s6965evb stm32vldiscovery -singlestep armv7m_nvic_complete_irq start.elf hello-newlib.elf hello-plain.elf objects.cpp preinit_array init_array ARM.exidx ARM.extab arm-none-eabi-size .bss .data setpan setend hi.c /opt/rattle bin/rattle toolchain/bin/rattle-x64""".split())
 
 # instructions and registers of the manual, and words of a trace line
 MANUAL = re.compile(r"""^(R\d+|R\[n\]|[A-Z][A-Z0-9_]+(\.[A-Z0-9_]+)?   # registers, fields, instructions
@@ -86,6 +86,9 @@ EXAMPLE_PAGES = {
 
 # what the kit and a shell print or take
 WHOLE = re.compile(r"^(rattle-kit-.*|--specs=\w+\.specs|-Wl,--[\w=.]+|Handles allowed: none\.|grep .*|N passed, 0 failed|old \+\+ bytes|List ℕ|WHAT|rattle|git .*|.*::Chapter::.*)$")
+
+# words of the last line of a check, and the folder in which `rt` keeps its work
+VERDICT = re.compile(r"^((native|statements|libraries-built|logic-built|incremental|cache|bugs|hides|axioms)(=trusted)?|logic=(not-)?proved|checked=0|out/)$")
 
 # a line of a trace, as an example
 TRACE_LINE = re.compile(r"^(\d+ [FLSKUVORX!] |stop [a-z]+)")
@@ -248,7 +251,7 @@ class Repository:
 def missing(repo, span, page):
     """Returns what of a code span isn't in the repository."""
     span = span.strip()
-    if not span or WHOLE.match(span) or span in OUTSIDE or re.match(r"^[a-z]\d$", span) or MANUAL.match(span) or span in PLACEHOLDERS or span in LANGUAGE or TRACE_LINE.match(span):
+    if not span or WHOLE.match(span) or VERDICT.match(span) or span in OUTSIDE or re.match(r"^[a-z]\d$", span) or MANUAL.match(span) or span in PLACEHOLDERS or span in LANGUAGE or TRACE_LINE.match(span):
         return []
     if re.match(r"^[\"'\[(<>=.,;:!?*+&|{}#\\-]+$", span) or PAGE_ID.fullmatch(span):
         return []

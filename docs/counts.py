@@ -126,6 +126,7 @@ AUDIT_PARTS = {
     "rows": "Short* Long*",
     "text": "Text Events",
     "files": "Images Boards Start board/Texts board/Reading command/Statuses output/Gathered machine/Starts",
+    "options": "trace/Selection command/Saving debugger/StateText debugger_commands/Texts",
 }
 
 # the enums and structs that the definitions name, beside all those of `DEFINITIONS`
