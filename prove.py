@@ -10,6 +10,7 @@ was killed leaves its rooms to the next one. MARM_JOBS is the most crates that a
 """
 
 import fcntl
+import hashlib
 import os
 import re
 import shutil
@@ -99,6 +100,20 @@ def most_lanes():
     return max(1, min(most, memory))
 
 
+# ---- sums ------------------------------------------------------------------------------------------------------------
+
+
+def sources_of(folder):
+    """Returns the sha256 of the sources in a folder that the program is built on."""
+    words = [f"{TOP}/marm", "--sources", folder]
+    return subprocess.run(words, stdin=NOTHING, capture_output=True, text=True, check=True).stdout.strip()
+
+
+def sum_of(path):
+    with open(path, "rb") as file:
+        return hashlib.sha256(file.read()).hexdigest()
+
+
 # ---- rooms -----------------------------------------------------------------------------------------------------------
 
 
@@ -182,6 +197,7 @@ class Work:
         self.started = {}                  # and when it was started
         self.began = time.time()
         self.shown = ""
+        self.sources = ""                  # the sha256 of those that the program is built on
         # It kills what was started, however this process ends. Until then nobody else gets the lock.
         ends, self.held = os.pipe()
         words = ["sh", "-c", "read _; kill -9 0"]
@@ -195,6 +211,7 @@ class Work:
         self.started[name] = time.time()
         make_room(room, name, all_below(self.uses, name))
         is_program = name == PROGRAM
+        self.sources = sources_of(room) if is_program else ""
         words = ["rt", "run" if is_program else "lib", "--jobs", str(jobs), *RUN * is_program]
         words = words if is_first else ["nice", "-n", "5", *words]
         how = {"cwd": f"{room}/crates/{name}", "preexec_fn": lambda: os.setpgid(0, self.guard.pid)}
@@ -223,11 +240,27 @@ class Work:
         for name, process in list(self.running.items()):
             if process.poll() is not None:
                 del self.running[name]
+                well = process.returncode == 0 and (name != PROGRAM or self.stamp())
                 clear_room(self.folder, name)
-                if process.returncode:
+                if not well:
                     return name
                 self.done.add(name)
         return None
+
+    def stamp(self):
+        """Writes beside the program what it was built on. Returns whether that stayed as it was at the start: an editor
+        may write into a file of which the room has a link."""
+        room = f"{self.folder}/rooms/{PROGRAM}"
+        program = f"{room}/crates/{PROGRAM}/out/{PROGRAM}"
+        if sources_of(room) != self.sources:
+            with open(f"{self.folder}/logs/{PROGRAM}", "a", encoding="utf-8") as log:
+                log.write("a source was changed while the program was being built\n")
+            return False
+        kit = subprocess.run(["rt", "version"], stdin=NOTHING, capture_output=True, text=True, check=True).stdout
+        with open(f"{program}.new", "w", encoding="utf-8") as stamp:
+            stamp.write(f"sources {self.sources}\nprogram {sum_of(program)}\nproved by {kit.strip()}\n")
+        os.replace(f"{program}.new", f"{program}.stamp")
+        return True
 
     def time(self):
         minutes, seconds = divmod(int(time.time() - self.began), 60)
@@ -284,8 +317,9 @@ def lock_work(folder):
 def main(folder):
     for number in (signal.SIGHUP, signal.SIGINT, signal.SIGTERM):
         signal.signal(number, lambda it, _: sys.exit(128 + it))
-    if not shutil.which("rt"):
-        say("rt, the command of Rattle's kit, isn't installed, so nothing can be proved")
+    unwritable = first_unwritable(folder)
+    if unwritable:
+        say(f"the folder {unwritable} can't be written, so nothing can be proved here")
         return 1
     work = Work(folder, lock_work(folder))
     for it in ("rooms", "logs", "removed"):
@@ -303,11 +337,26 @@ def main(folder):
             sys.stderr.write(log.read())
         say(f"the crate {failed} could not be proved or built")
         return 1
-    # (an edit since then isn't in the program)
-    os.utime(f"{TOP}/crates/{PROGRAM}/out/{PROGRAM}", (work.started[PROGRAM],) * 2)
     say(f"all {len(work.uses)} crates proved and built in {work.time()}")
+    program = f"{TOP}/crates/{PROGRAM}/out/{PROGRAM}"
+    print(f"{sum_of(program)}  {program}")
     return 0
 
 
+def first_unwritable(folder):
+    """Returns a folder that the work needs and that can't be written, if there is one."""
+    above = folder
+    while not os.path.exists(above):
+        above = os.path.dirname(above)
+    for it in (above, *(f"{TOP}/crates/{name}" for name in read_uses())):
+        if not os.access(it, os.W_OK | os.X_OK):
+            return it
+    return None
+
+
 if __name__ == "__main__":
-    sys.exit(main(sys.argv[1]))
+    try:
+        sys.exit(main(sys.argv[1]))
+    except OSError as error:
+        say(f"the program can't be proved: {error.filename or 'the system'}: {error.strerror}")
+        sys.exit(1)

@@ -24,8 +24,8 @@ static volatile uint32_t refused, address; /* CFSR, and MMFAR or BFAR */
 static struct frame way_back __attribute__((aligned(8)));
 static volatile uint32_t depth;
 
-void mem_manage(void);
-void bus_fault(void);
+void MemManage_Handler(void);
+void BusFault_Handler(void);
 
 /* Returns to Thread mode by a frame of its own, wherever the process stack is: longjmp sets SP anew. */
 static void go_back(uint32_t status, uint32_t where)
@@ -37,12 +37,12 @@ static void go_back(uint32_t status, uint32_t where)
     __asm volatile("msr psp, %0" ::"r"(&way_back) : "memory");
 }
 
-void mem_manage(void)
+void MemManage_Handler(void)
 {
     go_back(CFSR, MMFAR);
 }
 
-void bus_fault(void)
+void BusFault_Handler(void)
 {
     go_back(CFSR, BFAR);
 }

@@ -2,7 +2,8 @@
    -Wl,--defsym=RAM_SIZE=0x4000:
 
    FLASH_BASE, FLASH_SIZE, RAM_SIZE    those of the board; RAM begins at 0x20000000
-   STACK_SIZE                          the stack, with ROOM_SIZE bytes above its first word that nothing else uses
+   STACK_SIZE                          the stack, with ROOM_SIZE bytes above its first word that nothing else uses;
+                                       16 KiB, or a quarter of RAM where that is less
    GUARD_SIZE                          the block below the stack, aligned to its size, that regions.c makes a guard
 
    malloc has the RAM from the end of the variables up to the guard. PHDRS names the segments of the file; none of them
@@ -88,7 +89,8 @@ SECTIONS
     __ram_end = ORIGIN(RAM) + LENGTH(RAM);
     __guard_size = DEFINED(GUARD_SIZE) ? GUARD_SIZE : 1024;
     __stack_top = __ram_end - (DEFINED(ROOM_SIZE) ? ROOM_SIZE : 256);
-    __stack_bottom = (__ram_end - (DEFINED(STACK_SIZE) ? STACK_SIZE : 16K)) & ~(__guard_size - 1);
+    __stack_bottom = (__ram_end - (DEFINED(STACK_SIZE) ? STACK_SIZE : MIN(16K, LENGTH(RAM) / 4)))
+        & ~(__guard_size - 1);
     __heap_begin = __bss_end;
     __heap_end = __stack_bottom - __guard_size;
     ASSERT(__heap_begin <= __heap_end, "RAM has no room for the variables, the guard and the stack")

@@ -13,6 +13,10 @@
 
 #define HANDLER_STACK_SIZE 1024u
 
+#ifdef __cplusplus
+extern "C" {
+#endif
+
 extern char __flash_begin[], __flash_size[], __ram_begin[], __ram_size[], __guard_size[], __heap_end[]; /* link.ld */
 
 static char handler_stack[HANDLER_STACK_SIZE] __attribute__((aligned(HANDLER_STACK_SIZE)));
@@ -52,3 +56,7 @@ void _confine(void)
     synchronize();
     drop_privilege();
 }
+
+#ifdef __cplusplus
+}
+#endif

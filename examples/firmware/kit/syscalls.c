@@ -4,6 +4,7 @@
 #include "device.h"
 #include <errno.h>
 #include <stddef.h>
+#include <string.h>
 #include <sys/stat.h>
 #include <sys/time.h>
 #include <sys/times.h>
@@ -12,6 +13,11 @@
 /* How many steps are a second of the clock, a multiple of CLOCKS_PER_SEC. After 2^32 steps the clock begins again. */
 #ifndef STEPS_PER_SECOND
 #define STEPS_PER_SECOND 1000000u
+#endif
+
+/* A compiler of C++ takes this file too: its calls have C's names. */
+#ifdef __cplusplus
+extern "C" {
 #endif
 
 extern char __heap_begin[], __heap_end[]; /* link.ld */
@@ -61,7 +67,8 @@ int _fstat(int file, struct stat *status)
 {
     if (!is_open(file))
         return refuse(EBADF);
-    *status = (struct stat){.st_mode = S_IFCHR};
+    memset(status, 0, sizeof *status);
+    status->st_mode = S_IFCHR;
     return 0;
 }
 
@@ -134,7 +141,8 @@ int _gettimeofday(struct timeval *time, void *zone)
 clock_t _times(struct tms *times)
 {
     clock_t clock = TICK / (STEPS_PER_SECOND / CLOCKS_PER_SEC);
-    *times = (struct tms){.tms_utime = clock};
+    memset(times, 0, sizeof *times);
+    times->tms_utime = clock;
     return clock;
 }
 
@@ -190,4 +198,8 @@ NAME(stat);
 NAME(times);
 NAME(unlink);
 NAME(write);
+#endif
+
+#ifdef __cplusplus
+}
 #endif
