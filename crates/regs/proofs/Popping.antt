@@ -5,7 +5,8 @@ use Rattle.instruction_set.specs.Frames.{above_frame, popped_pc, popped_xpsr, po
 use Rattle.instruction_set.specs.Registers.{Registers, flags_of}
 use Rattle.instruction_set.specs.Words.{is_bit}
 
--- r1 to r6 are the registers after each part: the stack pointer, R0 to R3 and R12, LR, the flags, PC with EPSR, the mode
+-- r1 to r6: the registers after each part, which are the stack pointer, R0 to R3 and R12, LR, the flags, PC with IT
+-- and T, and the mode
 pub popped_in_parts : (on_psp : Bool) (r r1 r2 r3 r4 r5 r6 : Registers) (e : ℕ) (frame : List ℕ) →
     returns_on_psp e ≡ on_psp →
     r1 ≡ with_frame_pointer r e (above_frame (frame_pointer r e) (popped_xpsr frame)) →
