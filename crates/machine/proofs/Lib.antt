@@ -8,3 +8,4 @@ mod StepBounds
 pub mod Selecting
 mod Tasking
 pub mod Quiet
+mod TaskAnswers

@@ -3,6 +3,7 @@ pub use Rattle.trace.specs.Selection
 pub mod Runs
 pub mod Selected
 pub mod Starts
+pub mod TaskRunLaw
 pub mod Tasks
 pub mod Values
 pub mod Whole
