@@ -26,7 +26,8 @@ note() {
 }
 unproved="this answer isn't proved"
 
-# Whether a file has all lines of another in their order.
+# Whether a file has all lines of another in their order. (`expect` calls it.)
+# shellcheck disable=SC2317
 has_lines() {
     awk 'NR == FNR { wanted[++count] = $0; next } $0 == wanted[at + 1] { at++ }
         END { exit !count || at < count }' "$2" "$1"
@@ -48,11 +49,11 @@ expect() {
 }
 
 # The first command of README's "Try it".
-words=$(grep -o '\./marm run --board [^ ]* --steps [^ ]* examples/first\.elf' README.md | head -n 1)
+read -ra words < <(grep -o '\./marm run --board [^ ]* --steps [^ ]* examples/first\.elf' README.md)
 note "$unproved" >"$work/err"
-expect "the README's first command" 0 cmp ${words#./marm }
+expect "the README's first command" 0 cmp "${words[@]:1}"
 [ "$took" -le 120000 ] || { echo "the first answer took more than two minutes"; failed=1; }
-expect "the same once more" 0 cmp ${words#./marm }
+expect "the same once more" 0 cmp "${words[@]:1}"
 
 # A board and an image elsewhere.
 odd="$work/a folder of 'odd' \"letters\": \$HOME=100%?*[x];é"
@@ -94,18 +95,18 @@ expect "the help" 2 cmp --help
 # The session of docs/DEBUGGING.md: its commands on standard input, and the answers that the page shows.
 wanted=$work/answers
 sed -n '/^\$ .*round_robin.elf$/,/^```$/p; /^quit$/q' docs/DEBUGGING.md >"$work/session"
-words=$(sed -n 's/^\$ \.\/marm //p' "$work/session")
+read -ra words < <(sed -n 's/^\$ \.\/marm //p' "$work/session")
 commands='^\(step\|run\|task\|break\|regs\|mem\|regions\|explain\|quit\)\( \|$\)'
 grep "$commands" "$work/session" >"$work/input"
 grep -v -e "$commands" -e '^\$' -e '^\.\.$' -e '^```$' "$work/session" >"$wanted"
 note "$unproved" >"$work/err"
-expect "a debug script" 0 has_lines $words
+expect "a debug script" 0 has_lines "${words[@]}"
 
 # A trace of 2 MB: 40,000 steps of a program that takes no fewer than 50 bytes for one.
 wanted=$work/nothing
 note "no answer without proofs, since the output has more than 1 MiB" >"$work/err"
-words="run --board crates/test_firmware/data/board.toml --steps 40000 examples/firmware/crc32-loop.elf"
-expect "a trace of 2 MB" 125 cmp $words
+read -ra words <<<"run --board crates/test_firmware/data/board.toml --steps 40000 examples/firmware/crc32-loop.elf"
+expect "a trace of 2 MB" 125 cmp "${words[@]}"
 
 [ "$failed" = 0 ] && echo "first_use: all as expected"
 exit "$failed"
