@@ -143,8 +143,9 @@ impl<U: DueTicks> Clock<U> {
         ensures due { IsSetOf result (tick_pends self.old.time) }
         ensures right { IsRight self.new }
     {
+        let systick = self.systick();
         let count = script::due_count(self.ticks + 1, &self.script[self.done..]);
-        let due = sets::due_of(&self.script[self.done..self.done + count], &self.systick());
+        let due = sets::due_of(&self.script[self.done..self.done + count], &systick);
         interrupts::take_events(&mut self.high, &self.script[self.done..self.done + count]);
         self.done += count;
         self.count_on();

@@ -105,16 +105,38 @@ still_before start mid new events grown same =
     grown ∙ ap (λ (m : Emission). record m { events = events }) same in
     whole ∙ ap (λ (es : List Event). record start { events = es }) (sym (ap (λ (e : Emission). e.events) whole))
 
--- the exception that runs, while the bus alone has changed
-pub same_exception : (first mid : State) → mid ≡ with_bus first mid.bus
-    → mid.registers.exception ≡ first.registers.exception
-same_exception first mid same = ap (λ (s : State). s.registers.exception) same
+-- one access more, after accesses that changed the bus alone: the bus is what it leaves
+pub bus_changed : (first mid new : State) (q : Request) → mid ≡ with_bus first mid.bus
+    → new ≡ with_bus mid (perform mid.registers.exception mid.bus q).after
+    → new ≡ with_bus first (perform first.registers.exception mid.bus q).after
+bus_changed first mid new q same made =
+    made ∙ ap (λ (s : State). with_bus s (perform s.registers.exception mid.bus q).after) same
 
--- after one access more the bus alone has changed
-pub bus_changed : (first mid new : State) (after : Bus) → mid ≡ with_bus first mid.bus → new ≡ with_bus mid after
-    → new ≡ with_bus first after
-bus_changed first mid new after same made = made ∙ ap (λ (s : State). with_bus s after) same
-
--- and it is the bus of that state
+-- again the bus alone has changed
 pub own_bus : (first new : State) (after : Bus) → new ≡ with_bus first after → new ≡ with_bus first new.bus
 own_bus first new after made = made ∙ ap (λ (b : Bus). with_bus first b) (sym (ap (λ (s : State). s.bus) made))
+
+-- its lines have the tick of the first
+pub lines_emitted : (first mid : State) (start new : Emission) (tick : ℕ) (q : Request) → mid ≡ with_bus first mid.bus
+    → tick ≡ first.bus.system.time.ticks
+    → new ≡ record start {
+      events =
+          start.events ++ access_lines tick q (perform mid.registers.exception mid.bus q).performed;
+    }
+    → new ≡ record start {
+      events =
+          start.events ++ lines_by first.registers.exception first.bus.system.time.ticks mid.bus q;
+    }
+lines_emitted first mid start new tick q same at_tick made =
+    made
+    ∙ ap (λ (t : ℕ). record start { events = start.events ++ lines_by mid.registers.exception t mid.bus q }) at_tick
+    ∙ ap (λ (s : State). record start {
+      events =
+          start.events ++ lines_by s.registers.exception first.bus.system.time.ticks mid.bus q;
+    }) same
+
+-- and its value is that of the exception of the first
+pub value_read : (first mid : State) (q : Request) (value : Result ℕ Failure) → mid ≡ with_bus first mid.bus
+    → value ≡ value_by mid.registers.exception mid.bus q → value_by first.registers.exception mid.bus q ≡ value
+value_read first mid q value same answer =
+    sym (answer ∙ ap (λ (s : State). value_by s.registers.exception mid.bus q) same)

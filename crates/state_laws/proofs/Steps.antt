@@ -142,7 +142,7 @@ module _ (interrupts bits : ℕ) where
   with_second_good s events hw1 out h =
       cond_both (is_long hw1) _ _ (LeavesGood interrupts bits)
       (λ long. second_good _ _ hw1 _ out
-          (after_one s (fetch_at (word_sum s.registers.pc 2) (is_privileged s.registers)) h))
+      (after_one s (fetch_at (word_sum s.registers.pc 2) (is_privileged s.registers)) h))
       (λ short. executed_good s events Short _ out h)
 
   first_good : (s : State) (events : List Event) (answer : Result ℕ Failure) → s.entry ≡ None → IsGood interrupts bits s
