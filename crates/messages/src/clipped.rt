@@ -1,7 +1,7 @@
 //! A text that is cut where it has no room for what comes next.
 
-ghost use Rattle.std.specs.Prelude.{◌≡◌, [], ◌∷◌, ◌++◌, false};
-ghost use Rattle.messages.specs.Clips.{clipped, shown};
+ghost use Rattle.std.specs.Prelude.{◌≡◌, [], ◌∷◌, ◌++◌};
+ghost use Rattle.messages.specs.Clips.{clipped, empty, is_nothing, line_feed, shown};
 
 use arrayvec::ArrayString;
 use std::marker::Model;
@@ -24,7 +24,7 @@ impl<const ROOM: usize> Model for Clipped<ROOM> {
 impl<const ROOM: usize> Clipped<ROOM> {
     /// Returns an empty text.
     pub fn new() -> Self
-        ensures { result ≡ record { text = []; is_cut = false } }
+        ensures { result ≡ empty }
     {
         Clipped {
             text: ArrayString::new(),
@@ -53,7 +53,9 @@ impl<const ROOM: usize> Clipped<ROOM> {
     }
 
     /// Returns whether nothing was put, not even cut.
-    pub fn is_empty(&self) -> bool {
+    pub fn is_empty(&self) -> bool
+        ensures { result ≡ is_nothing self.now }
+    {
         self.text.as_str().is_empty() && !self.is_cut
     }
 
@@ -68,7 +70,7 @@ impl<const ROOM: usize> Clipped<ROOM> {
 impl Clipped<510> {
     /// Returns the text as a line.
     pub fn line(&self) -> ArrayString<513>
-        ensures { result.bytes ≡ shown self.now ++ 10 ∷ [] }
+        ensures { result.bytes ≡ shown self.now ++ line_feed ∷ [] }
     {
         let mut line = ArrayString::new();
         line.push_str(self.text.as_str());

@@ -1,8 +1,10 @@
 //! A writer of short lines.
 
-ghost use Rattle.std.specs.Prelude.{◌≡◌, [], ◌∷◌, ◌++◌, OnOk};
-ghost use Rattle.std.specs.Io.KnownBytes.{Appends};
-ghost use Rattle.messages.specs.Clips.{shown};
+ghost use Rattle.std.specs.Prelude.{◌≡◌, ◌-◌, ◌==◌, if◌then◌else◌, [], ◌∷◌, ◌++◌, length, None, Ok, IsUtf8, OnOk};
+ghost use Rattle.std.specs.Io.{WritesAtMost};
+ghost use Rattle.std.specs.Io.KnownBytes.{Appends, Keeps, WriteAppends};
+ghost use Rattle.std.specs.Str.{chars};
+ghost use Rattle.messages.specs.Clips.{empty, left_after, line_feed, shown, with_character, with_characters};
 
 use crate::clipped::Clipped;
 use crate::visible::{escape, visible};
@@ -25,7 +27,9 @@ pub struct Messages<W: Write + Drop> {
 
 impl<W: Write + Drop> Messages<W> {
     /// Returns a writer over another.
-    pub fn new(out: W) -> Self {
+    pub fn new(out: W) -> Self
+        ensures { result ≡ record { out = out; line = empty; lines_left = MOST_LINES } }
+    {
         Messages {
             out,
             line: Clipped::new(),
@@ -46,7 +50,11 @@ impl<W: Write + Drop> Messages<W> {
     }
 
     /// Appends a character to the line, which a line feed ends.
-    fn put(&mut self, character: char) {
+    fn put(&mut self, character: char)
+        ensures line { self.new.line ≡ with_character self.old.line character }
+        ensures left { self.new.lines_left
+            ≡ (if character == line_feed then self.old.lines_left - 1 else self.old.lines_left) }
+    {
         if character == '\n' {
             self.end_line();
         } else {
@@ -55,7 +63,10 @@ impl<W: Write + Drop> Messages<W> {
     }
 
     /// Appends the characters of a text.
-    fn put_text(&mut self, text: &str) {
+    fn put_text(&mut self, text: &str)
+        ensures line { self.new.line ≡ with_characters self.old.line (chars text.now) }
+        ensures left { self.new.lines_left ≡ left_after self.old.lines_left (chars text.now) }
+    {
         'characters: for character in text.chars() {
             self.put(character);
         }
@@ -73,7 +84,10 @@ impl<W: Write + Drop> Messages<W> {
     }
 
     /// Sends the line to the writer below, if there is one left.
-    fn end_line(&mut self) {
+    fn end_line(&mut self)
+        ensures line { self.new.line ≡ empty }
+        ensures left { self.new.lines_left ≡ self.old.lines_left - 1 }
+    {
         if self.lines_left > 0 {
             self.lines_left -= 1;
             let _ = send(&mut self.out, &self.line);
@@ -84,14 +98,20 @@ impl<W: Write + Drop> Messages<W> {
 
 /// Writes a line in one call.
 fn send<W: Write>(out: &mut W, line: &Clipped<510>) -> io::Result<()>
-    ensures { OnOk result (Appends (W.contents out.old) (W.contents out.new) (shown line.now ++ 10 ∷ [])) }
+    ensures { OnOk result (Appends (W.contents out.old) (W.contents out.new) (shown line.now ++ line_feed ∷ [])) }
 {
     out.write_all(line.line().as_str().as_bytes())
 }
 
 impl<W: Write + Drop> Write for Messages<W> {
     /// Takes all bytes. Those that aren't a text in UTF-8 are escaped one by one.
-    fn write(&mut self, buf: &[u8]) -> io::Result<usize> {
+    fn write(&mut self, buf: &[u8]) -> io::Result<usize>
+        ensures bound { WritesAtMost result buf.now }
+        ensures bytes { WriteAppends None None result buf.now }
+        ensures all { result ≡ Ok (length buf.now) }
+        ensures line { IsUtf8 buf.now → self.new.line ≡ with_characters self.old.line (chars buf.now) }
+        ensures left { IsUtf8 buf.now → self.new.lines_left ≡ left_after self.old.lines_left (chars buf.now) }
+    {
         match str::from_utf8(buf) {
             Ok(text) => self.put_text(text),
             Err(_) => self.put_bytes(buf),
@@ -100,7 +120,12 @@ impl<W: Write + Drop> Write for Messages<W> {
     }
 
     /// Ends a line that was begun, and flushes the writer below.
-    fn flush(&mut self) -> io::Result<()> {
+    #[tactic(auto, using(crate::proofs::Joining::nothing_is_empty))]
+    fn flush(&mut self) -> io::Result<()>
+        ensures bytes { Keeps None None }
+        ensures done { result ≡ Ok tt }
+        ensures line { self.new.line ≡ empty }
+    {
         if !self.line.is_empty() {
             self.end_line();
         }
