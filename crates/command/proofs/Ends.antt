@@ -6,14 +6,13 @@ use Rattle.std.proofs.lemmas.Str.{IsUtf8-from_is_utf8, is_utf8-from_IsUtf8}
 use Rattle.board.specs.declared.board.Board.{Board as TheBoard}
 use Rattle.board.specs.Reading.{Answers, described}
 use Rattle.board.specs.Texts.{board_of}
-use Rattle.command.specs.Statuses.{Reads, board_in_file}
+use Rattle.command.specs.Opening.{Reads, board_in_file}
 use Rattle.machine.proofs.Selecting.{selected_left_prefix}
 use Rattle.machine.specs.declared.machine.RunError.{RunError}
 use Rattle.machine.specs.declared.machine.RunError.TheVariants.{Write, Broken}
 use Rattle.machine.specs.Selected.{SelectedFails}
 use Rattle.machine.specs.Whole.{Whole}
-use Rattle.output.specs.Gathered.{GrowsByPrefix}
-use Rattle.output.specs.Output.{Writing}
+use Rattle.output.specs.Output.{GrowsByPrefix, Writing}
 use Rattle.platform.specs.declared.error.BoardError.{BoardError}
 use Rattle.platform.specs.declared.error.BoardError.TheVariants.{NotToml, OutOfMemory}
 use Rattle.platform.specs.Boards.{Described}

@@ -1,6 +1,4 @@
-mod Asking
 mod Ends
-mod Expected
-mod Performing
+mod Sent
 mod Talks
-mod Worded
+mod Waiting

@@ -1,5 +1,7 @@
+pub mod Opening
+pub mod Program
 pub mod Reports
-pub mod Saving
+pub mod Running
+pub mod Sending
 pub mod Sessions
 pub mod Statuses
-pub mod Tasks

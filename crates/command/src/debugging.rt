@@ -1,16 +1,15 @@
 //! A debug session from the bytes of an image and of a board.
 
-ghost use Rattle.std.specs.Prelude.{◌≡◌, false};
-ghost use Rattle.command.specs.Sessions.{Debugs, DebugsTo, Talked};
-ghost use Rattle.command.specs.Statuses.{board_in_file};
+ghost use Rattle.std.specs.Prelude.{◌≡◌};
+ghost use Rattle.command.specs.Opening.{board_in_file};
+ghost use Rattle.command.specs.Sessions.{SessionTo, Talked};
 ghost use Rattle.platform.specs.Images.{image_of};
 
-use crate::error::{Error, tell};
+use crate::error::Error;
 use crate::files::InputFile;
-use crate::reason::write_reason;
-use crate::running::board_of_file;
+use crate::opening::open;
+use crate::reason::refuse;
 use debugger::session;
-use elf::load;
 use machine::{Fast, In, Out};
 use std::alloc::Global;
 use std::io::Write;
@@ -27,41 +26,23 @@ pub fn debug<I: In, O: Out, E: Write>(
     out: &mut O,
     err: &mut E,
 ) -> u8
-    ensures debugs { DebugsTo (image_of image.entry.bytes.now) (board_in_file board.entry.bytes.now)
+    ensures debugs { SessionTo (image_of image.entry.bytes.now) (board_in_file board.entry.bytes.now)
         (I.reading input.old) (I.reading input.new) (O.writing out.old) (O.writing out.new) result }
     ensures quiet { result ≡ 0 → err.new ≡ err.old }
 {
-    match hold_session(alloc, image.bytes, board.bytes, input, out) {
+    let machine = match open(alloc, image.bytes, board.bytes) {
+        Ok(opened) => opened.machine,
+        Err(error) => return refuse(alloc, error, image, board, err),
+    };
+    match hold_session(machine, input, out) {
         Ok(()) => 0,
-        Err(error) => {
-            let status = tell(error, err);
-            let _ = write_reason(alloc, error, image, board, err);
-            status
-        }
+        Err(error) => refuse(alloc, error, image, board, err),
     }
 }
 
-/// Reads the image and the board, makes their machine, and holds a session of it.
-fn hold_session<I: In, O: Out>(
-    alloc: Global,
-    image: &[u8],
-    board: &[u8],
-    input: &mut I,
-    out: &mut O,
-) -> Result<(), Error>
-    ensures { Debugs (image_of image.now) (board_in_file board.now) (I.reading input.old) (I.reading input.new)
-        (O.writing out.old) (O.writing out.new) result }
-{
-    let image = load(image).map_err(Error::Load)?;
-    let board = board_of_file(alloc, board).map_err(Error::Board)?;
-    let machine = Fast::new(alloc, &image, &board).map_err(Error::Start)?;
-    talk_with(machine, input, out)
-}
-
 /// Holds a session of a machine.
-fn talk_with<I: In, O: Out>(machine: Fast, input: &mut I, out: &mut O) -> Result<(), Error>
-    requires { machine.broken ≡ false }
-    ensures { Talked machine.state (I.reading input.old) (I.reading input.new)
+fn hold_session<I: In, O: Out>(machine: Fast, input: &mut I, out: &mut O) -> Result<(), Error>
+    ensures { Talked machine (I.reading input.old) (I.reading input.new)
         (O.writing out.old) (O.writing out.new) result }
 {
     let mut machine = machine;

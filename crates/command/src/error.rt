@@ -44,7 +44,7 @@ pub fn stop_status(stop: Stop) -> u8
 }
 
 /// Writes the error's line, and returns its status, also where the write fails.
-pub fn tell<E: Write>(error: Error, err: &mut E) -> u8
+pub fn write_error<E: Write>(error: Error, err: &mut E) -> u8
     ensures { result ≡ error_status error }
 {
     let _ = match error {

@@ -1,5 +1,7 @@
 //! A writer or a reader that keeps why it failed.
 
+ghost use Rattle.std.specs.Prelude.{◌≡◌};
+
 use std::io;
 use std::io::{Read, Write};
 
@@ -12,7 +14,9 @@ pub struct LastError<T: Drop> {
 
 impl<T: Drop> LastError<T> {
     /// Returns a writer or a reader over another, with no error.
-    pub fn new(inner: T) -> Self {
+    pub fn new(inner: T) -> Self
+        ensures { result.inner ≡ inner }
+    {
         LastError { inner, error: None }
     }
 

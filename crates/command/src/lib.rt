@@ -1,25 +1,26 @@
-//! The command `marm`: its arguments, the files that they name, a run from the bytes of an image and
-//! of a board to the bytes of a trace, and a debug session of them.
+//! The command `marm`: the files that its arguments name, a run from the bytes of an image and of a board to
+//! the bytes of a trace, a page about such a run, and a debug session.
 #![tactic(auto)]
 
 mod commands;
 mod debugging;
 mod error;
-mod expectation;
 mod files;
-mod job;
 mod last_error;
+mod opening;
 mod reason;
 mod reporting;
 mod running;
+mod sending;
 mod state_file;
+mod streams;
 
-pub use command_line::WordsError;
+pub use command_line::{Subcommand, WordsError};
 pub use commands::{answer, program, refuse_words};
 pub use debugging::debug;
-pub use error::{Error, tell};
+pub use error::{Error, write_error};
 pub use files::{FileError, InputFile, read_file, words};
-pub use job::{Job, RunOptions, Task, read_words};
+pub use opening::{Opened, open};
 pub use reason::write_reason;
 pub use reporting::report;
-pub use running::go;
+pub use running::run;

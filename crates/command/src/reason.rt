@@ -1,14 +1,32 @@
 //! Why a run is refused, for a person: lines after the error's own.
 
-use crate::error::Error;
+ghost use Rattle.std.specs.Prelude.{◌≡◌};
+ghost use Rattle.command.specs.Statuses.{error_status};
+
+use crate::error::{Error, write_error};
 use crate::files::InputFile;
-use crate::running::board_of_file;
+use crate::opening::board_of_file;
 use messages::Escaped;
 use platform::error::StartError;
 use reasons::{write_board_reason, write_image_reason, write_start_reason};
 use std::alloc::Global;
 use std::io;
 use std::io::Write;
+
+/// Writes an error and its reason, and returns its status.
+pub fn refuse<E: Write>(
+    alloc: Global,
+    error: Error,
+    image: InputFile<'_>,
+    board: InputFile<'_>,
+    err: &mut E,
+) -> u8
+    ensures { result ≡ error_status error }
+{
+    let status = write_error(error, err);
+    let _ = write_reason(alloc, error, image, board, err);
+    status
+}
 
 /// Writes the file of an error and what is wrong in it: a field, a key or an event, its value, and
 /// what it takes.

@@ -1,1 +1,5 @@
+mod Asking
 mod Parsing
+mod Searching
+mod Stopping
+mod Worded

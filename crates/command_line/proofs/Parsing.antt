@@ -8,9 +8,10 @@ use Rattle.clap.specs.Walk.{Row, Text}
 use Rattle.clap.specs.declared.error.Error.{Error}
 use Rattle.clap.specs.declared.error.kind.ErrorKind.{ErrorKind}
 use Rattle.clap.specs.declared.error.kind.ErrorKind.TheVariants as kind
-use Rattle.command_line.specs.Asked.{Reads, Refuses, Takes, asked_in, notice_for}
+use Rattle.command_line.specs.Notices.{Reads, Refuses, Takes, notice_for}
 use Rattle.command_line.specs.Commands.{marm}
-use Rattle.command_line.specs.declared.words.Words.{Words}
+use Rattle.command_line.specs.Subcommands.{IsAsked}
+use Rattle.command_line.specs.declared.subcommands.Subcommand.{Subcommand}
 use Rattle.command_line.specs.declared.words.WordsError.{WordsError}
 
 pub simple : is_simple marm ≡ true
@@ -19,10 +20,24 @@ simple = refl
 pub simple_and_free : is_simple_and_free marm ≡ true
 simple_and_free = refl
 
-pub taken : (words : List Text) (rows : Option (Text × List Row)) (result : Result Words WordsError)
-    → fault_of marm words ≡ [] → rows ≡ subcommand_of marm words → Reads (asked_in rows) result → Takes words result
-taken words rows (Ok asked) none same h = (none, ap asked_in (sym same) ∙ h)
-taken words rows (Err error) none same h = inr (inr (ap asked_in (sym same) ∙ h.0, h.1))
+pub taken : (words : List Text) (rows : Option (Text × List Row)) (result : Result Subcommand WordsError)
+    → fault_of marm words ≡ [] → rows ≡ subcommand_of marm words → Reads (IsAsked rows) result → Takes words result
+taken words rows (Ok subcommand) none same h =
+    (none, subst (λ (met : Option (Text × List Row)). IsAsked met subcommand) same h)
+taken words rows (Err error) none same (inl wrong) =
+    let NoneIsAsked : Option (Text × List Row) → Type 0 = λ met. (s : Subcommand) → ¬ IsAsked met s in
+    inr (inr (none, wrong.0, subst NoneIsAsked same wrong.1))
+taken words rows (Err error) none same (inr wanting) = inl wanting
+
+pub taken_as : (words : List Text) (app : App) (rows : Option (Text × List Row)) (found wanted : List Row)
+    (result : Result Subcommand WordsError) → app ≡ marm
+    → (is_simple app ≡ true → (found ≡ wanted) × (rows ≡ subcommand_of app words))
+    → (is_simple_and_free app ≡ true → fault_of app words ≡ []) → Reads (IsAsked rows) result → Takes words result
+taken_as words app rows found wanted result is matches none h =
+    let met : rows ≡ subcommand_of app words = (matches (ap is_simple is ∙ simple)).1 in
+    let free : fault_of app words ≡ [] = none (ap is_simple_and_free is ∙ simple_and_free) in
+    taken words rows result (subst (λ (a : App). fault_of a words ≡ []) is free)
+    (subst (λ (a : App). rows ≡ subcommand_of a words) is met) h
 
 by_kind : (words : List Text) (k : ErrorKind) (error : WordsError) → IsAmong k (fault_of marm words) → Refuses k error
     → Takes words (Err error)
@@ -45,5 +60,3 @@ pub refused : (words : List Text) (app : App) (e : Error) (error : WordsError) �
 refused words app e error is fails h =
     let failed : HasKind (fault_of app words) e = fails (ap is_simple_and_free is ∙ simple_and_free) in
     by_kinds words e error (subst (λ (a : App). HasKind (fault_of a words) e) is failed) h
-
-pub ruleset parsing_lemmas = (taken, refused, simple, simple_and_free)

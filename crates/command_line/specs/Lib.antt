@@ -1,2 +1,4 @@
-pub mod Asked
 pub mod Commands
+pub mod Notices
+pub mod Stops
+pub mod Subcommands

@@ -5,16 +5,29 @@ ghost use Rattle.clap.specs.Words.{app_of, rule_of};
 ghost use Rattle.clap.specs.declared.builder.command.Command.TheViews.{out-Command};
 ghost use Rattle.command_line.specs.Commands as spec;
 
-use crate::texts::{
-    AFTER_DEBUG, AFTER_MARM, AFTER_REPORT, AFTER_RUN, EXPECT_HELP, STATE_HELP, STEPS_HELP,
-    TRACE_HELP,
-};
+use crate::texts::{AFTER_DEBUG, AFTER_MARM, AFTER_REPORT, AFTER_RUN};
 use clap::builder::ValueParser;
 use clap::{Arg, ArgAction, Command};
 use std::alloc::{AllocError, Global};
 
 /// The most steps of a run.
 pub const MOST_STEPS: u64 = 0x1_0000_0000;
+
+/// What the help says of `--steps`.
+pub const STEPS_HELP: &str =
+    "The most steps (instructions, halves of exception entries, idle ticks) to make, from 0 to 4294967296";
+
+/// What the help says of `--trace`.
+const TRACE_HELP: &str =
+    "Which lines are written, before the line of the stop: all (the default), refused, exceptions, console or none";
+
+/// What the help says of `--expect`.
+const EXPECT_HELP: &str =
+    "The words of the last line after `stop`, as \"breakpoint 0\": status 0 if the run ends so, and 1 if it doesn't";
+
+/// What the help says of `--state`.
+const STATE_HELP: &str =
+    "A file for the state after the run: registers, clock, faults, regions and exceptions, a line for each value";
 
 /// The program's version.
 const VERSION: &str = "0.3.0";

@@ -4,11 +4,14 @@
 
 mod commands;
 mod refusals;
+mod stops;
+mod subcommands;
 #[cfg(test)]
 mod tests;
 mod texts;
 mod words;
 
-pub use commands::MOST_STEPS;
+pub use stops::{have_same_words, words_in};
+pub use subcommands::{DebugOptions, ReportOptions, RunOptions, Subcommand};
 pub use texts::AFTER_DEBUG;
-pub use words::{RunWords, Words, WordsError, words_of};
+pub use words::{WordsError, subcommand_of};

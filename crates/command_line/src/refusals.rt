@@ -2,10 +2,11 @@
 
 ghost use Rattle.std.specs.Prelude.{◌≡◌, ◌⊎◌};
 ghost use Rattle.clap.specs.Values.{kind_of};
-ghost use Rattle.command_line.specs.Asked.{Refuses, memory, notice_of, usage};
+ghost use Rattle.command_line.specs.Notices.{Refuses, memory, notice_of, usage};
 
 use crate::commands::marm;
-use crate::texts::{COMMANDS_ADVICE, DASH_ADVICE, DASH_TIP, STEPS_ADVICE};
+use crate::subcommands::STEPS_ADVICE;
+use crate::texts::{COMMANDS_ADVICE, DASH_ADVICE, DASH_TIP};
 use crate::words::WordsError;
 use clap::Error;
 use clap::error::ErrorKind;

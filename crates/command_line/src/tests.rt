@@ -1,7 +1,7 @@
 //! The number in the texts of `--steps`, beside the constant that they repeat.
 
-use crate::commands::MOST_STEPS;
-use crate::texts::{STEPS_ADVICE, STEPS_HELP};
+use crate::commands::{MOST_STEPS, STEPS_HELP};
+use crate::subcommands::STEPS_ADVICE;
 use std::test::*;
 
 #[test]

@@ -9,25 +9,6 @@ Only the options of the usage are taken, and --steps takes no negative number.
 A file whose name begins with - is written with ./ before it.
 ";
 
-/// What `--steps` takes: the one value that `clap` checks.
-pub const STEPS_ADVICE: &str = "--steps takes a decimal number from 0 to 4294967296.\n";
-
-/// What the help says of `--steps`.
-pub const STEPS_HELP: &str =
-    "The most steps (instructions, halves of exception entries, idle ticks) to make, from 0 to 4294967296";
-
-/// What the help says of `--trace`.
-pub const TRACE_HELP: &str =
-    "Which lines are written, before the line of the stop: all (the default), refused, exceptions, console or none";
-
-/// What the help says of `--expect`.
-pub const EXPECT_HELP: &str =
-    "The words of the last line after `stop`, as \"breakpoint 0\": status 0 if the run ends so, and 1 if it doesn't";
-
-/// What the help says of `--state`.
-pub const STATE_HELP: &str =
-    "A file for the state after the run: registers, clock, faults, regions and exceptions, a line for each value";
-
 /// The commands of the program.
 pub const COMMANDS_ADVICE: &str = "The commands are run, report, debug and help.\n";
 

@@ -12,8 +12,7 @@ use Rattle.reference.specs.Run.{after, events_of, ending_of}
 use Rattle.reference.specs.State.{State}
 use Rattle.reference.specs.Step.{step, unless_stopped}
 use Rattle.platform.specs.Events.{lines}
-use Rattle.output.specs.Gathered.{GrowsByPrefix}
-use Rattle.output.specs.Output.{IsCutAfter, IsCutShort}
+use Rattle.output.specs.Output.{GrowsByPrefix, IsCutAfter, IsCutShort}
 use Rattle.trace.proofs.Selecting.{lines-append}
 
 -- a stopped machine makes no step

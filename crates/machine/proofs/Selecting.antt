@@ -10,8 +10,7 @@ use Rattle.machine.specs.declared.machine.RunError.TheVariants.{Write, Broken}
 use Rattle.machine.specs.Runs.{Fails, Leaves}
 use Rattle.machine.specs.Selected.{SelectedFails, SelectedLeaves}
 use Rattle.machine.specs.Whole.{Whole}
-use Rattle.output.specs.Gathered.{GrowsByPrefix}
-use Rattle.output.specs.Output.{IsCutAfter, IsCutShort, Writing}
+use Rattle.output.specs.Output.{GrowsByPrefix, IsCutAfter, IsCutShort, Writing}
 use Rattle.platform.specs.declared.event.Event.{Event}
 use Rattle.platform.specs.declared.stop.Stop.{Stop}
 use Rattle.platform.specs.declared.stop.Stop.TheVariants.{StepLimit}

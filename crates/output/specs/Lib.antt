@@ -1,5 +1,4 @@
 pub mod Cuts
 pub mod Emitting
-pub mod Gathered
 pub mod Input
 pub mod Output

@@ -50,3 +50,10 @@ Put old new text (Err error) = IsCutShort old.written new.written text × (new.e
 abbrev pub HandsOn : {E : Type 0} → Writing → Writing → Result (Unit {0}) E → Type 0
 HandsOn old new (Ok done) = Keeps old.written new.written × (new.errors ≡ old.errors) × (new.waits ≡ [])
 HandsOn old new (Err error) = Keeps old.written new.written × (new.errors ≡ old.errors + 1)
+
+-- known bytes grew by a prefix of a text
+pub record GrowsByPrefix (old new : Option (List ℕ)) (text : List ℕ) : Type 0 where
+  pub front : List ℕ
+  pub later : List ℕ
+  pub whole : text ≡ front ++ later
+  pub grew : Appends old new front

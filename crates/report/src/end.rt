@@ -9,6 +9,7 @@ use crate::settings::RegionWords;
 use crate::words::{ExceptionName, RuleWord};
 use machine::{Fast, Kind, RegValues, Rule, StatusRegister};
 use platform::exception::EXCEPTIONS;
+use platform::fault_status::{BFARVALID, MMARVALID};
 use platform::mpu::MOST_REGIONS;
 use std::io::Write;
 use std::{fmt, io};
@@ -202,11 +203,11 @@ fn write_faults<W: Write>(out: &mut W, report: &Report<'_>) -> io::Result<()> {
     writeln!(out, "<h3>Fault status</h3>\n<dl class='registers wide'>")?;
     write_bits(out, "CFSR", cfsr, &CFSR_BITS)?;
     write_bits(out, "HFSR", hfsr, &HFSR_BITS)?;
-    if cfsr / 0x80 % 2 == 1 {
+    if cfsr & MMARVALID != 0 {
         let address = machine.status_word(StatusRegister::Mmfar);
         write_address(out, "MMFAR", address, report.symbols)?;
     }
-    if cfsr / 0x8000 % 2 == 1 {
+    if cfsr & BFARVALID != 0 {
         let address = machine.status_word(StatusRegister::Bfar);
         write_address(out, "BFAR", address, report.symbols)?;
     }

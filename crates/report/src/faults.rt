@@ -1,12 +1,25 @@
 //! The bits of the fault status registers (ARM DDI 0403 B3.2.15 and B3.2.16).
 
+use platform::fault_status::{
+    BFARVALID, DACCVIOL, DIVBYZERO, FORCED, IACCVIOL, IBUSERR, INVPC, INVSTATE, MMARVALID, MSTKERR,
+    MUNSTKERR, NOCP, PRECISERR, STKERR, UNALIGNED, UNDEFINSTR, UNSTKERR, VECTTBL,
+};
 use std::fmt;
+
+/// The bits that this machine never sets: of lazy stacking, of imprecise bus errors, and of debug events.
+const MLSPERR: u32 = 1 << 5;
+
+const IMPRECISERR: u32 = 1 << 10;
+
+const LSPERR: u32 = 1 << 13;
+
+const DEBUGEVT: u32 = 1 << 31;
 
 /// A bit of a fault status register.
 #[derive(Clone, Copy)]
 pub struct FaultBit {
-    /// Its number, from 0 to 31.
-    pub bit: u32,
+    /// The value of a register in which it alone is set.
+    pub mask: u32,
     pub name: &'static str,
     pub meaning: &'static str,
 }
@@ -14,104 +27,104 @@ pub struct FaultBit {
 impl FaultBit {
     /// Returns whether the bit is set in a value of its register.
     pub fn is_set(&self, value: u32) -> bool {
-        value.checked_shr(self.bit).unwrap_or(0) % 2 == 1
+        value & self.mask != 0
     }
 }
 
 /// The bits of CFSR, the Configurable Fault Status Register.
 pub const CFSR_BITS: [FaultBit; 19] = [
     FaultBit {
-        bit: 0,
+        mask: IACCVIOL,
         name: "IACCVIOL",
         meaning: "the MPU or the default map refused a fetch",
     },
     FaultBit {
-        bit: 1,
+        mask: DACCVIOL,
         name: "DACCVIOL",
         meaning: "the MPU refused a load or a store",
     },
     FaultBit {
-        bit: 3,
+        mask: MUNSTKERR,
         name: "MUNSTKERR",
         meaning: "the MPU refused a pop of exception return",
     },
     FaultBit {
-        bit: 4,
+        mask: MSTKERR,
         name: "MSTKERR",
         meaning: "the MPU refused a push of exception entry",
     },
     FaultBit {
-        bit: 5,
+        mask: MLSPERR,
         name: "MLSPERR",
         meaning: "the MPU refused lazy stacking of floating-point state",
     },
     FaultBit {
-        bit: 7,
+        mask: MMARVALID,
         name: "MMARVALID",
         meaning: "MMFAR has the address",
     },
     FaultBit {
-        bit: 8,
+        mask: IBUSERR,
         name: "IBUSERR",
         meaning: "bus error at a fetch",
     },
     FaultBit {
-        bit: 9,
+        mask: PRECISERR,
         name: "PRECISERR",
         meaning: "bus error at a load or a store, precise",
     },
     FaultBit {
-        bit: 10,
+        mask: IMPRECISERR,
         name: "IMPRECISERR",
         meaning: "bus error at a load or a store, imprecise",
     },
     FaultBit {
-        bit: 11,
+        mask: UNSTKERR,
         name: "UNSTKERR",
         meaning: "bus error at a pop of exception return",
     },
     FaultBit {
-        bit: 12,
+        mask: STKERR,
         name: "STKERR",
         meaning: "bus error at a push of exception entry",
     },
     FaultBit {
-        bit: 13,
+        mask: LSPERR,
         name: "LSPERR",
         meaning: "bus error at lazy stacking of floating-point state",
     },
     FaultBit {
-        bit: 15,
+        mask: BFARVALID,
         name: "BFARVALID",
         meaning: "BFAR has the address",
     },
     FaultBit {
-        bit: 16,
+        mask: UNDEFINSTR,
         name: "UNDEFINSTR",
         meaning: "undefined instruction",
     },
     FaultBit {
-        bit: 17,
+        mask: INVSTATE,
         name: "INVSTATE",
         meaning: "EPSR.T is 0, or the IT state is wrong",
     },
     FaultBit {
-        bit: 18,
+        mask: INVPC,
         name: "INVPC",
         meaning: "wrong EXC_RETURN, or a return that isn't possible",
     },
     FaultBit {
-        bit: 19,
+        mask: NOCP,
         name: "NOCP",
         meaning: "coprocessor that is absent or not enabled",
     },
     FaultBit {
-        bit: 24,
+        mask: UNALIGNED,
         name: "UNALIGNED",
         meaning: "unaligned access",
     },
     FaultBit {
-        bit: 25,
+        mask: DIVBYZERO,
         name: "DIVBYZERO",
         meaning: "division by zero",
     },
@@ -120,17 +133,17 @@ pub const CFSR_BITS: [FaultBit; 19] = [
 /// The bits of HFSR, the HardFault Status Register.
 pub const HFSR_BITS: [FaultBit; 3] = [
     FaultBit {
-        bit: 1,
+        mask: VECTTBL,
         name: "VECTTBL",
         meaning: "bus error at a vector read",
     },
     FaultBit {
-        bit: 30,
+        mask: FORCED,
         name: "FORCED",
         meaning: "escalated from a fault that couldn't be taken",
     },
     FaultBit {
-        bit: 31,
+        mask: DEBUGEVT,
         name: "DEBUGEVT",
         meaning: "debug event",
     },

@@ -7,6 +7,7 @@ mod end;
 mod escape;
 mod faults;
 mod grid;
+mod html_page;
 mod memory;
 mod names;
 mod numbers;
@@ -20,6 +21,7 @@ mod style;
 mod timeline;
 mod words;
 
+pub use html_page::HtmlPage;
 pub use page::{Report, write_page};
 
 #[cfg(test)]

@@ -48,14 +48,14 @@ pub fn write_page<W: Write>(out: &mut W, report: &Report<'_>) -> io::Result<()> 
     write_memory(out, report)?;
     write_end(out, report)?;
     write_console(out, report)?;
-    writeln!(out, "</main>\n</body>\n</html>")
+    writeln!(out, "</main>\n</body>")
 }
 
 /// Writes the head of the page, and its title.
 fn write_head<W: Write>(out: &mut W, report: &Report<'_>) -> io::Result<()> {
     let image = Escaped(report.image);
     let board = Escaped(report.board);
-    writeln!(out, "<!DOCTYPE html>\n<html lang='en'>\n<head>")?;
+    writeln!(out, "<html lang='en'>\n<head>")?;
     writeln!(out, "<meta charset='utf-8'>")?;
     writeln!(
         out,

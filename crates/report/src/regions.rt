@@ -3,11 +3,10 @@
 use crate::names::Place;
 use crate::numbers::{ByteCount, Thousands};
 use crate::page::{Report, write_part};
-use crate::rules::write_outcome;
+use crate::rules::{OUTCOMES, write_outcome};
 use crate::settings::{RegionWords, SubregionsOff};
 use crate::words::{KINDS, kind_word, privilege_letter};
 use machine::Kind;
-use platform::access::Cause;
 use std::io;
 use std::io::Write;
 use survey::{Setting, Settings};
@@ -145,7 +144,7 @@ fn write_way<W: Write>(
 ) -> io::Result<()> {
     let letter = privilege_letter(privileged);
     let word = kind_word(kind);
-    'outcomes: for refused in [None, Some(Cause::Mpu), Some(Cause::Bus)] {
+    'outcomes: for refused in OUTCOMES {
         let number = setting.number(privileged, kind, refused);
         if number > 0 {
             write!(out, "<div>{word} <span id='s{place}-{letter}-{word}-")?;

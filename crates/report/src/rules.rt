@@ -3,7 +3,8 @@
 use crate::numbers::Thousands;
 use crate::page::{Report, write_part};
 use crate::words::{
-    KINDS, RULES, RuleMeaning, RuleWord, cause_word, kind_word, privilege_letter, privilege_word,
+    KINDS, RULE_ROWS, RuleMeaning, RuleWord, cause_word, kind_word, privilege_letter,
+    privilege_word, rule_of_row,
 };
 use machine::{Kind, Rule};
 use platform::access::Cause;
@@ -12,7 +13,7 @@ use std::io::Write;
 use survey::Counts;
 
 /// What becomes of an access.
-const OUTCOMES: [Option<Cause>; 3] = [None, Some(Cause::Mpu), Some(Cause::Bus)];
+pub const OUTCOMES: [Option<Cause>; 3] = [None, Some(Cause::Mpu), Some(Cause::Bus)];
 
 const CAPTION: &str =
     "Each row is a rule that decided accesses, under its word in the trace; each number \
@@ -27,71 +28,11 @@ struct Column {
     kind: Kind,
 }
 
-/// The columns, in their order.
-const COLUMNS: [Column; 14] = [
-    Column {
-        privileged: false,
-        kind: Kind::Fetch,
-    },
-    Column {
-        privileged: false,
-        kind: Kind::Load,
-    },
-    Column {
-        privileged: false,
-        kind: Kind::Store,
-    },
-    Column {
-        privileged: false,
-        kind: Kind::Push,
-    },
-    Column {
-        privileged: false,
-        kind: Kind::Pop,
-    },
-    Column {
-        privileged: false,
-        kind: Kind::Vector,
-    },
-    Column {
-        privileged: false,
-        kind: Kind::Probe,
-    },
-    Column {
-        privileged: true,
-        kind: Kind::Fetch,
-    },
-    Column {
-        privileged: true,
-        kind: Kind::Load,
-    },
-    Column {
-        privileged: true,
-        kind: Kind::Store,
-    },
-    Column {
-        privileged: true,
-        kind: Kind::Push,
-    },
-    Column {
-        privileged: true,
-        kind: Kind::Pop,
-    },
-    Column {
-        privileged: true,
-        kind: Kind::Vector,
-    },
-    Column {
-        privileged: true,
-        kind: Kind::Probe,
-    },
-];
-
 /// Returns how many accesses there were.
 pub fn accesses(counts: &Counts) -> u64 {
     let mut sum = 0u64;
-    'columns: for column in COLUMNS {
-        sum = sum.saturating_add(of_column(counts, column));
+    'rows: for row in 0..RULE_ROWS {
+        sum = sum.saturating_add(of_rule(counts, rule_of_row(row)));
     }
     sum
 }
@@ -99,18 +40,20 @@ pub fn accesses(counts: &Counts) -> u64 {
 /// Returns how many accesses the MPU or the bus refused.
 pub fn refused(counts: &Counts, cause: Cause) -> u64 {
     let mut sum = 0u64;
-    'columns: for column in COLUMNS {
-        sum = sum.saturating_add(refused_in_column(counts, column, cause));
+    'rows: for row in 0..RULE_ROWS {
+        let rule = rule_of_row(row);
+        let unprivileged = refused_by(counts, rule, false, cause);
+        let privileged = refused_by(counts, rule, true, cause);
+        sum = sum.saturating_add(unprivileged).saturating_add(privileged);
     }
     sum
 }
 
-/// Returns how many accesses of a privilege and kind the MPU or the bus refused.
-fn refused_in_column(counts: &Counts, column: Column, cause: Cause) -> u64 {
+/// Returns how many accesses of code of a privilege the MPU or the bus refused under a rule.
+fn refused_by(counts: &Counts, rule: Rule, privileged: bool, cause: Cause) -> u64 {
     let mut sum = 0u64;
-    'rules: for rule in RULES {
-        let number = counts.number(rule, column.privileged, column.kind, Some(cause));
-        sum = sum.saturating_add(number);
+    'kinds: for kind in KINDS {
+        sum = sum.saturating_add(counts.number(rule, privileged, kind, Some(cause)));
     }
     sum
 }
@@ -123,8 +66,8 @@ pub fn handlers(counts: &Counts) -> u64 {
 /// Returns how many accesses there were of a privilege and kind.
 fn of_column(counts: &Counts, column: Column) -> u64 {
     let mut sum = 0u64;
-    'rules: for rule in RULES {
-        sum = sum.saturating_add(of_cell(counts, rule, column));
+    'rows: for row in 0..RULE_ROWS {
+        sum = sum.saturating_add(of_cell(counts, rule_of_row(row), column));
     }
     sum
 }
@@ -141,9 +84,15 @@ fn of_cell(counts: &Counts, rule: Rule, column: Column) -> u64 {
 
 /// Returns how many accesses a rule decided.
 fn of_rule(counts: &Counts, rule: Rule) -> u64 {
+    let unprivileged = of_rule_for(counts, rule, false);
+    unprivileged.saturating_add(of_rule_for(counts, rule, true))
+}
+
+/// Returns how many accesses of code of a privilege a rule decided.
+fn of_rule_for(counts: &Counts, rule: Rule, privileged: bool) -> u64 {
     let mut sum = 0u64;
-    'columns: for column in COLUMNS {
-        sum = sum.saturating_add(of_cell(counts, rule, column));
+    'kinds: for kind in KINDS {
+        sum = sum.saturating_add(of_cell(counts, rule, Column { privileged, kind }));
     }
     sum
 }
@@ -155,8 +104,8 @@ pub fn write_rules<W: Write>(out: &mut W, report: &Report<'_>) -> io::Result<()>
     writeln!(out, "<div class='scroll'><table class='cards numbers'>")?;
     write_heading(out, counts)?;
     writeln!(out, "<tbody>")?;
-    'rules: for rule in RULES {
-        write_row(out, counts, rule)?;
+    'rows: for row in 0..RULE_ROWS {
+        write_row(out, counts, rule_of_row(row))?;
     }
     writeln!(out, "</tbody>\n</table></div>\n</section>")
 }
@@ -217,13 +166,25 @@ fn write_row<W: Write>(out: &mut W, counts: &Counts, rule: Rule) -> io::Result<(
         out,
         "<tr><th scope='row'><code>{word}</code> <small>{meaning}</small></th>"
     )?;
-    'columns: for column in COLUMNS {
-        write_cell(out, counts, rule, column)?;
-    }
+    write_cells(out, counts, rule, false)?;
+    write_cells(out, counts, rule, true)?;
     writeln!(
         out,
         "<td id='{word}-all' data-label='all' data-number='{all}'>{shown}</td></tr>"
     )
+}
+
+/// Writes the cells of a rule in the columns of a privilege.
+fn write_cells<W: Write>(
+    out: &mut W,
+    counts: &Counts,
+    rule: Rule,
+    privileged: bool,
+) -> io::Result<()> {
+    'kinds: for kind in KINDS {
+        write_cell(out, counts, rule, Column { privileged, kind })?;
+    }
+    Ok(())
 }
 
 /// Writes the cell of a rule in a column, if the column has accesses.

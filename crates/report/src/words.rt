@@ -1,8 +1,11 @@
 //! The words for what the trace writes as letters.
 
-use machine::{Kind, Rule};
+ghost use Rattle.std.specs.Prelude.{◌<◌};
+
+use machine::{Kind, LinePage, Rule};
 use platform::access::{Access, Cause, DecidedAccess};
-use std::fmt;
+use platform::mpu::MOST_REGIONS;
+use std::{fmt, str};
 
 /// The kinds of access, in the order of the columns.
 pub const KINDS: [Kind; 7] = [
@@ -15,24 +18,11 @@ pub const KINDS: [Kind; 7] = [
     Kind::Probe,
 ];
 
-/// The rules, in the order of the rows: the regions that an MPU can have, and those that are no region.
-pub const RULES: [Rule; 23] = [
-    Rule::Region(0),
-    Rule::Region(1),
-    Rule::Region(2),
-    Rule::Region(3),
-    Rule::Region(4),
-    Rule::Region(5),
-    Rule::Region(6),
-    Rule::Region(7),
-    Rule::Region(8),
-    Rule::Region(9),
-    Rule::Region(10),
-    Rule::Region(11),
-    Rule::Region(12),
-    Rule::Region(13),
-    Rule::Region(14),
-    Rule::Region(15),
+/// How many rows a table of the rules has.
+pub const RULE_ROWS: usize = MOST_REGIONS as usize + OTHER_RULES.len();
+
+/// The rules that are no region, in the order of their rows, which follow those of the regions.
+const OTHER_RULES: [Rule; 7] = [
     Rule::Background,
     Rule::NoRegion,
     Rule::MpuOff,
@@ -41,6 +31,16 @@ pub const RULES: [Rule; 23] = [
     Rule::VectorRead,
     Rule::NeverExecute,
 ];
+
+/// Returns the rule of a row: the regions that an MPU can have, and then those that are no region.
+pub fn rule_of_row(row: usize) -> Rule
+    requires { row < RULE_ROWS }
+{
+    match row.checked_sub(MOST_REGIONS as usize) {
+        None => Rule::Region(row as u8),
+        Some(other) => OTHER_RULES[other],
+    }
+}
 
 /// Returns the word for a kind of access.
 pub fn kind_word(kind: Kind) -> &'static str {
@@ -83,16 +83,9 @@ pub struct RuleWord(pub Rule);
 
 impl fmt::Display for RuleWord {
     fn fmt<W: fmt::Write>(&self, f: &mut fmt::Formatter<W>) -> fmt::Result {
-        match self.0 {
-            Rule::NeverExecute => write!(f, "xn"),
-            Rule::VectorRead => write!(f, "vec"),
-            Rule::PrivatePeripheralBus => write!(f, "ppb"),
-            Rule::MpuOff => write!(f, "off"),
-            Rule::NegativePriority => write!(f, "neg"),
-            Rule::Region(number) => write!(f, "r{number}"),
-            Rule::Background => write!(f, "bg"),
-            Rule::NoRegion => write!(f, "none"),
-        }
+        let mut word = LinePage::new();
+        word.put_rule_word(self.0);
+        f.write_str(str::from_utf8(word.as_slice()).unwrap_or(""))
     }
 }
 

@@ -2,9 +2,8 @@
 //! kernels of `examples` and compares what it writes.
 #![tactic(auto)]
 
-use command::{InputFile, report};
-use std::io::Write;
-use std::{env, fs, io};
+use command::program;
+use std::{env, io};
 
 /// What is printed for words that don't fit.
 const USAGE: &str = "usage: test_pages STEPS NAME..";
@@ -14,34 +13,38 @@ fn main(rt: HostRuntime) -> io::Result<()> {
     let (Some(_), Some(steps)) = (words.next(), words.next()) else {
         return rt.println(USAGE);
     };
-    let Ok(steps) = steps.parse::<u64>() else {
-        return rt.println(USAGE);
-    };
     for name in words {
-        report_on(&rt, name.as_str(), steps)?;
+        report_on(&rt, name.as_str(), steps.as_str())?;
     }
     Ok(())
 }
 
-/// Writes the page about a run of the image NAME.elf on the board NAME.toml, and after it the status of the
-/// report where that isn't 0.
-fn report_on(rt: &HostRuntime, name: &str, steps: u64) -> io::Result<()> {
-    let image_path = format!(in rt.alloc(); "{name}.elf")?;
-    let board_path = format!(in rt.alloc(); "{name}.toml")?;
-    let image_bytes = fs::read(rt, image_path.as_str())?;
-    let board_bytes = fs::read(rt, board_path.as_str())?;
-    let image = InputFile {
-        path: image_path.as_str(),
-        bytes: image_bytes.as_slice(),
-    };
-    let board = InputFile {
-        path: board_path.as_str(),
-        bytes: board_bytes.as_slice(),
-    };
-    let out = &mut io::writer(rt);
-    let status = report(rt.alloc(), image, board, steps, out, &mut rt.stderr());
+/// Writes the page about a run of the image NAME.elf on the board NAME.toml, as the program `marm` does, and after it
+/// the status of the report where that isn't 0.
+fn report_on(rt: &HostRuntime, name: &str, steps: &str) -> io::Result<()> {
+    let image = format!(in rt.alloc(); "{name}.elf")?;
+    let board = format!(in rt.alloc(); "{name}.toml")?;
+    let mut words = Vec::new(rt.alloc());
+    for word in [
+        "marm",
+        "report",
+        "--board",
+        board.as_str(),
+        "--steps",
+        steps,
+        image.as_str(),
+    ] {
+        words.push(word.to_string(rt.alloc())?)?;
+    }
+    let status = program(
+        rt,
+        words.as_slice(),
+        rt.stdin(),
+        io::writer(rt),
+        &mut rt.stderr(),
+    );
     if status != 0 {
-        return writeln!(out, "{name}: status {status}");
+        return println!(rt; "{name}: status {status}");
     }
     Ok(())
 }

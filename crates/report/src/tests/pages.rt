@@ -1,6 +1,6 @@
 //! The page of a run of two steps.
 
-use crate::{Report, write_page};
+use crate::{HtmlPage, Report, write_page};
 use elf::load;
 use machine::{Board, Events, Fast, SMALL_BOARD, Stop};
 use std::io::Write;
@@ -10,7 +10,7 @@ use survey::{Moment, Survey};
 use symbols::{Symbol, Symbols};
 
 /// MOV R0, #5 and BKPT 0 at address 8: `examples/first.elf`.
-const IMAGE: [u8; 96] = [
+pub(super) const IMAGE: [u8; 96] = [
     0x7F, b'E', b'L', b'F', 1, 1, 1, 0, 0, 0, 0, 0, 0, 0, 0, 0, 2, 0, 40, 0, 1, 0, 0, 0, 0, 0, 0,
     0, 52, 0, 0, 0, 0, 0, 0, 0, 0, 0, 0, 5, 52, 0, 32, 0, 1, 0, 0, 0, 0, 0, 0, 0, 1, 0, 0, 0, 84,
     0, 0, 0, 0, 0, 0, 0, 0, 0, 0, 0, 12, 0, 0, 0, 12, 0, 0, 0, 5, 0, 0, 0, 4, 0, 0, 0, 0, 0x10, 0,
@@ -122,12 +122,21 @@ fn a_run_has_a_page(rt: HostRuntime) -> Result<(), Fail> {
     let symbols = start_symbol(&rt)?;
     assert!(rt; write_to(&rt, &mut room, &symbols)?);
     let text = str::from_utf8(room.bytes.as_slice())?;
-    assert!(rt; text.starts_with("<!DOCTYPE html>\n"));
-    assert!(rt; text.ends_with("</html>\n"));
+    assert!(rt; text.starts_with("<html lang='en'>\n"));
+    assert!(rt; text.ends_with("</body>\n"));
     assert!(rt; !text.contains("id='damaged'"));
     'parts: for part in &PARTS {
         assert!(rt; text.contains(part), "{part}");
     }
+    Ok(())
+}
+
+#[test]
+fn a_page_has_its_first_and_its_last_line(rt: HostRuntime) -> Result<(), Fail> {
+    let mut page = HtmlPage::new(rt.alloc(), 64)?;
+    page.write_all(b"<html>\n")?;
+    let bytes = page.end()?;
+    assert!(rt; bytes.as_slice() == b"<!DOCTYPE html>\n<html>\n</html>\n".as_slice());
     Ok(())
 }
 

@@ -1,7 +1,7 @@
 //! The command's answers to arguments that name no run: help, the version, and what is wrong.
 
 use super::files::{Ended, Ends, FIRST, NO_INPUT, SMALL};
-use command::{Task, read_words};
+use command_line::{Subcommand, subcommand_of};
 use std::alloc::Global;
 use std::test::*;
 use test_tables::{Rows, check, check_between, part};
@@ -34,52 +34,6 @@ out
 out Exit status:
 out   0  all steps were made, a breakpoint was met, the run ended as expected (--expect), or a debug session
 out      ended; or the version was asked for
-out   1  the run ended otherwise than expected (--expect)
-out   2  the arguments are wrong, or help was asked for (marm: usage)
-out   3  the image or the board is refused, or memory ran out for the board or the machine
-out      (marm: load, board, start, size)
-out   4  the machine stopped otherwise, without --expect: the trace's last line says why
-out   5  reading or writing failed, or memory ran out for the arguments or a file (marm: io)
-out
-out Example:
-out   marm run --board examples/boards/small.toml --steps 10 examples/first.elf
-err marm: usage
-
-the help of run
-words run --help
-words help run
-ends 2
-out Runs an image on a board and writes the trace to standard output
-out
-out Usage: marm run [OPTIONS] --board <FILE> --steps <N> <IMAGE>
-out
-out Arguments:
-out   <IMAGE>  The image: an ELF file for ARM of at most 16 MiB, linked to run
-out
-out Options:
-out       --board <FILE>   The board: a TOML file of at most 16 MiB with the memory sizes, the interrupt lines and the \
-events
-out       --steps <N>      The most steps (instructions, halves of exception entries, idle ticks) to make, from 0 to \
-4294967296
-out       --trace <WHICH>  Which lines are written, before the line of the stop: all (the default), refused, \
-exceptions, console or none
-out       --expect <STOP>  The words of the last line after `stop`, as \"breakpoint 0\": status 0 if the run ends so, \
-and 1 if it doesn't
-out       --state <FILE>   A file for the state after the run: registers, clock, faults, regions and exceptions, a \
-line for each value
-out   -h, --help           Print help
-out
-out The trace has one line for each access: its tick, kind, address, size in bytes, privilege, outcome,
-out and the rule or region that decided it. Its last line says why the run ended. With --trace refused it
-out has the refused accesses and the faults alone; with exceptions those, and the entries and returns of
-out handlers; with console the bytes that the firmware printed, in place of lines; with none no more than
-out the last line.
-out
-out The file of --state is created, or replaced, after the run, however it ended; not where the image or
-out the board is refused or the trace can't be written.
-out
-out Exit status:
-out   0  all steps were made, or a breakpoint was met; with --expect, the run ended as expected
 out   1  the run ended otherwise than expected (--expect)
 out   2  the arguments are wrong, or help was asked for (marm: usage)
 out   3  the image or the board is refused, or memory ran out for the board or the machine
@@ -379,11 +333,10 @@ fn steps_of(alloc: Global, line: &str) -> Option<u64> {
     for word in line.split_whitespace() {
         words.push(word.to_string(alloc).ok()?).ok()?;
     }
-    let job = read_words(alloc, words.as_slice()).ok()?;
-    match job.task {
-        Task::Run(run) => Some(run.steps),
-        Task::Report(steps) => Some(steps),
-        Task::Debug => None,
+    match subcommand_of(alloc, words.as_slice()).ok()? {
+        Subcommand::Run(run) => Some(run.steps),
+        Subcommand::Report(report) => Some(report.steps),
+        Subcommand::Debug(_) => None,
     }
 }
 

@@ -12,7 +12,7 @@ use super::traces::TRACES;
 use arrayvec::ArrayVec;
 use debugger::{SessionError, session};
 use machine::{
-    Ahead, BitLevels, Buffered, Counting, Decider, DecodeTable, DueTicks, In, KeptCode,
+    Ahead, BitLevels, BoardDecodeTable, Buffered, Counting, Decider, DueTicks, In, KeptCode,
     KeptDecisions, KeptPriorities, Levels, Machine, Over, Paged, PlainLevels, Reread, RunError,
     Search, Slow, Stop, Table, TaskEnd,
 };
@@ -140,9 +140,12 @@ impl Rows for CutRuns {
     fn holds(&mut self, text: &str) -> Option<bool> {
         Some(
             is_cut::<Search, Reread, PlainLevels, Counting>(self.alloc, text)?
-                && is_cut::<KeptDecisions<Table>, DecodeTable, KeptPriorities<BitLevels>, Ahead>(
-                    self.alloc, text,
-                )?,
+                && is_cut::<
+                    KeptDecisions<Table>,
+                    BoardDecodeTable,
+                    KeptPriorities<BitLevels>,
+                    Ahead,
+                >(self.alloc, text)?,
         )
     }
 }
@@ -280,9 +283,11 @@ impl Write for Calls {
     }
 }
 
-/// How a session is held: where its reader and its writer are cut, and whether they read ahead and gather.
+/// How a session is held: its commands, where its reader and its writer are cut, and whether they read ahead and
+/// gather.
 #[derive(Clone, Copy)]
 struct Way {
+    commands: &'static [u8],
     input: At,
     output: At,
     by_lines: bool,
@@ -296,7 +301,7 @@ struct Held {
     calls: Calls,
 }
 
-/// A session of `COMMANDS`.
+/// A session.
 fn hold<D: Decider, C: KeptCode, L: Levels, U: DueTicks>(
     machine: &mut Machine<D, C, L, U>,
     way: Way,
@@ -318,7 +323,7 @@ fn hold_over<D: Decider, C: KeptCode, L: Levels, U: DueTicks, J: Ledger, K: Ledg
     requires second_some { second.parts ≡ 1 }
 {
     let typed = Typed {
-        text: &COMMANDS,
+        text: way.commands,
         by_lines: way.by_lines,
     };
     let calls = Calls {
@@ -403,6 +408,7 @@ fn fails_to_write<D: Decider, C: KeptCode, L: Levels, U: DueTicks>(
 ) -> Option<bool> {
     let mut machine: Machine<D, C, L, U> = machine_with(alloc, FIRST)?;
     let way = Way {
+        commands: &COMMANDS,
         input: NOWHERE,
         output,
         by_lines: true,
@@ -426,6 +432,7 @@ fn fails_to_read<D: Decider, C: KeptCode, L: Levels, U: DueTicks>(
 ) -> Option<bool> {
     let mut machine: Machine<D, C, L, U> = machine_with(alloc, FIRST)?;
     let way = Way {
+        commands: &COMMANDS,
         input,
         output: NOWHERE,
         by_lines: true,
@@ -453,7 +460,85 @@ fn writers_of_sessions_are_cut_at_each_byte(rt: HostRuntime) -> Result<(), Fail>
             assert!(rt; slow == Some(true), "Slow, after {left}");
             let fast = fails_to_write::<
                 KeptDecisions<Table>,
-                DecodeTable,
+                BoardDecodeTable,
+                KeptPriorities<BitLevels>,
+                Ahead,
+            >(alloc, at, *gathers);
+            assert!(rt; fast == Some(true), "Fast, after {left}");
+        }
+    }
+    Ok(())
+}
+
+/// MOVS R0, #5; MOVS R1, #6; MOVS R2, #7; BKPT 0 at address 8, with MSP 0x20001000.
+const FOUR: &str = "\
+word 8 21062005
+word C BE002207
+reg D 20001000
+reg F 8
+reg E FFFFFFFF";
+
+/// A run of three of them.
+static RUN: [u8; 6] = *b"run 3\n";
+
+/// What a session answers to it: three lines of 24 bytes and one of 12.
+static RUN_ANSWER: [u8; 84] =
+    *b"1 F 00000008 2 p ok off\n2 F 0000000A 2 p ok off\n3 F 0000000C 2 p ok off\nat 0000000E\n";
+
+/// From which byte of the answer on a writer that is cut there ends the run after how many steps: a step's line
+/// goes out before the next step is made. Where lines are gathered, all three steps are made before.
+const RUN_STEPS: [(usize, u32); 3] = [(0, 1), (24, 2), (48, 3)];
+
+/// Returns the number of steps that a run makes where its writer is cut after `left` bytes.
+fn steps_made(left: usize, gathers: bool) -> u32 {
+    let mut made = 3;
+    'rows: for (least, steps) in RUN_STEPS.iter() {
+        if *least <= left && !gathers {
+            made = *steps;
+        }
+    }
+    made
+}
+
+/// Returns whether a session fails where its writer is cut within the answer to a run, and the machine is after the
+/// steps that were made.
+fn fails_in_run<D: Decider, C: KeptCode, L: Levels, U: DueTicks>(
+    alloc: Global,
+    output: At,
+    gathers: bool,
+) -> Option<bool> {
+    let mut machine: Machine<D, C, L, U> = machine_with(alloc, FOUR)?;
+    let way = Way {
+        commands: &RUN,
+        input: NOWHERE,
+        output,
+        by_lines: true,
+        gathers,
+    };
+    let held = hold(&mut machine, way);
+    let made = steps_made(output.left, gathers);
+    Some(
+        matches!(held.ended, Err(SessionError::Write))
+            && held.calls.text.as_slice() == &RUN_ANSWER[..output.left.min(84)]
+            && machine.ticks() == u64::from(made)
+            && machine.regs().pc == made.wrapping_mul(2).wrapping_add(8),
+    )
+}
+
+#[test]
+fn writers_of_runs_in_sessions_are_cut_at_each_byte(rt: HostRuntime) -> Result<(), Fail> {
+    let alloc = rt.alloc();
+    'bytes: for left in 0..84usize {
+        'forms: for (fails, gathers) in FORMS.iter() {
+            let at = At {
+                left,
+                fails: *fails,
+            };
+            let slow = fails_in_run::<Search, Reread, PlainLevels, Counting>(alloc, at, *gathers);
+            assert!(rt; slow == Some(true), "Slow, after {left}");
+            let fast = fails_in_run::<
+                KeptDecisions<Table>,
+                BoardDecodeTable,
                 KeptPriorities<BitLevels>,
                 Ahead,
             >(alloc, at, *gathers);
@@ -499,6 +584,7 @@ fn answers_go_out_in_few_calls(rt: HostRuntime) -> Result<(), Fail> {
     'ways: for by_lines in [true, false] {
         let mut machine: Slow = machine_with(rt.alloc(), FIRST).ok_or("a machine")?;
         let way = Way {
+            commands: &COMMANDS,
             input: NOWHERE,
             output: NOWHERE,
             by_lines,

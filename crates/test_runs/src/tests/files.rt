@@ -1,17 +1,21 @@
 //! The command: runs from the bytes of files, its messages, and its arguments.
 
+ghost use Rattle.std.specs.Prelude.{◌≡◌};
+
 use super::cut::{Cut, Short, Text, push_line};
 use super::elf_files::ElfFile;
 use board::BoardError;
 use command::{
-    Error, FileError, InputFile, WordsError, answer, program, read_file, refuse_words, tell,
+    Error, FileError, InputFile, WordsError, answer, program, read_file, refuse_words, write_error,
     write_reason,
 };
 use command_line::AFTER_DEBUG;
-use machine::StartError;
+use machine::{Over, StartError};
 use std::alloc::Global;
 use std::fs::OpenFile;
 use std::io::Read;
+use std::marker::Brand;
+use std::sync::ledger::{Blank, Ledger};
 use std::test::*;
 use std::{fs, io, str};
 use test_tables::{Rows, byte_at, check_between, number_at};
@@ -627,6 +631,17 @@ fn a_reader_that_fails_is_named(rt: HostRuntime) -> Result<(), Fail> {
     Ok(())
 }
 
+/// The answer to the first line has 36 bytes.
+#[test]
+fn a_writer_that_fails_ends_the_session(rt: HostRuntime) -> Result<(), Fail> {
+    let words = "debug --board board.toml image.elf";
+    let input: &[u8] = b"step\nstep\n";
+    let ended = Ended::of(&rt, words, &FIRST, SMALL.as_bytes(), input, 30)?;
+    let out = b"1 F 00000008 2 p ok off\nat 000";
+    assert!(rt; ended.is(5, out, b"marm: io\n  standard output: broken pipe\n"));
+    Ok(())
+}
+
 #[test]
 fn a_version_that_cannot_be_written_is_io(rt: HostRuntime) -> Result<(), Fail> {
     let ended = Ended::of(&rt, "--version", &FIRST, SMALL.as_bytes(), NO_INPUT, 0)?;
@@ -634,11 +649,21 @@ fn a_version_that_cannot_be_written_is_io(rt: HostRuntime) -> Result<(), Fail> {
     Ok(())
 }
 
+/// Answers arguments that ask for no subcommand.
+fn answer_to<K: Ledger>(error: WordsError, out: &mut Cut, err: &mut Cut, blank: Blank) -> u8
+    requires name { blank.name ≡ K.name }
+    requires parts { blank.parts ≡ K.parts }
+    requires some { blank.parts ≡ 1 }
+{
+    let mut out: Over<&mut Cut, K> = Over::new(out, blank);
+    answer(error, &mut out, err)
+}
+
 #[test]
 fn words_without_memory_are_io(rt: HostRuntime) {
     let mut out = Cut::whole();
     let mut err = Cut::whole();
-    let status = answer(WordsError::OutOfMemory, &mut out, &mut err);
+    let status = answer_to::<Brand>(WordsError::OutOfMemory, &mut out, &mut err, Blank::new(1));
     assert!(rt; status == 5 && out.text.is_empty());
     let line = b"marm: io\n  no memory was found for the arguments\n";
     assert!(rt; err.text.as_slice() == line.as_slice());
@@ -688,7 +713,7 @@ instructions some more\n"
 /// Returns whether an error's line and status are these.
 fn is_reported(error: Error, line: &[u8], status: u8) -> bool {
     let mut err = Cut::whole();
-    tell(error, &mut err) == status && err.text.as_slice() == line
+    write_error(error, &mut err) == status && err.text.as_slice() == line
 }
 
 #[test]

@@ -5,7 +5,8 @@
 use super::cut::Cut;
 use super::files::{FIRST, NO_INPUT};
 use board::{BoardError, read_board};
-use command::{FileError, Task, WordsError, program, read_file, read_words, words};
+use command::{FileError, program, read_file, words};
+use command_line::{Subcommand, WordsError, subcommand_of};
 use elf::{Image, load};
 use machine::{
     Ahead, BitLevels, Board, BoardDecodeTable, Counting, Decider, DueTicks, KeptCode,
@@ -315,14 +316,12 @@ fn ready_words(alloc: Global, words: &[&str]) -> Result<Vec<String>, AllocError>
 
 /// How the arguments of a run are read.
 fn reading_words(alloc: Global, words: &[String]) -> Answer {
-    match read_words(alloc, words) {
-        Ok(job) => match job.task {
-            Task::Run(run)
-                if run.steps == 2 && job.board == BOARD_PATH && job.image == IMAGE_PATH => {
-                Answer::Whole
-            }
-            _ => Answer::Wrong,
-        },
+    match subcommand_of(alloc, words) {
+        Ok(Subcommand::Run(run))
+            if run.steps == 2 && run.board == BOARD_PATH && run.image == IMAGE_PATH => {
+            Answer::Whole
+        }
+        Ok(_) => Answer::Wrong,
         Err(WordsError::OutOfMemory) => Answer::Refused,
         Err(_) => Answer::Wrong,
     }
@@ -333,7 +332,7 @@ fn growths_of_a_command_line(rt: HostRuntime) -> Result<(), Fail> {
     let words = ready_words(rt.alloc(), &RUN)?;
     let first = reading_words(rt.alloc(), words.as_slice());
     let second = reading_words(rt.alloc(), words.as_slice());
-    judge(&rt, "read_words", first, second)
+    judge(&rt, "subcommand_of", first, second)
 }
 
 /// Returns whether a status and the first line on standard error say that memory ran out.

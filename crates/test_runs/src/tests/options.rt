@@ -1,10 +1,13 @@
 //! The options of `run` that may be left out.
 
 use super::cut::Cut;
-use super::files::{FIRST, NO_INPUT, SMALL};
+use super::files::{Ends, FIRST, NO_INPUT, SMALL};
+use super::short_files::ShortFiles;
 use command::program;
+use std::rt::Files;
 use std::test::*;
 use std::{fs, io, str};
+use test_tables::check_between;
 
 /// The paths of the files of these runs.
 const IMAGE: &str = "options.elf";
@@ -12,6 +15,54 @@ const IMAGE: &str = "options.elf";
 const BOARD: &str = "options.toml";
 
 const STATE: &str = "options.txt";
+
+/// The help, which has every option.
+const HELP: &str = "\
+the help of run
+words run --help
+words help run
+ends 2
+out Runs an image on a board and writes the trace to standard output
+out
+out Usage: marm run [OPTIONS] --board <FILE> --steps <N> <IMAGE>
+out
+out Arguments:
+out   <IMAGE>  The image: an ELF file for ARM of at most 16 MiB, linked to run
+out
+out Options:
+out       --board <FILE>   The board: a TOML file of at most 16 MiB with the memory sizes, the interrupt lines and the \
+events
+out       --steps <N>      The most steps (instructions, halves of exception entries, idle ticks) to make, from 0 to \
+4294967296
+out       --trace <WHICH>  Which lines are written, before the line of the stop: all (the default), refused, \
+exceptions, console or none
+out       --expect <STOP>  The words of the last line after `stop`, as \"breakpoint 0\": status 0 if the run ends so, \
+and 1 if it doesn't
+out       --state <FILE>   A file for the state after the run: registers, clock, faults, regions and exceptions, a \
+line for each value
+out   -h, --help           Print help
+out
+out The trace has one line for each access: its tick, kind, address, size in bytes, privilege, outcome,
+out and the rule or region that decided it. Its last line says why the run ended. With --trace refused it
+out has the refused accesses and the faults alone; with exceptions those, and the entries and returns of
+out handlers; with console the bytes that the firmware printed, in place of lines; with none no more than
+out the last line.
+out
+out The file of --state is created, or replaced, after the run, however it ended; not where the image or
+out the board is refused or the trace can't be written.
+out
+out Exit status:
+out   0  all steps were made, or a breakpoint was met; with --expect, the run ended as expected
+out   1  the run ended otherwise than expected (--expect)
+out   2  the arguments are wrong, or help was asked for (marm: usage)
+out   3  the image or the board is refused, or memory ran out for the board or the machine
+out      (marm: load, board, start, size)
+out   4  the machine stopped otherwise, without --expect: the trace's last line says why
+out   5  reading or writing failed, or memory ran out for the arguments or a file (marm: io)
+out
+out Example:
+out   marm run --board examples/boards/small.toml --steps 10 examples/first.elf
+err marm: usage";
 
 /// The place of the number of the breakpoint in the first image.
 const NUMBER_AT: usize = 94;
@@ -41,6 +92,18 @@ impl Ended {
         option: &str,
         value: &str,
     ) -> io::Result<Self> {
+        Ended::over(rt, rt, image, steps, option, value)
+    }
+
+    /// Runs an image with an option, over the files of `files`.
+    fn over<R: Files + AllocGlobal>(
+        rt: &HostRuntime,
+        files: &R,
+        image: &[u8],
+        steps: &str,
+        option: &str,
+        value: &str,
+    ) -> io::Result<Self> {
         let mut words = Vec::new(rt.alloc());
         let given = [
             "marm", "run", "--board", BOARD, "--steps", steps, option, value, IMAGE,
@@ -52,7 +115,7 @@ impl Ended {
         fs::write(rt, BOARD, SMALL.as_bytes())?;
         let mut out = Cut::whole();
         let mut err = Cut::whole();
-        let status = program(rt, words.as_slice(), NO_INPUT, &mut out, &mut err);
+        let status = program(files, words.as_slice(), NO_INPUT, &mut out, &mut err);
         fs::remove_file(rt, IMAGE)?;
         fs::remove_file(rt, BOARD)?;
         Ok(Ended { status, out, err })
@@ -171,6 +234,11 @@ fn last_state(rt: &HostRuntime) -> io::Result<Vec<u8>> {
 }
 
 #[test]
+fn the_help_has_every_option(rt: HostRuntime) -> Result<(), Fail> {
+    check_between(HELP, "\n\n", &mut Ends { rt: &rt })
+}
+
+#[test]
 fn the_expected_stop_is_status_0(rt: HostRuntime) -> Result<(), Fail> {
     assert!(rt; Ended::of(&rt, &FIRST, "10", "breakpoint 0")?.is(0, ""));
     assert!(rt; Ended::of(&rt, &FIRST, "1", "steps")?.is(0, ""));
@@ -246,6 +314,16 @@ fn the_state_goes_to_its_file(rt: HostRuntime) -> Result<(), Fail> {
     let ended = Ended::with(&rt, &FIRST, "10", "--state", STATE)?;
     assert!(rt; ended.is(0, ""));
     assert!(rt; ended.out.text.as_slice() == TRACES[0].1.as_bytes());
+    assert!(rt; last_state(&rt)?.as_slice() == LAST_STATE.as_bytes());
+    Ok(())
+}
+
+/// A file that takes few bytes a write has the whole state: it is created once.
+#[test]
+fn a_file_that_takes_few_bytes_has_the_whole_state(rt: HostRuntime) -> Result<(), Fail> {
+    let files = (ShortFiles { rt: &rt }, rt.alloc());
+    let ended = Ended::over(&rt, &files, &FIRST, "10", "--state", STATE)?;
+    assert!(rt; ended.is(0, ""));
     assert!(rt; last_state(&rt)?.as_slice() == LAST_STATE.as_bytes());
     Ok(())
 }

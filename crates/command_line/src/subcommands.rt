@@ -1,0 +1,268 @@
+//! What the arguments ask for: a subcommand, with the values of its options.
+
+ghost use Rattle.std.specs.Prelude.{◌≡◌, ◌⊎◌, IfSome, None, codes};
+ghost use Rattle.clap.specs.Words.{first_of, found_of, rows_of, subcommand_rows_of};
+ghost use Rattle.command_line.specs.Notices.{Reads, memory, notice_of, usage};
+ghost use Rattle.command_line.specs.Stops.{IsExpected};
+ghost use Rattle.command_line.specs.Subcommands.{HasSteps, IsAsked, IsDebug, IsNamed, IsReport, IsRun, IsSelection};
+ghost use Rattle.command_line.specs.Subcommands.{IsSteps, IsText, board_path, image_path, number_in};
+ghost use Rattle.command_line.specs.Subcommands.{selection_named, text_of};
+
+use crate::commands::MOST_STEPS;
+use crate::stops::stop_named;
+use crate::words::WordsError;
+use clap::ArgMatches;
+use messages::Escaped;
+use platform::stop::Stop;
+use std::alloc::Global;
+use trace::selection::TraceSelection;
+
+/// The options of `marm run`.
+#[derive(Clone, Copy)]
+pub struct RunOptions<'a> {
+    /// The path of the board file.
+    pub board: &'a str,
+    /// The path of the image file.
+    pub image: &'a str,
+    /// The most steps to make, from 0 to 2^32.
+    pub steps: u64,
+    /// Which events are written.
+    pub trace: TraceSelection,
+    /// The stop that the run is expected to end with.
+    pub expect: Option<Stop>,
+    /// The path of the file for the state after the run.
+    pub state: Option<&'a str>,
+}
+
+/// The options of `marm report`.
+#[derive(Clone, Copy)]
+pub struct ReportOptions<'a> {
+    /// The path of the board file.
+    pub board: &'a str,
+    /// The path of the image file.
+    pub image: &'a str,
+    /// The most steps to make, from 0 to 2^32.
+    pub steps: u64,
+}
+
+/// The options of `marm debug`.
+#[derive(Clone, Copy)]
+pub struct DebugOptions<'a> {
+    /// The path of the board file.
+    pub board: &'a str,
+    /// The path of the image file.
+    pub image: &'a str,
+}
+
+/// A subcommand with its options.
+#[derive(Clone, Copy)]
+pub enum Subcommand<'a> {
+    /// Run an image and write its trace.
+    Run(RunOptions<'a>),
+    /// Run an image and write a page about the run.
+    Report(ReportOptions<'a>),
+    /// Debug an image by the commands on standard input.
+    Debug(DebugOptions<'a>),
+}
+
+impl<'a> Subcommand<'a> {
+    /// Returns the path of the image file.
+    pub fn image(&self) -> &'a str
+        ensures { result.now ≡ image_path self.now }
+    {
+        match self {
+            Subcommand::Run(options) => options.image,
+            Subcommand::Report(options) => options.image,
+            Subcommand::Debug(options) => options.image,
+        }
+    }
+
+    /// Returns the path of the board file.
+    pub fn board(&self) -> &'a str
+        ensures { result.now ≡ board_path self.now }
+    {
+        match self {
+            Subcommand::Run(options) => options.board,
+            Subcommand::Report(options) => options.board,
+            Subcommand::Debug(options) => options.board,
+        }
+    }
+}
+
+/// Returns the subcommand that the matches of the program have. `clap` has found one.
+pub fn subcommand_in<'a>(
+    alloc: Global,
+    matches: &ArgMatches<'a>,
+) -> Result<Subcommand<'a>, WordsError>
+    ensures { Reads (IsAsked (subcommand_rows_of matches.now)) result }
+{
+    match matches.subcommand() {
+        Some((name, matches)) => subcommand_named(alloc, name, matches),
+        None => Err(WordsError::Wrong(String::new(alloc))),
+    }
+}
+
+/// Returns the subcommand of a name, with the values of its matches.
+fn subcommand_named<'a>(
+    alloc: Global,
+    name: &str,
+    matches: &ArgMatches<'a>,
+) -> Result<Subcommand<'a>, WordsError>
+    ensures { Reads (IsNamed name.now (rows_of (found_of matches.now))) result }
+{
+    if name == "run" {
+        Ok(Subcommand::Run(run_options(alloc, matches)?))
+    } else if name == "report" {
+        Ok(Subcommand::Report(report_options(alloc, matches)?))
+    } else if name == "debug" {
+        Ok(Subcommand::Debug(debug_options(alloc, matches)?))
+    } else {
+        Err(WordsError::Wrong(String::new(alloc)))
+    }
+}
+
+/// Returns the options of `run`.
+fn run_options<'a>(alloc: Global, run: &ArgMatches<'a>) -> Result<RunOptions<'a>, WordsError>
+    ensures { Reads (IsRun (rows_of (found_of run.now))) result }
+{
+    Ok(RunOptions {
+        board: text_in(alloc, value_of(run, "board"))?,
+        image: text_in(alloc, value_of(run, "image"))?,
+        steps: steps_in(alloc, value_of(run, "steps"))?,
+        trace: selection_in(alloc, value_of(run, "trace"))?,
+        expect: stop_in(alloc, value_of(run, "expect"))?,
+        state: value_of(run, "state"),
+    })
+}
+
+/// Returns the options of `report`.
+fn report_options<'a>(
+    alloc: Global,
+    report: &ArgMatches<'a>,
+) -> Result<ReportOptions<'a>, WordsError>
+    ensures { Reads (IsReport (rows_of (found_of report.now))) result }
+{
+    Ok(ReportOptions {
+        board: text_in(alloc, value_of(report, "board"))?,
+        image: text_in(alloc, value_of(report, "image"))?,
+        steps: steps_in(alloc, value_of(report, "steps"))?,
+    })
+}
+
+/// Returns the options of `debug`.
+fn debug_options<'a>(alloc: Global, debug: &ArgMatches<'a>) -> Result<DebugOptions<'a>, WordsError>
+    ensures { Reads (IsDebug (rows_of (found_of debug.now))) result }
+{
+    Ok(DebugOptions {
+        board: text_in(alloc, value_of(debug, "board"))?,
+        image: text_in(alloc, value_of(debug, "image"))?,
+    })
+}
+
+/// Returns the value of an argument.
+fn value_of<'a>(matches: &ArgMatches<'a>, id: &str) -> Option<&'a str>
+    ensures { text_of result ≡ first_of id.entry.now (rows_of (found_of matches.entry.now)) }
+{
+    matches.get_str(id)
+}
+
+/// Returns the text of an argument that `clap` has found.
+fn text_in<'a>(alloc: Global, text: Option<&'a str>) -> Result<&'a str, WordsError>
+    ensures { Reads (IsText (text_of text.entry)) result }
+{
+    match text {
+        Some(text) => Ok(text),
+        None => Err(WordsError::Wrong(String::new(alloc))),
+    }
+}
+
+/// Returns the number of steps in a text.
+fn steps_in(alloc: Global, text: Option<&str>) -> Result<u64, WordsError>
+    ensures { Reads (HasSteps (text_of text.entry)) result }
+{
+    let text = text_in(alloc, text)?;
+    match number_in(text) {
+        Some(steps) => Ok(steps),
+        None => Err(wrong_value(alloc, text, "--steps <N>", STEPS_ADVICE)),
+    }
+}
+
+/// Returns the number in a text, if it is a number of steps.
+#[tactic(auto, using(crate::proofs::Asking::no_steps, crate::proofs::Asking::too_many_steps))]
+fn number_in(text: &str) -> Option<u64>
+    ensures some { IfSome result (λ steps. IsSteps text.now × (steps ≡ number_in text.now)) }
+    ensures none { result ≡ None → ¬ IsSteps text.now }
+{
+    match text.parse::<u64>() {
+        Ok(steps) if steps <= MOST_STEPS => Some(steps),
+        _ => None,
+    }
+}
+
+/// Returns the selection that is asked for: all events where none is named.
+fn selection_in(alloc: Global, name: Option<&str>) -> Result<TraceSelection, WordsError>
+    ensures { Reads (IsSelection (text_of name.entry)) result }
+{
+    let Some(name) = name else {
+        return Ok(TraceSelection::All);
+    };
+    match selection_named(name) {
+        Some(selection) => Ok(selection),
+        None => Err(wrong_value(alloc, name, "--trace <WHICH>", TRACE_ADVICE)),
+    }
+}
+
+/// Returns the selection of a name.
+fn selection_named(name: &str) -> Option<TraceSelection>
+    ensures { result ≡ selection_named name.entry.now }
+{
+    if name == "all" {
+        Some(TraceSelection::All)
+    } else if name == "refused" {
+        Some(TraceSelection::Refused)
+    } else if name == "exceptions" {
+        Some(TraceSelection::Exceptions)
+    } else if name == "console" {
+        Some(TraceSelection::Console)
+    } else if name == "none" {
+        Some(TraceSelection::Nothing)
+    } else {
+        None
+    }
+}
+
+/// Returns the stop that is expected.
+fn stop_in(alloc: Global, words: Option<&str>) -> Result<Option<Stop>, WordsError>
+    ensures { Reads (IsExpected (text_of words.entry)) result }
+{
+    let Some(words) = words else {
+        return Ok(None);
+    };
+    match stop_named(words) {
+        Some(stop) => Ok(Some(stop)),
+        None => Err(wrong_value(alloc, words, "--expect <STOP>", EXPECT_ADVICE)),
+    }
+}
+
+/// What `--steps` takes.
+pub const STEPS_ADVICE: &str = "--steps takes a decimal number from 0 to 4294967296.\n";
+
+/// What `--trace` takes.
+const TRACE_ADVICE: &str = "--trace takes all, refused, exceptions, console or none.\n";
+
+/// What `--expect` takes.
+const EXPECT_ADVICE: &str = "\
+--expect takes the words of a stop line after `stop`: steps, breakpoint N (N from 0 to 255), reset, lockup,
+or unpredictable or outofprofile and a name.
+";
+
+/// Returns the error of an option's value that isn't allowed, with what is.
+fn wrong_value(alloc: Global, value: &str, option: &str, advice: &str) -> WordsError
+    ensures { (notice_of result ≡ usage) ⊎ (notice_of result ≡ memory) }
+{
+    let value = Escaped(value);
+    match format!(in alloc; "error: invalid value '{value}' for '{option}'\n{advice}") {
+        Ok(text) => WordsError::Wrong(text),
+        Err(_) => WordsError::OutOfMemory,
+    }
+}
