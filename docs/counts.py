@@ -125,8 +125,8 @@ AUDIT_PARTS = {
     "patterns": "Patterns Rows RowOperands Decoding",
     "rows": "Short* Long*",
     "text": "Text Events",
-    "files": "Images Boards Start board/Texts board/Reading command/Statuses output/Gathered machine/Starts",
-    "options": "trace/Selection command/Saving debugger/StateText debugger_commands/Texts",
+    "files": "Images Boards Start board/Texts board/Reading command/Statuses command/Opening machine/Starts",
+    "options": "trace/Selection command/Sending command/Running debugger/StateText debugger_commands/Texts",
 }
 
 # the enums and structs that the definitions name, beside all those of `DEFINITIONS`
