@@ -1,10 +1,11 @@
 //! Sums, shifts and modified immediates (ARM DDI 0403: `AddWithCarry()`, `Shift_C()`,
 //! `DecodeImmShift()` and `ThumbExpandImm_C()`).
 
-ghost use Rattle.std.specs.Prelude.{◌≡◌, ◌<◌, not};
+ghost use Rattle.std.specs.Prelude.{◌≡◌, ◌<◌, not, true, false};
 ghost use Rattle.std.specs.Ordering.{int_eq};
 ghost use Rattle.instruction_set.specs.Arithmetic as spec;
 ghost use Rattle.instruction_set.specs.Arithmetic.{sum_result, signed_sum, signed};
+ghost use Rattle.instruction_set.specs.DataProcessing.{inverted};
 ghost use Rattle.instruction_set.specs.Words.{is_bit};
 
 pub use instruction_set::shift::{Shift, ShiftType};
@@ -38,6 +39,33 @@ fn is_overflow(x: u32, y: u32, carry: bool, sum: u32) -> bool
     ensures { result ≡ not (int_eq (signed_sum x y carry) (signed sum)) }
 {
     is_negative(x) == is_negative(y) && is_negative(x) != is_negative(sum)
+}
+
+/// `AddWithCarry(x, y, 0)`.
+#[inline(always)]
+pub fn sum(x: u32, y: u32) -> (u32, bool, bool)
+    ensures { result ≡ spec.add_with_carry x y false }
+{
+    let value = x.wrapping_add(y);
+    (value, value < x, is_overflow(x, y, false, value))
+}
+
+/// `AddWithCarry(x, NOT(y), 1)`.
+#[inline(always)]
+pub fn difference(x: u32, y: u32) -> (u32, bool, bool)
+    ensures { result ≡ spec.add_with_carry x (inverted y) true }
+{
+    let value = x.wrapping_sub(y);
+    (value, x >= y, is_overflow(x, !y, true, value))
+}
+
+/// `AddWithCarry(NOT(x), y, 1)`.
+#[inline(always)]
+pub fn reverse_difference(x: u32, y: u32) -> (u32, bool, bool)
+    ensures { result ≡ spec.add_with_carry (inverted x) y true }
+{
+    let value = y.wrapping_sub(x);
+    (value, y >= x, is_overflow(!x, y, true, value))
 }
 
 /// Bit 31 of a word.

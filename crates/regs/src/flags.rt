@@ -3,7 +3,8 @@
 
 ghost use Rattle.std.specs.Prelude.{◌≡◌, ◌≤◌, ◌-◌, ◌^◌};
 ghost use Rattle.instruction_set.specs.Registers as spec;
-ghost use Rattle.instruction_set.specs.Registers.{flags_of};
+ghost use Rattle.instruction_set.specs.Registers.{flags_of, with_result};
+ghost use Rattle.instruction_set.specs.Results.{logical_flags, sum_flags};
 
 use crate::{Flags, Regs, weighed};
 
@@ -32,6 +33,43 @@ impl Regs {
         self.carry = flags.carry;
         self.overflow = flags.overflow;
         self.saturated = flags.saturated;
+    }
+
+    /// Sets N and Z by a result, and leaves the others.
+    #[inline(always)]
+    pub fn set_result_flags(&mut self, value: u32)
+        ensures { self.new ≡ record self.old { flags = with_result self.old.flags value } }
+    {
+        self.negative_result = value;
+        self.zero_result = value;
+    }
+
+    /// Sets N and Z by a result, and C, and leaves the others.
+    #[inline(always)]
+    pub fn set_logical_flags(&mut self, value: u32, carry: bool)
+        ensures { self.new ≡ record self.old { flags = logical_flags self.old.flags value carry } }
+    {
+        self.set_result_flags(value);
+        self.carry = carry;
+    }
+
+    /// Sets N, Z, C and V by a sum, as `add_with_carry` returns it.
+    #[inline(always)]
+    pub fn set_sum_flags(&mut self, sum: (u32, bool, bool))
+        ensures { self.new ≡ record self.old { flags = sum_flags self.old.flags sum } }
+    {
+        let (value, carry, overflow) = sum;
+        self.set_result_flags(value);
+        self.carry = carry;
+        self.overflow = overflow;
+    }
+
+    /// C.
+    #[inline(always)]
+    pub fn carry(&self) -> bool
+        ensures { result ≡ self.now.flags.carry }
+    {
+        self.carry
     }
 
     /// APSR: the flags in bits 31:27.

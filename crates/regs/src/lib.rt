@@ -18,7 +18,10 @@ mod frames;
 mod monitor;
 mod stack_pointers;
 
-pub use arithmetic::{Shift, ShiftType, add_with_carry, decode_imm_shift, expand_imm, shift_c};
+pub use arithmetic::{
+    Shift, ShiftType, add_with_carry, decode_imm_shift, difference, expand_imm, reverse_difference,
+    shift_c, sum,
+};
 pub use flags::flags_of;
 pub use frames::{returns_on_psp, returns_to_handler};
 
@@ -126,12 +129,22 @@ impl Regs {
     }
 
     /// `R[n]` of a register other than the PC.
-    #[inline]
-    fn word(&self, number: u8) -> u32
+    #[inline(always)]
+    pub fn word(&self, number: u8) -> u32
         requires { number < 15 }
         ensures { result ≡ spec.register self.now number }
     {
         self.words[number as usize]
+    }
+
+    /// `R[n] = value`, of a register other than SP and the PC.
+    #[inline(always)]
+    pub fn set_word(&mut self, number: u8, value: u32)
+        requires below { number < 15 }
+        requires other { number ≡ 13 → ⊥ }
+        ensures { self.new ≡ with_register self.old number value }
+    {
+        self.words[number as usize] = value;
     }
 
     /// `R[n] = value`, where a write to SP clears its bits 1:0, and one to PC branches.

@@ -18,7 +18,7 @@ impl Regs {
 
     /// Sets the stack pointer in use to a value, whose bits 1:0 are cleared.
     #[inline]
-    pub(crate) fn set_sp(&mut self, value: u32)
+    pub fn set_sp(&mut self, value: u32)
         ensures { self.new ≡ with_sp self.old value }
     {
         self.set_stack(self.uses_psp(), value & !3);
