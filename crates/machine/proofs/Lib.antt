@@ -3,6 +3,7 @@ pub mod Fetching
 mod Foreseen
 mod Known
 mod Loading
+mod Micros
 pub mod Running
 mod StepBounds
 pub mod Selecting

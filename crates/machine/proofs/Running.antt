@@ -13,7 +13,8 @@ use Rattle.reference.specs.State.{State}
 use Rattle.reference.specs.Step.{step, unless_stopped}
 use Rattle.platform.specs.Events.{lines}
 use Rattle.output.specs.Output.{GrowsByPrefix, IsCutAfter, IsCutShort}
-use Rattle.trace.proofs.Selecting.{lines-append}
+use Rattle.trace.proofs.Selecting.{lines-append, steps_joined}
+use Rattle.trace.specs.Selection.{steps_text}
 
 -- a stopped machine makes no step
 step_stopped : (s : State) (why : Stop) → s.stop ≡ Some why → step s ≡ record { state = s; events = [] }
@@ -109,20 +110,10 @@ pub ends_so : (limit : ℕ) (s core : State) (shown : Stop) → shown ≡ unwrap
     → shown ≡ ending_of limit s
 ends_so limit s core shown same now = rw (← now) same
 
--- the events of a run begin with those of its first steps
-pub record Continues (m k : ℕ) (s : State) : Type 0 where
-  pub others : List Event
-  pub whole : events_of (m + k) s ≡ events_of m s ++ others
-
-pub continues : (m k : ℕ) (s : State) → Continues m k s
-continues m zero s = record { others = []; whole = rw (add-zero, append-nil) refl }
-continues m (suc k) s =
-    let before = continues m k s in
-    let e : m + suc k ≡ (m + k) + 1 = omega arith in
-    record {
-      others = before.others ++ (step (after (m + k) s)).events;
-      whole = rw (e, events_more (m + k) s, before.whole, append_assoc) refl;
-    }
+-- the lines of steps, one after another, are those of all their events
+pub steps_lines : (n : ℕ) (s : State) → steps_text lines n s ≡ lines (events_of n s)
+unfolding lines
+steps_lines n s = steps_joined lines refl lines-append n s
 
 -- what went out before a text that was cut short is a prefix of what begins so
 pub prefix_of : (old new : Option (List ℕ)) (before text later all : List ℕ) → IsCutAfter old new before text

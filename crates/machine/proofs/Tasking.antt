@@ -4,7 +4,7 @@ use Rattle.std.proofs.Common.{None, refl, sym, subst, arith, below_more}
 use Rattle.std.proofs.lemmas.Bool.Decides.{nat_tests}
 use Rattle.std.proofs.KnownBytes.{Appends-nil}
 use Rattle.std.specs.Io.KnownBytes.{Appends}
-use Rattle.machine.proofs.Running.{cut_after, none_made, none_shown}
+use Rattle.machine.proofs.Running.{cut_after, none_made, none_shown, steps_lines}
 use Rattle.machine.specs.Tasks.{TaskIsCut, TaskRuns, end_of}
 use Rattle.output.specs.Output.{IsCutAfter, IsCutShort, Writing}
 use Rattle.platform.specs.declared.event.Event.{Event}
@@ -16,6 +16,7 @@ use Rattle.platform.specs.Events.{lines}
 use Rattle.task_laws.specs.declared.task.TaskEnd.TheVariants as task_end
 use Rattle.task_laws.specs.Foresight.{is_instruction_next}
 use Rattle.task_laws.specs.Tasks.{AreInstructions, Ends}
+use Rattle.trace.specs.Selection.{steps_text}
 
 -- one Instruction step more was made
 pub instruction_on : (n : ℕ) (s core : State) → AreInstructions n s → core ≡ after n s
@@ -57,7 +58,7 @@ pub task_is_cut : (old mid new : Writing) (limit n : ℕ) (s core last : State) 
     → TaskIsCut limit s old new last (n + 1)
 task_is_cut old mid new limit n s core last shown few made state written cut same now =
     let back : n + 1 - 1 ≡ n = omega arith in
-    let whole : IsCutAfter old.written new.written (lines (events_of n s)) (lines (step (after n s)).events) =
-    rw (← now, ← same)
+    let whole : IsCutAfter old.written new.written (steps_text lines n s) (lines (step (after n s)).events) =
+    rw (← now, ← same, steps_lines n s)
     (cut_after old.written mid.written new.written (lines (events_of n s)) (lines shown) written cut) in
     record { few = omega arith; instructions = made; state = state; cut = (omega arith, rw back whole) }

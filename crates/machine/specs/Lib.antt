@@ -7,4 +7,5 @@ pub mod TaskRunLaw
 pub mod Tasks
 pub mod Values
 pub mod Whole
+pub mod Kept
 pub mod Quiet

@@ -5,22 +5,24 @@ use Rattle.machine.specs.declared.machine.RunError.{RunError}
 use Rattle.machine.specs.declared.machine.RunError.TheVariants.{Write, Broken}
 use Rattle.output.specs.Output.{IsCutAfter, Writing}
 use Rattle.machine.specs.Whole.{Whole}
-use Rattle.reference.specs.Run.{after, events_of, ending_of}
+use Rattle.reference.specs.Run.{after, ending_of}
 use Rattle.reference.specs.State.{State}
 use Rattle.reference.specs.Step.{step}
 use Rattle.platform.specs.declared.event.Event.{Event}
 use Rattle.platform.specs.Events.{lines}
 use Rattle.platform.specs.Text.{stop_line}
+use Rattle.trace.specs.Selection.{steps_text}
 
--- the text of all steps but the last one went out, and a proper prefix of that one's text; `text` is the text of events
+-- the text of all steps but the last one went out, and a proper prefix of that one's text; `text` is the text of the
+-- events of one step
 abbrev pub CutInStep : (List Event → List ℕ) → State → ℕ → Option (List ℕ) → Option (List ℕ) → Type 0
 CutInStep text s steps old new =
-    (0 < steps) × IsCutAfter old new (text (events_of (steps - 1) s)) (text (step (after (steps - 1) s)).events)
+    (0 < steps) × IsCutAfter old new (steps_text text (steps - 1) s) (text (step (after (steps - 1) s)).events)
 
 -- the text of all steps went out, and a proper prefix of the end of the run's text
 abbrev pub CutInEnd : (List Event → List ℕ) → List ℕ → ℕ → State → ℕ → Option (List ℕ) → Option (List ℕ) → Type 0
 CutInEnd text end n s steps old new =
-    ((steps ≡ n) ⊎ IsSome (after steps s).stop) × IsCutAfter old new (text (events_of n s)) end
+    ((steps ≡ n) ⊎ IsSome (after steps s).stop) × IsCutAfter old new (steps_text text n s) end
 
 -- a run of at most n steps from a state was cut short after `steps` of them: each of them was made, the machine is in
 -- the state after them, and what went out is a prefix of the run's text

@@ -36,7 +36,8 @@ use mpu::MpuRegs;
 use mpu_table::{KeptDecisions, Table};
 use nvic_levels::{BitLevels, KeptPriorities};
 use output::{
-    AllEvents, ConsoleBytes, ExceptionEvents, IoError, LineRoom, NoEvents, Out, RefusedEvents, View,
+    AllEvents, ConsoleBytes, ExceptionEvents, FaultySteps, IoError, LineRoom, NoEvents, Out,
+    RefusedEvents, View,
 };
 use platform::access::{Decision, Kind};
 use platform::error::{PlaceError, StartError};
@@ -166,6 +167,7 @@ impl<D: Decider, C: KeptCode, L: Levels, U: DueTicks> Machine<D, C, L, U> {
         match selection {
             TraceSelection::All => self.run_view::<AllEvents, W>(limit, out),
             TraceSelection::Refused => self.run_view::<RefusedEvents, W>(limit, out),
+            TraceSelection::Faults => self.run_view::<FaultySteps, W>(limit, out),
             TraceSelection::Exceptions => self.run_view::<ExceptionEvents, W>(limit, out),
             TraceSelection::Console => self.run_view::<ConsoleBytes, W>(limit, out),
             TraceSelection::Nothing => self.run_view::<NoEvents, W>(limit, out),

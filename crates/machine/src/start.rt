@@ -50,11 +50,19 @@ pub fn start_core<D: Decider, C: KeptCode, L: Levels, U: DueTicks>(
         board.layout.regions.number(),
         script,
     );
-    let bytes = board.layout.flash_size as usize + board.layout.ram_size as usize;
-    let Ok(memory) = CodeMemory::new(alloc, space, bytes) else {
+    let Ok(memory) = CodeMemory::new(alloc, space, image_bytes(image.segments())) else {
         return Err(StartError::NoMemory);
     };
     Ok(Processor::new(regs, Bus::new(memory, system)))
+}
+
+/// Returns how many bytes an image loads, as far as a `usize` holds them: room for instructions is made by it.
+fn image_bytes(segments: &[Segment<'_>]) -> usize {
+    let mut bytes: usize = 0;
+    'segments: for segment in segments {
+        bytes = bytes.saturating_add(segment.bytes.len());
+    }
+    bytes
 }
 
 /// Returns whether each segment lies wholly in flash or wholly in RAM.

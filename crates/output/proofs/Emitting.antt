@@ -1,20 +1,20 @@
--- The text of a step's selected events, put event by event.
+-- The text of a step's events of the selected kinds, put event by event.
 use Rattle.std.proofs.Common.{◌≡◌, ℕ, ◌+◌, ◌-◌, ◌<◌, Bool, true, false, List, [], ◌∷◌, ◌++◌, length, take, drop, Option}
 use Rattle.std.proofs.Common.{Some, None, refl, sym, ap, ◌∙◌, append_assoc, length-append}
-use Rattle.std.proofs.Common.{length-drop, arith}
+use Rattle.std.proofs.Common.{length-drop, arith, get_or}
 use Rattle.std.proofs.KnownBytes.{Appends-nil, Appends-trans}
 use Rattle.std.proofs.Math.Seq.{take-append_seam}
 use Rattle.std.proofs.Math.Logic.{∥∥₁_elim, ∥∥₁_map}
 use Rattle.std.proofs.Props.{props}
-use Rattle.std.proofs.lemmas.List.{map-append, take-append-drop}
+use Rattle.std.proofs.lemmas.List.{map-append, take-append-drop, take_more}
 use Rattle.std.specs.Io.KnownBytes.{Appends}
 use Rattle.output.specs.Emitting.{PutsUnless, WritesSoFar, emission}
-use Rattle.output.specs.Output.{IsCutShort, Writing}
+use Rattle.output.specs.Output.{IsCutShort, WritesAll, Writing}
 use Rattle.platform.specs.declared.event.Event.{Event}
-use Rattle.trace.proofs.Selecting.{selected-append, selected-nil}
+use Rattle.trace.proofs.Selecting.{kinds-append, kinds-nil}
 use Rattle.trace.specs.declared.selection.TraceSelection.{TraceSelection}
 use Rattle.trace.specs.Emission.{Emission}
-use Rattle.trace.specs.Selection.{last_printed, selected_text}
+use Rattle.trace.specs.Selection.{kinds_text, last_printed}
 
 -- one event more
 pub one_more : {O : Type 0} (writing : O → Writing) (name : ℕ) (old new : O)
@@ -58,21 +58,21 @@ cut_later old mid new text more went cut = record {
 -- the text of one event more
 text_more : (selection : TraceSelection) (e : Emission) (event : Event) (mid new : Writing) (failed after : Bool)
     → WritesSoFar selection e mid failed
-    → PutsUnless failed mid new (selected_text selection (event ∷ [])) after
+    → PutsUnless failed mid new (kinds_text selection (event ∷ [])) after
     → WritesSoFar selection (record e { events = e.events ++ event ∷ [] }) new after
 text_more selection e event mid new true true so_far put =
     rw (put.0, put.1) (
-      rw (selected-append selection e.events (event ∷ [])) (cut_before e.written mid.written _ _ so_far.0),
+      rw (kinds-append selection e.events (event ∷ [])) (cut_before e.written mid.written _ _ so_far.0),
       so_far.1,
     )
 text_more selection e event mid new true false so_far put = absurd put
 text_more selection e event mid new false false so_far put = (
-  rw (selected-append selection e.events (event ∷ []))
+  rw (kinds-append selection e.events (event ∷ []))
       (Appends-trans e.written mid.written new.written _ _ so_far.0 put.0),
   put.1 ∙ so_far.1,
 )
 text_more selection e event mid new false true so_far put = (
-  rw (selected-append selection e.events (event ∷ []))
+  rw (kinds-append selection e.events (event ∷ []))
       (cut_later e.written mid.written new.written _ _ so_far.0 put.0),
   put.1
       ∙ ap (λ (n : ℕ). n + 1) so_far.1,
@@ -81,7 +81,7 @@ text_more selection e event mid new false true so_far put = (
 -- before the first event
 pub none_yet : {O : Type 0} (selection : TraceSelection) (writing : O → Writing) (name : ℕ) (now : O)
     → WritesSoFar selection (emission writing name now []) (writing now) false
-none_yet selection writing name now = (rw (selected-nil selection) (Appends-nil (writing now).written), refl)
+none_yet selection writing name now = (rw (kinds-nil selection) (Appends-nil (writing now).written), refl)
 
 -- What a struct keeps of such facts is only that they hold. What was put can be found again: it is what the known bytes
 -- have grown by.
@@ -136,11 +136,11 @@ cut_found (Some xs) (Some ys) text cut =
 pub found : (selection : TraceSelection) (e : Emission) (now : Writing) (failed : Bool)
     → ∥ WritesSoFar selection e now failed ∥₁ → WritesSoFar selection e now failed
 found selection e now false so_far = (
-  went_found e.written now.written (selected_text selection e.events) (∥∥₁_map so_far (λ w. w.0)),
+  went_found e.written now.written (kinds_text selection e.events) (∥∥₁_map so_far (λ w. w.0)),
   ∥∥₁_elim so_far (search props) (λ w. w.1),
 )
 found selection e now true so_far = (
-  cut_found e.written now.written (selected_text selection e.events) (∥∥₁_map so_far (λ w. w.0)),
+  cut_found e.written now.written (kinds_text selection e.events) (∥∥₁_map so_far (λ w. w.0)),
   ∥∥₁_elim so_far (search props) (λ w. w.1),
 )
 
@@ -153,7 +153,7 @@ Puts selection writing name now items failed =
 pub one_text_more : {O : Type 0} (selection : TraceSelection) (writing : O → Writing) (name : ℕ) (old new : O)
     (items later : List (O × Event)) (e : Event) (failed after : Bool)
     → later ≡ items ++ (old, e) ∷ [] → Puts selection writing name old items failed
-    → PutsUnless failed (writing old) (writing new) (selected_text selection (e ∷ [])) after
+    → PutsUnless failed (writing old) (writing new) (kinds_text selection (e ∷ [])) after
     → Puts selection writing name new later after
 one_text_more selection writing name old new items later e failed after is so_far put =
     rw (is, one_more writing name old new items e)
@@ -169,3 +169,46 @@ pub one_byte_more : {O : Type 0} (selection : TraceSelection) (writing : O → W
     → last ≡ last_printed selection (emission writing name new later).events
 one_byte_more selection writing name old new items later e last is ends =
     rw (is, one_more writing name old new items e) ends
+
+-- ---- the events of a step that is over
+
+-- the text of the events before an index, and of the one there
+event_at : (selection : TraceSelection) (events : List Event) (i : ℕ) (d : Event) → i < length events
+    → kinds_text selection (take (i + 1) events)
+    ≡ kinds_text selection (take i events) ++ kinds_text selection (get_or events i d ∷ [])
+event_at selection events i d inside =
+    rw (take_more events i d inside) (kinds-append selection (take i events) (get_or events i d ∷ []))
+
+-- the text of the events up to an index, and of those after it
+parts_at : (selection : TraceSelection) (events : List Event) (i : ℕ)
+    → kinds_text selection events ≡ kinds_text selection (take i events) ++ kinds_text selection (drop i events)
+parts_at selection events i =
+    ap (kinds_text selection) (sym (take-append-drop i events))
+    ∙ kinds-append selection (take i events) (drop i events)
+
+-- before the first of them
+pub none_put : (selection : TraceSelection) (now : Writing) → WritesAll now now (kinds_text selection [])
+none_put selection now = (rw (kinds-nil selection) (Appends-nil now.written), refl)
+
+-- one of them more was put
+pub put_on : (selection : TraceSelection) (old mid new : Writing) (events : List Event) (i : ℕ) (d : Event)
+    → i < length events → WritesAll old mid (kinds_text selection (take i events))
+    → WritesAll mid new (kinds_text selection (get_or events i d ∷ []))
+    → WritesAll old new (kinds_text selection (take (i + 1) events))
+put_on selection old mid new events i d inside so_far more = (
+  rw (event_at selection events i d inside)
+      (Appends-trans old.written mid.written new.written _ _ so_far.0 more.0),
+  more.1 ∙ so_far.1,
+)
+
+-- the text of one of them was cut short
+pub cut_on : (selection : TraceSelection) (old mid new : Writing) (events : List Event) (i : ℕ) (d : Event)
+    → i < length events → WritesAll old mid (kinds_text selection (take i events))
+    → IsCutShort mid.written new.written (kinds_text selection (get_or events i d ∷ [])) × (new.errors ≡ mid.errors + 1)
+    → IsCutShort old.written new.written (kinds_text selection events) × (new.errors ≡ old.errors + 1)
+cut_on selection old mid new events i d inside so_far cut = (
+  rw (parts_at selection events (i + 1), event_at selection events i d inside)
+      (cut_before old.written new.written _ (kinds_text selection (drop (i + 1) events))
+      (cut_later old.written mid.written new.written _ _ so_far.0 cut.0)),
+  cut.1 ∙ ap (λ (n : ℕ). n + 1) so_far.1,
+)

@@ -5,7 +5,7 @@ use Rattle.output.specs.Output.{IsCutShort, Writing}
 use Rattle.platform.specs.declared.event.Event.{Event}
 use Rattle.trace.specs.declared.selection.TraceSelection.{TraceSelection}
 use Rattle.trace.specs.Emission.{Emission}
-use Rattle.trace.specs.Selection.{selected_text}
+use Rattle.trace.specs.Selection.{kinds_text}
 
 -- from pairs of an event and the writer before it: the writer before the first event, and the events
 abbrev pub emission : {O : Type 0} → (O → Writing) → ℕ → O → List (O × Event) → Emission
@@ -23,14 +23,14 @@ emission writing name now (first ∷ later) =
 abbrev pub BeforeStep : {O : Type 0} → (O → Writing) → ℕ → O → List (O × Event) → Type 0
 BeforeStep writing name now items = emission writing name now items ≡ emission writing name now []
 
--- the text of the selected events so far: it went out and no call failed, or a prefix of it did and one call failed
+-- the text of the events of the selected kinds so far: it went out and no call failed, or a prefix of it did and one call failed
 abbrev pub WritesSoFar : TraceSelection → Emission → Writing → Bool → Type 0
 WritesSoFar selection e now false =
-    Appends e.written now.written (selected_text selection e.events) × (now.errors ≡ e.errors)
+    Appends e.written now.written (kinds_text selection e.events) × (now.errors ≡ e.errors)
 WritesSoFar selection e now true =
-    IsCutShort e.written now.written (selected_text selection e.events) × (now.errors ≡ e.errors + 1)
+    IsCutShort e.written now.written (kinds_text selection e.events) × (now.errors ≡ e.errors + 1)
 
--- the text of a step's selected events was put: a call failed where the result is an error
+-- the text of a step's events of the selected kinds was put: a call failed where the result is an error
 abbrev pub PutsText : {E : Type 0} → TraceSelection → Emission → Writing → Result (Unit {0}) E → Type 0
 PutsText selection e now (Ok done) = WritesSoFar selection e now false
 PutsText selection e now (Err error) = WritesSoFar selection e now true

@@ -1,9 +1,9 @@
-//! A sink that writes the text of each event at once.
+//! A sink that writes the text of each event at once, and what writes that of a step's events when it is over.
 
 ghost use Rattle.std.specs.Prelude.{◌≡◌, [], ◌∷◌, Option};
 ghost use Rattle.output.specs.Emitting.{BeforeStep, PutsText, PutsUnless, WritesSoFar, emission};
 ghost use Rattle.output.specs.Output.{Put};
-ghost use Rattle.trace.specs.Selection.{last_printed, selected_text};
+ghost use Rattle.trace.specs.Selection.{kinds_text, last_printed, selected_text};
 
 use crate::history::History;
 use crate::view::View;
@@ -13,7 +13,7 @@ use std::marker::PhantomData;
 use trace::selection::TraceSelection;
 use trace::sink::Sink;
 
-/// Writes the text of one step's events as far as a view has them, of each as it comes. After a text that
+/// Writes the text of one step's events that are of the kinds that a view has, of each as it comes. After a text that
 /// didn't go out whole, no further one is begun.
 #[derive(Drop)]
 pub struct EventLines<'a, O: Out, V: View> {
@@ -81,7 +81,7 @@ impl<'a, O: Out, V: View> Sink for EventLines<'a, O, V> {
     }
 }
 
-/// Puts the text of an event if it is selected, unless an earlier text failed. Returns whether either failed.
+/// Puts the text of an event if its kind is selected, unless an earlier text failed. Returns whether either failed.
 #[inline(always)]
 fn put_unless<O: Out>(
     selection: TraceSelection,
@@ -91,12 +91,12 @@ fn put_unless<O: Out>(
     event: &Event,
 ) -> bool
     ensures { PutsUnless failed (O.writing out.old) (O.writing out.new)
-        (selected_text selection (event.now ∷ [])) result }
+        (kinds_text selection (event.now ∷ [])) result }
 {
     failed || put_selected(selection, out, room, event).is_err()
 }
 
-/// Puts the text of an event if it is selected.
+/// Puts the text of an event if its kind is selected.
 #[inline(always)]
 fn put_selected<O: Out>(
     selection: TraceSelection,
@@ -104,7 +104,7 @@ fn put_selected<O: Out>(
     room: &mut LineRoom,
     event: &Event,
 ) -> Result<(), IoError>
-    ensures { Put (O.writing out.old) (O.writing out.new) (selected_text selection (event.now ∷ [])) result }
+    ensures { Put (O.writing out.old) (O.writing out.new) (kinds_text selection (event.now ∷ [])) result }
 {
     if !selection.selects(&event.what) {
         return Ok(());
@@ -116,4 +116,34 @@ fn put_selected<O: Out>(
         Some(byte) => out.put_byte(byte),
         None => Ok(()),
     }
+}
+
+/// Puts the text of those events of one step that are selected, when the step is over.
+pub fn put_step<O: Out>(
+    selection: TraceSelection,
+    out: &mut O,
+    room: &mut LineRoom,
+    events: &[Event],
+) -> Result<(), IoError>
+    ensures { Put (O.writing out.old) (O.writing out.new) (selected_text selection events.now) result }
+{
+    put_kinds(selection.of_step(events), out, room, events)
+}
+
+/// Puts the text of those events whose kinds are selected, of one after another.
+fn put_kinds<O: Out>(
+    selection: TraceSelection,
+    out: &mut O,
+    room: &mut LineRoom,
+    events: &[Event],
+) -> Result<(), IoError>
+    ensures { Put (O.writing out.old) (O.writing out.new) (kinds_text selection events.now) result }
+{
+    'events: for event in events {
+        match put_selected(selection, out, room, event) {
+            Ok(()) => {}
+            Err(error) => return Err(error),
+        }
+    }
+    Ok(())
 }

@@ -13,8 +13,10 @@ mod writer;
 
 pub use buffered::Buffered;
 pub use cut::Cut;
-pub use event_lines::EventLines;
+pub use event_lines::{EventLines, put_step};
 pub use history::History;
 pub use paged::Paged;
-pub use view::{AllEvents, ConsoleBytes, ExceptionEvents, NoEvents, RefusedEvents, View};
+pub use view::{
+    AllEvents, ConsoleBytes, ExceptionEvents, FaultySteps, NoEvents, RefusedEvents, View,
+};
 pub use writer::{In, IoError, LineRoom, Out, Over};

@@ -32,6 +32,17 @@ impl View for RefusedEvents {
     const SELECTION: TraceSelection = TraceSelection::Refused;
 }
 
+/// Every event of each step with one of `RefusedEvents`, and where the handler of a fault was entered. What is
+/// written of an event depends on those after it in its step, so they are gathered.
+#[derive(Drop)]
+pub struct FaultySteps;
+
+impl View for FaultySteps {
+    ghost SELECTION = { which.Faults };
+
+    const SELECTION: TraceSelection = TraceSelection::Faults;
+}
+
 /// Those of `RefusedEvents`, and where a handler was entered or a return began.
 #[derive(Drop)]
 pub struct ExceptionEvents;

@@ -86,14 +86,25 @@ impl<D: Decider, L: Levels, U: DueTicks> System<D, L, U> {
     /// Makes the next tick: time goes on, and what the tick pends becomes pending. On most ticks
     /// nothing is due: only time goes on.
     #[inline]
-    #[tactic(auto, using(nvic::proofs::Due::nothing_is_pended), unfolding(platform::specs::System::after_tick))]
     pub fn tick(&mut self)
         requires { self.old.time.ticks < 2 ^ 48 }
         ensures { self.new ≡ after_tick self.old }
     {
-        if !self.clock.tick_quietly() {
+        if !self.tick_quietly() {
             self.tick_and_pend();
         }
+    }
+
+    /// Makes the next tick if the due tick that is kept says that nothing is due at it. Returns whether it did.
+    #[inline(always)]
+    #[tactic(auto, using(nvic::proofs::Due::nothing_is_pended), unfolding(platform::specs::System::after_tick))]
+    pub fn tick_quietly(&mut self) -> bool
+        requires { self.old.time.ticks < 2 ^ 48 }
+        ensures tick { result ≡ true → self.new ≡ after_tick self.old }
+        ensures alone { result ≡ true → self.new.nvic ≡ self.old.nvic }
+        ensures same { result ≡ false → self.new ≡ self.old }
+    {
+        self.clock.tick_quietly()
     }
 
     /// Makes the next tick, and makes pending what is due at it.

@@ -2,9 +2,11 @@
 
 ghost use Rattle.std.specs.Prelude.{◌≡◌, List, [], ◌∷◌, ◌++◌, is_some};
 ghost use Rattle.platform.specs.declared.event.Event.{Event};
-ghost use Rattle.trace.specs.Selection.{is_refusal, last_printed, selects, writes_bytes};
+ghost use Rattle.trace.specs.Selection.{enters_fault_handler, handles_faults, has_faulty_steps, has_refusal, is_refusal};
+ghost use Rattle.trace.specs.Selection.{kinds_text, last_printed, selected_text, selects, writes_bytes};
 
 use platform::event::{Event, EventKind};
+use platform::exception::{BUS_FAULT, HARD_FAULT, MEM_MANAGE, USAGE_FAULT};
 
 /// Which events of a run are written. The line of the stop always is.
 #[derive(Clone, Copy)]
@@ -13,6 +15,8 @@ pub enum TraceSelection {
     All,
     /// The accesses that were refused, and the faults that were recorded.
     Refused,
+    /// Every event of each step with an event of `Refused`, and where the handler of a fault was entered.
+    Faults,
     /// Those of `Refused`, and where a handler was entered or a return began.
     Exceptions,
     /// The bytes that the firmware printed: the bytes themselves, without lines.
@@ -22,7 +26,7 @@ pub enum TraceSelection {
 }
 
 impl TraceSelection {
-    /// Returns whether an event of that kind is written.
+    /// Returns whether each event of that kind is written, in whichever step.
     #[inline(always)]
     pub fn selects(self, what: &EventKind) -> bool
         ensures { result ≡ selects self what.now }
@@ -30,9 +34,38 @@ impl TraceSelection {
         match self {
             TraceSelection::All => true,
             TraceSelection::Refused => is_refusal(what),
+            TraceSelection::Faults => enters_fault_handler(what),
             TraceSelection::Exceptions => is_refusal(what) || what.is_entry_or_return(),
             TraceSelection::Console => what.byte().is_some(),
             TraceSelection::Nothing => false,
+        }
+    }
+
+    /// Returns whether each event of a step is written in which an access was refused or a fault was recorded.
+    #[inline(always)]
+    pub fn has_faulty_steps(self) -> bool
+        ensures { result ≡ has_faulty_steps self }
+    {
+        match self {
+            TraceSelection::Faults => true,
+            TraceSelection::All
+            | TraceSelection::Refused
+            | TraceSelection::Exceptions
+            | TraceSelection::Console
+            | TraceSelection::Nothing => false,
+        }
+    }
+
+    /// Returns the selection whose kinds of events are written of a step with these events: `All` where this one
+    /// has every event of such a step.
+    #[tactic(auto, using(crate::proofs::Selecting::whole_step, crate::proofs::Selecting::other_step))]
+    pub fn of_step(self, events: &[Event]) -> TraceSelection
+        ensures { kinds_text result events.now ≡ selected_text self events.now }
+    {
+        if self.has_faulty_steps() && has_refusal(events) {
+            TraceSelection::All
+        } else {
+            self
         }
     }
 
@@ -45,6 +78,7 @@ impl TraceSelection {
             TraceSelection::Console => true,
             TraceSelection::All
             | TraceSelection::Refused
+            | TraceSelection::Faults
             | TraceSelection::Exceptions
             | TraceSelection::Nothing => false,
         }
@@ -61,6 +95,7 @@ impl TraceSelection {
             TraceSelection::Console => event.what.byte().or(before),
             TraceSelection::All
             | TraceSelection::Refused
+            | TraceSelection::Faults
             | TraceSelection::Exceptions
             | TraceSelection::Nothing => before,
         }
@@ -76,6 +111,7 @@ impl TraceSelection {
             TraceSelection::Console => later.or(before),
             TraceSelection::All
             | TraceSelection::Refused
+            | TraceSelection::Faults
             | TraceSelection::Exceptions
             | TraceSelection::Nothing => before,
         }
@@ -88,4 +124,38 @@ fn is_refusal(what: &EventKind) -> bool
     ensures { result ≡ is_refusal what.now }
 {
     what.is_refused() || what.recorded_fault().is_some()
+}
+
+/// Returns whether the event is the entry of the handler of a fault.
+#[inline(always)]
+fn enters_fault_handler(what: &EventKind) -> bool
+    ensures { result ≡ enters_fault_handler what.now }
+{
+    match what {
+        EventKind::HandlerEntered(exception) => handles_faults(*exception),
+        EventKind::Accessed(_)
+        | EventKind::ConsoleByte(_)
+        | EventKind::ReturnBegan(_)
+        | EventKind::FaultRecorded(_) => false,
+    }
+}
+
+/// Returns whether an exception is HardFault, MemManage, BusFault or UsageFault.
+#[inline(always)]
+fn handles_faults(exception: u16) -> bool
+    ensures { result ≡ handles_faults exception }
+{
+    matches!(exception, HARD_FAULT | MEM_MANAGE | BUS_FAULT | USAGE_FAULT)
+}
+
+/// Returns whether one of the events is an access that was refused or a fault that was recorded.
+fn has_refusal(events: &[Event]) -> bool
+    ensures { result ≡ has_refusal events.now }
+{
+    'events: for event in events {
+        if is_refusal(&event.what) {
+            return true;
+        }
+    }
+    false
 }

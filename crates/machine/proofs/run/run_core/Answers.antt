@@ -3,7 +3,7 @@ use Rattle.std.proofs.KnownBytes.{Appends-nil}
 use Rattle.machine.proofs.Running.{none_made, after_on, made_on, not_some, all_made, ends_so}
 use Rattle.machine.proofs.Selecting.{all_shown, cut_in_end, cut_in_step, none_printed, none_shown, printed_on, shown_on}
 use Rattle.machine.proofs.run.run_core.Goals as goal
-use Rattle.machine.proofs.run.run_core.Goals.{else-steps-test, then-steps-test+then-is_some}
+use Rattle.machine.proofs.run.run_core.Goals.{else-steps-test, then-steps-test+then-has_stopped}
 
 pub steps-init : goal.steps-init
 steps-init g c = record {
@@ -13,6 +13,7 @@ steps-init g c = record {
   shown = rw (none_shown g.V.View.SELECTION c.args.core.now) (Appends-nil _);
   printed = none_printed g.V.View.SELECTION c.args.core.now;
   same = refl;
+  quiet = λ is. absurd cc;
 }
 
 pub steps-preserved : goal.steps-preserved
@@ -29,6 +30,7 @@ steps-preserved g c =
           printed_on g.V.View.SELECTION _ _ _ _ _ c.write_selected.ensures.last c.steps.invariant.printed
           c.steps.invariant.core;
       same = c.in-Ok.ensures.put.1 ∙ c.steps.invariant.same;
+      quiet = c.write_selected.ensures.quiet;
     }
 
 pub returns-in-Err-clause-cut : goal.returns-in-Err-clause-cut
@@ -43,7 +45,7 @@ returns-in-Err-clause-cut g c =
 pub returns-in-Ok-put_all-clause-written : goal.returns-in-Ok-put_all-clause-written
 returns-in-Ok-put_all-clause-written g c =
     let ends : (c.steps.made ≡ c.args.limit) ⊎ IsSome c.steps.core.stop =
-    elim c.steps-test.branch [ else-steps-test w ↦ inl (omega arith) | then-steps-test+then-is_some w ↦ inr cc ] in
+    elim c.steps-test.branch [ else-steps-test w ↦ inl (omega arith) | then-steps-test+then-has_stopped w ↦ inr cc ] in
     let text = c.as_slice.ensures ∙ c.end_of_run-page.ensures in
     let went = rw text at c.in-Ok-put_all.ensures.0 in (
       all_shown g.V.View.SELECTION _ _ _ _ _ _ _ _ _ c.steps.invariant.few c.steps.invariant.core
@@ -54,19 +56,19 @@ returns-in-Ok-put_all-clause-written g c =
 pub returns-in-Ok-put_all-clause-state : goal.returns-in-Ok-put_all-clause-state
 returns-in-Ok-put_all-clause-state g c =
     let ends : (c.steps.made ≡ c.args.limit) ⊎ IsSome c.steps.core.stop =
-    elim c.steps-test.branch [ else-steps-test w ↦ inl (omega arith) | then-steps-test+then-is_some w ↦ inr cc ] in
+    elim c.steps-test.branch [ else-steps-test w ↦ inl (omega arith) | then-steps-test+then-has_stopped w ↦ inr cc ] in
     all_made _ _ _ _ c.steps.invariant.few c.steps.invariant.core ends
 
 pub returns-in-Ok-put_all-clause-stop : goal.returns-in-Ok-put_all-clause-stop
 returns-in-Ok-put_all-clause-stop g c =
     let ends : (c.steps.made ≡ c.args.limit) ⊎ IsSome c.steps.core.stop =
-    elim c.steps-test.branch [ else-steps-test w ↦ inl (omega arith) | then-steps-test+then-is_some w ↦ inr cc ] in
+    elim c.steps-test.branch [ else-steps-test w ↦ inl (omega arith) | then-steps-test+then-has_stopped w ↦ inr cc ] in
     ends_so _ _ _ _ (cc) (all_made _ _ _ _ c.steps.invariant.few c.steps.invariant.core ends)
 
 pub returns-in-Err-put_all-clause-cut : goal.returns-in-Err-put_all-clause-cut
 returns-in-Err-put_all-clause-cut g c =
     let ends : (c.steps.made ≡ c.args.limit) ⊎ IsSome c.steps.core.stop =
-    elim c.steps-test.branch [ else-steps-test w ↦ inl (omega arith) | then-steps-test+then-is_some w ↦ inr cc ] in
+    elim c.steps-test.branch [ else-steps-test w ↦ inl (omega arith) | then-steps-test+then-has_stopped w ↦ inr cc ] in
     let text = c.as_slice.ensures ∙ c.end_of_run-page.ensures in
     cut_in_end g.V.View.SELECTION (g.W.Out.writing c.args.out.now) (g.W.Out.writing c.steps.out)
     (g.W.Out.writing c.put_all.new.self) _ _ _ _ _ _ c.steps.invariant.few c.steps.invariant.made
