@@ -1,5 +1,5 @@
 -- A character as a message has it.
-use Rattle.std.specs.Prelude.{ℕ, ◌+◌, ◌/◌, ◌%◌, Bool, ◌&&◌, nat_lt, nat_le, if◌then◌else◌, List, [], ◌∷◌, ◌++◌}
+use Rattle.std.specs.Prelude.{ℕ, ◌+◌, ◌/◌, ◌%◌, Bool, ◌&&◌, ◌||◌, nat_lt, nat_le, if◌then◌else◌, List, [], ◌∷◌, ◌++◌}
 use Rattle.std.specs.Prelude.{codes, encode_utf8}
 use Rattle.std.specs.List.{list_any}
 use Rattle.messages.specs.declared.visible.Range.{Range}
@@ -21,8 +21,13 @@ hidden =
     ∷ range 0x2060 0x206F ∷ range 0x3164 0x3164 ∷ range 0xFE00 0xFE0F ∷ range 0xFEFF 0xFEFF ∷ range 0xFFA0 0xFFA0
     ∷ range 0xFFF0 0xFFFB ∷ range 0x1BCA0 0x1BCA3 ∷ range 0x1D173 0x1D17A ∷ range 0xE0000 0xE0FFF ∷ []
 
+-- the noncharacters of Unicode (23.7), which no text has: U+FDD0 to U+FDEF, and the last two codes of each plane
+abbrev pub is_noncharacter : ℕ → Bool
+is_noncharacter c = is_in c (range 0xFDD0 0xFDEF) || nat_le 0xFFFE (c % 0x1_0000)
+
+-- a character that a message escapes
 unfoldable pub is_hidden : ℕ → Bool
-is_hidden c = list_any (is_in c) hidden
+is_hidden c = list_any (is_in c) hidden || is_noncharacter c
 
 -- the digit of a number below 16
 abbrev pub hex_digit : ℕ → ℕ

@@ -7,7 +7,7 @@ use std::io::Write;
 use std::test::*;
 
 /// A name, a string, and what `Escaped` and `Quoted` have of it. Escapes are those of TOML 1.1.
-const STRINGS: [(&str, &str, &str, &str); 16] = [
+const STRINGS: [(&str, &str, &str, &str); 18] = [
     ("nothing", "", "", "\"\""),
     ("a path", "a/b c.elf", "a/b c.elf", "\"a/b c.elf\""),
     ("letters of two to four bytes", "é€😀", "é€😀", "\"é€😀\""),
@@ -49,6 +49,13 @@ const STRINGS: [(&str, &str, &str, &str); 16] = [
         "\"a\\u200Bb\"",
     ),
     ("a tag", "\u{E0041}", "\\U000E0041", "\"\\U000E0041\""),
+    ("a noncharacter", "\u{FDD0}", "\\uFDD0", "\"\\uFDD0\""),
+    (
+        "a noncharacter at the end of a plane",
+        "\u{1FFFF}",
+        "\\U0001FFFF",
+        "\"\\U0001FFFF\"",
+    ),
 ];
 
 #[test]
@@ -91,12 +98,14 @@ fn long_strings_are_cut_at_a_character(rt: HostRuntime) -> Result<(), Fail> {
 }
 
 #[test]
-fn what_unicode_hides_is_escaped(rt: HostRuntime) -> Result<(), Fail> {
+fn what_unicode_hides_or_keeps_out_is_escaped(rt: HostRuntime) -> Result<(), Fail> {
     'codes: for code in 0..0x11_0000u32 {
         if let Some(character) = char::from_u32(code) {
             let is_mark =
                 matches!(code, 0..=0x1F | 0x7F..=0x9F | 0x2028 | 0x2029 | 0xFFF9..=0xFFFB);
-            let expected = is_mark || ucd_derived::is_default_ignorable_code_point(character);
+            let is_ignorable = ucd_derived::is_default_ignorable_code_point(character);
+            let is_nonchar = ucd_props::is_noncharacter_code_point(character);
+            let expected = is_mark || is_ignorable || is_nonchar;
             assert_eq!(rt; is_hidden(character), expected, "U+{code:04X}");
         }
     }

@@ -2,8 +2,8 @@
 
 ghost use Rattle.std.specs.Prelude.{◌≡◌, ◌+◌, ◌<◌, ◌≤◌, ◌++◌, length};
 ghost use Rattle.std.specs.List.{list_any};
-ghost use Rattle.messages.specs.Visible.{is_hidden, is_in, hex_digit, hex_byte, short_escape, long_escape, escape};
-ghost use Rattle.messages.specs.Visible.{visible};
+ghost use Rattle.messages.specs.Visible.{is_hidden, is_in, is_noncharacter, hex_digit, hex_byte, short_escape};
+ghost use Rattle.messages.specs.Visible.{escape, long_escape, visible};
 
 use arrayvec::ArrayString;
 
@@ -97,7 +97,7 @@ const HIDDEN: [Range; 19] = [
 /// A character, or the escape that a message has in its place.
 pub type Visible = ArrayString<10>;
 
-/// Returns a character as a message has it: itself, or its escape where a display hides it.
+/// Returns a character as a message has it: itself, or its escape where a display hides it or no text has it.
 pub fn visible(character: char) -> Visible
     ensures { result.bytes ≡ visible character }
 {
@@ -110,12 +110,25 @@ pub fn visible(character: char) -> Visible
     text
 }
 
-/// Returns whether a display hides a character, or acts on it.
+/// The noncharacters that aren't at the end of a plane.
+const NONCHARACTERS: Range = Range {
+    first: '\u{FDD0}',
+    last: '\u{FDEF}',
+};
+
+/// Returns whether a message escapes a character: a display hides it or acts on it, or it is a noncharacter.
 #[tactic(auto, unfolding(crate::specs::Visible::is_hidden))]
 pub fn is_hidden(character: char) -> bool
     ensures { result ≡ is_hidden character }
 {
-    is_in_one(character, &HIDDEN)
+    is_in_one(character, &HIDDEN) || is_noncharacter(character)
+}
+
+/// Returns whether a character is a noncharacter of Unicode.
+fn is_noncharacter(character: char) -> bool
+    ensures { result ≡ is_noncharacter character }
+{
+    is_in(character, &NONCHARACTERS) || u32::from(character) % 0x1_0000 >= 0xFFFE
 }
 
 /// Returns whether a character is in one of these ranges.

@@ -24,6 +24,16 @@ pub fn is_refused(cells: &Cells, cell: usize) -> bool {
     is_touched(cells, false, Touch::Refused, cell) || is_touched(cells, true, Touch::Refused, cell)
 }
 
+/// Returns whether something touched a cell.
+pub fn is_used(cells: &Cells, cell: usize) -> bool {
+    'strips: for strip in Strip::ALL {
+        if strip.is_touched(cells, cell) {
+            return true;
+        }
+    }
+    is_refused(cells, cell)
+}
+
 /// A strip of a cell: a privilege, and a way to touch.
 #[derive(Clone, Copy)]
 pub enum Strip {

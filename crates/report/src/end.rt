@@ -1,9 +1,9 @@
 //! At the end: the registers, the regions, the fault status, and the exceptions of the machine.
 
-use crate::faults::{CFSR_BITS, FaultBit, HFSR_BITS};
+use crate::fault_bits::{CFSR_BITS, FaultBit, HFSR_BITS};
 use crate::names::Place;
 use crate::numbers::Thousands;
-use crate::page::{Report, write_part};
+use crate::page::{Part, Report, write_part};
 use crate::regions::write_words;
 use crate::settings::RegionWords;
 use crate::words::{ExceptionName, RuleWord};
@@ -21,7 +21,7 @@ the MPU and the bits of the fault status registers in words.";
 
 /// Writes the part.
 pub fn write_end<W: Write>(out: &mut W, report: &Report<'_>) -> io::Result<()> {
-    write_part(out, "end", "At the end", CAPTION)?;
+    write_part(out, Part::End, CAPTION)?;
     write_registers(out, &report.machine.regs(), report.symbols)?;
     write_regions(out, report.machine, report.symbols)?;
     write_faults(out, report)?;
@@ -54,13 +54,16 @@ fn write_registers<W: Write>(
     writeln!(out, "</dl>")
 }
 
-/// Writes a register that has an address.
+/// Writes a register that has an address, with the name of the address unless it is 0.
 fn write_address<W: Write>(
     out: &mut W,
     name: &str,
     address: u32,
     symbols: &Symbols<'_>,
 ) -> io::Result<()> {
+    if address == 0 {
+        return write_value(out, name, address);
+    }
     let place = Place { address, symbols };
     writeln!(
         out,
@@ -145,6 +148,28 @@ fn write_regions<W: Write>(out: &mut W, machine: &Fast, symbols: &Symbols<'_>) -
         | Rule::Background
         | Rule::NoRegion => {}
     }
+    if regions_on(machine) > 0 {
+        write_table(out, machine, symbols)?;
+    }
+    write!(out, "<p id='regions-off'>Off: ")?;
+    write_off(out, machine)?;
+    writeln!(out, ".</p>")
+}
+
+/// Returns how many regions are enabled.
+fn regions_on(machine: &Fast) -> u8 {
+    let mut count = 0u8;
+    'regions: for number in 0..MOST_REGIONS {
+        if let Some((base, attributes)) = machine.region(number) {
+            let words = RegionWords { base, attributes };
+            count = count.saturating_add(u8::from(words.is_enabled()));
+        }
+    }
+    count
+}
+
+/// Writes the table of the regions that are enabled.
+fn write_table<W: Write>(out: &mut W, machine: &Fast, symbols: &Symbols<'_>) -> io::Result<()> {
     writeln!(
         out,
         "<div class='scroll'><table class='cards'><thead><tr><th scope='col'>region</th><th scope='col'>addresses</th>\
@@ -155,9 +180,7 @@ fn write_regions<W: Write>(out: &mut W, machine: &Fast, symbols: &Symbols<'_>) -
     'regions: for number in 0..MOST_REGIONS {
         write_region(out, number, machine.region(number), symbols)?;
     }
-    write!(out, "</tbody></table></div>\n<p id='regions-off'>Off: ")?;
-    write_off(out, machine)?;
-    writeln!(out, ".</p>")
+    writeln!(out, "</tbody></table></div>")
 }
 
 /// Writes the row of a region, if there is one and it is enabled.

@@ -1,7 +1,7 @@
 //! Texts from outside, as the page has them.
 
 use messages::visible::visible;
-use std::fmt;
+use std::{fmt, str};
 
 /// How many characters of a text are shown at most.
 const MOST_CHARACTERS: usize = 96;
@@ -35,17 +35,58 @@ fn write_character<W: fmt::Write>(f: &mut fmt::Formatter<W>, character: char) ->
     }
 }
 
-/// A byte of the console: printable ASCII and the line feed as they are, and others as `\x` and two digits.
+/// A character of the console: printable ones, the tab and the line feed as they are, other controls of ASCII as
+/// `\x` and two digits, and what else a display hides or acts on as `\u202E`.
 #[derive(Clone, Copy)]
-pub struct ConsoleByte(pub u8);
+struct ConsoleCharacter(char);
 
-impl fmt::Display for ConsoleByte {
+impl fmt::Display for ConsoleCharacter {
     fn fmt<W: fmt::Write>(&self, f: &mut fmt::Formatter<W>) -> fmt::Result {
-        let byte = self.0;
-        match byte {
-            b'\n' => write!(f, "\n"),
-            b' '..=b'~' => write_character(f, byte as char),
-            _ => write!(f, "\\x{byte:02X}"),
+        match self.0 {
+            '\t' => write!(f, "\t"),
+            '\n' => write!(f, "\n"),
+            '\0'..='\x1F' | '\x7F' => {
+                let byte = self.0 as u32;
+                write!(f, "\\x{byte:02X}")
+            }
+            character => write_character(f, character),
         }
     }
+}
+
+/// Bytes of the console as UTF-8: its characters, and a byte that is no part of one as `\x` and two digits.
+#[derive(Clone, Copy)]
+pub struct ConsoleText<'a>(pub &'a [u8]);
+
+impl fmt::Display for ConsoleText<'_> {
+    fn fmt<W: fmt::Write>(&self, f: &mut fmt::Formatter<W>) -> fmt::Result {
+        let mut next = 0usize;
+        'bytes: for (place, byte) in self.0.iter().enumerate() {
+            if place < next {
+                continue;
+            }
+            match character_at(self.0, place) {
+                None => write!(f, "\\x{byte:02X}")?,
+                Some(character) => {
+                    next = place.saturating_add(character.len_utf8());
+                    let shown = ConsoleCharacter(character);
+                    write!(f, "{shown}")?;
+                }
+            }
+        }
+        Ok(())
+    }
+}
+
+/// Returns the character of UTF-8 that begins at a place, if one does.
+fn character_at(bytes: &[u8], place: usize) -> Option<char> {
+    'lengths: for length in 1..=4usize {
+        let end = place.saturating_add(length);
+        if let Some(part) = bytes.get(place..end) {
+            if let Ok(text) = str::from_utf8(part) {
+                return text.chars().next();
+            }
+        }
+    }
+    None
 }

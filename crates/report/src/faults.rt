@@ -1,189 +1,148 @@
-//! The bits of the fault status registers (ARM DDI 0403 B3.2.15 and B3.2.16).
+//! Faults: the instruction that faulted, what was refused and by which rule, and what was recorded.
 
-use platform::fault_status::{
-    BFARVALID, DACCVIOL, DIVBYZERO, FORCED, IACCVIOL, IBUSERR, INVPC, INVSTATE, MMARVALID, MSTKERR,
-    MUNSTKERR, NOCP, PRECISERR, STKERR, UNALIGNED, UNDEFINSTR, UNSTKERR, VECTTBL,
-};
-use std::fmt;
+use crate::fault_bits::FaultNames;
+use crate::names::Place;
+use crate::numbers::Thousands;
+use crate::page::{Part, Report, write_part};
+use crate::rules::{outcome_sign, refused};
+use crate::words::{AccessWords, ExceptionName, RefusedBy, RuleWord};
+use platform::access::{Cause, DecidedAccess};
+use platform::event::RecordedFault;
+use std::io;
+use std::io::Write;
+use survey::Fault;
+use symbols::Symbols;
 
-/// The bits that this machine never sets: of lazy stacking, of imprecise bus errors, and of debug events.
-const MLSPERR: u32 = 1 << 5;
+const CAPTION: &str =
+    "Each row is a fault: the instruction that was executed, the access that was refused and by \
+what, if one was, the bits of CFSR and HFSR after it (they stay set until the program clears them), and the \
+exception that became pending for it. A fault that came again at once is one row, with how often it came.";
 
-const IMPRECISERR: u32 = 1 << 10;
-
-const LSPERR: u32 = 1 << 13;
-
-const DEBUGEVT: u32 = 1 << 31;
-
-/// A bit of a fault status register.
-#[derive(Clone, Copy)]
-pub struct FaultBit {
-    /// The value of a register in which it alone is set.
-    pub mask: u32,
-    pub name: &'static str,
-    pub meaning: &'static str,
+/// Writes the part.
+pub fn write_faults<W: Write>(out: &mut W, report: &Report<'_>) -> io::Result<()> {
+    let faults = &report.survey.faults;
+    let number = faults.number();
+    write_part(out, Part::Faults, CAPTION)?;
+    writeln!(
+        out,
+        "<div class='scroll'><table class='cards'><thead><tr>\
+         <th class='n' scope='col'>tick</th><th scope='col'>instruction</th>\
+         <th scope='col'>access</th><th scope='col'>refused by</th>\
+         <th scope='col'>fault</th><th scope='col'>taken as</th>\
+         <th class='n' scope='col'>times</th></tr></thead>\n<tbody>"
+    )?;
+    let mut shown = 0u64;
+    'rows: for (place, fault) in faults.rows().iter().enumerate() {
+        write_row(out, place, fault, report.symbols)?;
+        shown = shown.saturating_add(fault.times);
+    }
+    writeln!(out, "</tbody></table></div>")?;
+    write_number(out, report, number.saturating_sub(shown))?;
+    writeln!(out, "</section>")
 }
 
-impl FaultBit {
-    /// Returns whether the bit is set in a value of its register.
-    pub fn is_set(&self, value: u32) -> bool {
-        value & self.mask != 0
+/// Writes how many faults there are, how many are in no row, and how many accesses were refused.
+fn write_number<W: Write>(out: &mut W, report: &Report<'_>, others: u64) -> io::Result<()> {
+    let counts = &report.survey.counts;
+    let number = report.survey.faults.number();
+    let all = Thousands(number);
+    let mpu = Thousands(refused(counts, Cause::Mpu));
+    let bus = Thousands(refused(counts, Cause::Bus));
+    write!(out, "<p>Faults in all: {all}.")?;
+    if others > 0 {
+        let rest = Thousands(others);
+        write!(out, " {rest} of them have no row here.")?;
+    }
+    writeln!(
+        out,
+        " Accesses refused: {mpu} by the MPU and {bus} by the bus.</p>"
+    )
+}
+
+/// Writes the row of a fault.
+fn write_row<W: Write>(
+    out: &mut W,
+    place: usize,
+    fault: &Fault,
+    symbols: &Symbols<'_>,
+) -> io::Result<()> {
+    let number = fault.tick;
+    let tick = Thousands(number);
+    let address = fault.pc;
+    let instruction = Place { address, symbols };
+    write!(
+        out,
+        "<tr id='fault-{place}' data-tick='{number}' data-pc='{address:08X}'>\
+         <th class='n' scope='row'>{tick}</th><td data-label='instruction'>{instruction}</td>"
+    )?;
+    write_refused(out, &fault.refused, symbols)?;
+    write_record(out, &fault.recorded)?;
+    let times = fault.times;
+    let shown = Thousands(times);
+    writeln!(
+        out,
+        "<td class='n' data-label='times' data-number='{times}'>{shown}</td></tr>"
+    )
+}
+
+/// Writes the cells of the access that was refused, if there is one, and of what refused it.
+fn write_refused<W: Write>(
+    out: &mut W,
+    refused: &Option<DecidedAccess>,
+    symbols: &Symbols<'_>,
+) -> io::Result<()> {
+    let Some(decided) = refused else {
+        return write!(
+            out,
+            "<td class='zero' data-label='access'>none</td><td class='zero' data-label='refused by'></td>"
+        );
+    };
+    let access = AccessWords(decided.access);
+    let address = Place {
+        address: decided.access.address,
+        symbols,
+    };
+    write!(out, "<td data-label='access'>{access} {address}</td>")?;
+    write_cause(out, decided)
+}
+
+/// Writes the cell of what refused an access.
+fn write_cause<W: Write>(out: &mut W, decided: &DecidedAccess) -> io::Result<()> {
+    let word = RuleWord(decided.rule);
+    let meaning = RefusedBy(decided);
+    let (class, sign) = match decided.refused {
+        None => ("", ""),
+        Some(cause) => outcome_sign(cause),
+    };
+    let by = decided.refused.map_or("", by_word);
+    write!(
+        out,
+        "<td data-label='refused by'><strong class='{class}'>{sign} {by}</strong> \
+         <code>{word}</code> <small>{meaning}</small></td>"
+    )
+}
+
+/// Returns the word for what refused an access.
+fn by_word(cause: Cause) -> &'static str {
+    match cause {
+        Cause::Mpu => "MPU",
+        Cause::Bus => "bus",
     }
 }
 
-/// The bits of CFSR, the Configurable Fault Status Register.
-pub const CFSR_BITS: [FaultBit; 19] = [
-    FaultBit {
-        mask: IACCVIOL,
-        name: "IACCVIOL",
-        meaning: "the MPU or the default map refused a fetch",
-    },
-    FaultBit {
-        mask: DACCVIOL,
-        name: "DACCVIOL",
-        meaning: "the MPU refused a load or a store",
-    },
-    FaultBit {
-        mask: MUNSTKERR,
-        name: "MUNSTKERR",
-        meaning: "the MPU refused a pop of exception return",
-    },
-    FaultBit {
-        mask: MSTKERR,
-        name: "MSTKERR",
-        meaning: "the MPU refused a push of exception entry",
-    },
-    FaultBit {
-        mask: MLSPERR,
-        name: "MLSPERR",
-        meaning: "the MPU refused lazy stacking of floating-point state",
-    },
-    FaultBit {
-        mask: MMARVALID,
-        name: "MMARVALID",
-        meaning: "MMFAR has the address",
-    },
-    FaultBit {
-        mask: IBUSERR,
-        name: "IBUSERR",
-        meaning: "bus error at a fetch",
-    },
-    FaultBit {
-        mask: PRECISERR,
-        name: "PRECISERR",
-        meaning: "bus error at a load or a store, precise",
-    },
-    FaultBit {
-        mask: IMPRECISERR,
-        name: "IMPRECISERR",
-        meaning: "bus error at a load or a store, imprecise",
-    },
-    FaultBit {
-        mask: UNSTKERR,
-        name: "UNSTKERR",
-        meaning: "bus error at a pop of exception return",
-    },
-    FaultBit {
-        mask: STKERR,
-        name: "STKERR",
-        meaning: "bus error at a push of exception entry",
-    },
-    FaultBit {
-        mask: LSPERR,
-        name: "LSPERR",
-        meaning: "bus error at lazy stacking of floating-point state",
-    },
-    FaultBit {
-        mask: BFARVALID,
-        name: "BFARVALID",
-        meaning: "BFAR has the address",
-    },
-    FaultBit {
-        mask: UNDEFINSTR,
-        name: "UNDEFINSTR",
-        meaning: "undefined instruction",
-    },
-    FaultBit {
-        mask: INVSTATE,
-        name: "INVSTATE",
-        meaning: "EPSR.T is 0, or the IT state is wrong",
-    },
-    FaultBit {
-        mask: INVPC,
-        name: "INVPC",
-        meaning: "wrong EXC_RETURN, or a return that isn't possible",
-    },
-    FaultBit {
-        mask: NOCP,
-        name: "NOCP",
-        meaning: "coprocessor that is absent or not enabled",
-    },
-    FaultBit {
-        mask: UNALIGNED,
-        name: "UNALIGNED",
-        meaning: "unaligned access",
-    },
-    FaultBit {
-        mask: DIVBYZERO,
-        name: "DIVBYZERO",
-        meaning: "division by zero",
-    },
-];
-
-/// The bits of HFSR, the HardFault Status Register.
-pub const HFSR_BITS: [FaultBit; 3] = [
-    FaultBit {
-        mask: VECTTBL,
-        name: "VECTTBL",
-        meaning: "bus error at a vector read",
-    },
-    FaultBit {
-        mask: FORCED,
-        name: "FORCED",
-        meaning: "escalated from a fault that couldn't be taken",
-    },
-    FaultBit {
-        mask: DEBUGEVT,
-        name: "DEBUGEVT",
-        meaning: "debug event",
-    },
-];
-
-/// CFSR and HFSR.
-#[derive(Clone, Copy)]
-pub struct FaultNames {
-    pub cfsr: u32,
-    pub hfsr: u32,
-}
-
-impl fmt::Display for FaultNames {
-    /// Writes the names of the bits that are set, `none` where none is.
-    fn fmt<W: fmt::Write>(&self, f: &mut fmt::Formatter<W>) -> fmt::Result {
-        let separator = write_names(f, "", self.cfsr, &CFSR_BITS)?;
-        let separator = write_names(f, separator, self.hfsr, &HFSR_BITS)?;
-        if separator.is_empty() {
-            write!(f, "none")
-        } else {
-            Ok(())
-        }
+/// Writes the cells of what was recorded, and of the exception that became pending for it.
+fn write_record<W: Write>(out: &mut W, recorded: &RecordedFault) -> io::Result<()> {
+    let cfsr = recorded.cfsr;
+    let hfsr = recorded.hfsr;
+    let names = FaultNames { cfsr, hfsr };
+    write!(
+        out,
+        "<td data-label='fault' data-cfsr='{cfsr:08X}' data-hfsr='{hfsr:08X}'>{names}</td>"
+    )?;
+    if recorded.exception == 0 {
+        write!(out, "<td data-label='taken as'>lockup</td>")
+    } else {
+        let name = ExceptionName(recorded.exception);
+        write!(out, "<td data-label='taken as'>{name}</td>")
     }
-}
-
-/// Writes the names of the bits that are set in a value, the first after a separator. Returns the separator of
-/// the next name.
-fn write_names<W: fmt::Write>(
-    f: &mut fmt::Formatter<W>,
-    separator: &'static str,
-    value: u32,
-    bits: &[FaultBit],
-) -> Result<&'static str, fmt::Error> {
-    let mut separator = separator;
-    'bits: for bit in bits {
-        if bit.is_set(value) {
-            let name = bit.name;
-            write!(f, "{separator}{name}")?;
-            separator = " ";
-        }
-    }
-    Ok(separator)
 }

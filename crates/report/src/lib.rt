@@ -2,9 +2,11 @@
 #![tactic(auto)]
 
 mod cells;
+mod code;
 mod console;
 mod end;
 mod escape;
+mod fault_bits;
 mod faults;
 mod grid;
 mod html_page;
@@ -13,12 +15,14 @@ mod names;
 mod numbers;
 mod page;
 mod permissions;
-mod refusals;
+mod ranking;
 mod regions;
+mod rows;
 mod rules;
 mod settings;
 mod style;
 mod timeline;
+mod totals;
 mod words;
 
 pub use html_page::HtmlPage;

@@ -3,7 +3,8 @@
 use crate::cells::{CELLS_OF_ROW, CellState, CellWords, Strip, cells_in, is_refused, state_of};
 use crate::grid::{Area, write_area};
 use crate::numbers::ByteCount;
-use crate::page::{Report, write_part};
+use crate::page::{Part, Report, write_part};
+use crate::rows::Rows;
 use machine::Fast;
 use std::io;
 use std::io::Write;
@@ -14,17 +15,28 @@ const CAPTION: &str =
 <span class='u'>unprivileged</span> code read, wrote, executed, and <span class='p'>privileged</span> code \
 read, wrote, executed. A faint strip is what the MPU would grant to unprivileged code at the end of the run, and \
 a full one is what was done. An outline is round each cell in which an access was \
-<span class='refused'>✕ refused</span>. Addresses outside of flash and RAM have no cell.";
-
-/// How high a row of cells is, in units of the drawing.
-const ROW_HEIGHT: usize = 30;
+<span class='refused'>✕ refused</span>. Rows that nothing touched are folded: ⋮ says how many. Addresses outside \
+of flash and RAM have no cell.";
 
 /// How high the part of a row is that has strips.
 const STRIPS_HEIGHT: usize = 26;
 
+/// A part of each row: where it begins in its row, and how high it is.
+#[derive(Clone, Copy)]
+struct Band {
+    top: usize,
+    height: usize,
+}
+
+/// The part of a row that has strips.
+const GROUND: Band = Band {
+    top: 0,
+    height: STRIPS_HEIGHT,
+};
+
 /// Writes the part.
 pub fn write_memory<W: Write>(out: &mut W, report: &Report<'_>) -> io::Result<()> {
-    write_part(out, "memory", "Memory", CAPTION)?;
+    write_part(out, Part::Memory, CAPTION)?;
     write_legend(out)?;
     write_cells(out, "flash", &report.survey.flash, report.machine)?;
     write_cells(out, "RAM", &report.survey.ram, report.machine)?;
@@ -66,35 +78,41 @@ fn write_legend<W: Write>(out: &mut W) -> io::Result<()> {
 /// Writes the drawing of a memory, with the addresses of its rows.
 fn write_cells<W: Write>(out: &mut W, name: &str, cells: &Cells, machine: &Fast) -> io::Result<()> {
     let count = cells_in(cells);
-    let rows = count.div_ceil(CELLS_OF_ROW);
+    let rows = Rows::of(cells);
     let size = ByteCount(u64::from(cells.cell_bytes()));
-    let height = rows * ROW_HEIGHT;
+    let height = rows.top(rows.count);
     write!(
         out,
         "<h3>{name}, {size} a cell</h3>\n<div class='cells' id='cells-{name}' data-cells='{count}'>\
          <div class='addresses'>"
     )?;
-    write_addresses(out, cells, rows)?;
+    write_addresses(out, cells, &rows)?;
     writeln!(
         out,
         "</div>\n<svg viewBox='0 0 {CELLS_OF_ROW} {height}' height='{height}' preserveAspectRatio='none' \
          role='img' aria-label='{name}'>"
     )?;
-    write_ground(out, count)?;
+    write_ground(out, &rows, count)?;
     'strips: for strip in Strip::ALL {
-        write_granted(out, cells, machine, count, strip)?;
-        write_touched(out, cells, count, strip)?;
+        write_granted(out, cells, &rows, machine, strip)?;
+        write_touched(out, cells, &rows, strip)?;
     }
-    write_refused(out, cells, count)?;
-    write_states(out, cells, machine, count)?;
+    write_refused(out, cells, &rows)?;
+    write_states(out, cells, &rows, machine)?;
     writeln!(out, "</svg></div>")
 }
 
-/// Writes the address at which each row begins.
-fn write_addresses<W: Write>(out: &mut W, cells: &Cells, rows: usize) -> io::Result<()> {
-    'rows: for row in 0..rows {
-        let address = address_of(cells, row.saturating_mul(CELLS_OF_ROW));
-        write!(out, "<code>{address:08X}</code>")?;
+/// Writes the address at which each row begins that is drawn, and how many rows are folded.
+fn write_addresses<W: Write>(out: &mut W, cells: &Cells, rows: &Rows) -> io::Result<()> {
+    'rows: for row in 0..rows.count {
+        if rows.is_drawn(row) {
+            let address = address_of(cells, row.saturating_mul(CELLS_OF_ROW));
+            write!(out, "<code>{address:08X}</code>")?;
+        } else if rows.begins_fold(row) {
+            let folded = rows.folded_from(row);
+            let word = if folded == 1 { "row" } else { "rows" };
+            write!(out, "<code class='fold'>⋮ {folded} {word}</code>")?;
+        }
     }
     Ok(())
 }
@@ -106,14 +124,14 @@ fn address_of(cells: &Cells, cell: usize) -> u32 {
     base.wrapping_add(cells.cell_bytes().wrapping_mul(cell))
 }
 
-/// Writes the ground of each row.
-fn write_ground<W: Write>(out: &mut W, count: usize) -> io::Result<()> {
+/// Writes the ground of each row that is drawn.
+fn write_ground<W: Write>(out: &mut W, rows: &Rows, count: usize) -> io::Result<()> {
     write!(out, "<path class='ground' d='")?;
     let mut begin = None;
     'cells: for cell in 0..count {
-        begin = write_step(out, begin, cell, true, 0, STRIPS_HEIGHT)?;
+        begin = write_step(out, rows, begin, cell, true, GROUND)?;
     }
-    write_rest(out, begin, count, 0, STRIPS_HEIGHT)?;
+    write_rest(out, rows, begin, count, GROUND)?;
     writeln!(out, "'/>")
 }
 
@@ -121,8 +139,8 @@ fn write_ground<W: Write>(out: &mut W, count: usize) -> io::Result<()> {
 fn write_granted<W: Write>(
     out: &mut W,
     cells: &Cells,
+    rows: &Rows,
     machine: &Fast,
-    count: usize,
     strip: Strip,
 ) -> io::Result<()> {
     if !strip.is_of_unprivileged() {
@@ -130,11 +148,12 @@ fn write_granted<W: Write>(
     }
     write!(out, "<path class='may' d='")?;
     let mut begin = None;
+    let count = cells_in(cells);
     'cells: for cell in 0..count {
         let granted = strip.is_granted(machine, address_of(cells, cell));
-        begin = write_step(out, begin, cell, granted, strip.top(), Strip::HEIGHT)?;
+        begin = write_step(out, rows, begin, cell, granted, band_of(strip))?;
     }
-    write_rest(out, begin, count, strip.top(), Strip::HEIGHT)?;
+    write_rest(out, rows, begin, count, band_of(strip))?;
     writeln!(out, "'/>")
 }
 
@@ -142,69 +161,79 @@ fn write_granted<W: Write>(
 fn write_touched<W: Write>(
     out: &mut W,
     cells: &Cells,
-    count: usize,
+    rows: &Rows,
     strip: Strip,
 ) -> io::Result<()> {
     let class = strip.class();
     write!(out, "<path class='{class}' d='")?;
     let mut begin = None;
+    let count = cells_in(cells);
     'cells: for cell in 0..count {
         let touched = strip.is_touched(cells, cell);
-        begin = write_step(out, begin, cell, touched, strip.top(), Strip::HEIGHT)?;
+        begin = write_step(out, rows, begin, cell, touched, band_of(strip))?;
     }
-    write_rest(out, begin, count, strip.top(), Strip::HEIGHT)?;
+    write_rest(out, rows, begin, count, band_of(strip))?;
     writeln!(out, "'/>")
+}
+
+/// Returns the part of a row that a strip has.
+fn band_of(strip: Strip) -> Band {
+    Band {
+        top: strip.top(),
+        height: Strip::HEIGHT,
+    }
 }
 
 /// Goes on at a cell: writes the run of cells before it where it ends, and returns where the run at the cell
 /// began, if it belongs to one.
 fn write_step<W: Write>(
     out: &mut W,
+    rows: &Rows,
     begin: Option<usize>,
     cell: usize,
     belongs: bool,
-    top: usize,
-    height: usize,
+    band: Band,
 ) -> io::Result<Option<usize>> {
     let is_row_begin = cell % CELLS_OF_ROW == 0;
     if belongs && !is_row_begin {
         return Ok(begin.or(Some(cell)));
     }
-    write_rest(out, begin, cell, top, height)?;
+    write_rest(out, rows, begin, cell, band)?;
     Ok(if belongs { Some(cell) } else { None })
 }
 
-/// Writes the cells of one row from `begin` to the one before `end`, if a run has begun.
+/// Writes the cells of one row from `begin` to the one before `end`, if a run has begun and the row is drawn.
 fn write_rest<W: Write>(
     out: &mut W,
+    rows: &Rows,
     begin: Option<usize>,
     end: usize,
-    top: usize,
-    height: usize,
+    band: Band,
 ) -> io::Result<()> {
-    match begin {
-        None => Ok(()),
-        Some(first) => {
-            let row = (first / CELLS_OF_ROW).saturating_mul(ROW_HEIGHT);
-            write_area(
-                out,
-                Area {
-                    left: first % CELLS_OF_ROW,
-                    top: row.saturating_add(top),
-                    width: end.saturating_sub(first),
-                    height,
-                },
-            )
-        }
+    let Some(first) = begin else {
+        return Ok(());
+    };
+    let row = first / CELLS_OF_ROW;
+    if !rows.is_drawn(row) {
+        return Ok(());
     }
+    write_area(
+        out,
+        Area {
+            left: first % CELLS_OF_ROW,
+            top: rows.top(row).saturating_add(band.top),
+            width: end.saturating_sub(first),
+            height: band.height,
+        },
+    )
 }
 
 /// Writes an outline round each cell in which an access was refused.
-fn write_refused<W: Write>(out: &mut W, cells: &Cells, count: usize) -> io::Result<()> {
+fn write_refused<W: Write>(out: &mut W, cells: &Cells, rows: &Rows) -> io::Result<()> {
     write!(out, "<path class='outline' d='")?;
-    'cells: for cell in 0..count {
+    'cells: for cell in 0..cells_in(cells) {
         if is_refused(cells, cell) {
-            write_rest(out, Some(cell), cell.saturating_add(1), 0, STRIPS_HEIGHT)?;
+            write_rest(out, rows, Some(cell), cell.saturating_add(1), GROUND)?;
         }
     }
     writeln!(out, "'/>")
@@ -214,37 +243,41 @@ fn write_refused<W: Write>(out: &mut W, cells: &Cells, count: usize) -> io::Resu
 fn write_states<W: Write>(
     out: &mut W,
     cells: &Cells,
+    rows: &Rows,
     machine: &Fast,
-    count: usize,
 ) -> io::Result<()> {
+    let count = cells_in(cells);
     let mut begin = 0;
     let mut state = CellState::BLANK;
     'cells: for cell in 0..count {
         let next = state_of(cells, machine, cell, address_of(cells, cell));
         if next != state || cell % CELLS_OF_ROW == 0 {
-            write_state(out, cells, state, begin, cell)?;
+            write_state(out, cells, rows, state, begin, cell)?;
             begin = cell;
             state = next;
         }
     }
-    write_state(out, cells, state, begin, count)
+    write_state(out, cells, rows, state, begin, count)
 }
 
-/// Writes the text of the equal cells from `begin` to the one before `end`, if they are touched or granted.
+/// Writes the text of the equal cells from `begin` to the one before `end`, if they are touched or granted, in a row
+/// that is drawn.
 fn write_state<W: Write>(
     out: &mut W,
     cells: &Cells,
+    rows: &Rows,
     state: CellState,
     begin: usize,
     end: usize,
 ) -> io::Result<()> {
-    if state == CellState::BLANK || begin >= end {
+    let row = begin / CELLS_OF_ROW;
+    if state == CellState::BLANK || begin >= end || !rows.is_drawn(row) {
         return Ok(());
     }
     let first = address_of(cells, begin);
     let last = address_of(cells, end).wrapping_sub(1);
     let left = begin % CELLS_OF_ROW;
-    let top = (begin / CELLS_OF_ROW).saturating_mul(ROW_HEIGHT);
+    let top = rows.top(row);
     let width = end - begin;
     let words = CellWords(state);
     writeln!(

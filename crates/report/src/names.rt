@@ -4,7 +4,7 @@ use crate::escape::Escaped;
 use std::fmt;
 use symbols::Symbols;
 
-/// An address, and the name that it has in the image, if it has one: `task_c + 1C`.
+/// An address, and the name that it has in the image, if it has one: `task_c + 0x1C`.
 #[derive(Clone, Copy)]
 pub struct Place<'a> {
     pub address: u32,
@@ -19,7 +19,11 @@ impl fmt::Display for Place<'_> {
             None => Ok(()),
             Some((name, offset)) => {
                 let name = Escaped(name);
-                write!(f, " <span class='name'>{name} + {offset:X}</span>")
+                write!(f, " <span class='name'>{name}")?;
+                if offset > 0 {
+                    write!(f, " + 0x{offset:X}")?;
+                }
+                write!(f, "</span>")
             }
         }
     }

@@ -1,16 +1,19 @@
 //! The page: its head, its figures, and its parts one after another.
 
+use crate::code::write_code;
 use crate::console::write_console;
 use crate::end::write_end;
 use crate::escape::Escaped;
+use crate::faults::write_faults;
 use crate::memory::write_memory;
 use crate::numbers::Thousands;
-use crate::refusals::write_refusals;
 use crate::regions::write_regions;
-use crate::rules::{accesses, handlers, write_rules};
+use crate::rules::{accesses, handlers, refused, write_rules};
 use crate::style::STYLE;
 use crate::timeline::write_timeline;
+use crate::totals::Totals;
 use machine::{Fast, Stop, stop_line};
+use platform::access::Cause;
 use std::io::Write;
 use std::{io, str};
 use survey::Survey;
@@ -35,26 +38,108 @@ pub struct Report<'a> {
     pub symbols: &'a Symbols<'a>,
 }
 
+/// A part of the page.
+#[derive(Clone, Copy)]
+pub enum Part {
+    Rules,
+    Settings,
+    Faults,
+    Code,
+    Time,
+    Memory,
+    End,
+    Console,
+}
+
+impl Part {
+    /// The parts, in their order.
+    const ALL: [Part; 8] = [
+        Part::Rules,
+        Part::Settings,
+        Part::Faults,
+        Part::Code,
+        Part::Time,
+        Part::Memory,
+        Part::End,
+        Part::Console,
+    ];
+
+    /// Returns its id.
+    fn id(self) -> &'static str {
+        match self {
+            Part::Rules => "rules",
+            Part::Settings => "settings",
+            Part::Faults => "faults",
+            Part::Code => "code",
+            Part::Time => "time",
+            Part::Memory => "memory",
+            Part::End => "end",
+            Part::Console => "console",
+        }
+    }
+
+    /// Returns its heading.
+    fn heading(self) -> &'static str {
+        match self {
+            Part::Rules => "Who touched what",
+            Part::Settings => "Settings of regions",
+            Part::Faults => "Faults",
+            Part::Code => "Where the steps went",
+            Part::Time => "Time",
+            Part::Memory => "Memory",
+            Part::End => "At the end",
+            Part::Console => "Console",
+        }
+    }
+
+    /// Returns whether a report has anything to show in it.
+    fn is_shown(self, report: &Report<'_>) -> bool {
+        let survey = report.survey;
+        match self {
+            Part::Rules => accesses(&survey.counts) > 0,
+            Part::Settings => !survey.settings.rows().is_empty(),
+            Part::Faults => survey.faults.number() > 0,
+            Part::Code => !report.symbols.list.is_empty() && Totals::of_all(survey).sum() > 0,
+            Part::Time => survey.timeline.used() > 0,
+            Part::Memory => true,
+            Part::End => true,
+            Part::Console => survey.console.number() > 0,
+        }
+    }
+
+    /// Writes it.
+    fn write<W: Write>(self, out: &mut W, report: &Report<'_>) -> io::Result<()> {
+        match self {
+            Part::Rules => write_rules(out, report),
+            Part::Settings => write_regions(out, report),
+            Part::Faults => write_faults(out, report),
+            Part::Code => write_code(out, report),
+            Part::Time => write_timeline(out, report),
+            Part::Memory => write_memory(out, report),
+            Part::End => write_end(out, report),
+            Part::Console => write_console(out, report),
+        }
+    }
+}
+
 /// Writes a report as one HTML page, complete in itself. The page has less than 2 MiB for every report. It is
 /// written in small pieces: give a writer that gathers them.
 pub fn write_page<W: Write>(out: &mut W, report: &Report<'_>) -> io::Result<()> {
     write_head(out, report)?;
     write_figures(out, report)?;
-    write_contents(out)?;
-    write_rules(out, report)?;
-    write_regions(out, report)?;
-    write_refusals(out, report)?;
-    write_timeline(out, report)?;
-    write_memory(out, report)?;
-    write_end(out, report)?;
-    write_console(out, report)?;
+    write_contents(out, report)?;
+    'parts: for part in Part::ALL {
+        if part.is_shown(report) {
+            part.write(out, report)?;
+        }
+    }
     writeln!(out, "</main>\n</body>")
 }
 
 /// Writes the head of the page, and its title.
 fn write_head<W: Write>(out: &mut W, report: &Report<'_>) -> io::Result<()> {
-    let image = Escaped(report.image);
-    let board = Escaped(report.board);
+    let image = Escaped(file_name(report.image));
+    let board = Escaped(file_name(report.board));
     writeln!(out, "<html lang='en'>\n<head>")?;
     writeln!(out, "<meta charset='utf-8'>")?;
     writeln!(
@@ -62,7 +147,7 @@ fn write_head<W: Write>(out: &mut W, report: &Report<'_>) -> io::Result<()> {
         "<meta name='viewport' content='width=device-width, initial-scale=1'>"
     )?;
     writeln!(out, "<meta name='color-scheme' content='light dark'>")?;
-    writeln!(out, "<title>{image} on {board}</title>\n<style>")?;
+    writeln!(out, "<title>{image}</title>\n<style>")?;
     out.write_all(STYLE.as_bytes())?;
     writeln!(out, "</style>\n</head>\n<body>\n<main>")?;
     writeln!(
@@ -84,19 +169,25 @@ fn write_figures<W: Write>(out: &mut W, report: &Report<'_>) -> io::Result<()> {
         "<p class='ending'>Ended with <strong id='stop' class='{class}'>{words}</strong>, \
          after {made} of at most <span id='limit'>{limit}</span> steps.</p>\n<dl class='figures'>"
     )?;
-    write_figure(out, "steps", "steps", report.survey.steps)?;
-    write_figure(out, "accesses", "accesses", accesses(&report.survey.counts))?;
+    let survey = report.survey;
+    let counts = &survey.counts;
+    let refused = refused(counts, Cause::Mpu).saturating_add(refused(counts, Cause::Bus));
+    write_figure(out, "steps", survey.steps, "step", "steps")?;
+    write_figure(out, "accesses", accesses(counts), "access", "accesses")?;
     write_figure(
         out,
         "refused",
+        refused,
+        "access refused",
         "accesses refused",
-        report.survey.refusals.number(),
     )?;
+    write_figure(out, "all-faults", survey.faults.number(), "fault", "faults")?;
     write_figure(
         out,
         "handlers",
+        handlers(counts),
+        "handler entered",
         "handlers entered",
-        handlers(&report.survey.counts),
     )?;
     writeln!(out, "</dl>")?;
     write_damage(out, report.symbols)
@@ -114,38 +205,59 @@ fn write_damage<W: Write>(out: &mut W, symbols: &Symbols<'_>) -> io::Result<()> 
     }
 }
 
-/// Writes a figure: its number and what it counts.
-fn write_figure<W: Write>(out: &mut W, id: &str, label: &str, number: u64) -> io::Result<()> {
+/// Writes a figure: its number and what it counts, in the singular or the plural.
+fn write_figure<W: Write>(
+    out: &mut W,
+    id: &str,
+    number: u64,
+    one: &str,
+    many: &str,
+) -> io::Result<()> {
     let shown = Thousands(number);
+    let label = if number == 1 { one } else { many };
     writeln!(
         out,
         "<div><dd id='{id}' data-number='{number}'>{shown}</dd><dt>{label}</dt></div>"
     )
 }
 
+/// Returns the name of a file, without its folder.
+fn file_name(path: &str) -> &str {
+    match path.rsplit_once('/') {
+        Some((_, name)) => name,
+        None => path,
+    }
+}
+
 /// Returns the class of a stop: whether a run should end so.
 fn stop_class(stop: &Stop) -> &'static str {
     match stop {
-        Stop::StepLimit | Stop::Breakpoint(_) => "ended",
-        Stop::Lockup | Stop::Unpredictable(_) | Stop::OutOfProfile(_) | Stop::ResetRequested => {
-            "stopped"
-        }
+        Stop::StepLimit | Stop::Breakpoint(0) => "ended",
+        Stop::Breakpoint(_)
+        | Stop::Lockup
+        | Stop::Unpredictable(_)
+        | Stop::OutOfProfile(_)
+        | Stop::ResetRequested => "stopped",
     }
 }
 
 /// Writes links to the parts.
-fn write_contents<W: Write>(out: &mut W) -> io::Result<()> {
-    writeln!(
-        out,
-        "<nav><a href='#rules'>Who touched what</a> <a href='#settings'>Settings of regions</a> \
-         <a href='#refusals'>Refused accesses</a> <a href='#time'>Time</a> \
-         <a href='#memory'>Memory</a> <a href='#end'>At the end</a> \
-         <a href='#console'>Console</a></nav>"
-    )
+fn write_contents<W: Write>(out: &mut W, report: &Report<'_>) -> io::Result<()> {
+    write!(out, "<nav>")?;
+    'parts: for part in Part::ALL {
+        if part.is_shown(report) {
+            let id = part.id();
+            let heading = part.heading();
+            write!(out, "<a href='#{id}'>{heading}</a> ")?;
+        }
+    }
+    writeln!(out, "</nav>")
 }
 
 /// Writes the beginning of a part: its heading, and a sentence on how to read it.
-pub fn write_part<W: Write>(out: &mut W, id: &str, heading: &str, caption: &str) -> io::Result<()> {
+pub fn write_part<W: Write>(out: &mut W, part: Part, caption: &str) -> io::Result<()> {
+    let id = part.id();
+    let heading = part.heading();
     writeln!(
         out,
         "<section id='{id}'>\n<h2>{heading}</h2>\n<p class='caption'>{caption}</p>"

@@ -2,11 +2,12 @@
 
 use crate::names::Place;
 use crate::numbers::{ByteCount, Thousands};
-use crate::page::{Report, write_part};
+use crate::page::{Part, Report, write_part};
 use crate::rules::{OUTCOMES, write_outcome};
 use crate::settings::{RegionWords, SubregionsOff};
 use crate::words::{KINDS, kind_word, privilege_letter};
 use machine::Kind;
+use platform::mpu::MOST_REGIONS;
 use std::io;
 use std::io::Write;
 use survey::{Setting, Settings};
@@ -14,18 +15,14 @@ use symbols::Symbols;
 
 const CAPTION: &str =
     "Each row is one setting of a region (RBAR and RASR) under which the region decided \
-accesses, in the order in which they first decided, and how many of each kind. A region that was set anew has \
-a row for each setting.";
+accesses, and how many of each kind. A region that was set anew has a row for each setting, in the order in \
+which they first decided.";
 
 /// Writes the part.
 pub fn write_regions<W: Write>(out: &mut W, report: &Report<'_>) -> io::Result<()> {
     let settings = &report.survey.settings;
-    write_part(out, "settings", "Settings of regions", CAPTION)?;
-    if settings.rows().is_empty() {
-        writeln!(out, "<p id='no-settings'>No region decided an access.</p>")?;
-    } else {
-        write_table(out, settings, report.symbols)?;
-    }
+    write_part(out, Part::Settings, CAPTION)?;
+    write_table(out, settings, report.symbols)?;
     writeln!(out, "</section>")
 }
 
@@ -44,8 +41,8 @@ fn write_table<W: Write>(
          <th class='u' scope='col'>unprivileged did</th><th class='p' scope='col'>privileged did</th>\
          </tr></thead>\n<tbody>"
     )?;
-    'settings: for (place, setting) in settings.rows().iter().enumerate() {
-        write_setting(out, place, setting, symbols)?;
+    'regions: for number in 0..MOST_REGIONS {
+        write_region(out, settings, number, symbols)?;
     }
     writeln!(out, "</tbody></table></div>")?;
     let others = settings.others();
@@ -53,9 +50,23 @@ fn write_table<W: Write>(
         let shown = Thousands(others);
         writeln!(
             out,
-            "<p id='other-settings' data-number='{others}'>{shown} accesses were decided by further \
-             settings.</p>"
+            "<p id='other-settings' data-number='{others}'>Accesses that further settings decided: {shown}.</p>"
         )?;
+    }
+    Ok(())
+}
+
+/// Writes the rows of the settings of a region.
+fn write_region<W: Write>(
+    out: &mut W,
+    settings: &Settings,
+    number: u8,
+    symbols: &Symbols<'_>,
+) -> io::Result<()> {
+    'settings: for (place, setting) in settings.rows().iter().enumerate() {
+        if setting.region.number == number {
+            write_setting(out, place, setting, symbols)?;
+        }
     }
     Ok(())
 }

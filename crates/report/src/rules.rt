@@ -1,7 +1,7 @@
 //! Who touched what: a row for each rule, a column for each privilege and kind of access.
 
 use crate::numbers::Thousands;
-use crate::page::{Report, write_part};
+use crate::page::{Part, Report, write_part};
 use crate::words::{
     KINDS, RULE_ROWS, RuleMeaning, RuleWord, cause_word, kind_word, privilege_letter,
     privilege_word, rule_of_row,
@@ -17,7 +17,7 @@ pub const OUTCOMES: [Option<Cause>; 3] = [None, Some(Cause::Mpu), Some(Cause::Bu
 
 const CAPTION: &str =
     "Each row is a rule that decided accesses, under its word in the trace; each number \
-counts accesses of one privilege and kind. <span class='refused'>✕ refused by the MPU</span> and \
+counts accesses of one privilege and kind. A fetch is of one halfword, so a 32-bit instruction makes two. <span class='refused'>✕ refused by the MPU</span> and \
 <span class='bus'>⊘ refused by the bus</span> stand below those that were granted. Columns in which nothing \
 was counted are left out.";
 
@@ -100,7 +100,7 @@ fn of_rule_for(counts: &Counts, rule: Rule, privileged: bool) -> u64 {
 /// Writes the part.
 pub fn write_rules<W: Write>(out: &mut W, report: &Report<'_>) -> io::Result<()> {
     let counts = &report.survey.counts;
-    write_part(out, "rules", "Who touched what", CAPTION)?;
+    write_part(out, Part::Rules, CAPTION)?;
     writeln!(out, "<div class='scroll'><table class='cards numbers'>")?;
     write_heading(out, counts)?;
     writeln!(out, "<tbody>")?;

@@ -56,8 +56,14 @@ thead th.p{color:var(--p)}
 tbody th small{display:block;font-weight:400}
 .zero{color:var(--soft)}
 td div{white-space:nowrap;display:flex;justify-content:space-between;gap:.7rem}
+td .bar{justify-content:flex-start;gap:0}
 td.n{white-space:nowrap}
 .off{color:var(--soft)}
+.code th small{display:inline}
+.code .bars{width:14rem}
+.bar{display:flex;gap:0;height:.8rem;margin-top:.25rem;background:var(--band)}
+.bar i.u{background:var(--ux)}
+.bar i.p{background:var(--px)}
 .lanes{display:block}
 .lane{display:flex;align-items:center;gap:10px;margin:3px 0}
 .lane .label{flex:0 0 10.5rem;font-size:.86rem;color:var(--soft);text-align:right}
@@ -72,14 +78,12 @@ td.n{white-space:nowrap}
 .axis{flex:1 1 0;min-width:0;height:1.2rem;position:relative;font-size:.8rem;color:var(--soft);
 font-variant-numeric:tabular-nums}
 .axis span{position:absolute;transform:translateX(-50%)}
-.axis span:nth-child(1){left:0;transform:none}
-.axis span:nth-child(2){left:25%}
-.axis span:nth-child(3){left:50%}
-.axis span:nth-child(4){left:75%}
-.axis span:nth-child(5){right:0;transform:none}
+.axis .first{left:0;transform:none}
+.axis .last{right:0;transform:none}
 .cells{display:flex;gap:10px}
 .addresses{flex:0 0 auto;color:var(--soft)}
 .addresses code{display:block;height:30px;line-height:26px;font-size:.8rem}
+.addresses .fold{height:18px;line-height:16px}
 .cells svg{flex:1 1 0;min-width:0;display:block}
 .ground{fill:var(--band)}
 .cells rect{fill:transparent}
@@ -112,14 +116,16 @@ main{padding:14px 12px 32px}
 .cards th,.cards td{display:block;border:0;padding:2px 0;text-align:left;white-space:normal}
 .cards td{text-align:right;overflow:hidden}
 .cards td::before{content:attr(data-label);color:var(--soft);float:left;margin-right:1rem}
-.numbers td span,.cards td div{display:inline;margin-left:.8rem}
+.numbers td span,.cards td div{display:inline-block;margin-left:.8rem}
+.cards td .bar{display:flex;margin-left:0}
+.code .bars{width:auto}
 h1{font-size:1.25rem}
 .cards td.zero{display:none}
 .cards td.u,.cards td.p,.cards th.u{background:none}
 .cards td.u::before{color:var(--u)}
 .cards td.p::before{color:var(--p)}
 .lane .label{flex-basis:6.2rem;font-size:.78rem}
-.axis span:nth-child(even){display:none}
+.axis span[style]:nth-child(even){display:none}
 .addresses code{font-size:.7rem}
 }
 @media print{main{max-width:none;padding:0}nav{display:none}.scroll{overflow:visible}th,td{padding:2px 4px}

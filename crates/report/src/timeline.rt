@@ -2,7 +2,7 @@
 
 use crate::grid::{Area, write_area};
 use crate::numbers::Thousands;
-use crate::page::{Report, write_part};
+use crate::page::{Part, Report, write_part};
 use crate::words::ExceptionName;
 use std::io::Write;
 use std::{fmt, io};
@@ -83,18 +83,15 @@ impl fmt::Display for LaneId {
 /// Writes the part.
 pub fn write_timeline<W: Write>(out: &mut W, report: &Report<'_>) -> io::Result<()> {
     let timeline = &report.survey.timeline;
-    write_part(out, "time", "Time", CAPTION)?;
-    if timeline.used() == 0 {
-        return writeln!(out, "<p id='no-steps'>No step was made.</p>\n</section>");
-    }
+    write_part(out, Part::Time, CAPTION)?;
     let ticks = timeline.column_ticks();
     let used = timeline.used();
     writeln!(
         out,
         "<div class='lanes' data-columns='{used}' data-column-ticks='{ticks}'>"
     )?;
-    write_lane(out, timeline, Lane::Unprivileged, Mark::Unprivileged)?;
-    write_lane(out, timeline, Lane::Privileged, Mark::Privileged)?;
+    write_used_lane(out, timeline, Lane::Unprivileged, Mark::Unprivileged)?;
+    write_used_lane(out, timeline, Lane::Privileged, Mark::Privileged)?;
     write_handlers(out, timeline)?;
     write_used_lane(out, timeline, Lane::OtherHandlers, Mark::OtherHandler)?;
     write_used_lane(out, timeline, Lane::Sleep, Mark::Sleep)?;
@@ -226,20 +223,22 @@ fn write_refused_lines<W: Write>(out: &mut W, timeline: &Timeline) -> io::Result
     write!(out, "'/></defs>")
 }
 
-/// Writes the ticks below the lanes.
+/// Writes the ticks below the lanes, and how many a column has.
 fn write_axis<W: Write>(out: &mut W, timeline: &Timeline, last: u64) -> io::Result<()> {
-    let ticks = timeline.column_ticks();
-    let all = (timeline.used() as u64).saturating_mul(ticks);
     write!(
         out,
-        "<div class='lane'><span class='label'>tick</span><div class='axis'><span>1</span>"
+        "<div class='lane'><span class='label'>tick</span><div class='axis'>"
     )?;
-    'quarters: for quarter in 1..4u64 {
-        let tick = Thousands(all / 4 * quarter);
-        write!(out, "<span>{tick}</span>")?;
+    let mut before = None;
+    'quarters: for quarter in 0..=4usize {
+        let column = timeline.used().saturating_sub(1).saturating_mul(quarter) / 4;
+        if before != Some(column) {
+            write_tick(out, timeline, column, last)?;
+        }
+        before = Some(column);
     }
-    let last = Thousands(last);
-    writeln!(out, "<span>{last}</span></div></div>")?;
+    writeln!(out, "</div></div>")?;
+    let ticks = timeline.column_ticks();
     if ticks == 1 {
         writeln!(
             out,
@@ -252,5 +251,29 @@ fn write_axis<W: Write>(out: &mut W, timeline: &Timeline, last: u64) -> io::Resu
             "<p class='scale'>A column of the drawing is {ticks} ticks, and is marked in each lane of \
              which one of them was.</p>"
         )
+    }
+}
+
+/// Writes the first tick of a column below it; of the last column, if it isn't the first too, the last tick.
+fn write_tick<W: Write>(
+    out: &mut W,
+    timeline: &Timeline,
+    column: usize,
+    last: u64,
+) -> io::Result<()> {
+    let used = timeline.used();
+    let before = (column as u64).saturating_mul(timeline.column_ticks());
+    let tick = Thousands(before.saturating_add(1));
+    if column == 0 {
+        write!(out, "<span class='first'>{tick}</span>")
+    } else if column.saturating_add(1) == used {
+        let last = Thousands(last);
+        write!(out, "<span class='last'>{last}</span>")
+    } else {
+        let middle = column.saturating_mul(2).saturating_add(1);
+        let tenths = middle.saturating_mul(500).checked_div(used).unwrap_or(0);
+        let percent = tenths / 10;
+        let tenth = tenths % 10;
+        write!(out, "<span style='left:{percent}.{tenth}%'>{tick}</span>")
     }
 }

@@ -1,7 +1,8 @@
 pub mod Counts
 pub mod Settings
-pub mod Refusals
+pub mod Faults
 pub mod Cells
+pub mod CodeCounts
 pub mod Timeline
 pub mod Console
 pub mod Surveys

@@ -13,9 +13,10 @@ use Rattle.reference.specs.Step.{step}
 use Rattle.survey.specs.declared.moment.Moment.{Moment}
 use Rattle.survey.specs.declared.survey.Survey.{Survey}
 use Rattle.survey.specs.Cells.{with_touch}
+use Rattle.survey.specs.CodeCounts.{with_fetch}
 use Rattle.survey.specs.Console.{with_any_byte}
 use Rattle.survey.specs.Counts.{one_more, with_access}
-use Rattle.survey.specs.Refusals.{with_any_fault, with_decided, with_end}
+use Rattle.survey.specs.Faults.{with_any_fault, with_decided, with_end}
 use Rattle.survey.specs.Settings.{with_decision}
 use Rattle.survey.specs.Timeline.{with_accessed_mark, with_tick}
 
@@ -30,25 +31,27 @@ moment_of s = record {
 }
 
 -- a survey after an access of a step that began at a moment
-abbrev pub with_accessed : Moment → Survey → ℕ → DecidedAccess → Survey
-with_accessed m v tick d = record v {
+abbrev pub with_accessed : Moment → Survey → DecidedAccess → Survey
+with_accessed m v d = record v {
   counts = with_access v.counts d;
   settings = with_decision m.mpu v.settings d;
-  refusals = with_decided m.pc v.refusals tick d;
+  faults = with_decided v.faults d;
   flash = with_touch v.flash d;
   ram = with_touch v.ram d;
+  flash_code = with_fetch m.pc v.flash_code d;
+  ram_code = with_fetch m.pc v.ram_code d;
   timeline = with_accessed_mark v.timeline d;
 }
 
 -- a survey after an event that is no access: a byte that was printed, a fault that was recorded, or neither
-abbrev pub with_other : Survey → Option ℕ → Option RecordedFault → Survey
-with_other v byte fault =
-    record v { console = with_any_byte v.console byte; refusals = with_any_fault v.refusals fault }
+abbrev pub with_other : Moment → Survey → ℕ → Option ℕ → Option RecordedFault → Survey
+with_other m v tick byte fault =
+    record v { console = with_any_byte v.console byte; faults = with_any_fault m.pc v.faults tick fault }
 
 -- a survey after an event, by its access or else its byte or its fault
 abbrev pub with_parts : Moment → Survey → ℕ → Option DecidedAccess → Option ℕ → Option RecordedFault → Survey
-with_parts m v tick None byte fault = with_other v byte fault
-with_parts m v tick (Some d) byte fault = with_accessed m v tick d
+with_parts m v tick None byte fault = with_other m v tick byte fault
+with_parts m v tick (Some d) byte fault = with_accessed m v d
 
 -- a survey after an event of a step that began at a moment
 unfoldable pub with_event : Moment → Survey → ℕ → EventKind → Survey
@@ -65,7 +68,7 @@ with_step_begun m v = record v { timeline = with_tick v.timeline m; steps = one_
 
 -- a survey at the end of a step
 abbrev pub with_step_end : Survey → Survey
-with_step_end v = record v { refusals = with_end v.refusals }
+with_step_end v = record v { faults = with_end v.faults }
 
 -- a survey after the step of a machine that hasn't stopped
 abbrev pub with_made_step : State → Survey → Survey

@@ -1,15 +1,16 @@
 //! What a run did, counted: which accesses there were, by which rule and of which outcome; under which
-//! settings regions decided; what was refused; which memory was touched; what ran when; and what was printed.
+//! settings regions decided; which faults were recorded; which memory was touched; what ran when; and what was printed.
 #![tactic(auto)]
 
 mod cells;
+mod code_counts;
 mod console;
 mod counts;
+mod fault;
+mod faults;
 pub mod laws;
 mod mark;
 mod moment;
-mod refusal;
-mod refusals;
 mod setting;
 mod settings;
 mod survey;
@@ -17,12 +18,13 @@ mod timeline;
 mod touch;
 
 pub use cells::{Cells, MARKS, MOST_CELLS};
+pub use code_counts::CodeCounts;
 pub use console::{Console, MOST_BYTES};
 pub use counts::{COUNTERS, Counts, WAYS};
+pub use fault::Fault;
+pub use faults::{Faults, MOST_ROWS};
 pub use mark::{MOST_LANES, Mark};
 pub use moment::{Moment, writes_system};
-pub use refusal::Refusal;
-pub use refusals::{MOST_ROWS, Refusals};
 pub use setting::{RegionSetting, Setting};
 pub use settings::{MOST_SETTINGS, Settings};
 pub use survey::Survey;

@@ -3,15 +3,17 @@
 ghost use Rattle.std.specs.Prelude.{◌≡◌, IfOk, None, replicate};
 ghost use Rattle.platform.specs.Events.{byte_of, recorded_fault_of};
 ghost use Rattle.survey.specs.Cells.{IsUntouched};
+ghost use Rattle.survey.specs.CodeCounts.{IsUncounted};
 ghost use Rattle.survey.specs.Surveys.{with_accessed, with_event, with_events, with_other, with_step_begun};
 ghost use Rattle.survey.specs.Surveys.{with_step_end};
 ghost use Rattle.survey.specs.Timeline.{HasNoTicks};
 
 use crate::cells::Cells;
+use crate::code_counts::CodeCounts;
 use crate::console::Console;
 use crate::counts::{COUNTERS, Counts};
+use crate::faults::Faults;
 use crate::moment::Moment;
-use crate::refusals::Refusals;
 use crate::settings::Settings;
 use crate::timeline::Timeline;
 use crate::touch::Touch;
@@ -28,12 +30,16 @@ pub struct Survey {
     pub counts: Counts,
     /// The settings under which regions decided accesses.
     pub settings: Settings,
-    /// The accesses that were refused.
-    pub refusals: Refusals,
+    /// The faults that were recorded.
+    pub faults: Faults,
     /// Which cells of flash were touched.
     pub flash: Cells,
     /// Which cells of RAM were touched.
     pub ram: Cells,
+    /// How many instructions were carried out at each halfword of flash.
+    pub flash_code: CodeCounts,
+    /// How many instructions were carried out at each halfword of RAM.
+    pub ram_code: CodeCounts,
     /// What ran when.
     pub timeline: Timeline,
     /// What the firmware printed.
@@ -48,11 +54,14 @@ impl Survey {
         ensures counts { IfOk result (λ survey. survey.counts ≡ replicate COUNTERS 0) }
         ensures settings { IfOk result (λ survey. survey.settings.used ≡ 0) }
         ensures others { IfOk result (λ survey. survey.settings.others ≡ 0) }
-        ensures refusals { IfOk result (λ survey. survey.refusals.used ≡ 0) }
-        ensures refused { IfOk result (λ survey. survey.refusals.number ≡ 0) }
-        ensures current { IfOk result (λ survey. survey.refusals.current ≡ None) }
+        ensures faults { IfOk result (λ survey. survey.faults.used ≡ 0) }
+        ensures recorded { IfOk result (λ survey. survey.faults.number ≡ 0) }
+        ensures refused { IfOk result (λ survey. survey.faults.refused ≡ None) }
         ensures flash { IfOk result (λ survey. IsUntouched layout.now.flash_base layout.now.flash_size survey.flash) }
         ensures ram { IfOk result (λ survey. IsUntouched RAM_BASE layout.now.ram_size survey.ram) }
+        ensures flash_code { IfOk result (λ survey. IsUncounted layout.now.flash_base layout.now.flash_size
+            survey.flash_code) }
+        ensures ram_code { IfOk result (λ survey. IsUncounted RAM_BASE layout.now.ram_size survey.ram_code) }
         ensures timeline { IfOk result (λ survey. HasNoTicks survey.timeline) }
         ensures console { IfOk result (λ survey. survey.console.number ≡ 0) }
         ensures bytes { IfOk result (λ survey. survey.console.used ≡ 0) }
@@ -60,17 +69,21 @@ impl Survey {
     {
         let counts = Counts::new(alloc)?;
         let settings = Settings::new(alloc)?;
-        let refusals = Refusals::new(alloc)?;
+        let faults = Faults::new(alloc)?;
         let flash = Cells::new(alloc, layout.flash_base, layout.flash_size)?;
         let ram = Cells::new(alloc, RAM_BASE, layout.ram_size)?;
+        let flash_code = CodeCounts::new(alloc, layout.flash_base, layout.flash_size)?;
+        let ram_code = CodeCounts::new(alloc, RAM_BASE, layout.ram_size)?;
         let timeline = Timeline::new(alloc)?;
         let console = Console::new(alloc)?;
         Ok(Survey {
             counts,
             settings,
-            refusals,
+            faults,
             flash,
             ram,
+            flash_code,
+            ram_code,
             timeline,
             console,
             steps: 0,
@@ -102,31 +115,34 @@ impl Survey {
         ensures { self.new ≡ with_event moment.now self.old tick what.now }
     {
         match what.access() {
-            Some(decided) => self.take_access(moment, tick, decided),
-            None => self.take_other(what),
+            Some(decided) => self.take_access(moment, decided),
+            None => self.take_other(moment, tick, what),
         }
     }
 
     /// Counts an event that is no access: a byte that was printed, a fault that was recorded, or neither.
     #[inline(always)]
-    fn take_other(&mut self, what: &EventKind)
-        ensures { self.new ≡ with_other self.old (byte_of what.now) (recorded_fault_of what.now) }
+    fn take_other(&mut self, moment: &Moment, tick: u64, what: &EventKind)
+        ensures { self.new ≡ with_other moment.now self.old tick (byte_of what.now) (recorded_fault_of what.now) }
     {
         self.console.take_any_byte(what.byte());
-        self.refusals.take_any_fault(what.recorded_fault());
+        self.faults
+            .take_any_fault(moment.pc, tick, what.recorded_fault());
     }
 
     /// Counts an access of a step that began at a moment.
     #[inline(always)]
-    fn take_access(&mut self, moment: &Moment, tick: u64, decided: &DecidedAccess)
-        ensures { self.new ≡ with_accessed moment.now self.old tick decided.now }
+    fn take_access(&mut self, moment: &Moment, decided: &DecidedAccess)
+        ensures { self.new ≡ with_accessed moment.now self.old decided.now }
     {
         self.counts.count(decided);
         self.settings.take_access(&moment.mpu, decided);
-        self.refusals.take_access(moment.pc, tick, decided);
+        self.faults.take_access(decided);
         let touch = Touch::of(decided.access.kind, decided.refused);
         self.flash.take_touch(decided, touch);
         self.ram.take_touch(decided, touch);
+        self.flash_code.take_access(moment.pc, decided);
+        self.ram_code.take_access(moment.pc, decided);
         self.timeline.take_access(decided);
     }
 
@@ -135,6 +151,6 @@ impl Survey {
     pub fn end_step(&mut self)
         ensures { self.new ≡ with_step_end self.old }
     {
-        self.refusals.end_step();
+        self.faults.end_step();
     }
 }

@@ -6,6 +6,7 @@ use Rattle.trace.specs.Emission.{Emission}
 use Rattle.survey.specs.declared.moment.Moment.{Moment}
 use Rattle.survey.specs.declared.survey.Survey.{Survey}
 use Rattle.survey.specs.Cells.{Cells}
+use Rattle.survey.specs.CodeCounts.{CodeCounts}
 
 abbrev pub no_moment : Moment
 no_moment = record { pc = 0; exception = 0; privileged = false; asleep = false; mpu = fresh 8 }
@@ -13,13 +14,18 @@ no_moment = record { pc = 0; exception = 0; privileged = false; asleep = false; 
 abbrev pub no_cells : Cells
 no_cells = record { base = 0; size = 0; width = 0; marks = [] }
 
+abbrev pub no_code : CodeCounts
+no_code = record { base = 0; halfwords = 0; counters = [] }
+
 abbrev pub no_survey : Survey
 no_survey = record {
   counts = [];
   settings = record { rows = []; used = 0; others = 0 };
-  refusals = record { rows = []; used = 0; number = 0; current = None };
+  faults = record { rows = []; used = 0; number = 0; refused = None };
   flash = no_cells;
   ram = no_cells;
+  flash_code = no_code;
+  ram_code = no_code;
   timeline = record { columns = []; used = 0; column_ticks = 1; filled = 1; handlers = [] };
   console = record { bytes = []; used = 0; number = 0 };
   steps = 0;

@@ -107,6 +107,10 @@ absolute = 0xFFF1
 abbrev pub has_section : ℕ → Bool
 has_section section = not (section == undefined_section) && not (section == absolute)
 
+-- whether a symbol of a type and a size covers addresses: it has a size, or is a function, which may have none (profile)
+abbrev pub has_extent : ℕ → ℕ → Bool
+has_extent type size = (type == function_type) || not (size == 0)
+
 -- the address of a symbol: that of a function without its Thumb bit
 abbrev pub address_of : ℕ → ℕ → ℕ
 address_of type value = if type == function_type then value / 2 * 2 else value
@@ -125,8 +129,8 @@ second_of table strings at = slice_index strings (st_name table at + 1)
 -- whether the symbol at a place of the table names an address
 abbrev pub names_address : List ℕ → List ℕ → ℕ → Bool
 names_address table strings at =
-    ((is_named_type (st_type table at) && has_section (st_shndx table at))
-    && not (first_of table strings at == 0))
+    (((is_named_type (st_type table at) && has_section (st_shndx table at))
+    && has_extent (st_type table at) (st_size table at)) && not (first_of table strings at == 0))
     && not (is_mapping (first_of table strings at) (second_of table strings at))
 
 -- the symbol at a place of the table

@@ -1,8 +1,8 @@
 //! The symbols of a table ("Symbol Table").
 
 ghost use Rattle.std.specs.Prelude.{◌≡◌, ◌+◌, ◌*◌, ◌≤◌, length, slice_index, IfOk, OnOk};
-ghost use Rattle.symbols.specs.Tables.{has_section, is_mapping, names_address, or_symbol, symbol_at, symbols_of};
-ghost use Rattle.symbols.specs.Tables.{address_of};
+ghost use Rattle.symbols.specs.Tables.{address_of, has_extent, has_section, is_mapping, names_address, or_symbol};
+ghost use Rattle.symbols.specs.Tables.{symbol_at, symbols_of};
 
 use crate::number::{halfword, word};
 use crate::places::SYMBOL_SIZE;
@@ -59,6 +59,7 @@ fn names_address(table: &[u8], strings: &[u8], at: usize) -> bool
     let first = byte_at(strings, name);
     table[at + 12] % 16 <= STT_FUNC
         && has_section(halfword(table, at + 14))
+        && has_extent(table[at + 12] % 16, word(table, at + 8))
         && first != 0
         && !is_mapping(first, byte_at(strings, name + 1))
 }
@@ -68,6 +69,13 @@ fn has_section(section: u16) -> bool
     ensures { result ≡ has_section section }
 {
     section != SHN_UNDEF && section != SHN_ABS
+}
+
+// Returns whether a symbol covers addresses, by its type and its size: it has a size, or is a function.
+fn has_extent(kind: u8, size: u32) -> bool
+    ensures { result ≡ has_extent kind size }
+{
+    kind == STT_FUNC || size != 0
 }
 
 // Returns the byte at a place of the string table, 0 where it has none.

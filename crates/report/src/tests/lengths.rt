@@ -38,6 +38,9 @@ const LARGEST_BOARD: Layout = Layout {
     regions: RegionCount::Sixteen,
 };
 
+/// How many symbols have instructions: one more than have rows.
+const SYMBOLS: u32 = 21;
+
 /// How many ticks a column has, so that each lane can be marked in it.
 const COLUMN_TICKS: usize = 32;
 
@@ -137,17 +140,38 @@ impl Filled {
         Ok(())
     }
 
-    /// Takes one refusal more than have rows, each with all bits of CFSR and HFSR.
-    fn take_refusals(&mut self) {
+    /// Takes one fault more than have rows, each with a refused access and all bits of CFSR and HFSR.
+    fn take_faults(&mut self) {
         'rows: for pc in 0..=MOST_ROWS as u32 {
             let decided = self.refused_at(0x2000_0000, false);
-            self.survey.refusals.take_access(pc, u64::MAX, &decided);
-            self.survey.refusals.take_fault(&RecordedFault {
+            let recorded = RecordedFault {
                 exception: 12,
                 cfsr: u32::MAX,
                 hfsr: u32::MAX,
-            });
-            self.survey.refusals.end_step();
+            };
+            self.survey.faults.take_access(&decided);
+            self.survey.faults.take_fault(pc, u64::MAX, &recorded);
+            self.survey.faults.end_step();
+        }
+    }
+
+    /// Takes an instruction of code of both privileges at the address of each symbol.
+    fn take_instructions(&mut self) {
+        'symbols: for symbol in 0..SYMBOLS {
+            let address = symbol.wrapping_mul(2);
+            'privileges: for privileged in [false, true] {
+                let fetched = DecidedAccess {
+                    access: Access {
+                        address,
+                        kind: Kind::Fetch,
+                        privileged,
+                        ..self.access
+                    },
+                    rule: Rule::MpuOff,
+                    refused: None,
+                };
+                self.survey.flash_code.take_access(address, &fetched);
+            }
         }
     }
 
@@ -224,7 +248,8 @@ impl Filled {
             self.count_ways(rule_of_row(row));
         }
         self.take_settings()?;
-        self.take_refusals();
+        self.take_faults();
+        self.take_instructions();
         self.touch_cells(0);
         self.touch_cells(0x2000_0000);
         self.take_ticks();
@@ -242,6 +267,13 @@ fn longest_page(rt: &HostRuntime, filled: &Filled) -> Result<Vec<u8>, Fail> {
         size: u32::MAX,
         name: 0,
     })?;
+    'symbols: for symbol in 0..SYMBOLS {
+        list.push(Symbol {
+            address: symbol.wrapping_mul(2),
+            size: 2,
+            name: 0,
+        })?;
+    }
     let symbols = Symbols {
         strings: name.as_bytes(),
         list,
@@ -274,6 +306,7 @@ fn the_longest_page_has_less_than_2_mebibytes(rt: HostRuntime) -> Result<(), Fai
     assert!(rt; numbers > 23 * 42 + 64 * 42);
     assert!(rt; text.contains("<div class='lanes' data-columns='1024' data-column-ticks='32'>"));
     assert!(rt; text.contains("id='other-settings' data-number='42'"));
+    assert!(rt; text.contains("<tr id='code-19'") && text.contains("<tr id='code-others'"));
     assert!(rt; text.contains("id='lane-other-handlers' data-columns='512'"));
     assert!(rt;
         most < MOST_PAGE_BYTES,

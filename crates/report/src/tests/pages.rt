@@ -68,7 +68,7 @@ fn write_to(rt: &HostRuntime, room: &mut Room, symbols: &Symbols<'_>) -> Result<
     let _ = survey_step(&mut machine, &mut survey);
     let stop = survey_step(&mut machine, &mut survey);
     let report = Report {
-        image: "<first>.elf",
+        image: "images/<first>.elf",
         board: "small.toml",
         limit: 10,
         stop: stop.unwrap_or(Stop::StepLimit),
@@ -105,14 +105,14 @@ fn start_symbol(rt: &HostRuntime) -> Result<Symbols<'static>, Fail> {
 /// Texts that the page of the run has: its names, its end, and its numbers. A breakpoint leaves the PC at its
 /// own address.
 const PARTS: [&str; 9] = [
-    "<title>&lt;first&gt;.elf on small.toml</title>",
+    "<title>&lt;first&gt;.elf</title>",
     "<strong id='stop' class='ended'>stop breakpoint 0</strong>",
     "<dd id='steps' data-number='2'>2</dd>",
     "<dd id='accesses' data-number='2'>2</dd>",
     "<dd id='refused' data-number='0'>0</dd>",
     "<span id='off-p-fetch-granted' data-number='2'>2</span>",
     "<dd id='R0'><code>00000005</code></dd>",
-    "<dd id='PC'><code>0000000A</code> <span class='name'>start + 2</span></dd>",
+    "<dd id='PC'><code>0000000A</code> <span class='name'>start + 0x2</span></dd>",
     "data-first='00000000' data-u='-' data-p='x' data-may='rwx'>",
 ];
 

@@ -1,7 +1,7 @@
 //! Words and numbers. Rows of settings and of fault bits are from ARM DDI 0403.
 
-use crate::escape::{ConsoleByte, Escaped};
-use crate::faults::FaultNames;
+use crate::escape::{ConsoleText, Escaped};
+use crate::fault_bits::FaultNames;
 use crate::numbers::{ByteCount, Thousands};
 use crate::settings::{RegionWords, SubregionsOff};
 use crate::words::ExceptionName;
@@ -82,22 +82,29 @@ fn long_texts_are_cut(rt: HostRuntime) -> Result<(), Fail> {
     Ok(())
 }
 
-const BYTES: [(u8, &str); 9] = [
-    (b'a', "a"),
-    (b' ', " "),
-    (b'~', "~"),
-    (b'\n', "\n"),
-    (b'<', "&lt;"),
-    (b'\t', "\\x09"),
-    (0, "\\x00"),
-    (0x7F, "\\x7F"),
-    (0xFF, "\\xFF"),
+/// What the console has, and what the page has of it. The bytes of characters are those of Unicode's UTF-8 table
+/// (chapter 3, "Well-Formed UTF-8 Byte Sequences").
+const CONSOLES: [(&[u8], &str); 14] = [
+    (b"a ~", "a ~"),
+    (b"a\tb\nc", "a\tb\nc"),
+    (b"<&>", "&lt;&amp;&gt;"),
+    (b"\0\x1B\r", "\\x00\\x1B\\x0D"),
+    (b"\x7F", "\\x7F"),
+    (b"\xFF", "\\xFF"),
+    (b"\xC3\xA9", "é"),
+    (b"\xE2\x82\xAC", "€"),
+    (b"\xF0\x9F\x98\x80", "😀"),
+    (b"\xE2\x82", "\\xE2\\x82"),
+    (b"\xE2\x82a", "\\xE2\\x82a"),
+    (b"\xA9\xC3", "\\xA9\\xC3"),
+    (b"\xC0\x80", "\\xC0\\x80"),
+    (b"\xE2\x80\xAE", "\\u202E"),
 ];
 
 #[test]
-fn console_bytes_are_escaped(rt: HostRuntime) -> Result<(), Fail> {
-    'bytes: for (byte, expected) in &BYTES {
-        let shown = ConsoleByte(*byte).to_string(rt.alloc())?;
+fn console_bytes_are_text(rt: HostRuntime) -> Result<(), Fail> {
+    'bytes: for (bytes, expected) in &CONSOLES {
+        let shown = ConsoleText(bytes).to_string(rt.alloc())?;
         assert_eq!(rt; shown.as_str(), *expected);
     }
     Ok(())

@@ -1,0 +1,92 @@
+//! Numbers of instructions, by privilege, and their shares.
+
+use std::fmt;
+use survey::{CodeCounts, Survey};
+
+/// How many halfwords a memory has at most.
+pub const MOST_HALFWORDS: usize = 0x8_0000;
+
+/// Numbers of instructions. Each stays at its highest value, 2^64 - 1.
+#[derive(Clone, Copy)]
+pub struct Totals {
+    pub unprivileged: u64,
+    pub privileged: u64,
+}
+
+impl Totals {
+    /// No instructions.
+    pub const NONE: Totals = Totals {
+        unprivileged: 0,
+        privileged: 0,
+    };
+
+    /// Returns how many there were at an address of a memory.
+    pub fn at(code: &CodeCounts, address: u32) -> Self {
+        Totals {
+            unprivileged: code.number(false, address),
+            privileged: code.number(true, address),
+        }
+    }
+
+    /// Returns how many there were in all.
+    pub fn of_all(survey: &Survey) -> Self {
+        Totals::of_memory(&survey.flash_code).and(Totals::of_memory(&survey.ram_code))
+    }
+
+    /// Returns how many there were in a memory.
+    fn of_memory(code: &CodeCounts) -> Self {
+        let (base, halfwords) = code.span();
+        let mut sum = Totals::NONE;
+        'halfwords: for halfword in 0..halfwords.min(MOST_HALFWORDS) {
+            let offset = (halfword as u32).wrapping_mul(2);
+            sum = sum.and(Totals::at(code, base.wrapping_add(offset)));
+        }
+        sum
+    }
+
+    /// Returns these and some more.
+    pub fn and(self, more: Totals) -> Self {
+        Totals {
+            unprivileged: self.unprivileged.saturating_add(more.unprivileged),
+            privileged: self.privileged.saturating_add(more.privileged),
+        }
+    }
+
+    /// Returns these without some.
+    pub fn less(self, some: Totals) -> Self {
+        Totals {
+            unprivileged: self.unprivileged.saturating_sub(some.unprivileged),
+            privileged: self.privileged.saturating_sub(some.privileged),
+        }
+    }
+
+    /// Returns those of both privileges.
+    pub fn sum(self) -> u64 {
+        self.unprivileged.saturating_add(self.privileged)
+    }
+}
+
+/// A share in tenths of a percent, rounded down.
+#[derive(Clone, Copy)]
+pub struct Share(u64);
+
+impl Share {
+    /// Returns the share that a number is of all.
+    pub fn of(number: u64, all: u64) -> Self {
+        let thousandth = all / 1000;
+        let tenths = if thousandth > 1_000_000 {
+            number.checked_div(thousandth)
+        } else {
+            number.saturating_mul(1000).checked_div(all)
+        };
+        Share(tenths.unwrap_or(0).min(1000))
+    }
+}
+
+impl fmt::Display for Share {
+    fn fmt<W: fmt::Write>(&self, f: &mut fmt::Formatter<W>) -> fmt::Result {
+        let percent = self.0 / 10;
+        let tenth = self.0 % 10;
+        write!(f, "{percent}.{tenth}")
+    }
+}
