@@ -1,3 +1,4 @@
+mod Dumped
 mod Ends
 mod Sent
 mod Talks

@@ -1,5 +1,5 @@
 -- What is read ahead, and what waits on a page.
-use Rattle.std.proofs.Common.{◌≡◌, ◌∙◌, [], List, ℕ, None, Option, Some, ap, append-nil, drop, refl, subst, sym, take}
+use Rattle.std.proofs.Common.{◌≡◌, [], List, ℕ, None, Option, Some, ap, append-nil, drop, refl, subst, take}
 use Rattle.std.specs.Io.KnownBytes.{append_known, prepend_known}
 use Rattle.command.specs.Program.{DoesOverStreams, DoesWords}
 use Rattle.output.specs.Input.{Reading}

@@ -1,3 +1,4 @@
+pub mod Dumping
 pub mod Opening
 pub mod Program
 pub mod Reports

@@ -1,15 +1,19 @@
 -- The whole program: from the arguments to the exit status, with what it reads and what it writes.
-use Rattle.std.specs.Prelude.{◌≡◌, ◌⊎◌, ◌≤◌, ℕ, true, List, [], length, Option, None, Result, Ok, Err}
+use Rattle.std.specs.Prelude.{◌≡◌, ◌⊎◌, ◌≤◌, ℕ, Bool, true, false, List, [], ◌∷◌, length, Option, None, Result, Ok, Err}
 use Rattle.std.specs.Prelude.{string_bytes}
 use Rattle.std.specs.Io.KnownBytes.{prepend_known}
+use Rattle.command.specs.declared.error.Error.{Error}
 use Rattle.command.specs.declared.files.FileError.{FileError}
+use Rattle.command.specs.declared.running.Ran.{Ran}
+use Rattle.command.specs.Dumping.{Dumps}
 use Rattle.command.specs.Opening.{board_in_file}
 use Rattle.command.specs.Reports.{ReportsTo}
-use Rattle.command.specs.Running.{RunsTo}
+use Rattle.command.specs.Running.{RunsOn}
 use Rattle.command.specs.Sending.{IsCut, SendsAll}
 use Rattle.command.specs.Sessions.{SessionTo}
-use Rattle.command.specs.Statuses.{file_status, most_bytes}
+use Rattle.command.specs.Statuses.{file_status, most_bytes, run_status}
 use Rattle.command_line.specs.Notices.{Takes}
+use Rattle.command_line.specs.declared.dumps.Dump.{Dump}
 use Rattle.command_line.specs.declared.subcommands.RunOptions.{RunOptions}
 use Rattle.command_line.specs.declared.subcommands.Subcommand.{Subcommand}
 use Rattle.command_line.specs.declared.subcommands.Subcommand.TheVariants.{Run, Report, Debug}
@@ -21,6 +25,7 @@ use Rattle.platform.specs.declared.error.BoardError.{BoardError}
 use Rattle.platform.specs.declared.error.LoadError.{LoadError}
 use Rattle.platform.specs.Boards.{Described}
 use Rattle.platform.specs.Images.{Segment, image_of}
+use Rattle.reference.specs.State.{State}
 
 -- ---- with the bytes of the files
 
@@ -28,11 +33,31 @@ use Rattle.platform.specs.Images.{Segment, image_of}
 abbrev pub file_with : ℕ → Writing
 file_with errors = record { written = None; errors = errors; waits = [] }
 
--- a run, after which `errors` calls of the writer of the state's file have failed
+-- the bytes of a dump go to a file, after which `errors` calls of its writer have failed
+pub record DumpsToFile (dump : Dump) (s : State) (done : Bool) : Type 0 where
+  pub errors : ℕ
+  pub dumps : Dumps dump s (file_with 0) (file_with errors) done
+
+-- each dump goes to its file, up to the first that fails
+abbrev pub DumpsAll : List Dump → State → Bool → Type 0
+DumpsAll [] s done = done ≡ true
+DumpsAll (dump ∷ dumps) s done =
+    (DumpsToFile dump s true × DumpsAll dumps s done) ⊎ (DumpsToFile dump s false × (done ≡ false))
+
+-- the dumps of a run, where it was made
+abbrev pub DumpsAfter : List Dump → Result Ran Error → Bool → Type 0
+DumpsAfter dumps (Ok ran) done = DumpsAll dumps ran.machine.state done
+DumpsAfter dumps (Err error) done = Unit {0}
+
+-- a run, after which `errors` calls of the writer of the state's file have failed, then its dumps, and the status
 pub record RunsAndSaves (image : Result (List Segment) LoadError) (board : Result Described BoardError)
     (run : RunOptions) (old new : Writing) (status : ℕ) : Type 0 where
   pub errors : ℕ
-  pub runs : RunsTo image board run old new (file_with 0) (file_with errors) status
+  pub ran : Result Ran Error
+  pub runs : RunsOn image board run old new (file_with 0) (file_with errors) ran
+  pub done : Bool
+  pub dumps : DumpsAfter run.dumps.items ran done
+  pub is : status ≡ run_status run.expect ran done
 
 -- what each subcommand does; a debug session alone reads standard input
 abbrev pub Performs : Subcommand → Result (List Segment) LoadError → Result Described BoardError → Reading → Reading

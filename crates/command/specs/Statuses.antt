@@ -1,10 +1,11 @@
 -- The exit statuses of the program.
-use Rattle.std.specs.Prelude.{◌*◌, ◌^◌, ℕ, if◌then◌else◌, Option, Some, None, Result, Ok, Err}
+use Rattle.std.specs.Prelude.{◌*◌, ◌^◌, ℕ, Bool, if◌then◌else◌, Option, Some, None, Result, Ok, Err}
 use Rattle.std.specs.Str.{bytes_eq}
 use Rattle.command.specs.declared.error.Error.{Error}
 use Rattle.command.specs.declared.error.Error.TheVariants.{Usage, Load, Board, Start, Size, Io}
 use Rattle.command.specs.declared.files.FileError.{FileError}
 use Rattle.command.specs.declared.files.FileError.TheVariants as file
+use Rattle.command.specs.declared.running.Ran.{Ran}
 use Rattle.platform.specs.declared.stop.Stop.{Stop}
 use Rattle.platform.specs.declared.stop.Stop.TheVariants as stop
 use Rattle.platform.specs.Text.{stop_text}
@@ -34,6 +35,11 @@ ending_status (Some expected) why = if bytes_eq (stop_text why) (stop_text expec
 abbrev pub status_of : Option Stop → Result Stop Error → ℕ
 status_of expected (Ok why) = ending_status expected why
 status_of expected (Err error) = error_status error
+
+-- the status of a run after which the dumps were all written or not
+abbrev pub run_status : Option Stop → Result Ran Error → Bool → ℕ
+run_status expected (Ok ran) done = if done then ending_status expected ran.stop else error_status Io
+run_status expected (Err error) done = error_status error
 
 -- the status of a file that isn't read
 abbrev pub file_status : FileError → ℕ

@@ -3,17 +3,20 @@
 ghost use Rattle.std.specs.Prelude.{◌≡◌, ◌≢◌, map, string_bytes};
 ghost use Rattle.command.specs.Opening.{board_in_file};
 ghost use Rattle.command.specs.Program.{Answers, DoesSubcommand, DoesWords, EndsWith, Performs, RunsAndSaves};
-ghost use Rattle.command.specs.Statuses.{file_status};
+ghost use Rattle.command.specs.Statuses.{error_status, file_status};
+ghost use Rattle.command.specs.declared.error.Error.TheVariants.{Io};
 ghost use Rattle.platform.specs.Images.{image_of};
 ghost use Rattle.std.specs.IoError.{error_kind};
 ghost use Rattle.std.specs.declared.io.ErrorKind.TheVariants as kind;
 
 use crate::debugging::debug;
+use crate::dumping::{FailedDump, write_dumps};
 use crate::error::{Error, write_error};
 use crate::files::{FileError, InputFile, read_file};
 use crate::last_error::LastError;
+use crate::reason::{refuse, write_dump_reason, write_run_notes};
 use crate::reporting::report;
-use crate::running::run;
+use crate::running::{end, run, state_file};
 use crate::sending::send;
 use crate::state_file::StateFile;
 use crate::streams::over_streams;
@@ -173,8 +176,8 @@ fn perform<R: Files + AllocGlobal, I: In, O: Out, E: Write>(
     }
 }
 
-/// Runs an image on a board, with the file for the state after the run. `saved` counts the calls of that file
-/// that fail.
+/// Runs an image on a board, with the files for the state and the memory after the run. Messages are written after
+/// these are closed. `saved` counts the calls of the state's file that fail.
 fn run_and_save<R: Files + AllocGlobal, O: Out, E: Write, K: Ledger>(
     rt: &R,
     image: InputFile<'_>,
@@ -190,12 +193,50 @@ fn run_and_save<R: Files + AllocGlobal, O: Out, E: Write, K: Ledger>(
     ensures { RunsAndSaves (image_of image.entry.bytes.now) (board_in_file board.entry.bytes.now) options.entry
         (O.writing out.old) (O.writing out.new) result }
 {
-    let path = options.state.unwrap_or("");
+    let path = state_file(options.state).unwrap_or("");
     let file = LastError::new(StateFile::new(rt, path));
     let mut state: Over<LastError<StateFile<'_, R>>, K> = Over::new(file, saved);
-    let status = run(rt.alloc(), image, board, options, out, &mut state, err);
-    if let Some(error) = state.into_inner().error() {
-        write_path_error("--state", path, &error, err);
+    let ran = run(rt.alloc(), image, board, &options, out, &mut state);
+    // (the file is closed here: it may have the number of standard error, where that is closed)
+    let failed = state.into_inner().error();
+    match ran {
+        Ok(ran) => match write_dumps(rt, &ran.machine, options.dumps.as_slice()) {
+            Ok(()) => {
+                let status = end(ran.stop, options.expect, err);
+                let _ = write_run_notes(rt.alloc(), image, board, ran.stop, err);
+                status
+            }
+            Err(failed) => refuse_dump(&failed, err),
+        },
+        Err(error) => {
+            let status = refuse(rt.alloc(), error, image, board, err);
+            if let Some(error) = failed {
+                write_path_error("--state", path, &error, err);
+            }
+            write_dump_reason(
+                rt.alloc(),
+                error,
+                image,
+                board,
+                options.dumps.as_slice(),
+                err,
+            );
+            status
+        }
+    }
+}
+
+/// Writes why the file of a dump isn't written, and returns the status.
+fn refuse_dump<E: Write>(failed: &FailedDump<'_>, err: &mut E) -> u8
+    ensures { result ≡ error_status Io }
+{
+    let status = write_error(Error::Io, err);
+    match &failed.error {
+        Some(error) => write_path_error("--dump", failed.path, error, err),
+        None => {
+            let path = Escaped(failed.path);
+            let _ = writeln!(err, "  {path}: no memory was found for its bytes");
+        }
     }
     status
 }

@@ -4,6 +4,7 @@
 
 mod commands;
 mod debugging;
+mod dumping;
 mod error;
 mod files;
 mod last_error;
@@ -23,4 +24,4 @@ pub use files::{FileError, InputFile, read_file, words};
 pub use opening::{Opened, open};
 pub use reason::write_reason;
 pub use reporting::report;
-pub use running::run;
+pub use running::{Ran, run};

@@ -3,12 +3,17 @@
 ghost use Rattle.std.specs.Prelude.{◌≡◌};
 ghost use Rattle.command.specs.Statuses.{error_status};
 
+use crate::dumping::are_there;
 use crate::error::{Error, write_error};
 use crate::files::InputFile;
-use crate::opening::board_of_file;
+use crate::opening::{board_of_file, open};
+use command_line::Dump;
 use messages::Escaped;
+use platform::board::Layout;
 use platform::error::StartError;
-use reasons::{write_board_reason, write_image_reason, write_start_reason};
+use platform::map::RAM_BASE;
+use platform::stop::Stop;
+use reasons::{write_board_reason, write_image_reason, write_notes, write_start_reason};
 use std::alloc::Global;
 use std::io;
 use std::io::Write;
@@ -52,6 +57,60 @@ pub fn write_reason<E: Write>(
         }
         Error::Usage | Error::Size | Error::Io => Ok(()),
     }
+}
+
+/// Writes what a person may want to know of a run that was made.
+pub fn write_run_notes<E: Write>(
+    alloc: Global,
+    image: InputFile<'_>,
+    board: InputFile<'_>,
+    stop: Stop,
+    err: &mut E,
+) -> io::Result<()> {
+    match board_of_file(alloc, board.bytes) {
+        Ok(board) => write_notes(
+            err,
+            image.bytes,
+            &board.layout,
+            board.events.as_slice(),
+            stop,
+        ),
+        Err(_) => Ok(()),
+    }
+}
+
+/// Writes which dump isn't all in flash or all in RAM, where that is why nothing was run.
+pub fn write_dump_reason<E: Write>(
+    alloc: Global,
+    error: Error,
+    image: InputFile<'_>,
+    board: InputFile<'_>,
+    dumps: &[Dump<'_>],
+    err: &mut E,
+) {
+    if !matches!(error, Error::Usage) {
+        return;
+    }
+    let Ok(opened) = open(alloc, image.bytes, board.bytes) else {
+        return;
+    };
+    'dumps: for dump in dumps {
+        if !are_there(&opened.machine, dump) {
+            let _ = write_outside(err, dump, &opened.layout);
+            return;
+        }
+    }
+}
+
+/// Writes the range of a dump, and the memory of the board.
+fn write_outside<E: Write>(err: &mut E, dump: &Dump<'_>, layout: &Layout) -> io::Result<()> {
+    let (address, length) = (dump.address, dump.length);
+    let (base, flash, ram) = (layout.flash_base, layout.flash_size, layout.ram_size);
+    writeln!(
+        err,
+        "  --dump: {length} bytes at {address:08X} aren't all in memory, and the board has {flash} bytes of flash at \
+         {base:08X} and {ram} bytes of RAM at {RAM_BASE:08X}"
+    )
 }
 
 /// Writes why a machine of a board doesn't start with an image.

@@ -1,56 +1,76 @@
 //! A run from the bytes of an image and of a board to the bytes of a trace.
 
 ghost use Rattle.std.specs.Prelude.{◌≡◌, ◌⊎◌, false, OnOk};
+ghost use Rattle.command.specs.Dumping.{have_all};
 ghost use Rattle.command.specs.Opening.{board_in_file};
-ghost use Rattle.command.specs.Running.{Runs, RunsFrom, RunsTo, Saved, Traces};
+ghost use Rattle.command.specs.Running.{RunsIf, RunsOn, Saved, Traces, state_file, state_shown};
 ghost use Rattle.command.specs.Statuses.{ending_status};
 ghost use Rattle.command_line.specs.Subcommands.{text_of};
+ghost use Rattle.output.specs.Output.{Put};
 ghost use Rattle.platform.specs.Images.{image_of};
 ghost use Rattle.reference.specs.Run.{after};
 
+use crate::dumping::have_all;
 use crate::error::{Error, stop_status};
 use crate::files::InputFile;
 use crate::opening::open;
-use crate::reason::refuse;
 use command_line::{RunOptions, have_same_words, words_in};
 use debugger::write_state;
-use machine::{Fast, Out, Stop, TraceSelection};
+use machine::{Fast, IoError, Out, Stop};
 use std::alloc::Global;
 use std::io::Write;
 use std::{io, str};
 use trace::lines::stop_line;
 
+/// A run that was made.
+#[derive(Drop)]
+pub struct Ran {
+    /// Why it ended.
+    pub stop: Stop,
+    /// The machine after it.
+    pub machine: Fast,
+}
+
 /// Runs an image on a board for at most `options.steps` steps and writes its trace, as far as `options.trace`
-/// selects it, to `out`, and then, where `options.state` names a file, the state of the machine to `state`; or
-/// the refusal to `err`, the error first and then its reason. Returns the exit status: 0 after all steps or at a
-/// breakpoint, 3 for a refused image, board or start, or where memory runs out for the board or the machine, 4 at
-/// another stop, 5 where `out` or `state` failed. With an expectation the status is 0 at the stop that is expected,
-/// and 1 at another.
-pub fn run<O: Out, S: Out, E: Write>(
+/// selects it, to `out`, and then, where `options.state` names a file, the state of the machine to `state`; or to
+/// `out`, where it is `-`. Nothing is run where a byte of `options.dumps` isn't in memory.
+pub fn run<O: Out, S: Out>(
     alloc: Global,
     image: InputFile<'_>,
     board: InputFile<'_>,
-    options: RunOptions<'_>,
+    options: &RunOptions<'_>,
     out: &mut O,
     state: &mut S,
-    err: &mut E,
-) -> u8
-    ensures runs { RunsTo (image_of image.entry.bytes.now) (board_in_file board.entry.bytes.now) options.entry
+) -> Result<Ran, Error>
+    ensures { RunsOn (image_of image.entry.bytes.now) (board_in_file board.entry.bytes.now) options.entry.now
         (O.writing out.old) (O.writing out.new) (S.writing state.old) (S.writing state.new) result }
-    ensures quiet { (result ≡ 0) ⊎ (result ≡ 4) → err.new ≡ err.old }
 {
-    let machine = match open(alloc, image.bytes, board.bytes) {
-        Ok(opened) => opened.machine,
-        Err(error) => return refuse(alloc, error, image, board, err),
-    };
-    match run_and_save(machine, options, out, state) {
-        Ok(stop) => end(stop, options.expect, err),
-        Err(error) => refuse(alloc, error, image, board, err),
+    let opened = open(alloc, image.bytes, board.bytes)?;
+    run_opened(opened.machine, options, out, state)
+}
+
+/// Runs a machine, where all bytes of the dumps are in its memory.
+fn run_opened<O: Out, S: Out>(
+    machine: Fast,
+    options: &RunOptions<'_>,
+    out: &mut O,
+    state: &mut S,
+) -> Result<Ran, Error>
+    requires { machine.broken ≡ false }
+    ensures { RunsIf (have_all machine.state.bus.memory options.entry.now.dumps.items) options.entry.now machine.state
+        (O.writing out.old) (O.writing out.new) (S.writing state.old) (S.writing state.new) result }
+{
+    if !have_all(&machine, options.dumps.as_slice()) {
+        return Err(Error::Usage);
     }
+    let mut machine = machine;
+    let stop = run_through(&mut machine, options, out)?;
+    save(&machine, state_file(options.state), state)?;
+    Ok(Ran { stop, machine })
 }
 
 /// Returns the status of a stop. Writes what was expected where it is another stop.
-fn end<E: Write>(stop: Stop, expected: Option<Stop>, err: &mut E) -> u8
+pub fn end<E: Write>(stop: Stop, expected: Option<Stop>, err: &mut E) -> u8
     ensures status { result ≡ ending_status expected stop }
     ensures quiet { (result ≡ 0) ⊎ (result ≡ 4) → err.new ≡ err.old }
 {
@@ -73,22 +93,14 @@ fn write_other_end<E: Write>(stop: &Stop, expected: &Stop, err: &mut E) -> io::R
     writeln!(err, "marm: expected {expected}, ended {ended}")
 }
 
-/// Runs a machine and writes those of its events that are selected, and then its state, where a file is named
-/// for it.
-fn run_and_save<O: Out, S: Out>(
-    machine: Fast,
-    options: RunOptions<'_>,
-    out: &mut O,
-    state: &mut S,
-) -> Result<Stop, Error>
-    requires { machine.broken ≡ false }
-    ensures { Runs options.entry machine.state (O.writing out.old) (O.writing out.new)
-        (S.writing state.old) (S.writing state.new) result }
+/// Returns the path of the file for the state, if it goes to a file.
+pub fn state_file(path: Option<&str>) -> Option<&str>
+    ensures { text_of result ≡ state_file (text_of path.entry) }
 {
-    let mut machine = machine;
-    let stop = run_through(&mut machine, options.trace, options.steps, out)?;
-    save(&machine, options.state, state)?;
-    Ok(stop)
+    match path {
+        Some(path) => { if path == "-" { None } else { Some(path) } }
+        None => None,
+    }
 }
 
 /// Writes the state of a machine, where a file is named for it.
@@ -104,20 +116,40 @@ fn save<S: Out>(machine: &Fast, path: Option<&str>, out: &mut S) -> Result<(), E
     }
 }
 
-/// Runs a machine, and sends the whole text of its selected events.
+/// Puts the state of a machine, where it is asked for on standard output.
+#[tactic(auto, using(crate::proofs::Sent::nothing_put))]
+fn put_state<O: Out>(machine: &Fast, path: Option<&str>, out: &mut O) -> Result<(), IoError>
+    ensures { Put (O.writing out.old) (O.writing out.new) (state_shown (text_of path.entry) machine.now.state) result }
+{
+    match path {
+        Some(path) => {
+            if path == "-" {
+                write_state(machine, out)
+            } else {
+                Ok(())
+            }
+        }
+        None => Ok(()),
+    }
+}
+
+/// Runs a machine, and sends the whole text of its selected events, and its state where it is asked for there.
+#[tactic(auto, using(crate::proofs::Sent::output_lemmas))]
 fn run_through<O: Out>(
     machine: &mut Fast,
-    selection: TraceSelection,
-    steps: u64,
+    options: &RunOptions<'_>,
     out: &mut O,
 ) -> Result<Stop, Error>
     requires { machine.old.broken ≡ false }
-    ensures traces { Traces selection steps machine.old.state (O.writing out.old) (O.writing out.new) result }
-    ensures state { OnOk result (machine.new.state ≡ after steps machine.old.state) }
+    ensures traces { Traces options.entry.now machine.old.state (O.writing out.old) (O.writing out.new) result }
+    ensures state { OnOk result (machine.new.state ≡ after options.entry.now.steps machine.old.state) }
 {
-    match machine.run_selected(selection, steps, out) {
-        Ok(stop) => match out.hand_on() {
-            Ok(()) => Ok(stop),
+    match machine.run_selected(options.trace, options.steps, out) {
+        Ok(stop) => match put_state(machine, options.state, out) {
+            Ok(()) => match out.hand_on() {
+                Ok(()) => Ok(stop),
+                Err(_) => Err(Error::Io),
+            },
             Err(_) => Err(Error::Io),
         },
         Err(_) => Err(Error::Io),

@@ -1,4 +1,5 @@
 mod Asking
+mod Dumping
 mod Parsing
 mod Searching
 mod Stopping

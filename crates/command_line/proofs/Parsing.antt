@@ -1,5 +1,5 @@
 -- From a parse of `clap` to what the program makes of it.
-use Rattle.std.proofs.Common.{◌≡◌, ◌∙◌, inl, inr, true, List, [], Option, Result, Ok, Err, ap, refl, subst, sym}
+use Rattle.std.proofs.Common.{◌≡◌, ◌∙◌, inl, inr, true, List, [], Option, Result, Ok, Err, ap, refl, subst}
 use Rattle.clap.specs.Faults.{fault_of, is_simple_and_free}
 use Rattle.clap.specs.Kinds.{HasKind, IsAmong}
 use Rattle.clap.specs.Simple.{App, is_simple, subcommand_of}

@@ -1,5 +1,5 @@
 -- Texts that are the words of no stop.
-use Rattle.std.proofs.Common.{◌≡◌, ◌≢◌, ◌<◌, ℕ, List}
+use Rattle.std.proofs.Common.{◌≢◌, ◌<◌, ℕ, List}
 use Rattle.command_line.specs.Stops.{IsPossible, IsStopText}
 use Rattle.instruction_set.specs.declared.unpredictable.UnpredictableCase.{UnpredictableCase}
 use Rattle.platform.specs.declared.stop.LeftOut.{LeftOut}

@@ -2,7 +2,7 @@
 use Rattle.std.specs.Prelude.{Some, ◌^◌, codes, true}
 use Rattle.clap.specs.Simple.{App, Shape, new_app, new_rule, on_top, with_rule, with_subcommand}
 use Rattle.clap.specs.Walk.{Rule, Text}
-use Rattle.clap.specs.declared.builder.action.ArgAction.TheVariants.{Set}
+use Rattle.clap.specs.declared.builder.action.ArgAction.TheVariants.{Append, Set}
 use Rattle.clap.specs.declared.builder.value_parser.ValueParser.TheVariants.{Unsigned}
 
 -- an argument by its place, with one value
@@ -27,11 +27,17 @@ image = record (operand (codes "image")) { required = true }
 abbrev pub run_in_steps : App
 run_in_steps = with_rule (with_rule (new_app (codes "run")) board) steps
 
--- and then [--trace WHICH] [--expect STOP] [--state FILE]
+-- an option that may be there several times
+abbrev pub dump : Rule
+dump = record (option (codes "dump")) { action = Some Append }
+
+-- and then [--trace WHICH] [--expect STOP]
+abbrev pub run_with_ends : App
+run_with_ends = with_rule (with_rule run_in_steps (option (codes "trace"))) (option (codes "expect"))
+
+-- and then [--state FILE] [--dump ADDR:LENGTH=FILE]..
 abbrev pub run_with_options : App
-run_with_options =
-    with_rule (with_rule (with_rule run_in_steps (option (codes "trace"))) (option (codes "expect"))) (option
-    (codes "state"))
+run_with_options = with_rule (with_rule run_with_ends (option (codes "state"))) dump
 
 -- and then IMAGE
 abbrev pub run : App

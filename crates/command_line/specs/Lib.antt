@@ -1,4 +1,5 @@
 pub mod Commands
+pub mod Dumps
 pub mod Notices
 pub mod Stops
 pub mod Subcommands

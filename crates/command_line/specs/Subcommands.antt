@@ -1,9 +1,11 @@
 -- What the arguments ask for: a subcommand, whose options have the values that the matches of `clap` have.
-use Rattle.std.specs.Prelude.{◌≡◌, ◌^◌, ◌≤◌, ℕ, if◌then◌else◌, List, Option, Some, None, codes, option_map}
+use Rattle.std.specs.Prelude.{◌≡◌, ◌^◌, ◌≤◌, ℕ, if◌then◌else◌, List, [], Option, Some, None, codes, option_map}
+use Rattle.std.specs.Prelude.{map, unwrap_or}
 use Rattle.std.specs.Borrow.{Bor}
 use Rattle.std.specs.Str.{bytes_eq}
-use Rattle.std.specs.Str.Parse.{IsNumeral, digits_value, without_leading_plus}
-use Rattle.clap.specs.Walk.{Row, Text, first_of}
+use Rattle.std.specs.Str.Parse.{IsNumeral, digits_value}
+use Rattle.clap.specs.Walk.{Row, Text, all_of, first_of}
+use Rattle.command_line.specs.Dumps.{AreDumps}
 use Rattle.command_line.specs.Stops.{IsExpected}
 use Rattle.command_line.specs.declared.subcommands.DebugOptions.{DebugOptions}
 use Rattle.command_line.specs.declared.subcommands.ReportOptions.{ReportOptions}
@@ -15,13 +17,17 @@ use Rattle.trace.specs.declared.selection.TraceSelection.TheVariants as which
 
 -- ---- the values of options
 
--- the number in digits, before which a plus may stand
-abbrev pub number_in : List ℕ → ℕ
-number_in text = digits_value 10 (without_leading_plus text)
+-- the character `+`
+abbrev pub plus : ℕ
+plus = 43
 
--- a number of steps: from 0 to 2^32
+-- the number in decimal digits
+abbrev pub number_in : List ℕ → ℕ
+number_in text = digits_value 10 text
+
+-- a number of steps: digits alone, from 0 to 2^32
 abbrev pub IsSteps : List ℕ → Type 0
-IsSteps text = IsNumeral 10 (without_leading_plus text) × (number_in text ≤ 2 ^ 32)
+IsSteps text = IsNumeral 10 text × (number_in text ≤ 2 ^ 32)
 
 -- the option has a number of steps, and this is it
 abbrev pub HasSteps : Option (List ℕ) → ℕ → Type 0
@@ -33,10 +39,11 @@ abbrev pub selection_named : List ℕ → Option TraceSelection
 selection_named text =
     if bytes_eq text (codes "all") then Some which.All
     else (if bytes_eq text (codes "refused") then Some which.Refused
+    else (if bytes_eq text (codes "faults") then Some which.Faults
     else (if bytes_eq text (codes "exceptions") then Some which.Exceptions
     else (if bytes_eq text (codes "console") then Some which.Console
     else (if bytes_eq text (codes "none") then Some which.Nothing
-    else None))))
+    else None)))))
 
 -- the selection that is asked for: all events where the option is left out
 abbrev pub selection_asked : Option (List ℕ) → Option TraceSelection
@@ -53,6 +60,14 @@ IsSelection text trace = selection_asked text ≡ Some trace
 abbrev pub text_of : Option (Bor Text) → Option Text
 text_of = option_map (λ s. s.now)
 
+-- the texts of an option that may be there several times
+abbrev pub texts_of : Text → List Row → List Text
+texts_of id rows = unwrap_or (all_of id rows) []
+
+-- the texts that are borrowed, if there are some
+abbrev pub texts_in : Option (Bor (List (Bor Text))) → List Text
+texts_in texts = unwrap_or (option_map (λ s. map (λ t. t.now) s.now) texts) []
+
 -- the text of an argument that has to be there
 abbrev pub IsText : Option Text → Bor Text → Type 0
 IsText value text = value ≡ Some text.now
@@ -65,6 +80,7 @@ pub record IsRun (rows : List Row) (run : RunOptions) : Type 0 where
   pub trace : IsSelection (first_of (codes "trace") rows) run.trace
   pub expect : IsExpected (first_of (codes "expect") rows) run.expect
   pub state : first_of (codes "state") rows ≡ text_of run.state
+  pub dumps : AreDumps (texts_of (codes "dump") rows) run.dumps.items
 
 -- the options of `report` have the values of its matches
 pub record IsReport (rows : List Row) (report : ReportOptions) : Type 0 where

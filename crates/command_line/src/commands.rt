@@ -18,16 +18,22 @@ pub const STEPS_HELP: &str =
     "The most steps (instructions, halves of exception entries, idle ticks) to make, from 0 to 4294967296";
 
 /// What the help says of `--trace`.
-const TRACE_HELP: &str =
-    "Which lines are written, before the line of the stop: all (the default), refused, exceptions, console or none";
+const TRACE_HELP: &str = "\
+Which lines are written, before the line of the stop: all (the default), refused, faults, exceptions, console or none";
 
 /// What the help says of `--expect`.
 const EXPECT_HELP: &str =
-    "The words of the last line after `stop`, as \"breakpoint 0\": status 0 if the run ends so, and 1 if it doesn't";
+    "The words of the last line, as \"breakpoint 0\" or \"stop breakpoint 0\": status 0 if the run ends so, and 1 if not";
 
 /// What the help says of `--state`.
 const STATE_HELP: &str =
-    "A file for the state after the run: registers, clock, faults, regions and exceptions, a line for each value";
+    "A file for the state after the run: registers, clock, faults, regions and exceptions, a line for each value; \
+     - is standard output, after the trace";
+
+/// What the help says of `--dump`.
+const DUMP_HELP: &str =
+    "Memory after the run, as raw bytes, to a file: LENGTH bytes from ADDR on, decimal or 0x and hexadecimal; \
+     at most 16 times";
 
 /// The program's version.
 const VERSION: &str = "0.3.0";
@@ -96,10 +102,19 @@ fn run_with_options<'a>(alloc: Global) -> Result<Command<'a>, AllocError>
     ensures app { IfOk result (λ c. app_of c ≡ spec.run_with_options) }
     ensures local { IfOk result (λ c. (out-Command c).has_globals ≡ false) }
 {
+    let run = run_with_ends(alloc)?;
+    let run = run.arg(option(alloc, "state", "FILE", STATE_HELP))?;
+    run.arg(dump(alloc))
+}
+
+/// Returns the subcommand `run`, with its board, its steps, and what its end is compared with.
+fn run_with_ends<'a>(alloc: Global) -> Result<Command<'a>, AllocError>
+    ensures app { IfOk result (λ c. app_of c ≡ spec.run_with_ends) }
+    ensures local { IfOk result (λ c. (out-Command c).has_globals ≡ false) }
+{
     let run = run_in_steps(alloc)?;
     let run = run.arg(option(alloc, "trace", "WHICH", TRACE_HELP))?;
-    let run = run.arg(option(alloc, "expect", "STOP", EXPECT_HELP))?;
-    run.arg(option(alloc, "state", "FILE", STATE_HELP))
+    run.arg(option(alloc, "expect", "STOP", EXPECT_HELP))
 }
 
 /// Returns the subcommand `run`, with its board and its steps alone.
@@ -124,6 +139,14 @@ fn option<'a>(alloc: Global, name: &'a str, value: &'a str, help: &'a str) -> Ar
         .value_name(value)
         .help(help)
         .action(ArgAction::Set)
+}
+
+/// Returns `--dump ADDR:LENGTH=FILE`, which may be there several times.
+fn dump<'a>(alloc: Global) -> Arg<'a>
+    ensures rule { rule_of result ≡ spec.dump }
+    ensures local { result.global ≡ false }
+{
+    option(alloc, "dump", "ADDR:LENGTH=FILE", DUMP_HELP).action(ArgAction::Append)
 }
 
 /// Returns `--board FILE`.

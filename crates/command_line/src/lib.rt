@@ -3,6 +3,7 @@
 #![tactic(auto)]
 
 mod commands;
+mod dumps;
 mod refusals;
 mod stops;
 mod subcommands;
@@ -11,6 +12,7 @@ mod tests;
 mod texts;
 mod words;
 
+pub use dumps::Dump;
 pub use stops::{have_same_words, words_in};
 pub use subcommands::{DebugOptions, ReportOptions, RunOptions, Subcommand};
 pub use texts::AFTER_DEBUG;

@@ -2,13 +2,23 @@
 
 ghost use Rattle.std.specs.Prelude.{◌≡◌, ◌≢◌, ◌<◌, ◌++◌, IfSome, List, None, codes, ℕ};
 ghost use Rattle.std.specs.Str.{bytes_eq};
-ghost use Rattle.command_line.specs.Stops.{IsPossible, IsStopText};
+ghost use Rattle.command_line.specs.Stops.{IsPossible, IsStopText, without_stop};
 ghost use Rattle.platform.specs.Text.{line_feed, stop_text};
 ghost use Rattle.platform.specs.declared.stop.Stop.TheVariants as stop;
 
 use instruction_set::unpredictable::UnpredictableCase;
 use platform::stop::{LeftOut, NamedStop, Stop};
 use trace::lines::stop_line;
+
+/// Returns a text without the `stop ` that it may begin with.
+pub fn without_stop(text: &str) -> &str
+    ensures { result.now ≡ without_stop text.entry.now }
+{
+    match text.strip_prefix("stop ") {
+        Some(words) => words,
+        None => text,
+    }
+}
 
 /// Returns the stop whose line has these words after `stop `.
 pub fn stop_named(words: &str) -> Option<Stop>

@@ -1,15 +1,16 @@
 //! What the arguments ask for: a subcommand, with the values of its options.
 
-ghost use Rattle.std.specs.Prelude.{◌≡◌, ◌⊎◌, IfSome, None, codes};
+ghost use Rattle.std.specs.Prelude.{◌≡◌, ◌⊎◌, ◌==◌, IfSome, None, codes, slice_index};
 ghost use Rattle.clap.specs.Words.{first_of, found_of, rows_of, subcommand_rows_of};
 ghost use Rattle.command_line.specs.Notices.{Reads, memory, notice_of, usage};
 ghost use Rattle.command_line.specs.Stops.{IsExpected};
 ghost use Rattle.command_line.specs.Subcommands.{HasSteps, IsAsked, IsDebug, IsNamed, IsReport, IsRun, IsSelection};
-ghost use Rattle.command_line.specs.Subcommands.{IsSteps, IsText, board_path, image_path, number_in};
-ghost use Rattle.command_line.specs.Subcommands.{selection_named, text_of};
+ghost use Rattle.command_line.specs.Subcommands.{IsSteps, IsText, board_path, image_path, number_in, plus};
+ghost use Rattle.command_line.specs.Subcommands.{selection_named, text_of, texts_in, texts_of};
 
 use crate::commands::MOST_STEPS;
-use crate::stops::stop_named;
+use crate::dumps::{Dump, dumps_in};
+use crate::stops::{stop_named, without_stop};
 use crate::words::WordsError;
 use clap::ArgMatches;
 use messages::Escaped;
@@ -18,7 +19,7 @@ use std::alloc::Global;
 use trace::selection::TraceSelection;
 
 /// The options of `marm run`.
-#[derive(Clone, Copy)]
+#[derive(Drop)]
 pub struct RunOptions<'a> {
     /// The path of the board file.
     pub board: &'a str,
@@ -32,6 +33,8 @@ pub struct RunOptions<'a> {
     pub expect: Option<Stop>,
     /// The path of the file for the state after the run.
     pub state: Option<&'a str>,
+    /// The parts of memory that go to files after the run.
+    pub dumps: Vec<Dump<'a>>,
 }
 
 /// The options of `marm report`.
@@ -55,7 +58,7 @@ pub struct DebugOptions<'a> {
 }
 
 /// A subcommand with its options.
-#[derive(Clone, Copy)]
+#[derive(Drop)]
 pub enum Subcommand<'a> {
     /// Run an image and write its trace.
     Run(RunOptions<'a>),
@@ -132,6 +135,7 @@ fn run_options<'a>(alloc: Global, run: &ArgMatches<'a>) -> Result<RunOptions<'a>
         trace: selection_in(alloc, value_of(run, "trace"))?,
         expect: stop_in(alloc, value_of(run, "expect"))?,
         state: value_of(run, "state"),
+        dumps: dumps_in(alloc, values_of(run, "dump"))?,
     })
 }
 
@@ -166,6 +170,13 @@ fn value_of<'a>(matches: &ArgMatches<'a>, id: &str) -> Option<&'a str>
     matches.get_str(id)
 }
 
+/// Returns the values of an option that may be there several times.
+fn values_of<'m, 'a>(matches: &'m ArgMatches<'a>, id: &str) -> Option<&'m [&'a str]>
+    ensures { texts_in result ≡ texts_of id.entry.now (rows_of (found_of matches.entry.now)) }
+{
+    matches.get_raw(id)
+}
+
 /// Returns the text of an argument that `clap` has found.
 fn text_in<'a>(alloc: Global, text: Option<&'a str>) -> Result<&'a str, WordsError>
     ensures { Reads (IsText (text_of text.entry)) result }
@@ -188,14 +199,27 @@ fn steps_in(alloc: Global, text: Option<&str>) -> Result<u64, WordsError>
 }
 
 /// Returns the number in a text, if it is a number of steps.
-#[tactic(auto, using(crate::proofs::Asking::no_steps, crate::proofs::Asking::too_many_steps))]
+#[tactic(auto, using(crate::proofs::Asking::asking))]
 fn number_in(text: &str) -> Option<u64>
     ensures some { IfSome result (λ steps. IsSteps text.now × (steps ≡ number_in text.now)) }
     ensures none { result ≡ None → ¬ IsSteps text.now }
 {
+    if has_plus(text) {
+        return None;
+    }
     match text.parse::<u64>() {
         Ok(steps) if steps <= MOST_STEPS => Some(steps),
         _ => None,
+    }
+}
+
+/// Returns whether a text begins with a plus sign.
+fn has_plus(text: &str) -> bool
+    ensures { result ≡ (slice_index text.now 0 == plus) }
+{
+    match text.as_bytes() {
+        [b'+', ..] => true,
+        _ => false,
     }
 }
 
@@ -220,6 +244,8 @@ fn selection_named(name: &str) -> Option<TraceSelection>
         Some(TraceSelection::All)
     } else if name == "refused" {
         Some(TraceSelection::Refused)
+    } else if name == "faults" {
+        Some(TraceSelection::Faults)
     } else if name == "exceptions" {
         Some(TraceSelection::Exceptions)
     } else if name == "console" {
@@ -238,7 +264,7 @@ fn stop_in(alloc: Global, words: Option<&str>) -> Result<Option<Stop>, WordsErro
     let Some(words) = words else {
         return Ok(None);
     };
-    match stop_named(words) {
+    match stop_named(without_stop(words)) {
         Some(stop) => Ok(Some(stop)),
         None => Err(wrong_value(alloc, words, "--expect <STOP>", EXPECT_ADVICE)),
     }
@@ -248,16 +274,16 @@ fn stop_in(alloc: Global, words: Option<&str>) -> Result<Option<Stop>, WordsErro
 pub const STEPS_ADVICE: &str = "--steps takes a decimal number from 0 to 4294967296.\n";
 
 /// What `--trace` takes.
-const TRACE_ADVICE: &str = "--trace takes all, refused, exceptions, console or none.\n";
+const TRACE_ADVICE: &str = "--trace takes all, refused, faults, exceptions, console or none.\n";
 
 /// What `--expect` takes.
 const EXPECT_ADVICE: &str = "\
---expect takes the words of a stop line after `stop`: steps, breakpoint N (N from 0 to 255), reset, lockup,
-or unpredictable or outofprofile and a name.
+--expect takes the words of a stop line, with or without `stop`: steps, breakpoint N (N from 0 to 255), reset,
+lockup, or unpredictable or outofprofile and a name.
 ";
 
 /// Returns the error of an option's value that isn't allowed, with what is.
-fn wrong_value(alloc: Global, value: &str, option: &str, advice: &str) -> WordsError
+pub fn wrong_value(alloc: Global, value: &str, option: &str, advice: &str) -> WordsError
     ensures { (notice_of result ≡ usage) ⊎ (notice_of result ≡ memory) }
 {
     let value = Escaped(value);

@@ -31,9 +31,9 @@ Example:
 pub const AFTER_RUN: &str = "\
 The trace has one line for each access: its tick, kind, address, size in bytes, privilege, outcome,
 and the rule or region that decided it. Its last line says why the run ended. With --trace refused it
-has the refused accesses and the faults alone; with exceptions those, and the entries and returns of
-handlers; with console the bytes that the firmware printed, in place of lines; with none no more than
-the last line.
+has the refused accesses and the faults alone; with faults each line of their steps, and the entries of
+the handlers of faults; with exceptions the lines of refused, and the entries and returns of handlers;
+with console the bytes that the firmware printed, in place of lines; with none no more than the last line.
 
 The file of --state is created, or replaced, after the run, however it ended; not where the image or
 the board is refused or the trace can't be written.

@@ -5,11 +5,13 @@ mod events;
 mod header;
 mod image;
 mod keys;
+mod notes;
 mod problem;
 mod settings;
 mod start;
 mod text;
 
 pub use image::write_image_reason;
+pub use notes::write_notes;
 pub use settings::write_board_reason;
 pub use start::write_start_reason;

@@ -1,4 +1,4 @@
-use Rattle.std.proofs.Common.{◌<◌, ◌≤◌, arith}
+use Rattle.std.proofs.Common.{◌<◌, arith}
 use Rattle.command_line.proofs.stops.breakpoint_named.Goals as goal
 use Rattle.command_line.proofs.Searching.{none_more}
 use Rattle.platform.specs.declared.stop.Stop.TheVariants.{Breakpoint}

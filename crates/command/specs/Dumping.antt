@@ -1,0 +1,34 @@
+-- The bytes of memory that go to files after a run.
+use Rattle.std.specs.Prelude.{◌≡◌, ◌⊎◌, ◌+◌, ℕ, zero, suc, Bool, true, false, ◌&&◌, List, [], ◌++◌, is_some}
+use Rattle.std.specs.Prelude.{option_to_list}
+use Rattle.std.specs.List.{list_all}
+use Rattle.command_line.specs.declared.dumps.Dump.{Dump}
+use Rattle.instruction_set.specs.Words.{word_sum}
+use Rattle.output.specs.Output.{IsCutShort, Writing, WritesAll}
+use Rattle.platform.specs.Memory.{Memory, byte_at}
+use Rattle.reference.specs.State.{State}
+
+-- the n bytes from an address on, as far as they are in flash or RAM
+unfoldable pub bytes_from : Memory → ℕ → ℕ → List ℕ
+bytes_from m a zero = []
+bytes_from m a (suc n) = bytes_from m a n ++ option_to_list (byte_at m (word_sum a n))
+
+-- all of them are in flash or RAM
+unfoldable pub are_there : Memory → ℕ → ℕ → Bool
+are_there m a zero = true
+are_there m a (suc n) = are_there m a n && is_some (byte_at m (word_sum a n))
+
+-- all bytes of all dumps are
+abbrev pub have_all : Memory → List Dump → Bool
+have_all m dumps = list_all (λ d. are_there m d.address d.length) dumps
+
+-- the bytes of a dump
+abbrev pub dump_bytes : Dump → State → List ℕ
+dump_bytes dump s = bytes_from s.bus.memory dump.address dump.length
+
+-- the bytes of a dump went to its writer; or a call of the writer failed, and a proper prefix of them did; or memory
+-- ran out, and nothing did
+abbrev pub Dumps : Dump → State → Writing → Writing → Bool → Type 0
+Dumps dump s old new true = WritesAll old new (dump_bytes dump s)
+Dumps dump s old new false =
+    (IsCutShort old.written new.written (dump_bytes dump s) × (new.errors ≡ old.errors + 1)) ⊎ (new ≡ old)

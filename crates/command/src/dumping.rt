@@ -1,0 +1,116 @@
+//! The bytes of memory that go to files after a run.
+
+ghost use Rattle.std.specs.Prelude.{◌≡◌, IfOk, is_ok};
+ghost use Rattle.command.specs.Dumping.{Dumps, are_there, bytes_from, have_all};
+ghost use Rattle.command.specs.Program.{DumpsAll, DumpsToFile};
+
+use crate::last_error::LastError;
+use crate::state_file::StateFile;
+use command_line::Dump;
+use machine::{Fast, Out, Over};
+use std::alloc::{AllocError, Global};
+use std::io;
+use std::marker::Brand;
+use std::rt::Files;
+use std::sync::ledger::{Blank, Ledger};
+
+/// A dump whose file isn't written: its path, and what the system said, or None where memory ran out.
+#[derive(Drop)]
+pub struct FailedDump<'a> {
+    pub path: &'a str,
+    pub error: Option<io::Error>,
+}
+
+/// Returns whether all bytes of these dumps are in flash or RAM.
+pub fn have_all(machine: &Fast, dumps: &[Dump<'_>]) -> bool
+    ensures { result ≡ have_all machine.now.state.bus.memory dumps.now }
+{
+    'dumps: for dump in dumps {
+        if !are_there(machine, dump) {
+            return false;
+        }
+    }
+    true
+}
+
+/// Returns whether all bytes of a dump are in flash or RAM.
+#[tactic(auto, unfolding(crate::specs::Dumping::are_there))]
+pub fn are_there(machine: &Fast, dump: &Dump<'_>) -> bool
+    ensures { result ≡ are_there machine.now.state.bus.memory dump.now.address dump.now.length }
+{
+    let mut there = true;
+    'bytes: for index in 0..dump.length {
+        there = there && machine.byte(dump.address.wrapping_add(index)).is_some();
+    }
+    there
+}
+
+/// Returns the bytes of a dump.
+#[tactic(auto, unfolding(crate::specs::Dumping::bytes_from))]
+fn bytes_from(alloc: Global, machine: &Fast, dump: &Dump<'_>) -> Result<Vec<u8>, AllocError>
+    ensures { IfOk result
+        (λ bytes. bytes.items ≡ bytes_from machine.now.state.bus.memory dump.now.address dump.now.length) }
+{
+    let mut bytes = Vec::new(alloc);
+    'bytes: for index in 0..dump.length {
+        match machine.byte(dump.address.wrapping_add(index)) {
+            Some(byte) => bytes.push(byte)?,
+            None => {}
+        }
+    }
+    Ok(bytes)
+}
+
+/// Puts the bytes of a dump. Returns whether all of them were put.
+fn put_dump<S: Out>(alloc: Global, machine: &Fast, dump: &Dump<'_>, out: &mut S) -> bool
+    ensures { Dumps dump.now machine.now.state (S.writing out.old) (S.writing out.new) result }
+{
+    let Ok(bytes) = bytes_from(alloc, machine, dump) else {
+        return false;
+    };
+    match out.put_all(bytes.as_slice()) {
+        Ok(()) => true,
+        Err(_) => false,
+    }
+}
+
+/// Writes the bytes of a dump to its file. `calls` counts the calls of that file that fail.
+fn write_dump<'a, R: Files + AllocGlobal, K: Ledger>(
+    rt: &R,
+    machine: &Fast,
+    dump: &Dump<'a>,
+    calls: Blank,
+) -> Result<(), FailedDump<'a>>
+    requires name { calls.name ≡ K.name }
+    requires parts { calls.parts ≡ K.parts }
+    requires some { calls.parts ≡ 1 }
+    ensures { DumpsToFile dump.now machine.now.state (is_ok result) }
+{
+    let file = LastError::new(StateFile::new(rt, dump.path));
+    let mut out: Over<LastError<StateFile<'_, R>>, K> = Over::new(file, calls);
+    if put_dump(rt.alloc(), machine, dump, &mut out) {
+        return Ok(());
+    }
+    Err(FailedDump {
+        path: dump.path,
+        error: out.into_inner().error(),
+    })
+}
+
+/// Writes the bytes of each dump to its file, in their order, up to the first that fails.
+#[tactic(auto, using(crate::proofs::Dumped::dumped))]
+pub fn write_dumps<'a, R: Files + AllocGlobal>(
+    rt: &R,
+    machine: &Fast,
+    dumps: &[Dump<'a>],
+) -> Result<(), FailedDump<'a>>
+    ensures { DumpsAll dumps.now machine.now.state (is_ok result) }
+{
+    'dumps: for dump in dumps {
+        match write_dump::<R, Brand>(rt, machine, dump, Blank::new(1)) {
+            Ok(()) => {}
+            Err(failed) => return Err(failed),
+        }
+    }
+    Ok(())
+}
