@@ -7,6 +7,7 @@ mod cuts;
 mod elf_files;
 mod exclusives;
 mod fault_registers;
+mod faulty_steps;
 mod files;
 mod growths;
 mod handlers;

@@ -178,7 +178,7 @@ fn a_line_is_kept_until_it_is_written(rt: HostRuntime) -> Result<(), Fail> {
     Ok(())
 }
 
-/// Memories of boards, and two addresses: whether both have their instructions once each was fetched, or they share a
+/// Images, and two addresses: whether both have their instructions once each was fetched, or they share a
 /// place, so that the second instruction takes it. Whatever is kept, an address never has another one's instruction.
 #[derive(Drop)]
 struct Places {
@@ -201,23 +201,23 @@ impl Rows for Places {
     }
 }
 
-/// The bytes of flash and RAM; two addresses; 1 if both instructions stay, 0 if they share a place; what the row is.
+/// The bytes of the image; two addresses; 1 if both instructions stay, 0 if they share a place; what the row is.
 const SHARED_PLACES: &str = "\
-1000 | 100 500 | 1 | 4 KiB: 512 places would be too few for addresses 1 KiB apart
-1000 | 100 900 | 0 | 4 KiB: 1,024 places, so addresses 2 KiB apart share one
-1000 | 0 7FE | 1 | the first of 1,024 places and the last
-1000 | 0 800 | 0 | the first place again
-1000 | 100 102 | 1 | one halfword after the other
-1000 | 100 20000100 | 0 | an address of flash and one of RAM
+800 | 100 500 | 1 | 2 KiB: 512 places would be too few for addresses 1 KiB apart
+800 | 100 900 | 0 | 2 KiB: 1,024 places, so addresses 2 KiB apart share one
+800 | 0 7FE | 1 | the first of 1,024 places and the last
+800 | 0 800 | 0 | the first place again
+800 | 100 102 | 1 | one halfword after the other
+800 | 100 20000100 | 0 | an address of flash and one of RAM
 4 | 100 500 | 1 | no fewer places than 1,024
 4 | 100 900 | 0 | and no more for 4 bytes
-1004 | 100 900 | 1 | 4 KiB and 4 bytes: 2,048 places
-1004 | 100 1100 | 0 | which addresses 4 KiB apart share
-2000 | 100 900 | 1 | 8 KiB: 2,048 places
-2000 | 100 1100 | 0 | and no more";
+804 | 100 900 | 1 | 2 KiB and 4 bytes: 2,048 places
+804 | 100 1100 | 0 | which addresses 4 KiB apart share
+1000 | 100 900 | 1 | 4 KiB: 2,048 places
+1000 | 100 1100 | 0 | and no more";
 
 #[test]
-fn a_small_board_has_1024_places(rt: HostRuntime) -> Result<(), Fail> {
+fn a_small_image_has_1024_places(rt: HostRuntime) -> Result<(), Fail> {
     let alloc = rt.alloc();
     check(SHARED_PLACES, &mut Places { alloc })
 }

@@ -153,6 +153,14 @@ err
 err For more information, try '--help'.
 err --steps takes a decimal number from 0 to 4294967296.
 
+a number with a sign
+words run --board board.toml --steps +5 image.elf
+words report --board board.toml --steps +5 image.elf
+ends 2
+err marm: usage
+err error: invalid value '+5' for '--steps <N>'
+err --steps takes a decimal number from 0 to 4294967296.
+
 a word that does not exist
 words frob
 ends 2

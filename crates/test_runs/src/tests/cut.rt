@@ -3,7 +3,9 @@
 ghost use Rattle.std.specs.Prelude.{◌≡◌};
 
 use arrayvec::ArrayVec;
-use machine::{Decider, DueTicks, KeptCode, Levels, Machine, Over, RunError, Stop, TaskEnd};
+use machine::{
+    Decider, DueTicks, KeptCode, Levels, Machine, Over, RunError, Stop, TaskEnd, TraceSelection,
+};
 use std::io;
 use std::io::{Read, Write};
 use std::marker::Brand;
@@ -104,6 +106,31 @@ fn run_over<D: Decider, C: KeptCode, L: Levels, U: DueTicks, K: Ledger>(
 {
     let mut out: Over<&mut Cut, K> = Over::new(out, blank);
     machine.run(u64::from(steps), &mut out)
+}
+
+/// A run of at most this number of steps, of which the selected events are written.
+pub(super) fn run_selected<D: Decider, C: KeptCode, L: Levels, U: DueTicks>(
+    machine: &mut Machine<D, C, L, U>,
+    selection: TraceSelection,
+    steps: u32,
+    out: &mut Cut,
+) -> Result<Stop, RunError> {
+    run_selected_over::<D, C, L, U, Brand>(machine, selection, steps, out, Blank::new(1))
+}
+
+fn run_selected_over<D: Decider, C: KeptCode, L: Levels, U: DueTicks, K: Ledger>(
+    machine: &mut Machine<D, C, L, U>,
+    selection: TraceSelection,
+    steps: u32,
+    out: &mut Cut,
+    blank: Blank,
+) -> Result<Stop, RunError>
+    requires name { blank.name ≡ K.name }
+    requires parts { blank.parts ≡ K.parts }
+    requires some { blank.parts ≡ 1 }
+{
+    let mut out: Over<&mut Cut, K> = Over::new(out, blank);
+    machine.run_selected(selection, u64::from(steps), &mut out)
 }
 
 /// A run of a task, of at most this number of steps.

@@ -5,6 +5,7 @@ ghost use Rattle.std.specs.Prelude.{◌≡◌};
 use super::accesses::ACCESSES;
 use super::cut::{Cut, Text};
 use super::exclusives::EXCLUSIVES;
+use super::faulty_steps::FAULTY_STEPS;
 use super::handlers::EXCEPTIONS;
 use super::machines::machine_with;
 use super::run::Run;
@@ -14,7 +15,7 @@ use debugger::{SessionError, session};
 use machine::{
     Ahead, BitLevels, BoardDecodeTable, Buffered, Counting, Decider, DueTicks, In, KeptCode,
     KeptDecisions, KeptPriorities, Levels, Machine, Over, Paged, PlainLevels, Reread, RunError,
-    Search, Slow, Stop, Table, TaskEnd,
+    Search, Slow, Stop, Table, TaskEnd, TraceSelection,
 };
 use std::alloc::Global;
 use std::io;
@@ -63,10 +64,17 @@ struct Ended {
     taken: Text,
 }
 
+/// The steps of a run: the most that are made, and which of their events are written.
+#[derive(Clone, Copy)]
+struct Steps {
+    most: u32,
+    selection: TraceSelection,
+}
+
 /// A run into a writer that is cut.
 fn run_cut<D: Decider, C: KeptCode, L: Levels, U: DueTicks>(
     machine: &mut Machine<D, C, L, U>,
-    steps: u32,
+    steps: Steps,
     ending: Ending,
 ) -> Ended {
     run_over::<D, C, L, U, Brand>(machine, steps, ending, Blank::new(1))
@@ -74,7 +82,7 @@ fn run_cut<D: Decider, C: KeptCode, L: Levels, U: DueTicks>(
 
 fn run_over<D: Decider, C: KeptCode, L: Levels, U: DueTicks, K: Ledger>(
     machine: &mut Machine<D, C, L, U>,
-    steps: u32,
+    steps: Steps,
     ending: Ending,
     blank: Blank,
 ) -> Ended
@@ -84,7 +92,7 @@ fn run_over<D: Decider, C: KeptCode, L: Levels, U: DueTicks, K: Ledger>(
 {
     let below: Over<Cut, K> = Over::new(Cut::new(ALL, ending.most, true), blank);
     let mut out = cut_at(below, ending.at);
-    let stop = machine.run(u64::from(steps), &mut out);
+    let stop = machine.run_selected(steps.selection, u64::from(steps.most), &mut out);
     Ended {
         stop,
         taken: out.into_inner().into_inner().text,
@@ -150,16 +158,25 @@ impl Rows for CutRuns {
     }
 }
 
-/// A run that stands before its steps, and how many steps these are.
+/// The steps of a line, of which these events are written.
+fn steps_of(selection: TraceSelection, line: &str) -> Option<Steps> {
+    Some(Steps {
+        most: number_at(line, 1)?,
+        selection,
+    })
+}
+
+/// A run that stands before its steps, and these steps.
 fn before_steps<D: Decider, C: KeptCode, L: Levels, U: DueTicks>(
     alloc: Global,
     text: &str,
-) -> Option<(Run<D, C, L, U>, u32)> {
+) -> Option<(Run<D, C, L, U>, Steps)> {
     let mut run: Run<D, C, L, U> = Run::of(alloc, text)?;
     let mut steps = None;
     'lines: for line in text.lines().skip(1) {
         match word(line, 0) {
-            "steps" => steps = number_at(line, 1),
+            "steps" => steps = steps_of(TraceSelection::All, line),
+            "faults" => steps = steps_of(TraceSelection::Faults, line),
             "after" => {}
             _ => {
                 if !run.follow(line)? {
@@ -176,7 +193,7 @@ fn is_cut<D: Decider, C: KeptCode, L: Levels, U: DueTicks>(
     alloc: Global,
     text: &str,
 ) -> Option<bool> {
-    let (mut run, steps): (Run<D, C, L, U>, u32) = before_steps(alloc, text)?;
+    let (mut run, steps): (Run<D, C, L, U>, Steps) = before_steps(alloc, text)?;
     let single = Ending {
         most: 1,
         at: NOWHERE,
@@ -201,7 +218,7 @@ fn breaks<D: Decider, C: KeptCode, L: Levels, U: DueTicks>(
     text: &str,
     ending: Ending,
 ) -> Option<bool> {
-    let (mut run, steps): (Run<D, C, L, U>, u32) = before_steps(alloc, text)?;
+    let (mut run, steps): (Run<D, C, L, U>, Steps) = before_steps(alloc, text)?;
     let cut = run_cut(&mut run.machine, steps, ending);
     let trace = str::from_utf8(run.wanted.as_slice()).ok()?;
     let tick = tick_at(trace, ending.at.left)?;
@@ -236,6 +253,7 @@ fn runs_are_cut_at_each_byte(rt: HostRuntime) -> Result<(), Fail> {
             "a refused byte of an unaligned store is a MemManage fault",
         ),
         named(EXCLUSIVES, "a load exclusive in a handler marks nothing"),
+        named(FAULTY_STEPS, "a store that the bus refuses"),
     ];
     'texts: for text in texts {
         check_between(text, "\n\n", &mut runs)?;

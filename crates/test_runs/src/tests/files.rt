@@ -345,6 +345,15 @@ out 3 X 3
 out 4 F FFFFFFFE 2 p mpu xn
 out 4 ! 0 00001001 40000000
 out stop lockup
+err marm: note: SP is FFFFFFFF at the start (the word at 00000000), and the board has 8192 bytes of RAM at 20000000
+
+an interrupt without a vector
+with event = [{ at = 5, nmi = true }, { at = 6, line = 1, what = \"fall\" }, { at = 7, line = 3, what = \"pulse\" }]
+ends 0
+out 1 F 00000008 2 p ok off
+out 2 F 0000000A 2 p ok off
+out stop breakpoint 0
+err marm: note: the script pends interrupt 3, and the image has no vector for it at 0000004C
 
 no TOML
 board flash_base =
@@ -440,6 +449,7 @@ ends 0
 out 1 F 00000008 2 p ok off
 out 2 F 0000000A 2 p ok off
 out stop breakpoint 0
+err marm: note: the script pends interrupt 31, and the image has no vector for it at 000000BC
 
 a program header past the end
 byte 1C 41

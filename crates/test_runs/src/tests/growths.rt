@@ -347,12 +347,20 @@ fn is_refusal(status: u8, err: &[u8]) -> bool {
     }
 }
 
+/// What a run says of its script, unless a growth is refused meanwhile: the first image has two vectors.
+const NOTE: &[u8] =
+    b"marm: note: the script pends interrupt 7, and the image has no vector for it at 0000005C\n";
+
 /// How the program ends, which is to write `wanted`.
 fn ending(rt: &HostRuntime, words: &[String], input: &[u8], wanted: &str) -> Answer {
     let mut out = Cut::whole();
     let mut err = Cut::whole();
     let status = program(rt, words, input, &mut out, &mut err);
-    if status == 0 && out.text.as_slice() == wanted.as_bytes() && err.text.is_empty() {
+    let said = err.text.as_slice();
+    if status == 0
+        && out.text.as_slice() == wanted.as_bytes()
+        && (said.is_empty() || said == NOTE)
+    {
         Answer::Whole
     } else if out.text.is_empty() && is_refusal(status, err.text.as_slice()) {
         Answer::Refused

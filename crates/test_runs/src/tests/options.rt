@@ -30,23 +30,25 @@ out Arguments:
 out   <IMAGE>  The image: an ELF file for ARM of at most 16 MiB, linked to run
 out
 out Options:
-out       --board <FILE>   The board: a TOML file of at most 16 MiB with the memory sizes, the interrupt lines and the \
+out       --board <FILE>             The board: a TOML file of at most 16 MiB with the memory sizes, the interrupt lines and the \
 events
-out       --steps <N>      The most steps (instructions, halves of exception entries, idle ticks) to make, from 0 to \
+out       --steps <N>                The most steps (instructions, halves of exception entries, idle ticks) to make, from 0 to \
 4294967296
-out       --trace <WHICH>  Which lines are written, before the line of the stop: all (the default), refused, \
-exceptions, console or none
-out       --expect <STOP>  The words of the last line after `stop`, as \"breakpoint 0\": status 0 if the run ends so, \
-and 1 if it doesn't
-out       --state <FILE>   A file for the state after the run: registers, clock, faults, regions and exceptions, a \
-line for each value
-out   -h, --help           Print help
+out       --trace <WHICH>            Which lines are written, before the line of the stop: all (the default), refused, \
+faults, exceptions, console or none
+out       --expect <STOP>            The words of the last line, as \"breakpoint 0\" or \"stop breakpoint 0\": status 0 if the \
+run ends so, and 1 if not
+out       --state <FILE>             A file for the state after the run: registers, clock, faults, regions and exceptions, a \
+line for each value; - is standard output, after the trace
+out       --dump <ADDR:LENGTH=FILE>  Memory after the run, as raw bytes, to a file: LENGTH bytes from ADDR on, \
+decimal or 0x and hexadecimal; at most 16 times
+out   -h, --help                     Print help
 out
 out The trace has one line for each access: its tick, kind, address, size in bytes, privilege, outcome,
 out and the rule or region that decided it. Its last line says why the run ended. With --trace refused it
-out has the refused accesses and the faults alone; with exceptions those, and the entries and returns of
-out handlers; with console the bytes that the firmware printed, in place of lines; with none no more than
-out the last line.
+out has the refused accesses and the faults alone; with faults each line of their steps, and the entries of
+out the handlers of faults; with exceptions the lines of refused, and the entries and returns of handlers;
+out with console the bytes that the firmware printed, in place of lines; with none no more than the last line.
 out
 out The file of --state is created, or replaced, after the run, however it ended; not where the image or
 out the board is refused or the trace can't be written.
@@ -128,19 +130,20 @@ impl Ended {
 }
 
 /// For each selection of lines, what a run of the first image writes.
-const TRACES: [(&str, &str); 5] = [
+const TRACES: [(&str, &str); 6] = [
     (
         "all",
         "1 F 00000008 2 p ok off\n2 F 0000000A 2 p ok off\nstop breakpoint 0\n",
     ),
     ("refused", "stop breakpoint 0\n"),
+    ("faults", "stop breakpoint 0\n"),
     ("exceptions", "stop breakpoint 0\n"),
     ("console", "stop breakpoint 0\n"),
     ("none", "stop breakpoint 0\n"),
 ];
 
 /// Words that select no lines.
-const NO_TRACES: [&str; 4] = ["", "All", "nothing", "refused,exceptions"];
+const NO_TRACES: [&str; 5] = ["", "All", "fault", "nothing", "refused,exceptions"];
 
 /// Words of stops: `is_stop` of `command` is proved to take those of each.
 const STOPS: [&str; 6] = [
@@ -153,10 +156,11 @@ const STOPS: [&str; 6] = [
 ];
 
 /// Words that no stop has.
-const NO_STOPS: [&str; 12] = [
+const NO_STOPS: [&str; 13] = [
     "",
     "stop",
-    "stop steps",
+    "stop ",
+    "stop stop steps",
     "step",
     "steps ",
     "breakpoint",
@@ -242,6 +246,14 @@ fn the_help_has_every_option(rt: HostRuntime) -> Result<(), Fail> {
 fn the_expected_stop_is_status_0(rt: HostRuntime) -> Result<(), Fail> {
     assert!(rt; Ended::of(&rt, &FIRST, "10", "breakpoint 0")?.is(0, ""));
     assert!(rt; Ended::of(&rt, &FIRST, "1", "steps")?.is(0, ""));
+    Ok(())
+}
+
+#[test]
+fn the_word_stop_may_come_first(rt: HostRuntime) -> Result<(), Fail> {
+    assert!(rt; Ended::of(&rt, &FIRST, "10", "stop breakpoint 0")?.is(0, ""));
+    let err = "marm: expected steps, ended breakpoint 0\n";
+    assert!(rt; Ended::of(&rt, &FIRST, "10", "stop steps")?.is(1, err));
     Ok(())
 }
 
@@ -336,11 +348,112 @@ fn a_file_for_the_state_is_replaced(rt: HostRuntime) -> Result<(), Fail> {
     Ok(())
 }
 
+/// What is said of an image without a vector table.
+const NO_STACK: &str = "\
+marm: note: SP is FFFFFFFF at the start (the word at 00000000), and the board has 8192 bytes of RAM at 20000000
+";
+
+#[test]
+fn the_state_goes_to_standard_output_after_the_trace(rt: HostRuntime) -> Result<(), Fail> {
+    let ended = Ended::with(&rt, &FIRST, "10", "--state", "-")?;
+    assert!(rt; ended.is(0, ""));
+    let text = format!(in rt.alloc(); "{}{LAST_STATE}", TRACES[0].1)?;
+    assert!(rt; ended.out.text.as_slice() == text.as_bytes());
+    assert!(rt; !fs::exists(&rt, "-")?);
+    Ok(())
+}
+
+/// Dumps of the first image's run, and what their files have: its code in flash, the 0xFF after it, RAM.
+const DUMPS: [(&str, &[u8]); 4] = [
+    ("8:4=options.bin", b"\x05\x20\0\xbe"),
+    ("0x8:0x6=options.bin", b"\x05\x20\0\xbe\xff\xff"),
+    ("0xfff:1=options.bin", b"\xff"),
+    ("0x20001FFE:2=options.bin", b"\0\0"),
+];
+
+/// Texts that ask for no dump.
+const NO_DUMPS: [&str; 9] = [
+    "",
+    "options.bin",
+    "8=options.bin",
+    "8:4",
+    "8:0=options.bin",
+    "+8:4=options.bin",
+    "8:-4=options.bin",
+    "0x:4=options.bin",
+    "0x100000000:4=options.bin",
+];
+
+/// Ranges that aren't all in memory.
+const OUTSIDE: [&str; 5] = [
+    "0xfff:2=options.bin",
+    "0x1FFFFFFF:2=options.bin",
+    "0x20002000:1=options.bin",
+    "0xFFFFFFFF:2=options.bin",
+    "0x40000000:4=options.bin",
+];
+
+/// The path of the dumps.
+const BYTES: &str = "options.bin";
+
+#[test]
+fn dumps_go_to_their_files(rt: HostRuntime) -> Result<(), Fail> {
+    'dumps: for (dump, bytes) in DUMPS.iter() {
+        assert!(rt;
+            Ended::with(&rt, &FIRST, "10", "--dump", dump)?.is(0, ""),
+            "{dump}"
+        );
+        assert!(rt; fs::read(&rt, BYTES)?.as_slice() == *bytes, "{dump}");
+        fs::remove_file(&rt, BYTES)?;
+    }
+    Ok(())
+}
+
+#[test]
+fn other_dumps_are_wrong_arguments(rt: HostRuntime) -> Result<(), Fail> {
+    'dumps: for dump in NO_DUMPS.iter() {
+        assert!(rt;
+            Ended::with(&rt, &FIRST, "10", "--dump", dump)?.status == 2,
+            "{dump}"
+        );
+    }
+    Ok(())
+}
+
+#[test]
+fn dumps_outside_memory_run_nothing(rt: HostRuntime) -> Result<(), Fail> {
+    'dumps: for dump in OUTSIDE.iter() {
+        let ended = Ended::with(&rt, &FIRST, "10", "--dump", dump)?;
+        assert!(rt; ended.status == 2 && ended.out.text.is_empty(), "{dump}");
+        assert!(rt; !fs::exists(&rt, BYTES)?, "{dump}");
+    }
+    Ok(())
+}
+
+#[test]
+fn a_dump_that_cannot_be_written_is_status_5(rt: HostRuntime) -> Result<(), Fail> {
+    let err = "marm: io\n  /dev/full: No space left on device (os error 28)\n";
+    assert!(rt; Ended::with(&rt, &FIRST, "10", "--dump", "8:4=/dev/full")?.is(5, err));
+    let err = "marm: io\n  --dump: the path is empty\n";
+    assert!(rt; Ended::with(&rt, &FIRST, "10", "--dump", "8:4=")?.is(5, err));
+    Ok(())
+}
+
+#[test]
+fn a_semihosting_call_is_named(rt: HostRuntime) -> Result<(), Fail> {
+    let mut image = FIRST;
+    image[NUMBER_AT] = 171;
+    let err = "marm: note: breakpoint 171 is a semihosting call, which marm doesn't serve\n";
+    assert!(rt; Ended::with(&rt, &image, "10", "--trace", "none")?.is(0, err));
+    Ok(())
+}
+
 #[test]
 fn a_stop_of_status_4_leaves_its_state(rt: HostRuntime) -> Result<(), Fail> {
     let mut image = FIRST;
     image[HEADERS_AT] = 0;
-    assert!(rt; Ended::with(&rt, &image, "10", "--state", STATE)?.is(4, ""));
+    let ended = Ended::with(&rt, &image, "10", "--state", STATE)?;
+    assert!(rt; ended.is(4, NO_STACK));
     let state = last_state(&rt)?;
     let text = str::from_utf8(state.as_slice()).unwrap_or("");
     assert!(rt; text.contains("\nCFSR 00001001\nHFSR 40000000\n"));

@@ -10,19 +10,20 @@
 //! | `reg NUMBER VALUE`, `special NUMBER VALUE` | a register is placed, `special` as MSR numbers it |
 //! | `refused WHY` and a place | the place is refused so |
 //! | `steps COUNT` | the most steps that are made |
+//! | `faults COUNT` | the most steps that are made, of which the events of `Faults` are written |
 //! | `task COUNT END` | the most steps of a run of a task, and how it ends: `done`, `other`, `not` or `stopped` |
 //! | `trace` and a line | a line of what all the steps write |
 //! | `after reg REGISTER VALUE` | what the register holds now: R0 to R12 by number, others by name |
 //! | `after byte ADDRESS VALUE` | the byte there now, or `none` |
 //! | `after region NUMBER RBAR RASR` | what the region holds now, or `none` |
 
-use super::cut::{Cut, Text, push_line, run, run_task};
+use super::cut::{Cut, Text, push_line, run, run_selected, run_task};
 use super::machines::{event, place, place_vectors, scripted};
 use instruction_set::unpredictable::UnpredictableCase;
 use machine::{
     Ahead, BitLevels, BoardDecodeTable, Counting, Decider, DueTicks, KeptCode, KeptDecisions,
     KeptPriorities, Levels, Machine, PlaceError, PlainLevels, RegValues, Reread, Search, Stop,
-    Table, TaskEnd,
+    Table, TaskEnd, TraceSelection,
 };
 use platform::stop::LeftOut;
 use std::alloc::Global;
@@ -99,6 +100,7 @@ impl<D: Decider, C: KeptCode, L: Levels, U: DueTicks> Run<D, C, L, U> {
         match name {
             "trace" => Some(push_line(&mut self.wanted, rest).is_some()),
             "steps" => Some(run(&mut self.machine, number_at(rest, 0)?, &mut self.out).is_ok()),
+            "faults" => Some(self.faults(number_at(rest, 0)?)),
             "task" => Some(self.task(rest)? == word(rest, 1)),
             "refused" => self.refuses(rest),
             "event" => Some(event(line).is_some()),
@@ -107,6 +109,17 @@ impl<D: Decider, C: KeptCode, L: Levels, U: DueTicks> Run<D, C, L, U> {
             "after" => holds(&self.machine, rest),
             _ => Some(self.machine.place(place(line)?).is_ok()),
         }
+    }
+
+    /// Makes steps, of which the events of `Faults` are written, and returns whether the run ended well.
+    fn faults(&mut self, steps: u32) -> bool {
+        run_selected(
+            &mut self.machine,
+            TraceSelection::Faults,
+            steps,
+            &mut self.out,
+        )
+        .is_ok()
     }
 
     /// Runs a task, and returns how that ended.

@@ -1,16 +1,12 @@
 //! Runs of which fewer events are written.
 
-ghost use Rattle.std.specs.Prelude.{◌≡◌};
-
-use super::cut::Cut;
+use super::cut::run_selected;
 use super::run::Run;
 use machine::{
     Ahead, BitLevels, BoardDecodeTable, Counting, Decider, DueTicks, KeptCode, KeptDecisions,
-    KeptPriorities, Levels, Machine, Over, PlainLevels, Reread, Search, Table, TraceSelection,
+    KeptPriorities, Levels, PlainLevels, Reread, Search, Table, TraceSelection,
 };
 use std::alloc::Global;
-use std::marker::Brand;
-use std::sync::ledger::{Blank, Ledger};
 use std::test::*;
 
 /// Line 0 is pulsed at tick 1, and its handler at 200 returns by BX LR. STR R0, [R1] at 100 sends `A` to the
@@ -28,7 +24,7 @@ reg 1 40000000
 reg 2 100";
 
 /// How many steps are made.
-const STEPS: u64 = 5;
+const STEPS: u32 = 5;
 
 /// What the machine holds after them: it has entered no handler of HardFault yet.
 const AFTER: [&str; 3] = [
@@ -45,7 +41,7 @@ struct Row {
 }
 
 /// Each selection.
-static ROWS: [Row; 5] = [
+static ROWS: [Row; 6] = [
     Row {
         selection: TraceSelection::All,
         text: "\
@@ -87,6 +83,15 @@ stop steps
 ",
     },
     Row {
+        selection: TraceSelection::Faults,
+        text: "\
+5 F 00000102 2 p ok off
+5 S 00000100 4 p bus off
+5 ! 3 00008200 40000000
+stop steps
+",
+    },
+    Row {
         selection: TraceSelection::Exceptions,
         text: "\
 2 X 16
@@ -117,7 +122,7 @@ fn writes<D: Decider, C: KeptCode, L: Levels, U: DueTicks>(
             return None;
         }
     }
-    if !run_selected(&mut run.machine, row.selection, &mut run.out) {
+    if run_selected(&mut run.machine, row.selection, STEPS, &mut run.out).is_err() {
         return Some(false);
     }
     Some(run.out.text.as_slice() == row.text.as_bytes() && is_after(&mut run)?)
@@ -133,29 +138,6 @@ fn is_after<D: Decider, C: KeptCode, L: Levels, U: DueTicks>(
         }
     }
     Some(true)
-}
-
-/// Makes the steps, and returns whether the run ended well.
-fn run_selected<D: Decider, C: KeptCode, L: Levels, U: DueTicks>(
-    machine: &mut Machine<D, C, L, U>,
-    selection: TraceSelection,
-    out: &mut Cut,
-) -> bool {
-    run_over::<D, C, L, U, Brand>(machine, selection, out, Blank::new(1))
-}
-
-fn run_over<D: Decider, C: KeptCode, L: Levels, U: DueTicks, K: Ledger>(
-    machine: &mut Machine<D, C, L, U>,
-    selection: TraceSelection,
-    out: &mut Cut,
-    blank: Blank,
-) -> bool
-    requires name { blank.name ≡ K.name }
-    requires parts { blank.parts ≡ K.parts }
-    requires some { blank.parts ≡ 1 }
-{
-    let mut out: Over<&mut Cut, K> = Over::new(out, blank);
-    machine.run_selected(selection, STEPS, &mut out).is_ok()
 }
 
 #[test]

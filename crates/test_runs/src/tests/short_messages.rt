@@ -61,8 +61,8 @@ information, try '--help'.\n--steps takes a decimal number from 0 to 4294967296.
     (
         "a selection with a carriage return",
         2,
-        "marm: usage\nerror: invalid value 'all\\u000D' for '--trace <WHICH>'\n--trace takes all, refused, exceptions, \
-console or none.\n",
+        "marm: usage\nerror: invalid value 'all\\u000D' for '--trace <WHICH>'\n--trace takes all, refused, faults, \
+exceptions, console or none.\n",
         &["run", "--board=board.toml", "--steps=1", "image.elf"],
         "--trace=all\r",
     ),
@@ -70,8 +70,8 @@ console or none.\n",
         "an expected stop with separators",
         2,
         "marm: usage\nerror: invalid value 'steps\\u2028\\u2029' for '--expect <STOP>'\n--expect takes the words of a \
-stop line after `stop`: steps, breakpoint N (N from 0 to 255), reset, lockup,\nor unpredictable or outofprofile and a \
-name.\n",
+stop line, with or without `stop`: steps, breakpoint N (N from 0 to 255), reset,\nlockup, or unpredictable or \
+outofprofile and a name.\n",
         &["run", "--board=board.toml", "--steps=1", "image.elf"],
         "--expect=steps\u{2028}\u{2029}",
     ),

@@ -97,3 +97,51 @@ V 00000004 4 p ok vec | flash p read 0 | yes | a vector is read";
 fn cells_are_touched(rt: HostRuntime) -> Result<(), Fail> {
     check(TOUCHED, &mut Touched { alloc: rt.alloc() })
 }
+
+/// Steps that begin at an address, and the instructions that they are counted as.
+#[derive(Drop)]
+struct Instructions {
+    alloc: Global,
+}
+
+impl Rows for Instructions {
+    fn holds(&mut self, row: &str) -> Option<bool> {
+        let mut survey = Survey::new(self.alloc, &SMALL_BOARD).ok()?;
+        let moment = moment('p', 0, number_at(part(row, 0), 0)?);
+        take_step(&mut survey, &moment, part(row, 1))?;
+        let by = privileged(word(part(row, 2), 1))?;
+        let address = number_at(part(row, 2), 2)?;
+        let number = match word(part(row, 2), 0) {
+            "flash" => survey.flash_code.number(by, address),
+            "ram" => survey.ram_code.number(by, address),
+            _ => return None,
+        };
+        Some(number == long_at(part(row, 3), 0)?)
+    }
+}
+
+/// The PC when a step begins; its events; a memory, a privilege and an address; how many instructions are counted there;
+/// what the row is.
+const INSTRUCTIONS: &str = "\
+00000100 | F 00000100 2 p ok off | flash p 100 | 1 | an instruction
+00000100 | F 00000100 2 p ok off | flash p 101 | 1 | the second byte of its first halfword
+00000100 | F 00000100 2 p ok off | flash p 102 | 0 | the halfword after it
+00000100 | F 00000100 2 p ok off | flash p FE | 0 | the halfword before it
+00000100 | F 00000100 2 p ok off | flash u 100 | 0 | the other privilege
+00000100 | F 00000100 2 p ok off | ram p 20000100 | 0 | the other memory
+00000100 | F 00000100 2 u ok r0 | flash u 100 | 1 | unprivileged code
+00000100 | F 00000100 2 p ok off, F 00000102 2 p ok off | flash p 100 | 1 | a 32-bit instruction is counted once
+00000100 | F 00000100 2 p ok off, F 00000102 2 p ok off | flash p 102 | 0 | and not at its second halfword
+00000100 | F 00000100 2 p mpu none, ! 4 1 0 | flash p 100 | 0 | a fetch that was refused
+00000100 | L 00000100 2 p ok off | flash p 100 | 0 | a load is no fetch
+00000100 | K 20000100 4 p ok off | flash p 100 | 0 | a step that pushes is no instruction
+00000000 | F 00000000 2 p ok off | flash p 0 | 1 | the first halfword of flash
+00000FFE | F 00000FFE 2 p ok off | flash p FFE | 1 | the last halfword of flash
+00001000 | F 00001000 2 p ok off | flash p 1000 | 0 | the first halfword after flash
+20000000 | F 20000000 2 p ok off | ram p 20000000 | 1 | the first halfword of RAM
+20001FFE | F 20001FFE 2 p ok off | ram p 20001FFE | 1 | the last halfword of RAM";
+
+#[test]
+fn instructions_are_counted(rt: HostRuntime) -> Result<(), Fail> {
+    check(INSTRUCTIONS, &mut Instructions { alloc: rt.alloc() })
+}

@@ -1,4 +1,4 @@
-//! The rows of settings and of refusals.
+//! The rows of settings and of faults.
 
 use super::words::{moment, take_step};
 use mpu::MpuRegister;
@@ -7,7 +7,7 @@ use platform::board::SMALL_BOARD;
 use std::alloc::Global;
 use std::test::*;
 use survey::{Moment, Survey};
-use test_tables::{Rows, check, long_at, number_at, part};
+use test_tables::{Rows, check, long_at, number_at, part, word};
 
 /// A moment at which region 0, which RNR selects after a reset, has this address; None where RBAR doesn't take it.
 fn region_at(base: u32) -> Option<Moment> {
@@ -63,16 +63,16 @@ fn settings_have_rows(rt: HostRuntime) -> Result<(), Fail> {
     check(SETTINGS, &mut Settings { alloc: rt.alloc() })
 }
 
-/// Surveys of refusals at PCs that differ, and of one step at the first PC after them.
+/// Surveys of faults at PCs that differ, and of one step at the first PC after them.
 #[derive(Drop)]
-struct Refusals {
+struct Faults {
     alloc: Global,
 }
 
-impl Rows for Refusals {
+impl Rows for Faults {
     fn holds(&mut self, row: &str) -> Option<bool> {
         let mut survey = Survey::new(self.alloc, &SMALL_BOARD).ok()?;
-        'refusals: for step in 0..number_at(part(row, 0), 0)? {
+        'faults: for step in 0..number_at(part(row, 0), 0)? {
             take_step(
                 &mut survey,
                 &moment('u', 0, step),
@@ -80,32 +80,42 @@ impl Rows for Refusals {
             )?;
         }
         take_step(&mut survey, &moment('u', 0, 0), part(row, 1))?;
-        let (mut times, rows) = (0, survey.refusals.rows());
-        if let Some(refusal) = rows.last() {
-            times = refusal.times;
+        let (mut times, rows) = (0, survey.faults.rows());
+        let mut is_refused = false;
+        if let Some(fault) = rows.last() {
+            times = fault.times;
+            is_refused = fault.refused.is_some();
         }
         let is_used = rows.len() as u64 == long_at(part(row, 2), 0)?;
         let is_last = times == long_at(part(row, 3), 0)?;
-        Some(is_used && is_last && survey.refusals.number() == long_at(part(row, 4), 0)?)
+        let is_access = is_refused == (word(part(row, 4), 0) == "access");
+        let is_number = survey.faults.number() == long_at(part(row, 5), 0)?;
+        Some(is_used && is_last && is_access && is_number)
     }
 }
 
-/// How many PCs have a refused load each; the events of a step at the first PC after that; how many rows there are; how
-/// often the last one came; how many accesses were refused; what the row is.
-const REFUSALS: &str = "\
-0 | L 20000000 4 u ok off | 0 | 0 | 0 | nothing is refused
-1 | | 1 | 1 | 1 | one refusal
-1 | L 20000000 4 u mpu none, ! 4 82 0 | 1 | 2 | 2 | the same refusal
-1 | L 20000000 4 u mpu none, ! 4 80 0 | 2 | 1 | 2 | another fault
-1 | L 20000000 4 u mpu none | 2 | 1 | 2 | no fault
-1 | L 20000004 4 u mpu none, ! 4 82 0 | 2 | 1 | 2 | another address
-1 | L 20000000 2 u mpu none, ! 4 82 0 | 2 | 1 | 2 | another size
-1 | S 20000000 4 u mpu none, ! 4 82 0 | 2 | 1 | 2 | another kind
-2 | L 20000000 4 u mpu none, ! 4 82 0 | 3 | 1 | 3 | it doesn't follow the same refusal
-40 | | 40 | 1 | 40 | 64 refusals
-41 | | 40 | 1 | 41 | the 65th has no row";
+/// How many PCs have a refused load and its fault each; the events of a step at the first PC after that; how many rows
+/// there are; how often the last one came; whether it has an access; how many faults there were; what the row is.
+const FAULTS: &str = "\
+0 | L 20000000 4 u ok off | 0 | 0 | no | 0 | nothing is recorded
+0 | ! 4 10000 0 | 1 | 1 | no | 1 | a fault without an access
+0 | F 100 2 u ok off, ! 4 10000 0 | 1 | 1 | no | 1 | an access that wasn't refused is that of no fault
+0 | L 20000000 4 u bus off, ! 4 8200 0 | 1 | 1 | access | 1 | the bus refused the access of a fault
+0 | L 20000000 4 u mpu none | 0 | 0 | no | 0 | a refused access alone is no fault
+1 | | 1 | 1 | access | 1 | one fault
+1 | L 20000000 4 u mpu none, ! 4 82 0 | 1 | 2 | access | 2 | the same fault
+1 | L 20000000 4 u mpu none, ! 4 80 0 | 2 | 1 | access | 2 | another bit of CFSR
+1 | L 20000000 4 u mpu none, ! 4 82 1 | 2 | 1 | access | 2 | another bit of HFSR
+1 | ! 4 82 0 | 2 | 1 | no | 2 | no access
+1 | L 20000000 4 u mpu none, ! 4 82 0, ! 4 82 0 | 2 | 1 | no | 3 | the access is that of the first fault after it
+1 | L 20000004 4 u mpu none, ! 4 82 0 | 2 | 1 | access | 2 | another address
+1 | L 20000000 2 u mpu none, ! 4 82 0 | 2 | 1 | access | 2 | another size
+1 | S 20000000 4 u mpu none, ! 4 82 0 | 2 | 1 | access | 2 | another kind
+2 | L 20000000 4 u mpu none, ! 4 82 0 | 3 | 1 | access | 3 | it doesn't follow the same fault
+40 | | 40 | 1 | access | 40 | 64 faults
+41 | | 40 | 1 | access | 41 | the 65th has no row";
 
 #[test]
-fn refusals_have_rows(rt: HostRuntime) -> Result<(), Fail> {
-    check(REFUSALS, &mut Refusals { alloc: rt.alloc() })
+fn faults_have_rows(rt: HostRuntime) -> Result<(), Fail> {
+    check(FAULTS, &mut Faults { alloc: rt.alloc() })
 }

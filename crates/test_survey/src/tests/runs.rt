@@ -41,13 +41,16 @@ fn a_run_is_counted(rt: HostRuntime) -> Result<(), Fail> {
     'kinds: for (kind, number) in [(Kind::Fetch, 5), (Kind::Load, 2), (Kind::Store, 1)] {
         assert!(rt; survey.counts.number(Rule::MpuOff, true, kind, None) == number);
     }
-    assert!(rt; survey.refusals.number() == 0);
+    assert!(rt; survey.faults.number() == 0);
     assert!(rt; survey.settings.rows().is_empty());
     assert!(rt; survey.flash.is_marked(true, Touch::Executed, 0));
     assert!(rt; !survey.flash.is_marked(true, Touch::Executed, 1));
     assert!(rt; survey.flash.is_marked(true, Touch::Read, 0));
     assert!(rt; survey.ram.is_marked(true, Touch::Written, 8));
     assert!(rt; !survey.ram.is_marked(true, Touch::Written, 7));
+    'instructions: for (address, number) in [(6, 0), (8, 1), (0xA, 1), (0x10, 1), (0x12, 0)] {
+        assert!(rt; survey.flash_code.number(true, address) == number);
+    }
     assert!(rt; survey.timeline.used() == 5);
     assert!(rt; survey.timeline.is_marked(4, Mark::Privileged));
     Ok(())
