@@ -269,7 +269,7 @@ def missing(repo, span, page):
         if re.match(r"^[\w-]+(-[\w]+)+$", span):
             return [] if span in repo.texts or repo.has(span, page) else [span]
     lost = []
-    for chain in re.findall(r"[A-Za-z_][\w'<>:.!-]*", re.sub(r"\b(FLASH|RAM)\b", "", span)):
+    for chain in re.findall(r"[A-Za-z_][\w'<>:.!-]*", re.sub(r"\b(FLASH|RAM)\b|\b0x[0-9A-F]+|\\[ux][0-9A-F]*", "", span)):
         chain = chain.strip(":.!<>")
         generic = re.sub(r"<[^>]*>?", "", chain)
         parts = [part for part in re.split(r"::|\.", generic) if part]
@@ -298,7 +298,7 @@ def known(repo, word, page):
 
 
 # ids, attributes and elements of the page that the crate report writes
-PAGE_ID = re.compile(r"(data|cells|lane|refusal|region|[rs]\d+|none|bg)-[\w-]+|console-bytes|all-refusals|rect")
+PAGE_ID = re.compile(r"(data|cells|lane|fault|code|region|[rs]\d+|none|bg)-[\w-]+|console-bytes|all-refusals|rect")
 
 
 # options of compilers, linkers and disassemblers
