@@ -30,7 +30,7 @@ abbrev pub cap : ℕ
 cap = 2 ^ 64 - 1
 
 -- a counter after one more is counted at a place
-counted_one : (xs : List ℕ) (at place : ℕ) → place < length xs
+pub counted_one : (xs : List ℕ) (at place : ℕ) → place < length xs
     → get_or (counted_at xs at) place 0 ≡ cond (at == place) (one_more (get_or xs place 0)) (get_or xs place 0)
 counted_one xs at place below = grind (arith, common_steps, nat_tests)
 
@@ -59,12 +59,12 @@ event_counted m v tick place what below =
     parts_counted m v tick place (access_of what) (byte_of what) (recorded_fault_of what) below
 
 -- one event, and then k others
-one_then : (b : Bool) (n after k total : ℕ) → n ≤ cap → after ≡ cond b (one_more n) n → total ≡ min (after + k) cap
+pub one_then : (b : Bool) (n after k total : ℕ) → n ≤ cap → after ≡ cond b (one_more n) n → total ≡ min (after + k) cap
     → total ≡ min (n + cond b (1 + k) k) cap
 one_then true n after k total small one rest = omega arith
 one_then false n after k total small one rest = omega arith
 
-stays_small : (b : Bool) (n after : ℕ) → n ≤ cap → after ≡ cond b (one_more n) n → after ≤ cap
+pub stays_small : (b : Bool) (n after : ℕ) → n ≤ cap → after ≡ cond b (one_more n) n → after ≤ cap
 stays_small true n after small one = omega arith
 stays_small false n after small one = omega arith
 
@@ -119,7 +119,7 @@ unfolding with_step
 step_on s v place below small = step_by s v place s.stop refl below small
 
 -- two runs, one after the other
-two_runs : (n mid last k j all : ℕ) → mid ≡ min (n + k) cap → last ≡ min (mid + j) cap → all ≡ k + j
+pub two_runs : (n mid last k j all : ℕ) → mid ≡ min (n + k) cap → last ≡ min (mid + j) cap → all ≡ k + j
     → last ≡ min (n + all) cap
 two_runs n mid last k j all one two both = omega arith
 

@@ -6,3 +6,4 @@ pub mod CountedLines
 pub mod Times
 pub mod Lanes
 pub mod Regions
+pub mod CodeCounting

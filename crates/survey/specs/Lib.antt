@@ -11,3 +11,4 @@ pub mod LineLaw
 pub mod SumLaw
 pub mod TimeLaw
 pub mod RegionLaw
+pub mod CodeLaw

@@ -1,5 +1,6 @@
 //! What holds of surveys: each law is the contract of a function that does nothing.
 
+ghost use Rattle.survey.specs.CodeLaw.{CodeIsCounted, HalfwordsDiffer};
 ghost use Rattle.survey.specs.CountLaw.{CountersCount, CountersDiffer};
 ghost use Rattle.survey.specs.LineLaw.{CountedHaveLines, EachHasOneLine};
 ghost use Rattle.survey.specs.RegionLaw.{RegionsStay};
@@ -11,6 +12,14 @@ ghost use Rattle.survey.specs.TimeLaw.{LanesStay, TimelinesShow};
 pub fn counters_count_events()
     ensures events { CountersCount }
     ensures apart { CountersDiffer }
+{}
+
+/// A counter of code has counted the instructions of the steps that began at its halfword in code of its privilege, up
+/// to its highest value, 2^64 - 1; and no two halfwords have one counter, nor have two privileges.
+pub fn code_counters_count_instructions()
+    ensures flash { CodeIsCounted (λ v. v.flash_code) }
+    ensures ram { CodeIsCounted (λ v. v.ram_code) }
+    ensures apart { HalfwordsDiffer }
 {}
 
 /// The line of an event that a counter counts is that of an access of its rule, privilege, kind and outcome; and each
