@@ -80,9 +80,10 @@ impl CodeCounts {
         }
     }
 
-    /// Returns the address of the first byte of the memory, and how many halfwords it has.
+    /// Returns the address of the first byte of the memory, and how many halfwords it has, at most those of a mebibyte.
     pub fn span(&self) -> (u32, usize)
-        ensures { result ≡ record { 0 = self.now.base; 1 = self.now.halfwords } }
+        ensures value { result ≡ record { 0 = self.now.base; 1 = self.now.halfwords } }
+        ensures few { result.1 ≤ 0x8_0000 }
     {
         (self.base, self.halfwords)
     }

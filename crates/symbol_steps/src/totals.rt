@@ -1,10 +1,12 @@
 //! Numbers of instructions, by privilege, and their shares.
 
+ghost use Rattle.std.specs.Prelude.{◌≡◌, ◌<◌};
+ghost use Rattle.survey.specs.CodeCounts.{code_number};
+ghost use Rattle.symbol_steps.specs.Totals.{joined, memory_totals, number_at, survey_totals, totals_by, totals_sum, without};
+
+use crate::cover::address_of;
 use std::fmt;
 use survey::{CodeCounts, Survey};
-
-/// How many halfwords a memory has at most.
-pub const MOST_HALFWORDS: usize = 0x8_0000;
 
 /// Numbers of instructions. Each stays at its highest value, 2^64 - 1.
 #[derive(Clone, Copy)]
@@ -21,7 +23,9 @@ impl Totals {
     };
 
     /// Returns how many there were at an address of a memory.
-    pub fn at(code: &CodeCounts, address: u32) -> Self {
+    pub fn at(code: &CodeCounts, address: u32) -> Self
+        ensures { result ≡ totals_by (λ privileged. code_number code.now privileged address) }
+    {
         Totals {
             unprivileged: code.number(false, address),
             privileged: code.number(true, address),
@@ -29,31 +33,47 @@ impl Totals {
     }
 
     /// Returns how many there were in all.
-    pub fn of_all(survey: &Survey) -> Self {
+    pub fn of_all(survey: &Survey) -> Self
+        ensures { result ≡ survey_totals survey.now }
+    {
         Totals::of_memory(&survey.flash_code).and(Totals::of_memory(&survey.ram_code))
     }
 
     /// Returns how many there were in a memory.
-    fn of_memory(code: &CodeCounts) -> Self {
-        let (base, halfwords) = code.span();
+    #[tactic(auto, unfolding(crate::specs::Totals::memory_totals))]
+    fn of_memory(code: &CodeCounts) -> Self
+        ensures { result ≡ memory_totals code.now }
+    {
+        let (_, halfwords) = code.span();
         let mut sum = Totals::NONE;
-        'halfwords: for halfword in 0..halfwords.min(MOST_HALFWORDS) {
-            let offset = (halfword as u32).wrapping_mul(2);
-            sum = sum.and(Totals::at(code, base.wrapping_add(offset)));
+        'halfwords: for halfword in 0..halfwords {
+            sum = sum.and(Totals::at_halfword(code, halfword));
         }
         sum
     }
 
+    /// Returns how many there were at a halfword of a memory.
+    fn at_halfword(code: &CodeCounts, halfword: usize) -> Self
+        requires { halfword < code.now.halfwords }
+        ensures { result ≡ totals_by (λ privileged. number_at code.now privileged halfword) }
+    {
+        Totals::at(code, address_of(code, halfword))
+    }
+
     /// Returns these and some more.
-    pub fn and(self, more: Totals) -> Self {
+    pub fn and(self, more: Totals) -> Self
+        ensures { result ≡ joined self more }
+    {
         Totals {
             unprivileged: self.unprivileged.saturating_add(more.unprivileged),
             privileged: self.privileged.saturating_add(more.privileged),
         }
     }
 
-    /// Returns these without some.
-    pub fn less(self, some: Totals) -> Self {
+    /// Returns these without some, 0 where there are more of those.
+    pub fn less(self, some: Totals) -> Self
+        ensures { result ≡ without self some }
+    {
         Totals {
             unprivileged: self.unprivileged.saturating_sub(some.unprivileged),
             privileged: self.privileged.saturating_sub(some.privileged),
@@ -61,7 +81,9 @@ impl Totals {
     }
 
     /// Returns those of both privileges.
-    pub fn sum(self) -> u64 {
+    pub fn sum(self) -> u64
+        ensures { result ≡ totals_sum self }
+    {
         self.unprivileged.saturating_add(self.privileged)
     }
 }

@@ -1,0 +1,5 @@
+pub mod Sums
+pub mod Named
+pub mod Extents
+pub mod Alone
+pub mod Ranked

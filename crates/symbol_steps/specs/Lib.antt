@@ -1,0 +1,4 @@
+pub mod Totals
+pub mod Symbols
+pub mod Ends
+pub mod Rows
