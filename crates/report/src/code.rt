@@ -3,10 +3,9 @@
 use crate::escape::Escaped;
 use crate::numbers::{ByteCount, Thousands};
 use crate::page::{Part, Report, write_part};
-use crate::ranking::{Ranking, SymbolSteps};
-use crate::totals::{Share, Totals};
 use std::io;
 use std::io::Write;
+use symbol_steps::{Ranking, Share, SymbolSteps, Totals};
 use symbols::Symbols;
 
 const CAPTION: &str =

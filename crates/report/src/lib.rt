@@ -15,14 +15,12 @@ mod names;
 mod numbers;
 mod page;
 mod permissions;
-mod ranking;
 mod regions;
 mod rows;
 mod rules;
 mod settings;
 mod style;
 mod timeline;
-mod totals;
 mod words;
 
 pub use html_page::HtmlPage;

@@ -11,12 +11,12 @@ use crate::regions::write_regions;
 use crate::rules::{accesses, handlers, refused, write_rules};
 use crate::style::STYLE;
 use crate::timeline::write_timeline;
-use crate::totals::Totals;
 use machine::{Fast, Stop, stop_line};
 use platform::access::Cause;
 use std::io::Write;
 use std::{io, str};
 use survey::Survey;
+use symbol_steps::Totals;
 use symbols::Symbols;
 
 /// What a page is made of.

@@ -1,6 +1,6 @@
 -- A symbol that begins alone among the bytes that it covers names each of their addresses, and no symbol names an address
 -- that it doesn't cover.
-use Rattle.std.proofs.Common.{◌≡◌, inl, inr, ℕ, zero, suc, ◌+◌, ◌^◌, ◌<◌, ◌≤◌, Bool, true, false, not, cond, ◌&&◌, ◌||◌}
+use Rattle.std.proofs.Common.{◌≡◌, inl, inr, ℕ, zero, suc, ◌^◌, ◌<◌, ◌≤◌, Bool, true, false, not, cond, ◌&&◌}
 use Rattle.std.proofs.Common.{◌==◌, nat_lt, nat_le, List, [], ◌∷◌, length, get_or, Option, Some, None, refl, sym, ap}
 use Rattle.std.proofs.Common.{◌∙◌, arith, ◌⊎◌, subst}
 use Rattle.std.specs.List.{Contains, list_all}
@@ -27,8 +27,8 @@ found_here false best u t is = inl is
 found_here true None u t is = let e : u ≡ t = cc in inr (refl, e)
 found_here true (Some b) u t is =
     elim (picked (nat_lt b.address u.address) b u t is) [
-    | inl e ↦ inl e
-    | inr e ↦ inr (refl, e)
+      | inl e ↦ inl e
+      | inr e ↦ inr (refl, e)
     ]
 
 -- the nearest symbol of a list is one of it, of which a test holds if it holds of all
@@ -39,12 +39,12 @@ found_in latest above a p best [] t all is = inl is
 found_in latest above a p best (u ∷ list) t all is =
     let parts = and_parts (p u) (list_all p list) all in
     elim (found_in latest above a p (or_nearer (covers latest above a u) best u) list t parts.1 is) [
-    | inl e ↦ elim (found_here (covers latest above a u) best u t e) [
+      | inl e ↦ elim (found_here (covers latest above a u) best u t e) [
         | inl e ↦ inl e
         | inr here ↦
             inr (subst (λ (x : Symbol). (covers latest above a x ≡ true) × (p x ≡ true)) here.1 (here.0, parts.0))
-        ]
-    | inr both ↦ inr both
+      ]
+      | inr both ↦ inr both
     ]
 
 -- the nearest begins no earlier than those before it
@@ -57,20 +57,20 @@ reaches_here : (c : Bool) (b u : Symbol) → Reaches b.address (or_nearer c (Som
 reaches_here false b u = record { symbol = b; is = refl; reach = omega arith }
 reaches_here true b u =
     elim (cases_Bool (nat_lt b.address u.address)) [
-    | inl e ↦
-        let less : b.address < u.address = ltb-true b.address u.address e in
-        record { symbol = u; is = rw e refl; reach = omega (arith, less) }
-    | inr e ↦ record { symbol = b; is = rw e refl; reach = omega arith }
+      | inl e ↦
+          let less : b.address < u.address = ltb-true b.address u.address e in
+          record { symbol = u; is = rw e refl; reach = omega (arith, less) }
+      | inr e ↦ record { symbol = b; is = rw e refl; reach = omega arith }
     ]
 
 reaches_new : (best : Option Symbol) (u : Symbol) → Reaches u.address (or_nearer true best u)
 reaches_new None u = record { symbol = u; is = refl; reach = omega arith }
 reaches_new (Some b) u =
     elim (cases_Bool (nat_lt b.address u.address)) [
-    | inl e ↦ record { symbol = u; is = rw e refl; reach = omega arith }
-    | inr e ↦
-        let less : u.address ≤ b.address = ltb-false b.address u.address e in
-        record { symbol = b; is = rw e refl; reach = less }
+      | inl e ↦ record { symbol = u; is = rw e refl; reach = omega arith }
+      | inr e ↦
+          let less : u.address ≤ b.address = ltb-false b.address u.address e in
+          record { symbol = b; is = rw e refl; reach = less }
     ]
 
 reaches_kept : (latest : ℕ) (above : Bool) (a : ℕ) (b : Symbol) (list : List Symbol)
@@ -93,7 +93,7 @@ reaches_own : (latest : ℕ) (above : Bool) (a : ℕ) (s : Symbol) (best : Optio
 reaches_own latest above a s best [] k below at own = absurd (omega (arith, below))
 reaches_own latest above a s best (u ∷ list) zero below at own =
     let covered : covers latest above a u ≡ true =
-        ap (λ (x : Symbol). covers latest above a x) at ∙ own in
+    ap (λ (x : Symbol). covers latest above a x) at ∙ own in
     let new = reaches_new best u in
     let rest = reaches_kept latest above a new.symbol list in
     record {
@@ -111,11 +111,11 @@ apart_same : (s t : Symbol) (end : ℕ) → s.address ≤ t.address → t.addres
     → is_same s t ≡ true
 apart_same s t end low high apart =
     let within : (nat_le s.address t.address && nat_lt t.address end) ≡ true =
-        and_from (nat_le s.address t.address) (nat_lt t.address end) (le-leb s.address t.address low)
-        (lt-ltb t.address end high) in
+    and_from (nat_le s.address t.address) (nat_lt t.address end) (le-leb s.address t.address low)
+    (lt-ltb t.address end high) in
     elim (or_cases (not (nat_le s.address t.address && nat_lt t.address end)) (is_same s t) apart) [
-    | inl e ↦ absurd (false≢true (sym (not-true _ e) ∙ within))
-    | inr e ↦ e
+      | inl e ↦ absurd (false≢true (sym (not-true _ e) ∙ within))
+      | inr e ↦ e
     ]
 
 -- a symbol that is alone names each address that it covers
@@ -124,15 +124,15 @@ pub names_own : (list : List Symbol) (s : Symbol) (a : ℕ) → Contains list s 
 unfolding symbol_of
 names_own list s a listed alone low high =
     let own : covers (latest_below a list) (has_above a list) a s ≡ true =
-        covers_own list s a listed.0 listed.1 listed.2 low high in
+    covers_own list s a listed.0 listed.1 listed.2 low high in
     let nearest = reaches_own (latest_below a list) (has_above a list) a s None list listed.0 listed.1 listed.2 own in
     let t : Symbol = nearest.symbol in
     let is : nearest_of (latest_below a list) (has_above a list) a None list ≡ Some t = nearest.is in
     rw is (elim (found_in (latest_below a list) (has_above a list) a (is_apart s (end_of list s)) None list t alone is) [
-    | inl none ↦ absurd cc
-    | inr both ↦
-        let below : t.address ≤ a = covers_low list t a both.0 in
-        apart_same s t (end_of list s) nearest.reach (omega (arith, below, high)) both.1
+      | inl none ↦ absurd cc
+      | inr both ↦
+          let below : t.address ≤ a = covers_low list t a both.0 in
+          apart_same s t (end_of list s) nearest.reach (omega (arith, below, high)) both.1
     ])
 
 all_pass : (list : List Symbol) → list_all (λ s. true) list ≡ true
@@ -155,8 +155,8 @@ covers_named : (list : List Symbol) (s : Symbol) (a : ℕ) (nearest : Option Sym
 covers_named list s a None is named = absurd (false≢true named)
 covers_named list s a (Some t) is named =
     elim (found_in (latest_below a list) (has_above a list) a (λ s. true) None list t (all_pass list) is) [
-    | inl none ↦ absurd cc
-    | inr both ↦ same_covers (latest_below a list) (has_above a list) a s t named both.0
+      | inl none ↦ absurd cc
+      | inr both ↦ same_covers (latest_below a list) (has_above a list) a s t named both.0
     ]
 
 pub named_within : (list : List Symbol) (s : Symbol) (a : ℕ) → a < 2 ^ 32 → names list s a ≡ true
@@ -164,5 +164,5 @@ pub named_within : (list : List Symbol) (s : Symbol) (a : ℕ) → a < 2 ^ 32 �
 unfolding symbol_of
 named_within list s a few named =
     let covered : covers (latest_below a list) (has_above a list) a s ≡ true =
-        covers_named list s a (nearest_of (latest_below a list) (has_above a list) a None list) refl named in
+    covers_named list s a (nearest_of (latest_below a list) (has_above a list) a None list) refl named in
     (covers_low list s a covered, covers_high list s a few covered)

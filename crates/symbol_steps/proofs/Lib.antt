@@ -3,3 +3,4 @@ pub mod Named
 pub mod Extents
 pub mod Alone
 pub mod Ranked
+pub mod Apart

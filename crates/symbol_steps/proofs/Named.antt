@@ -1,15 +1,15 @@
 -- The sum of what a symbol names in a memory is that of the halfwords that it covers.
-use Rattle.std.proofs.Common.{◌≡◌, inl, inr, ℕ, zero, suc, ◌+◌, ◌-◌, ◌*◌, ◌/◌, ◌%◌, ◌^◌, ◌<◌, ◌≤◌, min, Bool, true, false}
-use Rattle.std.proofs.Common.{List, refl, sym, ap, ◌∙◌, arith, ◌⊎◌, cond}
+use Rattle.std.proofs.Common.{◌≡◌, inl, inr, ℕ, ◌+◌, ◌-◌, ◌*◌, ◌^◌, ◌<◌, ◌≤◌, min, Bool, true, false}
+use Rattle.std.proofs.Common.{List, refl, sym, ap, ◌∙◌, arith}
 use Rattle.std.specs.List.{Contains}
 use Rattle.std.proofs.lemmas.Bool.{cases_Bool, cases_lt, lt-leb}
-use Rattle.survey.specs.CodeCounts.{CodeCounts, code_number, has_halfword}
+use Rattle.survey.specs.CodeCounts.{CodeCounts}
 use Rattle.symbols.specs.declared.symbol.Symbol.{Symbol}
 use Rattle.symbol_steps.specs.declared.totals.Totals.{Totals}
 use Rattle.symbol_steps.specs.declared.cover.HalfwordRange.{HalfwordRange}
 use Rattle.symbol_steps.specs.Ends.{end_of, first_of, halfwords_below, is_alone, length_of}
 use Rattle.symbol_steps.specs.Symbols.{named_number, named_totals, names}
-use Rattle.symbol_steps.specs.Totals.{address_of, capped, number_at, sum_first, sums_first}
+use Rattle.symbol_steps.specs.Totals.{address_of, capped, number_at, sums_first}
 use Rattle.symbol_steps.proofs.Alone.{names_own, named_within}
 use Rattle.symbol_steps.proofs.Sums.{sum_range, totals_same}
 
@@ -29,8 +29,8 @@ named_zero : (list : List Symbol) (s : Symbol) (c : CodeCounts) (p : Bool) (k : 
     → (s.address ≤ c.base + 2 * k → c.base + 2 * k < end_of list s → ⊥) → named_number list s c p k ≡ 0
 named_zero list s c p k small few outside =
     elim (cases_Bool (names list s (address_of c k))) [
-    | inr e ↦ rw e refl
-    | inl e ↦ elim (cases_lt (c.base + 2 * k) (2 ^ 32)) [
+      | inr e ↦ rw e refl
+      | inl e ↦ elim (cases_lt (c.base + 2 * k) (2 ^ 32)) [
         | inr beyond ↦ rw e (number_beyond c p k small few beyond)
         | inl near ↦
             let at : address_of c k ≡ c.base + 2 * k = address_near c k near in
@@ -39,7 +39,7 @@ named_zero list s c p k small few outside =
             let low : s.address ≤ address_of c k = within.0 in
             let high : address_of c k < end_of list s = within.1 in
             absurd (outside (omega (arith, at, low)) (omega (arith, at, high)))
-        ]
+      ]
     ]
 
 -- the halfwords below the first one that a symbol covers, and those above the last one
@@ -69,13 +69,13 @@ unfolding named_totals
 named_in_range list s c small few =
     let end : ℕ = end_of list s in
     let same = λ (p : Bool). (sum_range (named_number list s c p) (first_of c s.address) (length_of c s.address end)
-        c.halfwords (range_within c s.address end)
-        (λ k below. named_zero list s c p k small (omega (arith, below, few))
-            (λ low high. let less : c.base + 2 * k < s.address = before_first c.base s.address k c.halfwords below in
-                omega (arith, low, less)))
-        (λ k above less. named_zero list s c p k small (omega (arith, less, few))
-            (λ low high. let more : end ≤ c.base + 2 * k = after_last c.base s.address end k c.halfwords above less in
-                omega (arith, high, more)))) in
+    c.halfwords (range_within c s.address end)
+    (λ k below. named_zero list s c p k small (omega (arith, below, few))
+    (λ low high. let less : c.base + 2 * k < s.address = before_first c.base s.address k c.halfwords below in
+    omega (arith, low, less)))
+    (λ k above less. named_zero list s c p k small (omega (arith, less, few))
+    (λ low high. let more : end ≤ c.base + 2 * k = after_last c.base s.address end k c.halfwords above less in
+    omega (arith, high, more)))) in
     totals_same (ap capped (same false)) (ap capped (same true))
 
 -- each address of the range is one that a symbol names, if it is alone
@@ -87,7 +87,7 @@ named_in list s c k listed within alone below =
     let low : s.address ≤ c.base + 2 * (first_of c s.address + k) = inside.0 in
     let high : c.base + 2 * (first_of c s.address + k) < end_of list s = inside.1 in
     let at : address_of c (first_of c s.address + k) ≡ c.base + 2 * (first_of c s.address + k) =
-        address_near c (first_of c s.address + k) (omega (arith, high, within)) in
+    address_near c (first_of c s.address + k) (omega (arith, high, within)) in
     rw at (names_own list s (c.base + 2 * (first_of c s.address + k)) listed alone low high)
 
 -- the same by the range and its end
@@ -97,7 +97,7 @@ pub named_known : (list : List Symbol) (s : Symbol) (c : CodeCounts) (range : Ha
     → names list s (address_of c (range.first + k)) ≡ true
 named_known list s c range k end is ends listed within alone below =
     let length : range.length ≡ length_of c s.address (end_of list s) =
-        ap (λ (r : HalfwordRange). r.length) is ∙ ap (length_of c s.address) ends in
+    ap (λ (r : HalfwordRange). r.length) is ∙ ap (length_of c s.address) ends in
     let first : range.first ≡ first_of c s.address = ap (λ (r : HalfwordRange). r.first) is in
     rw first (named_in list s c k listed (rw ends at within) (rw ends at alone) (omega (arith, below, length)))
 
@@ -108,7 +108,7 @@ pub named_sum : (list : List Symbol) (s : Symbol) (c : CodeCounts) (range : Half
     → sum ≡ sums_first (λ p k. named_number list s c p (range.first + k)) n → sum ≡ named_totals list s c
 named_sum list s c range n end sum is ends small few whole adds =
     let length : range.length ≡ length_of c s.address (end_of list s) =
-        ap (λ (r : HalfwordRange). r.length) is ∙ ap (length_of c s.address) ends in
+    ap (λ (r : HalfwordRange). r.length) is ∙ ap (length_of c s.address) ends in
     let first : range.first ≡ first_of c s.address = ap (λ (r : HalfwordRange). r.first) is in
     adds ∙ ap (λ (i : ℕ). sums_first (λ p k. named_number list s c p (i + k)) n) first
     ∙ ap (sums_first (λ p k. named_number list s c p (first_of c s.address + k))) (whole ∙ length)

@@ -1,10 +1,9 @@
 -- The rows of a ranking: one more row, and the first symbol of an address and name.
-use Rattle.std.proofs.Common.{◌≡◌, inl, inr, ℕ, zero, suc, ◌+◌, ◌-◌, ◌^◌, ◌<◌, ◌≤◌, Bool, true, false, cond, ◌||◌}
-use Rattle.std.proofs.Common.{nat_lt, List, [], ◌∷◌, ◌++◌, length, get_or, set, take, drop, Option, Some, None}
-use Rattle.std.proofs.Common.{refl, sym, ap, ◌∙◌, arith, ◌⊎◌, append_assoc, subst, ◌==◌}
+use Rattle.std.proofs.Common.{◌≡◌, inl, inr, ℕ, zero, suc, ◌+◌, ◌-◌, ◌^◌, ◌<◌, ◌≤◌, Bool, true, false}
+use Rattle.std.proofs.Common.{nat_lt, List, [], ◌∷◌, ◌++◌, length, get_or, set, take, drop, Some}
+use Rattle.std.proofs.Common.{refl, sym, ◌∙◌, arith, append_assoc, subst, ◌==◌}
 use Rattle.std.specs.List.{All, find, list_any}
 use Rattle.std.proofs.lemmas.Bool.{cases_Bool, ltb-true, ltb-false, or_parts, lt-ltb, le-ltb, and_from, eq-eqb}
-use Rattle.std.proofs.lemmas.Grind.{common_steps}
 use Rattle.std.proofs.lemmas.List.{take_more, take_more_set, drop-set-lt, drop_more, get_or-take, length-take, take_at, get_or_default}
 use Rattle.std.proofs.Math.Seq.{take-set-lt}
 use Rattle.std.proofs.lemmas.List.Elements.{All-nil, All-cons, All-head, All-tail, All-take}
@@ -22,8 +21,8 @@ all_with_row P new (row ∷ rows) is all =
     let here : P row = All-head P row rows all in
     let rest : All P rows = All-tail P row rows all in
     elim (cases_Bool (nat_lt (totals_sum row.totals) (totals_sum new.totals))) [
-    | inl e ↦ rw e (All-cons P new (with_row row rows) is (all_with_row P row rows here rest))
-    | inr e ↦ rw e (All-cons P row (with_row new rows) here (all_with_row P new rows is rest))
+      | inl e ↦ rw e (All-cons P new (with_row row rows) is (all_with_row P row rows here rest))
+      | inr e ↦ rw e (All-cons P row (with_row new rows) here (all_with_row P new rows is rest))
     ]
 
 -- a lower bound is one too
@@ -38,16 +37,19 @@ at_most_with_row : (n : ℕ) (new : SymbolSteps) (rows : List SymbolSteps) → t
 at_most_with_row n new [] few most = (few, tt)
 at_most_with_row n new (row ∷ rows) few most =
     elim (cases_Bool (nat_lt (totals_sum row.totals) (totals_sum new.totals))) [
-    | inl e ↦
-        let less : totals_sum row.totals < totals_sum new.totals =
-            ltb-true (totals_sum row.totals) (totals_sum new.totals) e in
-        let le : totals_sum row.totals ≤ totals_sum new.totals = omega (arith, less) in
-        rw e (few, at_most_with_row (totals_sum new.totals) row rows le
-            (at_most_more (totals_sum row.totals) (totals_sum new.totals) rows le most.1))
-    | inr e ↦
-        let le : totals_sum new.totals ≤ totals_sum row.totals =
-            ltb-false (totals_sum row.totals) (totals_sum new.totals) e in
-        rw e (most.0, at_most_with_row (totals_sum row.totals) new rows le most.1)
+      | inl e ↦
+          let less : totals_sum row.totals < totals_sum new.totals =
+          ltb-true (totals_sum row.totals) (totals_sum new.totals) e in
+          let le : totals_sum row.totals ≤ totals_sum new.totals = omega (arith, less) in
+          rw e (
+            few,
+            at_most_with_row (totals_sum new.totals) row rows le
+                (at_most_more (totals_sum row.totals) (totals_sum new.totals) rows le most.1),
+          )
+      | inr e ↦
+          let le : totals_sum new.totals ≤ totals_sum row.totals =
+          ltb-false (totals_sum row.totals) (totals_sum new.totals) e in
+          rw e (most.0, at_most_with_row (totals_sum row.totals) new rows le most.1)
     ]
 
 at_most_take : (n k : ℕ) (rows : List SymbolSteps) → AreAtMost n rows → AreAtMost n (take k rows)
@@ -84,11 +86,18 @@ sink_fewer rows after used place a b moved next d below within is at here there 
     let item = get_or-take used rows place d below in
     let rest = drop_more (take used rows) place d cut in
     let less : totals_sum (get_or rows place d).totals < totals_sum moved.totals = omega (arith, here, there, fewer) in
-    rw (is, at, take_more_set rows place moved room, take-set-lt used rows place moved below,
-        drop-set-lt (place + 1) (take used rows) place moved (omega arith), rest, item)
+    rw (
+      is,
+      at,
+      take_more_set rows place moved room,
+      take-set-lt used rows place moved below,
+      drop-set-lt (place + 1) (take used rows) place moved (omega arith),
+      rest,
+      item,
+    )
     (rw (lt-ltb (totals_sum (get_or rows place d).totals) (totals_sum moved.totals) less)
     (append_assoc (take place rows) (moved ∷ [])
-        (with_row (get_or rows place d) (drop (place + 1) (take used rows)))))
+    (with_row (get_or rows place d) (drop (place + 1) (take used rows)))))
 
 -- the row at a place has no fewer, and stays
 pub sink_more : (rows after : List SymbolSteps) (used place a b : ℕ) (moved next d : SymbolSteps) → place < used
@@ -132,7 +141,7 @@ row_first items list place d has is below any none =
     let room : place < length list = rw is below in
     let here : get_or list place s ≡ s = get_or_default list place s d room in
     let twin : is_twin s s ≡ true =
-        and_from (s.address == s.address) (s.name == s.name) (eq-eqb s.address s.address refl)
-        (eq-eqb s.name s.name refl) in
+    and_from (s.address == s.address) (s.name == s.name) (eq-eqb s.address s.address refl)
+    (eq-eqb s.name s.name refl) in
     subst (λ (xs : List Symbol). find (is_twin s) xs ≡ Some s) is
     (first_found (is_twin s) list place s room here (sym any ∙ none) twin)

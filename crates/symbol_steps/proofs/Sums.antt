@@ -1,6 +1,6 @@
 -- Sums of numbers, and how they are capped.
-use Rattle.std.proofs.Common.{◌≡◌, ℕ, zero, suc, ◌+◌, ◌-◌, ◌^◌, ◌<◌, ◌≤◌, min, Bool, true, false, List, [], ◌∷◌}
-use Rattle.std.proofs.Common.{refl, sym, ap, ◌∙◌, add-one, add-zero, arith, drop, length, get_or}
+use Rattle.std.proofs.Common.{◌≡◌, ℕ, zero, suc, ◌+◌, ◌-◌, ◌<◌, ◌≤◌, Bool, true, false, List, ◌∷◌}
+use Rattle.std.proofs.Common.{refl, sym, ap, ◌∙◌, add-one, add-zero, arith}
 use Rattle.std.proofs.Math.Nat.{add-suc}
 use Rattle.symbol_steps.specs.declared.ranking.SymbolSteps.{SymbolSteps}
 use Rattle.symbol_steps.specs.declared.totals.Totals.{Totals}
@@ -25,14 +25,14 @@ pub sums_one_more : (f : Bool → ℕ → ℕ) (n : ℕ)
     → joined (sums_first f n) (totals_by (λ p. f p n)) ≡ sums_first f (n + 1)
 sums_one_more f n =
     let u : capped (capped (sum_first (f false) n) + f false n) ≡ capped (sum_first (f false) (n + 1)) =
-        rw (sum_one_more (f false) n) (capped_more (sum_first (f false) n) (f false n)) in
+    rw (sum_one_more (f false) n) (capped_more (sum_first (f false) n) (f false n)) in
     let p : capped (capped (sum_first (f true) n) + f true n) ≡ capped (sum_first (f true) (n + 1)) =
-        rw (sum_one_more (f true) n) (capped_more (sum_first (f true) n) (f true n)) in
+    rw (sum_one_more (f true) n) (capped_more (sum_first (f true) n) (f true n)) in
     totals_same u p
 
 -- a sum in two parts
 pub sum_parts : (f : ℕ → ℕ) (m n : ℕ) → sum_first f (m + n) ≡ sum_first f m + sum_first (λ k. f (m + k)) n
-sum_parts f m zero = rw add-zero (sym (add-zero (sum_first f m)))
+sum_parts f m zero = ap (sum_first f) (add-zero m) ∙ sym (add-zero (sum_first f m))
 sum_parts f m (suc n) =
     rw (add-suc m n, sum_parts f m n) (let x : ℕ = sum_first f m in let y : ℕ = sum_first (λ k. f (m + k)) n in
     let z : ℕ = f (m + n) in omega arith)
@@ -53,11 +53,11 @@ sum_range f first n all within below above =
     let before : sum_first f first ≡ 0 = sum_zero f first below in
     let rest : ℕ = all - (first + n) in
     let after : sum_first (λ k. f (first + n + k)) rest ≡ 0 =
-        sum_zero (λ k. f (first + n + k)) rest
-        (λ k less. above (first + n + k) (omega arith) (omega (arith, less))) in
+    sum_zero (λ k. f (first + n + k)) rest
+    (λ k less. above (first + n + k) (omega arith) (omega (arith, less))) in
     let whole : first + n + rest ≡ all = omega arith in
     let split : sum_first f (first + n + rest) ≡ sum_first f (first + n) + sum_first (λ k. f (first + n + k)) rest =
-        sum_parts f (first + n) rest in
+    sum_parts f (first + n) rest in
     let parts : sum_first f (first + n) ≡ sum_first f first + sum_first (λ k. f (first + k)) n = sum_parts f first n in
     ap (sum_first f) (sym whole) ∙ (omega arith)
 
@@ -66,9 +66,9 @@ pub rows_more : (sum : Totals) (row : SymbolSteps) (rows : List SymbolSteps)
     → joined (joined sum row.totals) (rows_totals rows) ≡ joined sum (rows_totals (row ∷ rows))
 rows_more sum row rows =
     let u : capped (capped (sum.unprivileged + row.totals.unprivileged) + capped (rows_sum false rows))
-        ≡ capped (sum.unprivileged + capped (row.totals.unprivileged + rows_sum false rows)) = omega arith in
+    ≡ capped (sum.unprivileged + capped (row.totals.unprivileged + rows_sum false rows)) = omega arith in
     let p : capped (capped (sum.privileged + row.totals.privileged) + capped (rows_sum true rows))
-        ≡ capped (sum.privileged + capped (row.totals.privileged + rows_sum true rows)) = omega arith in
+    ≡ capped (sum.privileged + capped (row.totals.privileged + rows_sum true rows)) = omega arith in
     totals_same u p
 
 -- a step of a loop that adds numbers

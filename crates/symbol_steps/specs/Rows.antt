@@ -1,6 +1,6 @@
 -- The rows of a ranking.
-use Rattle.std.specs.Prelude.{◌≡◌, ℕ, ◌+◌, ◌≤◌, ◌^◌, ◌-◌, Bool, true, false, nat_lt, if◌then◌else◌, List, [], ◌∷◌, Some}
-use Rattle.std.specs.List.{find}
+use Rattle.std.specs.Prelude.{◌≡◌, ℕ, ◌+◌, ◌≤◌, ◌<◌, ◌^◌, ◌-◌, Bool, true, false, nat_lt, if◌then◌else◌, List, [], ◌∷◌, Some}
+use Rattle.std.specs.List.{find, list_any}
 use Rattle.survey.specs.declared.survey.Survey.{Survey}
 use Rattle.symbols.specs.declared.symbol.Symbol.{Symbol}
 use Rattle.symbol_steps.specs.declared.ranking.SymbolSteps.{SymbolSteps}
@@ -8,10 +8,12 @@ use Rattle.symbol_steps.specs.declared.totals.Totals.{Totals}
 use Rattle.symbol_steps.specs.Symbols.{is_twin, symbol_totals}
 use Rattle.symbol_steps.specs.Totals.{capped, totals_by, totals_sum}
 
--- a row is right: its symbol is the first of the list with its address and name, and it has the totals of that symbol
+-- a row is right: its symbol is the first of the list with its address and name, and it has the totals of that symbol,
+-- which aren't 0
 abbrev pub IsRowOf : Survey → List Symbol → SymbolSteps → Type 0
 IsRowOf v symbols row =
     (find (is_twin row.symbol) symbols ≡ Some row.symbol) × (row.totals ≡ symbol_totals v symbols row.symbol)
+    × (0 < totals_sum row.totals)
 
 -- each row has at most as many instructions as the one before, and the first at most n
 abbrev pub AreAtMost : ℕ → List SymbolSteps → Type 0
@@ -21,6 +23,15 @@ AreAtMost n (row ∷ rows) = (totals_sum row.totals ≤ n) × AreAtMost (totals_
 -- the rows go from the most instructions on
 abbrev pub AreDescending : List SymbolSteps → Type 0
 AreDescending rows = AreAtMost (2 ^ 64 - 1) rows
+
+-- a row has a symbol of the same address and name as a symbol
+abbrev pub has_row_of : Symbol → List SymbolSteps → Bool
+has_row_of s rows = list_any (λ row. is_twin s row.symbol) rows
+
+-- no two rows have a symbol of the same address and name
+abbrev pub AreApart : List SymbolSteps → Type 0
+AreApart [] = Unit {0}
+AreApart (row ∷ rows) = (has_row_of row.symbol rows ≡ false) × AreApart rows
 
 -- rows with one more, each row that has fewer instructions a place further
 abbrev pub with_row : SymbolSteps → List SymbolSteps → List SymbolSteps

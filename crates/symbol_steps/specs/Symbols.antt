@@ -1,5 +1,5 @@
 -- How many instructions were carried out at the addresses that a symbol names.
-use Rattle.std.specs.Prelude.{ℕ, Bool, true, false, ◌&&◌, ◌==◌, if◌then◌else◌, List, Option, Some, None}
+use Rattle.std.specs.Prelude.{ℕ, Bool, false, ◌&&◌, ◌==◌, if◌then◌else◌, List, Option, Some, None}
 use Rattle.survey.specs.CodeCounts.{CodeCounts}
 use Rattle.survey.specs.declared.survey.Survey.{Survey}
 use Rattle.symbols.specs.declared.symbol.Symbol.{Symbol}

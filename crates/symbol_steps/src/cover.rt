@@ -91,6 +91,9 @@ fn named_at(
 {
     let address = address_of(code, halfword);
     let totals = Totals::at(code, address);
+    if totals.sum() == 0 {
+        return Totals::NONE;
+    }
     if known || names(symbols, symbol, address) {
         totals
     } else {

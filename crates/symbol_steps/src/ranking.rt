@@ -1,7 +1,9 @@
 //! The symbols in which the most instructions were carried out.
 
-ghost use Rattle.std.specs.Prelude.{◌≡◌, ◌≤◌, ◌<◌, ◌^◌, ◌++◌, ◌∷◌, [], length, take, All, IfSome};
-ghost use Rattle.symbol_steps.specs.Rows.{AreDescending, IsRowOf, rows_totals, with_row};
+ghost use Rattle.std.specs.Prelude.{◌≡◌, ◌≤◌, ◌<◌, ◌^◌, ◌++◌, ◌∷◌, [], length, take, All, IfSome, false, slice_index_or};
+ghost use Rattle.std.specs.List.{list_any};
+ghost use Rattle.symbol_steps.specs.Symbols.{is_twin};
+ghost use Rattle.symbol_steps.specs.Rows.{AreApart, AreDescending, IsRowOf, rows_totals, with_row};
 
 use crate::cover::{HalfwordRange, end_of, has_twin, is_alone, named_totals};
 use crate::totals::Totals;
@@ -58,6 +60,7 @@ impl Ranking {
     /// neither has one that would be too much work.
     pub fn of(survey: &Survey, symbols: &Symbols<'_>) -> Self
         ensures rows { All (IsRowOf survey.now symbols.now.list.items) result }
+        ensures apart { AreApart result }
         ensures order { AreDescending result }
         ensures few { length result ≤ MOST_ROWS }
     {
@@ -143,10 +146,17 @@ fn row_of(
     work: &mut u64,
 ) -> Option<SymbolSteps>
     requires { place < length symbols.now.list.items }
-    ensures { IfSome result (IsRowOf survey.now symbols.now.list.items) }
+    ensures right { IfSome result (IsRowOf survey.now symbols.now.list.items) }
+    ensures symbol { IfSome result (λ row.
+        slice_index_or symbols.now.list.items place row.symbol ≡ row.symbol) }
+    ensures first { IfSome result (λ row.
+        list_any (is_twin row.symbol) (take place symbols.now.list.items) ≡ false) }
 {
     let list = symbols.list.as_slice();
     let symbol = list[place];
+    if symbol.size == 0 && !spend(work, list.len()) {
+        return None;
+    }
     let end = end_of(list, &symbol);
     let counted = counted_in(survey, symbol.address, end, work)?;
     let alone = is_alone(list, &symbol, end);
@@ -156,10 +166,11 @@ fn row_of(
     }
     let flash = named_totals(&survey.flash_code, symbols, &symbol, end, alone);
     let ram = named_totals(&survey.ram_code, symbols, &symbol, end, alone);
-    Some(SymbolSteps {
-        symbol,
-        totals: flash.and(ram),
-    })
+    let totals = flash.and(ram);
+    if totals.sum() == 0 {
+        return None;
+    }
+    Some(SymbolSteps { symbol, totals })
 }
 
 /// Returns at how many halfwords from an address up to `end` there were instructions, if there were any, and if it isn't
