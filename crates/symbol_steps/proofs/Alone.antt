@@ -1,11 +1,11 @@
--- A symbol that begins alone among the bytes that it covers names each of their addresses, and no symbol names an address
+-- A symbol that begins alone among the bytes that it covers names each of their addresses. No symbol names an address
 -- that it doesn't cover.
 use Rattle.std.proofs.Common.{◌≡◌, inl, inr, ℕ, zero, suc, ◌^◌, ◌<◌, ◌≤◌, Bool, true, false, not, cond, ◌&&◌}
 use Rattle.std.proofs.Common.{◌==◌, nat_lt, nat_le, List, [], ◌∷◌, length, get_or, Option, Some, None, refl, sym, ap}
 use Rattle.std.proofs.Common.{◌∙◌, arith, ◌⊎◌, subst}
 use Rattle.std.specs.List.{Contains, list_all}
-use Rattle.std.proofs.lemmas.Bool.{cases_Bool, ltb-true, ltb-false, eqb-true, lt-ltb, le-leb, and_parts, and_from, or_cases}
-use Rattle.std.proofs.lemmas.Bool.{not-true, false≢true}
+use Rattle.std.proofs.lemmas.Bool.{cases_Bool, ltb-true, ltb-false, eqb-true, lt-ltb, le-leb, and_parts, and_from}
+use Rattle.std.proofs.lemmas.Bool.{not-true, or_cases, false≢true}
 use Rattle.symbols.specs.declared.symbol.Symbol.{Symbol}
 use Rattle.symbols.specs.Lookup.{covers, has_above, latest_below, nearer, nearest_of, symbol_of}
 use Rattle.symbol_steps.specs.Ends.{end_of, is_alone, is_apart}
@@ -128,7 +128,8 @@ names_own list s a listed alone low high =
     let nearest = reaches_own (latest_below a list) (has_above a list) a s None list listed.0 listed.1 listed.2 own in
     let t : Symbol = nearest.symbol in
     let is : nearest_of (latest_below a list) (has_above a list) a None list ≡ Some t = nearest.is in
-    rw is (elim (found_in (latest_below a list) (has_above a list) a (is_apart s (end_of list s)) None list t alone is) [
+    let p : Symbol → Bool = is_apart s (end_of list s) in
+    rw is (elim (found_in (latest_below a list) (has_above a list) a p None list t alone is) [
       | inl none ↦ absurd cc
       | inr both ↦
           let below : t.address ≤ a = covers_low list t a both.0 in

@@ -4,7 +4,8 @@ use Rattle.std.proofs.Common.{nat_lt, List, [], ◌∷◌, ◌++◌, length, get
 use Rattle.std.proofs.Common.{refl, sym, ◌∙◌, arith, append_assoc, subst, ◌==◌}
 use Rattle.std.specs.List.{All, find, list_any}
 use Rattle.std.proofs.lemmas.Bool.{cases_Bool, ltb-true, ltb-false, or_parts, lt-ltb, le-ltb, and_from, eq-eqb}
-use Rattle.std.proofs.lemmas.List.{take_more, take_more_set, drop-set-lt, drop_more, get_or-take, length-take, take_at, get_or_default}
+use Rattle.std.proofs.lemmas.List.{take_more, take_more_set, drop-set-lt, drop_more, get_or-take, length-take, take_at}
+use Rattle.std.proofs.lemmas.List.{get_or_default}
 use Rattle.std.proofs.Math.Seq.{take-set-lt}
 use Rattle.std.proofs.lemmas.List.Elements.{All-nil, All-cons, All-head, All-tail, All-take}
 use Rattle.symbol_steps.specs.declared.ranking.SymbolSteps.{SymbolSteps}

@@ -1,5 +1,6 @@
 -- The rows of a ranking.
-use Rattle.std.specs.Prelude.{◌≡◌, ℕ, ◌+◌, ◌≤◌, ◌<◌, ◌^◌, ◌-◌, Bool, true, false, nat_lt, if◌then◌else◌, List, [], ◌∷◌, Some}
+use Rattle.std.specs.Prelude.{◌≡◌, ℕ, ◌+◌, ◌≤◌, ◌<◌, ◌^◌, ◌-◌, Bool, true, false, nat_lt, if◌then◌else◌}
+use Rattle.std.specs.Prelude.{List, [], ◌∷◌, Some}
 use Rattle.std.specs.List.{find, list_any}
 use Rattle.survey.specs.declared.survey.Survey.{Survey}
 use Rattle.symbols.specs.declared.symbol.Symbol.{Symbol}

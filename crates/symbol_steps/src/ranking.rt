@@ -1,9 +1,10 @@
 //! The symbols in which the most instructions were carried out.
 
-ghost use Rattle.std.specs.Prelude.{◌≡◌, ◌≤◌, ◌<◌, ◌^◌, ◌++◌, ◌∷◌, [], length, take, All, IfSome, false, slice_index_or};
 ghost use Rattle.std.specs.List.{list_any};
-ghost use Rattle.symbol_steps.specs.Symbols.{is_twin};
+ghost use Rattle.std.specs.Prelude.{◌≡◌, ◌≤◌, ◌<◌, ◌^◌, ◌++◌, ◌∷◌, [], length, take, All, IfSome, false};
+ghost use Rattle.std.specs.Prelude.{slice_index_or};
 ghost use Rattle.symbol_steps.specs.Rows.{AreApart, AreDescending, IsRowOf, rows_totals, with_row};
+ghost use Rattle.symbol_steps.specs.Symbols.{is_twin};
 
 use crate::cover::{HalfwordRange, end_of, has_twin, is_alone, named_totals};
 use crate::totals::Totals;
@@ -137,8 +138,8 @@ fn sink(rows: &mut [SymbolSteps], used: usize, row: SymbolSteps) -> SymbolSteps
     moved
 }
 
-/// Returns the row of the symbol at a place of the list, if it has one: none where no instructions were carried out in
-/// it, or too much work was done before.
+/// Returns the row of the symbol at a place of the list. None where there were no instructions at the addresses that it
+/// names, where an earlier one has its address and name, or where too much work was done before.
 fn row_of(
     survey: &Survey,
     symbols: &Symbols<'_>,
@@ -173,8 +174,8 @@ fn row_of(
     Some(SymbolSteps { symbol, totals })
 }
 
-/// Returns at how many halfwords from an address up to `end` there were instructions, if there were any, and if it isn't
-/// too much work to say.
+/// Returns at how many halfwords from an address up to `end` there were instructions. None where there were none, or
+/// where too much work was done before.
 fn counted_in(survey: &Survey, address: u32, end: u64, work: &mut u64) -> Option<usize>
     requires { end ≤ 2 ^ 32 }
 {

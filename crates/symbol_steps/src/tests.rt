@@ -174,8 +174,8 @@ fn rankings_have_their_rows(rt: HostRuntime) -> Result<(), Fail> {
     Ok(())
 }
 
-/// 21 symbols, of which the one at 4 times k has k instructions, from 1 to 21. So the first is cut, and the rows have the
-/// sum of 2 to 21, which is 230.
+/// 21 symbols, of which the one at 4 times k has k instructions, from 1 to 21. So the first is cut, and the rows have
+/// the sum of 2 to 21, which is 230.
 #[test]
 fn a_ranking_has_twenty_rows(rt: HostRuntime) -> Result<(), Fail> {
     let mut survey = Survey::new(rt.alloc(), &SMALL_BOARD)?;

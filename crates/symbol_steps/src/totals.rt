@@ -2,7 +2,8 @@
 
 ghost use Rattle.std.specs.Prelude.{◌≡◌, ◌<◌};
 ghost use Rattle.survey.specs.CodeCounts.{code_number};
-ghost use Rattle.symbol_steps.specs.Totals.{joined, memory_totals, number_at, survey_totals, totals_by, totals_sum, without};
+ghost use Rattle.symbol_steps.specs.Totals.{joined, memory_totals, number_at, survey_totals, totals_by, totals_sum};
+ghost use Rattle.symbol_steps.specs.Totals.{without};
 
 use crate::cover::address_of;
 use std::fmt;

@@ -1,4 +1,5 @@
-use Rattle.std.proofs.Common.{◌+◌, arith}
+use Rattle.std.proofs.Common.{ℕ, ◌+◌, List, arith}
+use Rattle.symbols.specs.declared.symbol.Symbol.{Symbol}
 use Rattle.symbol_steps.specs.Symbols.{named_number}
 use Rattle.symbol_steps.proofs.Named.{named_known, named_sum}
 use Rattle.symbol_steps.proofs.Sums.{sums_step}
@@ -12,9 +13,10 @@ named_at-named-requires-clause-known c = λ alone.
 
 pub halfwords-preserved : goal.halfwords-preserved
 halfwords-preserved c =
-    sums_step
-    (λ p k. named_number c.args.symbols.now.list.items c.args.symbol.now c.args.code.now p (c.of-range.result.first + k))
-    c.halfwords.offset c.halfwords.sum c.named_at-named.result c.and-sum.result c.halfwords.invariant
+    let list : List Symbol = c.args.symbols.now.list.items in
+    let first : ℕ = c.of-range.result.first in
+    sums_step (λ p k. named_number list c.args.symbol.now c.args.code.now p (first + k)) c.halfwords.offset
+    c.halfwords.sum c.named_at-named.result c.and-sum.result c.halfwords.invariant
     c.named_at-named.ensures c.and-sum.ensures
 
 pub returns : goal.returns
