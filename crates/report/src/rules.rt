@@ -17,7 +17,8 @@ pub const OUTCOMES: [Option<Cause>; 3] = [None, Some(Cause::Mpu), Some(Cause::Bu
 
 const CAPTION: &str =
     "Each row is a rule that decided accesses, under its word in the trace; each number \
-counts accesses of one privilege and kind. A fetch is of one halfword, so a 32-bit instruction makes two. <span class='refused'>✕ refused by the MPU</span> and \
+counts accesses of one privilege and kind. A fetch is of one halfword, so a 32-bit instruction makes two. \
+<span class='refused'>✕ refused by the MPU</span> and \
 <span class='bus'>⊘ refused by the bus</span> stand below those that were granted. Columns in which nothing \
 was counted are left out.";
 

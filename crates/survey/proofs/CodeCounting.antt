@@ -70,7 +70,12 @@ fetch_by : (c : CodeCounts) (place : ℕ) (xs : List ℕ) (at : ℕ) (begins has
     (record c { counters = xs }))
     (begins && (has && (at == place)))
 fetch_by c place xs at true true below =
-    record { counters = counted_at xs at; is = refl; number = counted_one xs at place below; long = length_counted xs at }
+    record {
+      counters = counted_at xs at;
+      is = refl;
+      number = counted_one xs at place below;
+      long = length_counted xs at;
+    }
 fetch_by c place xs at true false below = record { counters = xs; is = refl; number = refl; long = refl }
 fetch_by c place xs at false has below = record { counters = xs; is = refl; number = refl; long = refl }
 

@@ -30,16 +30,16 @@ out Arguments:
 out   <IMAGE>  The image: an ELF file for ARM of at most 16 MiB, linked to run
 out
 out Options:
-out       --board <FILE>             The board: a TOML file of at most 16 MiB with the memory sizes, the interrupt lines and the \
-events
-out       --steps <N>                The most steps (instructions, halves of exception entries, idle ticks) to make, from 0 to \
-4294967296
+out       --board <FILE>             The board: a TOML file of at most 16 MiB with the memory sizes, the interrupt lines \
+and the events
+out       --steps <N>                The most steps (instructions, halves of exception entries, idle ticks) to make, \
+from 0 to 4294967296
 out       --trace <WHICH>            Which lines are written, before the line of the stop: all (the default), refused, \
 faults, exceptions, console or none
-out       --expect <STOP>            The words of the last line, as \"breakpoint 0\" or \"stop breakpoint 0\": status 0 if the \
-run ends so, and 1 if not
-out       --state <FILE>             A file for the state after the run: registers, clock, faults, regions and exceptions, a \
-line for each value; - is standard output, after the trace
+out       --expect <STOP>            The words of the last line, as \"breakpoint 0\" or \"stop breakpoint 0\": \
+status 0 if the run ends so, and 1 if not
+out       --state <FILE>             A file for the state after the run: registers, clock, faults, regions and \
+exceptions, a line for each value; - is standard output, after the trace
 out       --dump <ADDR:LENGTH=FILE>  Memory after the run, as raw bytes, to a file: LENGTH bytes from ADDR on, \
 decimal or 0x and hexadecimal; at most 16 times
 out   -h, --help                     Print help

@@ -120,8 +120,8 @@ impl Rows for Instructions {
     }
 }
 
-/// The PC when a step begins; its events; a memory, a privilege and an address; how many instructions are counted there;
-/// what the row is.
+/// The PC when a step begins; its events; a memory, a privilege and an address; how many instructions are counted
+/// there; what the row is.
 const INSTRUCTIONS: &str = "\
 00000100 | F 00000100 2 p ok off | flash p 100 | 1 | an instruction
 00000100 | F 00000100 2 p ok off | flash p 101 | 1 | the second byte of its first halfword
