@@ -1,5 +1,6 @@
 -- How many instructions were carried out, for each privilege: at an address, in a memory and in a run.
-use Rattle.std.specs.Prelude.{ℕ, zero, suc, ◌+◌, ◌-◌, ◌*◌, ◌^◌, ◌%◌, min, Bool, true, false}
+use Rattle.std.specs.Prelude.{ℕ, zero, suc, ◌+◌, ◌-◌, ◌*◌, ◌/◌, ◌^◌, ◌%◌, min, Bool, true, false, ◌==◌}
+use Rattle.std.specs.Prelude.{if◌then◌else◌}
 use Rattle.survey.specs.CodeCounts.{CodeCounts, code_number}
 use Rattle.survey.specs.declared.survey.Survey.{Survey}
 use Rattle.symbol_steps.specs.declared.totals.Totals.{Totals}
@@ -54,3 +55,7 @@ memory_totals c = sums_first (number_at c) c.halfwords
 -- how many there were in all
 abbrev pub survey_totals : Survey → Totals
 survey_totals v = joined (memory_totals v.flash_code) (memory_totals v.ram_code)
+
+-- the share that a number is of all, in tenths of a percent, rounded down: at most 1,000, and 0 where there is nothing
+abbrev pub share_of : ℕ → ℕ → ℕ
+share_of number all = if all == 0 then 0 else min (number * 1000 / all) 1000

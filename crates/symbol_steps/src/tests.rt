@@ -206,7 +206,7 @@ fn a_ranking_has_twenty_rows(rt: HostRuntime) -> Result<(), Fail> {
 }
 
 /// A number, what it is a share of, and that share.
-const SHARES: [(u64, u64, &str); 9] = [
+const SHARES: [(u64, u64, &str); 12] = [
     (0, 0, "0.0"),
     (7, 0, "0.0"),
     (0, 7, "0.0"),
@@ -215,7 +215,10 @@ const SHARES: [(u64, u64, &str); 9] = [
     (1, 1000, "0.1"),
     (1, 1001, "0.0"),
     (7, 7, "100.0"),
-    (u64::MAX / 2, u64::MAX, "50.0"),
+    (8, 7, "100.0"),
+    (1 << 63, u64::MAX, "50.0"),
+    ((1 << 63) - 1, u64::MAX, "49.9"),
+    (u64::MAX, u64::MAX, "100.0"),
 ];
 
 #[test]

@@ -2,8 +2,8 @@
 
 ghost use Rattle.std.specs.Prelude.{◌≡◌, ◌<◌};
 ghost use Rattle.survey.specs.CodeCounts.{code_number};
-ghost use Rattle.symbol_steps.specs.Totals.{joined, memory_totals, number_at, survey_totals, totals_by, totals_sum};
-ghost use Rattle.symbol_steps.specs.Totals.{without};
+ghost use Rattle.symbol_steps.specs.Totals.{joined, memory_totals, number_at, share_of, survey_totals, totals_by};
+ghost use Rattle.symbol_steps.specs.Totals.{totals_sum, without};
 
 use crate::cover::address_of;
 use std::fmt;
@@ -94,15 +94,15 @@ impl Totals {
 pub struct Share(u64);
 
 impl Share {
-    /// Returns the share that a number is of all.
-    pub fn of(number: u64, all: u64) -> Self {
-        let thousandth = all / 1000;
-        let tenths = if thousandth > 1_000_000 {
-            number.checked_div(thousandth)
-        } else {
-            number.saturating_mul(1000).checked_div(all)
-        };
-        Share(tenths.unwrap_or(0).min(1000))
+    /// Returns the share that a number is of all, at most 1,000: 0 where there is nothing.
+    pub fn of(number: u64, all: u64) -> Self
+        ensures { result ≡ record { 0 = share_of number all } }
+    {
+        if all == 0 {
+            return Share(0);
+        }
+        let tenths = u128::from(number) * 1000 / u128::from(all);
+        Share(tenths.min(1000) as u64)
     }
 }
 
