@@ -317,13 +317,28 @@ fn ready_words(alloc: Global, words: &[&str]) -> Result<Vec<String>, AllocError>
 /// How the arguments of a run are read.
 fn reading_words(alloc: Global, words: &[String]) -> Answer {
     match subcommand_of(alloc, words) {
-        Ok(Subcommand::Run(run))
+        Ok(subcommand) => answer_of(&subcommand),
+        Err(error) => refusal_of(&error),
+    }
+}
+
+/// What was read is the whole answer if it is the run.
+fn answer_of(subcommand: &Subcommand<'_>) -> Answer {
+    match subcommand {
+        Subcommand::Run(run)
             if run.steps == 2 && run.board == BOARD_PATH && run.image == IMAGE_PATH => {
             Answer::Whole
         }
-        Ok(_) => Answer::Wrong,
-        Err(WordsError::OutOfMemory) => Answer::Refused,
-        Err(_) => Answer::Wrong,
+        Subcommand::Run(_) | Subcommand::Report(_) | Subcommand::Debug(_) => Answer::Wrong,
+    }
+}
+
+/// The arguments weren't read: memory ran out, or that is wrong.
+fn refusal_of(error: &WordsError) -> Answer {
+    if matches!(error, WordsError::OutOfMemory) {
+        Answer::Refused
+    } else {
+        Answer::Wrong
     }
 }
 
