@@ -12,11 +12,7 @@ use Rattle.symbol_steps.specs.declared.ranking.SymbolSteps.{SymbolSteps}
 use Rattle.symbol_steps.specs.Rows.{AreApart, has_row_of, with_row}
 use Rattle.symbol_steps.specs.Symbols.{is_twin}
 use Rattle.symbol_steps.specs.Totals.{totals_sum}
-use Rattle.symbol_steps.proofs.Ranked.{all_inserted}
-
-twin_own : (s : Symbol) → is_twin s s ≡ true
-twin_own s = and_from (s.address == s.address) (s.name == s.name) (eq-eqb s.address s.address refl)
-    (eq-eqb s.name s.name refl)
+use Rattle.symbol_steps.proofs.Ranked.{all_inserted, twin_own}
 
 twin_back : (s t : Symbol) → is_twin s t ≡ true → is_twin t s ≡ true
 twin_back s t is =

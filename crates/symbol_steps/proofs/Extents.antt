@@ -3,15 +3,11 @@ use Rattle.std.proofs.Common.{◌≡◌, inl, inr, ℕ, zero, suc, ◌+◌, ◌^
 use Rattle.std.proofs.Common.{cond, ◌&&◌, ◌||◌, ◌==◌, nat_lt, nat_le, List, [], ◌∷◌, length, get_or, refl, sym, ap}
 use Rattle.std.proofs.Common.{◌∙◌, arith}
 use Rattle.std.proofs.lemmas.Bool.{cases_Bool, ltb-true, ltb-false, leb-true, leb-false, eqb-true, eq-eqb}
-use Rattle.std.proofs.lemmas.Bool.{lt-ltb, le-ltb, le-leb, lt-leb, or_cases, or_parts, or_left, and_parts}
-use Rattle.std.proofs.lemmas.Bool.{and_from, cases_lt, false≢true}
+use Rattle.std.proofs.lemmas.Bool.{lt-ltb, le-ltb, le-leb, lt-leb, or_cases, or_parts, or_left, or_right}
+use Rattle.std.proofs.lemmas.Bool.{and_from, and_parts, cases_lt, false≢true}
 use Rattle.symbols.specs.declared.symbol.Symbol.{Symbol}
 use Rattle.symbols.specs.Lookup.{covers, has_above, latest_below}
 use Rattle.symbol_steps.specs.Ends.{end_of, next_above}
-
-second_of : (x y : Bool) → y ≡ true → (x || y) ≡ true
-second_of true y e = refl
-second_of false y e = e
 
 pub latest_low : (a : ℕ) (list : List Symbol) → latest_below a list ≤ a
 latest_low a [] = omega arith
@@ -57,7 +53,7 @@ above_before a b (t ∷ list) before some =
       | inr e ↦
           let less : b < next_above a list = rw e at before in
           let rest : has_above a list ≡ true = rw e at some in
-          second_of (nat_lt b t.address) (has_above b list) (above_before a b list less rest)
+          or_right (nat_lt b t.address) (has_above b list) (above_before a b list less rest)
     ]
 
 -- no beginning lies between an address and the next one
@@ -126,7 +122,7 @@ sizeless_inside list s a k below at low high =
           let most : latest_below a list ≤ s.address = latest_before s.address a list less in
           let above : has_above a list ≡ true = above_before s.address a list less e in
           let is : (s.address == latest_below a list) ≡ true = eq-eqb _ _ (omega (arith, reach, most)) in
-          second_of (s.address == a) (has_above a list && (s.address == latest_below a list))
+          or_right (s.address == a) (has_above a list && (s.address == latest_below a list))
           (and_from (has_above a list) (s.address == latest_below a list) above is)
       | inr e ↦
           let less : a < s.address + 1 = rw e at high in

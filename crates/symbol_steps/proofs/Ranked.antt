@@ -133,6 +133,10 @@ first_found p (y ∷ xs) (suc i) x below at none is =
     let parts = or_parts (p y) (list_any p (take i xs)) none in
     rw parts.0 (first_found p xs i x (omega (arith, below)) at parts.1 is)
 
+pub twin_own : (s : Symbol) → is_twin s s ≡ true
+twin_own s = and_from (s.address == s.address) (s.name == s.name) (eq-eqb s.address s.address refl)
+    (eq-eqb s.name s.name refl)
+
 -- the symbol at a place of a list is the first with its address and name, if none before it has them
 pub row_first : (items list : List Symbol) (place : ℕ) (d : Symbol) (has : Bool) → list ≡ items → place < length items
     → has ≡ list_any (is_twin (get_or list place d)) (take place list) → has ≡ false
@@ -141,8 +145,5 @@ row_first items list place d has is below any none =
     let s : Symbol = get_or list place d in
     let room : place < length list = rw is below in
     let here : get_or list place s ≡ s = get_or_default list place s d room in
-    let twin : is_twin s s ≡ true =
-    and_from (s.address == s.address) (s.name == s.name) (eq-eqb s.address s.address refl)
-    (eq-eqb s.name s.name refl) in
     subst (λ (xs : List Symbol). find (is_twin s) xs ≡ Some s) is
-    (first_found (is_twin s) list place s room here (sym any ∙ none) twin)
+    (first_found (is_twin s) list place s room here (sym any ∙ none) (twin_own s))
