@@ -1,3 +1,4 @@
+pub mod Ends
 pub mod Pairs
 pub mod PartsOfLines
 pub mod Lists

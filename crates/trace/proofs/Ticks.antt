@@ -4,7 +4,7 @@ use Rattle.std.proofs.Common.{arith, eq-zero-or-pos, append_assoc, length, take,
 use Rattle.std.proofs.Math.ListN.{set}
 use Rattle.std.proofs.Math.Seq.{take-append_seam, get_or-append_seam, take-suc, take-suc-set}
 use Rattle.std.proofs.lemmas.List.{length-append, length-take}
-use Rattle.std.proofs.lemmas.Fmt.{decimal_digit, decimal_step}
+use Rattle.std.proofs.lemmas.Fmt.{decimal_digit, decimal_step, length-decimal-le}
 use Rattle.std.specs.Fmt.{decimal}
 use Rattle.trace.specs.Digits.{AreDigits, front_of}
 
@@ -77,6 +77,26 @@ counted_up front at count first here inside small below are =
       few = are.few;
       fits = small;
     }
+
+-- the digits before the last one of a tick of at most 17 digits
+pub few_digits : (n : ℕ) → n < 10 ^ 17 → length (decimal (n / 10)) ≤ 16
+few_digits n small =
+    let tenth : n / 10 < 10 ^ 16 = omega arith in
+    length-decimal-le 16 (n / 10) (omega arith) tenth (omega (arith, tenth))
+
+-- ---- whether a tick is one of the ten
+
+-- a difference that wraps is below ten for no other tick
+pub among : (first tick : ℕ) → first < 2 ^ 63 → tick < 2 ^ 64 → (tick + (2 ^ 64 - first)) % 2 ^ 64 < 10
+    → (first ≤ tick) × (tick < first + 10)
+among first tick low small near = (omega arith, omega arith)
+
+-- nor from ten to nineteen
+pub among_next : (first tick : ℕ) → first < 2 ^ 63 → tick < 2 ^ 64 → 10 ≤ (tick + (2 ^ 64 - first)) % 2 ^ 64
+    → (tick + (2 ^ 64 - first)) % 2 ^ 64 < 20 → (first + 10 ≤ tick) × (tick < first + 20)
+among_next first tick low small from below = (omega arith, omega arith)
+
+-- ---- the number of a region
 
 -- the two digits of a number from 10 to 19
 pub from_ten : (n : ℕ) → 10 ≤ n → n < 20 → decimal n ≡ 49 ∷ (48 + (n - 10)) ∷ []

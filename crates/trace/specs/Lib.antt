@@ -1,4 +1,5 @@
 pub mod Digits
 pub mod Emission
+pub mod Ends
 pub mod Tails
 pub mod Selection

@@ -1,11 +1,14 @@
-//! The digits that lines have in common with earlier ones.
+//! The parts that lines have in common with earlier ones.
 
 ghost use Rattle.std.specs.Prelude.{◌≡◌, ◌++◌, ◌/◌, ◌%◌};
-ghost use Rattle.platform.specs.Text.{hex_byte, hex_word};
+ghost use Rattle.std.specs.Bool.{OnTrue};
+ghost use Rattle.platform.specs.Text.{hex_byte};
+ghost use Rattle.trace.specs.Ends.{rule_of};
 
 use crate::hex::pair;
+use crate::line_end::LineEnd;
 use crate::tick::Tick;
-use platform::access::Access;
+use platform::access::Rule;
 
 /// The upper four digits of an address, which rarely change from one fetch to the next, or from one data access to the
 /// next. This is only a cache, as a `Tick` is.
@@ -13,16 +16,24 @@ use platform::access::Access;
 pub struct UpperDigits {
     /// Bits 31 to 16 of the address.
     half: u32,
-    digits: [u8; 4],
+    pub(crate) digits: [u8; 4],
     ghost right: { digits ≡ hex_byte (half / 256 % 256) ++ hex_byte (half % 256) },
 }
 
-/// The digits of a tick, of a fetch's address and of a data access's address that an earlier line had.
+/// What a line has in common with an earlier one, of a fetch or of a data access: the upper digits of the address, and
+/// the end.
+#[derive(Drop)]
+pub(crate) struct KeptParts {
+    pub(crate) upper: UpperDigits,
+    pub(crate) end: LineEnd,
+}
+
+/// The digits of a tick, and what the lines of fetches, and those of data accesses, have in common with an earlier one.
 #[derive(Drop)]
 pub struct LineDigits {
     pub(crate) tick: Tick,
-    fetch: UpperDigits,
-    data: UpperDigits,
+    pub(crate) fetch: KeptParts,
+    pub(crate) data: KeptParts,
 }
 
 impl UpperDigits {
@@ -34,20 +45,15 @@ impl UpperDigits {
         }
     }
 
-    /// Returns the eight digits of an address.
+    /// Makes the digits those of an address, unless they are.
     #[inline(always)]
-    #[tactic(auto, using(crate::proofs::Pairs::upper_half))]
-    fn address(&mut self, address: u32) -> [u8; 8]
-        ensures { result ≡ hex_word address }
+    pub(crate) fn hold(&mut self, address: u32)
+        ensures { self.new.half ≡ address / 0x1_0000 }
     {
         let half = address / 0x1_0000;
         if half != self.half {
             self.reset(half);
         }
-        let a = self.digits;
-        let b = pair((address / 0x100 % 256) as u8);
-        let c = pair((address % 256) as u8);
-        [a[0], a[1], a[2], a[3], b[0], b[1], c[0], c[1]]
     }
 
     /// Makes the digits of another upper half.
@@ -64,24 +70,33 @@ impl UpperDigits {
 }
 
 impl LineDigits {
-    /// Returns the digits of the first ten ticks, and of address 0.
+    /// Returns the digits of the first ten ticks, and the parts of accesses at address 0 while the MPU is off.
     pub fn new() -> Self {
         LineDigits {
             tick: Tick::new(),
-            fetch: UpperDigits::new(),
-            data: UpperDigits::new(),
+            fetch: KeptParts::new(),
+            data: KeptParts::new(),
+        }
+    }
+}
+
+impl KeptParts {
+    /// Returns the parts of an access at address 0 while the MPU is off.
+    fn new() -> Self {
+        KeptParts {
+            upper: UpperDigits::new(),
+            end: LineEnd::new(),
         }
     }
 
-    /// Returns the eight digits of an access's address.
+    /// Makes the parts those of an access that a rule decided, unless they are. Returns false if the end of its line is
+    /// longer than 8 bytes.
     #[inline(always)]
-    pub(crate) fn address(&mut self, access: &Access) -> [u8; 8]
-        ensures { result ≡ hex_word access.now.address }
+    pub(crate) fn hold(&mut self, address: u32, rule: Rule) -> bool
+        ensures upper { self.new.upper.half ≡ address / 0x1_0000 }
+        ensures end { OnTrue result (rule_of self.new.end.rank self.new.end.number ≡ rule) }
     {
-        if access.kind.is_fetch() {
-            self.fetch.address(access.address)
-        } else {
-            self.data.address(access.address)
-        }
+        self.upper.hold(address);
+        self.end.hold(rule)
     }
 }

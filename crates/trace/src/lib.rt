@@ -2,7 +2,9 @@
 #![tactic(auto)]
 
 pub mod digits;
+mod head;
 mod hex;
+mod line_end;
 pub mod lines;
 pub mod page;
 pub mod selection;

@@ -6,15 +6,15 @@ ghost use Rattle.platform.specs.declared.event.EventKind.TheVariants.{HandlerEnt
 ghost use Rattle.platform.specs.Events.{line};
 ghost use Rattle.platform.specs.Text as spec;
 ghost use Rattle.platform.specs.Text.{stop_text, outcome_text, rule_text, line_feed};
-ghost use Rattle.trace.specs.Tails.{access_head, tail};
+ghost use Rattle.trace.specs.Tails.{access_head, head_text, tail};
 
-use crate::digits::LineDigits;
+use crate::digits::{KeptParts, LineDigits};
+use crate::head::AccessHead;
 use crate::hex;
 use crate::page::Page;
 use crate::tick::Tick;
-use crate::words::{kind_letter, privilege_letter, size_digit};
-use instruction_set::size::Size;
-use platform::access::{Access, Cause, DecidedAccess, Kind, Rule};
+use crate::words::{kind_piece, size_piece};
+use platform::access::{Cause, DecidedAccess, Rule};
 use platform::event::{Event, EventKind, RecordedFault};
 use platform::stop::{NamedStop, Stop};
 
@@ -23,9 +23,6 @@ pub(crate) const TAIL_ROOM: usize = 43;
 
 /// The most bytes between the tick of an access and its rule.
 const HEAD_ROOM: usize = 20;
-
-/// The most bytes of a rule and the line feed after it.
-const RULE_ROOM: usize = 22;
 
 /// The most bytes between `stop ` and the line feed.
 const STOP_ROOM: usize = 40;
@@ -56,16 +53,14 @@ pub fn stop_line(stop: &Stop) -> LinePage
 impl<const ROOM: usize> Page<ROOM> {
     /// Appends the line of an event. Most are accesses, so these are tested for first.
     #[inline(always)]
-    #[tactic(auto, using(crate::proofs::PartsOfLines::tick_and_tail))]
     pub fn put_event(&mut self, digits: &mut LineDigits, event: &Event)
         requires { length self.old + 64 ≤ ROOM }
         ensures text { self.new ≡ self.old ++ line event.now }
         ensures short { length self.new ≤ length self.old + 64 }
     {
-        digits.tick.put_on(event.tick, self);
         match &event.what {
-            EventKind::Accessed(access) => self.put_access(digits, access),
-            what => self.put_tail(*what),
+            EventKind::Accessed(access) => self.put_access(digits, event.tick, access),
+            what => self.put_any(&mut digits.tick, event.tick, *what),
         }
     }
 
@@ -106,10 +101,7 @@ impl<const ROOM: usize> Page<ROOM> {
         }
     }
 
-    /// Appends all of a line but its tick. It takes a copy, so that the compiler can keep an event that never
-    /// comes here in the host's registers; so does `put_rare_head`.
-    #[cold]
-    #[inline(never)]
+    /// Appends all of a line but its tick.
     fn put_tail(&mut self, what: EventKind)
         requires { length self.old + TAIL_ROOM ≤ ROOM }
         ensures text { self.new ≡ self.old ++ tail what }
@@ -124,66 +116,107 @@ impl<const ROOM: usize> Page<ROOM> {
         }
     }
 
-    /// Appends the line of an access but for its tick. Most lines are of this kind.
+    /// Appends the line of an access. Most lines are of this kind.
     #[inline(always)]
-    #[tactic(auto, using(crate::proofs::PartsOfLines::head_and_rule))]
-    fn put_access(&mut self, digits: &mut LineDigits, decided: &DecidedAccess)
-        requires { length self.old + TAIL_ROOM ≤ ROOM }
-        ensures text { self.new ≡ self.old ++ tail (Accessed decided.now) }
-        ensures short { length self.new ≤ length self.old + TAIL_ROOM }
+    fn put_access(&mut self, digits: &mut LineDigits, tick: u64, decided: &DecidedAccess)
+        requires { length self.old + 64 ≤ ROOM }
+        ensures text { self.new ≡ self.old ++ line (record { tick = tick; what = Accessed decided.now }) }
+        ensures short { length self.new ≤ length self.old + 64 }
     {
-        self.put_head(digits, decided);
-        self.put_rule(decided.rule);
+        if decided.access.kind.is_fetch() {
+            self.put_parts(&mut digits.tick, &mut digits.fetch, tick, decided);
+        } else {
+            self.put_parts(&mut digits.tick, &mut digits.data, tick, decided);
+        }
     }
 
-    /// Appends the line of any access but for its tick.
+    /// Appends the line of an access: where it was done, from the kept parts. Calls that may make a part anew come
+    /// before the first `put`, and so do all loads but one, so that the compiler stores the length of the text once.
+    #[inline(always)]
+    #[tactic(auto, using(crate::proofs::PartsOfLines::done_line))]
+    fn put_parts(
+        &mut self,
+        front: &mut Tick,
+        kept: &mut KeptParts,
+        tick: u64,
+        decided: &DecidedAccess,
+    )
+        requires { length self.old + 64 ≤ ROOM }
+        ensures text { self.new ≡ self.old ++ line (record { tick = tick; what = Accessed decided.now }) }
+        ensures short { length self.new ≤ length self.old + 64 }
+    {
+        if decided.refused.is_none()
+            && front.hold(tick)
+            && kept.hold(decided.access.address, decided.rule)
+        {
+            let head = AccessHead::of(&kept.upper, &decided.access);
+            let end = kept.end.text;
+            let count = kept.end.count;
+            front.put_held(tick, self);
+            self.put_head(&head);
+            self.put_some(&end, count);
+        } else {
+            self.put_any(front, tick, EventKind::Accessed(*decided));
+        }
+    }
+
+    /// Appends the head of the line of an access.
+    #[inline(always)]
+    fn put_head(&mut self, head: &AccessHead)
+        requires { length self.old + 16 ≤ ROOM }
+        ensures text { self.new ≡ self.old ++ head_text head.now }
+        ensures short { length self.new ≤ length self.old + 15 }
+    {
+        self.put_some(&head.kind, 3);
+        self.put(&head.upper);
+        self.put(&head.high);
+        self.put(&head.low);
+        self.put(&head.size);
+    }
+
+    /// Appends the line of any event. It takes a copy, so that the compiler can keep an event that never comes here in
+    /// the host's registers.
+    #[cold]
+    #[inline(never)]
+    #[tactic(auto, using(crate::proofs::PartsOfLines::tick_and_tail))]
+    fn put_any(&mut self, front: &mut Tick, tick: u64, what: EventKind)
+        requires { length self.old + 64 ≤ ROOM }
+        ensures text { self.new ≡ self.old ++ line (record { tick = tick; what = what }) }
+        ensures short { length self.new ≤ length self.old + 64 }
+    {
+        front.put_on(tick, self);
+        self.put_tail(what);
+    }
+
+    /// Appends the line of any access but for its tick, piece by piece.
     #[tactic(auto, using(crate::proofs::PartsOfLines::head_and_rule))]
     fn put_any_access(&mut self, decided: DecidedAccess)
         requires { length self.old + TAIL_ROOM ≤ ROOM }
         ensures text { self.new ≡ self.old ++ tail (Accessed decided) }
         ensures short { length self.new ≤ length self.old + TAIL_ROOM }
     {
-        self.put_rare_head(decided);
-        self.put_rule(decided.rule);
+        self.put_any_head(decided);
+        self.put_rule_word(decided.rule);
+        self.put(b"\n");
     }
 
-    /// Appends the part between the tick and the rule in the line of an access. Most accesses are
-    /// done, so that is one piece of text.
-    #[inline(always)]
-    fn put_head(&mut self, digits: &mut LineDigits, decided: &DecidedAccess)
-        requires { length self.old + HEAD_ROOM ≤ ROOM }
-        ensures text { self.new ≡ self.old ++
-            (access_head decided.now.access ++ (outcome_text decided.now.refused ++ codes " ")) }
-        ensures short { length self.new ≤ length self.old + HEAD_ROOM }
-    {
-        match decided.refused {
-            None => self.put(&done_head_of(digits, &decided.access)),
-            Some(_) => self.put_rare_head(*decided),
-        }
-    }
-
-    /// Appends the part between the tick and the rule in the line of any access, piece by piece.
-    #[cold]
-    #[inline(never)]
+    /// Appends the part between the tick and the rule in the line of any access.
     #[tactic(auto, unfolding(crate::specs::Tails::access_head))]
-    fn put_rare_head(&mut self, decided: DecidedAccess)
+    fn put_any_head(&mut self, decided: DecidedAccess)
         requires { length self.old + HEAD_ROOM ≤ ROOM }
         ensures text { self.new ≡ self.old ++
             (access_head decided.access ++ (outcome_text decided.refused ++ codes " ")) }
         ensures short { length self.new ≤ length self.old + HEAD_ROOM }
     {
         let access = &decided.access;
-        let kind = kind_letter(access.kind);
-        let size = size_digit(access.size);
-        let privilege = privilege_letter(access.privileged);
-        self.put(&[b' ', kind, b' ']);
+        self.put_some(&kind_piece(access.kind), 3);
         self.put(&hex::word(access.address));
-        self.put(&[b' ', size, b' ', privilege, b' ']);
+        self.put(&size_piece(access.size, access.privileged));
+        self.put(b" ");
         self.put_outcome(decided.refused);
     }
 
     /// Appends what refused an access, or `ok`, and a space.
-    #[inline(always)]
     fn put_outcome(&mut self, refused: Option<Cause>)
         requires { length self.old + 4 ≤ ROOM }
         ensures text { self.new ≡ self.old ++ (outcome_text refused ++ codes " ") }
@@ -194,36 +227,6 @@ impl<const ROOM: usize> Page<ROOM> {
             Some(Cause::Mpu) => self.put(b"mpu "),
             Some(Cause::Bus) => self.put(b"bus "),
         }
-    }
-
-    /// Appends a rule and a line feed. The MPU is off, or a region decides, in most lines.
-    #[inline(always)]
-    #[tactic(auto, using(std::proofs::lemmas::Fmt::decimal_digit, crate::proofs::Ticks::from_ten))]
-    fn put_rule(&mut self, rule: Rule)
-        requires { length self.old + RULE_ROOM ≤ ROOM }
-        ensures text { self.new ≡ self.old ++ (rule_text rule ++ line_feed) }
-        ensures short { length self.new ≤ length self.old + RULE_ROOM }
-    {
-        match rule {
-            Rule::MpuOff => self.put(b"off\n"),
-            Rule::Region(number) if number < 10 => self.put(&[b'r', b'0' + number, b'\n']),
-            Rule::Region(number) if number < 20 => {
-                self.put(&[b'r', b'1', b'0' + (number - 10), b'\n']);
-            }
-            _ => self.put_rare_rule(rule),
-        }
-    }
-
-    /// Appends any rule and a line feed.
-    #[cold]
-    #[inline(never)]
-    fn put_rare_rule(&mut self, rule: Rule)
-        requires { length self.old + RULE_ROOM ≤ ROOM }
-        ensures text { self.new ≡ self.old ++ (rule_text rule ++ line_feed) }
-        ensures short { length self.new ≤ length self.old + RULE_ROOM }
-    {
-        self.put_rule_word(rule);
-        self.put(b"\n");
     }
 
     /// Appends the word of a rule, at most 21 bytes.
@@ -298,20 +301,4 @@ impl<const ROOM: usize> Page<ROOM> {
         self.put(&hex::word(fault.hfsr));
         self.put(b"\n");
     }
-}
-
-/// Returns the fixed-length part of the line of an access that was done: from the space after the
-/// tick to the one before the rule.
-#[inline(always)]
-fn done_head_of(digits: &mut LineDigits, access: &Access) -> [u8; 19]
-    ensures { result ≡ access_head access.now ++ (codes "ok" ++ codes " ") }
-{
-    let kind = kind_letter(access.kind);
-    let a = digits.address(access);
-    let size = size_digit(access.size);
-    let privilege = privilege_letter(access.privileged);
-    [
-        b' ', kind, b' ', a[0], a[1], a[2], a[3], a[4], a[5], a[6], a[7], b' ', size, b' ',
-        privilege, b' ', b'o', b'k', b' ',
-    ]
 }

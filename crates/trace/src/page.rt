@@ -98,6 +98,20 @@ impl<const ROOM: usize> Page<ROOM> {
         self.len = at + count;
     }
 
+    /// Appends the first `count` of 16 bytes, as `put_some`, by one load and one store.
+    #[inline(always)]
+    #[tactic(auto, using(crate::proofs::Lists::put_some))]
+    pub(crate) fn put_front(&mut self, text: &[u8; 16], count: usize)
+        requires within { count ≤ 16 }
+        requires room { length self.old + 16 ≤ ROOM }
+        ensures { self.new ≡ self.old ++ take count text.now }
+    {
+        let at = self.len;
+        let bytes = &mut self.bytes[..];
+        write_halves(&mut bytes[at..at + 16], text);
+        self.len = at + count;
+    }
+
     /// Appends bytes.
     pub fn put_slice(&mut self, text: &[u8])
         requires { length self.old + length text.now ≤ ROOM }
@@ -144,5 +158,30 @@ fn write_over<const COUNT: usize>(bytes: &mut [u8], text: &[u8; COUNT])
 {
     if let Some(whole) = bytes.as_mut_array::<COUNT>() {
         *whole = *text;
+    }
+}
+
+/// Writes 16 bytes over as many. Both halves are loaded before either is stored, and the compiler makes one load and one
+/// store of them. For a single copy of 16 bytes it would first compute both addresses.
+#[inline(always)]
+fn write_halves(bytes: &mut [u8], text: &[u8; 16])
+    requires { length bytes.old ≡ 16 }
+    ensures { bytes.new ≡ text.now }
+{
+    let (low, high) = halves(text);
+    let (first, second) = bytes.split_at_mut(8);
+    write_over(first, &low);
+    write_over(second, &high);
+}
+
+/// Returns the two halves of 16 bytes.
+#[inline(always)]
+fn halves(text: &[u8; 16]) -> ([u8; 8], [u8; 8])
+    ensures { result.0 ++ result.1 ≡ text.now }
+{
+    let (low, high) = text.split_at(8);
+    match (low.as_array::<8>(), high.as_array::<8>()) {
+        (Some(low), Some(high)) => (*low, *high),
+        _ => ([0; 8], [0; 8]),
     }
 }
