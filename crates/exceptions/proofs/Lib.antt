@@ -1,3 +1,3 @@
-mod Fetching
+pub mod Fetching
 mod LineBounds
 mod Serving

@@ -10,6 +10,7 @@ mod returning;
 mod state;
 
 pub use access::{Bus, Decider, DueTicks, Levels};
+pub use accesses::accessed;
 pub use faults::{fault_of, usage_fault_of};
 pub use reference::accesses::Values;
 pub use state::Core;

@@ -1,4 +1,5 @@
 pub mod AtOnce
+mod Fetched
 pub mod Fetching
 mod Foreseen
 mod Known
@@ -10,3 +11,4 @@ pub mod Selecting
 mod Tasking
 pub mod Quiet
 mod TaskAnswers
+mod Writing

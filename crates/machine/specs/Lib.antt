@@ -7,5 +7,6 @@ pub mod TaskRunLaw
 pub mod Tasks
 pub mod Values
 pub mod Whole
+pub mod Fetched
 pub mod Kept
 pub mod Quiet

@@ -1,6 +1,7 @@
 //! The machine: steps, runs and their traces.
 #![tactic(auto)]
 
+mod at_once;
 pub mod foresight;
 pub mod laws;
 mod machine;

@@ -1,5 +1,5 @@
 mod Cutting
-mod Emitting
+pub mod Emitting
 mod Gathering
 mod Reading
 mod Sending
