@@ -1,5 +1,5 @@
 -- The bytes from GDB, and the packets among them (GDB manual, "Overview" of the Remote Serial Protocol).
-use Rattle.std.specs.Prelude.{ℕ, ◌+◌, ◌%◌, nat_lt, Bool, true, false, ◌==◌, if◌then◌else◌, List, [], ◌∷◌, ◌++◌}
+use Rattle.std.specs.Prelude.{ℕ, ◌+◌, ◌%◌, nat_lt, Bool, false, ◌==◌, if◌then◌else◌, List, [], ◌∷◌, ◌++◌}
 use Rattle.std.specs.Prelude.{length, Option, Some, None}
 use Rattle.gdb_packets.specs.Digits.{byte_of}
 use Rattle.gdb_packets.specs.Escapes.{dollar, hash, unescaped}
@@ -51,12 +51,24 @@ abbrev pub end_event : Framing → ℕ → ℕ → Event
 end_event f first second =
     if is_checksum f.checksum (byte_of first second) then whole_event f.raw else event.WrongChecksum
 
+-- the byte of Ctrl-C
+abbrev pub interrupt : ℕ
+interrupt = 3
+
+-- `+`
+abbrev pub plus : ℕ
+plus = 43
+
+-- `-`
+abbrev pub minus : ℕ
+minus = 45
+
 -- the event of a byte outside packets
 abbrev pub outside_event : ℕ → Event
 outside_event byte =
-    if byte == 3 then event.Interrupt
-    else if byte == 43 then event.Acknowledgement
-    else if byte == 45 then event.Rejection
+    if byte == interrupt then event.Interrupt
+    else if byte == plus then event.Acknowledgement
+    else if byte == minus then event.Rejection
     else event.Nothing
 
 abbrev pub event_at : Place → Framing → ℕ → Event

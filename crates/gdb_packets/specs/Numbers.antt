@@ -51,9 +51,13 @@ abbrev pub numbers_in : Option Parts → Option (ℕ × ℕ)
 numbers_in None = None
 numbers_in (Some parts) = pair_of (number parts.front) (number parts.rest)
 
+-- `,`
+abbrev pub comma : ℕ
+comma = 44
+
 -- two numbers with a comma between
 abbrev pub two_numbers : List ℕ → Option (ℕ × ℕ)
-two_numbers text = numbers_in (parted 44 text)
+two_numbers text = numbers_in (parted comma text)
 
 -- ---- bytes as digits
 

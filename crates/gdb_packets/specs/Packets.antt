@@ -1,5 +1,5 @@
 -- What a packet asks for (GDB manual, "Packets" and "General Query Packets").
-use Rattle.std.specs.Prelude.{ℕ, ◌*◌, ◌/◌, nat_lt, Bool, true, false, ◌&&◌, ◌||◌, ◌==◌, not, if◌then◌else◌, List, []}
+use Rattle.std.specs.Prelude.{ℕ, ◌*◌, ◌/◌, nat_lt, Bool, true, false, ◌&&◌, ◌||◌, ◌==◌, if◌then◌else◌, List, []}
 use Rattle.std.specs.Prelude.{◌∷◌, length, take, drop, codes, bytes_eq, Option, Some, None}
 use Rattle.gdb_packets.specs.Numbers.{Parts, are_digits, number, parted, two_numbers}
 use Rattle.gdb_packets.specs.declared.packets.PointKind.{PointKind}
@@ -19,6 +19,14 @@ asked r = record { request = r; tail = [] }
 -- a packet whose tail follows `count` bytes
 abbrev pub tailed : Request → ℕ → List ℕ → Packet
 tailed r count content = record { request = r; tail = drop count content }
+
+-- `:`
+abbrev pub colon : ℕ
+colon = 58
+
+-- `=`
+abbrev pub equals_sign : ℕ
+equals_sign = 61
 
 abbrev pub malformed : Packet
 malformed = asked request.Malformed
@@ -46,7 +54,7 @@ write_parts (Some parts) = write_digits (two_numbers parts.front) parts.rest
 
 -- M address,length:digits
 abbrev pub write_memory : List ℕ → Packet
-write_memory rest = write_parts (parted 58 rest)
+write_memory rest = write_parts (parted colon rest)
 
 abbrev pub write_bytes : Option (ℕ × ℕ) → List ℕ → Packet
 write_bytes None bytes = malformed
@@ -60,7 +68,7 @@ binary_parts (Some parts) = write_bytes (two_numbers parts.front) parts.rest
 
 -- X address,length:bytes
 abbrev pub write_binary : List ℕ → Packet
-write_binary rest = binary_parts (parted 58 rest)
+write_binary rest = binary_parts (parted colon rest)
 
 -- ---- p, P
 
@@ -78,7 +86,7 @@ register_parts (Some parts) = register_digits (number parts.front) parts.rest
 
 -- P number=digits
 abbrev pub write_register : List ℕ → Packet
-write_register rest = register_parts (parted 61 rest)
+write_register rest = register_parts (parted equals_sign rest)
 
 -- ---- c, C, s, S: without an address (profile)
 
@@ -113,11 +121,11 @@ read_described r rest = if bytes_eq rest (codes "1") then asked r else malformed
 
 abbrev pub kind_of : ℕ → Option PointKind
 kind_of digit =
-    if digit == 48 then Some kind.SoftwareBreakpoint
-    else if digit == 49 then Some kind.HardwareBreakpoint
-    else if digit == 50 then Some kind.WriteWatchpoint
-    else if digit == 51 then Some kind.ReadWatchpoint
-    else if digit == 52 then Some kind.AccessWatchpoint
+    if digit == 48 then Some kind.SoftwareBreakpoint  -- 0
+    else if digit == 49 then Some kind.HardwareBreakpoint  -- 1
+    else if digit == 50 then Some kind.WriteWatchpoint  -- 2
+    else if digit == 51 then Some kind.ReadWatchpoint  -- 3
+    else if digit == 52 then Some kind.AccessWatchpoint  -- 4
     else None
 
 -- whether a length of 0 is refused
@@ -177,7 +185,7 @@ unfoldable pub by_prefix : List ℕ → Packet
 by_prefix content =
     if begins_with (codes "qRcmd,") content then read_command (drop 6 content)
     else if begins_with (codes "qThreadExtraInfo,") content then
-        read_described request.ThreadDescription (drop 17 content)
+    read_described request.ThreadDescription (drop 17 content)
     else if begins_with (codes "qMemoryRegionInfo:") content then read_region (number (drop 18 content))
     else if begins_with (codes "qXfer:features:read:") content then read_annex (drop 20 content)
     else if begins_with (codes "qXfer:memory-map:read::") content then read_map (two_numbers (drop 23 content))
@@ -189,10 +197,10 @@ unfoldable pub with_tail : List ℕ → Packet
 with_tail content =
     if bytes_eq content (codes "D") || begins_with (codes "D;") content then tailed request.Detach 2 content
     else if bytes_eq content (codes "vKill") || begins_with (codes "vKill;") content then
-        tailed request.KillProcess 6 content
+    tailed request.KillProcess 6 content
     else if bytes_eq content (codes "vRun") || begins_with (codes "vRun;") content then tailed request.Run 5 content
     else if bytes_eq content (codes "qSupported") || begins_with (codes "qSupported:") content then
-        tailed request.Supported 11 content
+    tailed request.Supported 11 content
     else if begins_with (codes "vCont;") content then tailed request.Resume 6 content
     else by_prefix content
 
@@ -217,22 +225,22 @@ by_name content =
 -- a packet by its first letter, or else by its name
 unfoldable pub by_letter : ℕ → List ℕ → List ℕ → Packet
 by_letter letter rest content =
-    if letter == 109 then read_memory (two_numbers rest)
-    else if letter == 77 then write_memory rest
-    else if letter == 88 then write_binary rest
-    else if letter == 112 then read_one (number rest)
-    else if letter == 80 then write_register rest
-    else if letter == 71 then has_digits request.WriteRegisters 184 rest
-    else if letter == 99 then unless_more request.Continue rest
-    else if letter == 67 then read_signal request.Continue (number rest)
-    else if letter == 115 then unless_more request.Step rest
-    else if letter == 83 then read_signal request.Step (number rest)
-    else if letter == 72 then read_thread rest
-    else if letter == 84 then read_described request.ThreadAlive rest
-    else if letter == 90 then point_packet true rest
-    else if letter == 122 then point_packet false rest
-    else if letter == 70 then record { request = request.FileReply; tail = rest }
-    else if letter == 82 then asked request.Restart
+    if letter == 109 then read_memory (two_numbers rest)  -- m
+    else if letter == 77 then write_memory rest  -- M
+    else if letter == 88 then write_binary rest  -- X
+    else if letter == 112 then read_one (number rest)  -- p
+    else if letter == 80 then write_register rest  -- P
+    else if letter == 71 then has_digits request.WriteRegisters 184 rest  -- G
+    else if letter == 99 then unless_more request.Continue rest  -- c
+    else if letter == 67 then read_signal request.Continue (number rest)  -- C
+    else if letter == 115 then unless_more request.Step rest  -- s
+    else if letter == 83 then read_signal request.Step (number rest)  -- S
+    else if letter == 72 then read_thread rest  -- H
+    else if letter == 84 then read_described request.ThreadAlive rest  -- T
+    else if letter == 90 then point_packet true rest  -- Z
+    else if letter == 122 then point_packet false rest  -- z
+    else if letter == 70 then record { request = request.FileReply; tail = rest }  -- F
+    else if letter == 82 then asked request.Restart  -- R
     else by_name content
 
 unfoldable pub packet_of : List ℕ → Packet

@@ -61,10 +61,10 @@ impl Model for Framer {
     ghost Value = { Framing };
 
     ghost view = { λ f. record {
-        place = f.place;
-        raw = if f.is_long then None else Some f.raw.items;
-        checksum = f.checksum;
-        content = f.content.items;
+      place = f.place;
+      raw = if f.is_long then None else Some f.raw.items;
+      checksum = f.checksum;
+      content = f.content.items;
     } };
 }
 

@@ -14,3 +14,6 @@ pub use framer::{Event, Framer, MOST_BYTES, Place};
 pub use numbers::{number, two_numbers};
 pub use packets::{Packet, PointKind, Request, read_packet};
 pub use replies::put_packet;
+
+#[cfg(test)]
+mod tests;

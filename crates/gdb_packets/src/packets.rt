@@ -490,11 +490,7 @@ fn by_prefix(content: &[u8]) -> Packet<'_>
 fn read_command(digits: &[u8]) -> Packet<'_>
     ensures { seen_packet result ≡ read_command digits.now }
 {
-    has_digits(
-        Request::Monitor,
-        digits.len() as u64 / 2 * 2,
-        digits,
-    )
+    has_digits(Request::Monitor, digits.len() as u64 / 2 * 2, digits)
 }
 
 /// Reads `qMemoryRegionInfo`.
