@@ -11,27 +11,29 @@ use Rattle.output.specs.Input.{Reading}
 use Rattle.output.specs.Output.{Writing}
 use Rattle.platform.specs.declared.error.BoardError.{BoardError}
 use Rattle.platform.specs.declared.error.LoadError.{LoadError}
-use Rattle.platform.specs.Boards.{Described}
+use Rattle.platform.specs.Boards.{Described, Numbers, numbers_of}
 use Rattle.platform.specs.Images.{Segment}
 
 -- a session of a machine, with the machine as it is at the end: it ends, or its reader or its writer fails. Nothing
 -- waits unless the writer failed
-abbrev pub Talks : Whole → Whole → Reading → Reading → Writing → Writing → Result (Unit {0}) Error → Type 0
-Talks first last before after out out' (Ok done) = Holds first last before after out out' × (out'.waits ≡ [])
-Talks first last before after out out' (Err error) =
+abbrev pub Talks : Numbers → Whole → Whole → Reading → Reading → Writing → Writing → Result (Unit {0}) Error → Type 0
+Talks board first last before after out out' (Ok done) =
+    Holds board first last before after out out' × (out'.waits ≡ [])
+Talks board first last before after out out' (Err error) =
     (error ≡ Io)
-    × ((FailsToRead first last before after out out' × (out'.waits ≡ []))
-    ⊎ FailsToWrite first last before after out out')
+    × ((FailsToRead board first last before after out out' × (out'.waits ≡ []))
+    ⊎ FailsToWrite board first last before after out out')
 
--- a session of a machine, whatever the machine is at its end
-pub record Talked (first : Whole) (before after : Reading) (out out' : Writing) (result : Result (Unit {0}) Error)
-    : Type 0 where
+-- a session of a machine of a board, whatever the machine is at its end
+pub record Talked (board : Numbers) (first : Whole) (before after : Reading) (out out' : Writing)
+    (result : Result (Unit {0}) Error) : Type 0 where
   pub last : Whole
-  pub talks : Talks first last before after out out' result
+  pub talks : Talks board first last before after out out' result
 
 -- a session of a machine before its first step; or a refusal, with which nothing is read and nothing is written
 abbrev pub TalksFrom : Result Opened Error → Reading → Reading → Writing → Writing → Result (Unit {0}) Error → Type 0
-TalksFrom (Ok opened) before after out out' result = Talked opened.machine before after out out' result
+TalksFrom (Ok opened) before after out out' result =
+    Talked (numbers_of opened.layout) opened.machine before after out out' result
 TalksFrom (Err error) before after out out' result = (result ≡ Err error) × (after ≡ before) × (out' ≡ out)
 
 -- 0 where the session ended, else the status of the error

@@ -3,14 +3,15 @@
 ghost use Rattle.std.specs.Prelude.{◌≡◌};
 ghost use Rattle.command.specs.Opening.{board_in_file};
 ghost use Rattle.command.specs.Sessions.{SessionTo, Talked};
+ghost use Rattle.platform.specs.Boards.{numbers_of};
 ghost use Rattle.platform.specs.Images.{image_of};
 
 use crate::error::Error;
 use crate::files::InputFile;
-use crate::opening::open;
+use crate::opening::{Opened, open};
 use crate::reason::refuse;
 use debugger::session;
-use machine::{Fast, In, Out};
+use machine::{In, Out};
 use std::alloc::Global;
 use std::io::Write;
 
@@ -30,23 +31,26 @@ pub fn debug<I: In, O: Out, E: Write>(
         (I.reading input.old) (I.reading input.new) (O.writing out.old) (O.writing out.new) result }
     ensures quiet { result ≡ 0 → err.new ≡ err.old }
 {
-    let machine = match open(alloc, image.bytes, board.bytes) {
-        Ok(opened) => opened.machine,
+    let opened = match open(alloc, image.bytes, board.bytes) {
+        Ok(opened) => opened,
         Err(error) => return refuse(alloc, error, image, board, err),
     };
-    match hold_session(machine, input, out) {
+    match hold_session(opened, input, out) {
         Ok(()) => 0,
         Err(error) => refuse(alloc, error, image, board, err),
     }
 }
 
 /// Holds a session of a machine.
-fn hold_session<I: In, O: Out>(machine: Fast, input: &mut I, out: &mut O) -> Result<(), Error>
-    ensures { Talked machine (I.reading input.old) (I.reading input.new)
+fn hold_session<I: In, O: Out>(opened: Opened, input: &mut I, out: &mut O) -> Result<(), Error>
+    ensures { Talked (numbers_of opened.layout) opened.machine (I.reading input.old) (I.reading input.new)
         (O.writing out.old) (O.writing out.new) result }
 {
-    let mut machine = machine;
-    match session(&mut machine, input, out) {
+    let Opened {
+        mut machine,
+        layout,
+    } = opened;
+    match session(&mut machine, layout, input, out) {
         Ok(()) => Ok(()),
         Err(_) => Err(Error::Io),
     }

@@ -71,25 +71,38 @@ Example:
 pub const AFTER_DEBUG: &str = "\
 Commands, one a line on standard input; numbers are decimal, or hexadecimal after 0x:
   step               makes a step: its trace lines, then `at <pc>` or the stop line
-  run <n>            makes up to n steps, from 1 to 1000000, and ends at a breakpoint
+  run <n>            makes up to n steps, from 1 to 1000000, and ends where something is hit: a breakpoint, a
+                     watchpoint, or what `stop` set
   task <n>           makes up to n steps of a task (unprivileged code in Thread mode under the regions of the
-                     MPU), from 1 to 1000000, through breakpoints; then `task done`, `task other` where the
-                     next step isn't an instruction, `task not` where no task runs, or the stop line
-  break <a>          sets a breakpoint at an address, at most 16
-                     an odd address is never hit, and no command removes a breakpoint
+                     MPU), from 1 to 1000000; nothing that is hit ends it; then `task done`, `task other` where
+                     the next step isn't an instruction, `task not` where no task runs, or the stop line
+  break <a>          sets a breakpoint at an address, at most 16; an odd address is never hit
+  watch r|w|a <a> <n>
+                     sets a watchpoint on n bytes from an address on, at most 16: a granted read (r), write (w)
+                     or either (a) of one of the bytes hits it
+  stop refused|faults|exceptions on|off
+                     sets whether refused accesses, faults or entries of handlers are hit
+  clear              removes all breakpoints and watchpoints, and sets each `stop` to off
+  trace all|refused|exceptions|console|none
+                     chooses which lines steps have; what is hit and ends a run always has its line
   regs               shows the core registers
   mem <a> <n>        shows n bytes from an address on, from 1 to 256
   regions            shows RBAR and RASR of each region of the MPU
   explain <a> p|u r|w|x
                      shows the rule that would decide an access by privileged (p) or unprivileged (u)
                      code that reads, writes or executes, and whether the rule would grant it
+  state              shows the state as --state of `marm run` does
+  next               shows the kind of the next step: Instruction, Stack, Vector or Sleep; or the stop line
+  script 1           shows the numbers of the board; from now on each answer ends with a line
+                     `= <ticks> <pc> <next>`
+  help               shows a line for each command
   quit               ends the session, as the end of the input does
 
 Words are separated by exactly one space. A line ends with a line feed, without a carriage return, and
 has at most 80 bytes before it. The last line needs no line feed.
 
 Answers `error 1` (no such command, a wrong number of words, or a line of more than 80 bytes), `error 2`
-(a word isn't allowed there) and `error 3` (16 breakpoints are set) change nothing.
+(a word isn't allowed there) and `error 3` (16 breakpoints or 16 watchpoints are set) change nothing.
 
 Exit status:
   0  the session ended

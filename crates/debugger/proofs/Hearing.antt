@@ -13,16 +13,18 @@ use Rattle.std.proofs.lemmas.List.{append-nil}
 use Rattle.std.specs.Io.KnownBytes.{IsAtEnd, Keeps}
 use Rattle.std.proofs.KnownBytes.{Appends-kept, Consumes-nil, Consumes-trans, Consumes-kept}
 use Rattle.debugger.proofs.Telling.{tells_none, tells_on, cut_on, cut_before}
-use Rattle.debugger.specs.Answers.{Piece}
+use Rattle.debugger.specs.Answers.{Piece, last_state, texts}
 use Rattle.debugger.specs.declared.sessions.SessionError.{SessionError}
 use Rattle.debugger.specs.declared.sessions.SessionError.TheVariants.{Read, Write}
 use Rattle.debugger.specs.Sessions.{AreSoFar, Ends, FailsOnce, FailsToRead, FailsToWrite, Hears, Holds, Kept, KeepsPut}
 use Rattle.debugger.specs.Sessions.{NothingWaits, SendsRest, Sessions, TakesNext, Talk, TellsAll}
 use Rattle.debugger.specs.Sessions.{TellsAllThenFails, TellsPart, after_bytes, all_answers, answers, is_line_feed}
-use Rattle.debugger.specs.Sessions.{last_state, next, opened, answered, answered_at_end, talk, texts}
+use Rattle.debugger.specs.Sessions.{answered, answered_at_end, next, opened, talk}
+use Rattle.debugger_commands.specs.Settings.{opened_settings}
 use Rattle.machine.specs.Whole.{Whole}
 use Rattle.output.specs.Input.{Reading}
 use Rattle.output.specs.Output.{Writing}
+use Rattle.platform.specs.Boards.{Numbers}
 use Rattle.reference.specs.State.{State}
 
 -- ---- one byte after others
@@ -85,31 +87,34 @@ next_state_by t byte false e = rw e refl
 next_state : (t : Talk) (byte : ℕ) → last_state t.state (answered t byte) ≡ (next t byte).state
 next_state t byte = next_state_by t byte (is_line_feed byte) refl
 
-talk_of : (t : Talk) (s : State) (k : Kept) → s ≡ t.state → k ≡ record { breakpoints = t.breakpoints; line = t.line }
+talk_of : (t : Talk) (s : State) (k : Kept) → s ≡ t.state → k ≡ record { settings = t.settings; line = t.line }
     → t.is_open ≡ true → t ≡ talk s k
 talk_of t s k es ek goes = ap (λ (o : Bool). record t { is_open = o }) goes ∙ rw (es, ek) refl
 
 -- the session after n bytes
-pub record Heard (n : ℕ) (k : Kept) (old new : Whole) (before after : Reading) (out out' : Writing) : Type 0 where
+pub record Heard (board : Numbers) (n : ℕ) (k : Kept) (old new : Whole) (before after : Reading) (out out' : Writing)
+    : Type 0 where
   pub given : List ℕ
   pub count : length given ≡ n
   pub hears : Hears given before after
-  pub now : after_bytes (opened old.state) given ≡ talk new.state k
-  pub tells : TellsAll (answers (opened old.state) given) old new out out'
+  pub now : after_bytes (opened board old.state) given ≡ talk new.state k
+  pub tells : TellsAll (answers (opened board old.state) given) old new out out'
 
-pub begun : (m : Whole) (k : Kept) (i : Reading) (a : Writing) → k ≡ record { breakpoints = []; line = Some [] }
-    → Heard 0 k m m i i a a
-begun m k i a e = record {
+pub begun : (board : Numbers) (m : Whole) (k : Kept) (i : Reading) (a : Writing)
+    → k ≡ record { settings = opened_settings board; line = Some [] }
+    → Heard board 0 k m m i i a a
+begun board m k i a e = record {
   given = [];
   count = refl;
   hears = record { gave = Consumes-nil i.left; quiet = refl };
-  now = rw e (after_none (opened m.state));
-  tells = subst (λ (ps : List Piece). TellsAll ps m m a a) (sym (answers_none (opened m.state))) (tells_none m a);
+  now = rw e (after_none (opened board m.state));
+  tells = subst (λ (ps : List Piece). TellsAll ps m m a a) (sym (answers_none (opened board m.state))) (tells_none m a);
 }
 
-is_open : (n : ℕ) (k : Kept) (old new : Whole) (i j : Reading) (a b : Writing) (h : Heard n k old new i j a b)
-    → (after_bytes (opened old.state) h.given).is_open ≡ true
-is_open n k old new i j a b h = ap (λ (t : Talk). t.is_open) h.now
+is_open : (board : Numbers) (n : ℕ) (k : Kept) (old new : Whole) (i j : Reading) (a b : Writing)
+    (h : Heard board n k old new i j a b)
+    → (after_bytes (opened board old.state) h.given).is_open ≡ true
+is_open board n k old new i j a b h = ap (λ (t : Talk). t.is_open) h.now
 
 heard_more : (given more : List ℕ) (i j l : Reading) → Hears given i j → Hears more j l → Hears (given ++ more) i l
 heard_more given more i j l x y = record {
@@ -118,106 +123,113 @@ heard_more given more i j l x y = record {
 }
 
 -- what holds for the next byte, in the session's words
-answered_now : (n : ℕ) (k : Kept) (old mid : Whole) (i j : Reading) (a b : Writing) (byte : ℕ)
-    (h : Heard n k old mid i j a b)
-    → answers (opened old.state) (h.given ++ byte ∷ []) ≡ answers (opened old.state) h.given
+answered_now : (board : Numbers) (n : ℕ) (k : Kept) (old mid : Whole) (i j : Reading) (a b : Writing) (byte : ℕ)
+    (h : Heard board n k old mid i j a b)
+    → answers (opened board old.state) (h.given ++ byte ∷ []) ≡ answers (opened board old.state) h.given
     ++ answered (talk mid.state k) byte
-answered_now n k old mid i j a b byte h =
-    answers_snoc (opened old.state) h.given byte (is_open n k old mid i j a b h)
-    ∙ ap (λ (t : Talk). answers (opened old.state) h.given ++ answered t byte) h.now
+answered_now board n k old mid i j a b byte h =
+    answers_snoc (opened board old.state) h.given byte (is_open board n k old mid i j a b h)
+    ∙ ap (λ (t : Talk). answers (opened board old.state) h.given ++ answered t byte) h.now
 
-next_now : (n : ℕ) (k : Kept) (old mid : Whole) (i j : Reading) (a b : Writing) (byte : ℕ)
-    (h : Heard n k old mid i j a b)
-    → after_bytes (opened old.state) (h.given ++ byte ∷ []) ≡ next (talk mid.state k) byte
-next_now n k old mid i j a b byte h =
-    after_snoc (opened old.state) h.given byte (is_open n k old mid i j a b h) ∙ ap (λ (t : Talk). next t byte) h.now
+next_now : (board : Numbers) (n : ℕ) (k : Kept) (old mid : Whole) (i j : Reading) (a b : Writing) (byte : ℕ)
+    (h : Heard board n k old mid i j a b)
+    → after_bytes (opened board old.state) (h.given ++ byte ∷ []) ≡ next (talk mid.state k) byte
+next_now board n k old mid i j a b byte h =
+    after_snoc (opened board old.state) h.given byte (is_open board n k old mid i j a b h)
+    ∙ ap (λ (t : Talk). next t byte) h.now
 
-answered_all : (n : ℕ) (k : Kept) (old mid new : Whole) (i j : Reading) (a b c : Writing) (byte : ℕ)
-    (h : Heard n k old mid i j a b) → TellsAll (answered (talk mid.state k) byte) mid new b c
-    → TellsAll (answers (opened old.state) (h.given ++ byte ∷ [])) old new a c
-answered_all n k old mid new i j a b c byte h then =
-    subst (λ (ps : List Piece). TellsAll ps old new a c) (sym (answered_now n k old mid i j a b byte h))
-    (tells_on (answers (opened old.state) h.given) (answered (talk mid.state k) byte) old mid new a b c h.tells then)
+answered_all : (board : Numbers) (n : ℕ) (k : Kept) (old mid new : Whole) (i j : Reading) (a b c : Writing) (byte : ℕ)
+    (h : Heard board n k old mid i j a b) → TellsAll (answered (talk mid.state k) byte) mid new b c
+    → TellsAll (answers (opened board old.state) (h.given ++ byte ∷ [])) old new a c
+answered_all board n k old mid new i j a b c byte h then =
+    subst (λ (ps : List Piece). TellsAll ps old new a c) (sym (answered_now board n k old mid i j a b byte h))
+    (tells_on (answers (opened board old.state) h.given) (answered (talk mid.state k) byte) old mid new a b c
+    h.tells then)
 
 -- one byte more
-pub heard_on : (n : ℕ) (k k' : Kept) (old mid new : Whole) (i j l : Reading) (a b c : Writing) (byte : ℕ)
-    → Heard n k old mid i j a b → Hears (byte ∷ []) j l → TellsAll (answered (talk mid.state k) byte) mid new b c
+pub heard_on : (board : Numbers) (n : ℕ) (k k' : Kept) (old mid new : Whole) (i j l : Reading) (a b c : Writing)
+    (byte : ℕ)
+    → Heard board n k old mid i j a b → Hears (byte ∷ []) j l → TellsAll (answered (talk mid.state k) byte) mid new b c
     → k' ≡ record {
-      breakpoints = (next (talk mid.state k) byte).breakpoints;
+      settings = (next (talk mid.state k) byte).settings;
       line = (next (talk mid.state k) byte).line;
     } → (next (talk mid.state k) byte).is_open ≡ true
-    → Heard (n + 1) k' old new i l a c
-heard_on n k k' old mid new i j l a b c byte h gave then kept goes = record {
+    → Heard board (n + 1) k' old new i l a c
+heard_on board n k k' old mid new i j l a b c byte h gave then kept goes = record {
   given = h.given ++ byte ∷ [];
   count = length-append h.given (byte ∷ []) ∙ ap (λ x. x + 1) h.count;
   hears = heard_more h.given (byte ∷ []) i j l h.hears gave;
-  now = next_now n k old mid i j a b byte h
+  now = next_now board n k old mid i j a b byte h
       ∙ talk_of (next (talk mid.state k) byte) new.state k'
       (ap (λ (m : Whole). m.state) then.stands ∙ next_state (talk mid.state k) byte) kept goes;
-  tells = answered_all n k old mid new i j a b c byte h then;
+  tells = answered_all board n k old mid new i j a b c byte h then;
 }
 
 -- `quit`
-pub closed : (n : ℕ) (k : Kept) (old mid new : Whole) (i j l : Reading) (a b c : Writing) (byte : ℕ)
-    → Heard n k old mid i j a b → Hears (byte ∷ []) j l → TellsAll (answered (talk mid.state k) byte) mid new b c
-    → (next (talk mid.state k) byte).is_open ≡ false → Holds old new i l a c
-closed n k old mid new i j l a b c byte h gave then shut = record {
+pub closed : (board : Numbers) (n : ℕ) (k : Kept) (old mid new : Whole) (i j l : Reading) (a b c : Writing) (byte : ℕ)
+    → Heard board n k old mid i j a b → Hears (byte ∷ []) j l → TellsAll (answered (talk mid.state k) byte) mid new b c
+    → (next (talk mid.state k) byte).is_open ≡ false → Holds board old new i l a c
+closed board n k old mid new i j l a b c byte h gave then shut = record {
   given = h.given ++ byte ∷ [];
   heard = heard_more h.given (byte ∷ []) i j l h.hears gave;
-  pieces = answers (opened old.state) (h.given ++ byte ∷ []);
-  ends = inr (inl (ap (λ (t : Talk). t.is_open) (next_now n k old mid i j a b byte h) ∙ shut, refl));
-  tells = answered_all n k old mid new i j a b c byte h then;
+  pieces = answers (opened board old.state) (h.given ++ byte ∷ []);
+  ends = inr (inl (ap (λ (t : Talk). t.is_open) (next_now board n k old mid i j a b byte h) ∙ shut, refl));
+  tells = answered_all board n k old mid new i j a b c byte h then;
 }
 
 -- the writer failed in the answer to a byte
-pub cut_at : (n : ℕ) (k : Kept) (old mid new : Whole) (i j l : Reading) (a b c : Writing) (byte : ℕ)
-    → Heard n k old mid i j a b → Hears (byte ∷ []) j l → TellsPart (answered (talk mid.state k) byte) mid new b c
-    → FailsToWrite old new i l a c
-cut_at n k old mid new i j l a b c byte h gave part = record {
+pub cut_at : (board : Numbers) (n : ℕ) (k : Kept) (old mid new : Whole) (i j l : Reading) (a b c : Writing) (byte : ℕ)
+    → Heard board n k old mid i j a b → Hears (byte ∷ []) j l → TellsPart (answered (talk mid.state k) byte) mid new b c
+    → FailsToWrite board old new i l a c
+cut_at board n k old mid new i j l a b c byte h gave part = record {
   given = h.given ++ byte ∷ [];
   heard = heard_more h.given (byte ∷ []) i j l h.hears gave;
   tells = inl
-      (cut_before (answers (opened old.state) (h.given ++ byte ∷ []))
-      (answered_at_end (after_bytes (opened old.state) (h.given ++ byte ∷ []))) old new a c
-      (subst (λ (ps : List Piece). TellsPart ps old new a c) (sym (answered_now n k old mid i j a b byte h))
-      (cut_on (answers (opened old.state) h.given) (answered (talk mid.state k) byte) old mid new a b c h.tells part)));
+      (cut_before (answers (opened board old.state) (h.given ++ byte ∷ []))
+      (answered_at_end (after_bytes (opened board old.state) (h.given ++ byte ∷ []))) old new a c
+      (subst (λ (ps : List Piece). TellsPart ps old new a c) (sym (answered_now board n k old mid i j a b byte h))
+      (cut_on (answers (opened board old.state) h.given) (answered (talk mid.state k) byte) old mid new a b c
+      h.tells part)));
 }
 
 nothing_more : (given : List ℕ) (i j l : Reading) → Hears given i j → Hears [] j l → Hears given i l
 nothing_more given i j l x y = subst (λ (bs : List ℕ). Hears bs i l) (append-nil given) (heard_more given [] i j l x y)
 
 -- the end of the input
-pub at_end : (n : ℕ) (k : Kept) (old mid new : Whole) (i j l : Reading) (a b c : Writing) → Heard n k old mid i j a b
-    → Hears [] j l → IsAtEnd l.left → TellsAll (answered_at_end (talk mid.state k)) mid new b c → Holds old new i l a c
-at_end n k old mid new i j l a b c h gave end then = record {
+pub at_end : (board : Numbers) (n : ℕ) (k : Kept) (old mid new : Whole) (i j l : Reading) (a b c : Writing)
+    → Heard board n k old mid i j a b
+    → Hears [] j l → IsAtEnd l.left → TellsAll (answered_at_end (talk mid.state k)) mid new b c
+    → Holds board old new i l a c
+at_end board n k old mid new i j l a b c h gave end then = record {
   given = h.given;
   heard = nothing_more h.given i j l h.hears gave;
-  pieces = all_answers old.state h.given;
+  pieces = all_answers board old.state h.given;
   ends = inl (end, refl);
-  tells = tells_on (answers (opened old.state) h.given)
-      (answered_at_end (after_bytes (opened old.state) h.given)) old mid new
+  tells = tells_on (answers (opened board old.state) h.given)
+      (answered_at_end (after_bytes (opened board old.state) h.given)) old mid new
       a b c h.tells
       (subst (λ (t : Talk). TellsAll (answered_at_end t) mid new b c) (sym h.now) then);
 }
 
 -- the writer failed in the answer to the last line
-pub cut_at_end : (n : ℕ) (k : Kept) (old mid new : Whole) (i j l : Reading) (a b c : Writing)
-    → Heard n k old mid i j a b → Hears [] j l → TellsPart (answered_at_end (talk mid.state k)) mid new b c
-    → FailsToWrite old new i l a c
-cut_at_end n k old mid new i j l a b c h gave part = record {
+pub cut_at_end : (board : Numbers) (n : ℕ) (k : Kept) (old mid new : Whole) (i j l : Reading) (a b c : Writing)
+    → Heard board n k old mid i j a b → Hears [] j l → TellsPart (answered_at_end (talk mid.state k)) mid new b c
+    → FailsToWrite board old new i l a c
+cut_at_end board n k old mid new i j l a b c h gave part = record {
   given = h.given;
   heard = nothing_more h.given i j l h.hears gave;
   tells = inl
-      (cut_on (answers (opened old.state) h.given)
-      (answered_at_end (after_bytes (opened old.state) h.given)) old mid new
+      (cut_on (answers (opened board old.state) h.given)
+      (answered_at_end (after_bytes (opened board old.state) h.given)) old mid new
       a b c h.tells
       (subst (λ (t : Talk). TellsPart (answered_at_end t) mid new b c) (sym h.now) part));
 }
 
 -- the reader failed
-pub missed : (n : ℕ) (k : Kept) (old new : Whole) (i j l : Reading) (a b : Writing) → Heard n k old new i j a b
-    → Keeps j.left l.left → l.misses ≡ j.misses + 1 → FailsToRead old new i l a b
-missed n k old new i j l a b h keeps more = record {
+pub missed : (board : Numbers) (n : ℕ) (k : Kept) (old new : Whole) (i j l : Reading) (a b : Writing)
+    → Heard board n k old new i j a b
+    → Keeps j.left l.left → l.misses ≡ j.misses + 1 → FailsToRead board old new i l a b
+missed board n k old new i j l a b h keeps more = record {
   given = h.given;
   gave = Consumes-kept i.left j.left l.left h.given h.hears.gave keeps;
   missed = more ∙ ap (λ x. x + 1) h.hears.quiet;
@@ -225,12 +237,13 @@ missed n k old new i j l a b h keeps more = record {
 }
 
 -- 2^64 - 1 bytes
-pub spent : (n : ℕ) (k : Kept) (old new : Whole) (i j : Reading) (a b : Writing) → Heard n k old new i j a b
-    → n ≡ 2 ^ 64 - 1 → Holds old new i j a b
-spent n k old new i j a b h all = record {
+pub spent : (board : Numbers) (n : ℕ) (k : Kept) (old new : Whole) (i j : Reading) (a b : Writing)
+    → Heard board n k old new i j a b
+    → n ≡ 2 ^ 64 - 1 → Holds board old new i j a b
+spent board n k old new i j a b h all = record {
   given = h.given;
   heard = h.hears;
-  pieces = answers (opened old.state) h.given;
+  pieces = answers (opened board old.state) h.given;
   ends = inr (inr (h.count ∙ all, refl));
   tells = h.tells;
 }
@@ -246,14 +259,15 @@ tells_kept ps old new a b c tells kept = record {
 }
 
 -- the session after n bytes, once what waits was sent
-pub heard_kept : (n : ℕ) (k : Kept) (old new : Whole) (i j : Reading) (a b c : Writing) → Heard n k old new i j a b
-    → KeepsPut b c → Heard n k old new i j a c
-heard_kept n k old new i j a b c h kept = record {
+pub heard_kept : (board : Numbers) (n : ℕ) (k : Kept) (old new : Whole) (i j : Reading) (a b c : Writing)
+    → Heard board n k old new i j a b
+    → KeepsPut b c → Heard board n k old new i j a c
+heard_kept board n k old new i j a b c h kept = record {
   given = h.given;
   count = h.count;
   hears = h.hears;
   now = h.now;
-  tells = tells_kept (answers (opened old.state) h.given) old new a b c h.tells kept;
+  tells = tells_kept (answers (opened board old.state) h.given) old new a b c h.tells kept;
 }
 
 then_failed : (ps : List Piece) (old new : Whole) (a b c : Writing) → TellsAll ps old new a b → FailsOnce b c
@@ -264,15 +278,17 @@ then_failed ps old new a b c tells failed = record {
   failed = failed.1 ∙ ap (λ x. x + 1) tells.quiet;
 }
 
-so_far_of_end : (s : State) (given : List ℕ) (l : Reading) (ps : List Piece) → Ends s given l ps → AreSoFar s given l ps
-so_far_of_end s given l ps (inl (end, all)) = inr (end, all)
-so_far_of_end s given l ps (inr (inl (shut, so_far))) = inl so_far
-so_far_of_end s given l ps (inr (inr (count, so_far))) = inl so_far
+so_far_of_end : (board : Numbers) (s : State) (given : List ℕ) (l : Reading) (ps : List Piece) → Ends board s given l ps
+    → AreSoFar board s given l ps
+so_far_of_end board s given l ps (inl (end, all)) = inr (end, all)
+so_far_of_end board s given l ps (inr (inl (shut, so_far))) = inl so_far
+so_far_of_end board s given l ps (inr (inr (count, so_far))) = inl so_far
 
 -- a session that has ended sends what waits
-pub ended : (old new : Whole) (i l : Reading) (a b c : Writing) (result : Result (Unit {0}) SessionError)
-    → Holds old new i l a b → SendsRest b c result → Sessions old new i l a c result × NothingWaits c result
-ended old new i l a b c (Ok done) h sends = (
+pub ended : (board : Numbers) (old new : Whole) (i l : Reading) (a b c : Writing)
+    (result : Result (Unit {0}) SessionError)
+    → Holds board old new i l a b → SendsRest b c result → Sessions board old new i l a c result × NothingWaits c result
+ended board old new i l a b c (Ok done) h sends = (
   record {
     given = h.given;
     heard = h.heard;
@@ -282,14 +298,14 @@ ended old new i l a b c (Ok done) h sends = (
   },
   sends.1,
 )
-ended old new i l a b c (Err Read) h sends = absurd sends
-ended old new i l a b c (Err Write) h sends = (
+ended board old new i l a b c (Err Read) h sends = absurd sends
+ended board old new i l a b c (Err Write) h sends = (
   record {
     given = h.given;
     heard = h.heard;
     tells = inr (record {
       pieces = h.pieces;
-      so_far = so_far_of_end old.state h.given l h.pieces h.ends;
+      so_far = so_far_of_end board old.state h.given l h.pieces h.ends;
       tells = then_failed h.pieces old new a b c h.tells sends;
     });
   },
@@ -297,21 +313,22 @@ ended old new i l a b c (Err Write) h sends = (
 )
 
 -- the reader failed, or what waits couldn't be sent before it was called
-pub not_taken : (n : ℕ) (k : Kept) (old new : Whole) (i j l : Reading) (a b c : Writing) (error : SessionError)
-    → Heard n k old new i j a b → TakesNext j l b c (Err error)
-    → Sessions old new i l a c (Err error) × NothingWaits c (Err error)
-not_taken n k old new i j l a b c Read h takes = (
-  missed n k old new i j l a c (heard_kept n k old new i j a b c h takes.2) takes.0 takes.1,
+pub not_taken : (board : Numbers) (n : ℕ) (k : Kept) (old new : Whole) (i j l : Reading) (a b c : Writing)
+    (error : SessionError)
+    → Heard board n k old new i j a b → TakesNext j l b c (Err error)
+    → Sessions board old new i l a c (Err error) × NothingWaits c (Err error)
+not_taken board n k old new i j l a b c Read h takes = (
+  missed board n k old new i j l a c (heard_kept board n k old new i j a b c h takes.2) takes.0 takes.1,
   takes.3,
 )
-not_taken n k old new i j l a b c Write h takes = (
+not_taken board n k old new i j l a b c Write h takes = (
   record {
     given = h.given;
     heard = subst (λ (s : Reading). Hears h.given i s) (sym takes.0) h.hears;
     tells = inr (record {
-      pieces = answers (opened old.state) h.given;
+      pieces = answers (opened board old.state) h.given;
       so_far = inl refl;
-      tells = then_failed (answers (opened old.state) h.given) old new a b c h.tells takes.1;
+      tells = then_failed (answers (opened board old.state) h.given) old new a b c h.tells takes.1;
     });
   },
   tt,

@@ -1,5 +1,7 @@
+mod Chosen
 mod Hearing
 mod Joining
+mod RunLaws
 mod Running
 mod Showing
 mod TaskAnswers

@@ -1,10 +1,11 @@
 -- Pieces that go out one after another.
 use Rattle.std.proofs.Common.{◌≡◌, ◌+◌, List, [], ◌∷◌, ◌++◌, Result, Ok, Err, refl, sym, ◌∙◌, ap, append_assoc}
 use Rattle.std.proofs.KnownBytes.{Appends-nil, Appends-trans}
-use Rattle.debugger.specs.Answers.{Piece}
-use Rattle.debugger.specs.Sessions.{Tells, TellsAll, TellsPart, texts, last_state}
+use Rattle.std.proofs.lemmas.List.{append-nil}
+use Rattle.debugger.specs.Answers.{Piece, last_state, texts}
+use Rattle.debugger.specs.Sessions.{Tells, TellsAll, TellsPart}
 use Rattle.machine.specs.Whole.{Whole}
-use Rattle.output.specs.Output.{IsCutShort, Writing}
+use Rattle.output.specs.Output.{IsCutShort, Put, Writing}
 use Rattle.reference.specs.State.{State}
 
 pub texts-append : (xs ys : List Piece) → texts (xs ++ ys) ≡ texts xs ++ texts ys
@@ -24,6 +25,13 @@ pub one_cut : (p : Piece) (old new : Whole) (a b : Writing) → IsCutShort a.wri
     → new ≡ record old { state = p.state } → b.errors ≡ a.errors + 1 → TellsPart (p ∷ []) old new a b
 one_cut p old new a b cut stands failed =
     record { done = []; piece = p; others = []; among = refl; stands = stands; cut = cut; failed = failed }
+
+-- one piece went out, or was cut
+pub put_told : {E : Type 0} (p : Piece) (old new : Whole) (a b : Writing) (result : Result (Unit {0}) E)
+    → Put a b p.text result → new ≡ record old { state = p.state } → Tells (p ∷ []) old new a b result
+put_told p old new a b (Ok done) put stands =
+    record { went = rw (append-nil p.text) put.0; stands = stands; quiet = put.1 }
+put_told p old new a b (Err error) put stands = one_cut p old new a b put.0 stands put.1
 
 -- some pieces went out, and then more
 pub tells_on : (xs ys : List Piece) (old mid new : Whole) (a b c : Writing) → TellsAll xs old mid a b

@@ -1,81 +1,89 @@
 -- What the debugger answers to a command (profile).
-use Rattle.std.specs.Prelude.{ℕ, zero, suc, ◌+◌, ◌-◌, Bool, true, false, ◌&&◌, ◌||◌, if◌then◌else◌, is_some, List, []}
-use Rattle.std.specs.Prelude.{◌∷◌, ◌++◌, codes, Option, Some, None, Result, Ok, Err}
+use Rattle.std.specs.Prelude.{ℕ, zero, suc, ◌+◌, ◌-◌, Bool, true, false, not, ◌&&◌, ◌||◌, if◌then◌else◌, is_some}
+use Rattle.std.specs.Prelude.{List, [], ◌∷◌, ◌++◌, codes, decimal, Option, Some, None, Result}
+use Rattle.debugger.specs.StateText.{registers_text, state_text}
 use Rattle.debugger_commands.specs.declared.commands.Command.{Command}
-use Rattle.debugger_commands.specs.declared.commands.Command.TheVariants as command
 use Rattle.debugger_commands.specs.declared.commands.LineError.{LineError}
 use Rattle.debugger_commands.specs.declared.commands.Part.{Part}
 use Rattle.debugger_commands.specs.declared.commands.Part.TheVariants as part
-use Rattle.debugger_commands.specs.Breakpoints.{breakpoint_text, has}
-use Rattle.debugger_commands.specs.Commands.{steps_of, task_steps_of}
-use Rattle.debugger_commands.specs.Texts.{decision_text, end_text, error_text, general_lines, memory_text, region_lines}
-use Rattle.debugger_commands.specs.Texts.{register_line}
-use Rattle.machine.specs.declared.readers.RegValues.{RegValues}
-use Rattle.machine.specs.Foresight.{is_instruction_next}
+use Rattle.debugger_commands.specs.declared.conditions.Hit.{Hit}
+use Rattle.debugger_commands.specs.declared.conditions.Hit.TheVariants as hit
+use Rattle.debugger_commands.specs.Breakpoints.{has}
+use Rattle.debugger_commands.specs.Commands.{part_of, quits, steps_of, task_steps_of}
+use Rattle.debugger_commands.specs.Conditions.{first_hit, run_end_text, written}
+use Rattle.debugger_commands.specs.Settings.{Settings, settings_after, settings_text, without_conditions}
+use Rattle.debugger_commands.specs.Texts.{decision_text, help_text, memory_text, region_lines}
+use Rattle.machine.specs.Foresight.{is_instruction_next, next_kind_of}
 use Rattle.machine.specs.Tasks.{end_of}
 use Rattle.machine.specs.Values.{values_of}
 use Rattle.platform.specs.declared.mpu.TheConstants.{MOST_REGIONS}
+use Rattle.platform.specs.declared.stop.LeftOut.TheVariants.{ClockEnd}
+use Rattle.platform.specs.declared.stop.Stop.{Stop}
+use Rattle.platform.specs.declared.stop.Stop.TheVariants.{OutOfProfile}
 use Rattle.platform.specs.Priorities.{is_below_zero}
 use Rattle.platform.specs.Rules.{decision_of}
 use Rattle.reference.specs.State.{State}
 use Rattle.reference.specs.Step.{step}
-use Rattle.platform.specs.Text.{line_feed, stop_line}
+use Rattle.platform.specs.Text.{hex_word, line_feed, stop_line}
 use Rattle.platform.specs.Events.{lines}
+use Rattle.task_laws.specs.declared.foresight.StepKind.{StepKind}
+use Rattle.task_laws.specs.declared.foresight.StepKind.TheVariants as kind
 use Rattle.task_laws.specs.declared.task.TaskEnd.{TaskEnd}
 use Rattle.task_laws.specs.declared.task.TaskEnd.TheVariants as task_end
 use Rattle.task_laws.specs.Tasks.{is_task}
 
--- ---- regs: a line for each register
-
--- the lines of the stack pointers, LR, PC and XPSR
-unfoldable pub core_lines : RegValues → List ℕ
-core_lines v =
-    register_line (codes "MSP") v.msp ++ (register_line (codes "PSP") v.psp ++ (register_line (codes "LR") v.lr
-    ++ (register_line (codes "PC") v.pc ++ register_line (codes "XPSR") v.xpsr)))
-
--- the lines of CONTROL and the masks
-unfoldable pub mask_lines : RegValues → List ℕ
-mask_lines v =
-    register_line (codes "CONTROL") v.control ++ (register_line (codes "PRIMASK") v.primask
-    ++ (register_line (codes "FAULTMASK") v.faultmask ++ register_line (codes "BASEPRI") v.basepri))
-
-abbrev pub registers_text : RegValues → List ℕ
-registers_text v = (general_lines v.general 13 ++ core_lines v) ++ mask_lines v
-
--- ---- step and run n
+-- ---- pieces of text
 
 -- a text that is written at once, and the state of the machine by then
 pub record Piece : Type 0 where
   pub state : State
   pub text : List ℕ
 
-abbrev pub end_piece : State → Piece
-end_piece s = record { state = s; text = end_text s.registers.pc s.stop }
+-- the text of all pieces
+abbrev pub texts : List Piece → List ℕ
+texts [] = []
+texts (p ∷ ps) = p.text ++ texts ps
 
--- one step, with its lines of the trace
-abbrev pub step_piece : State → Piece
-step_piece s = record { state = (step s).state; text = lines (step s).events }
+-- the state by the end of the last piece
+abbrev pub last_state : State → List Piece → State
+last_state s [] = s
+last_state s (p ∷ ps) = last_state p.state ps
+
+-- ---- step and run n
+
+-- one step, with the lines that its events have
+abbrev pub step_piece : Settings → State → Piece
+step_piece k s = record { state = (step s).state; text = lines (written k (step s).events) }
+
+-- the end of a run: what was hit, and where the machine is
+abbrev pub end_piece : Settings → Option Hit → State → Piece
+end_piece k h s = record { state = s; text = run_end_text k h s.registers.pc s.stop }
 
 -- the next step is an Instruction step at a breakpoint
 abbrev pub is_hit : List ℕ → State → Bool
 is_hit breakpoints s = has breakpoints s.registers.pc && is_instruction_next s
 
--- a run goes on after a step unless the machine has stopped or a breakpoint is hit
-abbrev pub ends_at : List ℕ → State → Bool
-ends_at breakpoints s = is_some s.stop || is_hit breakpoints s
+-- what is hit before the next step: by the events of the last one, or a breakpoint
+abbrev pub hit_before : Settings → Option Hit → State → Option Hit
+hit_before k (Some h) s = Some h
+hit_before k None s = if is_hit k.breakpoints s then Some hit.Break else None
 
--- the pieces of a run of at most n steps after a step
-unfoldable pub run_on : List ℕ → ℕ → State → List Piece
-run_on breakpoints zero s = end_piece s ∷ []
-run_on breakpoints (suc n) s =
-    if ends_at breakpoints s then end_piece s ∷ []
-    else step_piece s ∷ run_on breakpoints n (step s).state
+-- a run goes on after a step unless the machine has stopped or something is hit
+abbrev pub ends_at : Option Hit → State → Bool
+ends_at h s = is_some s.stop || is_some h
+
+-- the pieces of a run of at most n steps after a step whose events hit this
+unfoldable pub run_on : Settings → ℕ → Option Hit → State → List Piece
+run_on k zero h s = end_piece k h s ∷ []
+run_on k (suc n) h s =
+    if ends_at (hit_before k h s) s then end_piece k (hit_before k h s) s ∷ []
+    else step_piece k s ∷ run_on k n (first_hit k (step s).events) (step s).state
 
 -- a run of at most n steps: no breakpoint is tested before its first step, and a stopped machine makes none
-abbrev pub run_pieces : List ℕ → ℕ → State → List Piece
-run_pieces breakpoints n s =
-    if is_some s.stop then end_piece s ∷ []
-    else step_piece s ∷ run_on breakpoints (n - 1) (step s).state
+abbrev pub run_pieces : Settings → ℕ → State → List Piece
+run_pieces k n s =
+    if is_some s.stop then end_piece k None s ∷ []
+    else step_piece k s ∷ run_on k (n - 1) (first_hit k (step s).events) (step s).state
 
 -- ---- task n
 
@@ -89,17 +97,36 @@ abbrev pub task_piece : State → TaskEnd → Piece
 task_piece s end = record { state = s; text = task_text end }
 
 -- the pieces of at most n steps, as long as they are Instruction steps
-unfoldable pub task_on : ℕ → State → List Piece
-task_on zero s = task_piece s (end_of s.stop false) ∷ []
-task_on (suc n) s =
-    if is_instruction_next s then step_piece s ∷ task_on n (step s).state
+unfoldable pub task_on : Settings → ℕ → State → List Piece
+task_on k zero s = task_piece s (end_of s.stop false) ∷ []
+task_on k (suc n) s =
+    if is_instruction_next s then step_piece k s ∷ task_on k n (step s).state
     else task_piece s (end_of s.stop true) ∷ []
 
--- a run of a task of at most n steps: none is made where no task runs, and a stopped machine has its stop line alone
-abbrev pub task_pieces : ℕ → State → List Piece
-task_pieces n s =
-    if is_some s.stop || is_task s then task_on n s
+-- a run of a task of at most n steps: none is made where no task runs, and a stopped machine has its stop line alone.
+-- Nothing else ends it
+abbrev pub task_pieces : Settings → ℕ → State → List Piece
+task_pieces k n s =
+    if is_some s.stop || is_task s then task_on (without_conditions k) n s
     else task_piece s task_end.NotTask ∷ []
+
+-- ---- next: the kind of the next step
+
+abbrev pub kind_word : StepKind → List ℕ
+kind_word kind.Vector = codes "Vector"
+kind_word kind.Stack = codes "Stack"
+kind_word kind.Sleep = codes "Sleep"
+kind_word kind.Instruction = codes "Instruction"
+
+-- where there is no next step, the line of the stop, which at the end of the clock is that of the step that would only
+-- stop
+abbrev pub next_line : Option StepKind → Option Stop → List ℕ
+next_line (Some what) stop = kind_word what ++ line_feed
+next_line None (Some why) = stop_line why
+next_line None None = stop_line (OutOfProfile ClockEnd)
+
+abbrev pub next_text : State → List ℕ
+next_text s = next_line (next_kind_of s) s.stop
 
 -- ---- commands that show a part of the machine
 
@@ -110,26 +137,48 @@ part_text s (part.Memory a n) = memory_text s.bus.memory a (n + 1)
 part_text s part.Regions = region_lines s.bus.system.mpu MOST_REGIONS
 part_text s (part.Explain a privileged kind) =
     decision_text (decision_of s.bus.system.mpu a kind privileged (is_below_zero s.bus.system.nvic))
+part_text s part.State = state_text s
+part_text s part.Next = next_text s
+part_text s part.Help = help_text
 
 -- ---- all commands
 
+-- the text of a command that shows a part of the machine, else that of one that changes settings
+abbrev pub text_for : State → Option Part → List ℕ → List ℕ
+text_for s (Some what) text = part_text s what
+text_for s None text = text
+
 -- the text of an answer that makes no step; `quit` has none
-abbrev pub reply_text : State → List ℕ → Result Command LineError → List ℕ
-reply_text s breakpoints (Err why) = error_text why
-reply_text s breakpoints (Ok (command.Run n)) = []
-reply_text s breakpoints (Ok (command.Task n)) = []
-reply_text s breakpoints (Ok (command.Break a)) = breakpoint_text breakpoints a
-reply_text s breakpoints (Ok (command.Show what)) = part_text s what
-reply_text s breakpoints (Ok command.Quit) = []
+abbrev pub reply_text : State → Settings → Result Command LineError → List ℕ
+reply_text s k asked = text_for s (part_of asked) (settings_text k asked)
 
-abbrev pub reply : State → List ℕ → Result Command LineError → List Piece
-reply s breakpoints asked = record { state = s; text = reply_text s breakpoints asked } ∷ []
+abbrev pub reply : State → Settings → Result Command LineError → List Piece
+reply s k asked = record { state = s; text = reply_text s k asked } ∷ []
 
-abbrev pub answer_by : State → List ℕ → Result Command LineError → Option ℕ → Option ℕ → List Piece
-answer_by s breakpoints asked (Some n) task = run_pieces breakpoints n s
-answer_by s breakpoints asked None (Some n) = task_pieces n s
-answer_by s breakpoints asked None None = reply s breakpoints asked
+abbrev pub answer_by : State → Settings → Result Command LineError → Option ℕ → Option ℕ → List Piece
+answer_by s k asked (Some n) task = run_pieces k n s
+answer_by s k asked None (Some n) = task_pieces k n s
+answer_by s k asked None None = reply s k asked
+
+-- ---- the line after an answer, in a session with scripts
+
+-- the clock, PC and the kind of the next step
+abbrev pub closing_text : State → List ℕ
+closing_text s =
+    ((codes "= " ++ decimal s.bus.system.time.ticks) ++ (codes " " ++ hex_word s.registers.pc))
+    ++ (codes " " ++ next_text s)
+
+abbrev pub closing_piece : State → Piece
+closing_piece s = record { state = s; text = closing_text s }
+
+abbrev pub closed : Bool → State → List Piece → List Piece
+closed false s pieces = pieces
+closed true s pieces = pieces ++ closing_piece (last_state s pieces) ∷ []
+
+-- from `script 1` on each answer has that line, its own too; `quit` has no answer
+abbrev pub is_closed : Settings → Result Command LineError → Bool
+is_closed k asked = (settings_after k asked).is_script && not (quits asked)
 
 -- the answer to a line
-abbrev pub answer : State → List ℕ → Result Command LineError → List Piece
-answer s breakpoints asked = answer_by s breakpoints asked (steps_of asked) (task_steps_of asked)
+abbrev pub answer : State → Settings → Result Command LineError → List Piece
+answer s k asked = closed (is_closed k asked) s (answer_by s k asked (steps_of asked) (task_steps_of asked))

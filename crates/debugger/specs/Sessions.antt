@@ -4,56 +4,45 @@ use Rattle.std.specs.Prelude.{◌++◌, length, Option, Some, None, Result, Ok, 
 use Rattle.std.specs.Io.KnownBytes.{Appends, Consumes, IsAtEnd, Keeps}
 use Rattle.debugger.specs.declared.sessions.SessionError.{SessionError}
 use Rattle.debugger.specs.declared.sessions.SessionError.TheVariants.{Read, Write}
-use Rattle.debugger.specs.Answers.{Piece, answer}
-use Rattle.debugger_commands.specs.Breakpoints.{breakpoints_after}
+use Rattle.debugger.specs.Answers.{Piece, answer, last_state, texts}
 use Rattle.debugger_commands.specs.Commands.{command_in, quits}
+use Rattle.debugger_commands.specs.Settings.{Settings, opened_settings, settings_after}
 use Rattle.debugger_commands.specs.Words.{is_empty, with_byte}
 use Rattle.machine.specs.Whole.{Whole}
 use Rattle.output.specs.Input.{Reading}
 use Rattle.output.specs.Output.{IsCutAfter, Writing}
+use Rattle.platform.specs.Boards.{Numbers}
 use Rattle.reference.specs.State.{State}
-
--- ---- pieces of text
-
--- the text of all pieces
-abbrev pub texts : List Piece → List ℕ
-texts [] = []
-texts (p ∷ ps) = p.text ++ texts ps
-
--- the state by the end of the last piece
-abbrev pub last_state : State → List Piece → State
-last_state s [] = s
-last_state s (p ∷ ps) = last_state p.state ps
 
 -- ---- a session between two bytes
 
 -- what is kept beside the machine
 pub record Kept : Type 0 where
-  pub breakpoints : List ℕ
+  pub settings : Settings
   -- the line so far, None where it's too long
   pub line : Option (List ℕ)
 
 pub record Talk : Type 0 where
   pub state : State
-  pub breakpoints : List ℕ
+  pub settings : Settings
   -- the line so far, None where it's too long
   pub line : Option (List ℕ)
   -- whether no `quit` was read
   pub is_open : Bool
 
--- a session of a machine before the first byte
-abbrev pub opened : State → Talk
-opened s = record { state = s; breakpoints = []; line = Some []; is_open = true }
+-- a session of a machine of a board before the first byte
+abbrev pub opened : Numbers → State → Talk
+opened board s = record { state = s; settings = opened_settings board; line = Some []; is_open = true }
 
 -- the answer to the line
 abbrev pub line_answered : Talk → List Piece
-line_answered t = answer t.state t.breakpoints (command_in t.line)
+line_answered t = answer t.state t.settings (command_in t.line)
 
 -- after the answer to the line
 abbrev pub after_line : Talk → Talk
 after_line t = record {
   state = last_state t.state (line_answered t);
-  breakpoints = breakpoints_after t.breakpoints (command_in t.line);
+  settings = settings_after t.settings (command_in t.line);
   line = Some [];
   is_open = not (quits (command_in t.line));
 }
@@ -74,11 +63,11 @@ answered_at_end t = if is_empty t.line then [] else line_answered t
 
 -- what is kept, with the machine's state, before a byte
 abbrev pub talk : State → Kept → Talk
-talk s k = record { state = s; breakpoints = k.breakpoints; line = k.line; is_open = true }
+talk s k = record { state = s; settings = k.settings; line = k.line; is_open = true }
 
 -- what is kept, and whether the session goes on, after a byte that was answered
 abbrev pub GoesOn : {E : Type 0} → Talk → Kept → Result Bool E → Type 0
-GoesOn t k (Ok goes_on) = (k ≡ record { breakpoints = t.breakpoints; line = t.line }) × (goes_on ≡ t.is_open)
+GoesOn t k (Ok goes_on) = (k ≡ record { settings = t.settings; line = t.line }) × (goes_on ≡ t.is_open)
 GoesOn t k (Err error) = Unit {0}
 
 -- ---- all bytes; none is read after `quit`
@@ -92,8 +81,9 @@ answers t [] = []
 answers t (byte ∷ bytes) = if t.is_open then answered t byte ++ answers (next t byte) bytes else []
 
 -- the answers to an input that has ended
-abbrev pub all_answers : State → List ℕ → List Piece
-all_answers s given = answers (opened s) given ++ answered_at_end (after_bytes (opened s) given)
+abbrev pub all_answers : Numbers → State → List ℕ → List Piece
+all_answers board s given =
+    answers (opened board s) given ++ answered_at_end (after_bytes (opened board s) given)
 
 -- ---- what of the pieces went out
 
@@ -172,45 +162,49 @@ NothingWaits out (Err Read) = out.waits ≡ []
 NothingWaits out (Err Write) = Unit {0}
 
 -- why a session ends with no error: the input is at its end, and then a last line counts; `quit`; or 2^64 - 1 bytes
-abbrev pub Ends : State → List ℕ → Reading → List Piece → Type 0
-Ends s given after pieces =
-    (IsAtEnd after.left × (pieces ≡ all_answers s given))
-    ⊎ (((after_bytes (opened s) given).is_open ≡ false) × (pieces ≡ answers (opened s) given)
-    ⊎ (length given ≡ 2 ^ 64 - 1) × (pieces ≡ answers (opened s) given))
+abbrev pub Ends : Numbers → State → List ℕ → Reading → List Piece → Type 0
+Ends board s given after pieces =
+    (IsAtEnd after.left × (pieces ≡ all_answers board s given))
+    ⊎ (((after_bytes (opened board s) given).is_open ≡ false) × (pieces ≡ answers (opened board s) given)
+    ⊎ (length given ≡ 2 ^ 64 - 1) × (pieces ≡ answers (opened board s) given))
 
 -- the whole session: the answers to what was read went out
-pub record Holds (old new : Whole) (before after : Reading) (out out' : Writing) : Type 0 where
+pub record Holds (board : Numbers) (old new : Whole) (before after : Reading) (out out' : Writing) : Type 0 where
   pub given : List ℕ
   pub heard : Hears given before after
   pub pieces : List Piece
-  pub ends : Ends old.state given after pieces
+  pub ends : Ends board old.state given after pieces
   pub tells : TellsAll pieces old new out out'
 
 -- the reader failed: what it returned before was read, and the whole lines are answered
-pub record FailsToRead (old new : Whole) (before after : Reading) (out out' : Writing) : Type 0 where
+pub record FailsToRead (board : Numbers) (old new : Whole) (before after : Reading) (out out' : Writing) : Type 0 where
   pub given : List ℕ
   pub gave : Consumes before.left after.left given
   pub missed : after.misses ≡ before.misses + 1
-  pub tells : TellsAll (answers (opened old.state) given) old new out out'
+  pub tells : TellsAll (answers (opened board old.state) given) old new out out'
 
 -- the pieces so far: the answers to what was read, at the end of the input that to a last line too
-abbrev pub AreSoFar : State → List ℕ → Reading → List Piece → Type 0
-AreSoFar s given after pieces =
-    (pieces ≡ answers (opened s) given) ⊎ (IsAtEnd after.left × (pieces ≡ all_answers s given))
+abbrev pub AreSoFar : Numbers → State → List ℕ → Reading → List Piece → Type 0
+AreSoFar board s given after pieces =
+    (pieces ≡ answers (opened board s) given) ⊎ (IsAtEnd after.left × (pieces ≡ all_answers board s given))
 
 -- the answers to what was read were put, and the call failed that was to send those that wait
-pub record FailsToHandOn (given : List ℕ) (old new : Whole) (after : Reading) (out out' : Writing) : Type 0 where
+pub record FailsToHandOn (board : Numbers) (given : List ℕ) (old new : Whole) (after : Reading) (out out' : Writing)
+    : Type 0 where
   pub pieces : List Piece
-  pub so_far : AreSoFar old.state given after pieces
+  pub so_far : AreSoFar board old.state given after pieces
   pub tells : TellsAllThenFails pieces old new out out'
 
 -- the writer failed in the answers to what was read, or after all of them
-pub record FailsToWrite (old new : Whole) (before after : Reading) (out out' : Writing) : Type 0 where
+pub record FailsToWrite (board : Numbers) (old new : Whole) (before after : Reading) (out out' : Writing) : Type 0 where
   pub given : List ℕ
   pub heard : Hears given before after
-  pub tells : TellsPart (all_answers old.state given) old new out out' ⊎ FailsToHandOn given old new after out out'
+  pub tells : TellsPart (all_answers board old.state given) old new out out'
+      ⊎ FailsToHandOn board given old new after out out'
 
-abbrev pub Sessions : Whole → Whole → Reading → Reading → Writing → Writing → Result (Unit {0}) SessionError → Type 0
-Sessions old new before after out out' (Ok done) = Holds old new before after out out'
-Sessions old new before after out out' (Err Read) = FailsToRead old new before after out out'
-Sessions old new before after out out' (Err Write) = FailsToWrite old new before after out out'
+-- a session of a machine of a board
+abbrev pub Sessions
+    : Numbers → Whole → Whole → Reading → Reading → Writing → Writing → Result (Unit {0}) SessionError → Type 0
+Sessions board old new before after out out' (Ok done) = Holds board old new before after out out'
+Sessions board old new before after out out' (Err Read) = FailsToRead board old new before after out out'
+Sessions board old new before after out out' (Err Write) = FailsToWrite board old new before after out out'

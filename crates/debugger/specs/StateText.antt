@@ -1,7 +1,7 @@
 -- The state of a machine as text (profile).
 use Rattle.std.specs.Prelude.{ℕ, zero, suc, Bool, if◌then◌else◌, List, [], ◌++◌, codes, decimal}
-use Rattle.debugger.specs.Answers.{registers_text}
-use Rattle.debugger_commands.specs.Texts.{region_lines, register_line}
+use Rattle.debugger_commands.specs.Texts.{general_lines, region_lines, register_line}
+use Rattle.machine.specs.declared.readers.RegValues.{RegValues}
 use Rattle.machine.specs.Values.{values_of}
 use Rattle.platform.specs.declared.exception.TheConstants.{EXCEPTIONS}
 use Rattle.platform.specs.declared.mpu.TheConstants.{MOST_REGIONS}
@@ -9,6 +9,25 @@ use Rattle.platform.specs.Priorities.{is_in}
 use Rattle.reference.specs.State.{State}
 use Rattle.platform.specs.Status.{Status}
 use Rattle.platform.specs.Text.{line_feed}
+
+-- ---- regs: a line for each register
+
+-- the lines of the stack pointers, LR, PC and XPSR
+unfoldable pub core_lines : RegValues → List ℕ
+core_lines v =
+    register_line (codes "MSP") v.msp ++ (register_line (codes "PSP") v.psp ++ (register_line (codes "LR") v.lr
+    ++ (register_line (codes "PC") v.pc ++ register_line (codes "XPSR") v.xpsr)))
+
+-- the lines of CONTROL and the masks
+unfoldable pub mask_lines : RegValues → List ℕ
+mask_lines v =
+    register_line (codes "CONTROL") v.control ++ (register_line (codes "PRIMASK") v.primask
+    ++ (register_line (codes "FAULTMASK") v.faultmask ++ register_line (codes "BASEPRI") v.basepri))
+
+abbrev pub registers_text : RegValues → List ℕ
+registers_text v = (general_lines v.general 13 ++ core_lines v) ++ mask_lines v
+
+-- ---- the state
 
 -- the clock: how many ticks have gone by, in decimal
 abbrev pub clock_line : ℕ → List ℕ

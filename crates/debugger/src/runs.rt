@@ -1,117 +1,228 @@
-//! What the debugger answers to a command: the steps of a run, or a text.
+//! What the debugger answers to `run n` and `step`: the steps of a run, and how it ended.
 
-ghost use Rattle.std.specs.Prelude.{◌≡◌, ◌-◌, [], ◌∷◌};
-ghost use Rattle.debugger.specs.Answers.{end_piece, ends_at, is_hit, run_on, run_pieces, step_piece};
+ghost use Rattle.std.specs.Prelude.{◌≡◌, ◌-◌, true, [], ◌∷◌, IfOk};
+ghost use Rattle.debugger.specs.Answers.{end_piece, ends_at, hit_before, is_hit, run_on, run_pieces, step_piece};
 ghost use Rattle.debugger.specs.Sessions.{Tells};
+ghost use Rattle.debugger_commands.specs.Conditions.{first_hit, is_plain, written};
+ghost use Rattle.output.specs.Output.{Put};
+ghost use Rattle.platform.specs.Events.{lines};
+ghost use Rattle.reference.specs.Step.{step};
 
-use debugger_commands::{Breakpoints, end_text};
+use debugger_commands::{Hit, Settings};
 use machine::{
-    Decider, DueTicks, IoError, KeptCode, Levels, LineRoom, Machine, Out, is_instruction,
+    Decider, DueTicks, Event, Events, IoError, KeptCode, Levels, LineRoom, Machine, Out,
+    is_instruction,
 };
 
-/// Makes a step and writes its lines.
+/// Room for the events of a step, and for the text of a line.
+#[derive(Drop)]
+pub struct StepRoom {
+    events: Events,
+    line: LineRoom,
+}
+
+impl StepRoom {
+    /// Returns room without events.
+    pub fn new() -> Self {
+        StepRoom {
+            events: Events::new(),
+            line: LineRoom::new(),
+        }
+    }
+}
+
+/// Makes a step and writes its lines. Returns what its events hit, where one ends the run.
 pub fn write_step<D: Decider, C: KeptCode, L: Levels, U: DueTicks, W: Out>(
     machine: &mut Machine<D, C, L, U>,
+    settings: &Settings,
+    room: &mut StepRoom,
+    out: &mut W,
+) -> Result<Option<Hit>, IoError>
+    ensures tells { Tells (step_piece settings.now machine.old.state ∷ []) machine.old machine.new
+        (W.writing out.old) (W.writing out.new) result }
+    ensures hit { IfOk result (λ hit. hit ≡ first_hit settings.now (step machine.old.state).events) }
+{
+    if settings.is_plain() {
+        match write_whole_step(machine, settings, &mut room.line, out) {
+            Ok(()) => Ok(None),
+            Err(error) => Err(error),
+        }
+    } else {
+        write_chosen_step(machine, settings, room, out)
+    }
+}
+
+/// Makes a step and writes the lines of all its events, where the settings have each of them.
+fn write_whole_step<D: Decider, C: KeptCode, L: Levels, U: DueTicks, W: Out>(
+    machine: &mut Machine<D, C, L, U>,
+    settings: &Settings,
     room: &mut LineRoom,
     out: &mut W,
 ) -> Result<(), IoError>
-    ensures { Tells (step_piece machine.old.state ∷ []) machine.old machine.new
+    requires { is_plain settings.now ≡ true }
+    ensures { Tells (step_piece settings.now machine.old.state ∷ []) machine.old machine.new
         (W.writing out.old) (W.writing out.new) result }
 {
-    match machine.write_step(room, out) {
-        Ok(()) => Ok(()),
+    let _ = settings;
+    machine.write_step(room, out)
+}
+
+/// Makes a step and writes the lines that the settings have of its events. Returns what its events hit.
+fn write_chosen_step<D: Decider, C: KeptCode, L: Levels, U: DueTicks, W: Out>(
+    machine: &mut Machine<D, C, L, U>,
+    settings: &Settings,
+    room: &mut StepRoom,
+    out: &mut W,
+) -> Result<Option<Hit>, IoError>
+    ensures tells { Tells (step_piece settings.now machine.old.state ∷ []) machine.old machine.new
+        (W.writing out.old) (W.writing out.new) result }
+    ensures hit { IfOk result (λ hit. hit ≡ first_hit settings.now (step machine.old.state).events) }
+{
+    let _ = machine.step(&mut room.events);
+    let events = room.events.as_slice();
+    match put_lines(settings, events, &mut room.line, out) {
+        Ok(()) => Ok(settings.first_hit(events)),
         Err(error) => Err(error),
     }
+}
+
+/// Puts the lines that the settings have of some events.
+fn put_lines<W: Out>(
+    settings: &Settings,
+    events: &[Event],
+    room: &mut LineRoom,
+    out: &mut W,
+) -> Result<(), IoError>
+    ensures { Put (W.writing out.old) (W.writing out.new) (lines (written settings.now events.now)) result }
+{
+    'events: for event in events {
+        match put_line(settings, event, room, out) {
+            Ok(()) => {}
+            Err(error) => return Err(error),
+        }
+    }
+    Ok(())
+}
+
+/// Puts the line of an event, if the settings have it.
+#[tactic(auto, unfolding(platform::specs::Events::lines))]
+fn put_line<W: Out>(
+    settings: &Settings,
+    event: &Event,
+    room: &mut LineRoom,
+    out: &mut W,
+) -> Result<(), IoError>
+    ensures { Put (W.writing out.old) (W.writing out.new) (lines (written settings.now (event.now ∷ []))) result }
+{
+    if settings.has_line(&event.what) {
+        return out.put_line(room, event);
+    }
+    Ok(())
 }
 
 /// Returns whether the next step is an instruction at a breakpoint.
 fn is_hit<D: Decider, C: KeptCode, L: Levels, U: DueTicks>(
     machine: &Machine<D, C, L, U>,
-    breakpoints: &Breakpoints,
+    settings: &Settings,
 ) -> bool
-    ensures { result ≡ is_hit breakpoints.now machine.now.state }
+    ensures { result ≡ is_hit settings.now.breakpoints machine.now.state }
 {
-    breakpoints.has(machine.regs().pc) && is_instruction(machine.next_kind())
+    settings.has_breakpoint(machine.regs().pc) && is_instruction(machine.next_kind())
 }
 
-/// Returns whether a run ends after a step: the machine has stopped, or a breakpoint is hit.
-fn ends_at<D: Decider, C: KeptCode, L: Levels, U: DueTicks>(
+/// Returns what is hit before the next step: by the events of the last one, or a breakpoint.
+fn hit_before<D: Decider, C: KeptCode, L: Levels, U: DueTicks>(
     machine: &Machine<D, C, L, U>,
-    breakpoints: &Breakpoints,
-) -> bool
-    ensures { result ≡ ends_at breakpoints.now machine.now.state }
+    settings: &Settings,
+    hit: Option<Hit>,
+) -> Option<Hit>
+    ensures { result ≡ hit_before settings.now hit machine.now.state }
 {
-    machine.stop().is_some() || is_hit(machine, breakpoints)
-}
-
-/// Writes where the machine is: its stop, or the address of the next instruction.
-fn put_end<D: Decider, C: KeptCode, L: Levels, U: DueTicks, W: Out>(
-    machine: &Machine<D, C, L, U>,
-    out: &mut W,
-) -> Result<(), IoError>
-    ensures { Tells (end_piece machine.now.state ∷ []) machine.now machine.now
-        (W.writing out.old) (W.writing out.new) result }
-{
-    let page = end_text(machine.stop(), machine.regs().pc);
-    match out.put_all(page.as_slice()) {
-        Ok(()) => Ok(()),
-        Err(error) => Err(error),
+    match hit {
+        Some(hit) => Some(hit),
+        None if is_hit(machine, settings) => Some(Hit::Break),
+        None => None,
     }
 }
 
-/// Makes at most `steps` steps after the first one of a run, and writes their lines and where the
-/// machine is then.
-fn run_on<D: Decider, C: KeptCode, L: Levels, U: DueTicks, W: Out>(
-    machine: &mut Machine<D, C, L, U>,
-    breakpoints: &Breakpoints,
-    steps: u32,
-    room: &mut LineRoom,
+/// Returns whether a run ends after a step: the machine has stopped, or something is hit.
+fn ends_at<D: Decider, C: KeptCode, L: Levels, U: DueTicks>(
+    machine: &Machine<D, C, L, U>,
+    hit: Option<Hit>,
+) -> bool
+    ensures { result ≡ ends_at hit machine.now.state }
+{
+    machine.stop().is_some() || hit.is_some()
+}
+
+/// Writes what was hit, in a session with scripts, and where the machine is: its stop, or the address of the next
+/// instruction.
+fn put_end<D: Decider, C: KeptCode, L: Levels, U: DueTicks, W: Out>(
+    machine: &Machine<D, C, L, U>,
+    settings: &Settings,
+    hit: Option<Hit>,
     out: &mut W,
 ) -> Result<(), IoError>
-    ensures { Tells (run_on breakpoints.now steps machine.old.state) machine.old machine.new
+    ensures { Tells (end_piece settings.now hit machine.now.state ∷ []) machine.now machine.now
+        (W.writing out.old) (W.writing out.new) result }
+{
+    let page = settings.run_end_text(hit, machine.stop(), machine.regs().pc);
+    out.put_all(page.as_slice())
+}
+
+/// Makes at most `steps` steps after the first one of a run, whose events hit `first`, and writes their lines and
+/// how the run ended.
+fn run_on<D: Decider, C: KeptCode, L: Levels, U: DueTicks, W: Out>(
+    machine: &mut Machine<D, C, L, U>,
+    settings: &Settings,
+    steps: u32,
+    first: Option<Hit>,
+    room: &mut StepRoom,
+    out: &mut W,
+) -> Result<(), IoError>
+    ensures { Tells (run_on settings.now steps first machine.old.state) machine.old machine.new
         (W.writing out.old) (W.writing out.new) result }
 {
     let mut left = steps;
+    let mut hit = first;
     'steps: while left > 0 {
-        if ends_at(machine, breakpoints) {
-            break;
+        let now = hit_before(machine, settings, hit);
+        if ends_at(machine, now) {
+            return put_end(machine, settings, now, out);
         }
-        match write_step(machine, room, out) {
-            Ok(()) => {}
+        match write_step(machine, settings, room, out) {
+            Ok(later) => hit = later,
             Err(error) => return Err(error),
         }
         left -= 1;
     }
-    put_end(machine, out)
+    put_end(machine, settings, hit, out)
 }
 
-/// Makes at most `steps` steps, and writes their lines and where the machine is then. A machine that
-/// has stopped makes none.
+/// Makes at most `steps` steps, and writes their lines and how the run ended. A machine that has stopped makes
+/// none.
 pub fn run<D: Decider, C: KeptCode, L: Levels, U: DueTicks, W: Out>(
     machine: &mut Machine<D, C, L, U>,
-    breakpoints: &Breakpoints,
+    settings: &Settings,
     steps: u32,
     out: &mut W,
 ) -> Result<(), IoError>
-    ensures { Tells (run_pieces breakpoints.now steps machine.old.state) machine.old machine.new
+    ensures { Tells (run_pieces settings.now steps machine.old.state) machine.old machine.new
         (W.writing out.old) (W.writing out.new) result }
 {
     if machine.stop().is_some() {
-        return put_end(machine, out);
+        return put_end(machine, settings, None, out);
     }
-    let mut room = LineRoom::new();
-    match write_step(machine, &mut room, out) {
-        Ok(()) => {}
-        Err(error) => return Err(error),
-    }
-    match run_on(
-        machine,
-        breakpoints,
-        steps.saturating_sub(1),
-        &mut room,
-        out,
-    ) {
-        Ok(()) => Ok(()),
+    let mut room = StepRoom::new();
+    match write_step(machine, settings, &mut room, out) {
+        Ok(hit) => run_on(
+            machine,
+            settings,
+            steps.saturating_sub(1),
+            hit,
+            &mut room,
+            out,
+        ),
         Err(error) => Err(error),
     }
 }

@@ -1,19 +1,21 @@
 //! A session: lines are read byte by byte, and each is answered before the reader may wait for the next one.
 
-ghost use Rattle.std.specs.Prelude.{◌≡◌, [], true, Some, OnErr};
-ghost use Rattle.debugger.specs.Answers.{answer, reply_text};
+ghost use Rattle.std.specs.Prelude.{◌≡◌, ◌&&◌, [], ◌∷◌, not, true, Some, OnErr};
+ghost use Rattle.debugger.specs.Answers.{answer, answer_by, closing_piece, reply_text};
 ghost use Rattle.debugger.specs.Sessions.{after_line, GivesByte, GoesOn, line_answered, next, NothingWaits, answered};
 ghost use Rattle.debugger.specs.Sessions.{answered_at_end, SendsBefore, SendsRest, Sessions, TakesNext, talk, Tells};
-ghost use Rattle.debugger_commands.specs.Breakpoints.{breakpoints_after};
+ghost use Rattle.debugger_commands.specs.Commands.{quits, steps_of, task_steps_of};
+ghost use Rattle.debugger_commands.specs.Settings.{opened_settings, settings_after};
+ghost use Rattle.output.specs.Output.{Put};
+ghost use Rattle.platform.specs.Boards.{numbers_of};
 
 use crate::runs::run;
 use crate::tasks::run_task;
-use crate::texts::part_text;
+use crate::texts::{closing_text, put_part};
 use debugger_commands::{
-    Breakpoints, Command, LineError, Listener, Reply, error_text, quits, read_line, steps_of,
-    task_steps_of,
+    Command, LineError, Listener, Settings, part_of, quits, read_line, steps_of, task_steps_of,
 };
-use machine::{Decider, DueTicks, In, IoError, KeptCode, Levels, Machine, Out};
+use machine::{Decider, DueTicks, In, IoError, KeptCode, Layout, Levels, Machine, Out};
 use std::marker::Model;
 
 /// Why a session ends before its input does.
@@ -28,7 +30,7 @@ pub enum SessionError {
 /// What a session keeps between two bytes, beside the machine.
 #[derive(Drop)]
 struct Debugger {
-    breakpoints: Breakpoints,
+    settings: Settings,
     listener: Listener,
 }
 
@@ -37,35 +39,65 @@ impl Model for Debugger {
 
     ghost Value = { Kept };
 
-    ghost view = { λ d. record { breakpoints = d.breakpoints; line = d.listener } };
+    ghost view = { λ d. record { settings = d.settings; line = d.listener } };
 }
 
 impl Debugger {
-    /// Returns what is kept before the first byte.
-    fn new() -> Self
-        ensures { result ≡ record { breakpoints = []; line = Some [] } }
+    /// Returns what is kept before the first byte of a session on a board.
+    fn new(layout: Layout) -> Self
+        ensures { result ≡ record { settings = opened_settings (numbers_of layout); line = Some [] } }
     {
         Debugger {
-            breakpoints: Breakpoints::new(),
+            settings: Settings::new(layout),
             listener: Listener::new(),
         }
     }
 
-    /// Returns the answer to a line that makes no step.
-    fn reply<D: Decider, C: KeptCode, L: Levels, U: DueTicks>(
+    /// Answers a line that makes no step.
+    fn reply<D: Decider, C: KeptCode, L: Levels, U: DueTicks, W: Out>(
         &mut self,
         machine: &Machine<D, C, L, U>,
         asked: Result<Command, LineError>,
-    ) -> Reply
-        ensures text { result ≡ reply_text machine.now.state self.old.breakpoints asked }
-        ensures kept { self.new ≡ record self.old { breakpoints = breakpoints_after self.old.breakpoints asked } }
+        out: &mut W,
+    ) -> Result<(), IoError>
+        ensures text { Put (W.writing out.old) (W.writing out.new)
+            (reply_text machine.now.state self.old.settings asked) result }
+        ensures kept { self.new ≡ record self.old { settings = settings_after self.old.settings asked } }
     {
-        match asked {
-            Ok(Command::Run(_) | Command::Task(_) | Command::Quit) => Reply::new(),
-            Ok(Command::Break(address)) => self.breakpoints.set(address),
-            Ok(Command::Show(part)) => part_text(machine, part),
-            Err(error) => error_text(error),
+        let page = self.settings.take(asked);
+        match part_of(asked) {
+            Some(part) => put_part(machine, part, out),
+            None => out.put_all(page.as_slice()),
         }
+    }
+
+    /// Answers a line, up to the line after an answer.
+    fn answer_command<D: Decider, C: KeptCode, L: Levels, U: DueTicks, W: Out>(
+        &mut self,
+        machine: &mut Machine<D, C, L, U>,
+        asked: Result<Command, LineError>,
+        out: &mut W,
+    ) -> Result<(), IoError>
+        ensures tells { Tells (answer_by machine.old.state self.old.settings asked (steps_of asked)
+            (task_steps_of asked)) machine.old machine.new (W.writing out.old) (W.writing out.new) result }
+        ensures kept { self.new ≡ record self.old { settings = settings_after self.old.settings asked } }
+    {
+        match steps_of(asked) {
+            Some(steps) => return run(machine, &self.settings, steps, out),
+            None => {}
+        }
+        match task_steps_of(asked) {
+            Some(steps) => return run_task(machine, &self.settings, steps, out),
+            None => {}
+        }
+        self.reply(machine, asked, out)
+    }
+
+    /// Returns whether an answer ends with a line of where the machine is.
+    fn closes(&self, asked: Result<Command, LineError>) -> bool
+        ensures { result ≡ (self.now.settings.is_script && not (quits asked)) }
+    {
+        self.settings.is_script() && !quits(asked)
     }
 
     /// Answers a line.
@@ -75,23 +107,18 @@ impl Debugger {
         asked: Result<Command, LineError>,
         out: &mut W,
     ) -> Result<(), IoError>
-        ensures tells { Tells (answer machine.old.state self.old.breakpoints asked) machine.old machine.new
+        ensures tells { Tells (answer machine.old.state self.old.settings asked) machine.old machine.new
             (W.writing out.old) (W.writing out.new) result }
-        ensures kept { self.new ≡ record self.old { breakpoints = breakpoints_after self.old.breakpoints asked } }
+        ensures kept { self.new ≡ record self.old { settings = settings_after self.old.settings asked } }
     {
-        match steps_of(asked) {
-            Some(steps) => return run(machine, &self.breakpoints, steps, out),
-            None => {}
+        match self.answer_command(machine, asked, out) {
+            Ok(()) => {}
+            Err(error) => return Err(error),
         }
-        match task_steps_of(asked) {
-            Some(steps) => return run_task(machine, steps, out),
-            None => {}
+        if self.closes(asked) {
+            return close(machine, out);
         }
-        let page = self.reply(machine, asked);
-        match out.put_all(page.as_slice()) {
-            Ok(()) => Ok(()),
-            Err(error) => Err(error),
-        }
+        Ok(())
     }
 
     /// Answers the line that was read, and begins the next one. Returns whether the session goes on.
@@ -153,19 +180,33 @@ impl Debugger {
     }
 }
 
-/// Reads commands, one a line, and writes their answers, up to `quit` or the end of the input. What waits to be
-/// sent is sent before a call of the reader that may wait, and at the end. Where the reader or the writer fails,
-/// the machine is in its state after the steps that were made.
+/// Writes the line after an answer.
+fn close<D: Decider, C: KeptCode, L: Levels, U: DueTicks, W: Out>(
+    machine: &Machine<D, C, L, U>,
+    out: &mut W,
+) -> Result<(), IoError>
+    ensures { Tells (closing_piece machine.now.state ∷ []) machine.now machine.now
+        (W.writing out.old) (W.writing out.new) result }
+{
+    let page = closing_text(machine);
+    out.put_all(page.as_slice())
+}
+
+/// Reads commands, one a line, and writes their answers, up to `quit` or the end of the input. `layout` has the
+/// numbers of the machine's board, which `script 1` answers. What waits to be sent is sent before a call of the
+/// reader that may wait, and at the end. Where the reader or the writer fails, the machine is in its state after the
+/// steps that were made.
 pub fn session<D: Decider, C: KeptCode, L: Levels, U: DueTicks, I: In, W: Out>(
     machine: &mut Machine<D, C, L, U>,
+    layout: Layout,
     reader: &mut I,
     out: &mut W,
 ) -> Result<(), SessionError>
-    ensures talked { Sessions machine.old machine.new (I.reading reader.old) (I.reading reader.new)
+    ensures talked { Sessions (numbers_of layout) machine.old machine.new (I.reading reader.old) (I.reading reader.new)
         (W.writing out.old) (W.writing out.new) result }
     ensures sent { NothingWaits (W.writing out.new) result }
 {
-    let mut debugger = Debugger::new();
+    let mut debugger = Debugger::new(layout);
     'calls: for call in 0..u64::MAX {
         let _ = call;
         let byte = match take_next(reader, out) {

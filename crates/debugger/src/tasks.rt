@@ -4,10 +4,11 @@ ghost use Rattle.std.specs.Prelude.{◌≡◌, [], ◌∷◌};
 ghost use Rattle.debugger.specs.Answers.{task_on, task_piece, task_pieces};
 ghost use Rattle.debugger.specs.Sessions.{Tells};
 
-use crate::runs::write_step;
+use crate::runs::{StepRoom, write_step};
 use crate::texts::task_text;
+use debugger_commands::Settings;
 use machine::{
-    Decider, DueTicks, IoError, KeptCode, Levels, LineRoom, Machine, Out, TaskEnd, end_of_task,
+    Decider, DueTicks, IoError, KeptCode, Levels, Machine, Out, TaskEnd, end_of_task,
     is_instruction,
 };
 
@@ -31,20 +32,21 @@ fn put_task_end<D: Decider, C: KeptCode, L: Levels, U: DueTicks, W: Out>(
 /// the run ended.
 fn task_on<D: Decider, C: KeptCode, L: Levels, U: DueTicks, W: Out>(
     machine: &mut Machine<D, C, L, U>,
+    settings: &Settings,
     steps: u32,
     out: &mut W,
 ) -> Result<(), IoError>
-    ensures { Tells (task_on steps machine.old.state) machine.old machine.new
+    ensures { Tells (task_on settings.now steps machine.old.state) machine.old machine.new
         (W.writing out.old) (W.writing out.new) result }
 {
-    let mut room = LineRoom::new();
+    let mut room = StepRoom::new();
     let mut left = steps;
     'steps: while left > 0 {
         if !is_instruction(machine.next_kind()) {
             break;
         }
-        match write_step(machine, &mut room, out) {
-            Ok(()) => {}
+        match write_step(machine, settings, &mut room, out) {
+            Ok(_) => {}
             Err(error) => return Err(error),
         }
         left -= 1;
@@ -54,17 +56,18 @@ fn task_on<D: Decider, C: KeptCode, L: Levels, U: DueTicks, W: Out>(
 }
 
 /// Makes at most `steps` steps of a task, and writes their lines and why the run ended. A machine that
-/// has stopped, or on which no task runs, makes none.
+/// has stopped, or on which no task runs, makes none. Breakpoints and conditions don't end it.
 pub fn run_task<D: Decider, C: KeptCode, L: Levels, U: DueTicks, W: Out>(
     machine: &mut Machine<D, C, L, U>,
+    settings: &Settings,
     steps: u32,
     out: &mut W,
 ) -> Result<(), IoError>
-    ensures { Tells (task_pieces steps machine.old.state) machine.old machine.new
+    ensures { Tells (task_pieces settings.now steps machine.old.state) machine.old machine.new
         (W.writing out.old) (W.writing out.new) result }
 {
     if machine.stop().is_none() && !machine.is_task() {
         return put_task_end(machine, TaskEnd::NotTask, out);
     }
-    task_on(machine, steps, out)
+    task_on(machine, &settings.without_conditions(), steps, out)
 }

@@ -1,35 +1,92 @@
 //! The texts of answers that show a part of the machine, and that of the end of a run of a task.
 
 ghost use Rattle.std.specs.Prelude.{◌≡◌, ◌+◌, ◌≤◌, ◌++◌, length};
-ghost use Rattle.debugger.specs.Answers.{core_lines, mask_lines, part_text, registers_text, task_text};
+ghost use Rattle.debugger.specs.Answers.{closing_text, next_line, next_text, part_text, task_text};
+ghost use Rattle.debugger.specs.StateText.{core_lines, mask_lines, registers_text};
 ghost use Rattle.debugger_commands.specs.Texts.{bytes_text, memory_text, region_lines};
+ghost use Rattle.output.specs.Output.{Put};
 ghost use Rattle.platform.specs.declared.mpu.TheConstants.{MOST_REGIONS};
 
+use crate::state::write_state;
 use debugger_commands::{
-    Part, Reply, byte_address, decision_text, put_byte, put_generals, put_region, put_register,
+    Part, Reply, byte_address, decision_text, help_text, put_byte, put_generals, put_region,
+    put_register,
 };
-use machine::{Decider, DueTicks, KeptCode, Levels, Machine, RegValues, TaskEnd};
+use machine::{
+    Decider, DueTicks, IoError, KeptCode, Levels, Machine, Out, RegValues, StepKind, Stop, TaskEnd,
+};
 use platform::mpu::MOST_REGIONS;
+use platform::stop::LeftOut;
 
-/// Returns the text for a part of the machine.
-pub fn part_text<D: Decider, C: KeptCode, L: Levels, U: DueTicks>(
+/// Writes the text for a part of the machine.
+pub fn put_part<D: Decider, C: KeptCode, L: Levels, U: DueTicks, W: Out>(
     machine: &Machine<D, C, L, U>,
     part: Part,
-) -> Reply
-    ensures { result ≡ part_text machine.now.state part }
+    out: &mut W,
+) -> Result<(), IoError>
+    ensures { Put (W.writing out.old) (W.writing out.new) (part_text machine.now.state part) result }
 {
     match part {
-        Part::Regs => registers_text(&machine.regs()),
-        Part::Memory(address, last) => memory_text(machine, address, last as u32 + 1),
-        Part::Regions => regions_text(machine),
-        Part::Explain(address, privileged, kind) => {
-            decision_text(&machine.explain(address, privileged, kind))
+        Part::Regs => out.put_all(registers_text(&machine.regs()).as_slice()),
+        Part::Memory(address, last) => {
+            out.put_all(memory_text(machine, address, last as u32 + 1).as_slice())
         }
+        Part::Regions => out.put_all(regions_text(machine).as_slice()),
+        Part::Explain(address, privileged, kind) => {
+            out.put_all(decision_text(&machine.explain(address, privileged, kind)).as_slice())
+        }
+        Part::State => write_state(machine, out),
+        Part::Next => out.put_all(next_text(machine).as_slice()),
+        Part::Help => out.put_all(help_text()),
     }
 }
 
+/// Appends the kind of the next step, or the line of the stop.
+fn put_next(page: &mut Reply, kind: Option<StepKind>, stop: Option<Stop>)
+    requires { length page.old + 64 ≤ 1024 }
+    ensures { page.new ≡ page.old ++ next_line kind stop }
+{
+    match kind {
+        Some(StepKind::Vector) => page.put(b"Vector\n"),
+        Some(StepKind::Stack) => page.put(b"Stack\n"),
+        Some(StepKind::Sleep) => page.put(b"Sleep\n"),
+        Some(StepKind::Instruction) => page.put(b"Instruction\n"),
+        None => match stop {
+            Some(stop) => page.put_stop(&stop),
+            None => page.put_stop(&Stop::OutOfProfile(LeftOut::ClockEnd)),
+        },
+    }
+}
+
+/// Returns the line of the kind of the next step, or of the stop.
+fn next_text<D: Decider, C: KeptCode, L: Levels, U: DueTicks>(
+    machine: &Machine<D, C, L, U>,
+) -> Reply
+    ensures { result ≡ next_text machine.now.state }
+{
+    let mut page = Reply::new();
+    put_next(&mut page, machine.next_kind(), machine.stop());
+    page
+}
+
+/// Returns the line after an answer: the clock, PC and the kind of the next step, or the stop.
+pub fn closing_text<D: Decider, C: KeptCode, L: Levels, U: DueTicks>(
+    machine: &Machine<D, C, L, U>,
+) -> Reply
+    ensures { result ≡ closing_text machine.now.state }
+{
+    let mut page = Reply::new();
+    page.put(b"= ");
+    page.put_decimal(machine.ticks());
+    page.put(b" ");
+    page.put_word(machine.regs().pc);
+    page.put(b" ");
+    put_next(&mut page, machine.next_kind(), machine.stop());
+    page
+}
+
 /// Appends the lines of the stack pointers, LR, PC and XPSR.
-#[tactic(auto, unfolding(crate::specs::Answers::core_lines))]
+#[tactic(auto, unfolding(crate::specs::StateText::core_lines))]
 fn put_core(page: &mut Reply, values: &RegValues)
     requires { length page.old ≤ 403 }
     ensures text { page.new ≡ page.old ++ core_lines values.now }
@@ -43,7 +100,7 @@ fn put_core(page: &mut Reply, values: &RegValues)
 }
 
 /// Appends the lines of CONTROL and the masks.
-#[tactic(auto, unfolding(crate::specs::Answers::mask_lines))]
+#[tactic(auto, unfolding(crate::specs::StateText::mask_lines))]
 fn put_masks(page: &mut Reply, values: &RegValues)
     requires { length page.old ≤ 503 }
     ensures { page.new ≡ page.old ++ mask_lines values.now }

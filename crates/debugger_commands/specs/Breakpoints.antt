@@ -1,10 +1,6 @@
 -- The breakpoints of a session (profile).
-use Rattle.std.specs.Prelude.{ℕ, nat_lt, Bool, ◌||◌, ◌==◌, if◌then◌else◌, List, [], ◌∷◌, ◌++◌, length, codes, Result}
-use Rattle.std.specs.Prelude.{Ok, Err}
+use Rattle.std.specs.Prelude.{ℕ, nat_lt, Bool, ◌||◌, ◌==◌, if◌then◌else◌, List, [], ◌∷◌, ◌++◌, length, codes}
 use Rattle.std.specs.List.{list_any}
-use Rattle.debugger_commands.specs.declared.commands.Command.{Command}
-use Rattle.debugger_commands.specs.declared.commands.Command.TheVariants as command
-use Rattle.debugger_commands.specs.declared.commands.LineError.{LineError}
 use Rattle.platform.specs.Text.{line_feed}
 
 -- how many breakpoints can be set at most
@@ -25,12 +21,3 @@ abbrev pub breakpoint_text : List ℕ → ℕ → List ℕ
 breakpoint_text breakpoints a =
     if has breakpoints a || nat_lt (length breakpoints) most_breakpoints then codes "ok" ++ line_feed
     else codes "error 3" ++ line_feed
-
--- the breakpoints after a command
-abbrev pub breakpoints_after : List ℕ → Result Command LineError → List ℕ
-breakpoints_after breakpoints (Err why) = breakpoints
-breakpoints_after breakpoints (Ok (command.Run n)) = breakpoints
-breakpoints_after breakpoints (Ok (command.Task n)) = breakpoints
-breakpoints_after breakpoints (Ok (command.Break a)) = with_breakpoint breakpoints a
-breakpoints_after breakpoints (Ok (command.Show what)) = breakpoints
-breakpoints_after breakpoints (Ok command.Quit) = breakpoints

@@ -3,6 +3,7 @@ use Rattle.std.specs.Prelude.{ℕ, zero, suc, Bool, true, false, List, [], ◌++
 use Rattle.std.specs.Prelude.{Some, None}
 use Rattle.debugger_commands.specs.declared.commands.LineError.{LineError}
 use Rattle.debugger_commands.specs.declared.commands.LineError.TheVariants as error
+use Rattle.debugger_commands.specs.declared.help.TheConstants.{HELP}
 use Rattle.instruction_set.specs.Words.{word_sum}
 use Rattle.platform.specs.declared.access.Decision.{Decision}
 use Rattle.platform.specs.declared.stop.Stop.{Stop}
@@ -77,3 +78,8 @@ end_text pc (Some why) = stop_line why
 abbrev pub error_text : LineError → List ℕ
 error_text error.Command = codes "error 1" ++ line_feed
 error_text error.Word = codes "error 2" ++ line_feed
+
+-- ---- help: a line for each command
+
+unfoldable pub help_text : List ℕ
+help_text = HELP.now

@@ -1,12 +1,18 @@
 //! The commands of a session, and how a line is read.
 
-ghost use Rattle.std.specs.Prelude.{◌≡◌, bytes_eq, option_map};
-ghost use Rattle.debugger_commands.specs.Commands.{alone, command_in, command_of, kind_of, privilege_of};
+ghost use Rattle.std.specs.Prelude.{◌≡◌, option_map};
+ghost use Rattle.debugger_commands.specs.Commands.{alone, command_in, command_of, part_of};
 ghost use Rattle.debugger_commands.specs.Commands.{quits, read_break, read_explain, read_memory, read_run, read_task};
-ghost use Rattle.debugger_commands.specs.Commands.{steps_of, task_steps_of};
+ghost use Rattle.debugger_commands.specs.Commands.{read_script, read_stop, read_trace, read_watch, steps_of};
+ghost use Rattle.debugger_commands.specs.Commands.{task_steps_of, watch_on};
 ghost use Rattle.debugger_commands.specs.TwoWords.{seen_two, seen_three};
 
+use crate::choices::{
+    condition_of, is_same, kind_of, privilege_of, selection_of, switch_of, watched_of,
+};
+use crate::conditions::{Condition, LineSelection};
 use crate::numbers::{number, number_within};
+use crate::watchpoints::Watchpoint;
 use crate::words::{
     ThreeWords, TwoWords, first_word, more_words, one_word, three_words, two_words,
 };
@@ -28,6 +34,16 @@ pub enum Command {
     Show(Part),
     /// End the session: `quit`.
     Quit,
+    /// Choose which lines the steps have: `trace w`.
+    Trace(LineSelection),
+    /// Set a watchpoint: `watch r|w|a a n`.
+    Watch(Watchpoint),
+    /// Set whether a run ends at something: `stop c on|off`.
+    Stop(Condition, bool),
+    /// Forget what ends a run: `clear`.
+    Clear,
+    /// End each answer from now on with the line of where the machine is: `script 1`.
+    Script,
 }
 
 /// What a command shows of the machine.
@@ -41,6 +57,12 @@ pub enum Part {
     Regions,
     /// The rule that would decide an access: `explain a p|u r|w|x`.
     Explain(u32, bool, Kind),
+    /// The state as lines: `state`.
+    State,
+    /// The kind of the next step: `next`.
+    Next,
+    /// No part, but a line for each command: `help`.
+    Help,
 }
 
 /// Why a line is no command.
@@ -50,41 +72,6 @@ pub enum LineError {
     Command,
     /// A word isn't a number or a letter that is allowed there.
     Word,
-}
-
-/// Returns whether two texts are equal.
-fn is_same(text: &[u8], other: &[u8]) -> bool
-    ensures { result ≡ bytes_eq text.now other.now }
-{
-    text == other
-}
-
-/// Returns whether `p` or `u` means privileged code.
-fn privilege_of(text: &[u8]) -> Option<bool>
-    ensures { result ≡ privilege_of text.now }
-{
-    if is_same(text, b"p") {
-        Some(true)
-    } else if is_same(text, b"u") {
-        Some(false)
-    } else {
-        None
-    }
-}
-
-/// Returns the kind of access of `r`, `w` or `x`.
-fn kind_of(text: &[u8]) -> Option<Kind>
-    ensures { result ≡ kind_of text.now }
-{
-    if is_same(text, b"r") {
-        Some(Kind::Load)
-    } else if is_same(text, b"w") {
-        Some(Kind::Store)
-    } else if is_same(text, b"x") {
-        Some(Kind::Fetch)
-    } else {
-        None
-    }
 }
 
 /// Returns the command of a line, which is None where it's too long.
@@ -111,6 +98,14 @@ fn read_command(word: &[u8], more: Option<&[u8]>) -> Result<Command, LineError>
         read_task(one_word(more))
     } else if is_same(word, b"break") {
         read_break(one_word(more))
+    } else if is_same(word, b"watch") {
+        read_watch(three_words(more))
+    } else if is_same(word, b"stop") {
+        read_stop(two_words(more))
+    } else if is_same(word, b"clear") {
+        alone(Command::Clear, more)
+    } else if is_same(word, b"trace") {
+        read_trace(one_word(more))
     } else if is_same(word, b"regs") {
         alone(Command::Show(Part::Regs), more)
     } else if is_same(word, b"mem") {
@@ -119,6 +114,14 @@ fn read_command(word: &[u8], more: Option<&[u8]>) -> Result<Command, LineError>
         alone(Command::Show(Part::Regions), more)
     } else if is_same(word, b"explain") {
         read_explain(three_words(more))
+    } else if is_same(word, b"state") {
+        alone(Command::Show(Part::State), more)
+    } else if is_same(word, b"next") {
+        alone(Command::Show(Part::Next), more)
+    } else if is_same(word, b"script") {
+        read_script(one_word(more))
+    } else if is_same(word, b"help") {
+        alone(Command::Show(Part::Help), more)
     } else if is_same(word, b"quit") {
         alone(Command::Quit, more)
     } else {
@@ -208,6 +211,77 @@ fn read_explain(words: Option<ThreeWords<'_>>) -> Result<Command, LineError>
     }
 }
 
+/// Reads the word after `trace`.
+fn read_trace(word: Option<&[u8]>) -> Result<Command, LineError>
+    ensures { result ≡ read_trace (option_map (λ w. w.now) word.entry) }
+{
+    let Some(word) = word else {
+        return Err(LineError::Command);
+    };
+    match selection_of(word) {
+        Some(selection) => Ok(Command::Trace(selection)),
+        None => Err(LineError::Word),
+    }
+}
+
+/// Reads the words after `watch`.
+fn read_watch(words: Option<ThreeWords<'_>>) -> Result<Command, LineError>
+    ensures { result ≡ read_watch (option_map seen_three words.entry) }
+{
+    let Some(words) = words else {
+        return Err(LineError::Command);
+    };
+    let watched = watched_of(words.first);
+    let address = number(words.others.first);
+    let size = number_within(1, u32::MAX, words.others.second);
+    match (watched, address, size) {
+        (Some(watched), Some(address), Some(size)) => watch_on(watched, address, size),
+        _ => Err(LineError::Word),
+    }
+}
+
+/// Returns the command of a watchpoint, whose bytes have to lie below 2^32.
+fn watch_on(watched: (bool, bool), address: u32, size: u32) -> Result<Command, LineError>
+    ensures { result ≡ watch_on watched address size }
+{
+    if u64::from(address) + u64::from(size) <= 0x1_0000_0000 {
+        Ok(Command::Watch(Watchpoint {
+            reads: watched.0,
+            writes: watched.1,
+            address,
+            size,
+        }))
+    } else {
+        Err(LineError::Word)
+    }
+}
+
+/// Reads the words after `stop`.
+fn read_stop(words: Option<TwoWords<'_>>) -> Result<Command, LineError>
+    ensures { result ≡ read_stop (option_map seen_two words.entry) }
+{
+    let Some(words) = words else {
+        return Err(LineError::Command);
+    };
+    match (condition_of(words.first), switch_of(words.second)) {
+        (Some(what), Some(on)) => Ok(Command::Stop(what, on)),
+        _ => Err(LineError::Word),
+    }
+}
+
+/// Reads the word after `script`.
+fn read_script(word: Option<&[u8]>) -> Result<Command, LineError>
+    ensures { result ≡ read_script (option_map (λ w. w.now) word.entry) }
+{
+    let Some(word) = word else {
+        return Err(LineError::Command);
+    };
+    match number_within(1, 1, word) {
+        Some(_) => Ok(Command::Script),
+        None => Err(LineError::Word),
+    }
+}
+
 /// Returns how many steps a run makes at most, where the command is `run` or `step`.
 pub fn steps_of(asked: Result<Command, LineError>) -> Option<u32>
     ensures { result ≡ steps_of asked }
@@ -224,6 +298,16 @@ pub fn task_steps_of(asked: Result<Command, LineError>) -> Option<u32>
 {
     match asked {
         Ok(Command::Task(steps)) => Some(steps),
+        _ => None,
+    }
+}
+
+/// Returns the part of the machine that a command shows, where it shows one.
+pub fn part_of(asked: Result<Command, LineError>) -> Option<Part>
+    ensures { result ≡ part_of asked }
+{
+    match asked {
+        Ok(Command::Show(part)) => Some(part),
         _ => None,
     }
 }

@@ -3,17 +3,25 @@
 #![tactic(auto)]
 
 mod breakpoints;
+mod choices;
 mod commands;
+mod conditions;
+mod help;
 mod listener;
 mod numbers;
+mod settings;
 mod texts;
+mod watchpoints;
 mod words;
 
-pub use breakpoints::Breakpoints;
-pub use commands::{Command, LineError, Part, quits, read_line, steps_of, task_steps_of};
+pub use commands::{Command, LineError, Part, part_of, quits, read_line, steps_of, task_steps_of};
+pub use conditions::{Condition, Hit, LineSelection};
+pub use help::help_text;
 pub use listener::Listener;
 pub use numbers::{number, number_within};
+pub use settings::Settings;
 pub use texts::{
     Reply, byte_address, decision_text, end_text, error_text, put_byte, put_generals, put_region,
     put_register,
 };
+pub use watchpoints::Watchpoint;

@@ -153,7 +153,8 @@ pub fn error_text(error: LineError) -> Reply
 
 /// Returns the line of a stop, or of the address of the next instruction.
 pub fn end_text(stop: Option<Stop>, pc: u32) -> Reply
-    ensures { result ≡ end_text pc stop }
+    ensures text { result ≡ end_text pc stop }
+    ensures short { length result ≤ 64 }
 {
     let mut page = Reply::new();
     match stop {

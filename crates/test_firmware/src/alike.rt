@@ -5,7 +5,7 @@ ghost use Rattle.std.specs.Prelude.{◌≡◌};
 use board::Board;
 use debugger::session;
 use elf::load;
-use machine::{Decider, DueTicks, Fast, KeptCode, Levels, Machine, Over};
+use machine::{Decider, DueTicks, Fast, KeptCode, Layout, Levels, Machine, Over};
 use std::alloc::Global;
 use std::io;
 use std::io::Write;
@@ -65,22 +65,24 @@ fn write_line<W: Write>(path: &str, line: &[u8], out: &mut W) -> io::Result<()> 
 fn answers_of(alloc: Global, board: &Board, commands: &[u8], image: &[u8]) -> Option<Vec<u8>> {
     let image = load(image).ok()?;
     let mut machine = Fast::new(alloc, &image, board).ok()?;
-    talk(alloc, &mut machine, commands)
+    talk(alloc, &mut machine, board.layout, commands)
 }
 
 /// Holds a session of a machine, and returns its answers.
 fn talk<D: Decider, C: KeptCode, L: Levels, U: DueTicks>(
     alloc: Global,
     machine: &mut Machine<D, C, L, U>,
+    layout: Layout,
     commands: &[u8],
 ) -> Option<Vec<u8>> {
-    hear::<D, C, L, U, Brand>(alloc, machine, commands, Blank::new(1))
+    hear::<D, C, L, U, Brand>(alloc, machine, layout, commands, Blank::new(1))
 }
 
 /// Holds a session of a machine: makes the reader, whose ledger `blank` is of.
 fn hear<D: Decider, C: KeptCode, L: Levels, U: DueTicks, K: Ledger>(
     alloc: Global,
     machine: &mut Machine<D, C, L, U>,
+    layout: Layout,
     commands: &[u8],
     blank: Blank,
 ) -> Option<Vec<u8>>
@@ -89,12 +91,19 @@ fn hear<D: Decider, C: KeptCode, L: Levels, U: DueTicks, K: Ledger>(
     requires some { blank.parts ≡ 1 }
 {
     let mut input: Over<&[u8], K> = Over::new(commands, blank);
-    answer::<D, C, L, U, K, Brand>(machine, &mut input, Vec::new(alloc), Blank::new(1))
+    answer::<D, C, L, U, K, Brand>(
+        machine,
+        layout,
+        &mut input,
+        Vec::new(alloc),
+        Blank::new(1),
+    )
 }
 
 /// Holds a session of a machine, and returns its answers after those of `answers`.
 fn answer<D: Decider, C: KeptCode, L: Levels, U: DueTicks, J: Ledger, K: Ledger>(
     machine: &mut Machine<D, C, L, U>,
+    layout: Layout,
     input: &mut Over<&[u8], J>,
     answers: Vec<u8>,
     blank: Blank,
@@ -104,6 +113,6 @@ fn answer<D: Decider, C: KeptCode, L: Levels, U: DueTicks, J: Ledger, K: Ledger>
     requires some { blank.parts ≡ 1 }
 {
     let mut out: Over<Vec<u8>, K> = Over::new(answers, blank);
-    session(machine, input, &mut out).ok()?;
+    session(machine, layout, input, &mut out).ok()?;
     Some(out.into_inner())
 }

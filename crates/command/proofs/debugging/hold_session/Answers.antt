@@ -11,5 +11,5 @@ returns-in-Ok g c = record {
 pub returns : goal.returns
 returns g c = record {
   last = c.session.new.machine;
-  talks = (refl, failed _ _ _ _ _ _ c.in-Err.field-0 c.in-Err.ensures.talked c.in-Err.ensures.sent);
+  talks = (refl, failed _ _ _ _ _ _ _ c.in-Err.field-0 c.in-Err.ensures.talked c.in-Err.ensures.sent);
 }

@@ -1,29 +1,37 @@
-use Rattle.std.proofs.Common.{◌≡◌, ◌⊎◌, inl, inr, true, ◌∙◌, sym, arith}
-use Rattle.debugger.proofs.Running.{run_cut, run_ends, run_more}
-use Rattle.debugger.proofs.Telling.{tells_nothing, tells_rest}
-use Rattle.debugger.specs.Answers.{ends_at}
+use Rattle.std.proofs.Common.{◌≡◌, ◌∙◌, ap, false, sym, arith, Option}
+use Rattle.debugger.proofs.Running.{run_cut, run_ends, run_more, run_over}
+use Rattle.debugger.proofs.Telling.{tells_nothing}
+use Rattle.debugger.specs.Answers.{ends_at, hit_before}
+use Rattle.debugger_commands.specs.declared.conditions.Hit.{Hit}
 use Rattle.debugger.proofs.runs.run_on.Goals as goal
-use Rattle.debugger.proofs.runs.run_on.Goals.{else-steps-test, then-steps-test+then-ends_at}
 
 pub steps-init : goal.steps-init
 steps-init g c = tells_nothing _ _ _
 
+-- the run ends where it is
+pub returns-then-ends_at : goal.returns-then-ends_at
+returns-then-ends_at g c =
+    run_ends c.args.settings.now _ _ _ _ _ _ _ _ _ _ c.steps-test.true c.hit_before-now.ensures
+    (sym c.ends_at.ensures ∙ c.if-ends_at.true) c.steps.invariant c.put_end.ensures
+
 pub returns-in-Err : goal.returns-in-Err
 returns-in-Err g c =
-    run_cut _ _ _ _ _ _ _ _ _ c.steps-test.true (sym c.ends_at.ensures ∙ c.if-ends_at.false) c.steps.invariant
-    c.in-Err.ensures
+    let goes : ends_at (hit_before c.args.settings.now c.steps.hit c.steps.machine.state) c.steps.machine.state
+    ≡ false =
+    ap (λ (x : Option Hit). ends_at x c.steps.machine.state) (sym c.hit_before-now.ensures)
+    ∙ sym c.ends_at.ensures ∙ c.if-ends_at.false in
+    run_cut c.args.settings.now _ _ _ _ _ _ _ _ _ c.steps-test.true goes c.steps.invariant c.in-Err.ensures.tells
 
 pub steps-preserved : goal.steps-preserved
 steps-preserved g c =
-    run_more _ _ _ _ _ _ _ _ _ c.steps-test.true (sym c.ends_at.ensures ∙ c.if-ends_at.false) c.steps.invariant
-    c.in-Ok.ensures
+    let goes : ends_at (hit_before c.args.settings.now c.steps.hit c.steps.machine.state) c.steps.machine.state
+    ≡ false =
+    ap (λ (x : Option Hit). ends_at x c.steps.machine.state) (sym c.hit_before-now.ensures)
+    ∙ sym c.ends_at.ensures ∙ c.if-ends_at.false in
+    run_more c.args.settings.now _ _ _ _ _ _ _ _ _ _ c.steps-test.true goes c.in-Ok.ensures.hit c.steps.invariant
+    c.in-Ok.ensures.tells
 
--- no step is left, or the run ends where it is
+-- no step is left
 pub returns : goal.returns
 returns g c =
-    let ends : (c.steps.left ≡ 0) ⊎ (ends_at c.args.breakpoints.now c.steps.machine.state ≡ true) =
-    elim c.steps-test.branch [
-      | else-steps-test w ↦ inl (omega arith)
-      | then-steps-test+then-ends_at w ↦ inr (sym w.ends_at.ensures ∙ w.if-ends_at.true)
-    ] in
-    tells_rest _ _ _ _ _ _ _ _ _ (run_ends _ _ _ _ _ _ _ ends c.steps.invariant) c.put_end.ensures
+    run_over c.args.settings.now _ _ _ _ _ _ _ _ _ (omega arith) c.steps.invariant c.put_end-2.ensures

@@ -1,9 +1,10 @@
 use Rattle.debugger.proofs.Hearing.{Heard}
+use Rattle.platform.specs.Boards.{numbers_of}
 use Rattle.debugger.proofs.sessions.session.Given as goal
 
 -- the session after `call` bytes
 abbrev pub invariant-calls : goal.invariant-calls
 invariant-calls g l =
-    Heard l.call l.debugger l.fn.machine l.machine
+    Heard (numbers_of l.fn.layout) l.call l.debugger l.fn.machine l.machine
     (g.I.In.reading l.fn.reader) (g.I.In.reading l.reader)
     (g.W.Out.writing l.fn.out) (g.W.Out.writing l.out)

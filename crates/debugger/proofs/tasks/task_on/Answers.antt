@@ -14,13 +14,13 @@ pub returns-in-Err : goal.returns-in-Err
 returns-in-Err g c =
     let going : is_instruction_next c.steps.machine.state ≡ true =
     ap is_instruction (sym c.next_kind.ensures) ∙ sym c.is_instruction.ensures ∙ c.if-not-is_instruction.false in
-    task_cut _ _ _ _ _ _ _ _ c.steps-test.true going c.steps.invariant c.in-Err.ensures
+    task_cut _ _ _ _ _ _ _ _ _ c.steps-test.true going c.steps.invariant c.in-Err.ensures.tells
 
 pub steps-preserved : goal.steps-preserved
 steps-preserved g c =
     let going : is_instruction_next c.steps.machine.state ≡ true =
     ap is_instruction (sym c.next_kind.ensures) ∙ sym c.is_instruction.ensures ∙ c.if-not-is_instruction.false in
-    task_more _ _ _ _ _ _ _ _ c.steps-test.true going c.steps.invariant c.in-Ok.ensures
+    task_more _ _ _ _ _ _ _ _ _ c.steps-test.true going c.steps.invariant c.in-Ok.ensures.tells
 
 -- no step is left, or the next one isn't an Instruction step
 pub returns : goal.returns
@@ -34,4 +34,4 @@ returns g c =
     ] in
     let same : c.end_of_task-end.result ≡ end_of c.steps.machine.state.stop (nat_lt 0 c.steps.left) =
     c.end_of_task-end.ensures ∙ ap (λ (o : Option Stop). end_of o (nat_lt 0 c.steps.left)) c.stop.ensures in
-    tells_rest _ _ _ _ _ _ _ _ _ (task_ends _ _ _ _ _ _ _ ends same c.steps.invariant) c.put_task_end.ensures
+    tells_rest _ _ _ _ _ _ _ _ _ (task_ends _ _ _ _ _ _ _ _ ends same c.steps.invariant) c.put_task_end.ensures

@@ -1,14 +1,25 @@
-use Rattle.std.proofs.Common.{◌∙◌, sym, refl}
-use Rattle.debugger.proofs.Running.{reply_cut}
-use Rattle.debugger.proofs.Telling.{one_cut}
-use Rattle.debugger.specs.Answers.{reply_text}
+use Rattle.std.proofs.Common.{◌≡◌, ◌&&◌, ◌∙◌, ap, sym, not, true, false}
+use Rattle.debugger.proofs.Running.{closed_after, closed_cut, not_closed}
+use Rattle.debugger.specs.Answers.{is_closed}
+use Rattle.debugger.specs.Sessions.{Kept}
+use Rattle.debugger_commands.specs.Commands.{quits}
 use Rattle.debugger.proofs.sessions.Debugger.answer.Goals as goal
 
 pub returns-in-Err-clause-tells : goal.returns-in-Err-clause-tells
 returns-in-Err-clause-tells g c =
-    let same = c.as_slice.ensures ∙ c.reply-page.ensures.text in
-    let text = reply_text c.args.machine.now.state c.args.self.now.breakpoints c.args.asked in
-    reply_cut c.args.self.now.breakpoints c.args.asked _ _ _ _ (sym c.steps_of.ensures ∙ c.in-None.is)
-    (sym c.task_steps_of.ensures ∙ c.in-None-task_steps_of.is)
-    (one_cut (record { state = c.args.machine.now.state; text = text }) _ _ _ _ (rw (← same) c.in-Err.ensures.0) refl
-    c.in-Err.ensures.1)
+    closed_cut (is_closed c.args.self.now.settings c.args.asked) _ _ _ _ _ c.in-Err.ensures.tells
+
+pub returns-then-closes-clause-tells : goal.returns-then-closes-clause-tells
+returns-then-closes-clause-tells g c =
+    let closes : is_closed c.args.self.now.settings c.args.asked ≡ true =
+    ap (λ (d : Kept). d.settings.is_script && not (quits c.args.asked)) (sym c.answer_command.ensures.kept)
+    ∙ sym c.closes.ensures ∙ c.if-closes.true in
+    closed_after (is_closed c.args.self.now.settings c.args.asked) _ _ _ _ _ _ _ _ closes c.in-Ok.ensures.tells
+    c.close.ensures
+
+pub returns-clause-tells : goal.returns-clause-tells
+returns-clause-tells g c =
+    let open_end : is_closed c.args.self.now.settings c.args.asked ≡ false =
+    ap (λ (d : Kept). d.settings.is_script && not (quits c.args.asked)) (sym c.answer_command.ensures.kept)
+    ∙ sym c.closes.ensures ∙ c.if-closes.false in
+    not_closed (is_closed c.args.self.now.settings c.args.asked) _ _ _ _ _ open_end c.in-Ok.ensures.tells
