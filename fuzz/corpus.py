@@ -4,7 +4,8 @@ import glob
 import os
 
 # The commands that a session of the repository doesn't have.
-COMMANDS = b"regs\nregions\nstep\nbreak 0x100\nrun 50\nexplain 0x20000000 u w\nmem 0x20000000 16\ntask 10\nquit\n"
+COMMANDS = b"regs\nregions\nstep\nbreak 0x100\nrun 50\nexplain 0x20000000 u w\nmem 0x20000000 16\ntask 10\nnext\n"
+COMMANDS += b"watch a 0x20000000 64\nstop exceptions on\ntrace console\nrun 50\nclear\nstate\nscript 1\nrun 50\nquit\n"
 
 
 def content(path):

@@ -14,7 +14,8 @@ FIRST = os.path.join(TOP, "examples", "first.elf")
 SMALL = os.path.join(TOP, "examples", "boards", "small.toml")
 
 # A session that has each command.
-COMMANDS = b"step\nbreak 8\nregs\nregions\nmem 0 256\nexplain 0 p x\ntask 3\nrun 9\nquit\n"
+COMMANDS = b"step\nbreak 8\nwatch w 0x20000000 4\nstop faults on\ntrace refused\nregs\nregions\nmem 0 256\nexplain 0 p x\n"
+COMMANDS += b"task 3\nrun 9\nclear\nstate\nnext\nhelp\nscript 1\nrun 9\nquit\n"
 
 # The most bytes of a file.
 MOST = 1 << 24

@@ -46,6 +46,14 @@ PARTS = {
     "rule": RULE,
     "bytes": "(?:[0-9A-F]{2}|--)(?: (?:[0-9A-F]{2}|--))*",
     "name": "(?:R[0-9]|R1[0-2]|MSP|PSP|LR|PC|XPSR|CONTROL|PRIMASK|FAULTMASK|BASEPRI)",
+    "status": "(?:CFSR|HFSR|MMFAR|BFAR|VTOR|CCR)",
+    "ticks": "(?:0|[1-9][0-9]*)",
+    "size": "(?:0|[1-9][0-9]*)",
+    "numbers": "[0-9]+(?: [0-9]+)*",
+    "what": "(?:break|refused|fault|exception)",
+    "kind": "(?:Instruction|Stack|Vector|Sleep)",
+    "next": "(?:Instruction|Stack|Vector|Sleep|stop [a-z0-9 -]+)",
+    "usage": "[a-z][^\n]*  [a-z][^\n]*",
 }
 
 
@@ -55,7 +63,8 @@ def form(line):
 
 
 # The other lines of a debug session: of its commands, and of a line that is none.
-OTHER = "|".join([*(form(line) for lines in pages.commands().values() for line in lines), "error [12]\n"])
+# Each form is there once, so that a wrong answer is told from them without trying each of their orders.
+OTHER = "|".join(dict.fromkeys([*(form(line) for lines in pages.commands().values() for line in lines), "error [12]\n"]))
 
 TRACE = {
     0: re.compile(f"(?:{LINE})*{QUIET}".encode()),

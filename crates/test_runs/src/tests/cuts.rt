@@ -15,7 +15,7 @@ use debugger::{SessionError, session};
 use machine::{
     Ahead, BitLevels, BoardDecodeTable, Buffered, Counting, Decider, DueTicks, In, KeptCode,
     KeptDecisions, KeptPriorities, Levels, Machine, Over, Paged, PlainLevels, Reread, RunError,
-    Search, Slow, Stop, Table, TaskEnd, TraceSelection,
+    SMALL_BOARD, Search, Slow, Stop, Table, TaskEnd, TraceSelection,
 };
 use std::alloc::Global;
 use std::io;
@@ -359,7 +359,7 @@ fn hold_over<D: Decider, C: KeptCode, L: Levels, U: DueTicks, J: Ledger, K: Ledg
         );
     }
     let mut out = cut_at(out, way.output);
-    let ended = session(machine, &mut input, &mut out);
+    let ended = session(machine, SMALL_BOARD, &mut input, &mut out);
     Held {
         ended,
         calls: out.into_inner().into_inner(),
@@ -371,7 +371,7 @@ fn gather<D: Decider, C: KeptCode, L: Levels, U: DueTicks, I: In + Drop, K: Ledg
     mut input: I,
     mut out: Paged<machine::Cut<Over<Calls, K>>>,
 ) -> Held {
-    let ended = session(machine, &mut input, &mut out);
+    let ended = session(machine, SMALL_BOARD, &mut input, &mut out);
     Held {
         ended,
         calls: out.into_inner().into_inner().into_inner(),
@@ -555,6 +555,70 @@ fn writers_of_runs_in_sessions_are_cut_at_each_byte(rt: HostRuntime) -> Result<(
             let slow = fails_in_run::<Search, Reread, PlainLevels, Counting>(alloc, at, *gathers);
             assert!(rt; slow == Some(true), "Slow, after {left}");
             let fast = fails_in_run::<
+                KeptDecisions<Table>,
+                BoardDecodeTable,
+                KeptPriorities<BitLevels>,
+                Ahead,
+            >(alloc, at, *gathers);
+            assert!(rt; fast == Some(true), "Fast, after {left}");
+        }
+    }
+    Ok(())
+}
+
+/// MOVS R1, #5; STR R1, [R0]; BKPT 0 at address 8, with R0 at the beginning of RAM.
+const STORE: &str = "\
+word 8 60012105
+word C BE00BE00
+reg 0 20000000
+reg D 20001000
+reg F 8
+reg E FFFFFFFF";
+
+/// A run up to a watchpoint.
+static WATCHED: [u8; 41] = *b"trace none\nwatch w 0x20000000 4\nrun 1000\n";
+
+/// What a session answers to it: two lines of 3 bytes, the store of the second step, and where the machine is.
+static WATCHED_ANSWER: [u8; 42] = *b"ok\nok\n2 S 20000000 4 p ok off\nat 0000000C\n";
+
+/// Returns whether a session fails where its writer is cut within these answers, and the machine is after the steps
+/// that were made: none where the first two lines don't go out, otherwise both.
+fn fails_at_watchpoint<D: Decider, C: KeptCode, L: Levels, U: DueTicks>(
+    alloc: Global,
+    output: At,
+    gathers: bool,
+) -> Option<bool> {
+    let mut machine: Machine<D, C, L, U> = machine_with(alloc, STORE)?;
+    let way = Way {
+        commands: &WATCHED,
+        input: NOWHERE,
+        output,
+        by_lines: false,
+        gathers,
+    };
+    let held = hold(&mut machine, way);
+    let made = if output.left < 6 && !gathers { 0 } else { 2 };
+    Some(
+        matches!(held.ended, Err(SessionError::Write))
+            && held.calls.text.as_slice() == &WATCHED_ANSWER[..output.left.min(42)]
+            && machine.ticks() == made,
+    )
+}
+
+#[test]
+fn writers_of_conditional_runs_are_cut_at_each_byte(rt: HostRuntime) -> Result<(), Fail> {
+    let alloc = rt.alloc();
+    'bytes: for left in 0..42usize {
+        'forms: for (fails, gathers) in FORMS.iter() {
+            let at = At {
+                left,
+                fails: *fails,
+            };
+            let slow = fails_at_watchpoint::<Search, Reread, PlainLevels, Counting>(
+                alloc, at, *gathers,
+            );
+            assert!(rt; slow == Some(true), "Slow, after {left}");
+            let fast = fails_at_watchpoint::<
                 KeptDecisions<Table>,
                 BoardDecodeTable,
                 KeptPriorities<BitLevels>,
