@@ -91,13 +91,7 @@ fn hear<D: Decider, C: KeptCode, L: Levels, U: DueTicks, K: Ledger>(
     requires some { blank.parts ≡ 1 }
 {
     let mut input: Over<&[u8], K> = Over::new(commands, blank);
-    answer::<D, C, L, U, K, Brand>(
-        machine,
-        layout,
-        &mut input,
-        Vec::new(alloc),
-        Blank::new(1),
-    )
+    answer::<D, C, L, U, K, Brand>(machine, layout, &mut input, Vec::new(alloc), Blank::new(1))
 }
 
 /// Holds a session of a machine, and returns its answers after those of `answers`.
