@@ -1,6 +1,6 @@
 """Reads and writes system registers and special registers on marm and on QEMU's Cortex-M3, as privileged and as unprivileged
 code, and compares what is read. Cases at which marm stops are left out; they are counted by how they end. What QEMU is known to
-do otherwise isn't compared: docs/QEMU.md has the list."""
+do otherwise isn't compared: docs/CROSSCHECK.md has the list."""
 
 import collections
 import random

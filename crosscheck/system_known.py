@@ -1,4 +1,4 @@
-"""What QEMU 7.2 is known to do otherwise with the system registers. docs/QEMU.md says why each is so."""
+"""What QEMU 7.2 is known to do otherwise with the system registers. docs/CROSSCHECK.md says why each is so."""
 
 SYST_CSR, SYST_CVR = 0xE000E010, 0xE000E018
 CPUID, ICSR, SCR, CCR = 0xE000ED00, 0xE000ED04, 0xE000ED10, 0xE000ED14

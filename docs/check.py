@@ -81,7 +81,7 @@ name x i f b o z a c s n e d t mmm nnn ddd .. steps""".split())
 
 # pages that speak of examples/, bench/, crosscheck/ and fuzz/ too
 EXAMPLE_PAGES = {
-    f"docs/{name}.md" for name in "FIRMWARE KERNELS BUILDING PERFORMANCE CROSSCHECK QEMU AUDIT ROBUSTNESS".split()
+    f"docs/{name}.md" for name in "FIRMWARE KERNELS BUILDING PERFORMANCE CROSSCHECK AUDIT ROBUSTNESS".split()
 }
 
 # what the kit and a shell print or take
@@ -399,9 +399,8 @@ def lists(repo):
                 parts = name.split("::")
                 if not any(parts[-1] in repo.of_crate[crate] for crate in crates):
                     lost.append(("docs/ARCHITECTURE.md", name))
-    text = read("docs/README.md")
-    lost += [("docs/README.md", path) for path in sorted(repo.files) if re.match(r"docs/[A-Z]+\.md$", path) and path != "docs/README.md"
-             and f"({os.path.basename(path)})" not in text]
+    text = read("README.md")
+    lost += [("README.md", path) for path in sorted(repo.files) if re.match(r"docs/[A-Z]+\.md$", path) and f"({path})" not in text]
     return lost
 
 
