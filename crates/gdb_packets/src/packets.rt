@@ -231,7 +231,7 @@ fn write_binary(rest: &[u8]) -> Packet<'_>
     }
 }
 
-/// Returns a packet whose tail is so many digits.
+/// Returns a packet whose tail is this many digits.
 fn has_digits(request: Request, count: u64, digits: &[u8]) -> Packet<'_>
     ensures { seen_packet result ≡ has_digits request count digits.now }
 {
@@ -454,7 +454,7 @@ fn with_tail(content: &[u8]) -> Packet<'_>
     }
 }
 
-/// Returns a packet whose tail follows so many bytes.
+/// Returns a packet whose tail follows this many bytes.
 fn tailed(request: Request, count: usize, content: &[u8]) -> Packet<'_>
     ensures { seen_packet result ≡ tailed request count content.now }
 {

@@ -29,7 +29,8 @@ returns-in-None-clause-put g c =
     let went = (c.step_at_once.ensures.step c.in-None.is).events in
     let named : c.new-lines.result.out.ghost_name ≡ c.step_at_once.new.events.out.ghost_name =
     sym (ap (λ (e : Emission). e.writer) start)
-    ∙ sym (ap (λ (e : Emission). e.writer) went) ∙ writer_is g.W.Out.writing _ _ c.step_at_once.new.events.history.items in
+    ∙ sym (ap (λ (e : Emission). e.writer) went)
+    ∙ writer_is g.W.Out.writing _ _ c.step_at_once.new.events.history.items in
     grind (arith, named, c.new-lines.ensures.same_writer, put)
 
 pub returns-in-Some-clause-put : goal.returns-in-Some-clause-put
