@@ -15,5 +15,5 @@ pub use mpu::{Decider, Search};
 pub use nvic::{Levels, PlainLevels};
 pub use platform::access::{Cause, Decision, DoneAccess, Kind, Performed, Request, Rule};
 pub use platform::stop::Stop;
-pub use scs::System;
+pub use scs::{System, SystemCopy};
 pub use space::{Layout, Space};

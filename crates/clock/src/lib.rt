@@ -6,7 +6,7 @@ ghost use Rattle.std.specs.Prelude.{◌≡◌, ◌↔◌, ℕ, ◌+◌, ◌^◌,
 ghost use Rattle.clock.specs.DueTicks.{IsRight, IsQuiet};
 ghost use Rattle.platform.specs.Time.{time_after_tick, counted, tick_pends, script_due};
 ghost use Rattle.platform.specs.Time.{passed, is_high, start_time, csr, after_csr_read, with_csr};
-ghost use Rattle.platform.specs.Time.{with_rvr, with_cvr_cleared, IsSetOf};
+ghost use Rattle.platform.specs.Time.{pends, with_rvr, with_cvr_cleared, with_signal, IsSetOf};
 
 mod ahead;
 mod due_ticks;
@@ -35,7 +35,7 @@ pub struct Clock<U: DueTicks> {
     ticks: u64,
     timer: U,
     high: HighInterrupts,
-    script: Vec<ScriptedEvent>,
+    script: &'static [ScriptedEvent],
     /// How many events of the script have applied.
     done: usize,
 }
@@ -51,27 +51,54 @@ impl<U: DueTicks> Model for Clock<U> {
         ticks = c.ticks;
         systick = U.systick_at c.timer c.ticks;
         high = c.high;
-        script = drop c.done c.script.items;
+        script = drop c.done c.script.now;
       };
       due = U.due c.timer;
     } };
 
-    ghost invariant = { λ c. (U.since c.timer ≤ c.ticks) × (c.ticks ≤ 2 ^ 48) × (c.done ≤ length c.script.items) };
+    ghost invariant = { λ c. (U.since c.timer ≤ c.ticks) × (c.ticks ≤ 2 ^ 48) × (c.done ≤ length c.script.now) };
 }
 
 impl<U: DueTicks> Clock<U> {
-    /// Returns a clock before its first tick, with a script.
-    pub fn new(script: Vec<ScriptedEvent>) -> Self
-        ensures time { result.time ≡ start_time script.items }
+    /// Returns a clock before its first tick, with a script. Copies of the clock share the script.
+    pub fn new(script: &'static [ScriptedEvent]) -> Self
+        ensures time { result.time ≡ start_time script.now }
         ensures right { IsRight result }
     {
         Clock {
             ticks: 0,
-            timer: U::fresh(script::script_due(script.as_slice())),
+            timer: U::fresh(script::script_due(script)),
             high: [false; interrupts::INTERRUPTS],
             script,
             done: 0,
         }
+    }
+
+    /// Returns a copy.
+    pub fn copied(&self) -> Self
+        ensures time { result.time ≡ self.now.time }
+        ensures right { IsRight result }
+    {
+        let next_event = self.next_event();
+        let mut timer = U::fresh(next_event);
+        timer.set(self.ticks, self.systick(), next_event);
+        Clock {
+            ticks: self.ticks,
+            timer,
+            high: self.high,
+            script: self.script,
+            done: self.done,
+        }
+    }
+
+    /// Does what a signal does to the interrupts, without a tick. Returns the exceptions that it pends.
+    pub fn signal(&mut self, what: &Signal) -> Due
+        ensures time { self.new.time ≡ record self.old.time { high = with_signal self.old.time.high what.now } }
+        ensures due { IsSetOf result (pends what.now) }
+        ensures right { IsRight self.old → IsRight self.new }
+    {
+        interrupts::take_signal(&mut self.high, *what);
+        sets::due_by(*what)
     }
 
     /// Returns how many ticks have gone by, at most 2^48.

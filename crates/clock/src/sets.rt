@@ -43,6 +43,15 @@ fn exception_of(interrupt: InterruptNumber) -> u8
     FIRST_INTERRUPT as u8 + interrupt.number()
 }
 
+/// Returns the set of the exception that a signal pends, if there is one.
+pub fn due_by(what: Signal) -> Due
+    ensures { IsSetOf result (pends what) }
+{
+    let mut due = NOTHING;
+    put_signal(&mut due, what);
+    due
+}
+
 /// Returns the set of the exceptions that events pend, and SysTick's next count.
 pub fn due_of(events: &[ScriptedEvent], timer: &SysTick) -> Due
     ensures { IsSetOf result (λ n. timer_pends timer.now n || list_any (λ e. pends e.what n) events.now) }

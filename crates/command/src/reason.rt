@@ -68,13 +68,7 @@ pub fn write_run_notes<E: Write>(
     err: &mut E,
 ) -> io::Result<()> {
     match board_of_file(alloc, board.bytes) {
-        Ok(board) => write_notes(
-            err,
-            image.bytes,
-            &board.layout,
-            board.events.as_slice(),
-            stop,
-        ),
+        Ok(board) => write_notes(err, image.bytes, &board.layout, board.events, stop),
         Err(_) => Ok(()),
     }
 }

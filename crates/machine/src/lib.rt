@@ -3,6 +3,7 @@
 
 mod at_once;
 pub mod foresight;
+mod keeping;
 pub mod laws;
 mod machine;
 mod placing;
@@ -19,6 +20,7 @@ pub use board::{Board, InterruptNumber, ScriptedEvent, Signal};
 pub use decode::Reread;
 pub use decode_table::BoardDecodeTable;
 pub use foresight::is_instruction;
+pub use keeping::Kept;
 pub use machine::{Fast, Machine, RunError, Slow};
 pub use mpu_table::{KeptDecisions, Table};
 pub use nvic_levels::{BitLevels, KeptPriorities};

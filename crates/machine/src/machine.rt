@@ -7,13 +7,14 @@ ghost use Rattle.machine.specs.Selected.{SelectedFails};
 ghost use Rattle.machine.specs.Starts.{Starts, Places};
 ghost use Rattle.machine.specs.Tasks.{CountsErrors, TaskEnds, TaskFails};
 ghost use Rattle.platform.specs.Memory.{byte_at};
-ghost use Rattle.reference.specs.Places.{place};
+ghost use Rattle.reference.specs.Places.{altered, place, signalled};
 ghost use Rattle.platform.specs.Priorities.{is_below_zero, is_in};
 ghost use Rattle.platform.specs.Regions.{shown};
 ghost use Rattle.platform.specs.Rules.{decision_of};
 ghost use Rattle.reference.specs.Run.{after, ending_of, trace};
 ghost use Rattle.reference.specs.Start.{start};
 ghost use Rattle.platform.specs.Status.{read_status};
+ghost use Rattle.space.specs.Sizes.{HaveSameSizes};
 ghost use Rattle.output.specs.Output.{Put, WritesAll};
 ghost use Rattle.reference.specs.Step.{step};
 ghost use Rattle.platform.specs.Events.{lines};
@@ -22,6 +23,7 @@ ghost use Rattle.task_laws.specs.Tasks.{is_task};
 ghost use Rattle.trace.specs.Emission.{with_emitted};
 ghost use Rattle.trace.specs.Selection.{selected_trace};
 
+use crate::keeping::Kept;
 use crate::readers::{Execution, RegValues};
 use crate::run::{run_core, write_step};
 use crate::start::start_core;
@@ -42,10 +44,11 @@ use output::{
 use platform::access::{Decision, Kind};
 use platform::error::{PlaceError, StartError};
 use platform::event::MOST_EVENTS;
+use platform::script::Signal;
 use platform::stop::Stop;
 use platform::system::StatusRegister;
 use reference::place::Place;
-use std::alloc::Global;
+use std::alloc::{AllocError, Global};
 use std::marker::Model;
 use task_laws::{StepKind, TaskEnd};
 use trace::selection::TraceSelection;
@@ -260,6 +263,47 @@ impl<D: Decider, C: KeptCode, L: Levels, U: DueTicks> Machine<D, C, L, U> {
         ensures { Places (place self.old.state value) self.old self.new result }
     {
         self.core.place(value)
+    }
+
+    /// Puts a value into a register or a word, as `place` does, but takes R0 to R12, LR, and words of flash and RAM in
+    /// Handler mode and in an exception entry too.
+    pub fn alter(&mut self, value: Place) -> Result<(), PlaceError>
+        ensures { Places (altered self.old.state value) self.old self.new result }
+    {
+        self.core.alter(value)
+    }
+
+    /// Does what an event of the board's script does, before the first one of the next tick, in Handler mode and in an
+    /// exception entry too. Fails with `NoSuchPlace` where the board doesn't have the interrupt, and with `Stopped`
+    /// where the machine has stopped.
+    pub fn signal(&mut self, what: &Signal) -> Result<(), PlaceError>
+        ensures { Places (signalled self.old.state what.now) self.old self.new result }
+    {
+        self.core.signal(what)
+    }
+
+    /// Returns a copy of the state, or fails where memory can't be allocated.
+    pub fn copied(&self, alloc: Global) -> Result<Kept<L, U>, AllocError>
+        ensures { IfOk result (λ kept. kept ≡ self.now.state) }
+    {
+        self.core.copied(alloc)
+    }
+
+    /// Copies the state. `kept` is a copy of an earlier state of this machine, or of a machine of the same board.
+    pub fn keep(&self, kept: &mut Kept<L, U>)
+        requires { HaveSameSizes kept.old.bus.memory self.now.state.bus.memory }
+        ensures { kept.new ≡ self.now.state }
+    {
+        self.core.keep(kept);
+    }
+
+    /// Goes back to a state that was kept. Decoded instructions stay kept where the bytes of memory are the same. A
+    /// machine whose writer failed stays broken.
+    pub fn take_back(&mut self, kept: &Kept<L, U>)
+        requires { HaveSameSizes self.old.state.bus.memory kept.now.bus.memory }
+        ensures { self.new ≡ record self.old { state = kept.now } }
+    {
+        self.core.take_back(kept);
     }
 
     /// Returns why the machine has stopped, if it has.

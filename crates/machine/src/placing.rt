@@ -5,7 +5,8 @@ ghost use Rattle.instruction_set.specs.RowOperands.{special_of};
 ghost use Rattle.machine.specs.Starts.{PlacesAt};
 ghost use Rattle.reference.specs.declared.place.Place.TheVariants.{Word};
 ghost use Rattle.platform.specs.Map.{is_in_ppb};
-ghost use Rattle.reference.specs.Places.{place, is_there, is_word_aligned, special_taken, store_of, taken};
+ghost use Rattle.reference.specs.Places.{place, altered, is_there, is_plain, is_wired, is_word_aligned, signalled};
+ghost use Rattle.reference.specs.Places.{special_taken, store_of, taken};
 
 use crate::stepping::Processor;
 use access::{Decider, DueTicks, KeptCode, Levels};
@@ -15,7 +16,14 @@ use instruction_set::system::SpecialRegister;
 use platform::access::{Access, Kind, Performed, Request, Rule};
 use platform::error::PlaceError;
 use platform::map::is_in_ppb;
+use platform::script::Signal;
 use reference::place::Place;
+
+/// The number of the stack pointer.
+const SP: u8 = 13;
+
+/// The number of the link register.
+const LR: u8 = 14;
 
 impl<D: Decider, C: KeptCode, L: Levels, U: DueTicks> Processor<D, C, L, U> {
     /// Puts a value into a register or a word.
@@ -33,6 +41,41 @@ impl<D: Decider, C: KeptCode, L: Levels, U: DueTicks> Processor<D, C, L, U> {
             return Err(PlaceError::Stopped);
         }
         self.take(value)
+    }
+
+    /// Puts a value into a register or a word, one that neither the mode nor an exception depends on in Handler mode
+    /// and in the entry phase too.
+    #[tactic(auto, unfolding(reference::specs::Places::altered))]
+    pub fn alter(&mut self, value: Place) -> Result<(), PlaceError>
+        ensures { PlacesAt (altered self.old value) self.old self.new result }
+    {
+        if !is_word_aligned(value) {
+            return Err(PlaceError::NotAligned);
+        }
+        if !self.is_there(value) {
+            return Err(PlaceError::NoSuchPlace);
+        }
+        if self.stop().is_some()
+            || (!is_plain(value) && (self.is_in_entry() || self.registers().is_handler()))
+        {
+            return Err(PlaceError::Stopped);
+        }
+        self.take(value)
+    }
+
+    /// Does what an event of the script does, without its tick.
+    #[tactic(auto, unfolding(reference::specs::Places::signalled))]
+    pub fn signal(&mut self, what: &Signal) -> Result<(), PlaceError>
+        ensures { PlacesAt (signalled self.old what.now) self.old self.new result }
+    {
+        if !is_wired(self.bus().system.levels().interrupts(), what) {
+            return Err(PlaceError::NoSuchPlace);
+        }
+        if self.stop().is_some() {
+            return Err(PlaceError::Stopped);
+        }
+        self.take_signal(what);
+        Ok(())
     }
 
     /// Returns whether there is such a register or such a word.
@@ -100,6 +143,29 @@ fn is_word_aligned(value: Place) -> bool
     match value {
         Place::Reg(_, _) | Place::Special(_, _) => true,
         Place::Word(address, _) => address % 4 == 0,
+    }
+}
+
+/// Returns whether neither the mode nor an exception depends on a place: R0 to R12, LR, or a word of flash or RAM.
+fn is_plain(value: Place) -> bool
+    ensures { result ≡ is_plain value }
+{
+    match value {
+        Place::Reg(number, _) => number < SP || number == LR,
+        Place::Special(_, _) => false,
+        Place::Word(address, _) => !is_in_ppb(address),
+    }
+}
+
+/// Returns whether a board with this many interrupts has the one of a signal.
+fn is_wired(interrupts: u8, what: &Signal) -> bool
+    ensures { result ≡ is_wired interrupts what.now }
+{
+    match what {
+        Signal::Rise(interrupt) | Signal::Fall(interrupt) | Signal::Pulse(interrupt) => {
+            interrupt.number() < interrupts
+        }
+        Signal::Nmi => true,
     }
 }
 

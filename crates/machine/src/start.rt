@@ -37,10 +37,6 @@ pub fn start_core<D: Decider, C: KeptCode, L: Levels, U: DueTicks>(
     let Ok(mut space) = Space::blank(alloc, &board.layout) else {
         return Err(StartError::NoMemory);
     };
-    let mut script = Vec::new(alloc);
-    if script.extend_from_slice(board.events.as_slice()).is_err() {
-        return Err(StartError::NoMemory);
-    }
     load_segments(&mut space, image.segments());
     let regs = Regs::reset(space.vector(0), space.vector(1));
     let system = System::reset(
@@ -48,7 +44,7 @@ pub fn start_core<D: Decider, C: KeptCode, L: Levels, U: DueTicks>(
         board.layout.interrupts,
         board.layout.priority_bits,
         board.layout.regions.number(),
-        script,
+        board.events,
     );
     let Ok(memory) = CodeMemory::new(alloc, space, image_bytes(image.segments())) else {
         return Err(StartError::NoMemory);

@@ -1,7 +1,7 @@
--- Values that are placed into a machine from outside, in Thread mode, between steps. A placement takes no tick and has
--- no line (profile).
-use Rattle.std.specs.Prelude.{ℕ, ◌%◌, Bool, true, not, ◌||◌, nat_lt, ◌==◌, if◌then◌else◌, is_some, Option, Some, None}
-use Rattle.std.specs.Prelude.{Result, Ok, Err}
+-- What comes into a machine from outside, between two steps: values that are placed, and signals. They take no tick and
+-- have no line (profile).
+use Rattle.std.specs.Prelude.{ℕ, ◌%◌, Bool, true, false, not, ◌&&◌, ◌||◌, nat_lt, ◌==◌, if◌then◌else◌, is_some}
+use Rattle.std.specs.Prelude.{Option, Some, None, Result, Ok, Err}
 use Rattle.instruction_set.specs.declared.system.SpecialRegister.{SpecialRegister}
 use Rattle.instruction_set.specs.declared.size.Size.TheVariants as size
 use Rattle.instruction_set.specs.Registers.{is_handler, with_register}
@@ -13,6 +13,8 @@ use Rattle.platform.specs.declared.access.Request.{Request}
 use Rattle.platform.specs.declared.access.Rule.TheVariants.{PrivatePeripheralBus}
 use Rattle.platform.specs.declared.error.PlaceError.{PlaceError}
 use Rattle.platform.specs.declared.error.PlaceError.TheVariants.{NotAligned, NoSuchPlace, Stopped, Refused}
+use Rattle.platform.specs.declared.script.Signal.{Signal}
+use Rattle.platform.specs.declared.script.Signal.TheVariants.{Rise, Fall, Pulse, Nmi}
 use Rattle.reference.specs.declared.place.Place.{Place}
 use Rattle.reference.specs.declared.place.Place.TheVariants.{Reg, Special, Word}
 use Rattle.reference.specs.Accesses.{carried_out}
@@ -20,7 +22,9 @@ use Rattle.platform.specs.Map.{is_in_ppb}
 use Rattle.platform.specs.Memory.{Memory, is_in_flash, is_in_ram, overwritten, bytes_of}
 use Rattle.platform.specs.Outcomes.{Outcome}
 use Rattle.platform.specs.SpecialRegisters.{with_special, with_mask}
-use Rattle.reference.specs.State.{Bus, State, with_registers, with_bus, with_exceptions}
+use Rattle.platform.specs.System.{System, with_pended}
+use Rattle.platform.specs.Time.{pends, with_signal}
+use Rattle.reference.specs.State.{Bus, State, with_registers, with_bus, with_exceptions, with_system}
 use Rattle.reference.specs.LoadStore.{request}
 
 abbrev pub is_word_aligned : Place → Bool
@@ -74,3 +78,40 @@ place s p =
     else if not (is_there s.bus.memory p) then Err NoSuchPlace
     else if is_some s.stop || is_some s.entry || is_handler s.registers then Err Stopped
     else taken s p
+
+-- R0 to R12, LR, and words of flash and RAM: what neither the mode nor an exception depends on
+abbrev pub is_plain : Place → Bool
+is_plain (Reg number value) = nat_lt number 13 || number == 14
+is_plain (Special number value) = false
+is_plain (Word address value) = not (is_in_ppb address)
+
+-- as `place`, but a plain value is taken in Handler mode and in the entry phase too
+unfoldable pub altered : State → Place → Result State PlaceError
+altered s p =
+    if not (is_word_aligned p) then Err NotAligned
+    else if not (is_there s.bus.memory p) then Err NoSuchPlace
+    else if is_some s.stop || (not (is_plain p) && (is_some s.entry || is_handler s.registers)) then Err Stopped
+    else taken s p
+
+-- ---- signals
+
+-- whether a board with this many interrupts has the one of the signal
+abbrev pub is_wired : ℕ → Signal → Bool
+is_wired interrupts (Rise interrupt) = nat_lt interrupt interrupts
+is_wired interrupts (Fall interrupt) = nat_lt interrupt interrupts
+is_wired interrupts (Pulse interrupt) = nat_lt interrupt interrupts
+is_wired interrupts Nmi = true
+
+-- what an event of the script does to the exceptions and the interrupts, without its tick
+abbrev pub after_signal : System → Signal → System
+after_signal s what = record s {
+  nvic = with_pended s.nvic (pends what);
+  time = record s.time { high = with_signal s.time.high what };
+}
+
+-- the state in which a signal has come, in any mode, or the first refusal
+unfoldable pub signalled : State → Signal → Result State PlaceError
+signalled s what =
+    if not (is_wired s.bus.system.nvic.interrupts what) then Err NoSuchPlace
+    else if is_some s.stop then Err Stopped
+    else Ok (with_system s (after_signal s.bus.system what))

@@ -115,6 +115,29 @@ impl Regs {
         }
     }
 
+    /// Returns a copy.
+    pub fn copied(&self) -> Self
+        ensures { result ≡ self.now }
+    {
+        Regs {
+            words: self.words,
+            other_sp: self.other_sp,
+            pc: self.pc,
+            negative_result: self.negative_result,
+            zero_result: self.zero_result,
+            carry: self.carry,
+            overflow: self.overflow,
+            saturated: self.saturated,
+            it_state: self.it_state,
+            thumb: self.thumb,
+            exception: self.exception,
+            unprivileged: self.unprivileged,
+            process_stack: self.process_stack,
+            on_psp: self.on_psp,
+            monitor: self.monitor,
+        }
+    }
+
     /// `R[n]`, where PC reads as the address of the instruction and 4 more.
     #[inline]
     pub fn get(&self, register: Register) -> u32

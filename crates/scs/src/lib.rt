@@ -5,6 +5,7 @@
 mod addresses;
 mod bits;
 mod control;
+mod copies;
 mod handlers;
 mod interrupts;
 pub mod laws;
@@ -13,6 +14,7 @@ mod status;
 mod system;
 mod systick;
 
+pub use copies::SystemCopy;
 pub use platform::system::{
     ControlRegister, InterruptRegister, StatusRegister, SysTickRegister, SystemRegister,
 };

@@ -64,6 +64,21 @@ impl Status {
         }
     }
 
+    /// Returns a copy.
+    pub fn copied(&self) -> Self
+        ensures { result ≡ self.now }
+    {
+        Status {
+            vtor: self.vtor,
+            scr: self.scr,
+            ccr: self.ccr,
+            cfsr: self.cfsr,
+            hfsr: self.hfsr,
+            mmfar: self.mmfar,
+            bfar: self.bfar,
+        }
+    }
+
     /// Returns the address of the vector table.
     #[inline]
     pub fn vtor(&self) -> u32

@@ -6,8 +6,9 @@ ghost use Rattle.instruction_set.specs.Registers.{is_privileged};
 ghost use Rattle.instruction_set.specs.Sizes.{bytes_in};
 ghost use Rattle.platform.specs.Outcomes.{IsOf, LeavesUnlessDone};
 ghost use Rattle.platform.specs.System.{reset_system, after_tick, deactivated, after_read, register_written};
-ghost use Rattle.platform.specs.System.{register_access, system_access, with_nvic, mpu_written};
+ghost use Rattle.platform.specs.System.{register_access, system_access, with_nvic, with_pended, mpu_written};
 ghost use Rattle.platform.specs.System as spec;
+ghost use Rattle.platform.specs.Time.{pends, with_signal};
 ghost use Rattle.platform.specs.Interrupts as nvic;
 ghost use Rattle.platform.specs.Regions as mpu;
 ghost use Rattle.platform.specs.Regions.{is_on, shown};
@@ -20,11 +21,12 @@ ghost use Rattle.scs.specs.Writes.{after_write, answered};
 
 use crate::addresses::{first_byte, has_width, in_place, part_of, register_at};
 use crate::control::{read_control, write_control};
+use crate::copies::SystemCopy;
 use crate::interrupts::{read_interrupts, read_priorities, write_interrupts, write_priorities};
 use crate::special;
 use crate::status::Status;
 use crate::systick::{read_systick, write_systick};
-use clock::{Clock, DueTicks, ScriptedEvent};
+use clock::{Clock, DueTicks, ScriptedEvent, Signal};
 use instruction_set::system::{ChangeProcessorState, SpecialRegister};
 use mpu::{Decider, MpuRegister, MpuRegs, stop_of, uses_regions};
 use nvic::{Levels, Masks};
@@ -67,10 +69,10 @@ impl<D: Decider, L: Levels, U: DueTicks> System<D, L, U> {
         interrupts: u8,
         priority_bits: u8,
         regions: u8,
-        script: Vec<ScriptedEvent>,
+        script: &'static [ScriptedEvent],
     ) -> Self
         requires { (regions ≡ 8) ⊎ (regions ≡ 16) }
-        ensures { result ≡ reset_system flash_base interrupts priority_bits regions script.items }
+        ensures { result ≡ reset_system flash_base interrupts priority_bits regions script.now }
     {
         let mpu = MpuRegs::new(regions);
         let decider = D::fresh(&mpu);
@@ -81,6 +83,41 @@ impl<D: Decider, L: Levels, U: DueTicks> System<D, L, U> {
             status: Status::reset(flash_base),
             clock: Clock::new(script),
         }
+    }
+
+    /// Returns a copy, without what decides by the registers of the MPU.
+    pub fn copied(&self) -> SystemCopy<L, U>
+        ensures { result ≡ self.now }
+    {
+        SystemCopy {
+            mpu: self.mpu,
+            levels: self.levels.copied(),
+            status: self.status.copied(),
+            clock: self.clock.copied(),
+        }
+    }
+
+    /// Takes the state of a copy.
+    pub fn take_back(&mut self, copy: &SystemCopy<L, U>)
+        ensures { self.new ≡ copy.now }
+    {
+        self.mpu = copy.mpu;
+        self.decider.reload(&copy.mpu);
+        self.levels = copy.levels.copied();
+        self.status = copy.status.copied();
+        self.clock = copy.clock.copied();
+    }
+
+    /// Does what an event of the script does, without a tick.
+    #[tactic(auto, using(nvic::proofs::Due::due_is_pended))]
+    pub fn signal(&mut self, what: &Signal)
+        ensures { self.new ≡ record self.old {
+          nvic = with_pended self.old.nvic (pends what.now);
+          time = record self.old.time { high = with_signal self.old.time.high what.now };
+        } }
+    {
+        let due = self.clock.signal(what);
+        self.levels.pend_due(&due);
     }
 
     /// Makes the next tick: time goes on, and what the tick pends becomes pending. On most ticks

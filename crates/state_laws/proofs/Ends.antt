@@ -7,7 +7,17 @@
 -- - The last three lemmas are the same for parts of a step: a tick, an access, an instruction.
 use Rattle.std.proofs.Common.{◌≡◌, ◌⊎◌, inl, inr, ℕ, ◌≤◌, min, Bool, true, false, not, ◌||◌, ◌==◌, is_some, List}
 use Rattle.std.proofs.Common.{Option, Some, None, Result, Ok, Err, refl, sym, subst, arith}
-use Rattle.std.proofs.lemmas.Bool.{cond_both}
+use Rattle.std.proofs.lemmas.Bool.{cond_both, both_ways, not-true}
+use Rattle.nvic.proofs.Changes.{pended_kept}
+use Rattle.platform.specs.declared.error.PlaceError.TheVariants.{Stopped}
+use Rattle.platform.specs.declared.script.Signal.{Signal}
+use Rattle.platform.specs.Time.{Time, pends, with_signal}
+use Rattle.reference.specs.State.{with_system}
+use Rattle.state_laws.proofs.Candidates.{pended_calls}
+use Rattle.state_laws.proofs.Ticks.{IsTimely, signal_length}
+use Rattle.state_laws.proofs.Sets.{HasBoard, board_kept}
+use Rattle.reference.specs.Places.{after_signal, altered, is_plain, is_wired, signalled}
+use Rattle.std.proofs.Common.{◌&&◌, ◌∙◌, if◌then◌else◌}
 use Rattle.std.proofs.lemmas.Bool.Decides.{nat_tests}
 use Rattle.instruction_set.specs.declared.instruction.CodedInstruction.{CodedInstruction}
 use Rattle.instruction_set.specs.declared.system.SpecialRegister.{SpecialRegister}
@@ -230,3 +240,95 @@ instruction_keeps s i requests out h =
     let all = perform_all s.registers.exception s.bus.system.time.ticks s.bus requests in
     inside s _ _ out (result_kept writes_kept i s.registers all.values h.registers).kept
     (served_whole _ _ s.registers.exception s.bus.system.time.ticks s.bus requests (whole_state s h))
+
+-- ---- what comes from outside
+
+signal_timely : (interrupts : ℕ) (t : Time) (what : Signal) → IsTimely interrupts t
+    → IsTimely interrupts (record t { high = with_signal t.high what })
+signal_timely interrupts t what h = record {
+  clock = h.clock;
+  timer = h.timer;
+  ahead = record { script = h.ahead.script; high = signal_length t.high what ∙ h.ahead.high };
+}
+
+signal_whole : (interrupts bits : ℕ) (s : System) (what : Signal) → IsWhole interrupts bits s
+    → IsWhole interrupts bits (after_signal s what)
+signal_whole interrupts bits s what h = record {
+  nvic =
+      pended_kept (HasBoard interrupts bits) (pends what)
+      (λ m x e p. (board_kept interrupts bits).pending m x true p) s.nvic h.nvic;
+  time = signal_timely interrupts s.time what h.time;
+  mpu = h.mpu;
+}
+
+-- a signal only makes exceptions pending, so an entry phase keeps its candidate
+signal_taken : (s : State) (what : Signal) → Invariant s → Invariant (with_system s (after_signal s.bus.system what))
+signal_taken s what h = record {
+  registers = h.registers;
+  entry = λ stop entry. pended_calls s.bus.system.nvic (pends what) (h.entry stop entry);
+  memory = h.memory;
+  system =
+      sound s.bus.system.nvic.interrupts s.bus.system.nvic.priority_bits (after_signal s.bus.system what)
+      (signal_whole s.bus.system.nvic.interrupts s.bus.system.nvic.priority_bits s.bus.system what
+      (whole s.bus.system h.system));
+}
+
+pub signal_keeps : (s : State) (what : Signal) → Invariant s → IfGiven Invariant (signalled s what)
+unfolding signalled
+signal_keeps s what h =
+    cond_both (not (is_wired s.bus.system.nvic.interrupts what)) _ _ (IfGiven Invariant) (λ e. tt)
+    (λ e. cond_both (is_some s.stop) _ _ (IfGiven Invariant) (λ f. tt) (λ f. signal_taken s what h))
+
+given : (interrupts bits : ℕ) (r : Result State PlaceError) → IsPlaced interrupts bits r → IfGiven Invariant r
+given interrupts bits (Ok after) w = record {
+  registers = w.registers;
+  entry = λ stop entry. none _ _ w.entry entry;
+  memory = w.system.1;
+  system = sound interrupts bits after.bus.system w.system.0;
+}
+given interrupts bits (Err why) w = tt
+
+outside_entry : (stop : Bool) (entry : Option ℕ) (handler : Bool) → (stop || (is_some entry || handler)) ≡ false
+    → entry ≡ None
+outside_entry stop None handler e = refl
+outside_entry true (Some x) handler e = absurd (let w : ⊥ = cc in w)
+outside_entry false (Some x) handler e = absurd (let w : ⊥ = cc in w)
+
+-- a core register or a word of memory leaves the exceptions as they are
+plain_taken : (s : State) (p : Place) → is_plain p ≡ true → Invariant s → IfGiven Invariant (taken s p)
+plain_taken s (Reg number value) e h = record {
+  registers = register_kept writes_kept s.registers number value h.registers;
+  entry = h.entry;
+  memory = h.memory;
+  system = h.system;
+}
+plain_taken s (Special number value) e h = absurd (let w : ⊥ = cc in w)
+plain_taken s (Word address value) e h =
+    cond_both (is_in_ppb address) _ _ (IfGiven Invariant)
+    (λ f. absurd (both_ways (is_in_ppb address) (not-true (is_in_ppb address) e) f))
+    (λ f. record {
+      registers = h.registers;
+      entry = h.entry;
+      memory = overwritten_apart s.bus.memory address (bytes_of 4 value) h.memory;
+      system = h.system;
+    })
+
+pub alter_keeps : (s : State) (p : Place) → Invariant s → IfGiven Invariant (altered s p)
+unfolding altered
+alter_keeps s p h =
+    cond_both (not (is_word_aligned p)) _ _ (IfGiven Invariant) (λ e. tt)
+    (λ e. cond_both (not (is_there s.bus.memory p)) _ _ (IfGiven Invariant) (λ f. tt) (λ f. split (is_plain p) refl))
+  where
+    split : (b : Bool) → is_plain p ≡ b
+        → IfGiven Invariant (if is_some s.stop || (not b && (is_some s.entry || is_handler s.registers)) then Err Stopped
+        else taken s p)
+    split true q =
+        cond_both (is_some s.stop || false) _ _ (IfGiven Invariant) (λ g. tt) (λ g. plain_taken s p q h)
+    split false q =
+        cond_both (is_some s.stop || (is_some s.entry || is_handler s.registers)) _ _ (IfGiven Invariant) (λ g. tt)
+        (λ g. given s.bus.system.nvic.interrupts s.bus.system.nvic.priority_bits (taken s p)
+        (taken_placed s.bus.system.nvic.interrupts s.bus.system.nvic.priority_bits s p (record {
+          registers = h.registers;
+          entry = outside_entry (is_some s.stop) s.entry (is_handler s.registers) g;
+          system = whole_state s h;
+        })))

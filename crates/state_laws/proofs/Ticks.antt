@@ -43,7 +43,7 @@ left interrupts tick script s =
 
 -- ---- the levels
 
-signal_length : (high : List Bool) (what : Signal) → length (with_signal high what) ≡ length high
+pub signal_length : (high : List Bool) (what : Signal) → length (with_signal high what) ≡ length high
 signal_length high (Rise line) = length-set high line true
 signal_length high (Fall line) = length-set high line false
 signal_length high (Pulse line) = refl

@@ -5,12 +5,13 @@
 ghost use Rattle.std.specs.Prelude.{List};
 ghost use Rattle.instruction_set.specs.declared.instruction.CodedInstruction.{CodedInstruction};
 ghost use Rattle.platform.specs.declared.access.Request.{Request};
+ghost use Rattle.platform.specs.declared.script.Signal.{Signal};
 ghost use Rattle.reference.specs.declared.place.Place.{Place};
 ghost use Rattle.platform.specs.Boards.{Described};
 ghost use Rattle.platform.specs.Images.{Segment};
 ghost use Rattle.reference.specs.Invariant.{Invariant};
 ghost use Rattle.platform.specs.SystemInvariant.{IsBoard};
-ghost use Rattle.reference.specs.Places.{place};
+ghost use Rattle.reference.specs.Places.{altered, place, signalled};
 ghost use Rattle.reference.specs.Start.{start};
 ghost use Rattle.reference.specs.State.{State};
 ghost use Rattle.reference.specs.Step.{step};
@@ -38,4 +39,15 @@ pub fn phases_keep_the_invariant()
 /// A value that `place` puts into a state keeps the invariant.
 pub fn place_keeps_the_invariant()
     ensures { (s : State) (p : Place) → Invariant s → IfGiven Invariant (place s p) }
+{}
+
+/// A value that is put into a register or a word keeps it too where R0 to R12, LR and words of flash and RAM are taken
+/// in Handler mode and in the entry phase.
+pub fn alter_keeps_the_invariant()
+    ensures { (s : State) (p : Place) → Invariant s → IfGiven Invariant (altered s p) }
+{}
+
+/// A signal between two steps keeps it, in a handler and in the entry phase too.
+pub fn signal_keeps_the_invariant()
+    ensures { (s : State) (what : Signal) → Invariant s → IfGiven Invariant (signalled s what) }
 {}

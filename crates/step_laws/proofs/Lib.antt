@@ -9,3 +9,5 @@ pub mod Stored
 mod Pushed
 mod Stacks
 mod Returns
+mod Signals
+pub mod Sizes

@@ -2,3 +2,5 @@
 pub use Rattle.reference.specs.Step
 pub mod AccessLaw
 pub mod FrameLaw
+pub mod SignalLaw
+pub mod SizeLaw

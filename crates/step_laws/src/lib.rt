@@ -5,10 +5,16 @@
 ghost use Rattle.std.specs.Prelude.{List};
 ghost use Rattle.instruction_set.specs.Registers.{Registers};
 ghost use Rattle.platform.specs.declared.event.Event.{Event};
+ghost use Rattle.platform.specs.declared.script.Signal.{Signal};
+ghost use Rattle.reference.specs.declared.place.Place.{Place};
+ghost use Rattle.reference.specs.Places.{altered, signalled};
 ghost use Rattle.reference.specs.State.{State};
 ghost use Rattle.reference.specs.Step.{step};
 ghost use Rattle.step_laws.specs.AccessLaw.{OneRefusal, OnlyCovered};
+ghost use Rattle.space.specs.Sizes.{HaveSameSizes};
 ghost use Rattle.step_laws.specs.FrameLaw.{FrameGivesBack, ReturnGivesBack};
+ghost use Rattle.step_laws.specs.SignalLaw.{SignalIsEvent};
+ghost use Rattle.step_laws.specs.SizeLaw.{KeepsSizes};
 
 /// At most one access of a step is refused. It is the step's last access, and the next event is the
 /// line of its fault, which ends the step. Flash and RAM keep their addresses and sizes, and their bytes
@@ -33,4 +39,16 @@ pub fn frame_gives_registers_back()
 /// an entry (ARM DDI 0403, PushStack(), ExceptionReturn() and PopStack()).
 pub fn return_gives_registers_back()
     ensures { (s u : State) (before : List Event) → ReturnGivesBack s u before }
+{}
+
+/// A signal between two steps does what an event of the script, the first one of the next tick, does.
+pub fn signals_are_events()
+    ensures { (s : State) (what : Signal) → SignalIsEvent s what }
+{}
+
+/// Flash and RAM keep their places and sizes, in a step and where a value or a signal comes from outside.
+pub fn sizes_stay()
+    ensures step { (s : State) → HaveSameSizes s.bus.memory (step s).state.bus.memory }
+    ensures alter { (s : State) (p : Place) → KeepsSizes s (altered s p) }
+    ensures signal { (s : State) (what : Signal) → KeepsSizes s (signalled s what) }
 {}

@@ -182,7 +182,7 @@ fn rules_of_data_are_kept_until_the_registers_are_written(rt: HostRuntime) {
 
 #[test]
 fn nothing_is_due_before_the_tick_that_is_kept(rt: HostRuntime) -> Result<(), Fail> {
-    let mut clock = Clock::<Ahead>::new(Vec::new(rt.alloc()));
+    let mut clock = Clock::<Ahead>::new(&[]);
     clock.write_rvr(2);
     clock.write_csr(3);
     assert!(rt; *clock.due() == 3);
@@ -206,9 +206,9 @@ fn an_event_in_the_last_tick_is_due_there(rt: HostRuntime) -> Result<(), Fail> {
         at: LAST,
         what: Signal::Nmi,
     })?;
-    let clock = Clock::<Ahead>::new(script);
+    let clock = Clock::<Ahead>::new(script.leak());
     assert!(rt; *clock.due() == LAST);
-    let clock = Clock::<Ahead>::new(Vec::new(rt.alloc()));
+    let clock = Clock::<Ahead>::new(&[]);
     assert!(rt; *clock.due() == LAST + 1);
     Ok(())
 }

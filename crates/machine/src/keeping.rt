@@ -1,0 +1,83 @@
+//! Copies of a core's state, to go back to.
+
+ghost use Rattle.std.specs.Prelude.{◌≡◌, IfOk};
+ghost use Rattle.space.specs.Sizes.{HaveSameSizes};
+
+use access::{Decider, DueTicks, KeptCode, Levels, Space, SystemCopy};
+use exceptions::Core;
+use platform::stop::Stop;
+use regs::Regs;
+use std::alloc::{AllocError, Global};
+use std::marker::Model;
+
+/// A copy of a machine's state, which `keep` overwrites and `take_back` goes back to. It takes as much memory as
+/// flash and RAM have, and some 10 KiB.
+#[derive(Drop)]
+pub struct Kept<L: Levels, U: DueTicks> {
+    regs: Regs,
+    memory: Space,
+    system: SystemCopy<L, U>,
+    asleep: bool,
+    entry: Option<u32>,
+    stop: Option<Stop>,
+}
+
+impl<L: Levels, U: DueTicks> Model for Kept<L, U> {
+    ghost use Rattle.reference.specs.State.{State};
+
+    ghost Value = { State };
+
+    ghost view = { λ k. record {
+      registers = k.regs;
+      bus = record { memory = k.memory; system = k.system };
+      asleep = k.asleep;
+      entry = k.entry;
+      stop = k.stop;
+    } };
+}
+
+impl<L: Levels, U: DueTicks> Kept<L, U> {
+    /// Returns a copy of a core's state, or fails where memory can't be allocated.
+    pub fn of<D: Decider, C: KeptCode>(
+        alloc: Global,
+        core: &Core<D, C, L, U>,
+    ) -> Result<Self, AllocError>
+        ensures { IfOk result (λ kept. kept ≡ core.now) }
+    {
+        let memory = core.bus.space().copied(alloc)?;
+        Ok(Kept {
+            regs: core.regs.copied(),
+            memory,
+            system: core.bus.system.copied(),
+            asleep: core.asleep,
+            entry: core.entry,
+            stop: core.stop,
+        })
+    }
+
+    /// Becomes a copy of a core's state, where this is a copy of one of the same board.
+    pub fn copy_from<D: Decider, C: KeptCode>(&mut self, core: &Core<D, C, L, U>)
+        requires { HaveSameSizes self.old.bus.memory core.now.bus.memory }
+        ensures { self.new ≡ core.now }
+    {
+        self.regs = core.regs.copied();
+        self.memory.copy_from(core.bus.space());
+        self.system = core.bus.system.copied();
+        self.asleep = core.asleep;
+        self.entry = core.entry;
+        self.stop = core.stop;
+    }
+
+    /// Takes a core of the same board back to this state.
+    pub fn copy_to<D: Decider, C: KeptCode>(&self, core: &mut Core<D, C, L, U>)
+        requires { HaveSameSizes core.old.bus.memory self.now.bus.memory }
+        ensures { core.new ≡ self.now }
+    {
+        core.regs = self.regs.copied();
+        core.bus.take_back_memory(&self.memory);
+        core.bus.system.take_back(&self.system);
+        core.asleep = self.asleep;
+        core.entry = self.entry;
+        core.stop = self.stop;
+    }
+}

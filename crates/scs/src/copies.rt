@@ -1,0 +1,24 @@
+//! A copy of the System Control Space, to go back to.
+
+use crate::status::Status;
+use clock::{Clock, DueTicks};
+use mpu::MpuRegs;
+use nvic::Levels;
+use std::marker::Model;
+
+/// A copy of the system registers, the exceptions and time. A contract sees it as the reference's `System`.
+#[derive(Drop)]
+pub struct SystemCopy<L: Levels, U: DueTicks> {
+    pub(crate) mpu: MpuRegs,
+    pub(crate) levels: L,
+    pub(crate) status: Status,
+    pub(crate) clock: Clock<U>,
+}
+
+impl<L: Levels, U: DueTicks> Model for SystemCopy<L, U> {
+    ghost use Rattle.platform.specs.System.{System as SystemState};
+
+    ghost Value = { SystemState };
+
+    ghost view = { λ s. record { mpu = s.mpu; nvic = L.content s.levels; status = s.status; time = s.clock.time } };
+}
