@@ -5,7 +5,7 @@ use Rattle.debugger_commands.specs.declared.changes.Change.{Change}
 use Rattle.debugger_commands.specs.declared.changes.Change.TheVariants as change
 use Rattle.platform.specs.Memory.{Memory}
 use Rattle.reference.specs.State.{State}
-use Rattle.space.specs.Sizes.{HasSizesOf}
+use Rattle.space.specs.Sizes.{HaveSameSizes}
 
 -- a slot: the state that fills its room, and whether that was saved
 pub record Slot : Type 0 where
@@ -36,4 +36,4 @@ slots_after s slots (Some what) = slots_by s slots what
 
 -- each slot has room for this memory
 abbrev pub HaveRoom : List Slot → Memory → Type 0
-HaveRoom slots m = All (λ slot. HasSizesOf slot.state.bus.memory m) slots
+HaveRoom slots m = All (λ slot. HaveSameSizes slot.state.bus.memory m) slots

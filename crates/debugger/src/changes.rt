@@ -54,7 +54,7 @@ fn signal<D: Decider, C: KeptCode, L: Levels, U: DueTicks>(
     ensures { Places (after_signal machine.old.state what) machine.old machine.new result }
 {
     match what {
-        Some(what) => machine.signal(what),
+        Some(what) => machine.signal(&what),
         None => Err(PlaceError::NoSuchPlace),
     }
 }

@@ -4,7 +4,7 @@ ghost use Rattle.std.specs.Prelude.{◌≡◌, ◌<◌, ◌++◌, length, slice_
 ghost use Rattle.debugger.specs.Answers.{back_piece};
 ghost use Rattle.debugger.specs.Slots.{HaveRoom, saved_in, with_saved};
 ghost use Rattle.platform.specs.Text.{line_feed};
-ghost use Rattle.space.specs.Sizes.{HasSizesOf};
+ghost use Rattle.space.specs.Sizes.{HaveSameSizes};
 
 use debugger_commands::{Reply, ok_text};
 use machine::{Decider, DueTicks, Kept, KeptCode, Levels, Machine};
@@ -29,7 +29,7 @@ impl<L: Levels, U: DueTicks> Model for Slot<L, U> {
 impl<L: Levels, U: DueTicks> Slot<L, U> {
     /// Saves the state of a machine.
     fn save<D: Decider, C: KeptCode>(&mut self, machine: &Machine<D, C, L, U>)
-        requires { HasSizesOf self.old.state.bus.memory machine.now.state.bus.memory }
+        requires { HaveSameSizes self.old.state.bus.memory machine.now.state.bus.memory }
         ensures { self.new ≡ record { state = machine.now.state; is_saved = true } }
     {
         machine.keep(&mut self.kept);
