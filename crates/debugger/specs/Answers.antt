@@ -1,10 +1,12 @@
 -- What the debugger answers to a command (profile).
 use Rattle.std.specs.Prelude.{ℕ, zero, suc, ◌+◌, ◌-◌, Bool, true, false, not, ◌&&◌, ◌||◌, if◌then◌else◌, is_some}
 use Rattle.std.specs.Prelude.{List, [], ◌∷◌, ◌++◌, codes, decimal, Option, Some, None, Result, Ok, Err}
-use Rattle.std.specs.Prelude.{slice_index_or, slice_set}
+use Rattle.std.specs.Prelude.{nat_lt, slice_index_or, slice_set}
 use Rattle.debugger.specs.StateText.{registers_text, state_text}
 use Rattle.debugger_commands.specs.declared.changes.Change.{Change}
 use Rattle.debugger_commands.specs.declared.changes.Change.TheVariants as change
+use Rattle.debugger_commands.specs.declared.changes.Edge.{Edge}
+use Rattle.debugger_commands.specs.declared.changes.Edge.TheVariants as edge
 use Rattle.debugger_commands.specs.declared.commands.Command.{Command}
 use Rattle.debugger_commands.specs.declared.commands.LineError.{LineError}
 use Rattle.debugger_commands.specs.declared.commands.Part.{Part}
@@ -21,8 +23,10 @@ use Rattle.machine.specs.Tasks.{end_of}
 use Rattle.machine.specs.Values.{values_of}
 use Rattle.platform.specs.declared.error.PlaceError.{PlaceError}
 use Rattle.platform.specs.declared.error.PlaceError.TheVariants.{NotAligned, NoSuchPlace, Stopped, Refused}
+use Rattle.platform.specs.declared.exception.TheConstants.{MOST_INTERRUPTS}
 use Rattle.platform.specs.declared.mpu.TheConstants.{MOST_REGIONS}
 use Rattle.platform.specs.declared.script.Signal.{Signal}
+use Rattle.platform.specs.declared.script.Signal.TheVariants as signal
 use Rattle.platform.specs.declared.stop.LeftOut.TheVariants.{ClockEnd}
 use Rattle.platform.specs.declared.stop.Stop.{Stop}
 use Rattle.platform.specs.declared.stop.Stop.TheVariants.{OutOfProfile}
@@ -156,10 +160,15 @@ abbrev pub placed : State → Option Place → Result State PlaceError
 placed s None = Err NoSuchPlace
 placed s (Some value) = altered s value
 
--- the state in which a signal has come, or the refusal
-abbrev pub after_signal : State → Option Signal → Result State PlaceError
-after_signal s None = Err NoSuchPlace
-after_signal s (Some what) = signalled s what
+-- what an event of a script does on an interrupt
+abbrev pub edge_signal : Edge → ℕ → Signal
+edge_signal edge.Pulse k = signal.Pulse k
+edge_signal edge.Rise k = signal.Rise k
+edge_signal edge.Fall k = signal.Fall k
+
+-- the state after it, or the refusal. No board has an interrupt from 240 on
+abbrev pub after_edge : State → Edge → ℕ → Result State PlaceError
+after_edge s how k = if nat_lt k MOST_INTERRUPTS then signalled s (edge_signal how k) else Err NoSuchPlace
 
 -- the number of a refusal, and its name
 abbrev pub refusal_text : PlaceError → List ℕ
@@ -186,14 +195,16 @@ back_piece s (Some saved) = record { state = saved; text = ok_text }
 -- a change of a machine with these saved states
 abbrev pub change_piece : State → List (Option State) → Change → Piece
 change_piece s saved (change.Place value) = changed_piece s (placed s value)
-change_piece s saved (change.Signal what) = changed_piece s (after_signal s what)
+change_piece s saved (change.Signal how k) = changed_piece s (after_edge s how k)
+change_piece s saved change.Nmi = changed_piece s (signalled s signal.Nmi)
 change_piece s saved (change.Save slot) = record { state = s; text = ok_text }
 change_piece s saved (change.Back slot) = back_piece s (slice_index_or saved slot None)
 
 -- the saved states after a change
 abbrev pub saved_by : State → List (Option State) → Change → List (Option State)
 saved_by s saved (change.Place value) = saved
-saved_by s saved (change.Signal what) = saved
+saved_by s saved (change.Signal how k) = saved
+saved_by s saved change.Nmi = saved
 saved_by s saved (change.Save slot) = slice_set saved slot (Some s)
 saved_by s saved (change.Back slot) = saved
 

@@ -54,15 +54,18 @@ line_asked t = command_in t.settings.slots t.line
 abbrev pub line_answered : Talk → List Piece
 line_answered t = answer t.state t.settings t.saved (line_asked t)
 
+-- after the answer to a command
+abbrev pub after_command : Talk → Result Command LineError → Talk
+after_command t asked = record t {
+  state = last_state t.state (answer t.state t.settings t.saved asked);
+  settings = settings_after t.settings asked;
+  saved = saved_after t.state t.saved (change_of asked);
+}
+
 -- after the answer to the line
 abbrev pub after_line : Talk → Talk
-after_line t = record {
-  state = last_state t.state (line_answered t);
-  settings = settings_after t.settings (line_asked t);
-  line = Some [];
-  saved = saved_after t.state t.saved (change_of (line_asked t));
-  is_open = not (quits (line_asked t));
-}
+after_line t =
+    record (after_command t (line_asked t)) { line = Some []; is_open = not (quits (line_asked t)) }
 
 abbrev pub is_line_feed : ℕ → Bool
 is_line_feed byte = byte == 10

@@ -26,7 +26,8 @@ with_saved slots slot s = slice_set slots slot (record { state = s; is_saved = t
 -- the slots after a change
 abbrev pub slots_by : State → List Slot → Change → List Slot
 slots_by s slots (change.Place value) = slots
-slots_by s slots (change.Signal what) = slots
+slots_by s slots (change.Signal how k) = slots
+slots_by s slots change.Nmi = slots
 slots_by s slots (change.Save slot) = with_saved slots slot s
 slots_by s slots (change.Back slot) = slots
 

@@ -1,14 +1,17 @@
 //! What the debugger answers to the commands that change the machine, or save its state.
 
 ghost use Rattle.std.specs.Prelude.{◌≡◌, ◌≤◌, ◌++◌, length};
-ghost use Rattle.debugger.specs.Answers.{after_signal, change_piece, change_text, placed, refusal_text};
+ghost use Rattle.debugger.specs.Answers.{after_edge, change_piece, change_text, placed, refusal_text};
 ghost use Rattle.debugger.specs.Slots.{HaveRoom, saved_in, slots_by};
 ghost use Rattle.machine.specs.Starts.{Places};
 ghost use Rattle.platform.specs.Text.{line_feed, stop_text};
 
 use crate::slots::Slots;
-use debugger_commands::{Change, Reply, ok_text};
-use machine::{Decider, DueTicks, KeptCode, Levels, Machine, Place, PlaceError, Signal, Stop};
+use debugger_commands::{Change, Edge, Reply, ok_text};
+use machine::{
+    Decider, DueTicks, InterruptNumber, KeptCode, Levels, Machine, Place, PlaceError, Signal, Stop,
+};
+use platform::exception::MOST_INTERRUPTS;
 
 /// Changes a machine, or saves its state in a slot. Returns the text of the answer.
 pub fn change<D: Decider, C: KeptCode, L: Levels, U: DueTicks>(
@@ -24,7 +27,8 @@ pub fn change<D: Decider, C: KeptCode, L: Levels, U: DueTicks>(
 {
     match what {
         Change::Place(value) => change_text(place(machine, value)),
-        Change::Signal(what) => change_text(signal(machine, what)),
+        Change::Signal(how, number) => change_text(signal(machine, how, number)),
+        Change::Nmi => change_text(machine.signal(&Signal::Nmi)),
         Change::Save(slot) => {
             slots.save(slot, machine);
             ok_text()
@@ -46,17 +50,23 @@ fn place<D: Decider, C: KeptCode, L: Levels, U: DueTicks>(
     }
 }
 
-/// Does what an event of a script does, None for an interrupt that no board has.
+/// Does what an event of a script does on the interrupt of a number.
 fn signal<D: Decider, C: KeptCode, L: Levels, U: DueTicks>(
     machine: &mut Machine<D, C, L, U>,
-    what: Option<Signal>,
+    how: Edge,
+    number: u32,
 ) -> Result<(), PlaceError>
-    ensures { Places (after_signal machine.old.state what) machine.old machine.new result }
+    ensures { Places (after_edge machine.old.state how number) machine.old machine.new result }
 {
-    match what {
-        Some(what) => machine.signal(&what),
-        None => Err(PlaceError::NoSuchPlace),
+    if number >= u32::from(MOST_INTERRUPTS) {
+        return Err(PlaceError::NoSuchPlace);
     }
+    let interrupt = InterruptNumber::new(number as u8);
+    machine.signal(&match how {
+        Edge::Pulse => Signal::Pulse(interrupt),
+        Edge::Rise => Signal::Rise(interrupt),
+        Edge::Fall => Signal::Fall(interrupt),
+    })
 }
 
 /// Returns the text of a change that was made or refused.
@@ -93,5 +103,6 @@ fn put_stop_words(page: &mut Reply, stop: &Stop)
 {
     let mut line = Reply::new();
     line.put_stop(stop);
-    page.put_slice(&line.as_slice()[5..]);
+    let (_, words) = line.as_slice().split_at(5);
+    page.put_slice(words);
 }

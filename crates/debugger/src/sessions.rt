@@ -259,10 +259,10 @@ pub fn session<D: Decider, C: KeptCode, L: Levels, U: DueTicks, I: In, W: Out>(
         let byte = match take_next(reader, out) {
             Ok(Some(byte)) => byte,
             Ok(None) => {
-                return match debugger.finish(machine, out) {
-                    Ok(()) => send_rest(out),
-                    Err(_) => Err(SessionError::Write),
-                };
+                match debugger.finish(machine, out) {
+                    Ok(()) => return send_rest(out),
+                    Err(_) => return Err(SessionError::Write),
+                }
             }
             Err(error) => return Err(error),
         };

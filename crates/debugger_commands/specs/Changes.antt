@@ -1,13 +1,12 @@
 -- The commands that change the machine's state, or save it (profile).
 use Rattle.std.specs.Prelude.{ℕ, nat_lt, if◌then◌else◌, List, codes, bytes_eq, Option, Some, None, Result, Ok, Err}
-use Rattle.std.specs.Prelude.{option_map}
 use Rattle.debugger_commands.specs.declared.changes.Change.{Change}
 use Rattle.debugger_commands.specs.declared.changes.Change.TheVariants as change
+use Rattle.debugger_commands.specs.declared.changes.Edge.{Edge}
+use Rattle.debugger_commands.specs.declared.changes.Edge.TheVariants.{Pulse, Rise, Fall}
 use Rattle.debugger_commands.specs.declared.commands.LineError.{LineError}
 use Rattle.debugger_commands.specs.declared.commands.LineError.TheVariants as error
 use Rattle.debugger_commands.specs.Words.{TwoWords, ThreeWords, number, one_word, two_words, three_words}
-use Rattle.platform.specs.declared.exception.TheConstants.{MOST_INTERRUPTS}
-use Rattle.platform.specs.declared.script.Signal.TheVariants.{Rise, Fall, Pulse, Nmi}
 use Rattle.reference.specs.declared.place.Place.{Place}
 use Rattle.reference.specs.declared.place.Place.TheVariants.{Reg, Special, Word}
 
@@ -39,33 +38,31 @@ read_place (Some words) = place_of words.first (number words.others.first) (numb
 
 -- ---- signal
 
--- an interrupt by its number, None where no board has it
-abbrev pub interrupt : ℕ → Option ℕ
-interrupt k = if nat_lt k MOST_INTERRUPTS then Some k else None
+-- what happens on an interrupt
+abbrev pub edge_of : List ℕ → Option Edge
+edge_of text =
+    if bytes_eq text (codes "pulse") then Some Pulse
+    else if bytes_eq text (codes "rise") then Some Rise
+    else if bytes_eq text (codes "fall") then Some Fall
+    else None
 
-abbrev pub signal_named : List ℕ → Option ℕ → Result Change LineError
-signal_named word line =
-    if bytes_eq word (codes "pulse") then Ok (change.Signal (option_map (λ k. Pulse k) line))
-    else if bytes_eq word (codes "rise") then Ok (change.Signal (option_map (λ k. Rise k) line))
-    else if bytes_eq word (codes "fall") then Ok (change.Signal (option_map (λ k. Fall k) line))
-    else Err error.Word
-
-abbrev pub signal_of : List ℕ → Option ℕ → Result Change LineError
-signal_of word None = Err error.Word
-signal_of word (Some k) = signal_named word (interrupt k)
+abbrev pub signal_of : Option Edge → Option ℕ → Result Change LineError
+signal_of (Some edge) (Some k) = Ok (change.Signal edge k)
+signal_of (Some edge) None = Err error.Word
+signal_of None k = Err error.Word
 
 abbrev pub nmi_of : List ℕ → Result Change LineError
-nmi_of word = if bytes_eq word (codes "nmi") then Ok (change.Signal (Some Nmi)) else Err error.Word
+nmi_of word = if bytes_eq word (codes "nmi") then Ok change.Nmi else Err error.Word
 
 -- signal pulse|rise|fall k
-abbrev pub read_line_signal : Option TwoWords → Result Change LineError
-read_line_signal None = Err error.Command
-read_line_signal (Some words) = signal_of words.first (number words.second)
+abbrev pub read_edge : Option TwoWords → Result Change LineError
+read_edge None = Err error.Command
+read_edge (Some words) = signal_of (edge_of words.first) (number words.second)
 
 -- a lone word is nmi
 abbrev pub read_signal : Option (List ℕ) → Option TwoWords → Result Change LineError
 read_signal (Some word) words = nmi_of word
-read_signal None words = read_line_signal words
+read_signal None words = read_edge words
 
 -- ---- save and back
 

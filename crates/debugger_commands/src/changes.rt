@@ -1,17 +1,15 @@
 //! The commands that change the machine's state, or save it.
 
 ghost use Rattle.std.specs.Prelude.{◌≡◌, option_map};
-ghost use Rattle.debugger_commands.specs.Changes.{back_of, change_in, interrupt, nmi_of, place_named, read_back};
-ghost use Rattle.debugger_commands.specs.Changes.{read_line_signal, read_place, read_save, read_signal, reg_place};
-ghost use Rattle.debugger_commands.specs.Changes.{signal_named, slot_in, special_place};
+ghost use Rattle.debugger_commands.specs.Changes.{change_in, edge_of, nmi_of, place_named, read_back, read_edge};
+ghost use Rattle.debugger_commands.specs.Changes.{read_place, read_save, read_signal, reg_place, slot_in};
+ghost use Rattle.debugger_commands.specs.Changes.{special_place};
 ghost use Rattle.debugger_commands.specs.TwoWords.{seen_two, seen_three};
 
 use crate::choices::is_same;
 use crate::commands::LineError;
 use crate::numbers::number;
 use crate::words::{ThreeWords, TwoWords, one_word, three_words, two_words};
-use platform::exception::MOST_INTERRUPTS;
-use platform::script::{InterruptNumber, Signal};
 use reference::place::Place;
 
 /// What a command changes: the machine's state, or a slot for a copy of it.
@@ -20,13 +18,25 @@ pub enum Change {
     /// Put a value into a register or a word: `place reg|special n v`, `place word a v`. None stands for a register
     /// whose number is 256 or more, which no machine has.
     Place(Option<Place>),
-    /// Do what an event of a board's script does: `signal pulse|rise|fall k`, `signal nmi`. None stands for an
-    /// interrupt whose number is 240 or more, which no board has.
-    Signal(Option<Signal>),
+    /// Do what an event of a board's script does on the interrupt of this number: `signal pulse|rise|fall k`.
+    Signal(Edge, u32),
+    /// Make NMI pending: `signal nmi`.
+    Nmi,
     /// Save the state in the slot of this number: `save k`.
     Save(u8),
     /// Go back to the state in the slot of this number: `back k`.
     Back(u8),
+}
+
+/// What happens on an interrupt.
+#[derive(Clone, Copy)]
+pub enum Edge {
+    /// Its exception becomes pending, and the interrupt stays as it is.
+    Pulse,
+    /// It goes high, and its exception becomes pending.
+    Rise,
+    /// It goes low, and its exception stays as it is.
+    Fall,
 }
 
 /// Returns the change of a first word, with the words after it.
@@ -103,7 +113,7 @@ fn read_signal(word: Option<&[u8]>, words: Option<TwoWords<'_>>) -> Result<Chang
 {
     match word {
         Some(word) => read_nmi(word),
-        None => read_line_signal(words),
+        None => read_edge(words),
     }
 }
 
@@ -112,48 +122,37 @@ fn read_nmi(word: &[u8]) -> Result<Change, LineError>
     ensures { result ≡ nmi_of word.now }
 {
     if is_same(word, b"nmi") {
-        Ok(Change::Signal(Some(Signal::Nmi)))
+        Ok(Change::Nmi)
     } else {
         Err(LineError::Word)
     }
 }
 
 /// Reads two words after `signal`.
-fn read_line_signal(words: Option<TwoWords<'_>>) -> Result<Change, LineError>
-    ensures { result ≡ read_line_signal (option_map seen_two words.entry) }
+fn read_edge(words: Option<TwoWords<'_>>) -> Result<Change, LineError>
+    ensures { result ≡ read_edge (option_map seen_two words.entry) }
 {
     let Some(words) = words else {
         return Err(LineError::Command);
     };
-    match number(words.second) {
-        Some(number) => signal_named(words.first, interrupt(number)),
-        None => Err(LineError::Word),
+    match (edge_of(words.first), number(words.second)) {
+        (Some(edge), Some(number)) => Ok(Change::Signal(edge, number)),
+        _ => Err(LineError::Word),
     }
 }
 
-/// Returns the interrupt of a number, None where no board has it.
-fn interrupt(number: u32) -> Option<InterruptNumber>
-    ensures { result ≡ interrupt number }
+/// Returns what a word after `signal` says that happens on an interrupt.
+fn edge_of(text: &[u8]) -> Option<Edge>
+    ensures { result ≡ edge_of text.now }
 {
-    if number < u32::from(MOST_INTERRUPTS) {
-        Some(InterruptNumber::new(number as u8))
+    if is_same(text, b"pulse") {
+        Some(Edge::Pulse)
+    } else if is_same(text, b"rise") {
+        Some(Edge::Rise)
+    } else if is_same(text, b"fall") {
+        Some(Edge::Fall)
     } else {
         None
-    }
-}
-
-/// Returns the change that `word` names, on an interrupt.
-fn signal_named(word: &[u8], line: Option<InterruptNumber>) -> Result<Change, LineError>
-    ensures { result ≡ signal_named word.now line }
-{
-    if is_same(word, b"pulse") {
-        Ok(Change::Signal(line.map(Signal::Pulse)))
-    } else if is_same(word, b"rise") {
-        Ok(Change::Signal(line.map(Signal::Rise)))
-    } else if is_same(word, b"fall") {
-        Ok(Change::Signal(line.map(Signal::Fall)))
-    } else {
-        Err(LineError::Word)
     }
 }
 

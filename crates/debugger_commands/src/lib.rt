@@ -15,7 +15,7 @@ mod texts;
 mod watchpoints;
 mod words;
 
-pub use changes::Change;
+pub use changes::{Change, Edge};
 pub use commands::{
     Command, LineError, Part, change_of, part_of, quits, read_line, steps_of, task_steps_of,
 };
