@@ -23,7 +23,7 @@ known_regions : (regions : RegionCount) → is_region_count (region_number regio
 known_regions Eight = refl
 known_regions Sixteen = refl
 
-pub is_board : (board : Board) → IsScript board.layout.interrupts board.events.now → IsBoard (described board)
+pub is_board : (board : Board) → IsScript board.layout.interrupts board.events.items → IsBoard (described board)
 is_board board script = record {
   flash =
       flash_fits board.layout.flash_base board.layout.flash_size board.layout.flash_is_whole board.layout.flash_is_there
