@@ -1,6 +1,6 @@
 //! The end of the clock, which no run can reach.
 
-use crate::{Ahead, Clock, Counting};
+use crate::{Ahead, Clock, Counting, Script};
 use std::test::*;
 
 /// The tick at which a clock ends.
