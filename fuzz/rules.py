@@ -16,6 +16,9 @@ NAMED += ["start 10 SegmentOutsideMemory", "start 11 NoMemory", "size"]
 # The first line on standard error, by the status.
 FIRST = {2: ["usage"], 3: NAMED, 5: ["io"]}
 
+# What a run may have on standard error: notes for a person.
+NOTES = re.compile(rb"(?:marm: note: [^\n]+\n)*")
+
 # The lines of a trace and of a stop.
 WORD = "[0-9A-F]{8}"
 RULE = "(?:xn|vec|ppb|off|neg|r1[0-5]|r[0-9]|bg|none)"
@@ -89,8 +92,8 @@ def wrong_run(answer):
         return wrong_refusal(answer)
     if answer.status not in TRACE:
         return f"status {answer.status}"
-    if answer.err:
-        return f"status {answer.status} with a byte on standard error"
+    if not NOTES.fullmatch(answer.err):
+        return f"status {answer.status} with more than notes on standard error"
     if not TRACE[answer.status].fullmatch(answer.out):
         return f"status {answer.status} with a trace that doesn't have its form"
     return None

@@ -7,7 +7,7 @@ mod code_memory;
 pub mod laws;
 
 pub use bus::{Bus, fetch_at};
-pub use clock::{Ahead, Counting, DueTicks, ScriptedEvent, SysTick};
+pub use clock::{Ahead, Counting, DueTicks, Script, ScriptedEvent, SysTick};
 pub use code_memory::CodeMemory;
 pub use instruction_set::size::Size;
 pub use kept_code::KeptCode;

@@ -7,7 +7,7 @@ use Rattle.platform.specs.declared.error.BoardError.TheVariants.{OutOfMemory}
 
 -- a board, as the reference describes it
 abbrev pub described : Board → Described
-described board = record { numbers = numbers_of board.layout; script = board.events.now }
+described board = record { numbers = numbers_of board.layout; script = board.events.items }
 
 -- a result is the one that the definition reads, its value seen by a view
 abbrev pub Gives : {V W : Type 0} → (V → W) → Result V BoardError → Result W BoardError → Type 0

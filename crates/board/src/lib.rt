@@ -37,7 +37,7 @@ pub use values::{find, number, word};
 #[tactic(auto, unfolding(crate::specs::Texts::board_of))]
 pub fn read_board(alloc: Global, text: &str) -> Result<Board, BoardError>
     ensures answer { Answers described result (board_of text.now) ⊎ (result ≡ Err Wanting) }
-    ensures script { IfOk result (λ board. IsScript board.layout.interrupts board.events.now) }
+    ensures script { IfOk result (λ board. IsScript board.layout.interrupts board.events.items) }
     ensures board { IfOk result (λ board. IsBoard (described board)) }
 {
     let document = match toml::table_from_str(alloc, text) {
@@ -53,7 +53,7 @@ pub fn read_board(alloc: Global, text: &str) -> Result<Board, BoardError>
 #[tactic(auto, using(crate::proofs::Taken::board_lemmas), unfolding(crate::specs::Texts::board_in))]
 pub fn board_of_table(alloc: Global, document: &Table) -> Result<Board, BoardError>
     ensures answer { Answers described result (board_in (table_view document.now)) }
-    ensures script { IfOk result (λ board. IsScript board.layout.interrupts board.events.now) }
+    ensures script { IfOk result (λ board. IsScript board.layout.interrupts board.events.items) }
     ensures board { IfOk result (λ board. IsBoard (described board)) }
 {
     let layout = layout_of(document)?;
@@ -62,8 +62,5 @@ pub fn board_of_table(alloc: Global, document: &Table) -> Result<Board, BoardErr
     }
     let values = events(find(document, "event"))?;
     let events = script_of(alloc, layout.interrupts, values)?;
-    Ok(Board {
-        layout,
-        events: events.leak(),
-    })
+    Ok(Board { layout, events })
 }

@@ -2,7 +2,7 @@
 //! timer, SysTick"; the rest is this project's profile).
 #![tactic(auto)]
 
-ghost use Rattle.std.specs.Prelude.{◌≡◌, ◌↔◌, ℕ, ◌+◌, ◌^◌, ◌<◌, ◌≤◌, true, false, IsTrue};
+ghost use Rattle.std.specs.Prelude.{◌≡◌, ◌↔◌, ℕ, ◌+◌, ◌^◌, ◌<◌, ◌≤◌, true, false, IfOk, IsTrue};
 ghost use Rattle.clock.specs.DueTicks.{IsRight, IsQuiet};
 ghost use Rattle.platform.specs.Time.{time_after_tick, counted, tick_pends, script_due};
 ghost use Rattle.platform.specs.Time.{passed, is_high, start_time, csr, after_csr_read, with_csr};
@@ -20,8 +20,10 @@ pub use ahead::Ahead;
 pub use due_ticks::{Counting, DueTicks};
 use interrupts::HighInterrupts;
 pub use platform::script::{InterruptNumber, ScriptedEvent, Signal};
+pub use script::Script;
 pub use sets::Due;
 use sets::NOTHING;
+use std::alloc::{AllocError, Global};
 use std::marker::Model;
 pub use timer::SysTick;
 
@@ -35,13 +37,11 @@ pub struct Clock<U: DueTicks> {
     ticks: u64,
     timer: U,
     high: HighInterrupts,
-    script: &'static [ScriptedEvent],
-    /// How many events of the script have applied.
-    done: usize,
+    script: Script,
 }
 
 impl<U: DueTicks> Model for Clock<U> {
-    ghost use Rattle.std.specs.Prelude.{◌≤◌, ◌^◌, length, drop};
+    ghost use Rattle.std.specs.Prelude.{◌≤◌, ◌^◌};
     ghost use Rattle.clock.specs.DueTicks.{Kept};
 
     ghost Value = { Kept };
@@ -51,44 +51,51 @@ impl<U: DueTicks> Model for Clock<U> {
         ticks = c.ticks;
         systick = U.systick_at c.timer c.ticks;
         high = c.high;
-        script = drop c.done c.script.now;
+        script = c.script;
       };
       due = U.due c.timer;
     } };
 
-    ghost invariant = { λ c. (U.since c.timer ≤ c.ticks) × (c.ticks ≤ 2 ^ 48) × (c.done ≤ length c.script.now) };
+    ghost invariant = { λ c. (U.since c.timer ≤ c.ticks) × (c.ticks ≤ 2 ^ 48) };
 }
 
 impl<U: DueTicks> Clock<U> {
-    /// Returns a clock before its first tick, with a script. Copies of the clock share the script.
-    pub fn new(script: &'static [ScriptedEvent]) -> Self
-        ensures time { result.time ≡ start_time script.now }
+    /// Returns a clock before its first tick, with a script.
+    pub fn new(script: Script) -> Self
+        ensures time { result.time ≡ start_time script }
         ensures right { IsRight result }
     {
         Clock {
             ticks: 0,
-            timer: U::fresh(script::script_due(script)),
+            timer: U::fresh(script::script_due(script.events())),
             high: [false; interrupts::INTERRUPTS],
             script,
-            done: 0,
         }
     }
 
-    /// Returns a copy.
-    pub fn copied(&self) -> Self
-        ensures time { result.time ≡ self.now.time }
-        ensures right { IsRight result }
+    /// Returns a copy, or fails where memory can't be allocated.
+    pub fn copied(&self, alloc: Global) -> Result<Self, AllocError>
+        ensures time { IfOk result (λ clock. clock.time ≡ self.now.time) }
+        ensures right { IfOk result (λ clock. IsRight clock) }
     {
-        let next_event = self.next_event();
+        let script = Script::new(alloc, self.script.events())?;
+        let mut copy = Clock::new(script);
+        copy.copy_from(self);
+        Ok(copy)
+    }
+
+    /// Takes the time of another clock in place of its own.
+    pub fn copy_from(&mut self, other: &Self)
+        ensures time { self.new.time ≡ other.now.time }
+        ensures right { IsRight self.new }
+    {
+        let next_event = other.next_event();
         let mut timer = U::fresh(next_event);
-        timer.set(self.ticks, self.systick(), next_event);
-        Clock {
-            ticks: self.ticks,
-            timer,
-            high: self.high,
-            script: self.script,
-            done: self.done,
-        }
+        timer.set(other.ticks, other.systick(), next_event);
+        self.ticks = other.ticks;
+        self.timer = timer;
+        self.high = other.high;
+        self.script.copy_from(&other.script);
     }
 
     /// Does what a signal does to the interrupts, without a tick. Returns the exceptions that it pends.
@@ -138,7 +145,7 @@ impl<U: DueTicks> Clock<U> {
         requires { self.now.time.ticks < 2 ^ 48 }
         ensures { IsSetOf result (tick_pends self.now.time) }
     {
-        let script = &self.script[self.done..];
+        let script = self.script.events();
         let count = script::due_count(self.ticks + 1, script);
         sets::due_of(&script[..count], &self.systick())
     }
@@ -171,10 +178,11 @@ impl<U: DueTicks> Clock<U> {
         ensures right { IsRight self.new }
     {
         let systick = self.systick();
-        let count = script::due_count(self.ticks + 1, &self.script[self.done..]);
-        let due = sets::due_of(&self.script[self.done..self.done + count], &systick);
-        interrupts::take_events(&mut self.high, &self.script[self.done..self.done + count]);
-        self.done += count;
+        let script = self.script.events();
+        let count = script::due_count(self.ticks + 1, script);
+        let due = sets::due_of(&script[..count], &systick);
+        interrupts::take_events(&mut self.high, &script[..count]);
+        self.script.skip(count);
         self.count_on();
         due
     }
@@ -272,6 +280,6 @@ impl<U: DueTicks> Clock<U> {
     fn next_event(&self) -> u64
         ensures { result ≡ script_due self.now.time.script }
     {
-        script::script_due(&self.script[self.done..])
+        script::script_due(self.script.events())
     }
 }

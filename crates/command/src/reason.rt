@@ -68,7 +68,13 @@ pub fn write_run_notes<E: Write>(
     err: &mut E,
 ) -> io::Result<()> {
     match board_of_file(alloc, board.bytes) {
-        Ok(board) => write_notes(err, image.bytes, &board.layout, board.events, stop),
+        Ok(board) => write_notes(
+            err,
+            image.bytes,
+            &board.layout,
+            board.events.as_slice(),
+            stop,
+        ),
         Err(_) => Ok(()),
     }
 }

@@ -45,10 +45,11 @@ impl<L: Levels, U: DueTicks> Kept<L, U> {
         ensures { IfOk result (λ kept. kept ≡ core.now) }
     {
         let memory = core.bus.space().copied(alloc)?;
+        let system = core.bus.system.copied(alloc)?;
         Ok(Kept {
             regs: core.regs.copied(),
             memory,
-            system: core.bus.system.copied(),
+            system,
             asleep: core.asleep,
             entry: core.entry,
             stop: core.stop,
@@ -62,7 +63,7 @@ impl<L: Levels, U: DueTicks> Kept<L, U> {
     {
         self.regs = core.regs.copied();
         self.memory.copy_from(core.bus.space());
-        self.system = core.bus.system.copied();
+        core.bus.system.keep(&mut self.system);
         self.asleep = core.asleep;
         self.entry = core.entry;
         self.stop = core.stop;

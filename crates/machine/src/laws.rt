@@ -5,10 +5,13 @@ ghost use Rattle.std.specs.Prelude.{ℕ};
 ghost use Rattle.machine.specs.TaskRunLaw.{TaskRun, TaskRunsLaw};
 
 pub use state_laws::{
-    phases_keep_the_invariant, place_keeps_the_invariant, start_gives_the_invariant,
-    step_keeps_the_invariant,
+    alter_keeps_the_invariant, phases_keep_the_invariant, place_keeps_the_invariant,
+    signal_keeps_the_invariant, start_gives_the_invariant, step_keeps_the_invariant,
 };
-pub use step_laws::{accesses_of_a_step, frame_gives_registers_back, return_gives_registers_back};
+pub use step_laws::{
+    accesses_of_a_step, frame_gives_registers_back, return_gives_registers_back,
+    signals_are_events, sizes_stay,
+};
 pub use task_laws::{
     access_of_a_task, runs_of_tasks_end_alike, runs_of_tasks_end_in_one_way, step_of_a_task,
     tasks_are_kept_apart,

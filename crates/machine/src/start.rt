@@ -11,7 +11,7 @@ ghost use Rattle.platform.specs.Memory.{vector};
 ghost use Rattle.elf.specs.Segment.{segment_of};
 
 use crate::stepping::Processor;
-use access::{Bus, CodeMemory, Decider, DueTicks, KeptCode, Levels, System};
+use access::{Bus, CodeMemory, Decider, DueTicks, KeptCode, Levels, Script, System};
 use board::Board;
 use elf::{Image, Segment};
 use platform::board::Layout;
@@ -37,6 +37,9 @@ pub fn start_core<D: Decider, C: KeptCode, L: Levels, U: DueTicks>(
     let Ok(mut space) = Space::blank(alloc, &board.layout) else {
         return Err(StartError::NoMemory);
     };
+    let Ok(script) = Script::new(alloc, board.events.as_slice()) else {
+        return Err(StartError::NoMemory);
+    };
     load_segments(&mut space, image.segments());
     let regs = Regs::reset(space.vector(0), space.vector(1));
     let system = System::reset(
@@ -44,7 +47,7 @@ pub fn start_core<D: Decider, C: KeptCode, L: Levels, U: DueTicks>(
         board.layout.interrupts,
         board.layout.priority_bits,
         board.layout.regions.number(),
-        board.events,
+        script,
     );
     let Ok(memory) = CodeMemory::new(alloc, space, image_bytes(image.segments())) else {
         return Err(StartError::NoMemory);

@@ -1,6 +1,6 @@
 //! The state of the System Control Space, accesses to it, and ticks.
 
-ghost use Rattle.std.specs.Prelude.{◌≡◌, ◌+◌, ◌^◌, ◌<◌, ◌≤◌, ◌⊎◌, ◌&&◌, ℕ, true, false, not, IfSome};
+ghost use Rattle.std.specs.Prelude.{◌≡◌, ◌+◌, ◌^◌, ◌<◌, ◌≤◌, ◌⊎◌, ◌&&◌, ℕ, true, false, not, IfOk, IfSome};
 ghost use Rattle.clock.specs.DueTicks.{IsRight};
 ghost use Rattle.instruction_set.specs.Registers.{is_privileged};
 ghost use Rattle.instruction_set.specs.Sizes.{bytes_in};
@@ -26,7 +26,7 @@ use crate::interrupts::{read_interrupts, read_priorities, write_interrupts, writ
 use crate::special;
 use crate::status::Status;
 use crate::systick::{read_systick, write_systick};
-use clock::{Clock, DueTicks, ScriptedEvent, Signal};
+use clock::{Clock, DueTicks, Script, Signal};
 use instruction_set::system::{ChangeProcessorState, SpecialRegister};
 use mpu::{Decider, MpuRegister, MpuRegs, stop_of, uses_regions};
 use nvic::{Levels, Masks};
@@ -35,6 +35,7 @@ use platform::exception::FIRST_INTERRUPT;
 use platform::stop::{LeftOut, Stop};
 use platform::system::SystemRegister;
 use regs::Regs;
+use std::alloc::{AllocError, Global};
 use std::marker::Model;
 
 /// The address of STIR.
@@ -69,10 +70,10 @@ impl<D: Decider, L: Levels, U: DueTicks> System<D, L, U> {
         interrupts: u8,
         priority_bits: u8,
         regions: u8,
-        script: &'static [ScriptedEvent],
+        script: Script,
     ) -> Self
         requires { (regions ≡ 8) ⊎ (regions ≡ 16) }
-        ensures { result ≡ reset_system flash_base interrupts priority_bits regions script.now }
+        ensures { result ≡ reset_system flash_base interrupts priority_bits regions script }
     {
         let mpu = MpuRegs::new(regions);
         let decider = D::fresh(&mpu);
@@ -85,16 +86,27 @@ impl<D: Decider, L: Levels, U: DueTicks> System<D, L, U> {
         }
     }
 
-    /// Returns a copy, without what decides by the registers of the MPU.
-    pub fn copied(&self) -> SystemCopy<L, U>
-        ensures { result ≡ self.now }
+    /// Returns a copy, without what decides by the registers of the MPU, or fails where memory can't be allocated.
+    pub fn copied(&self, alloc: Global) -> Result<SystemCopy<L, U>, AllocError>
+        ensures { IfOk result (λ copy. copy ≡ self.now) }
     {
-        SystemCopy {
+        let clock = self.clock.copied(alloc)?;
+        Ok(SystemCopy {
             mpu: self.mpu,
             levels: self.levels.copied(),
             status: self.status.copied(),
-            clock: self.clock.copied(),
-        }
+            clock,
+        })
+    }
+
+    /// Copies the state.
+    pub fn keep(&self, copy: &mut SystemCopy<L, U>)
+        ensures { copy.new ≡ self.now }
+    {
+        copy.mpu = self.mpu;
+        copy.levels = self.levels.copied();
+        copy.status = self.status.copied();
+        copy.clock.copy_from(&self.clock);
     }
 
     /// Takes the state of a copy.
@@ -105,7 +117,7 @@ impl<D: Decider, L: Levels, U: DueTicks> System<D, L, U> {
         self.decider.reload(&copy.mpu);
         self.levels = copy.levels.copied();
         self.status = copy.status.copied();
-        self.clock = copy.clock.copied();
+        self.clock.copy_from(&copy.clock);
     }
 
     /// Does what an event of the script does, without a tick.

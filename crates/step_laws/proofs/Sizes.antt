@@ -1,6 +1,6 @@
 -- Flash and RAM keep their places and sizes, in a step and where something comes from outside.
 use Rattle.std.proofs.Common.{◌≡◌, ℕ, Bool, true, false, not, ◌&&◌, ◌||◌, if◌then◌else◌, is_some, List, [], ◌∷◌, length}
-use Rattle.std.proofs.Common.{Option, Some, None, Result, Ok, Err, refl, ◌∙◌}
+use Rattle.std.proofs.Common.{Option, Some, None, Result, Ok, Err, refl, sym, ◌∙◌}
 use Rattle.std.proofs.lemmas.Bool.{cond_both}
 use Rattle.instruction_set.specs.declared.system.SpecialRegister.{SpecialRegister}
 use Rattle.instruction_set.specs.Registers.{is_handler}

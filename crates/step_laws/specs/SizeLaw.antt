@@ -1,5 +1,5 @@
 -- Flash and RAM keep their places and sizes, so that a copy of a machine's state fits the machine for good.
-use Rattle.std.specs.Prelude.{Unit, Result, Ok, Err}
+use Rattle.std.specs.Prelude.{Result, Ok, Err}
 use Rattle.platform.specs.declared.error.PlaceError.{PlaceError}
 use Rattle.reference.specs.State.{State}
 use Rattle.space.specs.Sizes.{HaveSameSizes}

@@ -60,7 +60,7 @@ impl Filled {
     fn new(rt: &HostRuntime) -> Result<Self, Fail> {
         let board = Board {
             layout: LARGEST_BOARD,
-            events: &[],
+            events: Vec::new(rt.alloc()),
         };
         let mut machine = Fast::new(rt.alloc(), &load(&IMAGE)?, &board)?;
         let survey = Survey::new(rt.alloc(), &LARGEST_BOARD)?;

@@ -60,7 +60,7 @@ fn write_to(rt: &HostRuntime, room: &mut Room, symbols: &Symbols<'_>) -> Result<
     let alloc = rt.alloc();
     let board = Board {
         layout: SMALL_BOARD,
-        events: &[],
+        events: Vec::new(alloc),
     };
     let image = load(&IMAGE)?;
     let mut machine = Fast::new(alloc, &image, &board)?;

@@ -2,7 +2,7 @@
 
 use super::memory::blank;
 use super::words::{request, rule_word};
-use access::{Bus, Cause, CodeMemory, Counting, Performed, PlainLevels, Search, System};
+use access::{Bus, Cause, CodeMemory, Counting, Performed, PlainLevels, Script, Search, System};
 use decode::Reread;
 use std::test::*;
 use test_tables::{Rows, check, part, word};
@@ -52,7 +52,10 @@ S word E000ED98 00000008 p | - stop | a region number that isn't there";
 fn each_access_is_decided_in_the_state_before_it(rt: HostRuntime) -> Result<(), Fail> {
     let space = blank(rt.alloc()).ok_or("memory")?;
     let memory = CodeMemory::new(rt.alloc(), space, 0x800)?;
-    let bus = Bus::new(memory, System::reset(0, 8, 4, 8, &[]));
+    let bus = Bus::new(
+        memory,
+        System::reset(0, 8, 4, 8, Script::new(rt.alloc(), &[])?),
+    );
     let mut accesses = Accesses { bus };
     check(ACCESSES, &mut accesses)?;
     assert!(rt; accesses.bus.system.region(3) == Some((0x2000_0403, 0x0600_0013)));

@@ -625,7 +625,7 @@ fn are_events(events: &[ScriptedEvent], rows: &str) -> bool {
 /// Returns whether a text is a board with these numbers and events.
 fn is_board(alloc: Global, text: &str, wanted: [u32; 5], events: &str) -> Option<bool> {
     let board = read(alloc, text).ok()?;
-    Some(numbers(board.layout) == wanted && are_events(board.events, events))
+    Some(numbers(board.layout) == wanted && are_events(board.events.as_slice(), events))
 }
 
 #[test]

@@ -1,7 +1,7 @@
 //! The clock, SysTick, the lines and scripts. The values come from the manual's text on SysTick
 //! (ARM DDI 0403, "System timer, SysTick") and from the rules of lines and scripts.
 
-use clock::{Clock, Counting, Due};
+use clock::{Clock, Counting, Due, Script};
 use platform::exception::MOST_INTERRUPTS;
 use platform::script::{InterruptNumber, ScriptedEvent, Signal};
 use std::alloc::Global;
@@ -65,7 +65,7 @@ fn scripted(alloc: Global, events: &str) -> Option<Clock<Counting>> {
     for word in events.split_whitespace() {
         add(&mut script, word)?;
     }
-    Some(Clock::new(script.leak()))
+    Some(Clock::new(Script::new(alloc, script.as_slice()).ok()?))
 }
 
 /// SYST_RVR and SYST_CSR are written, and the values are SYST_CSR and SYST_RVR.
@@ -77,8 +77,8 @@ fn write(clock: &mut Clock<Counting>, values: &str) -> Option<()> {
 }
 
 /// A clock before its first tick, with SYST_CSR and SYST_RVR of these values and no event.
-fn counting(values: &str) -> Option<Clock<Counting>> {
-    let mut clock = Clock::new(&[]);
+fn counting(alloc: Global, values: &str) -> Option<Clock<Counting>> {
+    let mut clock = Clock::new(Script::new(alloc, &[]).ok()?);
     write(&mut clock, values)?;
     Some(clock)
 }
@@ -114,11 +114,13 @@ fn counts_down(clock: &mut Clock<Counting>, values: &str) -> Option<bool> {
 
 /// Counters, and how they count.
 #[derive(Drop)]
-struct Counts;
+struct Counts {
+    alloc: Global,
+}
 
 impl Rows for Counts {
     fn holds(&mut self, row: &str) -> Option<bool> {
-        let mut clock = counting(part(row, 0))?;
+        let mut clock = counting(self.alloc, part(row, 0))?;
         let begins = clock.read_cvr() == 0;
         let follows = counts_down(&mut clock, part(row, 1))?;
         Some(begins && follows && clock.now() == 6)
@@ -137,7 +139,7 @@ const COUNTS: &str = "\
 
 #[test]
 fn the_counter_counts(rt: HostRuntime) -> Result<(), Fail> {
-    check(COUNTS, &mut Counts)
+    check(COUNTS, &mut Counts { alloc: rt.alloc() })
 }
 
 /// The clock that the ticks of rows go on.
@@ -164,7 +166,7 @@ const FALLS: &str = "\
 
 #[test]
 fn a_counter_whose_reload_value_is_0_still_counts_down(rt: HostRuntime) -> Result<(), Fail> {
-    let mut clock = counting("3 3").ok_or("a clock")?;
+    let mut clock = counting(rt.alloc(), "3 3").ok_or("no memory")?;
     assert!(rt; counts_down(&mut clock, "3") == Some(true));
     clock.write_rvr(0);
     assert!(rt; clock.read_rvr() == 0);
@@ -181,11 +183,13 @@ fn ticks(clock: &mut Clock<Counting>, count: u8) -> Option<()> {
 
 /// Clocks, and what SYST_CSR reads.
 #[derive(Drop)]
-struct Reads;
+struct Reads {
+    alloc: Global,
+}
 
 impl Rows for Reads {
     fn holds(&mut self, row: &str) -> Option<bool> {
-        let mut clock = counting(part(row, 0))?;
+        let mut clock = counting(self.alloc, part(row, 0))?;
         ticks(&mut clock, byte_at(part(row, 1), 0)?)?;
         Some(numbers(part(row, 2)) == Some([clock.read_csr(), clock.read_csr()]))
     }
@@ -205,12 +209,12 @@ FFFFFFFF 0 | 0 | 00000007 00000007 | ENABLE and TICKINT are kept
 
 #[test]
 fn the_registers_of_systick(rt: HostRuntime) -> Result<(), Fail> {
-    check(READS, &mut Reads)
+    check(READS, &mut Reads { alloc: rt.alloc() })
 }
 
 /// Returns whether a write to SYST_CVR clears it, and COUNTFLAG.
-fn is_cleared() -> Option<bool> {
-    let mut clock = counting("1 1")?;
+fn is_cleared(alloc: Global) -> Option<bool> {
+    let mut clock = counting(alloc, "1 1")?;
     ticks(&mut clock, 3)?;
     let counted = clock.read_cvr() == 1;
     clock.write_cvr();
@@ -219,10 +223,10 @@ fn is_cleared() -> Option<bool> {
 
 #[test]
 fn writes_to_rvr_and_cvr(rt: HostRuntime) -> Result<(), Fail> {
-    let clock = counting("0 FFFFFFFF").ok_or("a clock")?;
+    let clock = counting(rt.alloc(), "0 FFFFFFFF").ok_or("no memory")?;
     assert!(rt; clock.read_rvr() == 0x00FF_FFFF, "RVR has 24 bits");
     assert!(rt;
-        is_cleared() == Some(true),
+        is_cleared(rt.alloc()) == Some(true),
         "a write to CVR clears it and COUNTFLAG"
     );
     Ok(())
@@ -252,11 +256,13 @@ fn pends_each(clock: &mut Clock<Counting>, words: &str) -> Option<bool> {
 
 /// Clocks, and when SysTick's exception pends.
 #[derive(Drop)]
-struct Pending;
+struct Pending {
+    alloc: Global,
+}
 
 impl Rows for Pending {
     fn holds(&mut self, row: &str) -> Option<bool> {
-        let mut clock = counting(part(row, 0))?;
+        let mut clock = counting(self.alloc, part(row, 0))?;
         let follows = pends_each(&mut clock, part(row, 1))?;
         Some(follows && clock.now() == 6)
     }
@@ -272,7 +278,7 @@ const PENDS: &str = "\
 
 #[test]
 fn systick_pends_its_exception(rt: HostRuntime) -> Result<(), Fail> {
-    check(PENDS, &mut Pending)
+    check(PENDS, &mut Pending { alloc: rt.alloc() })
 }
 
 /// Scripts, and how the second tick goes.

@@ -75,7 +75,7 @@ fn board_of(alloc: Global, numbers: &mut Numbers) -> Result<Board, AllocError> {
     }
     Ok(Board {
         layout: SMALL_BOARD,
-        events: events.leak(),
+        events,
     })
 }
 

@@ -82,7 +82,7 @@ fn is_board(board: &Board) -> bool {
     sizes == (0, 4096, 8192)
         && counts == (4, 8)
         && matches!(board.layout.regions, RegionCount::Eight)
-        && is_script(board.events)
+        && is_script(board.events.as_slice())
 }
 
 /// How the board is read.

@@ -110,7 +110,7 @@ pub(super) fn small_board(alloc: Global, text: &str) -> Result<Board, AllocError
     let events = script(alloc, text)?;
     Ok(Board {
         layout: layout(text),
-        events: events.leak(),
+        events,
     })
 }
 

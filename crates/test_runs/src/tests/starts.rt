@@ -44,7 +44,7 @@ fn high_machine(alloc: Global) -> Option<Slow> {
     let image = load(&NO_SEGMENTS).ok()?;
     let board = Board {
         layout: HIGH_FLASH,
-        events: &[],
+        events: Vec::new(alloc),
     };
     Slow::new(alloc, &image, &board).ok()
 }

@@ -27,7 +27,7 @@ const IMAGE: [u8; 108] = [
 fn a_run_is_counted(rt: HostRuntime) -> Result<(), Fail> {
     let board = Board {
         layout: SMALL_BOARD,
-        events: &[],
+        events: Vec::new(rt.alloc()),
     };
     let image = load(&IMAGE)?;
     let mut machine = Fast::new(rt.alloc(), &image, &board)?;
