@@ -23,6 +23,7 @@ mod run;
 mod scripts;
 mod segments;
 mod selections;
+mod session_changes;
 mod session_commands;
 mod sessions;
 mod short_files;

@@ -84,7 +84,7 @@ words help debug
 ends 2
 out Reads commands from standard input and writes their answers to standard output
 out
-out Usage: marm debug --board <FILE> <IMAGE>
+out Usage: marm debug [OPTIONS] --board <FILE> <IMAGE>
 out
 out Arguments:
 out   <IMAGE>  The image: an ELF file for ARM of at most 16 MiB, linked to run
@@ -92,6 +92,8 @@ out
 out Options:
 out       --board <FILE>  The board: a TOML file of at most 16 MiB with the memory sizes, the interrupt lines and the \
 events
+out       --slots <N>     How many states of the machine can be saved, from 0 (the default) to 8; the memory for them is \
+taken at the start
 out   -h, --help          Print help
 out
 help
@@ -299,11 +301,33 @@ err error: unexpected argument '--steps' found
 err
 err   tip: to pass '--steps' as a value, use '-- --steps'
 err
-err Usage: marm debug --board <FILE> <IMAGE>
+err Usage: marm debug [OPTIONS] --board <FILE> <IMAGE>
 err
 err For more information, try '--help'.
 err Only the options of the usage are taken, and --steps takes no negative number.
 err A file whose name begins with - is written with ./ before it.
+
+slots that there can't be
+words debug --board board.toml --slots 9 image.elf
+words debug --board board.toml --slots=9 image.elf
+ends 2
+err marm: usage
+err error: invalid value '9' for '--slots <N>'
+err --slots takes a decimal number from 0 to 8.
+
+slots with a sign
+words debug --slots=+1 --board board.toml image.elf
+ends 2
+err marm: usage
+err error: invalid value '+1' for '--slots <N>'
+err --slots takes a decimal number from 0 to 8.
+
+slots that are no number
+words debug --slots x --board board.toml image.elf
+ends 2
+err marm: usage
+err error: invalid value 'x' for '--slots <N>'
+err --slots takes a decimal number from 0 to 8.
 
 an option without its value
 words run --steps 10 image.elf --board

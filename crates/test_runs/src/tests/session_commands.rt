@@ -63,6 +63,13 @@ out regions                shows RBAR and RASR of each region of the MPU
 out explain <a> p|u r|w|x  shows the rule that would decide an access, and whether it would grant it
 out state                  shows registers, the clock, fault registers, regions and exceptions
 out next                   shows the kind of the next step, or the stop line
+out place reg <n> <v>      puts a value into a core register: 13 is the stack pointer in use, 14 LR, 15 PC
+out place special <n> <v>  puts a value into a special register, numbered as in MSR
+out place word <a> <v>     puts a value into a word of memory or a system register
+out signal <how> <k>       does what an event of the script does to interrupt k: pulse, rise or fall
+out signal nmi             makes NMI pending
+out save <k>               saves the state of the machine in slot k; `--slots` sets how many there are
+out back <k>               takes the machine back to the state in slot k
 out script 1               shows the numbers of the board; answers then end with `= <tick> <pc> <next>`
 out help                   shows these lines
 out quit                   ends the session
@@ -111,7 +118,7 @@ in help 1
 in script
 in script 1 1
 in script x y
-in place reg 0 1
+in placed reg 0 1
 in Trace all
 out error 1
 out error 1

@@ -120,7 +120,7 @@ help.\n",
         2,
         &["debug", "--board", "board.toml", "image.elf"],
         "marm: usage\nerror: unexpected argument '",
-        "..' found\n\nUsage: marm debug --board <FILE> <IMAGE>\n\nFor more information, try '--help'.\n",
+        "..' found\n\nUsage: marm debug [OPTIONS] --board <FILE> <IMAGE>\n\nFor more information, try '--help'.\n",
     ),
 ];
 
