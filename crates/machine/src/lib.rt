@@ -5,6 +5,7 @@ mod at_once;
 pub mod foresight;
 pub mod laws;
 mod machine;
+mod permit;
 mod placing;
 pub mod readers;
 mod run;
