@@ -66,7 +66,7 @@ Performs (Run run) image board before after old new status =
     RunsAndSaves image board run old new status × (after ≡ before)
 Performs (Report report) image board before after old new status =
     ReportsTo image board report.steps old new status × (after ≡ before)
-Performs (Debug debug) image board before after old new status = SessionTo image board before after old new status
+Performs (Debug debug) image board before after old new status = SessionTo image board debug.slots before after old new status
 
 -- ---- with the files
 

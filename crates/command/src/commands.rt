@@ -172,7 +172,9 @@ fn perform<R: Files + AllocGlobal, I: In, O: Out, E: Write>(
             run_and_save::<R, O, E, Brand>(rt, image, board, options, out, err, Blank::new(1))
         }
         Subcommand::Report(options) => report(rt.alloc(), image, board, options.steps, out, err),
-        Subcommand::Debug(_) => debug(rt.alloc(), image, board, input, out, err),
+        Subcommand::Debug(options) => {
+            debug(rt.alloc(), image, board, options.slots, input, out, err)
+        }
     }
 }
 

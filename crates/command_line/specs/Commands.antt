@@ -47,9 +47,9 @@ run = with_rule run_with_options image
 abbrev pub report : App
 report = with_rule (with_rule (with_rule (new_app (codes "report")) board) steps) image
 
--- marm debug --board FILE IMAGE
+-- marm debug --board FILE [--slots N] IMAGE
 abbrev pub debug : App
-debug = with_rule (with_rule (new_app (codes "debug")) board) image
+debug = with_rule (with_rule (with_rule (new_app (codes "debug")) board) (option (codes "slots"))) image
 
 -- marm has a version, and needs one of its three commands
 abbrev pub with_version : Shape → Shape

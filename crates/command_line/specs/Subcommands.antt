@@ -34,6 +34,15 @@ abbrev pub HasSteps : Option (List ℕ) → ℕ → Type 0
 HasSteps None steps = ⊥
 HasSteps (Some text) steps = IsSteps text × (steps ≡ number_in text)
 
+-- a number of slots: digits alone, from 0 to 8
+abbrev pub IsSlots : List ℕ → Type 0
+IsSlots text = IsNumeral 10 text × (number_in text ≤ 8)
+
+-- the option has a number of slots, and this is it; without the option it's 0
+abbrev pub HasSlots : Option (List ℕ) → ℕ → Type 0
+HasSlots None slots = slots ≡ 0
+HasSlots (Some text) slots = IsSlots text × (slots ≡ number_in text)
+
 -- the selection of a word
 abbrev pub selection_named : List ℕ → Option TraceSelection
 selection_named text =
@@ -92,6 +101,7 @@ pub record IsReport (rows : List Row) (report : ReportOptions) : Type 0 where
 pub record IsDebug (rows : List Row) (debug : DebugOptions) : Type 0 where
   pub board : IsText (first_of (codes "board") rows) debug.board
   pub image : IsText (first_of (codes "image") rows) debug.image
+  pub slots : HasSlots (first_of (codes "slots") rows) debug.slots
 
 -- the subcommand of a name, with the values of its matches
 abbrev pub IsNamed : Text → List Row → Subcommand → Type 0

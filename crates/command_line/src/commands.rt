@@ -13,6 +13,9 @@ use std::alloc::{AllocError, Global};
 /// The most steps of a run.
 pub const MOST_STEPS: u64 = 0x1_0000_0000;
 
+/// The most slots of a debug session.
+pub const MOST_SLOTS: u64 = 8;
+
 /// What the help says of `--steps`.
 pub const STEPS_HELP: &str =
     "The most steps (instructions, halves of exception entries, idle ticks) to make, from 0 to 4294967296";
@@ -34,6 +37,10 @@ const STATE_HELP: &str =
 const DUMP_HELP: &str =
     "Memory after the run, as raw bytes, to a file: LENGTH bytes from ADDR on, decimal or 0x and hexadecimal; \
      at most 16 times";
+
+/// What the help says of `--slots`.
+const SLOTS_HELP: &str =
+    "How many states of the machine can be saved, from 0 (the default) to 8; the memory for them is taken at the start";
 
 /// The program's version.
 const VERSION: &str = "0.3.0";
@@ -61,7 +68,7 @@ fn marm_of_runs<'a>(alloc: Global) -> Result<Command<'a>, AllocError>
     marm.subcommand(run)?.subcommand(report)
 }
 
-/// Returns the subcommand `debug`, with its two arguments.
+/// Returns the subcommand `debug`, with its arguments.
 fn debug<'a>(alloc: Global) -> Result<Command<'a>, AllocError>
     ensures app { IfOk result (λ c. app_of c ≡ spec.debug) }
     ensures local { IfOk result (λ c. (out-Command c).has_globals ≡ false) }
@@ -70,6 +77,7 @@ fn debug<'a>(alloc: Global) -> Result<Command<'a>, AllocError>
         .about("Reads commands from standard input and writes their answers to standard output")
         .after_help(AFTER_DEBUG);
     let debug = debug.arg(board(alloc))?;
+    let debug = debug.arg(option(alloc, "slots", "N", SLOTS_HELP))?;
     debug.arg(image(alloc))
 }
 

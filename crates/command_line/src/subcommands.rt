@@ -4,11 +4,11 @@ ghost use Rattle.std.specs.Prelude.{◌≡◌, ◌⊎◌, ◌==◌, IfSome, None
 ghost use Rattle.clap.specs.Words.{first_of, found_of, rows_of, subcommand_rows_of};
 ghost use Rattle.command_line.specs.Notices.{Reads, memory, notice_of, usage};
 ghost use Rattle.command_line.specs.Stops.{IsExpected};
-ghost use Rattle.command_line.specs.Subcommands.{HasSteps, IsAsked, IsDebug, IsNamed, IsReport, IsRun, IsSelection};
+ghost use Rattle.command_line.specs.Subcommands.{HasSlots, HasSteps, IsAsked, IsDebug, IsNamed, IsReport, IsRun, IsSelection};
 ghost use Rattle.command_line.specs.Subcommands.{IsSteps, IsText, board_path, image_path, number_in, plus};
 ghost use Rattle.command_line.specs.Subcommands.{selection_named, text_of, texts_in, texts_of};
 
-use crate::commands::MOST_STEPS;
+use crate::commands::{MOST_SLOTS, MOST_STEPS};
 use crate::dumps::{Dump, dumps_in};
 use crate::stops::{stop_named, without_stop};
 use crate::words::WordsError;
@@ -55,6 +55,8 @@ pub struct DebugOptions<'a> {
     pub board: &'a str,
     /// The path of the image file.
     pub image: &'a str,
+    /// How many states of the machine can be saved, from 0 to 8.
+    pub slots: u8,
 }
 
 /// A subcommand with its options.
@@ -160,6 +162,7 @@ fn debug_options<'a>(alloc: Global, debug: &ArgMatches<'a>) -> Result<DebugOptio
     Ok(DebugOptions {
         board: text_in(alloc, value_of(debug, "board"))?,
         image: text_in(alloc, value_of(debug, "image"))?,
+        slots: slots_in(alloc, value_of(debug, "slots"))?,
     })
 }
 
@@ -195,6 +198,19 @@ fn steps_in(alloc: Global, text: Option<&str>) -> Result<u64, WordsError>
     match number_in(text) {
         Some(steps) => Ok(steps),
         None => Err(wrong_value(alloc, text, "--steps <N>", STEPS_ADVICE)),
+    }
+}
+
+/// Returns the number of slots in a text, 0 where there is none.
+fn slots_in(alloc: Global, text: Option<&str>) -> Result<u8, WordsError>
+    ensures { Reads (HasSlots (text_of text.entry)) result }
+{
+    let Some(text) = text else {
+        return Ok(0);
+    };
+    match number_in(text) {
+        Some(slots) if slots <= MOST_SLOTS => Ok(slots as u8),
+        _ => Err(wrong_value(alloc, text, "--slots <N>", SLOTS_ADVICE)),
     }
 }
 
@@ -272,6 +288,9 @@ fn stop_in(alloc: Global, words: Option<&str>) -> Result<Option<Stop>, WordsErro
 
 /// What `--steps` takes.
 pub const STEPS_ADVICE: &str = "--steps takes a decimal number from 0 to 4294967296.\n";
+
+/// What `--slots` takes.
+const SLOTS_ADVICE: &str = "--slots takes a decimal number from 0 to 8.\n";
 
 /// What `--trace` takes.
 const TRACE_ADVICE: &str = "--trace takes all, refused, faults, exceptions, console or none.\n";

@@ -93,6 +93,15 @@ Commands, one a line on standard input; numbers are decimal, or hexadecimal afte
                      code that reads, writes or executes, and whether the rule would grant it
   state              shows the state as --state of `marm run` does
   next               shows the kind of the next step: Instruction, Stack, Vector or Sleep; or the stop line
+  place reg|special <n> <v>
+                     puts a value into a core register (13 is the stack pointer in use, 14 LR, 15 PC) or a
+                     special register, which is numbered as in MSR
+  place word <a> <v> puts a value into a word of flash, RAM or the Private Peripheral Bus
+  signal pulse|rise|fall <k>
+                     does what an event of the board's script does to interrupt k, first in the next tick
+  signal nmi         makes NMI pending
+  save <k>           saves the state of the machine in slot k, from 0 up to one less than --slots
+  back <k>           takes the machine back to the state that was saved in slot k
   script 1           shows the numbers of the board; from now on each answer ends with a line
                      `= <ticks> <pc> <next>`
   help               shows a line for each command
@@ -102,7 +111,11 @@ Words are separated by exactly one space. A line ends with a line feed, without 
 has at most 80 bytes before it. The last line needs no line feed.
 
 Answers `error 1` (no such command, a wrong number of words, or a line of more than 80 bytes), `error 2`
-(a word isn't allowed there) and `error 3` (16 breakpoints or 16 watchpoints are set) change nothing.
+(a word isn't allowed there) and `error 3` (16 breakpoints or 16 watchpoints are set, or nothing was saved
+in the slot) change nothing. Nor do the refusals of `place` and `signal`: `refused 1 NotAligned`, `refused 2
+NoSuchPlace`, `refused 3 Stopped` (the machine has stopped; or it is in Handler mode or in an exception entry,
+for a value other than R0 to R12, LR or a word of flash or RAM), and `refused 4 Refused`, with the words of
+the stop that a store of the value would be.
 
 Exit status:
   0  the session ended

@@ -7,7 +7,7 @@
 --   `cut_at_end` (the writer failed), `at_end`, `missed` (the reader failed) and `spent`.
 -- - `heard_kept` and `ended` add what a writer that gathers bytes sends before the session waits, and at its end.
 use Rattle.std.proofs.Common.{◌≡◌, inl, inr, ℕ, ◌+◌, ◌-◌, ◌^◌, Bool, true, false, List, [], ◌∷◌}
-use Rattle.std.proofs.Common.{◌++◌, length, Result, Ok, Err, Some, refl, sym, ◌∙◌, ap, subst, append_assoc}
+use Rattle.std.proofs.Common.{◌++◌, length, Option, Result, Ok, Err, refl, sym, ◌∙◌, ap, subst, append_assoc}
 use Rattle.std.proofs.Common.{length-append}
 use Rattle.std.proofs.lemmas.List.{append-nil}
 use Rattle.std.specs.Io.KnownBytes.{IsAtEnd, Keeps}
@@ -19,12 +19,12 @@ use Rattle.debugger.specs.declared.sessions.SessionError.TheVariants.{Read, Writ
 use Rattle.debugger.specs.Sessions.{AreSoFar, Ends, FailsOnce, FailsToRead, FailsToWrite, Hears, Holds, Kept, KeepsPut}
 use Rattle.debugger.specs.Sessions.{NothingWaits, SendsRest, Sessions, TakesNext, Talk, TellsAll}
 use Rattle.debugger.specs.Sessions.{TellsAllThenFails, TellsPart, after_bytes, all_answers, answers, is_line_feed}
-use Rattle.debugger.specs.Sessions.{answered, answered_at_end, next, opened, talk}
-use Rattle.debugger_commands.specs.Settings.{opened_settings}
+use Rattle.debugger.specs.Sessions.{HasAll, answered, answered_at_end, next, talk}
+use Rattle.debugger.specs.Slots.{HaveRoom}
+use Rattle.debugger_commands.specs.Settings.{Settings}
 use Rattle.machine.specs.Whole.{Whole}
 use Rattle.output.specs.Input.{Reading}
 use Rattle.output.specs.Output.{Writing}
-use Rattle.platform.specs.Boards.{Numbers}
 use Rattle.reference.specs.State.{State}
 
 -- ---- one byte after others
@@ -87,34 +87,45 @@ next_state_by t byte false e = rw e refl
 next_state : (t : Talk) (byte : ℕ) → last_state t.state (answered t byte) ≡ (next t byte).state
 next_state t byte = next_state_by t byte (is_line_feed byte) refl
 
-talk_of : (t : Talk) (s : State) (k : Kept) → s ≡ t.state → k ≡ record { settings = t.settings; line = t.line }
-    → t.is_open ≡ true → t ≡ talk s k
-talk_of t s k es ek goes = ap (λ (o : Bool). record t { is_open = o }) goes ∙ rw (es, ek) refl
+talk_of : (t : Talk) (s : State) (k : Kept) → s ≡ t.state → HasAll t k → t.is_open ≡ true → t ≡ talk s k
+talk_of t s k es has goes =
+    ap (λ (o : Bool). record t { is_open = o }) goes
+    ∙ (ap (λ (u : State). record t { state = u; is_open = true }) (sym es)
+    ∙ (ap (λ (x : Settings). record t { state = s; settings = x; is_open = true }) (sym has.settings)
+    ∙ (ap (λ (l : Option (List ℕ)). record t { state = s; settings = k.settings; line = l; is_open = true })
+    (sym has.line)
+    ∙ ap (λ (o : List (Option State)). record {
+      state = s;
+      settings = k.settings;
+      line = k.line;
+      saved = o;
+      is_open = true;
+    }) (sym has.saved))))
 
 -- the session after n bytes
-pub record Heard (board : Numbers) (n : ℕ) (k : Kept) (old new : Whole) (before after : Reading) (out out' : Writing)
+pub record Heard (from : Talk) (n : ℕ) (k : Kept) (old new : Whole) (before after : Reading) (out out' : Writing)
     : Type 0 where
   pub given : List ℕ
   pub count : length given ≡ n
   pub hears : Hears given before after
-  pub now : after_bytes (opened board old.state) given ≡ talk new.state k
-  pub tells : TellsAll (answers (opened board old.state) given) old new out out'
+  pub now : after_bytes from given ≡ talk new.state k
+  pub tells : TellsAll (answers from given) old new out out'
+  pub room : HaveRoom k.slots new.state.bus.memory
 
-pub begun : (board : Numbers) (m : Whole) (k : Kept) (i : Reading) (a : Writing)
-    → k ≡ record { settings = opened_settings board; line = Some [] }
-    → Heard board 0 k m m i i a a
-begun board m k i a e = record {
+pub begun : (from : Talk) (m : Whole) (k : Kept) (i : Reading) (a : Writing) → from ≡ talk m.state k
+    → HaveRoom k.slots m.state.bus.memory → Heard from 0 k m m i i a a
+begun from m k i a e room = record {
   given = [];
   count = refl;
   hears = record { gave = Consumes-nil i.left; quiet = refl };
-  now = rw e (after_none (opened board m.state));
-  tells = subst (λ (ps : List Piece). TellsAll ps m m a a) (sym (answers_none (opened board m.state))) (tells_none m a);
+  now = after_none from ∙ e;
+  tells = subst (λ (ps : List Piece). TellsAll ps m m a a) (sym (answers_none from)) (tells_none m a);
+  room = room;
 }
 
-is_open : (board : Numbers) (n : ℕ) (k : Kept) (old new : Whole) (i j : Reading) (a b : Writing)
-    (h : Heard board n k old new i j a b)
-    → (after_bytes (opened board old.state) h.given).is_open ≡ true
-is_open board n k old new i j a b h = ap (λ (t : Talk). t.is_open) h.now
+is_open : (from : Talk) (n : ℕ) (k : Kept) (old new : Whole) (i j : Reading) (a b : Writing)
+    (h : Heard from n k old new i j a b) → (after_bytes from h.given).is_open ≡ true
+is_open from n k old new i j a b h = ap (λ (t : Talk). t.is_open) h.now
 
 heard_more : (given more : List ℕ) (i j l : Reading) → Hears given i j → Hears more j l → Hears (given ++ more) i l
 heard_more given more i j l x y = record {
@@ -123,72 +134,69 @@ heard_more given more i j l x y = record {
 }
 
 -- what holds for the next byte, in the session's words
-answered_now : (board : Numbers) (n : ℕ) (k : Kept) (old mid : Whole) (i j : Reading) (a b : Writing) (byte : ℕ)
-    (h : Heard board n k old mid i j a b)
-    → answers (opened board old.state) (h.given ++ byte ∷ []) ≡ answers (opened board old.state) h.given
-    ++ answered (talk mid.state k) byte
-answered_now board n k old mid i j a b byte h =
-    answers_snoc (opened board old.state) h.given byte (is_open board n k old mid i j a b h)
-    ∙ ap (λ (t : Talk). answers (opened board old.state) h.given ++ answered t byte) h.now
+answered_now : (from : Talk) (n : ℕ) (k : Kept) (old mid : Whole) (i j : Reading) (a b : Writing) (byte : ℕ)
+    (h : Heard from n k old mid i j a b)
+    → answers from (h.given ++ byte ∷ []) ≡ answers from h.given ++ answered (talk mid.state k) byte
+answered_now from n k old mid i j a b byte h =
+    answers_snoc from h.given byte (is_open from n k old mid i j a b h)
+    ∙ ap (λ (t : Talk). answers from h.given ++ answered t byte) h.now
 
-next_now : (board : Numbers) (n : ℕ) (k : Kept) (old mid : Whole) (i j : Reading) (a b : Writing) (byte : ℕ)
-    (h : Heard board n k old mid i j a b)
-    → after_bytes (opened board old.state) (h.given ++ byte ∷ []) ≡ next (talk mid.state k) byte
-next_now board n k old mid i j a b byte h =
-    after_snoc (opened board old.state) h.given byte (is_open board n k old mid i j a b h)
+next_now : (from : Talk) (n : ℕ) (k : Kept) (old mid : Whole) (i j : Reading) (a b : Writing) (byte : ℕ)
+    (h : Heard from n k old mid i j a b)
+    → after_bytes from (h.given ++ byte ∷ []) ≡ next (talk mid.state k) byte
+next_now from n k old mid i j a b byte h =
+    after_snoc from h.given byte (is_open from n k old mid i j a b h)
     ∙ ap (λ (t : Talk). next t byte) h.now
 
-answered_all : (board : Numbers) (n : ℕ) (k : Kept) (old mid new : Whole) (i j : Reading) (a b c : Writing) (byte : ℕ)
-    (h : Heard board n k old mid i j a b) → TellsAll (answered (talk mid.state k) byte) mid new b c
-    → TellsAll (answers (opened board old.state) (h.given ++ byte ∷ [])) old new a c
-answered_all board n k old mid new i j a b c byte h then =
-    subst (λ (ps : List Piece). TellsAll ps old new a c) (sym (answered_now board n k old mid i j a b byte h))
-    (tells_on (answers (opened board old.state) h.given) (answered (talk mid.state k) byte) old mid new a b c
+answered_all : (from : Talk) (n : ℕ) (k : Kept) (old mid new : Whole) (i j : Reading) (a b c : Writing) (byte : ℕ)
+    (h : Heard from n k old mid i j a b) → TellsAll (answered (talk mid.state k) byte) mid new b c
+    → TellsAll (answers from (h.given ++ byte ∷ [])) old new a c
+answered_all from n k old mid new i j a b c byte h then =
+    subst (λ (ps : List Piece). TellsAll ps old new a c) (sym (answered_now from n k old mid i j a b byte h))
+    (tells_on (answers from h.given) (answered (talk mid.state k) byte) old mid new a b c
     h.tells then)
 
 -- one byte more
-pub heard_on : (board : Numbers) (n : ℕ) (k k' : Kept) (old mid new : Whole) (i j l : Reading) (a b c : Writing)
+pub heard_on : (from : Talk) (n : ℕ) (k k' : Kept) (old mid new : Whole) (i j l : Reading) (a b c : Writing)
     (byte : ℕ)
-    → Heard board n k old mid i j a b → Hears (byte ∷ []) j l → TellsAll (answered (talk mid.state k) byte) mid new b c
-    → k' ≡ record {
-      settings = (next (talk mid.state k) byte).settings;
-      line = (next (talk mid.state k) byte).line;
-    } → (next (talk mid.state k) byte).is_open ≡ true
-    → Heard board (n + 1) k' old new i l a c
-heard_on board n k k' old mid new i j l a b c byte h gave then kept goes = record {
+    → Heard from n k old mid i j a b → Hears (byte ∷ []) j l → TellsAll (answered (talk mid.state k) byte) mid new b c
+    → HasAll (next (talk mid.state k) byte) k' → (next (talk mid.state k) byte).is_open ≡ true
+    → HaveRoom k'.slots new.state.bus.memory → Heard from (n + 1) k' old new i l a c
+heard_on from n k k' old mid new i j l a b c byte h gave then kept goes room = record {
   given = h.given ++ byte ∷ [];
   count = length-append h.given (byte ∷ []) ∙ ap (λ x. x + 1) h.count;
   hears = heard_more h.given (byte ∷ []) i j l h.hears gave;
-  now = next_now board n k old mid i j a b byte h
+  now = next_now from n k old mid i j a b byte h
       ∙ talk_of (next (talk mid.state k) byte) new.state k'
       (ap (λ (m : Whole). m.state) then.stands ∙ next_state (talk mid.state k) byte) kept goes;
-  tells = answered_all board n k old mid new i j a b c byte h then;
+  tells = answered_all from n k old mid new i j a b c byte h then;
+  room = room;
 }
 
 -- `quit`
-pub closed : (board : Numbers) (n : ℕ) (k : Kept) (old mid new : Whole) (i j l : Reading) (a b c : Writing) (byte : ℕ)
-    → Heard board n k old mid i j a b → Hears (byte ∷ []) j l → TellsAll (answered (talk mid.state k) byte) mid new b c
-    → (next (talk mid.state k) byte).is_open ≡ false → Holds board old new i l a c
-closed board n k old mid new i j l a b c byte h gave then shut = record {
+pub closed : (from : Talk) (n : ℕ) (k : Kept) (old mid new : Whole) (i j l : Reading) (a b c : Writing) (byte : ℕ)
+    → Heard from n k old mid i j a b → Hears (byte ∷ []) j l → TellsAll (answered (talk mid.state k) byte) mid new b c
+    → (next (talk mid.state k) byte).is_open ≡ false → Holds from old new i l a c
+closed from n k old mid new i j l a b c byte h gave then shut = record {
   given = h.given ++ byte ∷ [];
   heard = heard_more h.given (byte ∷ []) i j l h.hears gave;
-  pieces = answers (opened board old.state) (h.given ++ byte ∷ []);
-  ends = inr (inl (ap (λ (t : Talk). t.is_open) (next_now board n k old mid i j a b byte h) ∙ shut, refl));
-  tells = answered_all board n k old mid new i j a b c byte h then;
+  pieces = answers from (h.given ++ byte ∷ []);
+  ends = inr (inl (ap (λ (t : Talk). t.is_open) (next_now from n k old mid i j a b byte h) ∙ shut, refl));
+  tells = answered_all from n k old mid new i j a b c byte h then;
 }
 
 -- the writer failed in the answer to a byte
-pub cut_at : (board : Numbers) (n : ℕ) (k : Kept) (old mid new : Whole) (i j l : Reading) (a b c : Writing) (byte : ℕ)
-    → Heard board n k old mid i j a b → Hears (byte ∷ []) j l → TellsPart (answered (talk mid.state k) byte) mid new b c
-    → FailsToWrite board old new i l a c
-cut_at board n k old mid new i j l a b c byte h gave part = record {
+pub cut_at : (from : Talk) (n : ℕ) (k : Kept) (old mid new : Whole) (i j l : Reading) (a b c : Writing) (byte : ℕ)
+    → Heard from n k old mid i j a b → Hears (byte ∷ []) j l → TellsPart (answered (talk mid.state k) byte) mid new b c
+    → FailsToWrite from old new i l a c
+cut_at from n k old mid new i j l a b c byte h gave part = record {
   given = h.given ++ byte ∷ [];
   heard = heard_more h.given (byte ∷ []) i j l h.hears gave;
   tells = inl
-      (cut_before (answers (opened board old.state) (h.given ++ byte ∷ []))
-      (answered_at_end (after_bytes (opened board old.state) (h.given ++ byte ∷ []))) old new a c
-      (subst (λ (ps : List Piece). TellsPart ps old new a c) (sym (answered_now board n k old mid i j a b byte h))
-      (cut_on (answers (opened board old.state) h.given) (answered (talk mid.state k) byte) old mid new a b c
+      (cut_before (answers from (h.given ++ byte ∷ []))
+      (answered_at_end (after_bytes from (h.given ++ byte ∷ []))) old new a c
+      (subst (λ (ps : List Piece). TellsPart ps old new a c) (sym (answered_now from n k old mid i j a b byte h))
+      (cut_on (answers from h.given) (answered (talk mid.state k) byte) old mid new a b c
       h.tells part)));
 }
 
@@ -196,40 +204,40 @@ nothing_more : (given : List ℕ) (i j l : Reading) → Hears given i j → Hear
 nothing_more given i j l x y = subst (λ (bs : List ℕ). Hears bs i l) (append-nil given) (heard_more given [] i j l x y)
 
 -- the end of the input
-pub at_end : (board : Numbers) (n : ℕ) (k : Kept) (old mid new : Whole) (i j l : Reading) (a b c : Writing)
-    → Heard board n k old mid i j a b
+pub at_end : (from : Talk) (n : ℕ) (k : Kept) (old mid new : Whole) (i j l : Reading) (a b c : Writing)
+    → Heard from n k old mid i j a b
     → Hears [] j l → IsAtEnd l.left → TellsAll (answered_at_end (talk mid.state k)) mid new b c
-    → Holds board old new i l a c
-at_end board n k old mid new i j l a b c h gave end then = record {
+    → Holds from old new i l a c
+at_end from n k old mid new i j l a b c h gave end then = record {
   given = h.given;
   heard = nothing_more h.given i j l h.hears gave;
-  pieces = all_answers board old.state h.given;
+  pieces = all_answers from h.given;
   ends = inl (end, refl);
-  tells = tells_on (answers (opened board old.state) h.given)
-      (answered_at_end (after_bytes (opened board old.state) h.given)) old mid new
+  tells = tells_on (answers from h.given)
+      (answered_at_end (after_bytes from h.given)) old mid new
       a b c h.tells
       (subst (λ (t : Talk). TellsAll (answered_at_end t) mid new b c) (sym h.now) then);
 }
 
 -- the writer failed in the answer to the last line
-pub cut_at_end : (board : Numbers) (n : ℕ) (k : Kept) (old mid new : Whole) (i j l : Reading) (a b c : Writing)
-    → Heard board n k old mid i j a b → Hears [] j l → TellsPart (answered_at_end (talk mid.state k)) mid new b c
-    → FailsToWrite board old new i l a c
-cut_at_end board n k old mid new i j l a b c h gave part = record {
+pub cut_at_end : (from : Talk) (n : ℕ) (k : Kept) (old mid new : Whole) (i j l : Reading) (a b c : Writing)
+    → Heard from n k old mid i j a b → Hears [] j l → TellsPart (answered_at_end (talk mid.state k)) mid new b c
+    → FailsToWrite from old new i l a c
+cut_at_end from n k old mid new i j l a b c h gave part = record {
   given = h.given;
   heard = nothing_more h.given i j l h.hears gave;
   tells = inl
-      (cut_on (answers (opened board old.state) h.given)
-      (answered_at_end (after_bytes (opened board old.state) h.given)) old mid new
+      (cut_on (answers from h.given)
+      (answered_at_end (after_bytes from h.given)) old mid new
       a b c h.tells
       (subst (λ (t : Talk). TellsPart (answered_at_end t) mid new b c) (sym h.now) part));
 }
 
 -- the reader failed
-pub missed : (board : Numbers) (n : ℕ) (k : Kept) (old new : Whole) (i j l : Reading) (a b : Writing)
-    → Heard board n k old new i j a b
-    → Keeps j.left l.left → l.misses ≡ j.misses + 1 → FailsToRead board old new i l a b
-missed board n k old new i j l a b h keeps more = record {
+pub missed : (from : Talk) (n : ℕ) (k : Kept) (old new : Whole) (i j l : Reading) (a b : Writing)
+    → Heard from n k old new i j a b
+    → Keeps j.left l.left → l.misses ≡ j.misses + 1 → FailsToRead from old new i l a b
+missed from n k old new i j l a b h keeps more = record {
   given = h.given;
   gave = Consumes-kept i.left j.left l.left h.given h.hears.gave keeps;
   missed = more ∙ ap (λ x. x + 1) h.hears.quiet;
@@ -237,13 +245,13 @@ missed board n k old new i j l a b h keeps more = record {
 }
 
 -- 2^64 - 1 bytes
-pub spent : (board : Numbers) (n : ℕ) (k : Kept) (old new : Whole) (i j : Reading) (a b : Writing)
-    → Heard board n k old new i j a b
-    → n ≡ 2 ^ 64 - 1 → Holds board old new i j a b
-spent board n k old new i j a b h all = record {
+pub spent : (from : Talk) (n : ℕ) (k : Kept) (old new : Whole) (i j : Reading) (a b : Writing)
+    → Heard from n k old new i j a b
+    → n ≡ 2 ^ 64 - 1 → Holds from old new i j a b
+spent from n k old new i j a b h all = record {
   given = h.given;
   heard = h.hears;
-  pieces = answers (opened board old.state) h.given;
+  pieces = answers from h.given;
   ends = inr (inr (h.count ∙ all, refl));
   tells = h.tells;
 }
@@ -259,15 +267,16 @@ tells_kept ps old new a b c tells kept = record {
 }
 
 -- the session after n bytes, once what waits was sent
-pub heard_kept : (board : Numbers) (n : ℕ) (k : Kept) (old new : Whole) (i j : Reading) (a b c : Writing)
-    → Heard board n k old new i j a b
-    → KeepsPut b c → Heard board n k old new i j a c
-heard_kept board n k old new i j a b c h kept = record {
+pub heard_kept : (from : Talk) (n : ℕ) (k : Kept) (old new : Whole) (i j : Reading) (a b c : Writing)
+    → Heard from n k old new i j a b
+    → KeepsPut b c → Heard from n k old new i j a c
+heard_kept from n k old new i j a b c h kept = record {
   given = h.given;
   count = h.count;
   hears = h.hears;
   now = h.now;
-  tells = tells_kept (answers (opened board old.state) h.given) old new a b c h.tells kept;
+  tells = tells_kept (answers from h.given) old new a b c h.tells kept;
+  room = h.room;
 }
 
 then_failed : (ps : List Piece) (old new : Whole) (a b c : Writing) → TellsAll ps old new a b → FailsOnce b c
@@ -278,17 +287,17 @@ then_failed ps old new a b c tells failed = record {
   failed = failed.1 ∙ ap (λ x. x + 1) tells.quiet;
 }
 
-so_far_of_end : (board : Numbers) (s : State) (given : List ℕ) (l : Reading) (ps : List Piece) → Ends board s given l ps
-    → AreSoFar board s given l ps
-so_far_of_end board s given l ps (inl (end, all)) = inr (end, all)
-so_far_of_end board s given l ps (inr (inl (shut, so_far))) = inl so_far
-so_far_of_end board s given l ps (inr (inr (count, so_far))) = inl so_far
+so_far_of_end : (from : Talk) (given : List ℕ) (l : Reading) (ps : List Piece) → Ends from given l ps
+    → AreSoFar from given l ps
+so_far_of_end from given l ps (inl (end, all)) = inr (end, all)
+so_far_of_end from given l ps (inr (inl (shut, so_far))) = inl so_far
+so_far_of_end from given l ps (inr (inr (count, so_far))) = inl so_far
 
 -- a session that has ended sends what waits
-pub ended : (board : Numbers) (old new : Whole) (i l : Reading) (a b c : Writing)
+pub ended : (from : Talk) (old new : Whole) (i l : Reading) (a b c : Writing)
     (result : Result (Unit {0}) SessionError)
-    → Holds board old new i l a b → SendsRest b c result → Sessions board old new i l a c result × NothingWaits c result
-ended board old new i l a b c (Ok done) h sends = (
+    → Holds from old new i l a b → SendsRest b c result → Sessions from old new i l a c result × NothingWaits c result
+ended from old new i l a b c (Ok done) h sends = (
   record {
     given = h.given;
     heard = h.heard;
@@ -298,14 +307,14 @@ ended board old new i l a b c (Ok done) h sends = (
   },
   sends.1,
 )
-ended board old new i l a b c (Err Read) h sends = absurd sends
-ended board old new i l a b c (Err Write) h sends = (
+ended from old new i l a b c (Err Read) h sends = absurd sends
+ended from old new i l a b c (Err Write) h sends = (
   record {
     given = h.given;
     heard = h.heard;
     tells = inr (record {
       pieces = h.pieces;
-      so_far = so_far_of_end board old.state h.given l h.pieces h.ends;
+      so_far = so_far_of_end from h.given l h.pieces h.ends;
       tells = then_failed h.pieces old new a b c h.tells sends;
     });
   },
@@ -313,22 +322,22 @@ ended board old new i l a b c (Err Write) h sends = (
 )
 
 -- the reader failed, or what waits couldn't be sent before it was called
-pub not_taken : (board : Numbers) (n : ℕ) (k : Kept) (old new : Whole) (i j l : Reading) (a b c : Writing)
+pub not_taken : (from : Talk) (n : ℕ) (k : Kept) (old new : Whole) (i j l : Reading) (a b c : Writing)
     (error : SessionError)
-    → Heard board n k old new i j a b → TakesNext j l b c (Err error)
-    → Sessions board old new i l a c (Err error) × NothingWaits c (Err error)
-not_taken board n k old new i j l a b c Read h takes = (
-  missed board n k old new i j l a c (heard_kept board n k old new i j a b c h takes.2) takes.0 takes.1,
+    → Heard from n k old new i j a b → TakesNext j l b c (Err error)
+    → Sessions from old new i l a c (Err error) × NothingWaits c (Err error)
+not_taken from n k old new i j l a b c Read h takes = (
+  missed from n k old new i j l a c (heard_kept from n k old new i j a b c h takes.2) takes.0 takes.1,
   takes.3,
 )
-not_taken board n k old new i j l a b c Write h takes = (
+not_taken from n k old new i j l a b c Write h takes = (
   record {
     given = h.given;
     heard = subst (λ (s : Reading). Hears h.given i s) (sym takes.0) h.hears;
     tells = inr (record {
-      pieces = answers (opened board old.state) h.given;
+      pieces = answers from h.given;
       so_far = inl refl;
-      tells = then_failed (answers (opened board old.state) h.given) old new a b c h.tells takes.1;
+      tells = then_failed (answers from h.given) old new a b c h.tells takes.1;
     });
   },
   tt,

@@ -1,6 +1,8 @@
+mod BackLaws
 mod Chosen
 mod Hearing
 mod Joining
+mod Rooms
 mod RunLaws
 mod Running
 mod Showing
@@ -8,3 +10,4 @@ mod TaskAnswers
 mod TaskRuns
 mod Tasking
 mod Telling
+mod Words

@@ -190,15 +190,16 @@ stays : (is_closed : Bool) (s : State) (text : List ℕ)
 stays true s text = refl
 stays false s text = refl
 
-pub show_law : (k : Settings) (s : State) (asked : Result Command LineError) (what : Part) → ShowLaw k s asked what
-show_law k s (Err why) what e = absurd (cc)
-show_law k s (Ok (command.Run n)) what e = absurd (cc)
-show_law k s (Ok (command.Task n)) what e = absurd (cc)
-show_law k s (Ok (command.Break a)) what e = absurd (cc)
-show_law k s (Ok (command.Show part)) what e = (stays (is_closed k (Ok (command.Show part))) s (part_text s part), refl)
-show_law k s (Ok command.Quit) what e = absurd (cc)
-show_law k s (Ok (command.Trace selection)) what e = absurd (cc)
-show_law k s (Ok (command.Watch watchpoint)) what e = absurd (cc)
-show_law k s (Ok (command.Stop condition on)) what e = absurd (cc)
-show_law k s (Ok command.Clear) what e = absurd (cc)
-show_law k s (Ok command.Script) what e = absurd (cc)
+pub show_law : (k : Settings) (s : State) (saved : List (Option State)) (asked : Result Command LineError) (what : Part) → ShowLaw k s saved asked what
+show_law k s saved (Err why) what e = absurd (cc)
+show_law k s saved (Ok (command.Run n)) what e = absurd (cc)
+show_law k s saved (Ok (command.Task n)) what e = absurd (cc)
+show_law k s saved (Ok (command.Break a)) what e = absurd (cc)
+show_law k s saved (Ok (command.Show part)) what e = (stays (is_closed k (Ok (command.Show part))) s (part_text s part), refl)
+show_law k s saved (Ok command.Quit) what e = absurd (cc)
+show_law k s saved (Ok (command.Trace selection)) what e = absurd (cc)
+show_law k s saved (Ok (command.Watch watchpoint)) what e = absurd (cc)
+show_law k s saved (Ok (command.Stop condition on)) what e = absurd (cc)
+show_law k s saved (Ok command.Clear) what e = absurd (cc)
+show_law k s saved (Ok command.Script) what e = absurd (cc)
+show_law k s saved (Ok (command.Change change)) what e = absurd (cc)

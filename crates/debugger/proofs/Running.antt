@@ -9,7 +9,7 @@ use Rattle.debugger.specs.Sessions.{Tells, TellsAll, TellsPart}
 use Rattle.debugger_commands.specs.declared.commands.Command.{Command}
 use Rattle.debugger_commands.specs.declared.commands.LineError.{LineError}
 use Rattle.debugger_commands.specs.declared.conditions.Hit.{Hit}
-use Rattle.debugger_commands.specs.Commands.{steps_of, task_steps_of}
+use Rattle.debugger_commands.specs.Commands.{change_of, steps_of, task_steps_of}
 use Rattle.debugger_commands.specs.Conditions.{first_hit, run_end_text}
 use Rattle.debugger_commands.specs.Settings.{Settings}
 use Rattle.machine.specs.Whole.{Whole}
@@ -138,12 +138,12 @@ then_on k n left h old mid new a b c (Err error) goes same hits first part =
     (run_on k (n - 1) (first_hit k (step old.state).events) (step old.state).state) old mid new a b c first
     (subst (λ (ps : List Piece). TellsPart ps mid new b c) (rest_is k n left h old mid same hits now) part))
 
--- a command that makes no step has its reply
-pub replied : {A E : Type 0} (k : Settings) (asked : Result Command LineError) (old new : Whole) (a b : Writing)
-    (result : Result A E) → steps_of asked ≡ None → task_steps_of asked ≡ None
-    → Tells (reply old.state k asked) old new a b result
-    → Tells (answer_by old.state k asked (steps_of asked) (task_steps_of asked)) old new a b result
-replied k asked old new a b result none no_task tells = rw (none, no_task) tells
+-- a command that makes no step and changes nothing has its reply
+pub replied : {A E : Type 0} (k : Settings) (saved : List (Option State)) (asked : Result Command LineError)
+    (old new : Whole) (a b : Writing) (result : Result A E) → steps_of asked ≡ None → task_steps_of asked ≡ None
+    → change_of asked ≡ None → Tells (reply old.state k asked) old new a b result
+    → Tells (answer_by old.state k saved asked (steps_of asked) (task_steps_of asked)) old new a b result
+replied k saved asked old new a b result none no_task no_change tells = rw (none, no_task, no_change) tells
 
 -- ---- the line after an answer
 

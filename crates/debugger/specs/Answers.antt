@@ -1,7 +1,12 @@
 -- What the debugger answers to a command (profile).
 use Rattle.std.specs.Prelude.{ℕ, zero, suc, ◌+◌, ◌-◌, Bool, true, false, not, ◌&&◌, ◌||◌, if◌then◌else◌, is_some}
-use Rattle.std.specs.Prelude.{List, [], ◌∷◌, ◌++◌, codes, decimal, Option, Some, None, Result}
+use Rattle.std.specs.Prelude.{List, [], ◌∷◌, ◌++◌, codes, decimal, Option, Some, None, Result, Ok, Err}
+use Rattle.std.specs.Prelude.{nat_lt, slice_index_or, slice_set}
 use Rattle.debugger.specs.StateText.{registers_text, state_text}
+use Rattle.debugger_commands.specs.declared.changes.Change.{Change}
+use Rattle.debugger_commands.specs.declared.changes.Change.TheVariants as change
+use Rattle.debugger_commands.specs.declared.changes.Edge.{Edge}
+use Rattle.debugger_commands.specs.declared.changes.Edge.TheVariants as edge
 use Rattle.debugger_commands.specs.declared.commands.Command.{Command}
 use Rattle.debugger_commands.specs.declared.commands.LineError.{LineError}
 use Rattle.debugger_commands.specs.declared.commands.Part.{Part}
@@ -9,22 +14,29 @@ use Rattle.debugger_commands.specs.declared.commands.Part.TheVariants as part
 use Rattle.debugger_commands.specs.declared.conditions.Hit.{Hit}
 use Rattle.debugger_commands.specs.declared.conditions.Hit.TheVariants as hit
 use Rattle.debugger_commands.specs.Breakpoints.{has}
-use Rattle.debugger_commands.specs.Commands.{part_of, quits, steps_of, task_steps_of}
+use Rattle.debugger_commands.specs.Commands.{change_of, part_of, quits, steps_of, task_steps_of}
 use Rattle.debugger_commands.specs.Conditions.{first_hit, run_end_text, written}
-use Rattle.debugger_commands.specs.Settings.{Settings, settings_after, settings_text, without_conditions}
+use Rattle.debugger_commands.specs.Settings.{Settings, ok_text, settings_after, settings_text, without_conditions}
 use Rattle.debugger_commands.specs.Texts.{decision_text, help_text, memory_text, region_lines}
 use Rattle.machine.specs.Foresight.{is_instruction_next, next_kind_of}
 use Rattle.machine.specs.Tasks.{end_of}
 use Rattle.machine.specs.Values.{values_of}
+use Rattle.platform.specs.declared.error.PlaceError.{PlaceError}
+use Rattle.platform.specs.declared.error.PlaceError.TheVariants.{NotAligned, NoSuchPlace, Stopped, Refused}
+use Rattle.platform.specs.declared.exception.TheConstants.{MOST_INTERRUPTS}
 use Rattle.platform.specs.declared.mpu.TheConstants.{MOST_REGIONS}
+use Rattle.platform.specs.declared.script.Signal.{Signal}
+use Rattle.platform.specs.declared.script.Signal.TheVariants as signal
 use Rattle.platform.specs.declared.stop.LeftOut.TheVariants.{ClockEnd}
 use Rattle.platform.specs.declared.stop.Stop.{Stop}
 use Rattle.platform.specs.declared.stop.Stop.TheVariants.{OutOfProfile}
 use Rattle.platform.specs.Priorities.{is_below_zero}
 use Rattle.platform.specs.Rules.{decision_of}
+use Rattle.reference.specs.declared.place.Place.{Place}
+use Rattle.reference.specs.Places.{altered, signalled}
 use Rattle.reference.specs.State.{State}
 use Rattle.reference.specs.Step.{step}
-use Rattle.platform.specs.Text.{hex_word, line_feed, stop_line}
+use Rattle.platform.specs.Text.{hex_word, line_feed, stop_line, stop_text}
 use Rattle.platform.specs.Events.{lines}
 use Rattle.task_laws.specs.declared.foresight.StepKind.{StepKind}
 use Rattle.task_laws.specs.declared.foresight.StepKind.TheVariants as kind
@@ -141,6 +153,65 @@ part_text s part.State = state_text s
 part_text s part.Next = next_text s
 part_text s part.Help = help_text
 
+-- ---- place, signal, save and back
+
+-- the state with a value in its place, or the refusal. A register that no machine has is no place
+abbrev pub placed : State → Option Place → Result State PlaceError
+placed s None = Err NoSuchPlace
+placed s (Some value) = altered s value
+
+-- what an event of a script does on an interrupt
+abbrev pub edge_signal : Edge → ℕ → Signal
+edge_signal edge.Pulse k = signal.Pulse k
+edge_signal edge.Rise k = signal.Rise k
+edge_signal edge.Fall k = signal.Fall k
+
+-- the state after it, or the refusal. No board has an interrupt from 240 on
+abbrev pub after_edge : State → Edge → ℕ → Result State PlaceError
+after_edge s how k = if nat_lt k MOST_INTERRUPTS then signalled s (edge_signal how k) else Err NoSuchPlace
+
+-- the number of a refusal, and its name
+abbrev pub refusal_text : PlaceError → List ℕ
+refusal_text NotAligned = codes "refused 1 NotAligned" ++ line_feed
+refusal_text NoSuchPlace = codes "refused 2 NoSuchPlace" ++ line_feed
+refusal_text Stopped = codes "refused 3 Stopped" ++ line_feed
+refusal_text (Refused why) = codes "refused 4 Refused " ++ (stop_text why ++ line_feed)
+
+-- whether a change was made
+abbrev pub change_text : {A : Type 0} → Result A PlaceError → List ℕ
+change_text (Ok done) = ok_text
+change_text (Err why) = refusal_text why
+
+-- the machine's state after a change that is made, or with the refusal
+abbrev pub changed_piece : State → Result State PlaceError → Piece
+changed_piece s (Ok after) = record { state = after; text = ok_text }
+changed_piece s (Err why) = record { state = s; text = refusal_text why }
+
+-- back to a saved state, where one was saved
+abbrev pub back_piece : State → Option State → Piece
+back_piece s None = record { state = s; text = codes "error 3" ++ line_feed }
+back_piece s (Some saved) = record { state = saved; text = ok_text }
+
+-- a change of a machine with these saved states
+abbrev pub change_piece : State → List (Option State) → Change → Piece
+change_piece s saved (change.Place value) = changed_piece s (placed s value)
+change_piece s saved (change.Signal how k) = changed_piece s (after_edge s how k)
+change_piece s saved change.Nmi = changed_piece s (signalled s signal.Nmi)
+change_piece s saved (change.Save slot) = record { state = s; text = ok_text }
+change_piece s saved (change.Back slot) = back_piece s (slice_index_or saved slot None)
+
+-- the saved states after a change
+abbrev pub saved_by : State → List (Option State) → Change → List (Option State)
+saved_by s saved (change.Place value) = saved
+saved_by s saved (change.Signal how k) = saved
+saved_by s saved change.Nmi = saved
+saved_by s saved (change.Save slot) = slice_set saved slot (Some s)
+saved_by s saved (change.Back slot) = saved
+
+abbrev pub saved_after : State → List (Option State) → Option Change → List (Option State)
+saved_after s saved None = saved
+saved_after s saved (Some what) = saved_by s saved what
+
 -- ---- all commands
 
 -- the text of a command that shows a part of the machine, else that of one that changes settings
@@ -148,17 +219,23 @@ abbrev pub text_for : State → Option Part → List ℕ → List ℕ
 text_for s (Some what) text = part_text s what
 text_for s None text = text
 
--- the text of an answer that makes no step; `quit` has none
+-- the text of an answer that neither makes a step nor changes the machine; `quit` has none
 abbrev pub reply_text : State → Settings → Result Command LineError → List ℕ
 reply_text s k asked = text_for s (part_of asked) (settings_text k asked)
 
 abbrev pub reply : State → Settings → Result Command LineError → List Piece
 reply s k asked = record { state = s; text = reply_text s k asked } ∷ []
 
-abbrev pub answer_by : State → Settings → Result Command LineError → Option ℕ → Option ℕ → List Piece
-answer_by s k asked (Some n) task = run_pieces k n s
-answer_by s k asked None (Some n) = task_pieces k n s
-answer_by s k asked None None = reply s k asked
+-- the pieces of a change, else the reply
+abbrev pub replies : State → Settings → List (Option State) → Result Command LineError → Option Change → List Piece
+replies s k saved asked (Some what) = change_piece s saved what ∷ []
+replies s k saved asked None = reply s k asked
+
+abbrev pub answer_by
+    : State → Settings → List (Option State) → Result Command LineError → Option ℕ → Option ℕ → List Piece
+answer_by s k saved asked (Some n) task = run_pieces k n s
+answer_by s k saved asked None (Some n) = task_pieces k n s
+answer_by s k saved asked None None = replies s k saved asked (change_of asked)
 
 -- ---- the line after an answer, in a session with scripts
 
@@ -179,6 +256,7 @@ closed true s pieces = pieces ++ closing_piece (last_state s pieces) ∷ []
 abbrev pub is_closed : Settings → Result Command LineError → Bool
 is_closed k asked = (settings_after k asked).is_script && not (quits asked)
 
--- the answer to a line
-abbrev pub answer : State → Settings → Result Command LineError → List Piece
-answer s k asked = closed (is_closed k asked) s (answer_by s k asked (steps_of asked) (task_steps_of asked))
+-- the answer to a line, with these saved states
+abbrev pub answer : State → Settings → List (Option State) → Result Command LineError → List Piece
+answer s k saved asked =
+    closed (is_closed k asked) s (answer_by s k saved asked (steps_of asked) (task_steps_of asked))

@@ -1,12 +1,16 @@
--- What the answers to `run n` and `task n` say of a run, and that commands which show leave all as it is.
+-- What the answers to `run n` and `task n` say of a run, that commands which show leave all as it is, and what `back k`
+-- goes back to.
 use Rattle.std.specs.Prelude.{◌≡◌, ℕ, zero, suc, ◌+◌, ◌-◌, ◌<◌, ◌≤◌, true, false, ◌||◌, if◌then◌else◌, is_some, List}
-use Rattle.std.specs.Prelude.{[], ◌∷◌, ◌++◌, Some, None, Result}
+use Rattle.std.specs.Prelude.{[], ◌∷◌, ◌++◌, length, Option, Some, None, Result, Ok}
 use Rattle.debugger.specs.Answers.{Piece, answer, end_piece, is_hit, last_state, run_pieces, task_pieces}
 use Rattle.debugger.specs.Answers.{task_text, texts}
+use Rattle.debugger.specs.Sessions.{Talk, after_command}
+use Rattle.debugger_commands.specs.declared.changes.Change.TheVariants as change
 use Rattle.debugger_commands.specs.declared.commands.Command.{Command}
+use Rattle.debugger_commands.specs.declared.commands.Command.TheVariants as command
 use Rattle.debugger_commands.specs.declared.commands.LineError.{LineError}
 use Rattle.debugger_commands.specs.declared.commands.Part.{Part}
-use Rattle.debugger_commands.specs.Commands.{part_of}
+use Rattle.debugger_commands.specs.Commands.{change_of, part_of}
 use Rattle.debugger_commands.specs.Conditions.{is_plain, written}
 use Rattle.debugger_commands.specs.Settings.{Settings, settings_after, without_conditions}
 use Rattle.debugger_commands.specs.Texts.{end_text}
@@ -83,7 +87,35 @@ PartsLaw k a b s = 0 < a → 0 < b → is_plain k ≡ true → k.breakpoints ≡
 
 -- ---- commands that show a part of the machine
 
--- they leave the machine's state and the settings
-abbrev pub ShowLaw : Settings → State → Result Command LineError → Part → Type 0
-ShowLaw k s asked what =
-    part_of asked ≡ Some what → (last_state s (answer s k asked) ≡ s) × (settings_after k asked ≡ k)
+-- they leave the machine's state and the settings, whatever was saved
+abbrev pub ShowLaw : Settings → State → List (Option State) → Result Command LineError → Part → Type 0
+ShowLaw k s saved asked what =
+    part_of asked ≡ Some what → (last_state s (answer s k saved asked) ≡ s) × (settings_after k asked ≡ k)
+
+-- ---- saved states
+
+-- the command `save k`, and `back k`
+abbrev pub save_in : ℕ → Result Command LineError
+save_in slot = Ok (command.Change (change.Save slot))
+
+abbrev pub back_to : ℕ → Result Command LineError
+back_to slot = Ok (command.Change (change.Back slot))
+
+-- a state that is saved stays the machine's
+abbrev pub SaveLaw : Talk → ℕ → Type 0
+SaveLaw t slot = (after_command t (save_in slot)).state ≡ t.state
+
+abbrev pub after_commands : Talk → List (Result Command LineError) → Talk
+after_commands t [] = t
+after_commands t (asked ∷ more) = after_commands (after_command t asked) more
+
+-- no command saves a state in a slot
+abbrev pub LeaveSlot : ℕ → List (Result Command LineError) → Type 0
+LeaveSlot slot [] = Unit {0}
+LeaveSlot slot (asked ∷ more) = ¬ (change_of asked ≡ Some (change.Save slot)) × LeaveSlot slot more
+
+-- `back k` goes back to the state that `save k` saved, whatever comes between that doesn't save another one there
+abbrev pub BackLaw : Talk → ℕ → List (Result Command LineError) → Type 0
+BackLaw t slot between =
+    slot < length t.saved → LeaveSlot slot between
+    → (after_command (after_commands (after_command t (save_in slot)) between) (back_to slot)).state ≡ t.state

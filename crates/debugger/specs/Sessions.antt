@@ -4,8 +4,11 @@ use Rattle.std.specs.Prelude.{◌++◌, length, Option, Some, None, Result, Ok, 
 use Rattle.std.specs.Io.KnownBytes.{Appends, Consumes, IsAtEnd, Keeps}
 use Rattle.debugger.specs.declared.sessions.SessionError.{SessionError}
 use Rattle.debugger.specs.declared.sessions.SessionError.TheVariants.{Read, Write}
-use Rattle.debugger.specs.Answers.{Piece, answer, last_state, texts}
-use Rattle.debugger_commands.specs.Commands.{command_in, quits}
+use Rattle.debugger.specs.Answers.{Piece, answer, last_state, saved_after, texts}
+use Rattle.debugger.specs.Slots.{Slot, saved_in}
+use Rattle.debugger_commands.specs.declared.commands.Command.{Command}
+use Rattle.debugger_commands.specs.declared.commands.LineError.{LineError}
+use Rattle.debugger_commands.specs.Commands.{change_of, command_in, quits}
 use Rattle.debugger_commands.specs.Settings.{Settings, opened_settings, settings_after}
 use Rattle.debugger_commands.specs.Words.{is_empty, with_byte}
 use Rattle.machine.specs.Whole.{Whole}
@@ -21,31 +24,48 @@ pub record Kept : Type 0 where
   pub settings : Settings
   -- the line so far, None where it's too long
   pub line : Option (List ℕ)
+  pub slots : List Slot
 
 pub record Talk : Type 0 where
   pub state : State
   pub settings : Settings
   -- the line so far, None where it's too long
   pub line : Option (List ℕ)
+  -- for each slot the state that was saved there last, if one was
+  pub saved : List (Option State)
   -- whether no `quit` was read
   pub is_open : Bool
 
--- a session of a machine of a board before the first byte
-abbrev pub opened : Numbers → State → Talk
-opened board s = record { state = s; settings = opened_settings board; line = Some []; is_open = true }
+-- a session of a machine of a board before the first byte, with these saved states
+abbrev pub opened : Numbers → List (Option State) → State → Talk
+opened board saved s = record {
+  state = s;
+  settings = opened_settings board (length saved);
+  line = Some [];
+  saved = saved;
+  is_open = true;
+}
+
+-- the command of the line
+abbrev pub line_asked : Talk → Result Command LineError
+line_asked t = command_in t.settings.slots t.line
 
 -- the answer to the line
 abbrev pub line_answered : Talk → List Piece
-line_answered t = answer t.state t.settings (command_in t.line)
+line_answered t = answer t.state t.settings t.saved (line_asked t)
+
+-- after the answer to a command
+abbrev pub after_command : Talk → Result Command LineError → Talk
+after_command t asked = record t {
+  state = last_state t.state (answer t.state t.settings t.saved asked);
+  settings = settings_after t.settings asked;
+  saved = saved_after t.state t.saved (change_of asked);
+}
 
 -- after the answer to the line
 abbrev pub after_line : Talk → Talk
-after_line t = record {
-  state = last_state t.state (line_answered t);
-  settings = settings_after t.settings (command_in t.line);
-  line = Some [];
-  is_open = not (quits (command_in t.line));
-}
+after_line t =
+    record (after_command t (line_asked t)) { line = Some []; is_open = not (quits (line_asked t)) }
 
 abbrev pub is_line_feed : ℕ → Bool
 is_line_feed byte = byte == 10
@@ -63,11 +83,23 @@ answered_at_end t = if is_empty t.line then [] else line_answered t
 
 -- what is kept, with the machine's state, before a byte
 abbrev pub talk : State → Kept → Talk
-talk s k = record { state = s; settings = k.settings; line = k.line; is_open = true }
+talk s k = record {
+  state = s;
+  settings = k.settings;
+  line = k.line;
+  saved = saved_in k.slots;
+  is_open = true;
+}
+
+-- what is kept has what the session has
+pub record HasAll (t : Talk) (k : Kept) : Type 0 where
+  pub settings : k.settings ≡ t.settings
+  pub line : k.line ≡ t.line
+  pub saved : saved_in k.slots ≡ t.saved
 
 -- what is kept, and whether the session goes on, after a byte that was answered
 abbrev pub GoesOn : {E : Type 0} → Talk → Kept → Result Bool E → Type 0
-GoesOn t k (Ok goes_on) = (k ≡ record { settings = t.settings; line = t.line }) × (goes_on ≡ t.is_open)
+GoesOn t k (Ok goes_on) = HasAll t k × (goes_on ≡ t.is_open)
 GoesOn t k (Err error) = Unit {0}
 
 -- ---- all bytes; none is read after `quit`
@@ -81,9 +113,8 @@ answers t [] = []
 answers t (byte ∷ bytes) = if t.is_open then answered t byte ++ answers (next t byte) bytes else []
 
 -- the answers to an input that has ended
-abbrev pub all_answers : Numbers → State → List ℕ → List Piece
-all_answers board s given =
-    answers (opened board s) given ++ answered_at_end (after_bytes (opened board s) given)
+abbrev pub all_answers : Talk → List ℕ → List Piece
+all_answers t given = answers t given ++ answered_at_end (after_bytes t given)
 
 -- ---- what of the pieces went out
 
@@ -162,49 +193,49 @@ NothingWaits out (Err Read) = out.waits ≡ []
 NothingWaits out (Err Write) = Unit {0}
 
 -- why a session ends with no error: the input is at its end, and then a last line counts; `quit`; or 2^64 - 1 bytes
-abbrev pub Ends : Numbers → State → List ℕ → Reading → List Piece → Type 0
-Ends board s given after pieces =
-    (IsAtEnd after.left × (pieces ≡ all_answers board s given))
-    ⊎ (((after_bytes (opened board s) given).is_open ≡ false) × (pieces ≡ answers (opened board s) given)
-    ⊎ (length given ≡ 2 ^ 64 - 1) × (pieces ≡ answers (opened board s) given))
+abbrev pub Ends : Talk → List ℕ → Reading → List Piece → Type 0
+Ends t given after pieces =
+    (IsAtEnd after.left × (pieces ≡ all_answers t given))
+    ⊎ (((after_bytes t given).is_open ≡ false) × (pieces ≡ answers t given)
+    ⊎ (length given ≡ 2 ^ 64 - 1) × (pieces ≡ answers t given))
 
 -- the whole session: the answers to what was read went out
-pub record Holds (board : Numbers) (old new : Whole) (before after : Reading) (out out' : Writing) : Type 0 where
+pub record Holds (t : Talk) (old new : Whole) (before after : Reading) (out out' : Writing) : Type 0 where
   pub given : List ℕ
   pub heard : Hears given before after
   pub pieces : List Piece
-  pub ends : Ends board old.state given after pieces
+  pub ends : Ends t given after pieces
   pub tells : TellsAll pieces old new out out'
 
 -- the reader failed: what it returned before was read, and the whole lines are answered
-pub record FailsToRead (board : Numbers) (old new : Whole) (before after : Reading) (out out' : Writing) : Type 0 where
+pub record FailsToRead (t : Talk) (old new : Whole) (before after : Reading) (out out' : Writing) : Type 0 where
   pub given : List ℕ
   pub gave : Consumes before.left after.left given
   pub missed : after.misses ≡ before.misses + 1
-  pub tells : TellsAll (answers (opened board old.state) given) old new out out'
+  pub tells : TellsAll (answers t given) old new out out'
 
 -- the pieces so far: the answers to what was read, at the end of the input that to a last line too
-abbrev pub AreSoFar : Numbers → State → List ℕ → Reading → List Piece → Type 0
-AreSoFar board s given after pieces =
-    (pieces ≡ answers (opened board s) given) ⊎ (IsAtEnd after.left × (pieces ≡ all_answers board s given))
+abbrev pub AreSoFar : Talk → List ℕ → Reading → List Piece → Type 0
+AreSoFar t given after pieces =
+    (pieces ≡ answers t given) ⊎ (IsAtEnd after.left × (pieces ≡ all_answers t given))
 
 -- the answers to what was read were put, and the call failed that was to send those that wait
-pub record FailsToHandOn (board : Numbers) (given : List ℕ) (old new : Whole) (after : Reading) (out out' : Writing)
+pub record FailsToHandOn (t : Talk) (given : List ℕ) (old new : Whole) (after : Reading) (out out' : Writing)
     : Type 0 where
   pub pieces : List Piece
-  pub so_far : AreSoFar board old.state given after pieces
+  pub so_far : AreSoFar t given after pieces
   pub tells : TellsAllThenFails pieces old new out out'
 
 -- the writer failed in the answers to what was read, or after all of them
-pub record FailsToWrite (board : Numbers) (old new : Whole) (before after : Reading) (out out' : Writing) : Type 0 where
+pub record FailsToWrite (t : Talk) (old new : Whole) (before after : Reading) (out out' : Writing) : Type 0 where
   pub given : List ℕ
   pub heard : Hears given before after
-  pub tells : TellsPart (all_answers board old.state given) old new out out'
-      ⊎ FailsToHandOn board given old new after out out'
+  pub tells : TellsPart (all_answers t given) old new out out'
+      ⊎ FailsToHandOn t given old new after out out'
 
--- a session of a machine of a board
+-- a session from there on
 abbrev pub Sessions
-    : Numbers → Whole → Whole → Reading → Reading → Writing → Writing → Result (Unit {0}) SessionError → Type 0
-Sessions board old new before after out out' (Ok done) = Holds board old new before after out out'
-Sessions board old new before after out out' (Err Read) = FailsToRead board old new before after out out'
-Sessions board old new before after out out' (Err Write) = FailsToWrite board old new before after out out'
+    : Talk → Whole → Whole → Reading → Reading → Writing → Writing → Result (Unit {0}) SessionError → Type 0
+Sessions t old new before after out out' (Ok done) = Holds t old new before after out out'
+Sessions t old new before after out out' (Err Read) = FailsToRead t old new before after out out'
+Sessions t old new before after out out' (Err Write) = FailsToWrite t old new before after out out'

@@ -1,7 +1,9 @@
 //! What follows from the definitions of the answers alone.
 
-ghost use Rattle.std.specs.Prelude.{ℕ, Result};
-ghost use Rattle.debugger.specs.Laws.{PartsLaw, PlainRunLaw, ShowLaw, TaskAnswersLaw, TaskLaw};
+ghost use Rattle.std.specs.Prelude.{ℕ, List, Option, Result};
+ghost use Rattle.debugger.specs.Laws.{BackLaw, PartsLaw, PlainRunLaw, SaveLaw, ShowLaw, TaskAnswersLaw};
+ghost use Rattle.debugger.specs.Laws.{TaskLaw};
+ghost use Rattle.debugger.specs.Sessions.{Talk};
 ghost use Rattle.debugger_commands.specs.declared.commands.Command.{Command};
 ghost use Rattle.debugger_commands.specs.declared.commands.LineError.{LineError};
 ghost use Rattle.debugger_commands.specs.declared.commands.Part.{Part};
@@ -34,5 +36,16 @@ pub fn runs_join()
 
 /// A command that shows a part of the machine changes neither its state nor the settings.
 pub fn showing_changes_nothing()
-    ensures { (k : Settings) (s : State) (asked : Result Command LineError) (what : Part) → ShowLaw k s asked what }
+    ensures { (k : Settings) (s : State) (saved : List (Option State)) (asked : Result Command LineError) (what : Part)
+        → ShowLaw k s saved asked what }
+{}
+
+/// `save k` leaves the state of the machine.
+pub fn saving_leaves_the_state()
+    ensures { (t : Talk) (slot : ℕ) → SaveLaw t slot }
+{}
+
+/// After `save k`, and any commands that don't save in that slot, `back k` goes back to the state that was saved.
+pub fn back_is_to_what_was_saved()
+    ensures { (t : Talk) (slot : ℕ) (between : List (Result Command LineError)) → BackLaw t slot between }
 {}

@@ -1,6 +1,7 @@
 -- The commands of a session, and their lines (profile).
 use Rattle.std.specs.Prelude.{ℕ, ◌+◌, ◌-◌, ◌^◌, nat_le, Bool, true, false, if◌then◌else◌, List, codes, bytes_eq, Option}
 use Rattle.std.specs.Prelude.{Some, None, Result, Ok, Err}
+use Rattle.debugger_commands.specs.declared.changes.Change.{Change}
 use Rattle.debugger_commands.specs.declared.commands.Command.{Command}
 use Rattle.debugger_commands.specs.declared.commands.Command.TheVariants as command
 use Rattle.debugger_commands.specs.declared.commands.LineError.{LineError}
@@ -11,6 +12,7 @@ use Rattle.debugger_commands.specs.declared.conditions.Condition.{Condition}
 use Rattle.debugger_commands.specs.declared.conditions.Condition.TheVariants as condition
 use Rattle.debugger_commands.specs.declared.conditions.LineSelection.{LineSelection}
 use Rattle.debugger_commands.specs.declared.conditions.LineSelection.TheVariants as lines
+use Rattle.debugger_commands.specs.Changes.{change_in}
 use Rattle.debugger_commands.specs.Words.{TwoWords, ThreeWords, first_word, more_words, one_word, two_words}
 use Rattle.debugger_commands.specs.Words.{three_words, number, number_within}
 use Rattle.platform.specs.declared.access.Kind.{Kind}
@@ -165,9 +167,14 @@ abbrev pub read_script : Option (List ℕ) → Result Command LineError
 read_script None = Err error.Command
 read_script (Some word) = script_of (number_within 1 1 word)
 
--- the command of a first word, with the words after it
-unfoldable pub command_of : List ℕ → Option (List ℕ) → Result Command LineError
-command_of word more =
+-- the command of a change
+abbrev pub changing : Result Change LineError → Result Command LineError
+changing (Ok what) = Ok (command.Change what)
+changing (Err why) = Err why
+
+-- the command of a first word, with the words after it, in a session with this many slots
+unfoldable pub command_of : ℕ → List ℕ → Option (List ℕ) → Result Command LineError
+command_of slots word more =
     if bytes_eq word (codes "step") then alone (command.Run 1) more
     else if bytes_eq word (codes "run") then read_run (one_word more)
     else if bytes_eq word (codes "task") then read_task (one_word more)
@@ -185,12 +192,12 @@ command_of word more =
     else if bytes_eq word (codes "script") then read_script (one_word more)
     else if bytes_eq word (codes "help") then alone (command.Show part.Help) more
     else if bytes_eq word (codes "quit") then alone command.Quit more
-    else Err error.Command
+    else changing (change_in slots word more)
 
 -- the command of a line, None where the line is too long
-unfoldable pub command_in : Option (List ℕ) → Result Command LineError
-command_in None = Err error.Command
-command_in (Some line) = command_of (first_word line) (more_words line)
+unfoldable pub command_in : ℕ → Option (List ℕ) → Result Command LineError
+command_in slots None = Err error.Command
+command_in slots (Some line) = command_of slots (first_word line) (more_words line)
 
 -- how many steps a run makes at most, where the command is `run` or `step`
 abbrev pub steps_of : Result Command LineError → Option ℕ
@@ -205,6 +212,7 @@ steps_of (Ok (command.Watch watchpoint)) = None
 steps_of (Ok (command.Stop what on)) = None
 steps_of (Ok command.Clear) = None
 steps_of (Ok command.Script) = None
+steps_of (Ok (command.Change what)) = None
 
 -- how many steps of a task are made at most, where the command is `task`
 abbrev pub task_steps_of : Result Command LineError → Option ℕ
@@ -219,6 +227,7 @@ task_steps_of (Ok (command.Watch watchpoint)) = None
 task_steps_of (Ok (command.Stop what on)) = None
 task_steps_of (Ok command.Clear) = None
 task_steps_of (Ok command.Script) = None
+task_steps_of (Ok (command.Change what)) = None
 
 -- which part of the machine is shown, where the command shows one
 abbrev pub part_of : Result Command LineError → Option Part
@@ -233,6 +242,7 @@ part_of (Ok (command.Watch watchpoint)) = None
 part_of (Ok (command.Stop what on)) = None
 part_of (Ok command.Clear) = None
 part_of (Ok command.Script) = None
+part_of (Ok (command.Change what)) = None
 
 -- whether a command ends the session
 abbrev pub quits : Result Command LineError → Bool
@@ -247,3 +257,19 @@ quits (Ok (command.Watch watchpoint)) = false
 quits (Ok (command.Stop what on)) = false
 quits (Ok command.Clear) = false
 quits (Ok command.Script) = false
+quits (Ok (command.Change what)) = false
+
+-- what a command changes, where it changes the machine's state or saves it
+abbrev pub change_of : Result Command LineError → Option Change
+change_of (Err why) = None
+change_of (Ok (command.Run n)) = None
+change_of (Ok (command.Task n)) = None
+change_of (Ok (command.Break a)) = None
+change_of (Ok (command.Show what)) = None
+change_of (Ok command.Quit) = None
+change_of (Ok (command.Trace selection)) = None
+change_of (Ok (command.Watch watchpoint)) = None
+change_of (Ok (command.Stop what on)) = None
+change_of (Ok command.Clear) = None
+change_of (Ok command.Script) = None
+change_of (Ok (command.Change what)) = Some what

@@ -1,4 +1,5 @@
 pub mod Breakpoints
+pub mod Changes
 pub mod Commands
 pub mod Conditions
 pub mod Settings

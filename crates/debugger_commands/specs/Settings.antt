@@ -18,6 +18,8 @@ use Rattle.platform.specs.Text.{hex_word, line_feed}
 pub record Settings : Type 0 where
   -- the board's numbers, which `script 1` answers
   pub board : Numbers
+  -- how many states of the machine can be saved
+  pub slots : ℕ
   -- what ends a run
   pub breakpoints : List ℕ
   pub watchpoints : List Watchpoint
@@ -30,9 +32,10 @@ pub record Settings : Type 0 where
   pub is_script : Bool
 
 -- before the first line
-abbrev pub opened_settings : Numbers → Settings
-opened_settings board = record {
+abbrev pub opened_settings : Numbers → ℕ → Settings
+opened_settings board slots = record {
   board = board;
+  slots = slots;
   breakpoints = [];
   watchpoints = [];
   refused = false;
@@ -65,6 +68,7 @@ settings_after k (Ok (command.Watch w)) = record k { watchpoints = with_watchpoi
 settings_after k (Ok (command.Stop what on)) = with_condition k what on
 settings_after k (Ok command.Clear) = without_conditions k
 settings_after k (Ok command.Script) = record k { is_script = true }
+settings_after k (Ok (command.Change what)) = k
 
 -- ---- the answers of the commands that change settings
 
@@ -79,14 +83,14 @@ abbrev pub number_line : List ℕ → ℕ → List ℕ
 number_line name number = name ++ (decimal number ++ line_feed)
 
 -- the numbers of the board, and how many states of the machine can be saved
-unfoldable pub facts_text : Numbers → List ℕ
-facts_text board =
+unfoldable pub facts_text : Numbers → ℕ → List ℕ
+facts_text board slots =
     number_line (codes "script ") 1 ++ (block_line (codes "flash ") board.flash_base board.flash_size
     ++ (block_line (codes "ram ") ram_base board.ram_size
     ++ (number_line (codes "priority_bits ") board.priority_bits ++ (number_line (codes "lines ") board.interrupts
-    ++ (number_line (codes "regions ") board.regions ++ number_line (codes "slots ") 0)))))
+    ++ (number_line (codes "regions ") board.regions ++ number_line (codes "slots ") slots)))))
 
--- the text for a line that neither makes a step nor shows a part of the machine; `quit` has none
+-- the text for a line that neither makes a step, nor shows or changes the machine; `quit` has none
 abbrev pub settings_text : Settings → Result Command LineError → List ℕ
 settings_text k (Err why) = error_text why
 settings_text k (Ok (command.Run n)) = []
@@ -98,4 +102,5 @@ settings_text k (Ok (command.Trace selection)) = ok_text
 settings_text k (Ok (command.Watch w)) = watchpoint_text k.watchpoints w
 settings_text k (Ok (command.Stop what on)) = ok_text
 settings_text k (Ok command.Clear) = ok_text
-settings_text k (Ok command.Script) = facts_text k.board
+settings_text k (Ok command.Script) = facts_text k.board k.slots
+settings_text k (Ok (command.Change what)) = []

@@ -1,12 +1,13 @@
 //! The commands of a session, and how a line is read.
 
 ghost use Rattle.std.specs.Prelude.{◌≡◌, option_map};
-ghost use Rattle.debugger_commands.specs.Commands.{alone, command_in, command_of, part_of};
+ghost use Rattle.debugger_commands.specs.Commands.{alone, change_of, changing, command_in, command_of, part_of};
 ghost use Rattle.debugger_commands.specs.Commands.{quits, read_break, read_explain, read_memory, read_run, read_task};
 ghost use Rattle.debugger_commands.specs.Commands.{read_script, read_stop, read_trace, read_watch, steps_of};
 ghost use Rattle.debugger_commands.specs.Commands.{task_steps_of, watch_on};
 ghost use Rattle.debugger_commands.specs.TwoWords.{seen_two, seen_three};
 
+use crate::changes::{Change, read_change};
 use crate::choices::{
     condition_of, is_same, kind_of, privilege_of, selection_of, switch_of, watched_of,
 };
@@ -44,6 +45,8 @@ pub enum Command {
     Clear,
     /// End each answer from now on with the line of where the machine is: `script 1`.
     Script,
+    /// Change the machine's state, or save it.
+    Change(Change),
 }
 
 /// What a command shows of the machine.
@@ -74,21 +77,21 @@ pub enum LineError {
     Word,
 }
 
-/// Returns the command of a line, which is None where it's too long.
+/// Returns the command of a line, which is None where it's too long, in a session with `slots` slots.
 #[tactic(auto, unfolding(crate::specs::Commands::command_in))]
-pub fn read_line(line: Option<&[u8]>) -> Result<Command, LineError>
-    ensures { result ≡ command_in (option_map (λ l. l.now) line.entry) }
+pub fn read_line(slots: u8, line: Option<&[u8]>) -> Result<Command, LineError>
+    ensures { result ≡ command_in slots (option_map (λ l. l.now) line.entry) }
 {
     let Some(line) = line else {
         return Err(LineError::Command);
     };
-    read_command(first_word(line), more_words(line))
+    read_command(slots, first_word(line), more_words(line))
 }
 
 /// Returns the command of a line by its first word, with the words after it.
 #[tactic(auto, unfolding(crate::specs::Commands::command_of))]
-fn read_command(word: &[u8], more: Option<&[u8]>) -> Result<Command, LineError>
-    ensures { result ≡ command_of word.now (option_map (λ m. m.now) more.entry) }
+fn read_command(slots: u8, word: &[u8], more: Option<&[u8]>) -> Result<Command, LineError>
+    ensures { result ≡ command_of slots word.now (option_map (λ m. m.now) more.entry) }
 {
     if is_same(word, b"step") {
         alone(Command::Run(1), more)
@@ -125,7 +128,17 @@ fn read_command(word: &[u8], more: Option<&[u8]>) -> Result<Command, LineError>
     } else if is_same(word, b"quit") {
         alone(Command::Quit, more)
     } else {
-        Err(LineError::Command)
+        changing(read_change(slots, word, more))
+    }
+}
+
+/// Returns the command of a change.
+fn changing(read: Result<Change, LineError>) -> Result<Command, LineError>
+    ensures { result ≡ changing read }
+{
+    match read {
+        Ok(what) => Ok(Command::Change(what)),
+        Err(error) => Err(error),
     }
 }
 
@@ -308,6 +321,16 @@ pub fn part_of(asked: Result<Command, LineError>) -> Option<Part>
 {
     match asked {
         Ok(Command::Show(part)) => Some(part),
+        _ => None,
+    }
+}
+
+/// Returns what a command changes, where it changes the machine's state or saves it.
+pub fn change_of(asked: Result<Command, LineError>) -> Option<Change>
+    ensures { result ≡ change_of asked }
+{
+    match asked {
+        Ok(Command::Change(what)) => Some(what),
         _ => None,
     }
 }

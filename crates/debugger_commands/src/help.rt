@@ -19,6 +19,13 @@ regions                shows RBAR and RASR of each region of the MPU
 explain <a> p|u r|w|x  shows the rule that would decide an access, and whether it would grant it
 state                  shows registers, the clock, fault registers, regions and exceptions
 next                   shows the kind of the next step, or the stop line
+place reg <n> <v>      puts a value into a core register: 13 is the stack pointer in use, 14 LR, 15 PC
+place special <n> <v>  puts a value into a special register, numbered as in MSR
+place word <a> <v>     puts a value into a word of memory or a system register
+signal <how> <k>       does what an event of the script does to interrupt k: pulse, rise or fall
+signal nmi             makes NMI pending
+save <k>               saves the state of the machine in slot k; `--slots` sets how many there are
+back <k>               takes the machine back to the state in slot k
 script 1               shows the numbers of the board; answers then end with `= <tick> <pc> <next>`
 help                   shows these lines
 quit                   ends the session

@@ -3,6 +3,7 @@
 #![tactic(auto)]
 
 mod breakpoints;
+mod changes;
 mod choices;
 mod commands;
 mod conditions;
@@ -14,12 +15,15 @@ mod texts;
 mod watchpoints;
 mod words;
 
-pub use commands::{Command, LineError, Part, part_of, quits, read_line, steps_of, task_steps_of};
+pub use changes::{Change, Edge};
+pub use commands::{
+    Command, LineError, Part, change_of, part_of, quits, read_line, steps_of, task_steps_of,
+};
 pub use conditions::{Condition, Hit, LineSelection};
 pub use help::help_text;
 pub use listener::Listener;
 pub use numbers::{number, number_within};
-pub use settings::Settings;
+pub use settings::{Settings, ok_text};
 pub use texts::{
     Reply, byte_address, decision_text, end_text, error_text, put_byte, put_generals, put_region,
     put_register,

@@ -22,10 +22,12 @@ use std::marker::Model;
 /// Where RAM begins.
 const RAM_BASE: u32 = 0x2000_0000;
 
-/// Which lines steps have, what ends a run, whether the session has scripts, and the board's numbers.
+/// Which lines steps have, what ends a run, whether the session has scripts, the board's numbers, and how many slots
+/// there are for states of the machine.
 #[derive(Drop)]
 pub struct Settings {
     layout: Layout,
+    slots: u8,
     breakpoints: Breakpoints,
     watchpoints: Watchpoints,
     refused: bool,
@@ -43,6 +45,7 @@ impl Model for Settings {
 
     ghost view = { λ k. record {
       board = numbers_of k.layout;
+      slots = k.slots;
       breakpoints = k.breakpoints;
       watchpoints = k.watchpoints;
       refused = k.refused;
@@ -54,12 +57,13 @@ impl Model for Settings {
 }
 
 impl Settings {
-    /// Returns the settings before the first line of a session on a board.
-    pub fn new(layout: Layout) -> Self
-        ensures { result ≡ opened_settings (numbers_of layout) }
+    /// Returns the settings before the first line of a session on a board, with slots for states of the machine.
+    pub fn new(layout: Layout, slots: u8) -> Self
+        ensures { result ≡ opened_settings (numbers_of layout) slots }
     {
         Settings {
             layout,
+            slots,
             breakpoints: Breakpoints::new(),
             watchpoints: Watchpoints::new(),
             refused: false,
@@ -76,6 +80,7 @@ impl Settings {
     {
         Settings {
             layout: self.layout,
+            slots: self.slots,
             breakpoints: Breakpoints::new(),
             watchpoints: Watchpoints::new(),
             refused: false,
@@ -84,6 +89,13 @@ impl Settings {
             selection: self.selection,
             is_script: self.is_script,
         }
+    }
+
+    /// Returns how many slots there are for states of the machine.
+    pub fn slots(&self) -> u8
+        ensures { result ≡ self.now.slots }
+    {
+        self.slots
     }
 
     /// Returns whether the session has scripts.
@@ -100,7 +112,7 @@ impl Settings {
         self.breakpoints.has(address)
     }
 
-    /// Takes a line that neither makes a step nor shows a part of the machine, and returns its answer.
+    /// Takes a line that neither makes a step, nor shows or changes the machine, and returns its answer.
     pub fn take(&mut self, asked: Result<Command, LineError>) -> Reply
         ensures text { result ≡ settings_text self.old asked }
         ensures kept { self.new ≡ settings_after self.old asked }
@@ -122,11 +134,15 @@ impl Settings {
             }
             Ok(Command::Script) => {
                 self.is_script = true;
-                facts_text(&self.layout)
+                facts_text(&self.layout, self.slots)
             }
-            Ok(Command::Run(_) | Command::Task(_) | Command::Show(_) | Command::Quit) => {
-                Reply::new()
-            }
+            Ok(
+                Command::Run(_)
+                | Command::Task(_)
+                | Command::Show(_)
+                | Command::Quit
+                | Command::Change(_),
+            ) => Reply::new(),
             Err(error) => error_text(error),
         }
     }
@@ -235,7 +251,7 @@ fn hit_if(on: bool, hit: Hit) -> Option<Hit>
 }
 
 /// Returns the answer to a command that is carried out.
-fn ok_text() -> Reply
+pub fn ok_text() -> Reply
     ensures { result ≡ ok_text }
 {
     let mut page = Reply::new();
@@ -271,8 +287,8 @@ fn put_number(page: &mut Reply, name: &[u8], number: u8)
 
 /// Returns the numbers of the board, and how many states of the machine can be saved.
 #[tactic(auto, unfolding(crate::specs::Settings::facts_text))]
-fn facts_text(layout: &Layout) -> Reply
-    ensures { result ≡ facts_text (numbers_of layout.now) }
+fn facts_text(layout: &Layout, slots: u8) -> Reply
+    ensures { result ≡ facts_text (numbers_of layout.now) slots }
 {
     let mut page = Reply::new();
     put_number(&mut page, b"script ", 1);
@@ -281,6 +297,6 @@ fn facts_text(layout: &Layout) -> Reply
     put_number(&mut page, b"priority_bits ", layout.priority_bits);
     put_number(&mut page, b"lines ", layout.interrupts);
     put_number(&mut page, b"regions ", layout.regions.number());
-    put_number(&mut page, b"slots ", 0);
+    put_number(&mut page, b"slots ", slots);
     page
 }

@@ -1,9 +1,10 @@
 //! One debug session over two images, and which of its answers differ.
 
 ghost use Rattle.std.specs.Prelude.{◌≡◌};
+ghost use Rattle.debugger.specs.Slots.{HaveRoom};
 
 use board::Board;
-use debugger::session;
+use debugger::{Slots, session};
 use elf::load;
 use machine::{Decider, DueTicks, Fast, KeptCode, Layout, Levels, Machine, Over};
 use std::alloc::Global;
@@ -91,22 +92,32 @@ fn hear<D: Decider, C: KeptCode, L: Levels, U: DueTicks, K: Ledger>(
     requires some { blank.parts ≡ 1 }
 {
     let mut input: Over<&[u8], K> = Over::new(commands, blank);
-    answer::<D, C, L, U, K, Brand>(machine, layout, &mut input, Vec::new(alloc), Blank::new(1))
+    let slots = Slots::new(alloc, 0, machine).ok()?;
+    answer::<D, C, L, U, K, Brand>(
+        machine,
+        layout,
+        slots,
+        &mut input,
+        Vec::new(alloc),
+        Blank::new(1),
+    )
 }
 
 /// Holds a session of a machine, and returns its answers after those of `answers`.
 fn answer<D: Decider, C: KeptCode, L: Levels, U: DueTicks, J: Ledger, K: Ledger>(
     machine: &mut Machine<D, C, L, U>,
     layout: Layout,
+    slots: Slots<L, U>,
     input: &mut Over<&[u8], J>,
     answers: Vec<u8>,
     blank: Blank,
 ) -> Option<Vec<u8>>
+    requires room { HaveRoom slots machine.old.state.bus.memory }
     requires name { blank.name ≡ K.name }
     requires parts { blank.parts ≡ K.parts }
     requires some { blank.parts ≡ 1 }
 {
     let mut out: Over<Vec<u8>, K> = Over::new(answers, blank);
-    session(machine, layout, input, &mut out).ok()?;
+    session(machine, layout, slots, input, &mut out).ok()?;
     Some(out.into_inner())
 }

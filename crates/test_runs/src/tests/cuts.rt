@@ -1,6 +1,7 @@
 //! Runs and sessions whose writer or reader is cut after each byte, and how often a session calls them.
 
 ghost use Rattle.std.specs.Prelude.{◌≡◌};
+ghost use Rattle.debugger.specs.Slots.{HaveRoom};
 
 use super::accesses::ACCESSES;
 use super::cut::{Cut, Text};
@@ -11,7 +12,7 @@ use super::machines::machine_with;
 use super::run::Run;
 use super::traces::TRACES;
 use arrayvec::ArrayVec;
-use debugger::{SessionError, session};
+use debugger::{SessionError, Slots, session};
 use machine::{
     Ahead, BitLevels, BoardDecodeTable, Buffered, Counting, Decider, DueTicks, In, KeptCode,
     KeptDecisions, KeptPriorities, Levels, Machine, Over, Paged, PlainLevels, Reread, RunError,
@@ -322,17 +323,22 @@ struct Held {
 /// A session.
 fn hold<D: Decider, C: KeptCode, L: Levels, U: DueTicks>(
     machine: &mut Machine<D, C, L, U>,
+    slots: Slots<L, U>,
     way: Way,
-) -> Held {
-    hold_over::<D, C, L, U, Brand, Brand>(machine, way, Blank::new(1), Blank::new(1))
+) -> Held
+    requires { HaveRoom slots machine.old.state.bus.memory }
+{
+    hold_over::<D, C, L, U, Brand, Brand>(machine, slots, way, Blank::new(1), Blank::new(1))
 }
 
 fn hold_over<D: Decider, C: KeptCode, L: Levels, U: DueTicks, J: Ledger, K: Ledger>(
     machine: &mut Machine<D, C, L, U>,
+    slots: Slots<L, U>,
     way: Way,
     first: Blank,
     second: Blank,
 ) -> Held
+    requires room { HaveRoom slots machine.old.state.bus.memory }
     requires first_name { first.name ≡ J.name }
     requires first_parts { first.parts ≡ J.parts }
     requires first_some { first.parts ≡ 1 }
@@ -354,12 +360,13 @@ fn hold_over<D: Decider, C: KeptCode, L: Levels, U: DueTicks, J: Ledger, K: Ledg
     if way.gathers {
         return gather(
             machine,
+            slots,
             Buffered::new(input),
             Paged::new(cut_at(out, way.output)),
         );
     }
     let mut out = cut_at(out, way.output);
-    let ended = session(machine, SMALL_BOARD, &mut input, &mut out);
+    let ended = session(machine, SMALL_BOARD, slots, &mut input, &mut out);
     Held {
         ended,
         calls: out.into_inner().into_inner(),
@@ -368,10 +375,13 @@ fn hold_over<D: Decider, C: KeptCode, L: Levels, U: DueTicks, J: Ledger, K: Ledg
 
 fn gather<D: Decider, C: KeptCode, L: Levels, U: DueTicks, I: In + Drop, K: Ledger>(
     machine: &mut Machine<D, C, L, U>,
+    slots: Slots<L, U>,
     mut input: I,
     mut out: Paged<machine::Cut<Over<Calls, K>>>,
-) -> Held {
-    let ended = session(machine, SMALL_BOARD, &mut input, &mut out);
+) -> Held
+    requires { HaveRoom slots machine.old.state.bus.memory }
+{
+    let ended = session(machine, SMALL_BOARD, slots, &mut input, &mut out);
     Held {
         ended,
         calls: out.into_inner().into_inner().into_inner(),
@@ -432,7 +442,8 @@ fn fails_to_write<D: Decider, C: KeptCode, L: Levels, U: DueTicks>(
         by_lines: true,
         gathers,
     };
-    let held = hold(&mut machine, way);
+    let slots = Slots::new(alloc, 0, &machine).ok()?;
+    let held = hold(&mut machine, slots, way);
     Some(
         matches!(held.ended, Err(SessionError::Write))
             && held.calls.text.as_slice() == &ANSWERS[..output.left.min(99)]
@@ -456,7 +467,8 @@ fn fails_to_read<D: Decider, C: KeptCode, L: Levels, U: DueTicks>(
         by_lines: true,
         gathers,
     };
-    let held = hold(&mut machine, way);
+    let slots = Slots::new(alloc, 0, &machine).ok()?;
+    let held = hold(&mut machine, slots, way);
     let ends = match held.ended {
         Ok(()) => !input.fails,
         Err(SessionError::Read) => input.fails,
@@ -533,7 +545,8 @@ fn fails_in_run<D: Decider, C: KeptCode, L: Levels, U: DueTicks>(
         by_lines: true,
         gathers,
     };
-    let held = hold(&mut machine, way);
+    let slots = Slots::new(alloc, 0, &machine).ok()?;
+    let held = hold(&mut machine, slots, way);
     let made = steps_made(output.left, gathers);
     Some(
         matches!(held.ended, Err(SessionError::Write))
@@ -596,7 +609,8 @@ fn fails_at_watchpoint<D: Decider, C: KeptCode, L: Levels, U: DueTicks>(
         by_lines: false,
         gathers,
     };
-    let held = hold(&mut machine, way);
+    let slots = Slots::new(alloc, 0, &machine).ok()?;
+    let held = hold(&mut machine, slots, way);
     let made = if output.left < 6 && !gathers { 0 } else { 2 };
     Some(
         matches!(held.ended, Err(SessionError::Write))
@@ -672,7 +686,8 @@ fn answers_go_out_in_few_calls(rt: HostRuntime) -> Result<(), Fail> {
             by_lines,
             gathers: true,
         };
-        let held = hold(&mut machine, way);
+        let slots = Slots::new(rt.alloc(), 0, &machine)?;
+        let held = hold(&mut machine, slots, way);
         assert!(rt; held.ended.is_ok() && held.calls.text.as_slice() == ANSWERS.as_slice());
         let wanted: &[usize] = if by_lines {
             &[36, 44, 86, 99]

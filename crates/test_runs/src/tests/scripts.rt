@@ -5,10 +5,11 @@
 //! line of its answers. Expected lines are by hand.
 
 ghost use Rattle.std.specs.Prelude.{◌≡◌};
+ghost use Rattle.debugger.specs.Slots.{HaveRoom};
 
 use super::cut::{Cut, Text, push_line};
 use super::machines::{place, scripted, small_board};
-use debugger::session;
+use debugger::{Slots, session};
 use machine::{
     Ahead, BitLevels, BoardDecodeTable, Counting, Decider, DueTicks, KeptCode, KeptDecisions,
     KeptPriorities, Layout, Levels, Machine, Over, PlainLevels, Reread, Search, Table,
@@ -501,6 +502,16 @@ fn lines_of(text: &str, first: &str) -> Option<Text> {
     Some(lines)
 }
 
+/// Returns how many slots the session of a text has: the number after `slots `, else 0.
+fn slots_of(text: &str) -> u8 {
+    'lines: for line in text.lines() {
+        if let Some(rest) = line.strip_prefix("slots ") {
+            return rest.parse::<u8>().unwrap_or(0);
+        }
+    }
+    0
+}
+
 /// Returns whether the session of a text has its answers.
 fn answers<D: Decider, C: KeptCode, L: Levels, U: DueTicks>(
     alloc: Global,
@@ -515,7 +526,8 @@ fn answers<D: Decider, C: KeptCode, L: Levels, U: DueTicks>(
     let layout = small_board(alloc, text).ok()?.layout;
     let input = lines_of(text, "in ")?;
     let wanted = lines_of(text, "out ")?;
-    let got = hold(&mut machine, layout, input.as_slice())?;
+    let slots = Slots::new(alloc, slots_of(text), &machine).ok()?;
+    let got = hold(&mut machine, layout, slots, input.as_slice())?;
     Some(got.text.as_slice() == wanted.as_slice())
 }
 
@@ -523,18 +535,30 @@ fn answers<D: Decider, C: KeptCode, L: Levels, U: DueTicks>(
 fn hold<D: Decider, C: KeptCode, L: Levels, U: DueTicks>(
     machine: &mut Machine<D, C, L, U>,
     layout: Layout,
+    slots: Slots<L, U>,
     input: &[u8],
-) -> Option<Cut> {
-    hold_over::<D, C, L, U, Brand, Brand>(machine, layout, input, Blank::new(1), Blank::new(1))
+) -> Option<Cut>
+    requires { HaveRoom slots machine.old.state.bus.memory }
+{
+    hold_over::<D, C, L, U, Brand, Brand>(
+        machine,
+        layout,
+        slots,
+        input,
+        Blank::new(1),
+        Blank::new(1),
+    )
 }
 
 fn hold_over<D: Decider, C: KeptCode, L: Levels, U: DueTicks, J: Ledger, K: Ledger>(
     machine: &mut Machine<D, C, L, U>,
     layout: Layout,
+    slots: Slots<L, U>,
     input: &[u8],
     first: Blank,
     second: Blank,
 ) -> Option<Cut>
+    requires room { HaveRoom slots machine.old.state.bus.memory }
     requires first_name { first.name ≡ J.name }
     requires first_parts { first.parts ≡ J.parts }
     requires first_some { first.parts ≡ 1 }
@@ -544,7 +568,7 @@ fn hold_over<D: Decider, C: KeptCode, L: Levels, U: DueTicks, J: Ledger, K: Ledg
 {
     let mut reader: Over<&[u8], J> = Over::new(input, first);
     let mut out: Over<Cut, K> = Over::new(Cut::whole(), second);
-    session(machine, layout, &mut reader, &mut out).ok()?;
+    session(machine, layout, slots, &mut reader, &mut out).ok()?;
     Some(out.into_inner())
 }
 

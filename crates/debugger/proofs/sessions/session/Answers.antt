@@ -1,10 +1,12 @@
 use Rattle.std.proofs.Common.{◌∙◌, sym, arith}
 use Rattle.debugger.proofs.Hearing.{at_end, begun, closed, cut_at, cut_at_end, ended, heard_kept, heard_on, not_taken}
 use Rattle.debugger.proofs.Hearing.{spent}
+use Rattle.debugger.proofs.Rooms.{opened_is}
 use Rattle.debugger.proofs.sessions.session.Goals as goal
 
 pub calls-init : goal.calls-init
-calls-init g c = begun _ _ _ _ _ c.new-debugger.ensures
+calls-init g c =
+    begun _ _ _ _ _ (opened_is _ _ _ c.args.slots c.new-debugger.ensures) (rw c.new-debugger.ensures c.requires)
 
 -- the end of the input
 pub returns-in-Ok : goal.returns-in-Ok
@@ -49,7 +51,7 @@ calls-preserved g c =
     let took = rw c.in-Ok-Some.field-0-is at c.in-Ok-Some.ensures in
     let so_far = heard_kept _ _ _ _ _ _ _ _ _ (g.W.Out.writing c.take_next.new.out) c.calls.invariant took.1 in
     heard_on _ _ _ _ _ _ _ _ _ _ _ _ _ _ so_far took.0 c.in-Ok-true.ensures.tells c.in-Ok-true.ensures.kept.0
-    (sym c.in-Ok-true.ensures.kept.1 ∙ c.in-Ok-true.field-0-test)
+    (sym c.in-Ok-true.ensures.kept.1 ∙ c.in-Ok-true.field-0-test) c.in-Ok-true.ensures.room
 
 -- 2^64 - 1 bytes
 pub returns : goal.returns

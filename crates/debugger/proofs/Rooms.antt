@@ -1,0 +1,238 @@
+-- The slots have room for the machine's states, whatever is answered.
+use Rattle.std.proofs.Common.{◌≡◌, ◌<◌, ◌||◌, ℕ, zero, suc, Bool, true, false, List, [], ◌∷◌, Option, Some, None, Result, Ok, Err}
+use Rattle.std.proofs.Common.{refl, ◌∙◌, ap, is_some, length, nat_lt, slice_index_or, subst, sym, arith, ◌+◌, ◌++◌, replicate}
+use Rattle.std.proofs.Common.{length-append}
+use Rattle.std.proofs.lemmas.Grind.{replicate_next}
+use Rattle.std.proofs.lemmas.Bool.{cond_both}
+use Rattle.std.proofs.lemmas.List.{length-map, map-append, map-set}
+use Rattle.std.proofs.lemmas.List.Elements.{All-push, All-set}
+use Rattle.std.specs.Prelude.{All}
+use Rattle.debugger.proofs.Telling.{last-append}
+use Rattle.debugger.specs.Answers.{Piece, after_edge, answer, answer_by, change_piece, changed_piece, closed}
+use Rattle.debugger.specs.Answers.{edge_signal}
+use Rattle.debugger.specs.Answers.{closing_piece, back_piece, ends_at, hit_before, is_closed, last_state, placed, replies}
+use Rattle.debugger.specs.Answers.{run_on, run_pieces, saved_after, task_on, task_piece, task_pieces}
+use Rattle.debugger.specs.Sessions.{HasAll, Kept, Talk, after_line, line_asked, opened, talk}
+use Rattle.debugger.specs.Slots.{HaveRoom, Slot, saved_in, saved_there, slots_after}
+use Rattle.debugger_commands.specs.declared.changes.Change.{Change}
+use Rattle.debugger_commands.specs.declared.changes.Change.TheVariants as change
+use Rattle.debugger_commands.specs.declared.changes.Edge.{Edge}
+use Rattle.debugger_commands.specs.declared.commands.Command.{Command}
+use Rattle.debugger_commands.specs.declared.commands.LineError.{LineError}
+use Rattle.debugger_commands.specs.declared.conditions.Hit.{Hit}
+use Rattle.debugger_commands.specs.Commands.{change_of, steps_of, task_steps_of}
+use Rattle.debugger_commands.specs.Conditions.{first_hit}
+use Rattle.debugger_commands.specs.Settings.{Settings, opened_settings, settings_after, without_conditions}
+use Rattle.machine.specs.Foresight.{is_instruction_next}
+use Rattle.platform.specs.declared.error.PlaceError.{PlaceError}
+use Rattle.platform.specs.declared.exception.TheConstants.{MOST_INTERRUPTS}
+use Rattle.platform.specs.declared.script.Signal.TheVariants as signal
+use Rattle.platform.specs.Boards.{Numbers}
+use Rattle.platform.specs.Memory.{Memory}
+use Rattle.reference.specs.declared.place.Place.{Place}
+use Rattle.reference.specs.Places.{signalled}
+use Rattle.reference.specs.State.{State}
+use Rattle.reference.specs.Step.{step}
+use Rattle.space.specs.Sizes.{HaveSameSizes}
+use Rattle.step_laws.proofs.Sizes.{alter_sizes, signal_sizes, sizes_refl, sizes_sym, sizes_trans, step_sizes}
+use Rattle.step_laws.specs.SizeLaw.{KeepsSizes}
+use Rattle.task_laws.specs.declared.task.TaskEnd.TheVariants.{NotTask}
+use Rattle.task_laws.specs.Tasks.{is_task}
+
+-- a state after another one of the same machine
+abbrev Stays : State → State → Type 0
+Stays s u = HaveSameSizes s.bus.memory u.bus.memory
+
+-- ---- an answer leaves the sizes of memory
+
+run_stays_on : (k : Settings) (n : ℕ) (h : Option Hit) (s : State) → Stays s (last_state s (run_on k n h s))
+unfolding run_on
+run_stays_on k zero h s = sizes_refl s.bus.memory
+run_stays_on k (suc n) h s =
+    cond_both (ends_at (hit_before k h s) s) _ _ (λ (ps : List Piece). Stays s (last_state s ps))
+    (λ e. sizes_refl s.bus.memory)
+    (λ e. sizes_trans _ _ _ (step_sizes s) (run_stays_on k n (first_hit k (step s).events) (step s).state))
+
+run_stays : (k : Settings) (n : ℕ) (s : State) → Stays s (last_state s (run_pieces k n s))
+run_stays k n s =
+    cond_both (is_some s.stop) _ _ (λ (ps : List Piece). Stays s (last_state s ps)) (λ e. sizes_refl s.bus.memory)
+    (λ e. sizes_trans _ _ _ (step_sizes s) (run_stays_on k _ (first_hit k (step s).events) (step s).state))
+
+task_stays_on : (k : Settings) (n : ℕ) (s : State) → Stays s (last_state s (task_on k n s))
+unfolding task_on
+task_stays_on k zero s = sizes_refl s.bus.memory
+task_stays_on k (suc n) s =
+    cond_both (is_instruction_next s) _ _ (λ (ps : List Piece). Stays s (last_state s ps))
+    (λ e. sizes_trans _ _ _ (step_sizes s) (task_stays_on k n (step s).state)) (λ e. sizes_refl s.bus.memory)
+
+task_stays : (k : Settings) (n : ℕ) (s : State) → Stays s (last_state s (task_pieces k n s))
+task_stays k n s =
+    cond_both (is_some s.stop || is_task s) (task_on (without_conditions k) n s)
+    (task_piece s NotTask ∷ []) (λ (ps : List Piece). Stays s (last_state s ps))
+    (λ e. task_stays_on (without_conditions k) n s) (λ e. sizes_refl s.bus.memory)
+
+changed_stays : (s : State) (r : Result State PlaceError) → KeepsSizes s r → Stays s (changed_piece s r).state
+changed_stays s (Ok after) h = h
+changed_stays s (Err why) h = sizes_refl s.bus.memory
+
+placed_sizes : (s : State) (value : Option Place) → KeepsSizes s (placed s value)
+placed_sizes s None = tt
+placed_sizes s (Some value) = alter_sizes s value
+
+edge_sizes : (s : State) (how : Edge) (k : ℕ) → KeepsSizes s (after_edge s how k)
+edge_sizes s how k =
+    cond_both (nat_lt k MOST_INTERRUPTS) _ _ (KeepsSizes s) (λ e. signal_sizes s (edge_signal how k)) (λ e. tt)
+
+back_by : (s : State) (slot : Slot) (b : Bool) → slot.is_saved ≡ b → HaveSameSizes slot.state.bus.memory s.bus.memory
+    → Stays s (back_piece s (saved_there slot)).state
+back_by s slot true e h = rw e (sizes_sym _ _ h)
+back_by s slot false e h = rw e (sizes_refl s.bus.memory)
+
+found_by : (slot : Slot) (b : Bool) (m : Memory) (s : State) → slot.is_saved ≡ b
+    → HaveSameSizes slot.state.bus.memory m → saved_there slot ≡ Some s → HaveSameSizes m s.bus.memory
+found_by slot true m s is h e =
+    let same : slot.state ≡ s = (let f : Some slot.state ≡ Some s = rw is at e in cc) in
+    subst (λ (u : State). HaveSameSizes m u.bus.memory) same (sizes_sym _ _ h)
+found_by slot false m s is h e = absurd (let f : None ≡ Some s = rw is at e in let w : ⊥ = cc in w)
+
+-- the slots after the first one
+rest : (slot : Slot) (slots : List Slot) (m : Memory) → HaveRoom (slot ∷ slots) m → HaveRoom slots m
+rest slot slots m room = λ i d below. room (suc i) d (let b : i < length slots = below in omega arith)
+
+first : (slot : Slot) (slots : List Slot) (m : Memory) → HaveRoom (slot ∷ slots) m
+    → HaveSameSizes slot.state.bus.memory m
+first slot slots m room = room 0 slot (omega arith)
+
+back_stays : (s : State) (slots : List Slot) (n : ℕ) → HaveRoom slots s.bus.memory
+    → Stays s (back_piece s (slice_index_or (saved_in slots) n None)).state
+back_stays s [] n room = sizes_refl s.bus.memory
+back_stays s (slot ∷ slots) zero room =
+    back_by s slot slot.is_saved refl (first slot slots s.bus.memory room)
+back_stays s (slot ∷ slots) (suc n) room = back_stays s slots n (rest slot slots s.bus.memory room)
+
+change_stays : (s : State) (slots : List Slot) (what : Change) → HaveRoom slots s.bus.memory
+    → Stays s (change_piece s (saved_in slots) what).state
+change_stays s slots (change.Place value) room = changed_stays s (placed s value) (placed_sizes s value)
+change_stays s slots (change.Signal how k) room = changed_stays s (after_edge s how k) (edge_sizes s how k)
+change_stays s slots change.Nmi room = changed_stays s (signalled s signal.Nmi) (signal_sizes s signal.Nmi)
+change_stays s slots (change.Save slot) room = sizes_refl s.bus.memory
+change_stays s slots (change.Back slot) room = back_stays s slots slot room
+
+replies_stay : (k : Settings) (s : State) (slots : List Slot) (asked : Result Command LineError) (what : Option Change)
+    → HaveRoom slots s.bus.memory → Stays s (last_state s (replies s k (saved_in slots) asked what))
+replies_stay k s slots asked None room = sizes_refl s.bus.memory
+replies_stay k s slots asked (Some what) room = change_stays s slots what room
+
+answer_stays_by : (k : Settings) (s : State) (slots : List Slot) (asked : Result Command LineError)
+    (steps task : Option ℕ) → HaveRoom slots s.bus.memory
+    → Stays s (last_state s (answer_by s k (saved_in slots) asked steps task))
+answer_stays_by k s slots asked (Some n) task room = run_stays k n s
+answer_stays_by k s slots asked None (Some n) room = task_stays k n s
+answer_stays_by k s slots asked None None room = replies_stay k s slots asked (change_of asked) room
+
+pub closed_last : (is_closed : Bool) (s : State) (ps : List Piece) → last_state s (closed is_closed s ps) ≡ last_state s ps
+closed_last false s ps = refl
+closed_last true s ps = last-append s ps (closing_piece (last_state s ps) ∷ [])
+
+answer_stays : (k : Settings) (s : State) (slots : List Slot) (asked : Result Command LineError)
+    → HaveRoom slots s.bus.memory → Stays s (last_state s (answer s k (saved_in slots) asked))
+answer_stays k s slots asked room =
+    rw (closed_last (is_closed k asked) s (answer_by s k (saved_in slots) asked (steps_of asked) (task_steps_of asked)))
+    (answer_stays_by k s slots asked (steps_of asked) (task_steps_of asked) room)
+
+-- ---- the slots after an answer
+
+moved : (slots : List Slot) (m k : Memory) → HaveSameSizes m k → HaveRoom slots m → HaveRoom slots k
+moved slots m k h room = λ i d below. sizes_trans _ _ _ (room i d below) h
+
+kept_room : (s : State) (slots : List Slot) (what : Option Change) → HaveRoom slots s.bus.memory
+    → HaveRoom (slots_after s slots what) s.bus.memory
+kept_room s slots None room = room
+kept_room s slots (Some (change.Place value)) room = room
+kept_room s slots (Some (change.Signal how k)) room = room
+kept_room s slots (Some change.Nmi) room = room
+kept_room s slots (Some (change.Save slot)) room =
+    All-set (λ (x : Slot). HaveSameSizes x.state.bus.memory s.bus.memory) slots slot
+    (record { state = s; is_saved = true }) (sizes_refl s.bus.memory) room
+kept_room s slots (Some (change.Back slot)) room = room
+
+-- a saved state has the sizes of the machine's memory
+pub found_fits : (slots : List Slot) (n : ℕ) (m : Memory) (s : State) → HaveRoom slots m
+    → slice_index_or (saved_in slots) n None ≡ Some s → HaveSameSizes m s.bus.memory
+found_fits [] n m s room e = absurd (let w : ⊥ = cc in w)
+found_fits (slot ∷ slots) zero m s room e =
+    found_by slot slot.is_saved m s refl (first slot slots m room) e
+found_fits (slot ∷ slots) (suc n) m s room e = found_fits slots n m s (rest slot slots m room) e
+
+-- they have room after it too
+pub room_after : (k : Settings) (s new : State) (slots after : List Slot) (asked : Result Command LineError)
+    → HaveRoom slots s.bus.memory → after ≡ slots_after s slots (change_of asked)
+    → new ≡ last_state s (answer s k (saved_in slots) asked) → HaveRoom after new.bus.memory
+room_after k s new slots after asked room kept state =
+    rw (kept, state)
+    (moved (slots_after s slots (change_of asked)) s.bus.memory _ (answer_stays k s slots asked room)
+    (kept_room s slots (change_of asked) room))
+
+-- what is saved in them is what the definition saves
+pub saved_same : (s : State) (slots : List Slot) (what : Option Change)
+    → saved_in (slots_after s slots what) ≡ saved_after s (saved_in slots) what
+saved_same s slots None = refl
+saved_same s slots (Some (change.Place value)) = refl
+saved_same s slots (Some (change.Signal how k)) = refl
+saved_same s slots (Some change.Nmi) = refl
+saved_same s slots (Some (change.Save slot)) =
+    map-set (λ (x : Slot). saved_there x) slots slot (record { state = s; is_saved = true })
+saved_same s slots (Some (change.Back slot)) = refl
+
+-- what is kept after a line has what the session has
+pub kept_all : (s : State) (k new : Kept) (line : Option (List ℕ)) (asked : Result Command LineError)
+    → asked ≡ line_asked (talk s k) → line ≡ Some []
+    → new ≡ record {
+      settings = settings_after k.settings asked;
+      line = line;
+      slots = slots_after s k.slots (change_of asked);
+    } → HasAll (after_line (talk s k)) new
+kept_all s k new line asked is empty kept =
+    rw (kept, empty, is) (record {
+      settings = refl;
+      line = refl;
+      saved = saved_same s k.slots (change_of (line_asked (talk s k)));
+    })
+
+-- ---- before the first byte
+
+-- slots in which nothing was saved
+pub record Unsaved (n : ℕ) (slots : List Slot) (m : Memory) : Type 0 where
+  pub count : length slots ≡ n
+  pub saved : saved_in slots ≡ replicate n None
+  pub room : HaveRoom slots m
+
+pub none_made : (m : Memory) → Unsaved 0 [] m
+none_made m = record { count = refl; saved = refl; room = λ i d below. absurd (omega (arith, below)) }
+
+-- one more
+pub one_made : (n : ℕ) (slots more : List Slot) (slot : Slot) (s : State) → Unsaved n slots s.bus.memory
+    → slot.is_saved ≡ false → slot.state ≡ s → more ≡ slots ++ slot ∷ [] → Unsaved (n + 1) more s.bus.memory
+one_made n slots more slot s h empty same longer =
+    let m = s.bus.memory in
+    let fits : HaveSameSizes slot.state.bus.memory m = rw same (sizes_refl m) in
+    let there : saved_there slot ≡ None = rw empty refl in
+    rw longer (record {
+      count = length-append slots (slot ∷ []) ∙ ap (λ x. x + 1) h.count;
+      saved = map-append (λ (x : Slot). saved_there x) slots (slot ∷ [])
+          ∙ (ap (λ (o : Option State). saved_in slots ++ o ∷ []) there
+          ∙ (ap (λ (os : List (Option State)). os ++ None ∷ []) h.saved ∙ sym (replicate_next n None)));
+      room = All-push (λ (x : Slot). HaveSameSizes x.state.bus.memory m) slots slot h.room fits;
+    })
+
+pub opened_is : (board : Numbers) (s : State) (k : Kept) (slots : List Slot)
+    → k ≡ record { settings = opened_settings board (length slots); line = Some []; slots = slots }
+    → opened board (saved_in slots) s ≡ talk s k
+opened_is board s k slots e =
+    rw e (ap (λ (n : ℕ). let t : Talk = record {
+      state = s;
+      settings = opened_settings board n;
+      line = Some [];
+      saved = saved_in slots;
+      is_open = true;
+    } in t) (length-map slots (λ (x : Slot). saved_there x)))

@@ -1,0 +1,141 @@
+//! Slots for states of the machine, whose memory is allocated before a session begins.
+
+ghost use Rattle.std.specs.Prelude.{◌≡◌, ◌<◌, ◌++◌, true, length, slice_index_or, IfErr, IfOk, None, option_map, codes, replicate};
+ghost use Rattle.debugger.specs.Answers.{back_piece};
+ghost use Rattle.debugger.specs.Slots.{HaveRoom, saved_in, with_saved};
+ghost use Rattle.platform.specs.Text.{line_feed};
+ghost use Rattle.space.specs.Sizes.{HaveSameSizes};
+
+use debugger_commands::{Reply, ok_text};
+use machine::{Decider, DueTicks, Kept, KeptCode, Levels, Machine};
+use std::alloc::{AllocError, Global};
+use std::marker::Model;
+
+/// Room for a state, and whether one was saved there.
+#[derive(Drop)]
+struct Slot<L: Levels, U: DueTicks> {
+    kept: Kept<L, U>,
+    is_saved: bool,
+}
+
+impl<L: Levels, U: DueTicks> Model for Slot<L, U> {
+    ghost use Rattle.debugger.specs.Slots.{Slot as TheSlot};
+
+    ghost Value = { TheSlot };
+
+    ghost view = { λ s. record { state = s.kept; is_saved = s.is_saved } };
+}
+
+impl<L: Levels, U: DueTicks> Slot<L, U> {
+    /// Saves the state of a machine.
+    fn save<D: Decider, C: KeptCode>(&mut self, machine: &Machine<D, C, L, U>)
+        requires { HaveSameSizes self.old.state.bus.memory machine.now.state.bus.memory }
+        ensures { self.new ≡ record { state = machine.now.state; is_saved = true } }
+    {
+        machine.keep(&mut self.kept);
+        self.is_saved = true;
+    }
+}
+
+/// Slots for states of a machine, each with room for one.
+#[derive(Drop)]
+pub struct Slots<L: Levels, U: DueTicks> {
+    slots: Vec<Slot<L, U>>,
+}
+
+impl<L: Levels, U: DueTicks> Model for Slots<L, U> {
+    ghost use Rattle.std.specs.Prelude.{List, length, ◌<◌};
+    ghost use Rattle.debugger.specs.Slots.{Slot as TheSlot};
+
+    ghost Value = { List TheSlot };
+
+    ghost view = { λ s. s.slots.items };
+
+    ghost invariant = { λ s. length s.slots.items < 256 };
+}
+
+impl<L: Levels, U: DueTicks> Slots<L, U> {
+    /// Makes `count` slots in which nothing was saved, with room for the states of a machine, or fails where memory
+    /// can't be allocated.
+    pub fn new<D: Decider, C: KeptCode>(
+        alloc: Global,
+        count: u8,
+        machine: &Machine<D, C, L, U>,
+    ) -> Result<Self, AllocError>
+        ensures saved { IfOk result (λ slots. saved_in slots ≡ replicate count None) }
+        ensures room { IfOk result (λ slots. HaveRoom slots machine.now.state.bus.memory) }
+        ensures some { IfErr result (λ _. 0 < count) }
+    {
+        let mut slots = Vec::new(alloc);
+        'slots: for number in 0..count {
+            let _ = number;
+            let slot = Slot {
+                kept: machine.copied(alloc)?,
+                is_saved: false,
+            };
+            slots.push(slot)?;
+        }
+        Ok(Slots { slots })
+    }
+
+    /// Returns how many slots there are.
+    pub fn count(&self) -> u8
+        ensures { result ≡ length self.now }
+    {
+        self.slots.len() as u8
+    }
+
+    /// Saves the state of a machine in a slot. A slot that isn't there keeps nothing.
+    pub fn save<D: Decider, C: KeptCode>(&mut self, slot: u8, machine: &Machine<D, C, L, U>)
+        requires { HaveRoom self.old machine.now.state.bus.memory }
+        ensures { self.new ≡ with_saved self.old slot machine.now.state }
+    {
+        let slot = slot as usize;
+        if slot < self.slots.len() {
+            self.slots[slot].save(machine);
+        }
+    }
+
+    /// Returns the state that was saved in a slot, if one was.
+    fn saved(&self, slot: u8) -> Option<&Kept<L, U>>
+        ensures { option_map (λ kept. kept.now) result ≡ slice_index_or (saved_in self.now) slot None }
+    {
+        let slot = self.slots.get(slot as usize)?;
+        if slot.is_saved {
+            Some(&slot.kept)
+        } else {
+            None
+        }
+    }
+
+    /// Takes a machine back to the state that was saved in a slot. Returns the text of the answer.
+    pub fn go_back<D: Decider, C: KeptCode>(
+        &self,
+        slot: u8,
+        machine: &mut Machine<D, C, L, U>,
+    ) -> Reply
+        requires { HaveRoom self.now machine.old.state.bus.memory }
+        ensures text { result
+            ≡ (back_piece machine.old.state (slice_index_or (saved_in self.now) slot None)).text }
+        ensures state { machine.new ≡ record machine.old {
+          state = (back_piece machine.old.state (slice_index_or (saved_in self.now) slot None)).state;
+        } }
+    {
+        match self.saved(slot) {
+            Some(kept) => {
+                machine.take_back(kept);
+                ok_text()
+            }
+            None => not_saved_text(),
+        }
+    }
+}
+
+/// Returns the answer to `back` where nothing was saved.
+fn not_saved_text() -> Reply
+    ensures { result ≡ codes "error 3" ++ line_feed }
+{
+    let mut page = Reply::new();
+    page.put(b"error 3\n");
+    page
+}
