@@ -1,0 +1,6 @@
+pub mod Worlds
+pub mod Maps
+pub mod Sharing
+pub mod Stretches
+pub mod Lines
+pub mod Settings

@@ -1,0 +1,21 @@
+//! Who may touch what: which bytes of a board unprivileged code may read, write and execute under a setting of the MPU,
+//! and by which bytes one such world can influence another.
+#![tactic(auto)]
+
+mod interval;
+pub mod laws;
+mod lines;
+mod map;
+mod settings;
+mod sharing;
+mod world;
+
+pub use interval::Interval;
+pub use lines::{map_text, pair_text};
+pub use map::AccessMap;
+pub use mpu::Span;
+pub use sharing::{are_apart, shared};
+pub use world::{Place, Rights, World};
+
+#[cfg(test)]
+mod tests;
