@@ -4,3 +4,4 @@ pub mod Making
 pub mod Texts
 pub mod Unique
 pub mod SameSettings
+pub mod Counted

@@ -4,3 +4,4 @@ pub mod Sharing
 pub mod Stretches
 pub mod Lines
 pub mod Settings
+pub mod Counting

@@ -1,6 +1,7 @@
 -- The lines of access maps and of what worlds share (profile). World numbers are decimal, addresses are eight upper-case
 -- hexadecimal digits, and each line ends with a line feed.
 use Rattle.std.specs.Prelude.{ℕ, Bool, true, false, List, [], ◌∷◌, ◌++◌, codes, decimal}
+use Rattle.access_map.specs.declared.counting.WorldSteps.{WorldSteps}
 use Rattle.access_map.specs.declared.interval.Interval.{Interval}
 use Rattle.access_map.specs.declared.map.AccessMap.{AccessMap}
 use Rattle.access_map.specs.declared.world.Place.{Place}
@@ -33,6 +34,28 @@ addresses_text first last = spaced first ++ spaced last
 -- two numbers of worlds, each after a space
 abbrev pub numbers_text : ℕ → ℕ → List ℕ
 numbers_text j k = ((codes " " ++ decimal j) ++ codes " ") ++ decimal k
+
+-- ---- world k: its steps, the tick and the PC of the first, the lowest and the highest PC, and the name of the symbol
+-- that has the PC of the first, where the image has one
+
+unfoldable pub steps_text : ℕ → WorldSteps → List ℕ
+steps_text k row =
+    ((((codes "world " ++ decimal k) ++ codes " steps ") ++ decimal row.steps) ++ codes " tick ") ++ decimal row.tick
+
+unfoldable pub code_text : WorldSteps → List ℕ
+code_text row = ((codes " pc" ++ spaced row.pc) ++ codes " code") ++ addresses_text row.lowest row.highest
+
+-- a name after a space; an empty name is none
+abbrev pub name_text : List ℕ → List ℕ
+name_text [] = []
+name_text (c ∷ name) = codes " " ++ (c ∷ name)
+
+unfoldable pub world_line : ℕ → WorldSteps → List ℕ → List ℕ
+world_line k row name = ((steps_text k row ++ code_text row) ++ name_text name) ++ line_feed
+
+-- steps in further worlds
+abbrev pub others_text : ℕ → List ℕ
+others_text n = (codes "others " ++ decimal n) ++ line_feed
 
 -- ---- the map of world k: a line for each interval
 

@@ -13,7 +13,7 @@ use std::alloc::{AllocError, Global};
 use trace::page::Page;
 
 /// Room for the longest line.
-type Line = Page<96>;
+pub type Line = Page<96>;
 
 /// Returns the lines of an access map, the map of world `number`.
 #[tactic(auto, unfolding(crate::specs::Lines::map_text))]
@@ -130,7 +130,7 @@ fn put_numbers(line: &mut Line, number: u8, other: u8)
 }
 
 /// Appends two addresses, each after a space.
-fn put_addresses(line: &mut Line, first: u32, last: u32)
+pub(crate) fn put_addresses(line: &mut Line, first: u32, last: u32)
     requires { length line.old + 18 ≤ 96 }
     ensures text { line.new ≡ line.old ++ addresses_text first last }
     ensures short { length line.new ≤ length line.old + 18 }
@@ -140,7 +140,7 @@ fn put_addresses(line: &mut Line, first: u32, last: u32)
 }
 
 /// Appends a space and the digits of an address.
-fn put_spaced(line: &mut Line, address: u32)
+pub(crate) fn put_spaced(line: &mut Line, address: u32)
     requires { length line.old + 9 ≤ 96 }
     ensures text { line.new ≡ line.old ++ spaced address }
     ensures short { length line.new ≤ length line.old + 9 }

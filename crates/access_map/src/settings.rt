@@ -2,7 +2,7 @@
 
 ghost use Rattle.std.specs.Bool.{Decides};
 ghost use Rattle.std.specs.Prelude.{◌≡◌, ◌<◌, ℕ};
-ghost use Rattle.access_map.specs.Settings.{IsSameSetting, is_negative};
+ghost use Rattle.access_map.specs.Settings.{IsSameSetting, is_negative, is_same_setting};
 ghost use Rattle.platform.specs.Regions.{region};
 
 use crate::world::World;
@@ -12,6 +12,14 @@ impl World {
     /// Returns whether the MPU has the same setting in another world: MPU_CTRL, ADDR of RBAR and RASR of each region, and
     /// whether the rule `neg` holds. What MPU_RNR selects is no part of it.
     pub fn is_same(&self, other: &World) -> bool
+        ensures exactly { Decides result (IsSameSetting self.now other.now) }
+        ensures test { result ≡ is_same_setting self.now other.now }
+    {
+        self.has_setting_of(other)
+    }
+
+    /// Returns whether the MPU has the same setting in another world.
+    fn has_setting_of(&self, other: &World) -> bool
         ensures { Decides result (IsSameSetting self.now other.now) }
     {
         self.registers.control() == other.registers.control()
