@@ -50,9 +50,9 @@ class Machine:
             raise ValueError(f"{slots} slots: not 0 to {MOST_SLOTS - OWN_SLOTS}")
         command = [*find_program(program), "debug", "--slots", str(slots + OWN_SLOTS)]
         self.image: Union[bytes, str] = image if isinstance(image, bytes) else os.fspath(image)
-        text = board.toml() if isinstance(board, Board) else os.fspath(board)
+        board_file: Union[bytes, str] = board.toml().encode() if isinstance(board, Board) else os.fspath(board)
         self._symbols: Optional[dict[str, int]] = None
-        self._wire = Wire(command, text, self.image, timeout)
+        self._wire = Wire(command, board_file, self.image, timeout)
         try:
             self._session = Session(self._wire)
             facts = self._session.do(Request((f"script {VERSION}",), _facts))
@@ -321,7 +321,7 @@ class Machine:
 
 
 def _facts(answers: Sequence[Answer]) -> dict[str, str]:
-    facts = dict(line.split(" ", 1) for line in answers[0].lines)
+    facts = {name: rest for name, _, rest in (line.partition(" ") for line in answers[0].lines)}
     if facts["script"] != str(VERSION):
         raise ValueError(f"version {facts['script']}")
     return facts

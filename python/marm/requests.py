@@ -15,6 +15,7 @@ from .wire import Answer
 
 BYTES_OF_A_COMMAND = 256
 MOST_STEPS = 1_000_000  # of one command
+SHORT_RUN = 1_000  # steps
 GRANULE = 32  # each region and each subregion begins and ends at a multiple of it
 TRACES = ("all", "refused", "exceptions", "console")
 
@@ -108,7 +109,7 @@ def mapping(addresses: range, who: str) -> Request[list[Span]]:
             spans.append(span)
         return spans
 
-    return Request(commands, read)
+    return Request(commands, read, is_long=True)
 
 
 REGISTERS: Request[dict[str, int]] = Request(("regs",), lambda answers: registers_of(answers[0].lines))
@@ -131,12 +132,12 @@ def running(
         raise ValueError(f"{steps} steps: not 1 to {MOST_STEPS:,}")
 
     def read(answers: Sequence[Answer]) -> Ran:
-        ran = _ran(answers[-1], conditions, status_of(session.end_before).tick)
+        ran = _ran(answers[-1], conditions, int(session.end_before.partition(" ")[0]))
         session.console += ran.console
         return ran
 
     settings = Settings(trace, tuple([condition.command for condition in conditions]))
-    return Request((*before, f"run {steps}"), read, settings)
+    return Request((*before, f"run {steps}"), read, settings, steps > SHORT_RUN)
 
 
 def _ran(answer: Answer, conditions: Sequence[Condition], first: int) -> Ran:

@@ -5,6 +5,7 @@ from __future__ import annotations
 from typing import Any, Callable, Generic, NamedTuple, NoReturn, Optional, Protocol, Sequence, TypeVar
 
 from .errors import CommandError, MarmError, NoSlot, ProtocolError
+from .interrupts import Uninterrupted
 from .results import Status, status_of
 from .wire import Answer, Wire
 
@@ -28,16 +29,18 @@ class Settings(NamedTuple):
 
 
 class Request(Generic[T]):
-    """Commands, what their answers mean, and the settings that they need, if any."""
+    """Commands, what their answers mean, the settings that they need, if any, and whether they may take long."""
 
-    __slots__ = ("commands", "read", "settings")
+    __slots__ = ("commands", "read", "settings", "is_long")
 
     def __init__(
-        self, commands: Sequence[str], read: Callable[[Sequence[Answer]], T], settings: Optional[Settings] = None
+        self, commands: Sequence[str], read: Callable[[Sequence[Answer]], T], settings: Optional[Settings] = None,
+        is_long: bool = False,
     ) -> None:
         self.commands = commands
         self.read = read
         self.settings = settings
+        self.is_long = is_long
 
 
 class Outcome(NamedTuple):
@@ -56,11 +59,10 @@ class Ahead(Protocol):
 
 
 class Session:
-    """A machine's session. `tick`, `pc`, `next` and `stop` are those of the last answer."""
+    """A machine's session."""
 
     def __init__(self, wire: Wire) -> None:
         self.wire = wire
-        self.status = Status(0, 0, "", None)
         self.console = bytearray()  # what was printed since the start
         self.log: list[tuple[int, str]] = []  # what was put from outside since the start, with its tick
         self.registers: Optional[dict[str, int]] = None  # those of now, where they were asked for
@@ -68,71 +70,90 @@ class Session:
         self.free_slots: list[int] = []
         self.end_before = ""  # the end line before the answers that are being read
         self._settings: Optional[Settings] = None
-        self._last_end = ""
+        self._end = ""  # that of the last answer
+        self._status: Optional[Status] = None  # what it says, where it was asked for
+
+    @property
+    def status(self) -> Status:
+        """What the last end line says."""
+        if self._status is None:
+            try:
+                self._status = status_of(self._end)
+            except ValueError as error:
+                self.refuse(f"not the end of an answer: {self._end!r}", error)
+        return self._status
 
     def settle(self) -> None:
         """Brings the machine to where the reader of its trace is."""
         if self.ahead is not None:
-            self.ahead.settle(self)
+            with Uninterrupted():
+                self.ahead.settle(self)
 
     def do(self, request: Request[T]) -> T:
         """Sends the request and returns its value."""
-        value: T
-        value, error = self.send((request,))[0]
-        if error is None:
-            return value
-        try:
-            raise error
-        finally:
-            del error  # its traceback refers to this frame
+        self.settle()
+        if request.is_long:
+            with Uninterrupted():
+                return self._do(request)
+        return self._do(request)
+
+    def _do(self, request: Request[T]) -> T:
+        settings = request.settings
+        changes = settings.changes(self._settings) if settings and settings != self._settings else []
+        self.end_before = self._end
+        answers = self._exchange([*changes, *request.commands])
+        value = self._value(request, changes, answers)
+        self._settings = settings or self._settings
+        return value
 
     def send(self, requests: Sequence[Request[Any]]) -> list[Outcome]:
         """Sends all requests at once and returns their outcomes. What one refuses isn't in the way of the next ones."""
         self.settle()
+        with Uninterrupted():
+            return self._send(requests)
+
+    def _send(self, requests: Sequence[Request[Any]]) -> list[Outcome]:
         commands: list[str] = []
-        begins = []  # where the commands of each begin, and its own after those for its settings
+        changes = []  # the commands for the settings of each request
         settings = self._settings
         for request in requests:
-            begin = len(commands)
-            if request.settings is not None and request.settings != settings:
-                commands += request.settings.changes(settings)
-                settings = request.settings
-            begins.append((begin, len(commands)))
-            commands += request.commands
-        if not commands:
-            return [Outcome(request.read(()), None) for request in requests]
-        self._settings = None
-        self.end_before = self._last_end
-        answers = self.exchange(commands)
+            wanted = request.settings
+            changes.append(wanted.changes(settings) if wanted and wanted != settings else [])
+            settings = wanted or settings
+            commands += [*changes[-1], *request.commands]
+        self.end_before = self._end
+        answers = self._exchange(commands)
+        self._settings = settings
         outcomes = []
-        for request, (begin, own) in zip(requests, begins):
-            end = own + len(request.commands)
-            if begin:
-                self.end_before = answers[begin - 1].end
-            outcomes.append(self._outcome(request, commands[begin:end], answers[begin:end], own - begin))
-        self._settings = settings if all(not isinstance(o.error, CommandError) for o in outcomes) else None
-        if self.wire.is_interrupted:
-            self.wire.is_interrupted = False
-            raise KeyboardInterrupt
+        at = 0
+        for request, changing in zip(requests, changes):
+            end = at + len(changing) + len(request.commands)
+            try:
+                outcomes.append(Outcome(self._value(request, changing, answers[at:end]), None))
+            except MarmError as error:
+                outcomes.append(Outcome(None, error))
+            if end:
+                self.end_before = answers[end - 1].end
+            at = end
         return outcomes
 
-    def _outcome(
-        self, request: Request[Any], commands: Sequence[str], answers: Sequence[Answer], setting: int
-    ) -> Outcome:
+    def _value(self, request: Request[T], changes: Sequence[str], answers: Sequence[Answer]) -> T:
+        """The value of a request, whose answers come after those of the changes of settings."""
         try:
-            for command, answer in zip(commands, answers):
-                lines = answer.lines
-                if lines and lines[-1][:6] == "error ":
-                    return Outcome(None, CommandError(command, int(lines[-1][6:])))
-            return Outcome(request.read(answers[setting:]), None)
-        except MarmError as error:
-            return Outcome(None, error)
+            for number, answer in enumerate(answers):
+                if answer.lines and answer.lines[-1][:6] == "error ":
+                    self._settings = None
+                    raise CommandError([*changes, *request.commands][number], int(answer.lines[-1][6:]))
+            return request.read(answers[len(changes):])
+        except MarmError:
+            raise
         except (ValueError, LookupError, TypeError, AttributeError) as error:
-            self.refuse(f"not an answer to {list(commands)}: {answers}"[:500], error)
+            self.refuse(f"not an answer to {[*changes, *request.commands]}: {answers}"[:500], error)
 
-    def forget_settings(self) -> None:
-        """Records that commands were exchanged that change selection and conditions."""
+    def run_again(self, commands: Sequence[str]) -> None:
+        """Exchanges commands that change selection and conditions, and whose answers aren't looked at."""
         self._settings = None
+        self._exchange(commands)
 
     def refuse(self, what: str, cause: Exception) -> NoReturn:
         """Ends the session, since an answer isn't one of the protocol."""
@@ -141,15 +162,13 @@ class Session:
         except ProtocolError as error:
             raise error from cause
 
-    def exchange(self, commands: Sequence[str]) -> list[Answer]:
-        """Sends the commands and returns their answers, which aren't looked at."""
+    def _exchange(self, commands: Sequence[str]) -> list[Answer]:
+        if not commands:
+            return []
         answers = self.wire.exchange(commands)
         self.registers = None
-        self._last_end = answers[-1].end
-        try:
-            self.status = status_of(self._last_end)
-        except ValueError as error:
-            self.refuse(f"not the end of an answer: {self._last_end!r}", error)
+        self._status = None
+        self._end = answers[-1].end
         return answers
 
 

@@ -33,8 +33,7 @@ class Part:
         if not self.undone:
             return
         commands = [f"back {self.slot}", *Settings("none", ()).changes(None)]
-        session.exchange(commands + ([f"run {again}"] if again else []))
-        session.forget_settings()
+        session.run_again(commands + ([f"run {again}"] if again else []))
         printed = sum(isinstance(event, Console) and event.tick > self.here for event in self.events)
         if printed:
             del session.console[-printed:]

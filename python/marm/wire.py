@@ -42,13 +42,13 @@ def find_program(program: Program) -> list[str]:
 class Wire:
     """A session of the program. Every failure ends the process, and every later exchange raises the same error.
 
-    `image` and `board` are paths, or contents: an image as bytes, a board as a text with line feeds. `timeout` is in
-    seconds, for each answer."""
+    `board` and `image` are paths, or contents as bytes. `timeout` is in seconds, for each answer."""
 
-    def __init__(self, command: Sequence[str], board: str, image: Union[str, bytes], timeout: float) -> None:
+    def __init__(
+        self, command: Sequence[str], board: Union[str, bytes], image: Union[str, bytes], timeout: float
+    ) -> None:
         self.timeout = timeout
         self.failed: Optional[Exception] = None
-        self.is_interrupted = False
         self._has_answered = False
         self._rest = b""  # the beginning of a line
         self._lines: list[str] = []  # of the answer that is arriving
@@ -57,11 +57,10 @@ class Wire:
         self._files = _Files()
         self._messages: IO[bytes] = tempfile.TemporaryFile()  # standard error; a pipe might fill up
         try:
-            image_path = image if isinstance(image, str) else self._files.add(image, ".elf")
-            board_path = self._files.add(board.encode(), ".toml") if "\n" in board else board
+            board, image = self._files.path_of(board, ".toml"), self._files.path_of(image, ".elf")
             # in a session of its own, so that ^C at a terminal doesn't reach it
             self._process = subprocess.Popen(
-                [*command, "--board", board_path, image_path], stdin=subprocess.PIPE, stdout=subprocess.PIPE,
+                [*command, "--board", board, image], stdin=subprocess.PIPE, stdout=subprocess.PIPE,
                 stderr=self._messages, bufsize=0, start_new_session=True,
             )
         except BaseException:
@@ -91,9 +90,7 @@ class Wire:
 
     def exchange(self, commands: Sequence[str]) -> list[Answer]:
         """Sends the commands at once and returns their answers. The program answers while commands wait in the pipe, so
-        their number isn't bounded.
-
-        ^C doesn't break an answer off: `is_interrupted` is set, and the second one raises KeyboardInterrupt."""
+        their number isn't bounded."""
         if self.failed is not None:
             raise self.failed
         if not self.close.alive:
@@ -122,12 +119,13 @@ class Wire:
         self.close()
 
     def _exchange(self, commands: Sequence[str]) -> list[Answer]:
-        waiting = self._write("".join([command + "\n" for command in commands]).encode())
+        waiting = self._write(("\n".join(commands) + "\n").encode())
         count = len(commands)
         answers: list[Answer] = []
         deadline = time.monotonic() + self.timeout
         while len(answers) < count:
-            ready = self._wait(self._both if waiting else self._reader, deadline)
+            poll = self._both if waiting else self._reader
+            ready = poll.poll(max(0.0, deadline - time.monotonic()) * 1000)
             if not ready and time.monotonic() >= deadline:
                 self.fail(Hung(self.timeout, commands[len(answers)]))
             for descriptor, _ in ready:
@@ -138,15 +136,6 @@ class Wire:
         if len(answers) > count or self._lines or self._rest:
             self.fail(ProtocolError("the program answered more than it was asked"))
         return answers
-
-    def _wait(self, poll: select.poll, deadline: float) -> list[tuple[int, int]]:
-        try:
-            return poll.poll(max(0.0, deadline - time.monotonic()) * 1000)
-        except KeyboardInterrupt:
-            if self.is_interrupted:
-                raise
-            self.is_interrupted = True
-            return []
 
     def _write(self, data: bytes) -> bytes:
         """Writes what goes without waiting, and returns the rest."""
@@ -208,11 +197,13 @@ class _Files:
     def __init__(self) -> None:
         self._paths: list[str] = []
 
-    def add(self, data: bytes, suffix: str) -> str:
+    def path_of(self, file: Union[str, bytes], suffix: str) -> str:
+        if isinstance(file, str):
+            return file
         handle, path = tempfile.mkstemp(suffix, "marm-")
         self._paths.append(path)
-        with os.fdopen(handle, "wb") as file:
-            file.write(data)
+        with os.fdopen(handle, "wb") as it:
+            it.write(file)
         return path
 
     def remove(self) -> None:

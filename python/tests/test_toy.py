@@ -12,6 +12,7 @@ import time
 import unittest
 
 import marm
+from marm.interrupts import Uninterrupted
 
 from . import laws
 from .support import toy
@@ -154,18 +155,39 @@ class Toys(laws.Laws):
         self.assertFalse(m.is_lost)
 
     def test_control_c(self) -> None:
-        """It comes out between two answers, and the machine goes on."""
+        """It comes out of a long run between two answers, and the machine goes on."""
         m = self.m
-        m.run(10)
-        timer = threading.Timer(0.1, lambda: os.kill(os.getpid(), signal.SIGINT))
-        timer.start()
+        for delay in (0.005, 0.01, 0.015, 0.02):
+            m.restore(m.start)
+            timer = threading.Timer(delay, lambda: os.kill(os.getpid(), signal.SIGINT))
+            timer.start()
+            with self.assertRaises(KeyboardInterrupt):
+                m.run(5000, trace="all")
+                time.sleep(10)
+            self.assertEqual(m.run(trace="all").stop, marm.Stop("breakpoint", "0"))
+            self.assertEqual((m.tick, len(m.console)), (1000, 90))
+
+    def test_uninterrupted(self) -> None:
+        """KeyboardInterrupt comes at the end of the block; the second ^C breaks it off; other handlers stay."""
+        reached = []
         with self.assertRaises(KeyboardInterrupt):
-            begun = time.monotonic()
-            while time.monotonic() < begun + 10:
-                m.restore(m.start)
-                m.run(1000)
-        m.restore(m.start)
-        self.assertEqual(m.run(500).tick, 500)
+            with Uninterrupted():
+                with Uninterrupted():
+                    os.kill(os.getpid(), signal.SIGINT)
+                reached.append(1)
+            reached.append(2)
+        with self.assertRaises(KeyboardInterrupt):
+            with Uninterrupted():
+                os.kill(os.getpid(), signal.SIGINT)
+                os.kill(os.getpid(), signal.SIGINT)
+                reached.append(3)
+        self.assertEqual(reached, [1])
+        self.assertIs(signal.getsignal(signal.SIGINT), signal.default_int_handler)
+        self.addCleanup(signal.signal, signal.SIGINT, signal.default_int_handler)
+        signal.signal(signal.SIGINT, lambda *_: reached.append(4))
+        with Uninterrupted():
+            os.kill(os.getpid(), signal.SIGINT)
+        self.assertEqual(reached, [1, 4])
 
     def test_no_process_is_left(self) -> None:
         """A machine that nothing refers to ends its program, without the collector's help."""

@@ -91,7 +91,7 @@ class Session:
         if version != "1":
             return "error 2\n"
         memory = f"flash {FLASH:08X} {SIZE}\nram {RAM:08X} {SIZE}\n"
-        slots = f"slots {len(self.slots)}\nmore than a client knows\n"
+        slots = f"slots {len(self.slots)}\nmore than a client knows\nmore\n"
         return "script 1\n" + memory + "priority_bits 4\nlines 2\nregions 8\n" + slots
 
     def do_next(self) -> str:
