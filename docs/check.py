@@ -43,6 +43,7 @@ from marks import Marks
 TOP = os.path.dirname(os.path.dirname(os.path.abspath(__file__)))
 
 MANUAL_PAGE = "docs/marm.1"
+PYTHON_PAGE = "docs/SCRIPTING.md"
 SCRIPT = "marm"
 
 # ---- what is no name of the repository -------------------------------------------------------------------------
@@ -142,6 +143,7 @@ class Repository:
                 self.below[name] = uses.split()
         self.names = set(self.crates).union(*self.below.values())      # every name
         self.examples = set()              # every word of examples/, bench/, crosscheck/ and fuzz/
+        self.python = set()                # every word of the Python package
         self.texts = set()                 # every word that is written or read
         self.of_crate = {}                 # the names of a crate
         self.of_file = {}                  # the names of a file, by its stem: chapters and modules
@@ -156,6 +158,9 @@ class Repository:
                 found = self.definitions(read(path))
             elif path in (MANUAL_PAGE, SCRIPT):
                 self.texts.update(OPTION.findall(read(path).replace("\\-", "-")))
+                continue
+            elif path.startswith("python/") and path.endswith((".py", ".toml", ".sh")):
+                self.python.update(re.findall(r"[\w.-]+", read(path)))
                 continue
             elif path.endswith((".c", ".h", ".s", ".ld", ".py", ".sh", "Makefile", ".toml", ".in")):
                 self.examples.update(re.findall(r"[\w.-]+", read(path)))
@@ -199,6 +204,8 @@ class Repository:
 
     def has(self, name, page):
         if page in EXAMPLE_PAGES and name in self.examples:
+            return True
+        if page == PYTHON_PAGE and name.split(".")[-1] in self.python:
             return True
         return name in self.near(page) or name in self.texts or name in LANGUAGE or name in OUTSIDE
 
@@ -440,11 +447,15 @@ def manual_page():
 
 def debugger_commands():
     """Returns which lists of the debugger's commands differ from the definition's words, or from each other."""
-    defined = re.findall(r'bytes_eq word \(codes "(\w+)"\)', read("crates/debugger_commands/specs/Commands.antt"))
+    word = re.compile(r'bytes_eq word \(codes "(\w+)"\)')
+    defined = word.findall(read("crates/debugger_commands/specs/Commands.antt"))
+    changes = word.findall(read("crates/debugger_commands/specs/Changes.antt").split("change_in slots word more =")[1])
+    defined[defined.index("script"):defined.index("script")] = changes
     text = read(HELP_OF_DEBUG).split("AFTER_DEBUG", 1)[1].split("\n\n")[0]
     shown = re.findall(r"^  (\w+(?: [\w<>|]+)*)(?:  |$)", text, re.M)
     rows = re.findall(r"^\| `([^`]+)`", read("docs/DEBUGGING.md").split("| Command |", 1)[1].split("\n\n")[0], re.M)
-    found = [] if [form.split()[0] for form in shown] == defined else [f"{HELP_OF_DEBUG}: not the commands of the definition"]
+    words = list(dict.fromkeys(form.split()[0] for form in shown))
+    found = [] if words == defined else [f"{HELP_OF_DEBUG}: not the commands of the definition"]
     if [re.sub("[<>]", "", form) for form in shown] != [row.replace("\\|", "|") for row in rows]:
         found.append(f"docs/DEBUGGING.md: not the commands of {HELP_OF_DEBUG}")
     return found

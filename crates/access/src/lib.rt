@@ -11,7 +11,7 @@ pub use clock::{Ahead, Counting, DueTicks, Script, ScriptedEvent, SysTick};
 pub use code_memory::CodeMemory;
 pub use instruction_set::size::Size;
 pub use kept_code::KeptCode;
-pub use mpu::{Decider, Search};
+pub use mpu::{Decider, GrantedSpan, Search};
 pub use nvic::{Levels, PlainLevels};
 pub use platform::access::{Cause, Decision, DoneAccess, Kind, Performed, Request, Rule};
 pub use platform::stop::Stop;

@@ -5,6 +5,8 @@ mod Foreseen
 mod Known
 mod Loading
 mod Micros
+mod Modes
+mod Permitted
 pub mod Running
 mod StepBounds
 pub mod Selecting

@@ -9,4 +9,5 @@ pub mod Values
 pub mod Whole
 pub mod Fetched
 pub mod Kept
+pub mod Permits
 pub mod Quiet

@@ -6,6 +6,7 @@ pub mod foresight;
 mod keeping;
 pub mod laws;
 mod machine;
+mod permit;
 mod placing;
 pub mod readers;
 mod run;

@@ -1,13 +1,13 @@
 //! The trait `Decider`: it decides accesses by the registers of the MPU, however it keeps them.
 
 ghost use Rattle.std.specs.Prelude.{◌≡◌, ◌≤◌, true, false, IfSome};
-ghost use Rattle.mpu.specs.Spans.{BelongTo};
+ghost use Rattle.mpu.specs.Spans.{BelongTo, GrantsSpan};
 ghost use Rattle.platform.specs.Regions.{Mpu, owner};
 ghost use Rattle.platform.specs.Rules.{by_owner, decision_of};
 
 use crate::registers::MpuRegs;
 use crate::rules::{Rights, before_regions, by_region, without_region};
-use crate::spans::Span;
+use crate::spans::{GrantedSpan, Span};
 use platform::access::{Decision, Kind, Rule};
 
 /// Decides each access by the MPU's registers as they were last loaded.
@@ -51,6 +51,17 @@ pub trait Decider: Drop {
         ensures { (m : Mpu) → decides_for self.now m
             → IfSome result
             (λ rule. decision_of m address kind privileged false ≡ record { rule = rule; granted = true }) }
+    {
+        let _unused = (address, kind, privileged);
+        None
+    }
+
+    /// Returns addresses near one, to each of which a rule grants an access of that kind, by code of that privilege,
+    /// while the execution priority isn't below 0, if such addresses are kept.
+    #[inline(always)]
+    fn kept_span(&self, address: u32, kind: Kind, privileged: bool) -> Option<GrantedSpan>
+        ensures { (m : Mpu) → decides_for self.now m
+            → IfSome result (λ span. GrantsSpan m false span kind privileged) }
     {
         let _unused = (address, kind, privileged);
         None

@@ -15,4 +15,4 @@ pub use platform::mpu::{MpuRegister, MpuStop, Region};
 pub use regions::{is_region_enabled, size, switched_off};
 pub use registers::{MpuRegs, mpu_register_at, stop_of};
 pub use rules::{Rights, before_regions, by_region, uses_regions, without_region};
-pub use spans::Span;
+pub use spans::{GrantedSpan, Span};

@@ -5,6 +5,7 @@ ghost use Rattle.mpu.specs.Spans.{grain};
 ghost use Rattle.platform.specs.Regions.{agrees, matches};
 
 use crate::regions::{agrees, is_region_enabled, size, switched_off};
+use platform::access::Rule;
 use platform::mpu::Region;
 
 /// Addresses from the first to the last, with both.
@@ -12,6 +13,14 @@ use platform::mpu::Region;
 pub struct Span {
     pub first: u32,
     pub last: u32,
+}
+
+/// Addresses from the first to the last, with both, and a rule that grants accesses of one kind to each of them.
+#[derive(Clone, Copy)]
+pub struct GrantedSpan {
+    pub first: u32,
+    pub last: u32,
+    pub rule: Rule,
 }
 
 /// Addresses that agree in their upper bits: from the first to before the next.

@@ -4,6 +4,7 @@ ghost use Rattle.std.specs.Prelude.{◌≡◌, ◌+◌, ◌^◌, ◌<◌, ◌≤
 ghost use Rattle.clock.specs.DueTicks.{IsRight};
 ghost use Rattle.instruction_set.specs.Registers.{is_privileged};
 ghost use Rattle.instruction_set.specs.Sizes.{bytes_in};
+ghost use Rattle.mpu.specs.Spans.{GrantsSpan};
 ghost use Rattle.platform.specs.Outcomes.{IsOf, LeavesUnlessDone};
 ghost use Rattle.platform.specs.System.{reset_system, after_tick, deactivated, after_read, register_written};
 ghost use Rattle.platform.specs.System.{register_access, system_access, with_nvic, with_pended, mpu_written};
@@ -28,9 +29,9 @@ use crate::status::Status;
 use crate::systick::{read_systick, write_systick};
 use clock::{Clock, DueTicks, Script, Signal};
 use instruction_set::system::{ChangeProcessorState, SpecialRegister};
-use mpu::{Decider, MpuRegister, MpuRegs, stop_of, uses_regions};
+use mpu::{Decider, GrantedSpan, MpuRegister, MpuRegs, stop_of, uses_regions};
 use nvic::{Levels, Masks};
-use platform::access::{Access, Decision, Performed, Request, Rule};
+use platform::access::{Access, Decision, Kind, Performed, Request, Rule};
 use platform::exception::FIRST_INTERRUPT;
 use platform::stop::{LeftOut, Stop};
 use platform::system::SystemRegister;
@@ -233,6 +234,19 @@ impl<D: Decider, L: Levels, U: DueTicks> System<D, L, U> {
         }
         self.decider
             .kept_rule(access.address, access.kind, access.privileged)
+    }
+
+    /// Returns addresses near one, to each of which a rule grants an access of that kind, by code of that privilege, at
+    /// the current execution priority, if such addresses are kept.
+    #[inline(always)]
+    pub fn kept_span(&self, address: u32, kind: Kind, privileged: bool) -> Option<GrantedSpan>
+        ensures { IfSome result (λ span. GrantsSpan self.now.mpu (is_below_zero self.now.nvic) span kind privileged) }
+    {
+        let below_zero = self.levels.is_below_zero();
+        if below_zero {
+            return None;
+        }
+        self.decider.kept_span(address, kind, privileged)
     }
 
     /// Returns VTOR, SCR, CCR and the registers of faults.

@@ -13,7 +13,7 @@ steps-init g c = record {
   shown = rw (none_shown g.V.View.SELECTION c.args.core.now) (Appends-nil _);
   printed = none_printed g.V.View.SELECTION c.args.core.now;
   same = refl;
-  quiet = λ is. absurd cc;
+  permit = λ given. absurd cc;
 }
 
 pub steps-preserved : goal.steps-preserved
@@ -30,7 +30,7 @@ steps-preserved g c =
           printed_on g.V.View.SELECTION _ _ _ _ _ c.write_selected.ensures.last c.steps.invariant.printed
           c.steps.invariant.core;
       same = c.in-Ok.ensures.put.1 ∙ c.steps.invariant.same;
-      quiet = c.write_selected.ensures.quiet;
+      permit = c.write_selected.ensures.permit;
     }
 
 pub returns-in-Err-clause-cut : goal.returns-in-Err-clause-cut

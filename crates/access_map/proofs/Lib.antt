@@ -1,0 +1,7 @@
+pub mod Describing
+pub mod Spans
+pub mod Making
+pub mod Texts
+pub mod Unique
+pub mod SameSettings
+pub mod Counted

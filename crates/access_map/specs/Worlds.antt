@@ -1,0 +1,57 @@
+-- What unprivileged code may do in a world: with the bytes of a board, while the MPU has one setting (profile).
+use Rattle.std.specs.Prelude.{ℕ, ◌+◌, Bool, true, false, ◌&&◌}
+use Rattle.access_map.specs.declared.world.Place.{Place}
+use Rattle.access_map.specs.declared.world.Place.TheVariants.{Flash, Ram, Window}
+use Rattle.access_map.specs.declared.world.Rights.{Rights}
+use Rattle.access_map.specs.declared.world.World.{World}
+use Rattle.platform.specs.Boards.{Numbers}
+use Rattle.platform.specs.declared.access.Kind.{Kind}
+use Rattle.platform.specs.declared.access.Kind.TheVariants.{Fetch, Load, Store}
+use Rattle.platform.specs.declared.access.Decision.{Decision}
+use Rattle.platform.specs.declared.access.Rule.{Rule}
+use Rattle.platform.specs.Map.{ram_base, out_register}
+use Rattle.platform.specs.Rules.{decision_of}
+
+-- the decision on an access by unprivileged code
+abbrev pub decision_in : World → ℕ → Kind → Decision
+decision_in w a kind = decision_of w.registers a kind false w.below_zero
+
+-- a store changes bytes of RAM and registers of the window, and no byte of flash
+abbrev pub takes_stores : Place → Bool
+takes_stores Flash = false
+takes_stores Ram = true
+takes_stores Window = true
+
+-- code is in flash and in RAM
+abbrev pub holds_code : Place → Bool
+holds_code Flash = true
+holds_code Ram = true
+holds_code Window = false
+
+-- what unprivileged code may do with the byte at an address of a place: read it where a load is granted, change it
+-- where a store is granted and the place takes stores, execute it where a fetch is granted and the place holds code
+unfoldable pub rights_at : World → Place → ℕ → Rights
+rights_at w place a = record {
+  read = (decision_in w a Load).granted;
+  write = takes_stores place && (decision_in w a Store).granted;
+  execute = holds_code place && (decision_in w a Fetch).granted;
+}
+
+-- the rule that decides a load there
+unfoldable pub rule_at : World → ℕ → Rule
+rule_at w a = (decision_in w a Load).rule
+
+-- where a place of a board begins, and how many bytes it has
+abbrev pub first_of : Numbers → Place → ℕ
+first_of board Flash = board.flash_base
+first_of board Ram = ram_base
+first_of board Window = out_register
+
+abbrev pub size_of : Numbers → Place → ℕ
+size_of board Flash = board.flash_size
+size_of board Ram = board.ram_size
+size_of board Window = 0x1000
+
+-- the first address after a place
+abbrev pub end_of : Numbers → Place → ℕ
+end_of board place = first_of board place + size_of board place

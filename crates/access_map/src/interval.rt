@@ -1,0 +1,64 @@
+//! Intervals of addresses with the same rights and the same rule.
+
+ghost use Rattle.std.specs.Bool.{Decides};
+ghost use Rattle.std.specs.Prelude.{◌≡◌, ◌≤◌, ◌<◌, ◌^◌, ◌/◌};
+ghost use Rattle.access_map.specs.Maps.{Describes, IsAlike};
+
+use crate::world::{Place, Rights, World};
+use mpu::{Rule, Span};
+
+/// Addresses of a place, from the first to the last, with both, at which unprivileged code has the same rights by the
+/// same rule.
+#[derive(Clone, Copy)]
+pub struct Interval {
+    pub first: u32,
+    pub last: u32,
+    /// What it may do with each byte.
+    pub rights: Rights,
+    /// The rule that decides its loads.
+    pub rule: Rule,
+}
+
+impl Interval {
+    /// Returns an interval that begins where a span does, and ends with it or before. All its addresses have one owner.
+    pub fn at(world: &World, place: Place, within: Span) -> Self
+        requires some { within.first ≤ within.last }
+        requires near { within.last / 2 ^ 29 ≡ within.first / 2 ^ 29 }
+        requires below { within.last < 0xE000_0000 }
+        ensures first { result.first ≡ within.first }
+        ensures some { result.first ≤ result.last }
+        ensures last { result.last ≤ within.last }
+        ensures right { Describes world.now place result }
+    {
+        let Span { first, last } = within;
+        Interval {
+            first,
+            last: world.registers.span(first).last.min(last),
+            rights: world.rights_at(place, first),
+            rule: world.rule_at(first),
+        }
+    }
+
+    /// Returns whether two intervals have the same rights and the same rule.
+    pub fn is_alike(&self, other: &Interval) -> bool
+        ensures { Decides result (IsAlike self.now other.now) }
+    {
+        self.rights.is_same(other.rights) && is_same_rule(self.rule, other.rule)
+    }
+}
+
+/// Returns whether two rules are the same.
+fn is_same_rule(rule: Rule, other: Rule) -> bool
+    ensures { Decides result (rule ≡ other) }
+{
+    match rule {
+        Rule::NeverExecute => matches!(other, Rule::NeverExecute),
+        Rule::VectorRead => matches!(other, Rule::VectorRead),
+        Rule::PrivatePeripheralBus => matches!(other, Rule::PrivatePeripheralBus),
+        Rule::MpuOff => matches!(other, Rule::MpuOff),
+        Rule::NegativePriority => matches!(other, Rule::NegativePriority),
+        Rule::Region(number) => matches!(other, Rule::Region(another) if another == number),
+        Rule::Background => matches!(other, Rule::Background),
+        Rule::NoRegion => matches!(other, Rule::NoRegion),
+    }
+}

@@ -1,0 +1,25 @@
+//! Who may touch what: which bytes of a board unprivileged code may read, write and execute under a setting of the MPU,
+//! and by which bytes one such world can influence another.
+#![tactic(auto)]
+
+mod counting;
+mod interval;
+pub mod laws;
+mod lines;
+mod map;
+mod settings;
+mod sharing;
+mod world;
+mod world_lines;
+
+pub use counting::{MOST_WORLDS, WorldSteps, Worlds};
+pub use interval::Interval;
+pub use lines::{Line, map_text, pair_text};
+pub use map::AccessMap;
+pub use mpu::Span;
+pub use sharing::{are_apart, shared};
+pub use world::{Place, Rights, World};
+pub use world_lines::{others_line, world_line};
+
+#[cfg(test)]
+mod tests;

@@ -1,0 +1,121 @@
+//! A world, the places of a board, and what unprivileged code may do at an address.
+
+ghost use Rattle.std.specs.Bool.{Decides};
+ghost use Rattle.std.specs.Prelude.{◌≡◌, ◌+◌, ◌≤◌, ◌<◌, ◌^◌, ◌/◌};
+ghost use Rattle.access_map.specs.Worlds.{decision_in, end_of, first_of, holds_code, rights_at, rule_at, takes_stores};
+ghost use Rattle.platform.specs.Boards.{numbers_of};
+
+use mpu::{Decider, Decision, Kind, MpuRegs, Rule, Search, Span};
+use platform::board::Layout;
+use platform::map::RAM_BASE;
+
+/// Where the device window begins.
+const WINDOW_BASE: u32 = 0x4000_0000;
+
+/// The bytes of the device window.
+const WINDOW_SIZE: u32 = 0x1000;
+
+/// A setting of the MPU under which unprivileged code runs.
+#[derive(Clone, Copy)]
+pub struct World {
+    /// MPU_CTRL, and RBAR and RASR of each region.
+    pub registers: MpuRegs,
+    /// Whether the execution priority is below 0.
+    pub below_zero: bool,
+}
+
+/// What unprivileged code may do with a byte.
+#[derive(Clone, Copy)]
+pub struct Rights {
+    pub read: bool,
+    pub write: bool,
+    pub execute: bool,
+}
+
+/// A part of a board in which addresses neighbour.
+#[derive(Clone, Copy)]
+pub enum Place {
+    Flash,
+    Ram,
+    /// The device window.
+    Window,
+}
+
+impl World {
+    /// Returns the decision on an access of that kind by unprivileged code.
+    pub fn decide(&self, address: u32, kind: Kind) -> Decision
+        ensures { result ≡ decision_in self.now address kind }
+    {
+        Search::fresh(&self.registers).decide(address, kind, false, self.below_zero)
+    }
+
+    /// Returns what unprivileged code may do with the byte at an address of a place.
+    #[tactic(auto, unfolding(crate::specs::Worlds::rights_at))]
+    pub fn rights_at(&self, place: Place, address: u32) -> Rights
+        ensures { result ≡ rights_at self.now place address }
+    {
+        Rights {
+            read: self.decide(address, Kind::Load).granted,
+            write: place.takes_stores() && self.decide(address, Kind::Store).granted,
+            execute: place.holds_code() && self.decide(address, Kind::Fetch).granted,
+        }
+    }
+
+    /// Returns the rule that decides a load of unprivileged code.
+    #[tactic(auto, unfolding(crate::specs::Worlds::rule_at))]
+    pub fn rule_at(&self, address: u32) -> Rule
+        ensures { result ≡ rule_at self.now address }
+    {
+        self.decide(address, Kind::Load).rule
+    }
+}
+
+impl Rights {
+    /// Returns whether these are the same rights.
+    pub fn is_same(self, other: Rights) -> bool
+        ensures { Decides result (self ≡ other) }
+    {
+        self.read == other.read && self.write == other.write && self.execute == other.execute
+    }
+}
+
+impl Place {
+    /// Returns whether a store changes the place.
+    fn takes_stores(self) -> bool
+        ensures { result ≡ takes_stores self }
+    {
+        match self {
+            Place::Flash => false,
+            Place::Ram | Place::Window => true,
+        }
+    }
+
+    /// Returns whether code is fetched from the place.
+    fn holds_code(self) -> bool
+        ensures { result ≡ holds_code self }
+    {
+        match self {
+            Place::Flash | Place::Ram => true,
+            Place::Window => false,
+        }
+    }
+
+    /// Returns the addresses of the place on a board.
+    pub fn span(self, board: &Layout) -> Span
+        ensures first { result.first ≡ first_of (numbers_of board.now) self }
+        ensures last { result.last + 1 ≡ end_of (numbers_of board.now) self }
+        ensures some { result.first ≤ result.last }
+        ensures near { result.last / 2 ^ 29 ≡ result.first / 2 ^ 29 }
+        ensures below { result.last < 0xE000_0000 }
+    {
+        let (first, size) = match self {
+            Place::Flash => (board.flash_base, board.flash_size),
+            Place::Ram => (RAM_BASE, board.ram_size),
+            Place::Window => (WINDOW_BASE, WINDOW_SIZE),
+        };
+        Span {
+            first,
+            last: first + (size - 1),
+        }
+    }
+}

@@ -1,0 +1,2 @@
+"""Examples of tests of firmware. `python3 -m examples.test_window` and `python3 -m examples.test_campaign` print what
+they find."""

@@ -1,0 +1,209 @@
+"""The laws, and what is the package's own, on a machine that needs no program."""
+
+from __future__ import annotations
+
+import gc
+import os
+import pickle
+import re
+import signal
+import threading
+import time
+import unittest
+
+import marm
+from marm.interrupts import Uninterrupted
+
+from . import laws
+from .support import toy
+
+
+class Toys(laws.Laws):
+    def make(self) -> marm.Machine:
+        return toy()
+
+    def test_start(self) -> None:
+        m = self.m
+        self.assertEqual((m.tick, m.pc, m.next, m.stop), (0, 0x100, "Instruction", None))
+        self.assertEqual((m.flash, m.ram, m.lines), (range(1024), range(0x2000_0000, 0x2000_0400), 2))
+        self.assertEqual(repr(m), "<marm.Machine at tick 0, pc 00000100, Instruction>")
+
+    def test_registers(self) -> None:
+        m = self.m
+        m.regs.r3, m.regs["pc"], m.regs.psp = -1, 0x180, 5
+        self.assertEqual((m.regs.r3, m.pc, m.regs["psp"], len(m.regs)), (0xFFFF_FFFF, 0x180, 5, 23))
+        self.assertIn("r3=FFFFFFFF", repr(m.regs))
+        for broken in ("r13", "rip"):
+            with self.assertRaises(AttributeError):
+                getattr(m.regs, broken)
+            with self.assertRaises(AttributeError):
+                setattr(m.regs, broken, 1)
+            with self.assertRaises(KeyError):
+                m.regs[broken]
+        with self.assertRaises(TypeError):
+            del m.regs["r0"]
+
+    def test_memory(self) -> None:
+        m = self.m
+        m.write(0x2000_0003, b"abcdef")
+        self.assertEqual(m.read(0x2000_0000, 12), b"\0\0\0abcdef\0\0\0")
+        self.assertEqual((len(m.read(m.ram.start, 1024)), m.read(0, 0), m.read_word(0)), (1024, b"", 0xFFFF_FFFF))
+        m.write(0x2000_0000, b"")
+        for address, size in ((0x2000_03FF, 2), (0x3000_0000, 1)):
+            with self.assertRaises(marm.NotMemory):
+                m.read(address, size)
+        with self.assertRaises(marm.NotMemory):
+            m.write(0x2000_03FE, b"abc")
+        with self.assertRaises(KeyError):
+            m.read("no_symbol", 4)
+
+    def test_refusals(self) -> None:
+        m = self.m
+        with self.assertRaises(marm.PlaceRefused) as caught:
+            m.write_word(0xE000_ED94, 2)
+        error = caught.exception
+        self.assertEqual((error.number, error.name, str(error.stop)), (4, "Refused", "unpredictable mpu-ctrl"))
+        self.assertEqual(str(error), "`place word 3758157204 2`: refused 4 Refused unpredictable mpu-ctrl")
+        with self.assertRaises(marm.PlaceRefused):
+            m.pulse(2)
+        with self.assertRaises(marm.CommandError) as wrong:
+            m.run(5, marm.Reads(0, "x"))  # type: ignore[arg-type]
+        self.assertEqual((wrong.exception.number, wrong.exception.command), (2, "watch r 0 x"))
+        self.assertEqual(m.run_to(marm.Reads(0x2000_0000, 64)).tick, 7)
+        m.run()
+        with self.assertRaises(marm.PlaceRefused):
+            m.nmi()
+        self.assertEqual(m.run(5).why, "stop")
+
+    def test_signals(self) -> None:
+        m = self.m
+        m.pulse(1)
+        m.rise(0)
+        m.fall(0)
+        m.nmi()
+        self.assertEqual([m.run_to(marm.ENTRY).tick for _ in range(3)], [1, 2, 3])
+        with m.batch() as b:
+            b.pulse(0), b.rise(0), b.fall(0), b.nmi()
+        self.assertEqual([m.run_to(marm.ENTRY).tick for _ in range(3)], [4, 5, 6])
+
+    def test_expect(self) -> None:
+        m = self.m
+        m.expect(b"cde")
+        self.assertEqual((m.tick, m.console), (55, b"abcde"))
+        self.assertEqual(m.expect(re.compile(rb"[h-z]+j")).group(), b"hij")
+        self.assertEqual(m.tick, 110)
+        with self.assertRaises(marm.NotReached):
+            m.expect(b"!")
+        self.assertIsNotNone(m.stop)
+
+    def test_not_reached(self) -> None:
+        for steps in (10, 10_000):
+            with self.assertRaises(marm.NotReached):
+                self.m.run_to(marm.At(0x300), steps)
+        self.assertEqual(self.m.run(0).why, "stop")
+        with self.assertRaises(ValueError):
+            self.m.run(-1)
+
+    def test_map(self) -> None:
+        m = self.m
+        spans = m.access_map(range(0x1FFF_FFF8, 0x2000_0050), "u")
+        self.assertEqual([(s.first, s.last, s.rights) for s in spans], [
+            (0x1FFF_FFF8, 0x1FFF_FFFF, "---"), (0x2000_0000, 0x2000_003F, "rw-"), (0x2000_0040, 0x2000_004F, "---")])
+        self.assertEqual([s.rights for s in m.access_map(m.ram, "p")], ["rwx"])
+        for wrong in (range(0), range(0, 8, 2)):
+            with self.assertRaises(ValueError):
+                m.access_map(wrong, "u")
+
+    def test_wrong_words(self) -> None:
+        m = self.m
+        for who, access in (("x", "r"), ("u", "a")):
+            with self.assertRaises(ValueError):
+                m.explain(0, who, access)
+        with self.assertRaises(ValueError):
+            m.run(5, trace="none")
+        with self.assertRaises(ValueError):
+            m.run(5, [marm.At(k) for k in range(17)])
+        with self.assertRaises(ValueError):
+            toy(7)
+
+    def test_a_state_of_another_machine(self) -> None:
+        with toy() as other, self.assertRaises(ValueError):
+            self.m.restore(other.save())
+
+    def test_a_machine_stays_where_it_is(self) -> None:
+        with self.assertRaises(TypeError):
+            pickle.dumps(self.m)
+
+    def test_two_threads(self) -> None:
+        """Of two that use one machine at once the second gets an error; neither gets the other's answer."""
+        m, errors, barrier = self.m, [], threading.Barrier(2)
+
+        def use() -> None:
+            barrier.wait()
+            for _ in range(300):
+                try:
+                    assert m.explain(0x2000_0000, "u", "w").rule == "r1"
+                except ValueError as error:
+                    errors.append(str(error))
+
+        threads = [threading.Thread(target=use) for _ in range(2)]
+        for thread in threads:
+            thread.start()
+        for thread in threads:
+            thread.join()
+        self.assertLessEqual(set(errors), {"another thread is using the machine: make one for each thread"})
+        self.assertFalse(m.is_lost)
+
+    def test_control_c(self) -> None:
+        """It comes out of a long run between two answers, and the machine goes on."""
+        m = self.m
+        for delay in (0.005, 0.01, 0.015, 0.02):
+            m.restore(m.start)
+            timer = threading.Timer(delay, lambda: os.kill(os.getpid(), signal.SIGINT))
+            timer.start()
+            with self.assertRaises(KeyboardInterrupt):
+                m.run(5000, trace="all")
+                time.sleep(10)
+            self.assertEqual(m.run(trace="all").stop, marm.Stop("breakpoint", "0"))
+            self.assertEqual((m.tick, len(m.console)), (1000, 90))
+
+    def test_uninterrupted(self) -> None:
+        """KeyboardInterrupt comes at the end of the block; the second ^C breaks it off; other handlers stay."""
+        reached = []
+        with self.assertRaises(KeyboardInterrupt):
+            with Uninterrupted():
+                with Uninterrupted():
+                    os.kill(os.getpid(), signal.SIGINT)
+                reached.append(1)
+            reached.append(2)
+        with self.assertRaises(KeyboardInterrupt):
+            with Uninterrupted():
+                os.kill(os.getpid(), signal.SIGINT)
+                os.kill(os.getpid(), signal.SIGINT)
+                reached.append(3)
+        self.assertEqual(reached, [1])
+        self.assertIs(signal.getsignal(signal.SIGINT), signal.default_int_handler)
+        self.addCleanup(signal.signal, signal.SIGINT, signal.default_int_handler)
+        signal.signal(signal.SIGINT, lambda *_: reached.append(4))
+        with Uninterrupted():
+            os.kill(os.getpid(), signal.SIGINT)
+        self.assertEqual(reached, [1, 4])
+
+    def test_no_process_is_left(self) -> None:
+        """A machine that nothing refers to ends its program, without the collector's help."""
+        gc.disable()
+        self.addCleanup(gc.enable)
+        m = toy()
+        for event in m.trace():
+            if event.tick == 20:
+                break
+        with self.assertRaises(marm.PlaceRefused):
+            m.write_word(1, 1)
+        number = m.process_id
+        del m
+        with self.assertRaises(ProcessLookupError):
+            os.kill(number, 0)
+
+
+if __name__ == "__main__":
+    unittest.main()
