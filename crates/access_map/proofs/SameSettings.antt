@@ -14,8 +14,8 @@ use Rattle.platform.specs.declared.access.Rule.TheVariants as rule
 use Rattle.platform.specs.declared.mpu.Region.{Region}
 use Rattle.platform.specs.Kinds.{is_vector}
 use Rattle.platform.specs.Regions.{Mpu, is_on, matches, owner, owner_below, region}
-use Rattle.platform.specs.Rules.{after_regions, before_regions, by_owner, decision_of, default_map, first_of_two, grants}
-use Rattle.platform.specs.Rules.{is_never_executed, is_off_below_zero, is_ppb_data}
+use Rattle.platform.specs.Rules.{after_regions, before_regions, by_owner, decision_of, default_map, first_of_two}
+use Rattle.platform.specs.Rules.{grants, is_never_executed, is_off_below_zero, is_ppb_data}
 
 -- ---- before the regions
 
@@ -53,8 +53,8 @@ choice_alike m n kind a k p b c o q e same rest = lead b c e
     lead : (b c : Bool) → b ≡ c
         → by_owner m kind a p (if b then Some k else o) ≡ by_owner n kind a p (if c then Some k else q)
     lead true true e =
-        ap (λ (r : Region). let made : Decision = record { rule = rule.Region k; granted = grants r.attributes kind p } in
-        made) same
+        ap (λ (r : Region).
+        let made : Decision = record { rule = rule.Region k; granted = grants r.attributes kind p } in made) same
     lead false false e = rest
     lead true false e = absurd (let wrong : ⊥ = cc in wrong)
     lead false true e = absurd (let wrong : ⊥ = cc in wrong)
@@ -123,7 +123,8 @@ regions_from : (m n : Mpu) (k : ℕ) → ((j : ℕ) → j < k → region m j ≡
 regions_from m n zero same = refl
 regions_from m n (suc k) same =
     both (are_same_below m n k) (is_same_region (region m k) (region n k))
-    (regions_from m n k (λ j h. same j (omega arith))) ((region_exactly (region m k) (region n k)).0 (same k (omega arith)))
+    (regions_from m n k (λ j h. same j (omega arith)))
+    ((region_exactly (region m k) (region n k)).0 (same k (omega arith)))
 
 regions_to : (m n : Mpu) (k j : ℕ) → are_same_below m n k ≡ true → j < k → region m j ≡ region n j
 regions_to m n zero j e h = absurd (let wrong : ⊥ = omega arith in wrong)
@@ -143,7 +144,7 @@ regions_to m n (suc k) j e h =
 pub same_exactly : (v w : World) → IsSameSetting v w ↔ (is_same_setting v w ≡ true)
 unfolding is_same_setting
 same_exactly v w = (
-  (λ same. both (numbers) (others)
+  (λ same. both numbers others
       (both (m.control == n.control) (m.count == n.count) ((Decides-eqb m.control n.control).1 same.control)
       ((Decides-eqb m.count n.count).1 same.count))
       (both (are_same_below m n m.count) (are_equal (is_negative v) (is_negative w))
@@ -154,7 +155,8 @@ same_exactly v w = (
     count = (Decides-eqb m.count n.count).0
         (and_right (m.control == n.control) (m.count == n.count) (and_left numbers others e));
     regions = λ k h. regions_to m n m.count k
-        (and_left (are_same_below m n m.count) (are_equal (is_negative v) (is_negative w)) (and_right numbers others e)) h;
+        (and_left (are_same_below m n m.count) (are_equal (is_negative v) (is_negative w))
+        (and_right numbers others e)) h;
     negative = (equal_exactly (is_negative v) (is_negative w)).1
         (and_right (are_same_below m n m.count) (are_equal (is_negative v) (is_negative w))
         (and_right numbers others e));

@@ -1,8 +1,9 @@
 -- Lists of spans: which addresses they have, and how they grow.
-use Rattle.std.proofs.Common.{◌≡◌, ◌↔◌, ℕ, ◌+◌, ◌<◌, ◌≤◌, if◌then◌else◌, Bool, true, false, ◌||◌, List, [], ◌∷◌, ◌++◌, length}
-use Rattle.std.proofs.Common.{take, get_or, arith, refl, sym, ap, ◌∙◌, ◌⊎◌, ◌&&◌, nat_le, nat_lt, inl, inr}
+use Rattle.std.proofs.Common.{◌≡◌, ◌↔◌, ℕ, ◌+◌, ◌<◌, ◌≤◌, if◌then◌else◌, Bool, true, false, ◌||◌, List, [], ◌∷◌}
+use Rattle.std.proofs.Common.{◌++◌, length, take, get_or, arith, refl, sym, ap, ◌∙◌, ◌⊎◌, ◌&&◌, nat_le, nat_lt, inl, inr}
 use Rattle.std.proofs.lemmas.List.Folds.{list_any-append, list_any_more}
-use Rattle.access_map.specs.Sharing.{covers, has_address, is_in_ram, is_channel, is_shared, AreApart, AreShared, RiseFrom}
+use Rattle.access_map.specs.Sharing.{covers, has_address, is_in_ram, is_channel, is_shared, AreApart, AreShared}
+use Rattle.access_map.specs.Sharing.{RiseFrom}
 use Rattle.access_map.specs.Stretches.{span_of, with_stretch}
 use Rattle.access_map.specs.Worlds.{first_of, end_of}
 use Rattle.access_map.specs.declared.world.Place.TheVariants.{Ram}
@@ -73,7 +74,8 @@ record IsComplete (p : ℕ → Bool) (first : ℕ) (xs : List Span) (x : Stretch
   rise : Rise xs 0 (if x.is_shared then x.last + 2 else x.last + 1)
 
 misses_before : (x : Span) (a : ℕ) → a < x.first → has_address a x ≡ false
-misses_before x a h = ap (λ (b : Bool). b && nat_le a x.last) (let e : nat_le x.first a ≡ false = grind (arith, nat_tests) in e)
+misses_before x a h =
+    ap (λ (b : Bool). b && nat_le a x.last) (let e : nat_le x.first a ≡ false = grind (arith, nat_tests) in e)
 
 misses_after : (x : Span) (a : ℕ) → x.last < a → has_address a x ≡ false
 misses_after x a h = lead (nat_le x.first a) (let e : nat_le a x.last ≡ false = grind (arith, nat_tests) in e)

@@ -1,5 +1,5 @@
--- The lines of access maps and of what worlds share (profile). World numbers are decimal, addresses are eight upper-case
--- hexadecimal digits, and each line ends with a line feed.
+-- The lines of worlds, of their access maps, and of what they share (profile). Numbers of worlds, steps and ticks are
+-- decimal, addresses are eight upper-case hexadecimal digits, and each line ends with a line feed.
 use Rattle.std.specs.Prelude.{ℕ, Bool, true, false, List, [], ◌∷◌, ◌++◌, codes, decimal}
 use Rattle.access_map.specs.declared.counting.WorldSteps.{WorldSteps}
 use Rattle.access_map.specs.declared.interval.Interval.{Interval}

@@ -9,8 +9,8 @@ use crate::world::World;
 use mpu::{MpuRegs, Region, uses_regions};
 
 impl World {
-    /// Returns whether the MPU has the same setting in another world: MPU_CTRL, ADDR of RBAR and RASR of each region, and
-    /// whether the rule `neg` holds. What MPU_RNR selects is no part of it.
+    /// Returns whether the MPU has the same setting in another world: MPU_CTRL, ADDR of RBAR and RASR of each region,
+    /// and whether the rule `neg` holds. What MPU_RNR selects is no part of it.
     pub fn is_same(&self, other: &World) -> bool
         ensures exactly { Decides result (IsSameSetting self.now other.now) }
         ensures test { result ≡ is_same_setting self.now other.now }

@@ -1,5 +1,6 @@
-//! Maps and shared bytes of small worlds. The three tasks are those of the kernel `round_robin`; their text is that of a
-//! machine in another language, which was written from the rule alone. The others were worked out by hand.
+//! Maps, shared bytes and steps of small worlds. The three tasks are those of the kernel `round_robin`; their maps are
+//! those of a machine in another language, which was written from the rule alone. All other values were worked out by
+//! hand.
 
 use crate::{
     AccessMap, MOST_WORLDS, Span, World, Worlds, are_apart, map_text, others_line, pair_text,
