@@ -4,6 +4,7 @@
 mod at_once;
 pub mod foresight;
 pub mod laws;
+mod lists;
 mod machine;
 mod permit;
 mod placing;
