@@ -1,3 +1,3 @@
 pub mod Fetching
-mod LineBounds
-mod Serving
+pub mod LineBounds
+pub mod Serving

@@ -1,4 +1,4 @@
 pub mod AtOnce
 mod Joining
-mod Listed
+pub mod Listed
 pub mod Lists

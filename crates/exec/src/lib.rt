@@ -17,6 +17,7 @@ mod system;
 pub use at_once::carry_out_at_once;
 pub use finishing::finish;
 pub use instruction_set::instruction::{CodedInstruction, Instruction};
+pub use load_store_multiple::{ListedWords, listed_words, next_listed};
 pub use one_access::{finish_single, single_access};
 pub use planning::{is_misplaced, wants};
 pub use platform::access::Request;

@@ -13,4 +13,5 @@ pub mod Selecting
 mod Tasking
 pub mod Quiet
 mod TaskAnswers
+mod WordLists
 mod Writing

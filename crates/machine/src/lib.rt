@@ -5,6 +5,7 @@ mod at_once;
 pub mod foresight;
 mod keeping;
 pub mod laws;
+mod lists;
 mod machine;
 mod permit;
 mod placing;
