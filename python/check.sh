@@ -2,7 +2,7 @@
 # Checks the package: types, tests, examples.
 #
 #   python/check.sh            all, on the proved program, or on the one that the environment's MARM names
-#   python/check.sh --parts    what needs no program: lines, boards, images, transcripts, sweeps, errors, the toy machine
+#   python/check.sh --parts    what needs no program: lines, boards, images, transcripts, sweeps, errors, the toy
 #
 # PYTHON is the interpreter (3.9 or later). mypy, pytest, pytest-xdist and Dask's distributed are used where they are
 # installed; a line says so where one isn't.

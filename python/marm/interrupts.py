@@ -11,8 +11,8 @@ from typing import Any, Optional, Type
 class Uninterrupted:
     """A block that ^C doesn't break off: KeyboardInterrupt is raised at its end. The second ^C breaks it off.
 
-    It leaves handlers of the caller's own alone. Threads but the main one never see ^C. To set a handler takes longer than
-    a short answer, which is why only long ones are such blocks."""
+    It leaves handlers of the caller's own alone. Threads but the main one never see ^C. To set a handler takes longer
+    than a short answer, which is why only long ones are such blocks."""
 
     __slots__ = ("_before", "_came")
 

@@ -149,7 +149,7 @@ def _ran(answer: Answer, conditions: Sequence[Condition], first: int) -> Ran:
     hit = ""
     if lines and lines[-1][:4] == "hit ":
         hit = lines.pop()[4:]
-    elif status.next == "Instruction" and At(status.pc) in conditions and status.tick > first:
+    elif status.next == "Instruction" and At(status.pc) in conditions:
         hit = "break"
     condition = _condition_of(hit, status.pc, conditions) if hit else None
     why = hit.partition(" ")[0] or ("stop" if status.stop else "steps")

@@ -293,6 +293,27 @@ class Laws(unittest.TestCase):
             with self.assertRaises(ValueError):
                 m.replay(tick, since)
 
+    def test_what_was_put_goes_with_the_state(self) -> None:
+        """A state that is restored brings back what was put before it, and leaves what was put after it."""
+        m = self.m
+        m.run(40)
+        before = m.save()
+        m.regs.r12 = 77
+        after = m.save()
+        m.run(20)
+        with_it = snapshot(m)
+        m.restore(before)
+        m.run(20)
+        without_it = snapshot(m)
+        for state, end in ((after, with_it), (before, without_it), (after, with_it)):
+            m.restore(state)
+            m.run(20)
+            m.replay(60)
+            self.assertEqual(snapshot(m), end)
+        m.restore(before)
+        with self.assertRaises(ValueError):
+            m.replay(40, after)
+
     def test_last(self) -> None:
         m = self.m
         events = m.run(self.steps, trace="all").events

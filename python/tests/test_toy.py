@@ -70,6 +70,9 @@ class Toys(laws.Laws):
             m.run(5, marm.Reads(0, "x"))  # type: ignore[arg-type]
         self.assertEqual((wrong.exception.number, wrong.exception.command), (2, "watch r 0 x"))
         self.assertEqual(m.run_to(marm.Reads(0x2000_0000, 64)).tick, 7)
+        with self.assertRaises(marm.CommandError):
+            m.run(5, marm.Reads(0, "x"))  # type: ignore[arg-type]
+        self.assertEqual(m.run_to(marm.Reads(0x2000_0000, 64)).tick, 14)  # what was set before is set again
         m.run()
         with self.assertRaises(marm.PlaceRefused):
             m.nmi()

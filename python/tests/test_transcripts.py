@@ -1,5 +1,5 @@
-"""Sessions of the program, line by line. Without the program the package reads its answers from the transcripts; with it
-the transcripts are what the program answers. `python3 -m tests.test_transcripts` writes them anew."""
+"""Sessions of the program, line by line. Without the program the package reads its answers from the transcripts; with
+it the transcripts are what the program answers. `python3 -m tests.test_transcripts` writes them anew."""
 
 from __future__ import annotations
 
