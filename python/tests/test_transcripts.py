@@ -1,5 +1,6 @@
 """Sessions of the program, line by line. Without the program the package reads its answers from the transcripts; with
-it the transcripts are what the program answers. `python3 -m tests.test_transcripts` writes them anew."""
+it the transcripts are what the program answers. `python3 -m tests.test_transcripts` writes them anew. CI
+compares the same transcripts with the program (`crates/test_sessions`)."""
 
 from __future__ import annotations
 
@@ -11,9 +12,9 @@ from unittest import mock
 import marm
 from marm.wire import Answer, Wire
 
-from .support import BOARDS, COUNTER_BOARD, FIRMWARE, KERNELS, PACKAGE, needs_program
+from .support import BOARDS, COUNTER_BOARD, FIRMWARE, KERNELS, PACKAGE, REPOSITORY, needs_program
 
-FOLDER = PACKAGE / "tests" / "transcripts"
+FOLDER = REPOSITORY / "crates" / "test_sessions" / "data"
 ROUND_ROBIN = (KERNELS / "round_robin.elf", BOARDS / "round_robin.toml")
 COUNTER = (FIRMWARE / "counter.elf", COUNTER_BOARD)
 
@@ -110,6 +111,5 @@ class Transcripts(unittest.TestCase):
 
 
 if __name__ == "__main__":
-    FOLDER.mkdir(exist_ok=True)
     for scene_name in SCENES:
         (FOLDER / f"{scene_name}.txt").write_text(transcript(scene_name, unittest.TestCase()))
