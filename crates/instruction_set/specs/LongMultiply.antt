@@ -96,7 +96,7 @@ sdiv_t1 = record {
 }
 
 -- The instructions of coprocessors: every first halfword 111x11.. is NOCP (profile). For 111x1111 the manual is unclear
--- (docs/QEMU.md)
+-- (docs/CROSSCHECK.md)
 abbrev pub coprocessor : Row
 coprocessor = record {
   places = unspaced (codes "111 x 11 xx xxxxxxxx xxxxxxxxxxxxxxxx");

@@ -8,7 +8,8 @@ use Rattle.platform.specs.declared.script.ScriptedEvent.{ScriptedEvent}
 use Rattle.platform.specs.declared.script.Signal.{Signal}
 use Rattle.platform.specs.Priorities.{Nvic, candidate, is_exception, with_pending}
 use Rattle.platform.specs.System.{System, after_tick, with_pended_at, with_pended_below, with_pended}
-use Rattle.platform.specs.Time.{Time, last_tick, counted, due_count, events_at, events_after, pends, tick_pends, time_after_tick}
+use Rattle.platform.specs.Time.{Time, last_tick, counted, due_count, events_at, events_after, pends, tick_pends}
+use Rattle.platform.specs.Time.{time_after_tick}
 use Rattle.platform.specs.Time.{timer_pends, with_events, with_signal}
 use Rattle.std.specs.List.{list_any}
 use Rattle.reference.specs.State.{State, ticked, with_system}
@@ -41,7 +42,8 @@ member_twice : (s : List Bool) (x : ℕ) (has : Bool)
 member_twice s x true = set-set s x true true
 member_twice s x false = refl
 
-pendings_commute : (n : Nvic) (x y : ℕ) → with_pending (with_pending n x true) y true ≡ with_pending (with_pending n y true) x true
+pendings_commute : (n : Nvic) (x y : ℕ)
+    → with_pending (with_pending n x true) y true ≡ with_pending (with_pending n y true) x true
 pendings_commute n x y =
     ap (λ (l : List Bool). record n { pending = l })
     (members_commute n.pending x y (is_exception n.interrupts x) (is_exception n.interrupts y))

@@ -48,7 +48,8 @@ step_sizes s =
 sizes_kept : (m k : Memory) (a n : ℕ) → MemoryKept a n m k → HaveSameSizes m k
 sizes_kept m k a n h = record { flash_base = h.flash_base; flash = h.flash.size; ram = h.ram.size }
 
-special_sizes : (s : State) (special : Option SpecialRegister) (value : ℕ) → KeepsSizes s (special_taken s special value)
+special_sizes : (s : State) (special : Option SpecialRegister) (value : ℕ)
+    → KeepsSizes s (special_taken s special value)
 special_sizes s None value = tt
 special_sizes s (Some special) value = sizes_refl s.bus.memory
 
