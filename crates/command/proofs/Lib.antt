@@ -1,5 +1,4 @@
 mod Dumped
 mod Ends
 mod Sent
-mod Talks
 mod Waiting

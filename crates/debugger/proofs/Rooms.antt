@@ -6,7 +6,6 @@ use Rattle.std.proofs.lemmas.Grind.{replicate_next}
 use Rattle.std.proofs.lemmas.Bool.{cond_both}
 use Rattle.std.proofs.lemmas.List.{length-map, map-append, map-set}
 use Rattle.std.proofs.lemmas.List.Elements.{All-push, All-set}
-use Rattle.std.specs.Prelude.{All}
 use Rattle.debugger.proofs.Telling.{last-append}
 use Rattle.debugger.specs.Answers.{Piece, after_edge, answer, answer_by, change_piece, changed_piece, closed}
 use Rattle.debugger.specs.Answers.{edge_signal}
