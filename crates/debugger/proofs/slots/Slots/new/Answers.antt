@@ -1,4 +1,4 @@
-use Rattle.std.proofs.Common.{arith, false, refl}
+use Rattle.std.proofs.Common.{arith, false, refl, None, replicate, ap, ◌∙◌}
 use Rattle.debugger.proofs.Rooms.{one_made}
 use Rattle.debugger.specs.Slots.{Slot}
 use Rattle.debugger.proofs.slots.Slots.new.Goals as goal
@@ -15,3 +15,8 @@ invariant_of-result g c =
     let few = c.slots.auto.number-end in
     let count = c.slots.invariant.count in
     omega arith
+
+pub returns-clause-saved : goal.returns-clause-saved
+returns-clause-saved g c =
+    c.slots.invariant.saved
+    ∙ ap (λ n. replicate n None) (omega (arith, c.slots-test.false, c.slots.auto.number-end))
