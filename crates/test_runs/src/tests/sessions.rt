@@ -379,6 +379,32 @@ out error 1
 out 00000000: 00
 out error 1
 
+a state that is saved and taken back
+words debug --board board.toml --slots 2 image.elf
+in save 1
+in step
+in back 1
+in step
+in save 2
+in back 0
+ends 0
+out ok
+out 1 F 00000008 2 p ok off
+out at 0000000A
+out ok
+out 1 F 00000008 2 p ok off
+out at 0000000A
+out error 2
+out error 3
+
+no slot without --slots
+words debug --board board.toml image.elf
+in save 0
+in back 0
+ends 0
+out error 2
+out error 2
+
 a last line without a line feed
 words debug --board board.toml image.elf
 tail step
