@@ -301,7 +301,7 @@ err error: unexpected argument '--steps' found
 err
 err   tip: to pass '--steps' as a value, use '-- --steps'
 err
-err Usage: marm debug [OPTIONS] --board <FILE> <IMAGE>
+err Usage: marm debug --board <FILE> <IMAGE>
 err
 err For more information, try '--help'.
 err Only the options of the usage are taken, and --steps takes no negative number.

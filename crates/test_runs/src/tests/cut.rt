@@ -12,7 +12,7 @@ use std::marker::Brand;
 use std::sync::ledger::{Blank, Ledger};
 
 /// The most bytes that a run of a test writes.
-const ROOM: usize = 5120;
+pub(super) const ROOM: usize = 5120;
 
 /// What a run writes.
 pub(super) type Text = ArrayVec<u8, ROOM>;

@@ -2,7 +2,7 @@
 
 ghost use Rattle.std.specs.Prelude.{◌≡◌};
 
-use super::cut::{Cut, Short, Text, push_line};
+use super::cut::{Cut, ROOM, Short, Text, push_line};
 use super::elf_files::ElfFile;
 use board::BoardError;
 use command::{
@@ -217,7 +217,7 @@ impl Rows for Ends<'_> {
         );
         let mut all = true;
         'runs: for words in str::from_utf8(case.words.as_slice()).ok()?.lines() {
-            let ended = Ended::of(self.rt, words, image, board, input, 4096).ok()?;
+            let ended = Ended::of(self.rt, words, image, board, input, ROOM).ok()?;
             all &= ended.is(case.status?, case.out.as_slice(), case.err.as_slice());
         }
         Some(all)
