@@ -3,7 +3,8 @@
 ghost use Rattle.std.specs.Prelude.{◌≡◌, ◌&&◌, [], ◌∷◌, not, true, Some, OnErr, IfOk, length};
 ghost use Rattle.debugger.specs.Answers.{answer, answer_by, change_piece, closing_piece, reply_text};
 ghost use Rattle.debugger.specs.Sessions.{after_line, GivesByte, GoesOn, line_answered, next, NothingWaits, answered};
-ghost use Rattle.debugger.specs.Sessions.{answered_at_end, opened, SendsBefore, SendsRest, Sessions, TakesNext, talk, Tells};
+ghost use Rattle.debugger.specs.Sessions.{answered_at_end, opened, SendsBefore, SendsRest, Sessions, TakesNext};
+ghost use Rattle.debugger.specs.Sessions.{talk, Tells};
 ghost use Rattle.debugger.specs.Slots.{HaveRoom, saved_in, slots_after, slots_by};
 ghost use Rattle.debugger_commands.specs.Commands.{change_of, quits, steps_of, task_steps_of};
 ghost use Rattle.debugger_commands.specs.Settings.{opened_settings, settings_after};

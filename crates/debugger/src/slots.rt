@@ -1,6 +1,7 @@
 //! Slots for states of the machine, whose memory is allocated before a session begins.
 
-ghost use Rattle.std.specs.Prelude.{◌≡◌, ◌<◌, ◌++◌, true, length, slice_index_or, IfErr, IfOk, None, option_map, codes, replicate};
+ghost use Rattle.std.specs.Prelude.{◌≡◌, ◌<◌, ◌++◌, true, length, slice_index_or, IfErr, IfOk, None, option_map};
+ghost use Rattle.std.specs.Prelude.{codes, replicate};
 ghost use Rattle.debugger.specs.Answers.{back_piece};
 ghost use Rattle.debugger.specs.Slots.{HaveRoom, saved_in, with_saved};
 ghost use Rattle.platform.specs.Text.{line_feed};
