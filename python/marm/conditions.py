@@ -146,8 +146,8 @@ def _text(address: Address) -> str:
 
 
 def conditions_of(until: Until, address_of: Callable[[Address], int]) -> tuple[Condition, ...]:
-    """Returns the conditions with their addresses, each once; none of them for None. ValueError where there are more than 16 breakpoints, or
-    more than 16 watchpoints; KeyError where the image has no such symbol."""
+    """Returns the conditions with their addresses, each once; none for None. ValueError where there are more than 16
+    breakpoints, or more than 16 watchpoints; KeyError where the image has no such symbol."""
     listed = [until] if isinstance(until, Condition) else until or ()
     conditions = tuple(dict.fromkeys([condition.located(address_of) for condition in listed]))
     for kind in (At, Watch):

@@ -154,7 +154,11 @@ class Machine:
 
     def address(self, of: Address) -> int:
         """Returns the address of a symbol, or the integer as it is. KeyError where the image has no such symbol."""
-        return self.symbols[of] if isinstance(of, str) else of
+        if not isinstance(of, str):
+            return of
+        if of not in self.symbols:
+            raise KeyError(f"the image has no symbol {of!r}")
+        return self.symbols[of]
 
     # ---- memory ------------------------------------------------------------------------------------------------------
 
@@ -264,6 +268,8 @@ class Machine:
         printed."""
         data = text.encode() if isinstance(text, str) else text
         pattern = re.compile(re.escape(data)) if isinstance(data, bytes) else data
+        if not isinstance(pattern.pattern, bytes):
+            raise TypeError(f"{pattern.pattern!r} is a pattern of str, not of bytes")
         printed = bytearray()
         for event in self.trace(steps, "console"):
             if isinstance(event, Console):

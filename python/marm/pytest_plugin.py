@@ -4,7 +4,7 @@
         m = marm_machine("firmware.elf", "board.toml")
 
 Its machines are closed after the test. Where the test fails, the report has the registers and the end of the console of
-each. With pytest-xdist each worker has its own machines."""
+each. With pytest-xdist each worker has its own machines. The option --marm stands for the environment's MARM."""
 
 from __future__ import annotations
 
@@ -30,7 +30,7 @@ def pytest_addoption(parser: pytest.Parser) -> None:
 
 def pytest_configure(config: pytest.Config) -> None:
     """Names the program of --marm in the environment, for each Machine and sweep of this run and of its processes."""
-    program = config.getoption("--marm")
+    program = config.getoption("--marm", None)
     if program is None:
         return
     patch = pytest.MonkeyPatch()

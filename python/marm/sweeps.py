@@ -34,8 +34,8 @@ def sweep(
 
     Each call gets the machine in the same state: that after `prepare(machine)`. With `at`, the undisturbed run goes on
     from there to the tick `at(variant)` first; ValueError where that tick is before the end of `prepare`, or after the
-    stop. What a call does to the machine is undone. Calls are made by rising ticks. An exception ends the sweep, and
-    its results are lost.
+    stop. What a call does to the machine is undone. Each machine goes through its variants by rising ticks. An
+    exception ends the sweep, and nothing is returned.
 
     `executor` is any of `concurrent.futures`, or Dask's `client.get_executor()`; without one all is done here. Variants
     that share a machine are a chunk: `chunk` is how many these are at most (otherwise an executor gets 32 chunks or

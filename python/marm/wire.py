@@ -36,8 +36,8 @@ def find_program(program: Program) -> list[str]:
         program = named or "marm"
     command = [program] if isinstance(program, str) else [os.fspath(word) for word in program]
     if not command or shutil.which(command[0]) is None:
-        advice = "MARM names it" if named else "set MARM, or pass `program`"
-        raise NoProgram(f"there is no program {command[0] if command else ''!r}: {advice}")
+        advice = ", which MARM (or --marm) names" if named else ": set MARM, or pass `program`"
+        raise NoProgram(f"there is no program {command[0] if command else ''!r}{advice}")
     return command
 
 

@@ -98,7 +98,7 @@ def test_no_program(run: Callable[..., Any], monkeypatch: pytest.MonkeyPatch) ->
     monkeypatch.setenv("MARM", "no-such-program")
     result = run(FAILING)
     result.assert_outcomes(failed=3)
-    result.stdout.fnmatch_lines(["*NoProgram*no-such-program*MARM names it*"])
+    result.stdout.fnmatch_lines(["*NoProgram*no-such-program*, which MARM (or --marm) names*"])
 
 
 def test_nothing_names_a_program(run: Callable[..., Any], monkeypatch: pytest.MonkeyPatch) -> None:

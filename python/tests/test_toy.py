@@ -55,8 +55,9 @@ class Toys(laws.Laws):
                 m.read(address, size)
         with self.assertRaises(marm.NotMemory):
             m.write(0x2000_03FE, b"abc")
-        with self.assertRaises(KeyError):
+        with self.assertRaises(KeyError) as caught:
             m.read("no_symbol", 4)
+        self.assertEqual(caught.exception.args, ("the image has no symbol 'no_symbol'",))
 
     def test_values_that_are_no_words(self) -> None:
         """They aren't cut, and nothing changes."""
@@ -131,6 +132,8 @@ class Toys(laws.Laws):
                 m.expect(text, 40)
             self.assertTrue(str(caught.exception).startswith(f"{words} wasn't printed"), caught.exception)
             m.restore(m.start)
+        with self.assertRaises(TypeError):
+            m.expect(re.compile("a"), 1)  # type: ignore[arg-type]
 
     def test_no_condition(self) -> None:
         """None, as an empty list, is no condition."""
