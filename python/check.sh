@@ -16,7 +16,10 @@ case ${1:-} in
     command -v "$MARM" >/dev/null || { echo "python/check.sh: there is no program $MARM" >&2; exit 1; }
     MARM=$(realpath -- "$(command -v "$MARM")")
     ;;
---parts) MARM=no-program ;;
+--parts)
+    MARM=
+    export MARM_PARTS=1  # tests that need a program are skipped
+    ;;
 *)
     echo "usage: python/check.sh [--parts]" >&2
     exit 2
@@ -32,7 +35,7 @@ has() { "$python" -c "import $1" 2>/dev/null; }
 python=${PYTHON:-python3}
 [ -n "${PYTHON:-}" ] || has pytest || [ ! -x /usr/bin/python3 ] || python=/usr/bin/python3
 "$python" -c 'import sys; sys.exit(sys.version_info < (3, 9))' || { echo "$python is older than 3.9" >&2; exit 1; }
-echo "$("$python" --version), program: $MARM"
+echo "$("$python" --version), program: ${MARM:-none}"
 
 if has mypy; then
     "$python" -m mypy --no-error-summary --cache-dir=/dev/null
@@ -46,9 +49,9 @@ fi
 
 "$python" -m unittest discover -s . -t . 2>&1
 if has pytest && has xdist; then
-    "$python" -m pytest -q -p no:cacheprovider -n 2 --dist load
+    "$python" -m pytest -q -p no:cacheprovider -n 2 --dist load ${MARM_PARTS:+--ignore=examples/test_first.py}
 elif has pytest; then
-    "$python" -m pytest -q -p no:cacheprovider tests/test_fixture.py examples/test_first.py
+    "$python" -m pytest -q -p no:cacheprovider tests/test_fixture.py ${MARM:+examples/test_first.py}
     echo "pytest-xdist isn't installed: the suite isn't spread"
 else
     echo "pytest isn't installed: the fixture isn't tested"

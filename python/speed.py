@@ -45,7 +45,7 @@ def in_batches(m: marm.Machine, rounds: int) -> None:
 def in_a_sweep() -> None:
     """An interrupt after each of 480 ticks, by one machine."""
     results = marm.sweep(is_counted, range(VARIANTS), image=IMAGE, board=COUNTER_BOARD)
-    assert len(list(results)) == VARIANTS
+    assert len(results) == VARIANTS
 
 
 def by_a_process_each() -> None:

@@ -80,7 +80,7 @@ def undisturbed() -> int:
 
 
 def campaign(variants: list[Flip], executor: Optional[ProcessPoolExecutor]) -> list[marm.Result]:
-    return list(marm.sweep(outcome, variants, image=IMAGE, board=CHECKSUM_BOARD, at=tick_of, executor=executor))
+    return marm.sweep(outcome, variants, image=IMAGE, board=CHECKSUM_BOARD, at=tick_of, executor=executor)
 
 
 def chart(results: list[marm.Result], ticks: int) -> str:

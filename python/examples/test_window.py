@@ -35,7 +35,7 @@ def ticks_of(image: str) -> range:
 
 
 def results_of(image: str) -> list[marm.Result]:
-    return list(marm.sweep(is_lost, ticks_of(image), image=image, board=COUNTER_BOARD, at=same))
+    return marm.sweep(is_lost, ticks_of(image), image=image, board=COUNTER_BOARD, at=same)
 
 
 def picture(image: str, results: list[marm.Result]) -> str:

@@ -100,6 +100,10 @@ class Batch:
         """Reads bytes of flash and RAM."""
         return self._add(requests.reading(self._address_of(address), size))
 
+    def read_word(self, address: Address) -> Later[int]:
+        """Reads the word at an address."""
+        return self._add(requests.reading_word(self._address_of(address)))
+
     def explain(self, address: Address, who: str, access: str) -> Later[Decision]:
         """Asks for the rule that would decide an access now."""
         return self._add(requests.explaining(self._address_of(address), who, access))
@@ -112,7 +116,11 @@ class Batch:
         """Reads the state."""
         return self._add(requests.STATE)
 
-    def run(self, steps: int, until: Until = (), trace: str = "console") -> Later[Ran]:
+    def step(self) -> Later[Ran]:
+        """Makes a step, with all lines of its trace."""
+        return self.run(1, trace="all")
+
+    def run(self, steps: int = requests.MOST_STEPS, until: Until = None, trace: str = "console") -> Later[Ran]:
         """Makes up to `steps` steps, 1 to 1,000,000."""
         conditions = conditions_of(until, self._address_of)
         return self._add(requests.running(self._session, steps, conditions, trace))

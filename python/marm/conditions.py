@@ -35,6 +35,9 @@ class At(Condition):
 
     address: Address
 
+    def __repr__(self) -> str:
+        return f"At({_text(self.address)})"
+
     @property
     def command(self) -> str:
         return f"break {self.address}"
@@ -51,6 +54,9 @@ class Watch(Condition):
     size: int = 4
     letter: ClassVar[str]
     kinds: ClassVar[str]  # of accesses
+
+    def __repr__(self) -> str:
+        return f"{type(self).__name__}({_text(self.address)}, {self.size})"
 
     @property
     def command(self) -> str:
@@ -89,6 +95,9 @@ class Accesses(Watch):
 
 @dataclass(frozen=True)
 class _Refused(Condition):
+    def __repr__(self) -> str:
+        return "REFUSED"
+
     @property
     def command(self) -> str:
         return "stop refused on"
@@ -99,6 +108,9 @@ class _Refused(Condition):
 
 @dataclass(frozen=True)
 class _Fault(Condition):
+    def __repr__(self) -> str:
+        return "FAULT"
+
     @property
     def command(self) -> str:
         return "stop faults on"
@@ -109,6 +121,9 @@ class _Fault(Condition):
 
 @dataclass(frozen=True)
 class _Entry(Condition):
+    def __repr__(self) -> str:
+        return "ENTRY"
+
     @property
     def command(self) -> str:
         return "stop exceptions on"
@@ -123,13 +138,17 @@ ENTRY: Condition = _Entry()  # a handler is entered
 
 FLAGS = {"refused": REFUSED, "fault": FAULT, "exception": ENTRY}  # by the words of a line `hit ..`
 
-Until = Union[Condition, Sequence[Condition]]
+Until = Union[Condition, Sequence[Condition], None]
+
+
+def _text(address: Address) -> str:
+    return repr(address) if isinstance(address, str) else f"{address:#x}"
 
 
 def conditions_of(until: Until, address_of: Callable[[Address], int]) -> tuple[Condition, ...]:
-    """Returns the conditions with their addresses, each once. ValueError where there are more than 16 breakpoints, or
-    more than 16 watchpoints; KeyError where the image has no such symbol."""
-    listed = [until] if isinstance(until, Condition) else until
+    """Returns the conditions with their addresses, each once; none for None. ValueError where there are more than 16
+    breakpoints, or more than 16 watchpoints; KeyError where the image has no such symbol."""
+    listed = [until] if isinstance(until, Condition) else until or ()
     conditions = tuple(dict.fromkeys([condition.located(address_of) for condition in listed]))
     for kind in (At, Watch):
         if sum(isinstance(condition, kind) for condition in conditions) > MOST:

@@ -154,7 +154,11 @@ class Machine:
 
     def address(self, of: Address) -> int:
         """Returns the address of a symbol, or the integer as it is. KeyError where the image has no such symbol."""
-        return self.symbols[of] if isinstance(of, str) else of
+        if not isinstance(of, str):
+            return of
+        if of not in self.symbols:
+            raise KeyError(f"the image has no symbol {of!r}")
+        return self.symbols[of]
 
     # ---- memory ------------------------------------------------------------------------------------------------------
 
@@ -165,7 +169,7 @@ class Machine:
 
     def read_word(self, address: Address) -> int:
         """Returns the word at this address, lowest byte first. NotMemory as `read`."""
-        return int.from_bytes(self.read(address, 4), "little")
+        return self._session.do(requests.reading_word(self.address(address)))
 
     def write(self, address: Address, data: bytes) -> None:
         """Places bytes into flash or RAM, also where the firmware couldn't write. NotMemory where a byte is elsewhere,
@@ -183,7 +187,7 @@ class Machine:
 
     def write_word(self, address: Address, value: int) -> None:
         """Places a word into flash, RAM, or a register of the Private Peripheral Bus. PlaceRefused where that is
-        refused, and then nothing changes."""
+        refused, and then nothing changes; ValueError where the value isn't from 0 to 2 ** 32 - 1."""
         self._session.do(requests.placing_word(self._session, self.address(address), value))
 
     # ---- events from outside -----------------------------------------------------------------------------------------
@@ -223,8 +227,9 @@ class Machine:
         all that it traces."""
         return self.run(1, trace="all")
 
-    def run(self, steps: int = 1_000_000, until: Until = (), trace: str = "console") -> Ran:
-        """Makes up to `steps` steps, and ends at the first that meets one of the conditions `until`, or at the stop.
+    def run(self, steps: int = 1_000_000, until: Until = None, trace: str = "console") -> Ran:
+        """Makes up to `steps` steps, and ends at the first that meets one of the conditions `until`, if there are any,
+        or at the stop.
 
         `trace` selects the lines: "all"; "refused", the refused accesses and the faults; "exceptions", these, the
         entries and the returns; or "console". A byte that the firmware prints is always among them. At most 16
@@ -247,20 +252,24 @@ class Machine:
         ran = self.run(steps, until, trace)
         if ran.condition is None:
             end = ran.stop or "no step is left"
-            raise NotReached(f"{until} wasn't met in {ran.steps} steps: {end} at {self.pc:08X}")
+            raise NotReached(f"{until!r} wasn't met in {ran.steps} steps: {end} at {self.pc:08X}")
         return ran
 
-    def trace(self, steps: int = 1_000_000, trace: str = "all", until: Until = ()) -> Iterator[Event]:
+    def trace(self, steps: int = 1_000_000, trace: str = "all", until: Until = None) -> Iterator[Event]:
         """Returns an iterator over the events of a run, as `run` would make it.
 
         In the loop the machine is where the step of the event left it, to be read, changed or run; after a `break`
         too."""
         return Walk(self._session, self._walk_slot, steps, trace, self._conditions(until))
 
-    def expect(self, text: Union[bytes, re.Pattern[bytes]], steps: int = 10_000_000) -> re.Match[bytes]:
-        """Runs until the firmware has printed these bytes, or what matches a pattern, from now on. Returns the match,
-        with the machine after the step that printed its last byte. NotReached where it isn't printed."""
-        pattern = re.compile(re.escape(text)) if isinstance(text, bytes) else text
+    def expect(self, text: Union[str, bytes, re.Pattern[bytes]], steps: int = 10_000_000) -> re.Match[bytes]:
+        """Runs until the firmware has printed this text (a str as UTF-8), or what matches a pattern of bytes, from now
+        on. Returns the match, with the machine after the step that printed its last byte. NotReached where it isn't
+        printed."""
+        data = text.encode() if isinstance(text, str) else text
+        pattern = re.compile(re.escape(data)) if isinstance(data, bytes) else data
+        if not isinstance(pattern.pattern, bytes):
+            raise TypeError(f"{pattern.pattern!r} is a pattern of str, not of bytes")
         printed = bytearray()
         for event in self.trace(steps, "console"):
             if isinstance(event, Console):
@@ -269,7 +278,8 @@ class Machine:
                 if match:
                     return match
         end = self.stop or "no step is left"
-        raise NotReached(f"{pattern.pattern!r} wasn't printed, but {bytes(printed)!r}: {end}")
+        given = text.pattern if isinstance(text, re.Pattern) else text
+        raise NotReached(f"{given!r} wasn't printed, but {bytes(printed)!r}: {end}")
 
     def batch(self) -> Batch:
         """Returns an empty batch: requests that are sent together."""

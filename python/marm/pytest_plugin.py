@@ -4,10 +4,11 @@
         m = marm_machine("firmware.elf", "board.toml")
 
 Its machines are closed after the test. Where the test fails, the report has the registers and the end of the console of
-each. With pytest-xdist each worker has its own machines."""
+each. With pytest-xdist each worker has its own machines. The option --marm stands for the environment's MARM."""
 
 from __future__ import annotations
 
+import os
 from typing import Any, Callable, Iterator, Union
 
 import pytest
@@ -27,20 +28,29 @@ def pytest_addoption(parser: pytest.Parser) -> None:
     parser.getgroup("marm").addoption("--marm", metavar="PROGRAM", help=help_text)
 
 
+def pytest_configure(config: pytest.Config) -> None:
+    """Names the program of --marm in the environment, for each Machine and sweep of this run and of its processes."""
+    program = config.getoption("--marm", None)
+    if program is None:
+        return
+    patch = pytest.MonkeyPatch()
+    patch.setenv("MARM", os.path.abspath(program) if os.path.dirname(program) else program)
+    config.add_cleanup(patch.undo)
+
+
 @pytest.fixture
 def marm_machine(request: pytest.FixtureRequest) -> Iterator[Callable[..., Machine]]:
-    """Returns a function that makes a machine, with the arguments of marm.Machine. The test is skipped where there is
-    no program and --marm names none."""
-    program = request.config.getoption("--marm")
+    """Returns a function that makes a machine, with the arguments of marm.Machine. The test is skipped where nothing
+    names a program, and none is on PATH."""
     machines: list[Machine] = []
     request.node.stash[MACHINES] = machines
 
     def make(image: Image, board: Union[Board, Path], **options: Any) -> Machine:
-        options.setdefault("program", program)
+        program = options.get("program")
         try:
-            find_program(options["program"])
+            find_program(program)
         except NoProgram as error:
-            if options["program"] is not None:
+            if program is not None or os.environ.get("MARM"):
                 raise
             pytest.skip(str(error))
         machine = Machine(image, board, **options)

@@ -15,7 +15,8 @@ class Registers(MutableMapping[str, int]):
 
     r0 to r12, sp (the stack pointer in use), lr, pc, xpsr, msp, psp, primask, basepri, faultmask, control. Setting one
     is a `place`, which may be refused (PlaceRefused): in a handler, and in an exception entry, only r0 to r12 and lr
-    can be set. Of xpsr the flags alone are set. A name that isn't a register's is a KeyError or an AttributeError."""
+    can be set. Of xpsr the flags alone are set. A name that isn't a register's is a KeyError or an AttributeError, a
+    value that isn't from 0 to 2 ** 32 - 1 a ValueError."""
 
     __slots__ = ("_session",)
     _session: Session

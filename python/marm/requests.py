@@ -2,6 +2,7 @@
 
 from __future__ import annotations
 
+import operator
 from typing import Sequence
 
 from .conditions import FLAGS, At, Condition, Watch
@@ -50,6 +51,12 @@ def reading(address: int, size: int) -> Request[bytes]:
     return Request([f"mem {start} {min(BYTES_OF_A_COMMAND, end - start)}" for start in starts], read)
 
 
+def reading_word(address: int) -> Request[int]:
+    """Reads the word at an address, lowest byte first."""
+    data = reading(address, 4)
+    return Request(data.commands, lambda answers: int.from_bytes(data.read(answers), "little"))
+
+
 def putting(session: Session, command: str) -> Request[None]:
     """Places a value or signals an event, and records it."""
 
@@ -66,14 +73,22 @@ def putting(session: Session, command: str) -> Request[None]:
 
 
 def placing_register(session: Session, name: str, value: int) -> Request[None]:
-    """Places a value into a register. KeyError where there is no register of that name."""
+    """Places a value into a register. KeyError where there is no register of that name, ValueError where the value is
+    no word."""
     place = f"reg {NUMBERS[name]}" if name in NUMBERS else f"special {SPECIALS[name]}"
-    return putting(session, f"place {place} {value & 0xFFFF_FFFF}")
+    return putting(session, f"place {place} {_word(value)}")
 
 
 def placing_word(session: Session, address: int, value: int) -> Request[None]:
-    """Places a word into flash, RAM, or the Private Peripheral Bus."""
-    return putting(session, f"place word {address} {value & 0xFFFF_FFFF}")
+    """Places a word into flash, RAM, or the Private Peripheral Bus. ValueError where the value is no word."""
+    return putting(session, f"place word {address} {_word(value)}")
+
+
+def _word(value: int) -> int:
+    number = operator.index(value)
+    if not 0 <= number < 2**32:
+        raise ValueError(f"{value} isn't a word, from 0 to 0xFFFFFFFF")
+    return number
 
 
 def signalling(session: Session, what: str, line: int) -> Request[None]:

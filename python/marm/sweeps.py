@@ -4,7 +4,7 @@ from __future__ import annotations
 
 from concurrent.futures import Executor, Future
 from dataclasses import dataclass
-from typing import Any, Callable, Iterable, Iterator, NamedTuple, Optional, Sequence, TypeVar, Union
+from typing import Any, Callable, Iterable, NamedTuple, Optional, Sequence, TypeVar, Union
 
 from .boards import Board, Path
 from .machine import Image, Machine
@@ -29,11 +29,13 @@ def sweep(
     function: Callable[[Machine, V], R], variants: Iterable[V], *, image: Image, board: Union[Board, Path],
     prepare: Optional[Callable[[Machine], object]] = None, at: Optional[Callable[[V], int]] = None,
     executor: Optional[Executor] = None, chunk: Optional[int] = None, program: Program = None, timeout: float = 30.0,
-) -> Iterator[Result]:
-    """Calls `function(machine, variant)` for each variant, and yields the results in the order of the variants.
+) -> list[Result]:
+    """Calls `function(machine, variant)` for each variant, and returns the results in the order of the variants.
 
     Each call gets the machine in the same state: that after `prepare(machine)`. With `at`, the undisturbed run goes on
-    from there to the tick `at(variant)` first. What a call does to the machine is undone. Its exception ends the sweep.
+    from there to the tick `at(variant)` first; ValueError where that tick is before the end of `prepare`, or after the
+    stop. What a call does to the machine is undone. Each machine goes through its variants by rising ticks. An
+    exception ends the sweep, and nothing is returned.
 
     `executor` is any of `concurrent.futures`, or Dask's `client.get_executor()`; without one all is done here. Variants
     that share a machine are a chunk: `chunk` is how many these are at most (otherwise an executor gets 32 chunks or
@@ -45,13 +47,11 @@ def sweep(
     size = chunk or max(1, min(LARGEST_CHUNK, -(-len(items) // CHUNKS)))
     chunks = [items[begin:begin + size] for begin in range(0, len(items), size)]
     if executor is None:
-        for part in [items] if chunk is None else chunks:
-            yield from map(Result, part, task(part))
-        return
+        chunks = [items] if chunk is None else chunks
+        return [result for part in chunks for result in map(Result, part, task(part))]
     futures: list[Future[list[Any]]] = [executor.submit(task, part) for part in chunks]
     try:
-        for part, future in zip(chunks, futures):
-            yield from map(Result, part, future.result())
+        return [result for part, future in zip(chunks, futures) for result in map(Result, part, future.result())]
     finally:
         for future in futures:
             future.cancel()
@@ -72,13 +72,16 @@ class _Task:
     def __call__(self, variants: Sequence[Any]) -> list[Any]:
         """Returns the values of these variants."""
         values: dict[int, Any] = {}
-        ticks = [0 if self.at is None else self.at(variant) for variant in variants]
-        order = sorted(range(len(variants)), key=ticks.__getitem__)  # so that the undisturbed run is made once
         with self._machine() as machine:
+            ticks = [machine.tick if self.at is None else self.at(variant) for variant in variants]
+            order = sorted(range(len(variants)), key=ticks.__getitem__)  # so that the undisturbed run is made once
             here = machine.save()
             for k in order:
                 if machine.tick < ticks[k]:
                     here = _advance(machine, here, ticks[k])
+                if machine.tick != ticks[k]:
+                    side = "after the stop" if machine.tick < ticks[k] else "before the end of `prepare`"
+                    raise ValueError(f"variant {variants[k]!r}: tick {ticks[k]} is {side}, at tick {machine.tick}")
                 values[k] = self.function(machine, variants[k])
                 machine.restore(here)
         return [values[k] for k in range(len(variants))]

@@ -31,11 +31,13 @@ class Answer(NamedTuple):
 def find_program(program: Program) -> list[str]:
     """Returns the command that starts marm: `program`, or the environment's MARM, or `marm` on PATH. NoProgram where it
     isn't there or isn't executable."""
+    named = os.environ.get("MARM") if program is None else ""
     if program is None:
-        program = os.environ.get("MARM") or "marm"
+        program = named or "marm"
     command = [program] if isinstance(program, str) else [os.fspath(word) for word in program]
     if not command or shutil.which(command[0]) is None:
-        raise NoProgram(f"there is no program {command[0] if command else ''!r}: set MARM, or pass `program`")
+        advice = ", which MARM (or --marm) names" if named else ": set MARM, or pass `program`"
+        raise NoProgram(f"there is no program {command[0] if command else ''!r}{advice}")
     return command
 
 

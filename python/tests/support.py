@@ -19,7 +19,8 @@ BOARDS = REPOSITORY / "examples" / "kernels"
 COUNTER_BOARD = marm.Board(flash_size=1024, ram_size=8192, lines=1)
 CHECKSUM_BOARD = marm.Board(flash_size=1024, ram_size=1024)
 
-has_program = shutil.which(os.environ.get("MARM") or "marm") is not None
+is_named = bool(os.environ.get("MARM")) or shutil.which("marm") is not None
+has_program = is_named and not os.environ.get("MARM_PARTS")  # python/check.sh --parts
 needs_program = unittest.skipUnless(has_program, "there is no program marm: set MARM")
 
 

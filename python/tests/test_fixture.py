@@ -2,6 +2,9 @@
 
 from __future__ import annotations
 
+import os
+import shutil
+import sys
 import unittest
 from typing import Any, Callable
 
@@ -35,6 +38,31 @@ def test_two(marm_machine):
 """
 
 
+WITHOUT_THE_FIXTURE = """
+import multiprocessing
+from concurrent.futures import ProcessPoolExecutor
+import marm
+
+def tick_of(variant):
+    return variant
+
+def tick(m, variant):
+    return m.tick
+
+def test_machine(monkeypatch):
+    monkeypatch.chdir("/")
+    with marm.Machine(b"", "none.toml") as m:
+        assert m.run(5).tick == 5
+
+def test_sweep():
+    assert marm.sweep(tick, [3, 2], image=b"", board="none.toml", at=tick_of) == [(3, 3), (2, 2)]
+
+def test_processes():
+    with ProcessPoolExecutor(2, multiprocessing.get_context("spawn")) as pool:
+        assert marm.sweep(tick, [3, 2], image=b"", board="none.toml", at=tick_of, executor=pool) == [(3, 3), (2, 2)]
+"""
+
+
 @pytest.fixture
 def run(pytester: pytest.Pytester, monkeypatch: pytest.MonkeyPatch) -> Callable[..., Any]:
     """Runs a file of tests in a pytest of its own."""
@@ -63,13 +91,43 @@ def test_workers(run: Callable[..., Any]) -> None:
 
 
 def test_no_program(run: Callable[..., Any], monkeypatch: pytest.MonkeyPatch) -> None:
-    """One that is named has to be there; otherwise the test is skipped."""
+    """One that is named has to be there, by --marm or by MARM."""
     result = run(FAILING, "--marm", "no-such-program")
     result.assert_outcomes(failed=3)
     result.stdout.fnmatch_lines(["*NoProgram*"])
     monkeypatch.setenv("MARM", "no-such-program")
     result = run(FAILING)
-    result.assert_outcomes(skipped=3)
+    result.assert_outcomes(failed=3)
+    result.stdout.fnmatch_lines(["*NoProgram*no-such-program*, which MARM (or --marm) names*"])
+
+
+def test_nothing_names_a_program(run: Callable[..., Any], monkeypatch: pytest.MonkeyPatch) -> None:
+    """Then the test is skipped, where none is on PATH."""
+    monkeypatch.delenv("MARM", raising=False)
+    monkeypatch.setenv("PATH", os.path.dirname(sys.executable))
+    if shutil.which("marm"):
+        pytest.skip("marm is beside the interpreter")
+    run(FAILING).assert_outcomes(skipped=3)
+
+
+def test_all_take_the_program_of_the_option(run: Callable[..., Any], monkeypatch: pytest.MonkeyPatch) -> None:
+    """Machines and sweeps that are made without the fixture too, in other processes and folders too."""
+    monkeypatch.setenv("MARM", "no-such-program")
+    result = run(WITHOUT_THE_FIXTURE, "--marm", os.path.relpath(TOY))
+    result.assert_outcomes(passed=3)
+    monkeypatch.setenv("MARM", str(TOY))
+    result = run(WITHOUT_THE_FIXTURE, "--marm", "no-such-program")
+    result.assert_outcomes(failed=3)
+    result = run(WITHOUT_THE_FIXTURE)
+    result.assert_outcomes(passed=3)
+
+
+def test_the_environment_comes_back(pytester: pytest.Pytester, monkeypatch: pytest.MonkeyPatch) -> None:
+    """After the run MARM is what it was."""
+    monkeypatch.setenv("MARM", "before")
+    pytester.makepyfile("import os\ndef test_it(): assert os.environ['MARM'] == 'during'")
+    pytester.runpytest_inprocess("-p", "marm.pytest_plugin", "--marm", "during").assert_outcomes(passed=1)
+    assert os.environ["MARM"] == "before"
 
 
 def test_errors_are_marms() -> None:

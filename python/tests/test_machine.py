@@ -55,7 +55,7 @@ class RoundRobin(laws.Laws):
 
     def test_registers(self) -> None:
         m = self.m
-        m.regs.r0, m.regs["r7"], m.regs.psp = 5, -1, 0x2000_1003
+        m.regs.r0, m.regs["r7"], m.regs.psp = 5, 0xFFFF_FFFF, 0x2000_1003
         self.assertEqual((m.regs.r0, m.regs.r7, m.regs.psp), (5, 0xFFFF_FFFF, 0x2000_1000))
         m.regs.xpsr = 0xF800_0000
         self.assertEqual(m.regs.xpsr, 0xF900_0000)
@@ -128,7 +128,7 @@ class RoundRobin(laws.Laws):
 
     def test_expect(self) -> None:
         m = self.m
-        m.expect(b"b2\nc2")
+        m.expect("b2\nc2")
         self.assertEqual(m.console, b"a1\nb1\nc1\na2\nb2\nc2")
         self.assertEqual(m.expect(re.compile(rb"CFSR ([0-9A-F]{8})")).group(1), b"00000082")
 

@@ -28,6 +28,10 @@ def where(m: marm.Machine, variant: int) -> tuple[int, int, bytes]:
     return found
 
 
+def ticks_seen(m: marm.Machine, variant: int) -> int:
+    return m.tick
+
+
 def prepare(m: marm.Machine) -> None:
     m.run_to(marm.Writes(0x2000_0004))
 
@@ -39,7 +43,7 @@ def fails_at_20(m: marm.Machine, variant: int) -> int:
 
 
 def sweep(variants: Iterable[int], function: Any = where, **options: Any) -> list[marm.Result]:
-    return list(marm.sweep(function, variants, image=b"", board="none.toml", program=TOY, **options))
+    return marm.sweep(function, variants, image=b"", board="none.toml", program=TOY, **options)
 
 
 class Sweeps(unittest.TestCase):
@@ -77,7 +81,29 @@ class Sweeps(unittest.TestCase):
 
     def test_prepared(self) -> None:
         self.assertEqual([value[0] for _, value in sweep([1, 2, 3], prepare=prepare)], [5, 5, 5])
-        self.assertEqual([value[0] for _, value in sweep([3, 8, 6], prepare=prepare, at=tick_of)], [5, 8, 6])
+        self.assertEqual([value[0] for _, value in sweep([5, 8, 6], prepare=prepare, at=tick_of)], [5, 8, 6])
+
+    def test_ticks_that_are_not_on_the_run(self) -> None:
+        """Before the end of `prepare`, and after the stop at tick 1000; the stop itself is on it."""
+        for variants, words in (
+            ([8, 4], "variant 4: tick 4 is before the end of `prepare`, at tick 5"),
+            ([-1], "variant -1: tick -1 is before the end of `prepare`, at tick 5"),
+            ([1000, 1001, 999], "variant 1001: tick 1001 is after the stop, at tick 1000"),
+        ):
+            for chunk in (None, 1):
+                with self.assertRaises(ValueError) as caught:
+                    sweep(variants, ticks_seen, at=tick_of, chunk=chunk, prepare=prepare)
+                self.assertEqual(str(caught.exception), words)
+        self.assertEqual(sweep([1000], ticks_seen, at=tick_of), [(1000, 1000)])
+        with ThreadPoolExecutor(2) as pool, self.assertRaises(ValueError):
+            sweep([999, 1001], ticks_seen, at=tick_of, executor=pool)
+
+    def test_a_list(self) -> None:
+        """It can be read twice, and after the executor has ended."""
+        with ThreadPoolExecutor(2) as pool:
+            results = sweep([7, 3], ticks_seen, at=tick_of, executor=pool)
+        for _ in range(2):
+            self.assertEqual([(variant, value) for variant, value in results], [(7, 7), (3, 3)])
 
     def test_an_exception_comes_out(self) -> None:
         with ProcessPoolExecutor(2) as pool, self.assertRaises(RuntimeError):
@@ -88,7 +114,7 @@ class Sweeps(unittest.TestCase):
     def test_an_error_of_the_start_comes_out(self) -> None:
         refuses = [sys.executable, "-c", "import sys; sys.exit('marm: load 1 Truncated')"]
         with ProcessPoolExecutor(2) as pool, self.assertRaises(marm.StartError):
-            list(marm.sweep(where, range(3), image=b"", board="b", program=refuses, executor=pool))
+            marm.sweep(where, range(3), image=b"", board="b", program=refuses, executor=pool)
 
     def test_windows(self) -> None:
         self.assertEqual(marm.windows(enumerate([0, 1, 1, 0, 1])), [range(1, 3), range(4, 5)])

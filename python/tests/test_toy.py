@@ -10,6 +10,7 @@ import signal
 import threading
 import time
 import unittest
+from typing import Callable, Union
 
 import marm
 from marm.interrupts import Uninterrupted
@@ -30,7 +31,7 @@ class Toys(laws.Laws):
 
     def test_registers(self) -> None:
         m = self.m
-        m.regs.r3, m.regs["pc"], m.regs.psp = -1, 0x180, 5
+        m.regs.r3, m.regs["pc"], m.regs.psp = 0xFFFF_FFFF, 0x180, 5
         self.assertEqual((m.regs.r3, m.pc, m.regs["psp"], len(m.regs)), (0xFFFF_FFFF, 0x180, 5, 23))
         self.assertIn("r3=FFFFFFFF", repr(m.regs))
         for broken in ("r13", "rip"):
@@ -54,8 +55,26 @@ class Toys(laws.Laws):
                 m.read(address, size)
         with self.assertRaises(marm.NotMemory):
             m.write(0x2000_03FE, b"abc")
-        with self.assertRaises(KeyError):
+        with self.assertRaises(KeyError) as caught:
             m.read("no_symbol", 4)
+        self.assertEqual(caught.exception.args, ("the image has no symbol 'no_symbol'",))
+
+    def test_values_that_are_no_words(self) -> None:
+        """They aren't cut, and nothing changes."""
+        m, batch = self.m, self.m.batch()
+        for value in (-1, 2**32, 2**32 + 5):
+            puts: list[Callable[[], object]] = [
+                lambda: m.write_word(m.ram.start, value), lambda: m.regs.update(r3=value),
+                lambda: batch.write_word(m.ram.start, value), lambda: batch.set("r3", value),
+            ]
+            for put in puts:
+                with self.assertRaises(ValueError):
+                    put()
+        with self.assertRaises(TypeError):
+            m.write_word(m.ram.start, 1.5)  # type: ignore[arg-type]
+        self.assertEqual((len(batch), m.read_word(m.ram.start), m.regs.r3), (0, 0, 0))
+        m.write_word(m.ram.start, True)
+        self.assertEqual(m.read_word(m.ram.start), 1)
 
     def test_refusals(self) -> None:
         m = self.m
@@ -95,14 +114,44 @@ class Toys(laws.Laws):
         self.assertEqual((m.tick, m.console), (55, b"abcde"))
         self.assertEqual(m.expect(re.compile(rb"[h-z]+j")).group(), b"hij")
         self.assertEqual(m.tick, 110)
-        with self.assertRaises(marm.NotReached):
+        with self.assertRaises(marm.NotReached) as caught:
             m.expect(b"!")
+        self.assertTrue(str(caught.exception).startswith("b'!' wasn't printed, but b'klmn"), caught.exception)
         self.assertIsNotNone(m.stop)
 
+    def test_expect_text(self) -> None:
+        """A str is its UTF-8, and each message has the text as it was given."""
+        m = self.m
+        self.assertEqual(m.expect("cde").group(), b"cde")
+        m.restore(m.start)
+        texts: list[tuple[Union[str, bytes, re.Pattern[bytes]], str]] = [
+            ("\u00b5.", "'\u00b5.'"), (b"a.", "b'a.'"), (re.compile(rb"a\.b"), repr(rb"a\.b")),
+        ]
+        for text, words in texts:
+            with self.assertRaises(marm.NotReached) as caught:
+                m.expect(text, 40)
+            self.assertTrue(str(caught.exception).startswith(f"{words} wasn't printed"), caught.exception)
+            m.restore(m.start)
+        with self.assertRaises(TypeError):
+            m.expect(re.compile("a"), 1)  # type: ignore[arg-type]
+
+    def test_no_condition(self) -> None:
+        """None, as an empty list, is no condition."""
+        m = self.m
+        self.assertEqual((m.run(10, None).why, m.run(10, []).tick), ("steps", 20))
+        self.assertEqual({event.tick for event in m.trace(3, "all", None)}, {21, 22, 23})
+        with m.batch() as b:
+            ran = b.run(4, None)
+        self.assertEqual(ran.value.why, "steps")
+
     def test_not_reached(self) -> None:
+        m = self.m
         for steps in (10, 10_000):
             with self.assertRaises(marm.NotReached):
-                self.m.run_to(marm.At(0x300), steps)
+                m.run_to(marm.At(0x300), steps)
+        with self.assertRaises(marm.NotReached) as caught:
+            m.run_to([marm.ENTRY, marm.At(0x300)], 5)
+        self.assertIn("[ENTRY, At(0x300)] wasn't met in 0 steps: breakpoint 0", str(caught.exception))
         self.assertEqual(self.m.run(0).why, "stop")
         with self.assertRaises(ValueError):
             self.m.run(-1)

@@ -98,6 +98,15 @@ class Conditions(unittest.TestCase):
         ):
             self.assertEqual(condition.command, command)
 
+    def test_names(self) -> None:
+        """Messages show them as the caller writes them."""
+        for condition, name in (
+            (marm.At(0x100), "At(0x100)"), (marm.At("main"), "At('main')"), (marm.Reads(8), "Reads(0x8, 4)"),
+            (marm.Writes("count", 2), "Writes('count', 2)"), (marm.Accesses(0), "Accesses(0x0, 4)"),
+            (marm.REFUSED, "REFUSED"), (marm.FAULT, "FAULT"), (marm.ENTRY, "ENTRY"),
+        ):
+            self.assertEqual(repr(condition), name)
+
     def test_kinds_differ(self) -> None:
         four = [marm.Reads(4), marm.Writes(4), marm.Accesses(4), marm.Reads("four")]
         found = conditions.conditions_of(four, lambda address: 4)
