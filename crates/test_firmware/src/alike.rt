@@ -92,7 +92,9 @@ fn hear<D: Decider, C: KeptCode, L: Levels, U: DueTicks, K: Ledger>(
     requires some { blank.parts ≡ 1 }
 {
     let mut input: Over<&[u8], K> = Over::new(commands, blank);
-    let slots = Slots::new(alloc, 0, machine).ok()?;
+    let Ok(slots) = Slots::new(alloc, 0, machine) else {
+        return None;
+    };
     answer::<D, C, L, U, K, Brand>(
         machine,
         layout,

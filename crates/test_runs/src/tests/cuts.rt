@@ -442,7 +442,9 @@ fn fails_to_write<D: Decider, C: KeptCode, L: Levels, U: DueTicks>(
         by_lines: true,
         gathers,
     };
-    let slots = Slots::new(alloc, 0, &machine).ok()?;
+    let Ok(slots) = Slots::new(alloc, 0, &machine) else {
+        return None;
+    };
     let held = hold(&mut machine, slots, way);
     Some(
         matches!(held.ended, Err(SessionError::Write))
@@ -467,7 +469,9 @@ fn fails_to_read<D: Decider, C: KeptCode, L: Levels, U: DueTicks>(
         by_lines: true,
         gathers,
     };
-    let slots = Slots::new(alloc, 0, &machine).ok()?;
+    let Ok(slots) = Slots::new(alloc, 0, &machine) else {
+        return None;
+    };
     let held = hold(&mut machine, slots, way);
     let ends = match held.ended {
         Ok(()) => !input.fails,
@@ -545,7 +549,9 @@ fn fails_in_run<D: Decider, C: KeptCode, L: Levels, U: DueTicks>(
         by_lines: true,
         gathers,
     };
-    let slots = Slots::new(alloc, 0, &machine).ok()?;
+    let Ok(slots) = Slots::new(alloc, 0, &machine) else {
+        return None;
+    };
     let held = hold(&mut machine, slots, way);
     let made = steps_made(output.left, gathers);
     Some(
@@ -609,7 +615,9 @@ fn fails_at_watchpoint<D: Decider, C: KeptCode, L: Levels, U: DueTicks>(
         by_lines: false,
         gathers,
     };
-    let slots = Slots::new(alloc, 0, &machine).ok()?;
+    let Ok(slots) = Slots::new(alloc, 0, &machine) else {
+        return None;
+    };
     let held = hold(&mut machine, slots, way);
     let made = if output.left < 6 && !gathers { 0 } else { 2 };
     Some(

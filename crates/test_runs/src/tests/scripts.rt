@@ -526,7 +526,9 @@ fn answers<D: Decider, C: KeptCode, L: Levels, U: DueTicks>(
     let layout = small_board(alloc, text).ok()?.layout;
     let input = lines_of(text, "in ")?;
     let wanted = lines_of(text, "out ")?;
-    let slots = Slots::new(alloc, slots_of(text), &machine).ok()?;
+    let Ok(slots) = Slots::new(alloc, slots_of(text), &machine) else {
+        return None;
+    };
     let got = hold(&mut machine, layout, slots, input.as_slice())?;
     Some(got.text.as_slice() == wanted.as_slice())
 }
