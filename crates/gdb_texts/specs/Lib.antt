@@ -1,0 +1,9 @@
+pub mod Actions
+pub mod Bytes
+pub mod Console
+pub mod Features
+pub mod Parts
+pub mod Points
+pub mod Registers
+pub mod Replies
+pub mod Stops
