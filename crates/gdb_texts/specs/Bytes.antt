@@ -1,5 +1,5 @@
 -- Bytes as hexadecimal digits, two for each (GDB manual, "Packets", m and M).
-use Rattle.std.specs.Prelude.{ℕ, ◌+◌, ◌*◌, List, [], ◌∷◌, ◌++◌, slice_index, unwrap_or}
+use Rattle.std.specs.Prelude.{ℕ, zero, suc, ◌+◌, ◌*◌, List, [], ◌∷◌, ◌++◌, slice_index, unwrap_or}
 use Rattle.gdb_packets.specs.Digits.{digit_of, two_digits}
 
 -- the lower-case digits of bytes
@@ -15,3 +15,8 @@ digit_value byte = unwrap_or (digit_of byte) 0
 unfoldable pub byte_at : List ℕ → ℕ → ℕ
 byte_at digits index =
     digit_value (slice_index digits (2 * index)) * 16 + digit_value (slice_index digits (2 * index + 1))
+
+-- the first bytes of digits
+unfoldable pub first_bytes : List ℕ → ℕ → List ℕ
+first_bytes digits zero = []
+first_bytes digits (suc index) = first_bytes digits index ++ byte_at digits index ∷ []

@@ -5,8 +5,11 @@ pub mod Features
 pub mod Monitor
 pub mod Parts
 pub mod Points
+pub mod Regions
 pub mod Registers
 pub mod Replies
 pub mod Settings
 pub mod Stops
+pub mod Threads
+pub mod Transfers
 pub mod Watchpoints

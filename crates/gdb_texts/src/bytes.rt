@@ -3,7 +3,7 @@
 ghost use Rattle.std.specs.Prelude.{◌≡◌, ◌+◌, ◌*◌, ◌<◌, ◌≤◌, ◌++◌, length, slice_index};
 ghost use Rattle.arrayvec.specs.ArrayVec.{array_vec_len};
 ghost use Rattle.gdb_packets.specs.Digits.{two_digits};
-ghost use Rattle.gdb_texts.specs.Bytes.{byte_at, bytes_text, digit_value};
+ghost use Rattle.gdb_texts.specs.Bytes.{byte_at, bytes_text, digit_value, first_bytes};
 
 use arrayvec::ArrayVec;
 use gdb_packets::{digit_of, put_digits};
@@ -63,4 +63,15 @@ pub fn byte_at(digits: &[u8], index: u32) -> u8
 {
     let at = 2 * index as usize;
     digit_value(text_at(digits, at)) * 16 + digit_value(text_at(digits, at + 1))
+}
+
+/// Appends the first `count` bytes of some digits, two for each byte.
+#[tactic(auto, using(crate::proofs::Appending::one_byte_more), unfolding(crate::specs::Bytes::first_bytes))]
+pub fn put_first_bytes<const ROOM: usize>(page: &mut ArrayVec<u8, ROOM>, digits: &[u8], count: u32)
+    requires { array_vec_len page.old + count ≤ ROOM }
+    ensures { page.new.items ≡ page.old.items ++ first_bytes digits.now count }
+{
+    'indexes: for index in 0..count {
+        page.push(byte_at(digits, index));
+    }
 }

@@ -40,7 +40,7 @@ pub enum Reply {
 }
 
 /// Returns the text of an error.
-fn error_text(error: ErrorCode) -> &'static [u8]
+pub fn error_text(error: ErrorCode) -> &'static [u8]
     ensures text { result.now ≡ error_text error }
     ensures short { length result.now ≤ 3 }
 {

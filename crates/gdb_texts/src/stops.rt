@@ -150,7 +150,7 @@ fn watch_text(kind: WatchKind) -> &'static [u8]
 }
 
 /// Appends the eight digits of a number, the highest first.
-fn put_number<const ROOM: usize>(page: &mut ArrayVec<u8, ROOM>, word: u32)
+pub fn put_number<const ROOM: usize>(page: &mut ArrayVec<u8, ROOM>, word: u32)
     requires { array_vec_len page.old + 8 ≤ ROOM }
     ensures text { page.new.items ≡ page.old.items ++ number_digits word }
     ensures len { array_vec_len page.new ≡ array_vec_len page.old + 8 }
