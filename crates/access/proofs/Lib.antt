@@ -2,4 +2,5 @@ mod Accessed
 mod AtOnce
 pub mod Fetches
 mod Refusals
+mod WordsSeen
 pub mod Stale

@@ -1,2 +1,3 @@
 pub use Rattle.kept_code.specs.Instructions
 pub mod KeptAccesses
+pub mod Seen

@@ -5,6 +5,7 @@
 mod bus;
 mod code_memory;
 pub mod laws;
+mod seeing;
 
 pub use bus::{Bus, fetch_at};
 pub use clock::{Ahead, Counting, DueTicks, Script, ScriptedEvent, SysTick};

@@ -13,7 +13,8 @@ pub use digits::{byte_of, digit_of};
 pub use framer::{Event, Framer, MOST_BYTES, Place};
 pub use numbers::{number, two_numbers};
 pub use packets::{Packet, PointKind, Request, read_packet};
-pub use replies::put_packet;
+pub use parts::{Parts, parted};
+pub use replies::{put_digits, put_packet};
 
 #[cfg(test)]
 mod tests;

@@ -22,8 +22,8 @@ pub fn put_packet<const ROOM: usize>(page: &mut ArrayVec<u8, ROOM>, content: &[u
     put_digits(page, sum);
 }
 
-/// Appends the two digits of a byte.
-fn put_digits<const ROOM: usize>(page: &mut ArrayVec<u8, ROOM>, byte: u8)
+/// Appends the two lower-case digits of a byte.
+pub fn put_digits<const ROOM: usize>(page: &mut ArrayVec<u8, ROOM>, byte: u8)
     requires { array_vec_len page.old + 2 ≤ ROOM }
     ensures { page.new.items ≡ page.old.items ++ two_digits byte }
 {

@@ -1,6 +1,8 @@
 pub use Rattle.task_laws.specs.Foresight
 pub use Rattle.trace.specs.Selection
+pub use Rattle.access.specs.Seen as WordsSeen
 pub mod Runs
+pub mod Seen
 pub mod Selected
 pub mod Starts
 pub mod TaskRunLaw

@@ -11,6 +11,7 @@ mod permit;
 mod placing;
 pub mod readers;
 mod run;
+mod seeing;
 mod start;
 mod stepping;
 mod task;

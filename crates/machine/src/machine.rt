@@ -89,6 +89,7 @@ impl<D: Decider, C: KeptCode, L: Levels, U: DueTicks> Model for Machine<D, C, L,
 }
 
 impl<D: Decider, C: KeptCode, L: Levels, U: DueTicks> Machine<D, C, L, U> {
+    ghost use Rattle.machine.specs.Seen.{seen_at};
     ghost use Rattle.machine.specs.Values.{execution_of, values_of};
 
     /// Makes the machine of a board, with an image in its memory, before the first step.
@@ -350,6 +351,15 @@ impl<D: Decider, C: KeptCode, L: Levels, U: DueTicks> Machine<D, C, L, U> {
         ensures { result ≡ byte_at self.now.state.bus.memory address }
     {
         self.core.byte(address)
+    }
+
+    /// Returns the byte at an address as a debugger sees it: that of the word that a load by privileged code would return
+    /// there now, and None where the bus would refuse that load. The MPU isn't asked, and nothing changes: COUNTFLAG
+    /// stays, and no tick is made.
+    pub fn seen(&self, address: u32) -> Option<u8>
+        ensures { result ≡ seen_at self.now.state address }
+    {
+        self.core.seen(address)
     }
 
     /// Returns the registers of the MPU.

@@ -9,6 +9,7 @@ mod copies;
 mod handlers;
 mod interrupts;
 pub mod laws;
+mod seeing;
 mod special;
 mod status;
 mod system;

@@ -1,0 +1,53 @@
+//! The words of the address space, without the effect that a load may have.
+
+ghost use Rattle.std.specs.Prelude.{◌≡◌, ◌/◌, ◌*◌};
+ghost use Rattle.access.specs.Seen.{word_of_window, word_outside, word_seen};
+
+use crate::bus::Bus;
+use clock::DueTicks;
+use instruction_set::size::Size;
+use kept_code::KeptCode;
+use mpu::Decider;
+use nvic::Levels;
+use platform::map::{is_in_ppb, is_in_window};
+
+/// The register of the device window that reads as the low 32 bits of the number of ticks.
+const TICK: u32 = 0x4000_0004;
+
+impl<D: Decider, C: KeptCode, L: Levels, U: DueTicks> Bus<D, C, L, U> {
+    /// Returns the word that a load by privileged code would return now at an address divisible by 4, while IPSR is
+    /// `exception`, and None where the bus would refuse the load. The MPU isn't asked, and nothing changes: COUNTFLAG
+    /// stays.
+    #[tactic(auto, using(crate::proofs::WordsSeen::seen_in_ppb, crate::proofs::WordsSeen::seen_elsewhere))]
+    pub fn look(&self, exception: u16, address: u32) -> Option<u32>
+        requires { address / 4 * 4 ≡ address }
+        ensures { result ≡ word_seen exception self.now address }
+    {
+        if is_in_ppb(address) {
+            Some(self.system.look(exception, address))
+        } else {
+            self.look_outside(address)
+        }
+    }
+
+    /// Returns the word that memory or the device window has at an address.
+    fn look_outside(&self, address: u32) -> Option<u32>
+        ensures { result ≡ word_outside self.now.memory self.now.system.time.ticks address }
+    {
+        if is_in_window(address) {
+            return self.look_at_window(address);
+        }
+        self.space().number(address, Size::Word)
+    }
+
+    /// Returns the word that the device window has at an address: TICK alone can be read.
+    fn look_at_window(&self, address: u32) -> Option<u32>
+        ensures { result ≡ word_of_window self.now.system.time.ticks address }
+    {
+        if address == TICK {
+            Some((self.system.ticks() % (1 << 32)) as u32)
+        } else {
+            None
+        }
+    }
+}

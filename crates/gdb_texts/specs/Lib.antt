@@ -1,0 +1,15 @@
+pub mod Actions
+pub mod Bytes
+pub mod Console
+pub mod Features
+pub mod Monitor
+pub mod Parts
+pub mod Points
+pub mod Regions
+pub mod Registers
+pub mod Replies
+pub mod Settings
+pub mod Stops
+pub mod Threads
+pub mod Transfers
+pub mod Watchpoints

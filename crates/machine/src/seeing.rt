@@ -1,0 +1,31 @@
+//! The bytes of the address space, without the effect that a load may have.
+
+ghost use Rattle.std.specs.Prelude.{◌≡◌, ◌<◌};
+ghost use Rattle.machine.specs.Seen.{byte_of_word};
+
+use crate::stepping::Processor;
+use access::{Decider, DueTicks, KeptCode, Levels};
+
+/// Returns byte `number` of a word, from the lowest.
+fn byte_of_word(word: u32, number: u32) -> u8
+    requires { number < 4 }
+    ensures { result ≡ byte_of_word number word }
+{
+    ((word >> (8 * number)) & 0xFF) as u8
+}
+
+impl<D: Decider, C: KeptCode, L: Levels, U: DueTicks> Processor<D, C, L, U> {
+    ghost use Rattle.machine.specs.Seen.{seen_at};
+
+    /// Returns the byte at an address: that of the word that a load by privileged code would return there now, and None
+    /// where the bus would refuse that load. The MPU isn't asked, and nothing changes: COUNTFLAG stays.
+    pub fn seen(&self, address: u32) -> Option<u8>
+        ensures { result ≡ seen_at self.now address }
+    {
+        let exception = self.registers().exception();
+        match self.bus().look(exception, address & !3) {
+            Some(word) => Some(byte_of_word(word, address % 4)),
+            None => None,
+        }
+    }
+}

@@ -1,0 +1,54 @@
+//! What a register reads, without the effect that a read has.
+
+ghost use Rattle.std.specs.Prelude.{◌≡◌, ◌/◌, ◌*◌};
+ghost use Rattle.platform.specs.System as spec;
+ghost use Rattle.platform.specs.SysTickRegisters as spec_systick;
+
+use crate::addresses::register_at;
+use crate::control::read_control;
+use crate::interrupts::{read_interrupts, read_priorities};
+use crate::system::System;
+use clock::{DueTicks, SysTick};
+use mpu::Decider;
+use nvic::Levels;
+use platform::system::{SysTickRegister, SystemRegister};
+
+impl<D: Decider, L: Levels, U: DueTicks> System<D, L, U> {
+    /// Returns what the word at an address of the Private Peripheral Bus reads while IPSR is `exception`. Nothing is
+    /// read, so COUNTFLAG stays.
+    pub fn look(&self, exception: u16, address: u32) -> u32
+        ensures { result ≡ spec.word_at exception self.now (spec.register_at (address / 4 * 4)) }
+    {
+        self.look_at(exception, register_at(address & !3))
+    }
+
+    /// Returns what a register reads while IPSR is `exception`.
+    #[tactic(auto, unfolding(platform::specs::System::word_at))]
+    fn look_at(&self, exception: u16, register: SystemRegister) -> u32
+        ensures { result ≡ spec.word_at exception self.now register }
+    {
+        match register {
+            SystemRegister::SysTick(register) => look_at_systick(self.clock().systick(), register),
+            SystemRegister::Interrupts(register, word) => {
+                read_interrupts(self.levels(), register, word)
+            }
+            SystemRegister::Priorities(first) => read_priorities(self.levels(), first),
+            SystemRegister::Control(register) => read_control(self.levels(), exception, register),
+            SystemRegister::Status(register) => self.status().read(register),
+            SystemRegister::Mpu(register) => self.mpu().read_reg(register),
+            SystemRegister::Unlisted => 0,
+        }
+    }
+}
+
+/// Returns what a register of SysTick reads.
+#[tactic(auto, unfolding(platform::specs::SysTickRegisters::read_systick))]
+fn look_at_systick(systick: SysTick, register: SysTickRegister) -> u32
+    ensures { result ≡ spec_systick.read_systick systick register }
+{
+    match register {
+        SysTickRegister::Csr => systick.csr(),
+        SysTickRegister::Rvr => systick.rvr(),
+        SysTickRegister::Cvr => systick.cvr(),
+    }
+}

@@ -1,0 +1,2 @@
+mod Hearing
+pub mod Telling

@@ -1,0 +1,6 @@
+pub use Rattle.machine.specs.Whole
+pub use Rattle.output.specs.Input
+pub use Rattle.output.specs.Output
+pub mod Conduct
+pub mod Pieces
+pub mod Sessions

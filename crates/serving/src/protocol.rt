@@ -1,0 +1,42 @@
+//! What a session does with a byte.
+
+ghost use Rattle.std.specs.Prelude.{◌≡◌, OnOk};
+ghost use Rattle.reference.specs.State.{State};
+ghost use Rattle.serving.specs.Conduct.{Conduct};
+ghost use Rattle.serving.specs.Pieces.{Tells};
+
+use machine::{Decider, DueTicks, IoError, KeptCode, Levels, Machine, Out};
+
+/// A protocol: what is kept between two bytes, and what each byte makes the machine do and the session write.
+pub trait Protocol<L: Levels, U: DueTicks> {
+    ghost conduct: { Conduct Self };
+
+    ghost ready: { Self → State → Type 0 };
+
+    /// Returns whether the session reads on.
+    fn is_open(&self) -> bool
+        ensures { result ≡ conduct.is_open self.now };
+
+    /// Takes a byte of the input, and writes its answers.
+    fn hear<D: Decider, C: KeptCode, W: Out>(
+        &mut self,
+        machine: &mut Machine<D, C, L, U>,
+        byte: u8,
+        out: &mut W,
+    ) -> Result<(), IoError>
+        requires { ready self.old machine.old.state }
+        ensures tells { Tells (conduct.answered self.old machine.old.state byte) machine.old machine.new
+            (W.writing out.old) (W.writing out.new) result }
+        ensures kept { OnOk result (self.new ≡ conduct.kept self.old machine.old.state byte) }
+        ensures ready { OnOk result (ready self.new machine.new.state) };
+
+    /// Writes the answers at the end of the input.
+    fn finish<D: Decider, C: KeptCode, W: Out>(
+        &mut self,
+        machine: &mut Machine<D, C, L, U>,
+        out: &mut W,
+    ) -> Result<(), IoError>
+        requires { ready self.old machine.old.state }
+        ensures { Tells (conduct.at_end self.old machine.old.state) machine.old machine.new
+            (W.writing out.old) (W.writing out.new) result };
+}
