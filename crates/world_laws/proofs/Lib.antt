@@ -1,0 +1,2 @@
+mod Unseen
+mod Written

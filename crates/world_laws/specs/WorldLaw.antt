@@ -1,0 +1,77 @@
+-- What a world has written has no effect on the code of another world that is apart from it (profile).
+use Rattle.std.specs.Prelude.{◌≡◌, ℕ, Bool, true, not, ◌||◌, is_some, List, [], length}
+use Rattle.access_map.specs.declared.world.Place.TheVariants.{Ram}
+use Rattle.access_map.specs.declared.world.World.{World}
+use Rattle.access_map.specs.Settings.{IsSameSetting}
+use Rattle.access_map.specs.Sharing.{AreApart}
+use Rattle.access_map.specs.Worlds.{rights_at}
+use Rattle.platform.specs.Boards.{Numbers}
+use Rattle.platform.specs.Map.{ram_base}
+use Rattle.reference.specs.Invariant.{Invariant}
+use Rattle.reference.specs.Run.{after}
+use Rattle.reference.specs.State.{State}
+use Rattle.task_laws.specs.declared.task.TaskEnd.{TaskEnd}
+use Rattle.task_laws.specs.Sight.{AgreeFrom, Same, with_memory}
+use Rattle.task_laws.specs.TaskLaw.{EndedAlike, EndsAfter, RunAlike}
+use Rattle.task_laws.specs.Tasks.{AreInstructions, is_task, runs_unprivileged}
+use Rattle.world_run.specs.WorldRuns.{world_of}
+
+-- a state is in a world: the MPU has its setting
+abbrev pub IsInWorld : World → State → Type 0
+IsInWorld w s = IsSameSetting w (world_of s)
+
+-- a world may write the byte of RAM at an address
+abbrev pub may_write : World → ℕ → Bool
+may_write w a = (rights_at w Ram a).write
+
+-- a state with other bytes in RAM
+abbrev pub with_ram : State → List ℕ → State
+with_ram s bytes = with_memory s (record s.bus.memory { ram = bytes })
+
+-- two states agree in everything but bytes of RAM that a world may write
+pub record AgreeButWritten (v : World) (s t : State) : Type 0 where
+  pub ram : AgreeFrom (λ a. not (may_write v a)) ram_base s.bus.memory.ram t.bus.memory.ram
+  pub rest : t ≡ with_ram s t.bus.memory.ram
+
+-- unprivileged code runs in a state, in a world, outside the entry phase, and each of n steps is an Instruction step
+pub record RunsIn (w : World) (s : State) (n : ℕ) : Type 0 where
+  pub invariant : Invariant s
+  pub here : IsInWorld w s
+  pub unprivileged : runs_unprivileged s ≡ true
+  pub instructions : AreInstructions n s
+
+-- a run from u in world v: a state with the RAM of u and the same state with the RAM after the run agree in everything
+-- but bytes of RAM that v may write
+abbrev pub WritesLaw : World → State → State → ℕ → Type 0
+WritesLaw v u s n =
+    RunsIn v u n → s.bus.memory.ram ≡ u.bus.memory.ram → AgreeButWritten v s (with_ram s (after n u).bus.memory.ram)
+
+-- world v is apart from world w, with no address allowed, on a board whose RAM s has, and t is s but for bytes of RAM
+-- that v may write
+pub record WroteApart (board : Numbers) (v w : World) (s t : State) : Type 0 where
+  pub apart : AreApart board v w []
+  pub size : length s.bus.memory.ram ≡ board.ram_size
+  pub written : AgreeButWritten v s t
+
+-- where s is in world w, two such states look the same to unprivileged code
+abbrev pub UnseenLaw : Numbers → World → World → State → State → Type 0
+UnseenLaw board v w s t = IsInWorld w s → WroteApart board v w s t → Same s t
+
+-- each of n steps from t is an Instruction step as from s, the events are the same, and the states after them look the
+-- same to the code
+abbrev pub WorldRunLaw : Numbers → World → World → State → State → ℕ → Type 0
+WorldRunLaw board v w s t n = RunsIn w s n → WroteApart board v w s t → RunAlike n s t
+
+-- a run of m steps from u in world v, and one of n steps from s in world w: where the worlds are apart, the run from
+-- s is the same with the RAM that the run from u left
+abbrev pub ApartLaw : Numbers → World → World → State → State → ℕ → ℕ → Type 0
+ApartLaw board v w u s m n =
+    AreApart board v w [] → length s.bus.memory.ram ≡ board.ram_size → s.bus.memory.ram ≡ u.bus.memory.ram →
+    RunsIn v u m → RunsIn w s n → RunAlike n s (with_ram s (after m u).bus.memory.ram)
+
+-- where a task runs in s, or the machine has stopped: a run of at most n Instruction steps from t ended as one from s
+-- did, after as many steps, for the same reason and with the same events
+abbrev pub WorldEndsLaw : ℕ → Numbers → World → World → State → State → ℕ → ℕ → TaskEnd → TaskEnd → Type 0
+WorldEndsLaw n board v w s t a b x y =
+    Invariant s → IsInWorld w s → WroteApart board v w s t → is_some s.stop || is_task s ≡ true →
+    EndsAfter n s a x → EndsAfter n t b y → EndedAlike s t a b x y
