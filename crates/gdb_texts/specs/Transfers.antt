@@ -1,6 +1,6 @@
 -- Texts that GDB reads in pieces (GDB manual, "General Query Packets", qXfer; "Target Descriptions"; "Memory Map
 -- Format").
-use Rattle.std.specs.Prelude.{ℕ, ◌-◌, min, nat_lt, nat_le, ◌==◌, if◌then◌else◌, List, [], ◌∷◌, ◌++◌, length, take, drop}
+use Rattle.std.specs.Prelude.{ℕ, min, nat_lt, nat_le, ◌==◌, if◌then◌else◌, List, [], ◌∷◌, ◌++◌, length, take, drop}
 use Rattle.std.specs.Prelude.{codes}
 use Rattle.platform.specs.Boards.{Numbers}
 use Rattle.platform.specs.Map.{ram_base}

@@ -1,6 +1,6 @@
 -- Watchpoints (GDB manual, "Packets", z2 to z4).
 use Rattle.std.specs.Prelude.{ℕ, ◌+◌, max, nat_lt, Bool, true, false, ◌&&◌, ◌||◌, ◌==◌, if◌then◌else◌, List, [], ◌∷◌}
-use Rattle.std.specs.Prelude.{◌++◌, length, position, remove, slice_get, Option, Some, None}
+use Rattle.std.specs.Prelude.{◌++◌, length, position, remove, Option, Some, None}
 use Rattle.std.specs.List.{find, list_any}
 use Rattle.instruction_set.specs.Sizes.{bytes_in}
 use Rattle.platform.specs.declared.access.Access.{Access}

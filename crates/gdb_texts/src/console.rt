@@ -45,7 +45,8 @@ impl ConsoleText {
 
     /// Returns whether as much text waits as a packet takes.
     pub fn is_full(&self) -> bool
-        ensures { result ≡ is_full self.now }
+        ensures full { result ≡ is_full self.now }
+        ensures short { length self.now ≤ 2047 }
     {
         self.bytes.len() == MOST_TEXT
     }

@@ -13,6 +13,7 @@ mod registers;
 mod replies;
 mod settings;
 mod stops;
+mod texts;
 mod threads;
 mod transfers;
 mod watchpoints;
@@ -28,6 +29,7 @@ pub use registers::{REGISTERS, put_registers, put_word, word_at, written_registe
 pub use replies::{ErrorCode, Reply, refusal, reply_text};
 pub use settings::{Settings, first_settings, most_steps, settings_after};
 pub use stops::{Signal, StopReason, put_signal_reply, put_stop_reply, signal_of};
+pub use texts::{explanation, monitor_help, why_text};
 pub use threads::{Activity, put_thread};
 pub use transfers::{description, put_hex_number, put_memory_map, put_piece};
 pub use watchpoints::{MOST_WATCHPOINTS, WatchHit, Watchpoint, Watchpoints};

@@ -2,7 +2,10 @@
 
 use crate::*;
 use arrayvec::ArrayVec;
-use platform::access::Cause;
+use debugger_commands::{Condition, LineError, LineSelection};
+use instruction_set::size::Size;
+use platform::access::{Access, Cause, Decision, Kind, Rule};
+use platform::board::SMALL_BOARD;
 use platform::stop::Stop;
 use std::test::*;
 
@@ -183,5 +186,188 @@ fn breakpoints_are_kept(rt: HostRuntime) -> Result<(), Fail> {
     assert!(rt; reply_text(breakpoints.insert(one_more)) == "OK".as_bytes());
     assert!(rt; matches!(breakpoints.kind_at(7), Some(BreakpointKind::Software)));
     assert!(rt; matches!(breakpoints.kind_at(8), Some(BreakpointKind::Hardware)));
+    Ok(())
+}
+
+/// Commands of `monitor`, and what they are: a word for each, or the error.
+const COMMANDS: [(&str, &str); 26] = [
+    ("help", "help"),
+    ("explain 0x20000000 u w", "explain"),
+    ("regions", "regions"),
+    ("state", "state"),
+    ("next", "next"),
+    ("history", "history"),
+    ("trace all", "trace all"),
+    ("trace on", "trace all"),
+    ("trace off", "trace console"),
+    ("trace none", "another trace"),
+    ("lines off", "lines off"),
+    ("stop faults on", "stop faults on"),
+    ("step over", "step over"),
+    ("step into", "step into"),
+    ("budget 100000", "budget 100000"),
+    ("place reg 13 0x20002000", "place"),
+    ("place reg 256 0", "place"),
+    ("restart", "restart"),
+    ("why", "why"),
+    ("reset halt", "error 1"),
+    ("", "error 1"),
+    ("run 5", "error 1"),
+    ("help me", "error 2"),
+    ("step", "error 2"),
+    ("lines  on", "error 2"),
+    ("budget 4294967296", "error 2"),
+];
+
+/// Returns the word of a command of `monitor`.
+fn word_of(command: Monitor) -> &'static str {
+    match command {
+        Monitor::Help => "help",
+        Monitor::Explain(0x2000_0000, false, Kind::Store) => "explain",
+        Monitor::Explain(_, _, _) => "another explain",
+        Monitor::Regions => "regions",
+        Monitor::State => "state",
+        Monitor::Next => "next",
+        Monitor::History => "history",
+        Monitor::Trace(LineSelection::All) => "trace all",
+        Monitor::Trace(LineSelection::Console) => "trace console",
+        Monitor::Trace(_) => "another trace",
+        Monitor::Lines(on) => if on { "lines on" } else { "lines off" },
+        Monitor::Stop(Condition::Faults, true) => "stop faults on",
+        Monitor::Stop(_, _) => "another stop",
+        Monitor::Step(over) => if over { "step over" } else { "step into" },
+        Monitor::Budget(100_000) => "budget 100000",
+        Monitor::Budget(_) => "another budget",
+        Monitor::Place(_) => "place",
+        Monitor::Restart => "restart",
+        Monitor::Why => "why",
+    }
+}
+
+/// Returns the word of what a text reads as.
+fn read_as(text: &str) -> &'static str {
+    match read_monitor(text.as_bytes()) {
+        Ok(command) => word_of(command),
+        Err(LineError::Command) => "error 1",
+        Err(LineError::Word) => "error 2",
+    }
+}
+
+#[test]
+fn commands_of_monitor_are_read(rt: HostRuntime) -> Result<(), Fail> {
+    for (text, word) in COMMANDS {
+        assert!(rt; read_as(text) == word, "{text}");
+    }
+    let settings = settings_after(first_settings(), Monitor::Budget(7));
+    assert!(rt; most_steps(settings, true) == Some(7));
+    assert!(rt; most_steps(first_settings(), true).is_none());
+    assert!(rt; most_steps(first_settings(), false) == Some(50_000_000));
+    assert!(rt; monitor_help().starts_with(b"explain "));
+    assert!(rt;
+        why_text(Some(ErrorCode::Malformed)) == "E05: a packet not of its form\n".as_bytes()
+    );
+    let decision = Decision {
+        rule: Rule::Region(3),
+        granted: false,
+    };
+    let words = explanation(&decision);
+    assert!(rt;
+        words.as_slice() == "the highest region with this address is 3: refused\n".as_bytes()
+    );
+    Ok(())
+}
+
+/// Where a watchpoint on four bytes at 0x20000008 is met: the address and the size of a store, and the first byte.
+const STORES: [(u32, Size, Option<u32>); 6] = [
+    (0x2000_0004, Size::Word, None),
+    (0x2000_0007, Size::Byte, None),
+    (0x2000_0006, Size::Word, Some(0x2000_0008)),
+    (0x2000_0008, Size::Word, Some(0x2000_0008)),
+    (0x2000_000B, Size::Byte, Some(0x2000_000B)),
+    (0x2000_000C, Size::Word, None),
+];
+
+#[test]
+fn watchpoints_are_met(rt: HostRuntime) -> Result<(), Fail> {
+    let mut watchpoints = Watchpoints::new();
+    let watchpoint = Watchpoint {
+        kind: WatchKind::Write,
+        address: 0x2000_0008,
+        length: 4,
+    };
+    assert!(rt; matches!(watchpoints.insert(watchpoint), Reply::Done));
+    for (address, size, first) in STORES {
+        let store = Access {
+            kind: Kind::Store,
+            address,
+            size,
+            privileged: true,
+        };
+        assert!(rt;
+            watchpoints.hit_of(&store).map(|hit| hit.address) == first,
+            "{address:x}"
+        );
+        let load = Access {
+            kind: Kind::Load,
+            address,
+            size,
+            privileged: true,
+        };
+        assert!(rt; watchpoints.hit_of(&load).is_none());
+    }
+    watchpoints.remove(watchpoint);
+    assert!(rt; watchpoints.is_empty() && !watchpoints.is_set(watchpoint));
+    Ok(())
+}
+
+/// Addresses on the small board, and where lldb is told that they are.
+const REGIONS: [(u32, &str); 7] = [
+    (0, "start:0;size:1000;permissions:rx;"),
+    (0x1000, "start:1000;size:1ffff000;"),
+    (0x2000_1FFF, "start:20000000;size:2000;permissions:rwx;"),
+    (0x3FFF_FFFF, "start:20002000;size:1fffe000;"),
+    (0x4000_0000, "start:40000000;size:1000;permissions:rw;"),
+    (0xE000_0000, "start:e0000000;size:100000;permissions:rw;"),
+    (0xFFFF_FFFF, "start:e0100000;size:1ff00000;"),
+];
+
+#[test]
+fn memory_is_described(rt: HostRuntime) -> Result<(), Fail> {
+    for (address, text) in REGIONS {
+        let mut page: ArrayVec<u8, 400> = ArrayVec::new();
+        put_region_info(&mut page, &SMALL_BOARD, address);
+        assert!(rt; page.as_slice() == text.as_bytes(), "{text}");
+    }
+    let mut map: ArrayVec<u8, 600> = ArrayVec::new();
+    put_memory_map(&mut map, &SMALL_BOARD);
+    let rom = "<memory type=\"rom\" start=\"0x0\" length=\"0x1000\"/>\n";
+    assert!(rt; map.len() == 390);
+    assert!(rt; map.as_slice()[157..].starts_with(rom.as_bytes()));
+    Ok(())
+}
+
+/// Pieces of the description in a recorded session: the offset, the count, and the reply.
+const PIECES: [(u32, u32, &str); 6] = [
+    (0x0, 17, "m<?xml version=\"1."),
+    (0x606, 8, "m</target"),
+    (0x607, 8, "m/target>"),
+    (0x608, 8, "ltarget>\n"),
+    (0x610, 8, "l"),
+    (0x611, 8, "E05"),
+];
+
+#[test]
+fn description_is_sent_in_pieces(rt: HostRuntime) -> Result<(), Fail> {
+    assert!(rt; description().len() == 1552);
+    for (offset, count, text) in PIECES {
+        let mut page: ArrayVec<u8, 4096> = ArrayVec::new();
+        put_piece(&mut page, description(), offset, count);
+        assert!(rt; page.as_slice() == text.as_bytes(), "{text}");
+    }
+    let mut page: ArrayVec<u8, 400> = ArrayVec::new();
+    put_thread(&mut page, Activity::Handler(11), true);
+    let mut text: ArrayVec<u8, 400> = ArrayVec::new();
+    put_first_bytes(&mut text, page.as_slice(), 17);
+    assert!(rt; text.as_slice() == "handler 11 asleep".as_bytes());
     Ok(())
 }
