@@ -11,7 +11,7 @@ folder=${1:-$top/crates/test_firmware/data}
 work=$(mktemp -d)
 trap 'rm -rf "$work"' EXIT
 failed=0
-for name in round_robin faults nested atomics; do
+for name in round_robin faults nested atomics mailbox overlap; do
     status=0
     "$marm" run --board "$here/$name.toml" --steps 20000 "$folder/$name.elf" >"$work/trace" || status=$?
     python3 -B "$top/examples/firmware/console.py" <"$work/trace" >"$work/text"
