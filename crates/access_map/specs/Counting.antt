@@ -1,9 +1,10 @@
 -- The worlds of a run, and how many steps each of them had (profile).
 use Rattle.std.specs.Prelude.{ℕ, ◌+◌, ◌-◌, ◌^◌, min, max, nat_lt, if◌then◌else◌, List, [], ◌∷◌, slice_index_or}
-use Rattle.std.specs.Prelude.{slice_set, take}
+use Rattle.std.specs.Prelude.{slice_set, take, replicate, false}
 use Rattle.access_map.specs.declared.counting.WorldSteps.{WorldSteps}
 use Rattle.access_map.specs.declared.world.World.{World}
 use Rattle.access_map.specs.Settings.{is_same_setting}
+use Rattle.platform.specs.Regions.{fresh}
 
 -- The worlds so far. Of the 64 places of `rows` the first `used` are rows, in the order of the worlds' first steps.
 pub record Worlds : Type 0 where
@@ -31,6 +32,14 @@ place_of w s = place_in w (take s.used s.rows)
 -- the row of a world after its first step, which began in a tick at a PC
 abbrev pub first_row : World → ℕ → ℕ → WorldSteps
 first_row w tick pc = record { world = w; steps = 1; tick = tick; pc = pc; lowest = pc; highest = pc }
+
+-- no worlds: each place has the row of a world that is off, which is no row yet
+abbrev pub no_worlds : Worlds
+no_worlds = record {
+  rows = replicate most_worlds (first_row (record { registers = fresh 8; below_zero = false }) 0 0);
+  used = 0;
+  others = 0;
+}
 
 -- a row after one more step, which began at a PC
 abbrev pub counted_row : WorldSteps → ℕ → WorldSteps

@@ -1,7 +1,8 @@
 //! The worlds of a run, and how many steps each of them had.
 
 ghost use Rattle.std.specs.Prelude.{◌≡◌, ◌<◌, ◌≤◌, length, take, IfOk};
-ghost use Rattle.access_map.specs.Counting.{counted, counted_from, counted_row, added, first_row, place_in, place_of};
+ghost use Rattle.access_map.specs.Counting.{counted, counted_from, counted_row, added, first_row, no_worlds};
+ghost use Rattle.access_map.specs.Counting.{place_in, place_of};
 
 use crate::world::World;
 use mpu::MpuRegs;
@@ -49,8 +50,7 @@ impl Model for Worlds {
 impl Worlds {
     /// Returns no worlds.
     pub fn new(alloc: Global) -> Result<Self, AllocError>
-        ensures none { IfOk result (λ worlds. worlds.used ≡ 0) }
-        ensures others { IfOk result (λ worlds. worlds.others ≡ 0) }
+        ensures { IfOk result (λ worlds. worlds ≡ no_worlds) }
     {
         let blank = WorldSteps::first(
             &World {

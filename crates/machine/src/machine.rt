@@ -402,4 +402,12 @@ impl<D: Decider, C: KeptCode, L: Levels, U: DueTicks> Machine<D, C, L, U> {
     {
         self.core.is_active(number)
     }
+
+    /// Returns whether the execution priority is below 0.
+    #[inline]
+    pub fn is_below_zero(&self) -> bool
+        ensures { result ≡ is_below_zero self.now.state.bus.system.nvic }
+    {
+        self.core.is_below_zero()
+    }
 }

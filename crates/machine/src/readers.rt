@@ -2,7 +2,7 @@
 
 ghost use Rattle.std.specs.Prelude.{◌≡◌};
 ghost use Rattle.platform.specs.Memory.{byte_at};
-ghost use Rattle.platform.specs.Priorities.{is_in};
+ghost use Rattle.platform.specs.Priorities.{is_below_zero, is_in};
 ghost use Rattle.platform.specs.Regions.{shown};
 ghost use Rattle.platform.specs.Status.{read_status};
 
@@ -133,5 +133,13 @@ impl<D: Decider, C: KeptCode, L: Levels, U: DueTicks> Processor<D, C, L, U> {
         ensures { result ≡ is_in self.now.bus.system.nvic.active number }
     {
         self.bus().system.levels().is_active(number)
+    }
+
+    /// Whether the execution priority is below 0.
+    #[inline]
+    pub fn is_below_zero(&self) -> bool
+        ensures { result ≡ is_below_zero self.now.bus.system.nvic }
+    {
+        self.bus().system.levels().is_below_zero()
     }
 }

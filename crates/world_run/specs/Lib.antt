@@ -1,0 +1,2 @@
+pub mod WorldRuns
+pub mod Seen
