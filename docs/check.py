@@ -305,7 +305,7 @@ def known(repo, word, page):
 
 
 # ids, attributes and elements of the page that the crate report writes
-PAGE_ID = re.compile(r"(data|cells|lane|fault|code|region|[rs]\d+|none|bg)-[\w-]+|console-bytes|all-refusals|rect")
+PAGE_ID = re.compile(r"(data|cells|lane|fault|code|region|world|may|shares|[rs]\d+|none|bg)-[\w-]+|console-bytes|all-refusals|rect")
 
 
 # options of compilers, linkers and disassemblers
