@@ -61,7 +61,7 @@ td.n{white-space:nowrap}
 .off{color:var(--soft)}
 .may th,.may td{border-left:1px solid var(--line)}
 .may td{white-space:nowrap}
-.may thead th small{color:var(--soft);overflow-wrap:anywhere}
+.may thead th small{display:block;color:var(--soft);font-weight:400;overflow-wrap:anywhere}
 .may .sees{background:var(--ut)}
 .may .changes{background:var(--may)}
 #worlds b{background:var(--text);color:var(--ground);border-radius:4px;padding:0 5px;font-size:.86em;white-space:nowrap}
@@ -132,7 +132,8 @@ h1{font-size:1.25rem}
 .cards.may thead tr{border:0;padding:0}
 .cards.may thead th{border:0}
 .cards.may thead th:first-child{display:none}
-.cards.may td{padding:2px 6px}
+.cards.may td{padding:2px 6px;margin-top:2px;border-radius:4px}
+.cards.may td.zero{display:block}
 .cards td.u,.cards td.p,.cards th.u{background:none}
 .cards td.u::before{color:var(--u)}
 .cards td.p::before{color:var(--p)}
