@@ -1,0 +1,2 @@
+mod BytesSeen
+mod Showing

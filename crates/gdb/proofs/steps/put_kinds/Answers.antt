@@ -1,0 +1,16 @@
+use Rattle.gdb.proofs.Showing.{events_cut, events_on, kinds_none}
+use Rattle.gdb.proofs.steps.put_kinds.Goals as goal
+
+pub events-init : goal.events-init
+events-init g c = kinds_none (g.W.Out.writing c.args.out.now) c.args.console.now c.args.selection
+
+pub events-preserved : goal.events-preserved
+events-preserved g c =
+    events_on (g.W.Out.writing c.args.out.now) (g.W.Out.writing c.events.out) (g.W.Out.writing c.put_event.new.out)
+    c.args.console.now c.events.console c.put_event.new.console c.args.selection _ _ _ c.events-test.true
+    c.events.invariant c.in-Ok.ensures
+
+pub returns-in-Err : goal.returns-in-Err
+returns-in-Err g c =
+    events_cut (g.W.Out.writing c.args.out.now) (g.W.Out.writing c.events.out) (g.W.Out.writing c.put_event.new.out)
+    c.args.console.now c.events.console c.args.selection _ _ _ c.events-test.true c.events.invariant c.in-Err.ensures

@@ -1,0 +1,4 @@
+pub mod Consoles
+pub mod MemoryReads
+pub mod Reasons
+pub mod Targets

@@ -1,0 +1,15 @@
+//! The parts of a server of GDB's remote serial protocol that read and step a machine.
+#![tactic(auto)]
+
+mod console;
+mod reading;
+mod registers;
+mod steps;
+
+pub use console::Console;
+pub use reading::{Content, put_memory};
+pub use registers::{place_of, register_values};
+pub use steps::{
+    first_cause, has_entry, has_fault, is_continue, put_step, reason_after, reason_before,
+    selection_of,
+};

@@ -1,0 +1,257 @@
+//! The text of a step of a run, and whether the run ends before or after it.
+
+ghost use Rattle.std.specs.Prelude.{◌≡◌, [], ◌∷◌, is_some};
+ghost use Rattle.gdb.specs.Consoles.{Shows};
+ghost use Rattle.gdb.specs.Reasons.{cause_of, first_cause, has_entry, has_fault, is_continue, is_entry, leaves, reason_after};
+ghost use Rattle.gdb.specs.Reasons.{reason_at_breakpoint, reason_before, reason_of_events, selection_of};
+ghost use Rattle.gdb.specs.Reasons.{tests_breakpoints};
+ghost use Rattle.platform.specs.Events.{recorded_fault_of};
+ghost use Rattle.trace.specs.Selection.{kinds_text, selected_text};
+
+use crate::console::Console;
+use debugger_commands::LineSelection;
+use gdb_texts::{Breakpoints, Resume, Settings, StopReason};
+use machine::{
+    Decider, DueTicks, Event, KeptCode, Levels, Machine, TraceSelection, event_line, is_instruction,
+};
+use output::{IoError, Out};
+use platform::access::Cause;
+use platform::event::EventKind;
+use platform::stop::Stop;
+
+/// Returns the selection of the trace with these lines.
+pub fn selection_of(lines: LineSelection) -> TraceSelection
+    ensures { result ≡ selection_of lines }
+{
+    match lines {
+        LineSelection::All => TraceSelection::All,
+        LineSelection::Refused => TraceSelection::Refused,
+        LineSelection::Exceptions => TraceSelection::Exceptions,
+        LineSelection::Console => TraceSelection::Console,
+        LineSelection::Nothing => TraceSelection::Nothing,
+    }
+}
+
+/// Puts the text of an event, where a selection has events of its kind.
+fn put_event<W: Out>(
+    selection: TraceSelection,
+    event: &Event,
+    console: &mut Console,
+    out: &mut W,
+) -> Result<(), IoError>
+    ensures { Shows (W.writing out.old) (W.writing out.new) console.old console.new
+        (kinds_text selection (event.now ∷ [])) result }
+{
+    if !selection.selects(&event.what) {
+        return Ok(());
+    }
+    if selection.writes_bytes() {
+        return match event.what.byte() {
+            Some(byte) => console.put(&[byte], out),
+            None => Ok(()),
+        };
+    }
+    console.put(event_line(event).as_slice(), out)
+}
+
+/// Puts the text of those events that are of the kinds that a selection has.
+fn put_kinds<W: Out>(
+    selection: TraceSelection,
+    events: &[Event],
+    console: &mut Console,
+    out: &mut W,
+) -> Result<(), IoError>
+    ensures { Shows (W.writing out.old) (W.writing out.new) console.old console.new
+        (kinds_text selection events.now) result }
+{
+    'events: for event in events {
+        match put_event(selection, event, console, out) {
+            Ok(()) => {}
+            Err(error) => return Err(error),
+        }
+    }
+    Ok(())
+}
+
+/// Puts the text that a selection has of the events of a step.
+pub fn put_step<W: Out>(
+    selection: TraceSelection,
+    events: &[Event],
+    console: &mut Console,
+    out: &mut W,
+) -> Result<(), IoError>
+    ensures { Shows (W.writing out.old) (W.writing out.new) console.old console.new
+        (selected_text selection events.now) result }
+{
+    put_kinds(selection.of_step(events), events, console, out)
+}
+
+/// Returns what refused an access, if the event is one that was refused.
+fn cause_of(what: &EventKind) -> Option<Cause>
+    ensures { result ≡ cause_of what.now }
+{
+    match what {
+        EventKind::Accessed(decided) => decided.refused,
+        EventKind::ConsoleByte(_)
+        | EventKind::ReturnBegan(_)
+        | EventKind::HandlerEntered(_)
+        | EventKind::FaultRecorded(_) => None,
+    }
+}
+
+/// Returns what refused the first access that was refused, if one was.
+#[tactic(auto, unfolding(crate::specs::Reasons::first_cause))]
+pub fn first_cause(events: &[Event]) -> Option<Cause>
+    ensures { result ≡ first_cause events.now }
+{
+    'events: for event in events {
+        match cause_of(&event.what) {
+            Some(cause) => return Some(cause),
+            None => {}
+        }
+    }
+    None
+}
+
+/// Returns whether the event is a fault that was recorded.
+fn is_fault(what: &EventKind) -> bool
+    ensures { result ≡ is_some (recorded_fault_of what.now) }
+{
+    what.recorded_fault().is_some()
+}
+
+/// Returns whether a fault was recorded.
+pub fn has_fault(events: &[Event]) -> bool
+    ensures { result ≡ has_fault events.now }
+{
+    events.iter().any(|event| is_fault(&event.what))
+}
+
+/// Returns whether a handler was entered.
+fn is_entry(what: &EventKind) -> bool
+    ensures { result ≡ is_entry what.now }
+{
+    match what {
+        EventKind::HandlerEntered(_) => true,
+        EventKind::Accessed(_)
+        | EventKind::ConsoleByte(_)
+        | EventKind::ReturnBegan(_)
+        | EventKind::FaultRecorded(_) => false,
+    }
+}
+
+/// Returns whether a handler was entered in a step with these events.
+pub fn has_entry(events: &[Event]) -> bool
+    ensures { result ≡ has_entry events.now }
+{
+    events.iter().any(|event| is_entry(&event.what))
+}
+
+/// Returns why a run ends after a step with these events, by the settings.
+fn reason_of_events(settings: &Settings, events: &[Event]) -> Option<StopReason>
+    ensures { result ≡ reason_of_events settings.now events.now }
+{
+    let cause = first_cause(events);
+    if settings.refused
+        && let Some(cause) = cause
+    {
+        return Some(StopReason::Refused(cause));
+    }
+    if settings.faults && has_fault(events) {
+        return match cause {
+            Some(cause) => Some(StopReason::Refused(cause)),
+            None => Some(StopReason::Fault),
+        };
+    }
+    if settings.exceptions && has_entry(events) {
+        return Some(StopReason::Entered);
+    }
+    None
+}
+
+/// Returns whether a run that has made a unit ends at this address.
+fn leaves(how: Resume, pc: u32) -> bool
+    ensures { result ≡ leaves how pc }
+{
+    match how {
+        Resume::Continue => false,
+        Resume::Step => true,
+        Resume::Range(first, end) => pc < first || end <= pc,
+    }
+}
+
+/// Returns why a run ends after a step, which was an Instruction step or not, with these events. `stop` is why the machine
+/// has stopped by then, and `pc` the address of the next instruction.
+pub fn reason_after(
+    settings: &Settings,
+    how: Resume,
+    was_instruction: bool,
+    events: &[Event],
+    stop: Option<Stop>,
+    pc: u32,
+) -> Option<StopReason>
+    ensures { result ≡ reason_after settings.now how was_instruction events.now stop pc }
+{
+    if let Some(stop) = stop {
+        return Some(StopReason::Stopped(stop));
+    }
+    if let Some(reason) = reason_of_events(settings, events) {
+        return Some(reason);
+    }
+    if (was_instruction || has_entry(events)) && leaves(how, pc) {
+        return Some(StopReason::Done);
+    }
+    None
+}
+
+/// Returns whether a run goes on until something stops it.
+pub fn is_continue(how: Resume) -> bool
+    ensures { result ≡ is_continue how }
+{
+    match how {
+        Resume::Continue => true,
+        Resume::Step | Resume::Range(..) => false,
+    }
+}
+
+/// Returns whether a run that has made some steps tests breakpoints before its next one.
+fn tests_breakpoints(how: Resume, made: u64) -> bool
+    ensures { result ≡ tests_breakpoints how made }
+{
+    made > 0 || is_continue(how)
+}
+
+/// Returns the reason of a breakpoint before the next step, if one is there.
+fn reason_at_breakpoint<D: Decider, C: KeptCode, L: Levels, U: DueTicks>(
+    points: &Breakpoints,
+    machine: &Machine<D, C, L, U>,
+) -> Option<StopReason>
+    ensures { result ≡ reason_at_breakpoint points.now machine.now.state }
+{
+    match points.kind_at(machine.execution().pc) {
+        Some(kind) if is_instruction(machine.next_kind()) => Some(StopReason::Breakpoint(kind)),
+        Some(_) | None => None,
+    }
+}
+
+/// Returns why a run with these breakpoints, to the tick `limit`, that has made some steps ends before its next one.
+pub fn reason_before<D: Decider, C: KeptCode, L: Levels, U: DueTicks>(
+    points: &Breakpoints,
+    limit: u64,
+    how: Resume,
+    made: u64,
+    machine: &Machine<D, C, L, U>,
+) -> Option<StopReason>
+    ensures { result ≡ reason_before points.now limit how made machine.now.state }
+{
+    if machine.stop().is_some() {
+        return Some(StopReason::StoppedBefore);
+    }
+    if limit <= machine.ticks() {
+        return Some(StopReason::Stopped(Stop::StepLimit));
+    }
+    if tests_breakpoints(how, made) {
+        return reason_at_breakpoint(points, machine);
+    }
+    None
+}
