@@ -70,7 +70,8 @@ impl Worlds {
 
     /// Returns the rows, in the order of the worlds' first steps: the world of number 1 is the first.
     pub fn rows(&self) -> &[WorldSteps]
-        ensures { result.now ≡ take self.now.used self.now.rows }
+        ensures rows { result.now ≡ take self.now.used self.now.rows }
+        ensures few { length result.now ≤ 64 }
     {
         &self.rows[..self.used]
     }

@@ -1,3 +1,4 @@
+mod Allowing
 mod Asking
 mod Dumping
 mod Parsing

@@ -2,7 +2,7 @@
 use Rattle.std.specs.Prelude.{Some, ◌^◌, codes, true}
 use Rattle.clap.specs.Simple.{App, Shape, new_app, new_rule, on_top, with_rule, with_subcommand}
 use Rattle.clap.specs.Walk.{Rule, Text}
-use Rattle.clap.specs.declared.builder.action.ArgAction.TheVariants.{Append, Set}
+use Rattle.clap.specs.declared.builder.action.ArgAction.TheVariants.{Append, Set, SetTrue}
 use Rattle.clap.specs.declared.builder.value_parser.ValueParser.TheVariants.{Unsigned}
 
 -- an argument by its place, with one value
@@ -47,11 +47,30 @@ run = with_rule run_with_options image
 abbrev pub report : App
 report = with_rule (with_rule (with_rule (new_app (codes "report")) board) steps) image
 
+-- marm tasks --board FILE --steps N
+abbrev pub tasks_in_steps : App
+tasks_in_steps = with_rule (with_rule (new_app (codes "tasks")) board) steps
+
+-- an option without a value
+abbrev pub expect_apart : Rule
+expect_apart = record (new_rule (codes "expect-apart")) {
+  long = Some (codes "expect-apart");
+  action = Some SetTrue;
+}
+
+-- an option that may be there several times
+abbrev pub allow : Rule
+allow = record (option (codes "allow")) { action = Some Append }
+
+-- and then [--expect-apart] [--allow A-B].. IMAGE
+abbrev pub tasks : App
+tasks = with_rule (with_rule (with_rule tasks_in_steps expect_apart) allow) image
+
 -- marm debug --board FILE [--slots N] IMAGE
 abbrev pub debug : App
 debug = with_rule (with_rule (with_rule (new_app (codes "debug")) board) (option (codes "slots"))) image
 
--- marm has a version, and needs one of its three commands
+-- marm has a version, and needs one of its commands
 abbrev pub with_version : Shape → Shape
 with_version s = record s { has_version = true; subcommand_required = true }
 
@@ -59,5 +78,8 @@ abbrev pub marm_of_runs : App
 marm_of_runs =
     with_subcommand (with_subcommand (on_top with_version (new_app (codes "marm"))) run.top) report.top
 
+abbrev pub marm_with_tasks : App
+marm_with_tasks = with_subcommand marm_of_runs tasks.top
+
 abbrev pub marm : App
-marm = with_subcommand marm_of_runs debug.top
+marm = with_subcommand marm_with_tasks debug.top

@@ -1,3 +1,4 @@
+pub mod Allowed
 pub mod Commands
 pub mod Dumps
 pub mod Notices

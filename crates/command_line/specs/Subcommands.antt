@@ -1,17 +1,19 @@
 -- What the arguments ask for: a subcommand, whose options have the values that the matches of `clap` have.
-use Rattle.std.specs.Prelude.{◌≡◌, ◌^◌, ◌≤◌, ℕ, if◌then◌else◌, List, [], Option, Some, None, codes, option_map}
+use Rattle.std.specs.Prelude.{◌≡◌, ◌^◌, ◌≤◌, ℕ, Bool, false, if◌then◌else◌, List, [], Option, Some, None, codes, option_map}
 use Rattle.std.specs.Prelude.{map, unwrap_or}
 use Rattle.std.specs.Borrow.{Bor}
 use Rattle.std.specs.Str.{bytes_eq}
 use Rattle.std.specs.Str.Parse.{IsNumeral, digits_value}
 use Rattle.clap.specs.Walk.{Row, Text, all_of, first_of}
+use Rattle.command_line.specs.Allowed.{AreAllowed}
 use Rattle.command_line.specs.Dumps.{AreDumps}
 use Rattle.command_line.specs.Stops.{IsExpected}
 use Rattle.command_line.specs.declared.subcommands.DebugOptions.{DebugOptions}
 use Rattle.command_line.specs.declared.subcommands.ReportOptions.{ReportOptions}
 use Rattle.command_line.specs.declared.subcommands.RunOptions.{RunOptions}
 use Rattle.command_line.specs.declared.subcommands.Subcommand.{Subcommand}
-use Rattle.command_line.specs.declared.subcommands.Subcommand.TheVariants.{Run, Report, Debug}
+use Rattle.command_line.specs.declared.subcommands.Subcommand.TheVariants.{Run, Report, Tasks, Debug}
+use Rattle.command_line.specs.declared.subcommands.TasksOptions.{TasksOptions}
 use Rattle.trace.specs.declared.selection.TraceSelection.{TraceSelection}
 use Rattle.trace.specs.declared.selection.TraceSelection.TheVariants as which
 
@@ -63,6 +65,11 @@ selection_asked (Some text) = selection_named text
 abbrev pub IsSelection : Option (List ℕ) → TraceSelection → Type 0
 IsSelection text trace = selection_asked text ≡ Some trace
 
+-- whether an option without a value is there: then its value is `true`, and otherwise `false`
+abbrev pub is_set : Option (List ℕ) → Bool
+is_set None = false
+is_set (Some text) = bytes_eq text (codes "true")
+
 -- ---- the options of a subcommand
 
 -- the text of an option that may be left out
@@ -97,6 +104,14 @@ pub record IsReport (rows : List Row) (report : ReportOptions) : Type 0 where
   pub image : IsText (first_of (codes "image") rows) report.image
   pub steps : HasSteps (first_of (codes "steps") rows) report.steps
 
+-- the options of `tasks` have the values of its matches
+pub record IsTasks (rows : List Row) (tasks : TasksOptions) : Type 0 where
+  pub board : IsText (first_of (codes "board") rows) tasks.board
+  pub image : IsText (first_of (codes "image") rows) tasks.image
+  pub steps : HasSteps (first_of (codes "steps") rows) tasks.steps
+  pub expect_apart : tasks.expect_apart ≡ is_set (first_of (codes "expect-apart") rows)
+  pub allowed : AreAllowed (texts_of (codes "allow") rows) tasks.allowed.items
+
 -- the options of `debug` have the values of its matches
 pub record IsDebug (rows : List Row) (debug : DebugOptions) : Type 0 where
   pub board : IsText (first_of (codes "board") rows) debug.board
@@ -107,6 +122,7 @@ pub record IsDebug (rows : List Row) (debug : DebugOptions) : Type 0 where
 abbrev pub IsNamed : Text → List Row → Subcommand → Type 0
 IsNamed name rows (Run run) = (name ≡ codes "run") × IsRun rows run
 IsNamed name rows (Report report) = (name ≡ codes "report") × IsReport rows report
+IsNamed name rows (Tasks tasks) = (name ≡ codes "tasks") × IsTasks rows tasks
 IsNamed name rows (Debug debug) = (name ≡ codes "debug") × IsDebug rows debug
 
 -- the subcommand that the matches have
@@ -118,9 +134,11 @@ IsAsked (Some met) subcommand = IsNamed met.0 met.1 subcommand
 abbrev pub image_path : Subcommand → Text
 image_path (Run run) = run.image.now
 image_path (Report report) = report.image.now
+image_path (Tasks tasks) = tasks.image.now
 image_path (Debug debug) = debug.image.now
 
 abbrev pub board_path : Subcommand → Text
 board_path (Run run) = run.board.now
 board_path (Report report) = report.board.now
+board_path (Tasks tasks) = tasks.board.now
 board_path (Debug debug) = debug.board.now

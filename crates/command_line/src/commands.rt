@@ -5,7 +5,7 @@ ghost use Rattle.clap.specs.Words.{app_of, rule_of};
 ghost use Rattle.clap.specs.declared.builder.command.Command.TheViews.{out-Command};
 ghost use Rattle.command_line.specs.Commands as spec;
 
-use crate::texts::{AFTER_DEBUG, AFTER_MARM, AFTER_REPORT, AFTER_RUN};
+use crate::texts::{AFTER_DEBUG, AFTER_MARM, AFTER_REPORT, AFTER_RUN, AFTER_TASKS};
 use clap::builder::ValueParser;
 use clap::{Arg, ArgAction, Command};
 use std::alloc::{AllocError, Global};
@@ -38,6 +38,14 @@ const DUMP_HELP: &str =
     "Memory after the run, as raw bytes, to a file: LENGTH bytes from ADDR on, decimal or 0x and hexadecimal; \
      at most 16 times";
 
+/// What the help says of `--expect-apart`.
+const APART_HELP: &str =
+    "Status 0 where no line begins with shares or others, at any stop, and 1 where one does";
+
+/// What the help says of `--allow`.
+const ALLOW_HELP: &str =
+    "Addresses from A to B that worlds may share, decimal or 0x and hexadecimal; at most 16 times";
+
 /// What the help says of `--slots`.
 const SLOTS_HELP: &str =
     "How many states of the machine can be saved, from 0 (the default) to 8; the memory for them is taken at the start";
@@ -45,16 +53,25 @@ const SLOTS_HELP: &str =
 /// The program's version.
 const VERSION: &str = "0.3.0";
 
-/// Returns the command `marm`, with its three subcommands.
+/// Returns the command `marm`, with its subcommands.
 pub fn marm<'a>(alloc: Global) -> Result<Command<'a>, AllocError>
     ensures { IfOk result (λ c. app_of c ≡ spec.marm) }
 {
     let debug = debug(alloc)?;
-    let marm = marm_of_runs(alloc)?;
+    let marm = marm_with_tasks(alloc)?;
     marm.subcommand(debug)
 }
 
 /// Returns the command `marm`, with the subcommands that make a run.
+fn marm_with_tasks<'a>(alloc: Global) -> Result<Command<'a>, AllocError>
+    ensures { IfOk result (λ c. app_of c ≡ spec.marm_with_tasks) }
+{
+    let tasks = tasks(alloc)?;
+    let marm = marm_of_runs(alloc)?;
+    marm.subcommand(tasks)
+}
+
+/// Returns the command `marm`, with `run` and `report` alone.
 fn marm_of_runs<'a>(alloc: Global) -> Result<Command<'a>, AllocError>
     ensures { IfOk result (λ c. app_of c ≡ spec.marm_of_runs) }
 {
@@ -94,6 +111,29 @@ fn report<'a>(alloc: Global) -> Result<Command<'a>, AllocError>
     let report = report.arg(board(alloc))?;
     let report = report.arg(steps(alloc))?;
     report.arg(image(alloc))
+}
+
+/// Returns the subcommand `tasks`, with its arguments.
+fn tasks<'a>(alloc: Global) -> Result<Command<'a>, AllocError>
+    ensures app { IfOk result (λ c. app_of c ≡ spec.tasks) }
+    ensures local { IfOk result (λ c. (out-Command c).has_globals ≡ false) }
+{
+    let tasks = tasks_in_steps(alloc)?;
+    let tasks = tasks.arg(expect_apart(alloc))?;
+    let tasks = tasks.arg(allow(alloc))?;
+    tasks.arg(image(alloc))
+}
+
+/// Returns the subcommand `tasks`, with its board and its steps alone.
+fn tasks_in_steps<'a>(alloc: Global) -> Result<Command<'a>, AllocError>
+    ensures app { IfOk result (λ c. app_of c ≡ spec.tasks_in_steps) }
+    ensures local { IfOk result (λ c. (out-Command c).has_globals ≡ false) }
+{
+    let tasks = Command::new(alloc, "tasks")
+        .about("Runs an image on a board and writes which memory its tasks may touch and share")
+        .after_help(AFTER_TASKS);
+    let tasks = tasks.arg(board(alloc))?;
+    tasks.arg(steps(alloc))
 }
 
 /// Returns the subcommand `run`, with its arguments.
@@ -155,6 +195,25 @@ fn dump<'a>(alloc: Global) -> Arg<'a>
     ensures local { result.global ≡ false }
 {
     option(alloc, "dump", "ADDR:LENGTH=FILE", DUMP_HELP).action(ArgAction::Append)
+}
+
+/// Returns `--expect-apart`, which has no value.
+fn expect_apart<'a>(alloc: Global) -> Arg<'a>
+    ensures rule { rule_of result ≡ spec.expect_apart }
+    ensures local { result.global ≡ false }
+{
+    Arg::new(alloc, "expect-apart")
+        .long("expect-apart")
+        .help(APART_HELP)
+        .action(ArgAction::SetTrue)
+}
+
+/// Returns `--allow A-B`, which may be there several times.
+fn allow<'a>(alloc: Global) -> Arg<'a>
+    ensures rule { rule_of result ≡ spec.allow }
+    ensures local { result.global ≡ false }
+{
+    option(alloc, "allow", "A-B", ALLOW_HELP).action(ArgAction::Append)
 }
 
 /// Returns `--board FILE`.

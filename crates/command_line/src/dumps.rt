@@ -85,7 +85,7 @@ fn dump_named<'a>(text: &'a str) -> Option<Dump<'a>>
 }
 
 /// Returns the text around the first of these ASCII characters, if it has one.
-fn parts_at<'a>(text: &'a str, character: char) -> Option<(&'a str, &'a str)>
+pub fn parts_at<'a>(text: &'a str, character: char) -> Option<(&'a str, &'a str)>
     requires { character < 128 }
     ensures { option_map parts_of result ≡ parts_at character text.entry.now }
 {

@@ -1,7 +1,8 @@
-//! The command line: `marm run --board FILE --steps N IMAGE`, `marm report --board FILE --steps N IMAGE` and
-//! `marm debug --board FILE IMAGE`.
+//! The command line: `marm run --board FILE --steps N IMAGE`, `marm report --board FILE --steps N IMAGE`,
+//! `marm tasks --board FILE --steps N IMAGE` and `marm debug --board FILE IMAGE`.
 #![tactic(auto)]
 
+mod allowed;
 mod commands;
 mod dumps;
 mod refusals;
@@ -14,6 +15,6 @@ mod words;
 
 pub use dumps::Dump;
 pub use stops::{have_same_words, words_in};
-pub use subcommands::{DebugOptions, ReportOptions, RunOptions, Subcommand};
+pub use subcommands::{DebugOptions, ReportOptions, RunOptions, Subcommand, TasksOptions};
 pub use texts::AFTER_DEBUG;
 pub use words::{WordsError, subcommand_of};

@@ -5,15 +5,18 @@ ghost use Rattle.clap.specs.Words.{first_of, found_of, rows_of, subcommand_rows_
 ghost use Rattle.command_line.specs.Notices.{Reads, memory, notice_of, usage};
 ghost use Rattle.command_line.specs.Stops.{IsExpected};
 ghost use Rattle.command_line.specs.Subcommands.{HasSlots, HasSteps, IsAsked, IsDebug, IsNamed, IsReport, IsRun, IsSelection};
+ghost use Rattle.command_line.specs.Subcommands.{IsTasks, is_set};
 ghost use Rattle.command_line.specs.Subcommands.{IsSteps, IsText, board_path, image_path, number_in, plus};
 ghost use Rattle.command_line.specs.Subcommands.{selection_named, text_of, texts_in, texts_of};
 
+use crate::allowed::spans_in;
 use crate::commands::{MOST_SLOTS, MOST_STEPS};
 use crate::dumps::{Dump, dumps_in};
 use crate::stops::{stop_named, without_stop};
 use crate::words::WordsError;
 use clap::ArgMatches;
 use messages::Escaped;
+use mpu::Span;
 use platform::stop::Stop;
 use std::alloc::Global;
 use trace::selection::TraceSelection;
@@ -48,6 +51,21 @@ pub struct ReportOptions<'a> {
     pub steps: u64,
 }
 
+/// The options of `marm tasks`.
+#[derive(Drop)]
+pub struct TasksOptions<'a> {
+    /// The path of the board file.
+    pub board: &'a str,
+    /// The path of the image file.
+    pub image: &'a str,
+    /// The most steps to make, from 0 to 2^32.
+    pub steps: u64,
+    /// Whether the status says if all worlds are apart.
+    pub expect_apart: bool,
+    /// The addresses that worlds may share.
+    pub allowed: Vec<Span>,
+}
+
 /// The options of `marm debug`.
 #[derive(Clone, Copy)]
 pub struct DebugOptions<'a> {
@@ -66,6 +84,8 @@ pub enum Subcommand<'a> {
     Run(RunOptions<'a>),
     /// Run an image and write a page about the run.
     Report(ReportOptions<'a>),
+    /// Run an image and write which memory its tasks may touch and share.
+    Tasks(TasksOptions<'a>),
     /// Debug an image by the commands on standard input.
     Debug(DebugOptions<'a>),
 }
@@ -78,6 +98,7 @@ impl<'a> Subcommand<'a> {
         match self {
             Subcommand::Run(options) => options.image,
             Subcommand::Report(options) => options.image,
+            Subcommand::Tasks(options) => options.image,
             Subcommand::Debug(options) => options.image,
         }
     }
@@ -89,6 +110,7 @@ impl<'a> Subcommand<'a> {
         match self {
             Subcommand::Run(options) => options.board,
             Subcommand::Report(options) => options.board,
+            Subcommand::Tasks(options) => options.board,
             Subcommand::Debug(options) => options.board,
         }
     }
@@ -119,6 +141,8 @@ fn subcommand_named<'a>(
         Ok(Subcommand::Run(run_options(alloc, matches)?))
     } else if name == "report" {
         Ok(Subcommand::Report(report_options(alloc, matches)?))
+    } else if name == "tasks" {
+        Ok(Subcommand::Tasks(tasks_options(alloc, matches)?))
     } else if name == "debug" {
         Ok(Subcommand::Debug(debug_options(alloc, matches)?))
     } else {
@@ -155,6 +179,19 @@ fn report_options<'a>(
     })
 }
 
+/// Returns the options of `tasks`.
+fn tasks_options<'a>(alloc: Global, tasks: &ArgMatches<'a>) -> Result<TasksOptions<'a>, WordsError>
+    ensures { Reads (IsTasks (rows_of (found_of tasks.now))) result }
+{
+    Ok(TasksOptions {
+        board: text_in(alloc, value_of(tasks, "board"))?,
+        image: text_in(alloc, value_of(tasks, "image"))?,
+        steps: steps_in(alloc, value_of(tasks, "steps"))?,
+        expect_apart: is_set(value_of(tasks, "expect-apart")),
+        allowed: spans_in(alloc, values_of(tasks, "allow"))?,
+    })
+}
+
 /// Returns the options of `debug`.
 fn debug_options<'a>(alloc: Global, debug: &ArgMatches<'a>) -> Result<DebugOptions<'a>, WordsError>
     ensures { Reads (IsDebug (rows_of (found_of debug.now))) result }
@@ -171,6 +208,16 @@ fn value_of<'a>(matches: &ArgMatches<'a>, id: &str) -> Option<&'a str>
     ensures { text_of result ≡ first_of id.entry.now (rows_of (found_of matches.entry.now)) }
 {
     matches.get_str(id)
+}
+
+/// Returns whether an option without a value is there, by the value that `clap` gives it.
+fn is_set(value: Option<&str>) -> bool
+    ensures { result ≡ is_set (text_of value.entry) }
+{
+    match value {
+        Some(value) => value == "true",
+        None => false,
+    }
 }
 
 /// Returns the values of an option that may be there several times.

@@ -10,18 +10,18 @@ A file whose name begins with - is written with ./ before it.
 ";
 
 /// The commands of the program.
-pub const COMMANDS_ADVICE: &str = "The commands are run, report, debug and help.\n";
+pub const COMMANDS_ADVICE: &str = "The commands are run, report, tasks, debug and help.\n";
 
 /// What the program's help says of its statuses and messages.
 pub const AFTER_MARM: &str = "\
 Exit status:
-  0  all steps were made, a breakpoint was met, the run ended as expected (--expect), or a debug session
-     ended; or the version was asked for
-  1  the run ended otherwise than expected (--expect)
+  0  all steps were made, a breakpoint was met, the run ended as expected (--expect, --expect-apart), or a
+     debug session ended; or the version was asked for
+  1  the run ended otherwise than expected (--expect, --expect-apart)
   2  the arguments are wrong, or help was asked for (marm: usage)
   3  the image or the board is refused, or memory ran out for the board or the machine
      (marm: load, board, start, size)
-  4  the machine stopped otherwise, without --expect: the trace's last line says why
+  4  the machine stopped otherwise, without --expect and --expect-apart: the trace's last line says why
   5  reading or writing failed, or memory ran out for the arguments or a file (marm: io)
 
 Example:
@@ -66,6 +66,40 @@ Exit status:
 
 Example:
   marm report --board examples/boards/small.toml --steps 10 examples/first.elf >first.html";
+
+/// What the help of `tasks` says of the lines and of the statuses.
+pub const AFTER_TASKS: &str = "\
+A world is a setting of the MPU under which unprivileged code made a step in Thread mode. Tasks that run
+under the same setting are one world. Worlds are numbered from 1, in the order of their first steps.
+Addresses are eight hexadecimal digits, other numbers decimal. The lines are:
+  world <k> steps <n> tick <t> pc <a> code <first> <last> [<name>]
+                     the steps of world k, the tick and the PC of the first, the lowest and the highest PC
+                     of its steps, and the symbol that has the PC of the first, if the image has one
+  map <k> <first> <last> <place> <rights> <rule>
+                     what world k may do from one address to another in flash, RAM (ram) or the device
+                     window (window): read (r), write (w) and execute (x), each - where it may not; and the
+                     rule that decides a load
+  others <n>         the steps of worlds after the 64th, which have no number; only where there are any
+  apart <a> <b>      neither world may write a byte of RAM that the other may read or execute
+  shares <a> <b> <first> <last>
+                     world a may write these bytes of RAM, and world b may read or execute them
+  stop <words>       why the run ended: the last line, as in a trace
+
+Bytes from A to B of an --allow are not counted as shared. Worlds that are apart may still depend on one
+another by privileged code that copies for them, by devices and system registers, by timing, and by what a
+switch of tasks leaves in registers.
+
+Exit status:
+  0  all steps were made, or a breakpoint was met; with --expect-apart, no line begins with shares or others
+  1  with --expect-apart, a line begins with shares or others
+  2  the arguments are wrong, or help was asked for (marm: usage)
+  3  the image or the board is refused, or memory ran out for the board or the machine
+     (marm: load, board, start, size)
+  4  the machine stopped otherwise, without --expect-apart: the last line says why
+  5  reading or writing failed, or memory ran out for the arguments or a file (marm: io)
+
+Example:
+  marm tasks --board examples/boards/small.toml --steps 10 examples/first.elf";
 
 /// What the help of `debug` says of the commands and of the statuses.
 pub const AFTER_DEBUG: &str = "\

@@ -24,6 +24,7 @@ out
 out Commands:
 out   run     Runs an image on a board and writes the trace to standard output
 out   report  Runs an image on a board and writes a page about the run, in HTML, to standard output
+out   tasks   Runs an image on a board and writes which memory its tasks may touch and share
 out   debug   Reads commands from standard input and writes their answers to standard output
 out   help    Print this message or the help of the given subcommand(s)
 out
@@ -32,13 +33,13 @@ out   -h, --help     Print help
 out   -V, --version  Print version
 out
 out Exit status:
-out   0  all steps were made, a breakpoint was met, the run ended as expected (--expect), or a debug session
-out      ended; or the version was asked for
-out   1  the run ended otherwise than expected (--expect)
+out   0  all steps were made, a breakpoint was met, the run ended as expected (--expect, --expect-apart), or a
+out      debug session ended; or the version was asked for
+out   1  the run ended otherwise than expected (--expect, --expect-apart)
 out   2  the arguments are wrong, or help was asked for (marm: usage)
 out   3  the image or the board is refused, or memory ran out for the board or the machine
 out      (marm: load, board, start, size)
-out   4  the machine stopped otherwise, without --expect: the trace's last line says why
+out   4  the machine stopped otherwise, without --expect and --expect-apart: the trace's last line says why
 out   5  reading or writing failed, or memory ran out for the arguments or a file (marm: io)
 out
 out Example:
@@ -76,6 +77,59 @@ out   5  reading or writing failed, or memory ran out for the arguments or a fil
 out
 out Example:
 out   marm report --board examples/boards/small.toml --steps 10 examples/first.elf >first.html
+err marm: usage
+
+the help of tasks
+words tasks --help
+words help tasks
+ends 2
+out Runs an image on a board and writes which memory its tasks may touch and share
+out
+out Usage: marm tasks [OPTIONS] --board <FILE> --steps <N> <IMAGE>
+out
+out Arguments:
+out   <IMAGE>  The image: an ELF file for ARM of at most 16 MiB, linked to run
+out
+out Options:
+out       --board <FILE>  The board: a TOML file of at most 16 MiB with the memory sizes, the interrupt lines and the \
+events
+out       --steps <N>     The most steps (instructions, halves of exception entries, idle ticks) to make, \
+from 0 to 4294967296
+out       --expect-apart  Status 0 where no line begins with shares or others, at any stop, and 1 where one does
+out       --allow <A-B>   Addresses from A to B that worlds may share, decimal or 0x and hexadecimal; at most 16 times
+out   -h, --help          Print help
+out
+out A world is a setting of the MPU under which unprivileged code made a step in Thread mode. Tasks that run
+out under the same setting are one world. Worlds are numbered from 1, in the order of their first steps.
+out Addresses are eight hexadecimal digits, other numbers decimal. The lines are:
+out   world <k> steps <n> tick <t> pc <a> code <first> <last> [<name>]
+out                      the steps of world k, the tick and the PC of the first, the lowest and the highest PC
+out                      of its steps, and the symbol that has the PC of the first, if the image has one
+out   map <k> <first> <last> <place> <rights> <rule>
+out                      what world k may do from one address to another in flash, RAM (ram) or the device
+out                      window (window): read (r), write (w) and execute (x), each - where it may not; and the
+out                      rule that decides a load
+out   others <n>         the steps of worlds after the 64th, which have no number; only where there are any
+out   apart <a> <b>      neither world may write a byte of RAM that the other may read or execute
+out   shares <a> <b> <first> <last>
+out                      world a may write these bytes of RAM, and world b may read or execute them
+out   stop <words>       why the run ended: the last line, as in a trace
+out
+out Bytes from A to B of an --allow are not counted as shared. Worlds that are apart may still depend on one
+out another by privileged code that copies for them, by devices and system registers, by timing, and by what a
+out switch of tasks leaves in registers.
+out
+out Exit status:
+out   0  all steps were made, or a breakpoint was met; with --expect-apart, no line begins with shares or others
+out   1  with --expect-apart, a line begins with shares or others
+out   2  the arguments are wrong, or help was asked for (marm: usage)
+out   3  the image or the board is refused, or memory ran out for the board or the machine
+out      (marm: load, board, start, size)
+out   4  the machine stopped otherwise, without --expect-apart: the last line says why
+out   5  reading or writing failed, or memory ran out for the arguments or a file (marm: io)
+out
+out Example:
+out   marm tasks --board examples/boards/small.toml --steps 10 examples/first.elf
 err marm: usage
 
 the help of debug
@@ -119,7 +173,7 @@ err
 err Usage: marm <COMMAND>
 err
 err For more information, try '--help'.
-err The commands are run, report, debug and help.
+err The commands are run, report, tasks, debug and help.
 
 an option that does not exist
 words run --frob --board board.toml --steps 10 image.elf
@@ -172,14 +226,14 @@ err
 err Usage: marm <COMMAND>
 err
 err For more information, try '--help'.
-err The commands are run, report, debug and help.
+err The commands are run, report, tasks, debug and help.
 
 no words
 words
 ends 2
 err marm: usage
 err error: 'marm' requires a subcommand but one was not provided
-err   [subcommands: run, report, debug, help]
+err   [subcommands: run, report, tasks, debug, help]
 err
 err Usage: marm <COMMAND>
 err

@@ -1,0 +1,3 @@
+mod Visible
+mod Joining
+mod Pairs
