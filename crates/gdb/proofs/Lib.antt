@@ -1,2 +1,3 @@
 mod BytesSeen
 mod Showing
+mod Slicing

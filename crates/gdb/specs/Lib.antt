@@ -1,4 +1,5 @@
 pub mod Consoles
 pub mod MemoryReads
 pub mod Reasons
+pub mod Slices
 pub mod Targets

@@ -4,11 +4,13 @@
 mod console;
 mod reading;
 mod registers;
+mod slices;
 mod steps;
 
 pub use console::Console;
 pub use reading::{Content, put_memory};
 pub use registers::{place_of, register_values};
+pub use slices::{Plan, Progress, run_slice};
 pub use steps::{
     first_cause, has_entry, has_fault, is_continue, put_step, reason_after, reason_before,
     selection_of,

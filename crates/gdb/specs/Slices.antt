@@ -1,0 +1,95 @@
+-- The steps of a run, up to a reason to stop (profile).
+use Rattle.std.specs.Prelude.{◌≡◌, ℕ, zero, suc, ◌+◌, Bool, not, ◌&&◌, List, [], ◌∷◌, ◌++◌, Option, Some, None}
+use Rattle.std.specs.Prelude.{Result, Ok, Err}
+use Rattle.gdb.specs.declared.slices.Plan.{Plan}
+use Rattle.gdb.specs.Consoles.{Console, console_after, sent_by}
+use Rattle.gdb.specs.Reasons.{is_continue, reason_after, reason_before, selection_of}
+use Rattle.gdb_texts.specs.declared.points.Breakpoint.{Breakpoint}
+use Rattle.gdb_texts.specs.declared.actions.Resume.{Resume}
+use Rattle.gdb_texts.specs.declared.stops.StopReason.{StopReason}
+use Rattle.machine.specs.Foresight.{is_instruction_next}
+use Rattle.platform.specs.declared.event.Event.{Event}
+use Rattle.reference.specs.State.{State}
+use Rattle.reference.specs.Step.{step}
+use Rattle.serving.specs.Pieces.{Piece}
+use Rattle.trace.specs.Selection.{selected_text}
+
+-- what a run has made, beside the machine: steps, and text; and the events of its last step
+pub record Progress : Type 0 where
+  pub made : ℕ
+  pub console : Console
+  pub events : List Event
+
+-- a run between two steps
+pub record Flow : Type 0 where
+  pub made : ℕ
+  pub console : Console
+  pub state : State
+
+abbrev pub flow : Progress → State → Flow
+flow progress s = record { made = progress.made; console = progress.console; state = s }
+
+-- ---- one step
+
+-- the text that the settings have of a step
+abbrev pub step_text : Plan → State → List ℕ
+step_text p s = selected_text (selection_of p.settings.selection) (step s).events
+
+abbrev pub after_step : Plan → Flow → Flow
+after_step p f = record {
+  made = f.made + 1;
+  console = console_after f.console (step_text p f.state);
+  state = (step f.state).state;
+}
+
+-- the packets that its text fills
+abbrev pub step_piece : Plan → Flow → Piece
+step_piece p f = record { state = (step f.state).state; text = sent_by f.console (step_text p f.state) }
+
+-- whether a step that ends a unit comes next; a run that goes on until something stops it has no units
+abbrev pub counts : Resume → State → Bool
+counts how s = not (is_continue how) && is_instruction_next s
+
+abbrev pub before_step : Plan → List Breakpoint → Flow → Option StopReason
+before_step p points f = reason_before points p.limit p.how f.made f.state
+
+abbrev pub reason_then : Plan → State → Option StopReason
+reason_then p s =
+    reason_after p.settings p.how (counts p.how s) (step s).events (step s).state.stop (step s).state.registers.pc
+
+-- ---- at most n steps
+
+pub record Sliced : Type 0 where
+  pub pieces : List Piece
+  -- why the run ended, if it did
+  pub reason : Option StopReason
+  -- the events of its last step, where it ended after that
+  pub events : List Event
+  pub flow : Flow
+
+abbrev pub at_rest : Option StopReason → List Event → Flow → Sliced
+at_rest r events f = record { pieces = []; reason = r; events = events; flow = f }
+
+abbrev pub after_pieces : List Piece → Sliced → Sliced
+after_pieces ps later = record later { pieces = ps ++ later.pieces }
+
+-- a run ends for a reason, or goes on
+abbrev pub unless_ended : Option StopReason → List Event → Flow → Sliced → Sliced
+unless_ended (Some r) events f later = at_rest (Some r) events f
+unless_ended None events f later = later
+
+unfoldable pub slice : Plan → List Breakpoint → ℕ → Flow → Sliced
+slice p points zero f = at_rest None [] f
+slice p points (suc n) f =
+    unless_ended (before_step p points f) [] f
+    (after_pieces (step_piece p f ∷ [])
+    (unless_ended (reason_then p f.state) (step f.state).events (after_step p f) (slice p points n (after_step p f))))
+
+-- what a call that made such steps leaves
+abbrev pub Slices : Sliced → Progress → Option StopReason → Type 0
+Slices sliced now reason =
+    (reason ≡ sliced.reason) × (now ≡ record {
+      made = sliced.flow.made;
+      console = sliced.flow.console;
+      events = sliced.events;
+    })
