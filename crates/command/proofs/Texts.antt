@@ -1,0 +1,24 @@
+-- What is told of the worlds that were counted is told of those of the reference machine's run.
+use Rattle.std.proofs.Common.{◌≡◌, ℕ, List, Result}
+use Rattle.access_map.specs.Counting.{Worlds, no_worlds}
+use Rattle.command.specs.declared.error.Error.{Error}
+use Rattle.command.specs.declared.telling.Told.{Told}
+use Rattle.command.specs.Tasks.{Tells, TellsRun}
+use Rattle.command_line.specs.declared.subcommands.TasksOptions.{TasksOptions}
+use Rattle.output.specs.Output.{Writing}
+use Rattle.platform.specs.Boards.{Numbers}
+use Rattle.platform.specs.declared.stop.Stop.{Stop}
+use Rattle.reference.specs.Run.{ending_of}
+use Rattle.reference.specs.State.{State}
+use Rattle.symbols.specs.Tables.{places_of, strings_in, symbols_in}
+use Rattle.symbols.specs.declared.symbol.Symbol.{Symbol}
+use Rattle.world_run.specs.WorldRuns.{worlds_after}
+use Rattle.world_text.specs.Names.{shown_name}
+
+pub told_run : (board : Numbers) (file : List ℕ) (tasks : TasksOptions) (s : State) (strings : List ℕ)
+    (symbols : List Symbol) (v : Worlds) (why : Stop) (old new : Writing) (result : Result Told Error)
+    → strings ≡ strings_in file (places_of file) → symbols ≡ symbols_in file (places_of file)
+    → v ≡ worlds_after tasks.steps s no_worlds → why ≡ ending_of tasks.steps s
+    → Tells board (shown_name strings symbols) tasks.allowed.items v why old new result
+    → TellsRun board file tasks s old new result
+told_run board file tasks s strings symbols v why old new result e f g h tells = rw (← e, ← f, ← g, ← h) tells
