@@ -1,8 +1,8 @@
 #!/usr/bin/env bash
 # Opens the pages of `marm report` in headless Chromium, for the kernels, crc32-loop and a program of newlib where it is
-# built. The numbers on each page have to be those that the trace of `marm run` has; the browser has to find no error;
-# no address outside of the page is asked for. It keeps pictures of each page in FOLDER, light and dark, 400 and 1,400
-# pixels wide, to be looked at.
+# built. The numbers on each page have to be those that the trace of `marm run` has, and what it says of worlds what the
+# lines of `marm tasks` say; the browser has to find no error; no address outside of the page is asked for. It keeps
+# pictures of each page in FOLDER, light and dark, 400 and 1,400 pixels wide, to be looked at.
 # It needs chromium and python3. Usage: crosscheck/report.sh [FOLDER]
 set -euo pipefail
 for name in chromium python3; do

@@ -73,7 +73,7 @@ mps2-an385 lm3s6965evb stm32vldiscovery -singlestep armv7m_nvic_complete_irq sta
 # instructions and registers of the manual, and words of a trace line
 MANUAL = re.compile(r"""^(R\d+|R\[n\]|[A-Z][A-Z0-9_]+(\.[A-Z0-9_]+)?   # registers, fields, instructions
     |[A-Z]\w*(\(\)|\[\])                                               # the manual's functions
-    |r\d+|[FLSKUVORX!pu]|xn|vec|ppb|off|neg|bg|none|ok|mpu|bus         # kinds, rules and outcomes
+    |r\d+|[r-][w-][x-]|[FLSKUVORX!pu]|xn|vec|ppb|off|neg|bg|none|ok|mpu|bus         # kinds, rights, rules and outcomes
     |0x[0-9A-Fa-f_]+|0b[01_]+|[0-9A-F]{4,8}|\d[\d,.]*)$""", re.X)
 
 # variables, letters of a row, and words that stand for others
@@ -305,7 +305,7 @@ def known(repo, word, page):
 
 
 # ids, attributes and elements of the page that the crate report writes
-PAGE_ID = re.compile(r"(data|cells|lane|fault|code|region|[rs]\d+|none|bg)-[\w-]+|console-bytes|all-refusals|rect")
+PAGE_ID = re.compile(r"(data|cells|lane|fault|code|region|world|may|shares|[rs]\d+|none|bg)-[\w-]+|console-bytes|all-refusals|rect")
 
 
 # options of compilers, linkers and disassemblers

@@ -37,3 +37,5 @@ python3 -B "$here/fill.py" "$folder/round_robin.elf" "$folder/round_robin_filled
 build faults faults.s faults.c
 build nested nested.c
 build atomics atomics.c
+build mailbox round_robin.s mailbox.c writer.c reader.c
+build overlap round_robin.s overlap.c writer.c reader.c

@@ -1,7 +1,8 @@
 #!/usr/bin/env bash
-# Runs the kernels on marm, each on its board, and compares what they print with expected/NAME.txt. Then holds the debug
-# session task_b.txt over round_robin and over the image with other bytes in task a's memory: expected/task_b.txt has the
-# lines of the answers that differ, and how each run of task b ended.
+# Runs the kernels on marm, each on its board, and compares what they print with expected/NAME.txt. Then compares what
+# `marm tasks` writes about mailbox and overlap, while the mailbox is allowed or not, with expected/NAME_tasks.txt. Last it
+# holds the debug session task_b.txt over round_robin and over the image with other bytes in task a's memory:
+# expected/task_b.txt has the lines of the answers that differ, and how each run of task b ended.
 # Usage: examples/kernels/check.sh [FOLDER], the folder that build.sh was given.
 set -euo pipefail
 here=$(cd "$(dirname "${BASH_SOURCE[0]}")" && pwd)
@@ -11,7 +12,7 @@ folder=${1:-$top/crates/test_firmware/data}
 work=$(mktemp -d)
 trap 'rm -rf "$work"' EXIT
 failed=0
-for name in round_robin faults nested atomics; do
+for name in round_robin faults nested atomics mailbox overlap; do
     status=0
     "$marm" run --board "$here/$name.toml" --steps 20000 "$folder/$name.elf" >"$work/trace" || status=$?
     python3 -B "$top/examples/firmware/console.py" <"$work/trace" >"$work/text"
@@ -24,6 +25,31 @@ for name in round_robin faults nested atomics; do
         failed=1
     fi
 done
+
+# check_tasks NAME STATUS ARGUMENT..: what `marm tasks` writes, and its status, without the numbers of its lines `world`,
+# which depend on the compiler.
+check_tasks() {
+    local name=$1 wanted=$2 status=0
+    shift 2
+    "$marm" tasks --board "$here/$name.toml" --steps 20000 --expect-apart "$@" "$folder/$name.elf" >"$work/lines" \
+        2>"$work/message" || status=$?
+    sed -E 's/^(world [0-9]+) steps .* ([^ ]+)$/\1 \2/' "$work/lines" >"$work/text"
+    if [ "$status" = "$wanted" ] && grep -v '^#' "$here/expected/${name}_tasks.txt" | cmp "$work/text" -; then
+        echo "$name: tasks as expected"
+    else
+        echo "$name: tasks NOT AS EXPECTED, status $status"
+        failed=1
+    fi
+}
+check_tasks mailbox 1
+check_tasks overlap 1 --allow 0x20000200-0x2000021F
+if "$marm" tasks --board "$here/mailbox.toml" --steps 20000 --expect-apart --allow 0x20000200-0x2000021F \
+    "$folder/mailbox.elf" | grep -q '^apart 1 2$'; then
+    echo "mailbox: apart, but for the mailbox"
+else
+    echo "mailbox: NOT APART"
+    failed=1
+fi
 
 for name in round_robin round_robin_filled; do
     "$top/marm" debug --board "$here/round_robin.toml" "$folder/$name.elf" <"$here/task_b.txt" >"$work/$name"

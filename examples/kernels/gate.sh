@@ -5,7 +5,7 @@
 set -euo pipefail
 here=$(cd "$(dirname "${BASH_SOURCE[0]}")" && pwd)
 gate=$here/../../crates/test_firmware
-names=(round_robin faults nested atomics)
+names=(round_robin faults nested atomics mailbox overlap)
 
 if grep -q '^nested.elf$' "$gate/args"; then
     echo "gate.sh: the rows are there; write those of the firmware anew by make -C examples/firmware gate" >&2

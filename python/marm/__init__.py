@@ -24,11 +24,12 @@ from .registers import Registers
 from .results import Decision, Ran, Region, Span, State
 from .session import Saved
 from .sweeps import Result, sweep, windows
+from .worlds import Interval, Shared, Tasks, World, tasks
 
 __all__ = [
     "ENTRY", "FAULT", "REFUSED", "Access", "Accesses", "At", "Batch", "Board", "BoardEvent", "CommandError",
-    "Condition", "Console", "Dead", "Decision", "Entry", "Event", "Fault", "Hung", "Later", "Machine", "MarmError",
-    "NoProgram", "NoSlot", "NotMemory", "NotReached", "PlaceRefused", "ProtocolError", "Ran", "Reads", "Region",
-    "Registers", "Result", "Return", "Saved", "Span", "StartError", "State", "Stop", "Until", "Watch", "Writes",
-    "build_image", "parse_event", "sweep", "symbols_of", "windows",
+    "Condition", "Console", "Dead", "Decision", "Entry", "Event", "Fault", "Hung", "Interval", "Later", "Machine",
+    "MarmError", "NoProgram", "NoSlot", "NotMemory", "NotReached", "PlaceRefused", "ProtocolError", "Ran", "Reads",
+    "Region", "Registers", "Result", "Return", "Saved", "Shared", "Span", "StartError", "State", "Stop", "Tasks",
+    "Until", "Watch", "World", "Writes", "build_image", "parse_event", "sweep", "symbols_of", "tasks", "windows",
 ]

@@ -41,6 +41,22 @@ def find_program(program: Program) -> list[str]:
     return command
 
 
+def run_to_end(
+    command: Sequence[str], board: Union[str, bytes], image: Union[str, bytes], timeout: float
+) -> tuple[int, str, str]:
+    """Runs a command of the program to its end, and returns its status, its output and its messages. Hung where it
+    takes longer than `timeout` seconds. `board` and `image` are paths, or contents as bytes."""
+    files = _Files()
+    try:
+        paths = ["--board", files.path_of(board, ".toml"), files.path_of(image, ".elf")]
+        ended = subprocess.run([*command, *paths], stdin=subprocess.DEVNULL, capture_output=True, timeout=timeout)
+    except subprocess.TimeoutExpired:
+        raise Hung(timeout, " ".join(command)) from None
+    finally:
+        files.remove()
+    return ended.returncode, ended.stdout.decode("utf-8", "replace"), ended.stderr.decode("utf-8", "replace")
+
+
 class Wire:
     """A session of the program. Every failure ends the process, and every later exchange raises the same error.
 

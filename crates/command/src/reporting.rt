@@ -10,13 +10,15 @@ use crate::files::InputFile;
 use crate::opening::{Opened, open};
 use crate::reason::refuse;
 use crate::sending::send;
+use access_map::Worlds;
 use machine::{Out, StartError, Stop};
-use report::{HtmlPage, Report, write_page};
+use report::{AccessTable, HtmlPage, Report, write_page};
 use std::alloc::Global;
 use std::io::Write;
 use survey::Survey;
 use survey_run::survey_run;
 use symbols::Symbols;
+use world_run::WorldCount;
 
 /// The most bytes of a page: 2 MiB.
 const PAGE_BYTES: usize = 0x20_0000;
@@ -47,7 +49,7 @@ pub fn report<O: Out, E: Write>(
 }
 
 /// Makes the steps of a machine, and writes the page about them. Memory for what is counted and for the page
-/// is taken before the first step.
+/// is taken before the first step, and memory for what the worlds of the run may touch before the page is written.
 fn survey_machine<O: Out>(
     alloc: Global,
     opened: Opened,
@@ -61,14 +63,22 @@ fn survey_machine<O: Out>(
     let Ok(mut survey) = Survey::new(alloc, &opened.layout) else {
         return Err(Error::Start(StartError::NoMemory));
     };
+    let Ok(worlds) = Worlds::new(alloc) else {
+        return Err(Error::Start(StartError::NoMemory));
+    };
     let Ok(symbols) = Symbols::read(alloc, image.bytes) else {
         return Err(Error::Start(StartError::NoMemory));
     };
     let Ok(page) = HtmlPage::new(alloc, PAGE_BYTES) else {
         return Err(Error::Start(StartError::NoMemory));
     };
+    let layout = opened.layout;
     let mut machine = opened.machine;
-    let stop = survey_run(&mut machine, steps, &mut survey);
+    let mut count = WorldCount::new(worlds);
+    let stop = survey_run(&mut machine, steps, &mut survey, &mut count);
+    let Ok(access_table) = AccessTable::of(alloc, count.worlds(), &layout) else {
+        return Err(Error::Start(StartError::NoMemory));
+    };
     let run = Report {
         image: image.path,
         board: board.path,
@@ -77,6 +87,8 @@ fn survey_machine<O: Out>(
         survey: &survey,
         machine: &machine,
         symbols: &symbols,
+        worlds: count.worlds(),
+        access_table: &access_table,
     };
     put_page(&run, page, out)?;
     Ok(stop)

@@ -1,6 +1,7 @@
 //! The report of a run: one HTML page that shows what the run did.
 #![tactic(auto)]
 
+mod access_table;
 mod cells;
 mod code;
 mod console;
@@ -22,7 +23,9 @@ mod settings;
 mod style;
 mod timeline;
 mod words;
+mod worlds;
 
+pub use access_table::AccessTable;
 pub use html_page::HtmlPage;
 pub use page::{Report, write_page};
 

@@ -1,5 +1,6 @@
 //! The page: its head, its figures, and its parts one after another.
 
+use crate::access_table::AccessTable;
 use crate::code::write_code;
 use crate::console::write_console;
 use crate::end::write_end;
@@ -11,6 +12,8 @@ use crate::regions::write_regions;
 use crate::rules::{accesses, handlers, refused, write_rules};
 use crate::style::STYLE;
 use crate::timeline::write_timeline;
+use crate::worlds::write_worlds;
+use access_map::Worlds;
 use machine::{Fast, Stop, stop_line};
 use platform::access::Cause;
 use std::io::Write;
@@ -36,6 +39,10 @@ pub struct Report<'a> {
     pub machine: &'a Fast,
     /// The names of addresses.
     pub symbols: &'a Symbols<'a>,
+    /// The settings of the MPU under which unprivileged code ran.
+    pub worlds: &'a Worlds,
+    /// What it could touch under them.
+    pub access_table: &'a AccessTable,
 }
 
 /// A part of the page.
@@ -43,6 +50,7 @@ pub struct Report<'a> {
 pub enum Part {
     Rules,
     Settings,
+    Worlds,
     Faults,
     Code,
     Time,
@@ -53,9 +61,10 @@ pub enum Part {
 
 impl Part {
     /// The parts, in their order.
-    const ALL: [Part; 8] = [
+    const ALL: [Part; 9] = [
         Part::Rules,
         Part::Settings,
+        Part::Worlds,
         Part::Faults,
         Part::Code,
         Part::Time,
@@ -69,6 +78,7 @@ impl Part {
         match self {
             Part::Rules => "rules",
             Part::Settings => "settings",
+            Part::Worlds => "worlds",
             Part::Faults => "faults",
             Part::Code => "code",
             Part::Time => "time",
@@ -83,6 +93,7 @@ impl Part {
         match self {
             Part::Rules => "Who touched what",
             Part::Settings => "Settings of regions",
+            Part::Worlds => "Who may touch what",
             Part::Faults => "Faults",
             Part::Code => "Where the steps went",
             Part::Time => "Time",
@@ -98,6 +109,7 @@ impl Part {
         match self {
             Part::Rules => accesses(&survey.counts) > 0,
             Part::Settings => !survey.settings.rows().is_empty(),
+            Part::Worlds => !report.worlds.rows().is_empty(),
             Part::Faults => survey.faults.number() > 0,
             Part::Code => !report.symbols.list.is_empty() && Totals::of_all(survey).sum() > 0,
             Part::Time => survey.timeline.used() > 0,
@@ -112,6 +124,9 @@ impl Part {
         match self {
             Part::Rules => write_rules(out, report),
             Part::Settings => write_regions(out, report),
+            Part::Worlds => {
+                write_worlds(out, report.worlds, report.access_table, report.symbols)
+            }
             Part::Faults => write_faults(out, report),
             Part::Code => write_code(out, report),
             Part::Time => write_timeline(out, report),

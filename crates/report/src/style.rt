@@ -59,6 +59,13 @@ td div{white-space:nowrap;display:flex;justify-content:space-between;gap:.7rem}
 td .bar{justify-content:flex-start;gap:0}
 td.n{white-space:nowrap}
 .off{color:var(--soft)}
+.may th,.may td{border-left:1px solid var(--line)}
+.may td{white-space:nowrap}
+.may thead th small{display:block;color:var(--soft);font-weight:400;overflow-wrap:anywhere}
+.may .sees{background:var(--ut)}
+.may .changes{background:var(--may)}
+#worlds b{background:var(--text);color:var(--ground);border-radius:4px;padding:0 5px;font-size:.86em;white-space:nowrap}
+.shares{margin:.8rem 0 0;padding-left:1.2rem}
 .code th small{display:inline}
 .code .bars{width:14rem}
 .bar{display:flex;gap:0;height:.8rem;margin-top:.25rem;background:var(--band)}
@@ -121,6 +128,12 @@ main{padding:14px 12px 32px}
 .code .bars{width:auto}
 h1{font-size:1.25rem}
 .cards td.zero{display:none}
+.cards.may thead,.cards.may thead tr{display:block}
+.cards.may thead tr{border:0;padding:0}
+.cards.may thead th{border:0}
+.cards.may thead th:first-child{display:none}
+.cards.may td{padding:2px 6px;margin-top:2px;border-radius:4px}
+.cards.may td.zero{display:block}
 .cards td.u,.cards td.p,.cards th.u{background:none}
 .cards td.u::before{color:var(--u)}
 .cards td.p::before{color:var(--p)}

@@ -6,6 +6,7 @@ ghost use Rattle.reference.specs.Run.{after, ending_of};
 ghost use Rattle.reference.specs.Step.{step};
 ghost use Rattle.survey.specs.RegionLaw.{some_writes_system};
 ghost use Rattle.survey.specs.Surveys.{moment_of, surveyed, with_events, with_made_step};
+ghost use Rattle.world_run.specs.WorldRuns.{with_step, worlds_after};
 
 mod counting;
 
@@ -13,47 +14,57 @@ use counting::{Begun, CountedEvents};
 use machine::{Decider, DueTicks, KeptCode, Levels, Machine, Stop};
 use std::marker::Brand;
 use survey::{Moment, Survey};
+use world_run::WorldCount;
 
-/// Makes at most `limit` steps, up to the first stop, and counts each of them. Writes nothing. Returns the stop,
-/// `StepLimit` where the machine hasn't stopped.
+/// Makes at most `limit` steps, up to the first stop, and counts each of them, in the survey and, if it runs in a world,
+/// in the worlds. Writes nothing. Returns the stop, `StepLimit` where the machine hasn't stopped.
 pub fn survey_run<D: Decider, C: KeptCode, L: Levels, U: DueTicks>(
     machine: &mut Machine<D, C, L, U>,
     limit: u64,
     survey: &mut Survey,
+    count: &mut WorldCount,
 ) -> Stop
     ensures state { machine.new ≡ record machine.old { state = after limit machine.old.state } }
     ensures survey { survey.new ≡ surveyed limit machine.old.state survey.old }
+    ensures worlds { count.new.worlds ≡ worlds_after limit machine.old.state count.old.worlds }
     ensures stop { result ≡ ending_of limit machine.old.state }
 {
     let mut moment = moment_of(machine);
+    count.begin(machine);
     let mut made = 0;
     'steps: while made < limit {
         if machine.stop().is_some() {
             break;
         }
         made += 1;
-        survey_step(machine, &mut moment, survey);
+        survey_step(machine, &mut moment, survey, count);
     }
     machine.stop().unwrap_or(Stop::StepLimit)
 }
 
 /// Makes a step that begins at a moment, and counts it. The moment becomes that of the next step.
 #[inline(always)]
-#[tactic(auto, using(crate::proofs::OneMore::still_known))]
+#[tactic(auto, using(crate::proofs::OneMore::still_known, world_run::proofs::Stepping::still_known))]
 fn survey_step<D: Decider, C: KeptCode, L: Levels, U: DueTicks>(
     machine: &mut Machine<D, C, L, U>,
     moment: &mut Moment,
     survey: &mut Survey,
+    count: &mut WorldCount,
 )
-    requires { moment.old ≡ moment_of machine.old.state }
+    requires moment { moment.old ≡ moment_of machine.old.state }
+    requires mpu { count.old.mpu ≡ machine.old.state.bus.system.mpu }
     ensures state { machine.new ≡ record machine.old { state = (step machine.old.state).state } }
     ensures survey { survey.new ≡ with_made_step machine.old.state survey.old }
+    ensures worlds { count.new.worlds ≡ with_step machine.old.state count.old.worlds }
     ensures moment { moment.new ≡ moment_of machine.new.state }
+    ensures mpu { count.new.mpu ≡ machine.new.state.bus.system.mpu }
 {
+    count.count_next(machine);
     survey.begin_step(moment);
     let wrote_system = count_step::<Brand, D, C, L, U>(machine, moment, survey);
     survey.end_step();
     move_on(machine, moment, wrote_system);
+    count.follow(machine, wrote_system);
 }
 
 /// Makes a step that begins so, and counts its events. Returns whether one of them is a write to the Private

@@ -1,3 +1,3 @@
-mod Counted
-mod Stepping
+pub mod Counted
+pub mod Stepping
 mod Written

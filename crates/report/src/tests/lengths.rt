@@ -1,9 +1,11 @@
 //! How long a page is at most: the page of a survey in which each part is filled.
 
 use super::pages::IMAGE;
+use super::worlds::world_of;
 use crate::rules::OUTCOMES;
 use crate::words::{KINDS, RULE_ROWS, rule_of_row};
-use crate::{Report, write_page};
+use crate::{AccessTable, Report, write_page};
+use access_map::Worlds;
 use elf::load;
 use machine::{Board, Events, Fast, Kind, Layout, Place, RegionCount, Rule, Stop};
 use platform::access::{Access, Cause, DecidedAccess};
@@ -46,6 +48,15 @@ const COLUMN_TICKS: usize = 32;
 
 /// RASR of a region of 256 bytes with the longest words: all may be done, and all subregions are off.
 const LONGEST_SETTING: u32 = 0x0300_FF0F;
+
+/// How many worlds there are: one more than have columns.
+const WORLDS: u32 = 9;
+
+/// RASR of a region of 2^32 bytes that may be read and written.
+const EVERYWHERE: u32 = 1 << 28 | 3 << 24 | 31 << 1 | 1;
+
+/// RASR of a region of 256 bytes that may be read, written and executed, with every second subregion off.
+const EVERY_SECOND: u32 = 3 << 24 | 0xAA << 8 | 7 << 1 | 1;
 
 /// A survey that is filled, its machine, and an access of two bytes.
 #[derive(Drop)]
@@ -258,6 +269,18 @@ impl Filled {
     }
 }
 
+/// Returns steps of one world more than have columns. Each may read and write all of RAM, and may execute subregions of
+/// its own.
+fn shared_worlds(rt: &HostRuntime) -> Result<Worlds, Fail> {
+    let mut worlds = Worlds::new(rt.alloc())?;
+    'worlds: for world in 0..WORLDS {
+        let base = world.wrapping_mul(256).wrapping_add(0x2000_0000);
+        let regions = [(0, EVERYWHERE), (base, EVERY_SECOND)];
+        worlds.count(&world_of(&regions)?, u64::MAX, 0);
+    }
+    Ok(worlds)
+}
+
 /// Returns the page of a filled survey, in which each name is one that is cut, of characters of the longest escapes.
 fn longest_page(rt: &HostRuntime, filled: &Filled) -> Result<Vec<u8>, Fail> {
     let name = "\u{E0001}".repeat(rt.alloc(), 97)?;
@@ -279,6 +302,8 @@ fn longest_page(rt: &HostRuntime, filled: &Filled) -> Result<Vec<u8>, Fail> {
         list,
         damaged: false,
     };
+    let worlds = shared_worlds(rt)?;
+    let access_table = AccessTable::of(rt.alloc(), &worlds, &LARGEST_BOARD)?;
     let report = Report {
         image: name.as_str(),
         board: name.as_str(),
@@ -287,6 +312,8 @@ fn longest_page(rt: &HostRuntime, filled: &Filled) -> Result<Vec<u8>, Fail> {
         survey: &filled.survey,
         machine: &filled.machine,
         symbols: &symbols,
+        worlds: &worlds,
+        access_table: &access_table,
     };
     let mut page = Vec::new(rt.alloc());
     write_page(&mut page, &report)?;
@@ -308,6 +335,13 @@ fn the_longest_page_has_less_than_2_mebibytes(rt: HostRuntime) -> Result<(), Fai
     assert!(rt; text.contains("id='other-settings' data-number='42'"));
     assert!(rt; text.contains("<tr id='code-19'") && text.contains("<tr id='code-others'"));
     assert!(rt; text.contains("id='lane-other-handlers' data-columns='512'"));
+    assert!(rt; text.contains("<tr id='may-63'") && text.contains("id='other-rows'"));
+    assert!(rt; text.contains("id='shares-63'") && text.contains("id='other-shares'"));
+    assert!(rt;
+        text.contains(
+            "<td class='changes' data-label='world 8'><code>rw-</code> <b>→ 1 2 3 4 5 6 7</b>"
+        )
+    );
     assert!(rt;
         most < MOST_PAGE_BYTES,
         "{most} bytes, of which {digits} are of digits"

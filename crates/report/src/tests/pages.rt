@@ -1,6 +1,7 @@
 //! The page of a run of two steps.
 
-use crate::{HtmlPage, Report, write_page};
+use crate::{AccessTable, HtmlPage, Report, write_page};
+use access_map::Worlds;
 use elf::load;
 use machine::{Board, Events, Fast, SMALL_BOARD, Stop};
 use std::io::Write;
@@ -67,6 +68,8 @@ fn write_to(rt: &HostRuntime, room: &mut Room, symbols: &Symbols<'_>) -> Result<
     let mut survey = Survey::new(alloc, &SMALL_BOARD)?;
     let _ = survey_step(&mut machine, &mut survey);
     let stop = survey_step(&mut machine, &mut survey);
+    let worlds = Worlds::new(alloc)?;
+    let access_table = AccessTable::of(alloc, &worlds, &SMALL_BOARD)?;
     let report = Report {
         image: "images/<first>.elf",
         board: "small.toml",
@@ -75,6 +78,8 @@ fn write_to(rt: &HostRuntime, room: &mut Room, symbols: &Symbols<'_>) -> Result<
         survey: &survey,
         machine: &machine,
         symbols,
+        worlds: &worlds,
+        access_table: &access_table,
     };
     Ok(write_page(room, &report).is_ok())
 }
@@ -88,7 +93,7 @@ fn room_for(rt: &HostRuntime, left: usize) -> Room {
 }
 
 /// Returns the symbols of a table in which `start` is at 8, of 4 bytes.
-fn start_symbol(rt: &HostRuntime) -> Result<Symbols<'static>, Fail> {
+pub(super) fn start_symbol(rt: &HostRuntime) -> Result<Symbols<'static>, Fail> {
     let mut list = Vec::new(rt.alloc());
     list.push(Symbol {
         address: 8,

@@ -2,6 +2,8 @@ use Rattle.std.proofs.Common.{◌≡◌, ◌⊎◌, inl, inr, ◌∙◌, sym, ap
 use Rattle.machine.proofs.Running.{ends_so, not_some}
 use Rattle.machine.specs.Whole.{Whole}
 use Rattle.survey_run.proofs.Counted.{all_surveyed, machine_on, none_made, none_surveyed, surveyed_on, whole_made}
+use Rattle.world_run.specs.Seen.{Counting}
+use Rattle.world_run.proofs.Counted.{all_counted, counted_on, none_counted}
 use Rattle.survey_run.proofs.survey_run.Goals as goal
 use Rattle.survey_run.proofs.survey_run.Goals.{else-steps-test, then-steps-test+then-is_some}
 
@@ -10,7 +12,11 @@ steps-init g c = record {
   few = omega arith;
   machine = none_made c.args.machine.now;
   counted = sym (none_surveyed c.args.machine.now.state c.args.survey.now);
+  worlds =
+      ap (λ (k : Counting). k.worlds) c.begin.ensures
+      ∙ sym (none_counted c.args.machine.now.state c.args.count.now.worlds);
   moment = c.moment_of-moment.ensures;
+  mpu = ap (λ (k : Counting). k.mpu) c.begin.ensures;
 }
 
 pub steps-preserved : goal.steps-preserved
@@ -23,7 +29,9 @@ steps-preserved g c =
       counted =
           c.survey_step.ensures.survey
           ∙ surveyed_on _ _ _ _ _ now (not_some _ going) c.steps.invariant.counted;
+      worlds = c.survey_step.ensures.worlds ∙ counted_on _ _ _ _ _ now c.steps.invariant.worlds;
       moment = c.survey_step.ensures.moment;
+      mpu = c.survey_step.ensures.mpu;
     }
 
 pub returns-clause-state : goal.returns-clause-state
@@ -38,6 +46,13 @@ returns-clause-survey g c =
     elim c.steps-test.branch [ else-steps-test w ↦ inl (omega arith) | then-steps-test+then-is_some w ↦ inr cc ] in
     let now = ap (λ (m : Whole). m.state) c.steps.invariant.machine in
     all_surveyed _ _ _ _ _ _ c.steps.invariant.few now c.steps.invariant.counted ends
+
+pub returns-clause-worlds : goal.returns-clause-worlds
+returns-clause-worlds g c =
+    let ends : (c.steps.made ≡ c.args.limit) ⊎ IsSome c.steps.machine.state.stop =
+    elim c.steps-test.branch [ else-steps-test w ↦ inl (omega arith) | then-steps-test+then-is_some w ↦ inr cc ] in
+    let now = ap (λ (m : Whole). m.state) c.steps.invariant.machine in
+    all_counted _ _ _ _ _ _ c.steps.invariant.few now c.steps.invariant.worlds ends
 
 pub returns-clause-stop : goal.returns-clause-stop
 returns-clause-stop g c =

@@ -1,11 +1,13 @@
 //! What a run of a machine is counted as.
 
+use access_map::Worlds;
 use elf::load;
 use machine::{Board, Fast, SMALL_BOARD, Stop};
 use platform::access::{Kind, Rule};
 use std::test::*;
 use survey::{Mark, Survey, Touch};
 use survey_run::survey_run;
+use world_run::WorldCount;
 
 /// An ELF file with this code from address 8 on, which begins there:
 ///
@@ -32,12 +34,14 @@ fn a_run_is_counted(rt: HostRuntime) -> Result<(), Fail> {
     let image = load(&IMAGE)?;
     let mut machine = Fast::new(rt.alloc(), &image, &board)?;
     let mut survey = Survey::new(rt.alloc(), &SMALL_BOARD)?;
-    let first = survey_run(&mut machine, 3, &mut survey);
+    let mut count = WorldCount::new(Worlds::new(rt.alloc())?);
+    let first = survey_run(&mut machine, 3, &mut survey, &mut count);
     assert!(rt; matches!(first, Stop::StepLimit));
     assert!(rt; survey.steps == 3);
-    let second = survey_run(&mut machine, 100, &mut survey);
+    let second = survey_run(&mut machine, 100, &mut survey, &mut count);
     assert!(rt; matches!(second, Stop::Breakpoint(0)));
     assert!(rt; survey.steps == 5);
+    assert!(rt; count.worlds().rows().is_empty());
     'kinds: for (kind, number) in [(Kind::Fetch, 5), (Kind::Load, 2), (Kind::Store, 1)] {
         assert!(rt; survey.counts.number(Rule::MpuOff, true, kind, None) == number);
     }
