@@ -4,7 +4,7 @@ use Rattle.command.proofs.telling.tell_run.Goals as goal
 
 pub returns : goal.returns
 returns g c =
-    told_run _ c.args.file.now _ c.args.opened.machine.state _ _ _ _ _ _ _ _ c.in-Ok-read.ensures.strings
+    told_run _ c.args.file.now _ _ c.args.opened.machine.state _ _ _ _ _ _ _ _ c.in-Ok-read.ensures.strings
     c.in-Ok-read.ensures.list c.as_slice-allowed.ensures.value
     (counted_from_none _ _ _ _ _ c.worlds-2.ensures c.world_run-stop.ensures.worlds
     (c.new-count.ensures ∙ c.in-Ok.ensures))
