@@ -2,3 +2,4 @@ mod Dumped
 mod Ends
 mod Sent
 mod Waiting
+mod Texts

@@ -6,3 +6,4 @@ pub mod Running
 pub mod Sending
 pub mod Sessions
 pub mod Statuses
+pub mod Tasks

@@ -12,11 +12,12 @@ use Rattle.command.specs.Running.{RunsOn}
 use Rattle.command.specs.Sending.{IsCut, SendsAll}
 use Rattle.command.specs.Sessions.{SessionTo}
 use Rattle.command.specs.Statuses.{file_status, most_bytes, run_status}
+use Rattle.command.specs.Tasks.{TasksTo}
 use Rattle.command_line.specs.Notices.{Takes}
 use Rattle.command_line.specs.declared.dumps.Dump.{Dump}
 use Rattle.command_line.specs.declared.subcommands.RunOptions.{RunOptions}
 use Rattle.command_line.specs.declared.subcommands.Subcommand.{Subcommand}
-use Rattle.command_line.specs.declared.subcommands.Subcommand.TheVariants.{Run, Report, Debug}
+use Rattle.command_line.specs.declared.subcommands.Subcommand.TheVariants.{Run, Report, Tasks, Debug}
 use Rattle.command_line.specs.declared.words.WordsError.{WordsError}
 use Rattle.command_line.specs.declared.words.WordsError.TheVariants.{Wrong, Help, Version, OutOfMemory}
 use Rattle.output.specs.Input.{Reading}
@@ -59,14 +60,17 @@ pub record RunsAndSaves (image : Result (List Segment) LoadError) (board : Resul
   pub dumps : DumpsAfter run.dumps.items ran done
   pub is : status ≡ run_status run.expect ran done
 
--- what each subcommand does; a debug session alone reads standard input
-abbrev pub Performs : Subcommand → Result (List Segment) LoadError → Result Described BoardError → Reading → Reading
-    → Writing → Writing → ℕ → Type 0
+-- what each subcommand does with the bytes of an image; a debug session alone reads standard input
+abbrev pub Performs : Subcommand → List ℕ → Result Described BoardError → Reading → Reading → Writing → Writing → ℕ
+    → Type 0
 Performs (Run run) image board before after old new status =
-    RunsAndSaves image board run old new status × (after ≡ before)
+    RunsAndSaves (image_of image) board run old new status × (after ≡ before)
 Performs (Report report) image board before after old new status =
-    ReportsTo image board report.steps old new status × (after ≡ before)
-Performs (Debug debug) image board before after old new status = SessionTo image board debug.slots before after old new status
+    ReportsTo (image_of image) board report.steps old new status × (after ≡ before)
+Performs (Tasks tasks) image board before after old new status =
+    TasksTo image board tasks old new status × (after ≡ before)
+Performs (Debug debug) image board before after old new status =
+    SessionTo (image_of image) board debug.slots before after old new status
 
 -- ---- with the files
 
@@ -84,7 +88,7 @@ pub record PerformsFiles (subcommand : Subcommand) (before after : Reading) (old
     pub board : List ℕ
     pub image_fits : length image ≤ most_bytes
     pub board_fits : length board ≤ most_bytes
-    pub performs : Performs subcommand (image_of image) (board_in_file board) before after old new status
+    pub performs : Performs subcommand image (board_in_file board) before after old new status
 
 abbrev pub DoesSubcommand : Subcommand → Reading → Reading → Writing → Writing → ℕ → Type 0
 DoesSubcommand subcommand before after old new status =

@@ -20,6 +20,7 @@ use crate::running::{end, run, state_file};
 use crate::sending::send;
 use crate::state_file::StateFile;
 use crate::streams::over_streams;
+use crate::telling::tasks;
 use command_line::{RunOptions, Subcommand, WordsError, subcommand_of};
 use machine::{In, Out, Over};
 use messages::{Escaped, Messages};
@@ -154,7 +155,7 @@ fn do_subcommand<R: Files + AllocGlobal, I: In, O: Out, E: Write>(
     perform(rt, subcommand, image, board, input, out, err)
 }
 
-/// Runs, reports or debugs an image on a board, as the subcommand says.
+/// Runs, reports, tells the worlds of, or debugs an image on a board, as the subcommand says.
 fn perform<R: Files + AllocGlobal, I: In, O: Out, E: Write>(
     rt: &R,
     subcommand: Subcommand<'_>,
@@ -164,7 +165,7 @@ fn perform<R: Files + AllocGlobal, I: In, O: Out, E: Write>(
     out: &mut O,
     err: &mut E,
 ) -> u8
-    ensures { Performs subcommand.entry (image_of image.entry.bytes.now) (board_in_file board.entry.bytes.now)
+    ensures { Performs subcommand.entry image.entry.bytes.now (board_in_file board.entry.bytes.now)
         (I.reading input.old) (I.reading input.new) (O.writing out.old) (O.writing out.new) result }
 {
     match subcommand {
@@ -172,6 +173,7 @@ fn perform<R: Files + AllocGlobal, I: In, O: Out, E: Write>(
             run_and_save::<R, O, E, Brand>(rt, image, board, options, out, err, Blank::new(1))
         }
         Subcommand::Report(options) => report(rt.alloc(), image, board, options.steps, out, err),
+        Subcommand::Tasks(options) => tasks(rt.alloc(), image, board, &options, out, err),
         Subcommand::Debug(options) => {
             debug(rt.alloc(), image, board, options.slots, input, out, err)
         }

@@ -1,5 +1,5 @@
 //! The command `marm`: the files that its arguments name, a run from the bytes of an image and of a board to
-//! the bytes of a trace, a page about such a run, and a debug session.
+//! the bytes of a trace, a page about such a run, the text about its worlds, and a debug session.
 #![tactic(auto)]
 
 mod commands;
@@ -15,6 +15,7 @@ mod running;
 mod sending;
 mod state_file;
 mod streams;
+mod telling;
 
 pub use command_line::{Subcommand, WordsError};
 pub use commands::{answer, program, refuse_words};
@@ -25,3 +26,4 @@ pub use opening::{Opened, open};
 pub use reason::write_reason;
 pub use reporting::report;
 pub use running::{Ran, run};
+pub use telling::{Told, tasks};

@@ -1,6 +1,6 @@
 -- The worlds after one step more, and after a stop.
-use Rattle.std.proofs.Common.{◌≡◌, ◌⊎◌, inl, inr, ℕ, zero, suc, ◌+◌, ◌-◌, ◌≤◌, Bool, true, false, not, ◌&&◌, if◌then◌else◌}
-use Rattle.std.proofs.Common.{Option, Some, None, IsSome, refl, sym, ◌∙◌, ap, add-one, add-zero, arith}
+use Rattle.std.proofs.Common.{◌≡◌, ◌⊎◌, inl, inr, ℕ, zero, suc, ◌+◌, ◌-◌, ◌≤◌, Bool, true, false, not, ◌&&◌}
+use Rattle.std.proofs.Common.{if◌then◌else◌, Option, Some, None, IsSome, refl, sym, ◌∙◌, ap, add-one, add-zero, arith}
 use Rattle.std.proofs.Math.Bool.{and-false}
 use Rattle.instruction_set.specs.Registers.{is_handler}
 use Rattle.platform.specs.declared.stop.Stop.{Stop}

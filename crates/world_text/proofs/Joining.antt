@@ -1,6 +1,6 @@
 -- One part of a text more, of parts one after another.
-use Rattle.std.proofs.Common.{◌≡◌, ◌∙◌, refl, sym, subst, ℕ, ◌+◌, ◌<◌, List, [], ◌∷◌, ◌++◌, drop, length, get_or, add-one}
-use Rattle.std.proofs.Common.{ap}
+use Rattle.std.proofs.Common.{◌≡◌, ◌∙◌, refl, sym, subst, ℕ, ◌+◌, ◌<◌, List, [], ◌∷◌, ◌++◌, drop, length, get_or}
+use Rattle.std.proofs.Common.{add-one, ap}
 use Rattle.std.proofs.Math.Seq.{drop-cons}
 use Rattle.std.proofs.lemmas.List.{append_assoc, append-nil}
 use Rattle.world_text.specs.WorldText.{IsFollowed}
@@ -10,8 +10,8 @@ pub rows_from : {X : Type 0} (xs : List X) (i : ℕ) (x d : X) → i < length xs
     → drop i xs ≡ x ∷ drop (i + 1) xs
 rows_from xs i x d below is = rw (add-one, is) (drop-cons xs i d below)
 
--- Rows make a text, `Texts`, which is the text of the first of them followed by that of the later ones. What the text so
--- far lacks is that of all these rows; with the text of the first row it lacks that of the later ones.
+-- Rows make a text, `Texts`, which is the text of the first of them followed by that of the later ones. What the text
+-- so far lacks is that of all these rows; with the text of the first row it lacks that of the later ones.
 pub part_on : {Row : Type 0} (Texts : List Row → List ℕ → Type 0) (First Rest Goal : List ℕ → Type 0)
     (rows : List Row) (row : Row) (later : List Row) (text lines new : List ℕ) → rows ≡ row ∷ later → First lines
     → new ≡ text ++ lines

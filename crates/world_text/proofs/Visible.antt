@@ -38,3 +38,5 @@ pub named_shows_name : (strings : List ℕ) (a : ℕ) (o : Option Symbol) (name 
     → Names strings a o name offset → visible_name name ≡ name_of strings o
 named_shows_name strings a None name offset h = absurd h
 named_shows_name strings a (Some s) name offset h = ap visible_name h.0
+
+pub ruleset shown_lemmas = (nameless_shows_none, named_shows_name)

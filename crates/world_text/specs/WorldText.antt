@@ -42,13 +42,13 @@ others_shown n = if n == 0 then [] else others_text n
 -- ---- the pairs
 
 -- what worlds j and k share with one another, but for bytes that are allowed
-pub record IsPairText (board : Numbers) (allowed : List Span) (j : ℕ) (v : World) (k : ℕ) (w : World) (text : List ℕ) : Type 0
-  where
-    pub there : List Span
-    pub back : List Span
-    pub are_there : AreShared board v w allowed there
-    pub are_back : AreShared board w v allowed back
-    pub is : text ≡ pair_text j k there back
+pub record IsPairText (board : Numbers) (allowed : List Span) (j : ℕ) (v : World) (k : ℕ) (w : World)
+    (text : List ℕ) : Type 0 where
+  pub there : List Span
+  pub back : List Span
+  pub are_there : AreShared board v w allowed there
+  pub are_back : AreShared board w v allowed back
+  pub is : text ≡ pair_text j k there back
 
 -- the texts of the pairs of world j with worlds of which the first has the number k
 abbrev pub ArePairTexts : Numbers → List Span → ℕ → World → ℕ → List WorldSteps → List ℕ → Type 0
@@ -65,13 +65,13 @@ AreAllPairTexts board allowed j (row ∷ rows) text =
 -- ---- the whole
 
 -- the text about the worlds of a run: each with its map, the further steps, each pair, and the line of the stop
-pub record IsWorldsText (board : Numbers) (name : ℕ → List ℕ) (allowed : List Span) (v : Worlds) (why : Stop) (text : List ℕ) : Type 0
-  where
-    pub worlds : List ℕ
-    pub pairs : List ℕ
-    pub are_worlds : AreWorldTexts board name 1 (take v.used v.rows) worlds
-    pub are_pairs : AreAllPairTexts board allowed 1 (take v.used v.rows) pairs
-    pub is : text ≡ ((worlds ++ others_shown v.others) ++ pairs) ++ stop_line why
+pub record IsWorldsText (board : Numbers) (name : ℕ → List ℕ) (allowed : List Span) (v : Worlds) (why : Stop)
+    (text : List ℕ) : Type 0 where
+  pub worlds : List ℕ
+  pub pairs : List ℕ
+  pub are_worlds : AreWorldTexts board name 1 (take v.used v.rows) worlds
+  pub are_pairs : AreAllPairTexts board allowed 1 (take v.used v.rows) pairs
+  pub is : text ≡ ((worlds ++ others_shown v.others) ++ pairs) ++ stop_line why
 
 -- every two worlds are apart, and there are no steps in further ones
 pub record AreAllApart (board : Numbers) (allowed : List Span) (v : Worlds) : Type 0 where

@@ -7,7 +7,7 @@ ghost use Rattle.world_text.specs.Names.{is_visible, shown_name, visible_name};
 use symbols::Symbols;
 
 /// Returns the name of the symbol that names an address, or none where a byte of it isn't a visible character of ASCII.
-#[tactic(auto, unfolding(crate::specs::Names::shown_name), using(crate::proofs::Visible::nameless_shows_none, crate::proofs::Visible::named_shows_name))]
+#[tactic(auto, unfolding(crate::specs::Names::shown_name), using(crate::proofs::Visible::shown_lemmas))]
 pub fn shown_name<'a>(symbols: &Symbols<'a>, address: u32) -> &'a [u8]
     ensures { result.now ≡ shown_name symbols.now.strings.now symbols.now.list.items address }
 {

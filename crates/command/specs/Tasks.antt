@@ -1,0 +1,84 @@
+-- The worlds of a run: the text about them, and the exit status.
+use Rattle.std.specs.Prelude.{◌≡◌, ◌⊎◌, ℕ, Bool, if◌then◌else◌, List, Result, Ok, Err}
+use Rattle.std.specs.Bool.{Decides}
+use Rattle.access_map.specs.Counting.{Worlds, no_worlds}
+use Rattle.command.specs.declared.error.Error.{Error}
+use Rattle.command.specs.declared.error.Error.TheVariants.{Start, Io}
+use Rattle.command.specs.declared.opening.Opened.{Opened}
+use Rattle.command.specs.declared.telling.Told.{Told}
+use Rattle.command.specs.Opening.{Opens}
+use Rattle.command.specs.Sending.{IsCut, SendsAll}
+use Rattle.command.specs.Statuses.{error_status, stop_status}
+use Rattle.command_line.specs.declared.subcommands.TasksOptions.{TasksOptions}
+use Rattle.mpu.specs.declared.spans.Span.{Span}
+use Rattle.output.specs.Output.{Writing}
+use Rattle.platform.specs.declared.error.BoardError.{BoardError}
+use Rattle.platform.specs.declared.error.StartError.TheVariants.{NoMemory}
+use Rattle.platform.specs.declared.stop.Stop.{Stop}
+use Rattle.platform.specs.Boards.{Described, Numbers, numbers_of}
+use Rattle.platform.specs.Images.{image_of}
+use Rattle.reference.specs.Run.{ending_of}
+use Rattle.reference.specs.State.{State}
+use Rattle.symbols.specs.Tables.{places_of, strings_in, symbols_in}
+use Rattle.world_run.specs.WorldRuns.{worlds_after}
+use Rattle.world_text.specs.Names.{shown_name}
+use Rattle.world_text.specs.WorldText.{AreAllApart, IsWorldsText}
+
+-- ---- a text about worlds is sent; `name` is the name of an address
+
+-- the whole text went out
+pub record SendsText (board : Numbers) (name : ℕ → List ℕ) (allowed : List Span) (v : Worlds) (why : Stop)
+    (old new : Writing) : Type 0 where
+  pub text : List ℕ
+  pub is_text : IsWorldsText board name allowed v why text
+  pub sends : SendsAll text old new
+
+-- a call of the writer failed, and what was put is a prefix of the text
+pub record CutsText (board : Numbers) (name : ℕ → List ℕ) (allowed : List Span) (v : Worlds) (why : Stop)
+    (old new : Writing) : Type 0 where
+  pub text : List ℕ
+  pub is_text : IsWorldsText board name allowed v why text
+  pub cut : IsCut text old new
+
+-- the text was sent, and it is told why the run ended and whether all worlds are apart; or memory ran out, and nothing
+-- was put; or a call of the writer failed
+abbrev pub Tells : Numbers → (ℕ → List ℕ) → List Span → Worlds → Stop → Writing → Writing → Result Told Error → Type 0
+Tells board name allowed v why old new (Ok told) =
+    (told.stop ≡ why) × Decides told.apart (AreAllApart board allowed v) × SendsText board name allowed v why old new
+Tells board name allowed v why old new (Err error) =
+    ((error ≡ Start NoMemory) × (new ≡ old)) ⊎ ((error ≡ Io) × CutsText board name allowed v why old new)
+
+-- ---- a run
+
+-- the name of an address in a file: that of the symbol that names it, or none
+abbrev pub name_in_file : List ℕ → ℕ → List ℕ
+name_in_file file = shown_name (strings_in file (places_of file)) (symbols_in file (places_of file))
+
+-- the worlds of the reference machine's run from a state, with the names of a file, are told
+abbrev pub TellsRun : Numbers → List ℕ → TasksOptions → State → Writing → Writing → Result Told Error → Type 0
+TellsRun board file tasks s old new result =
+    Tells board (name_in_file file) tasks.allowed.items (worlds_after tasks.steps s no_worlds)
+    (ending_of tasks.steps s) old new result
+
+-- a run of a machine before its first step; or a refusal, with which nothing is put
+abbrev pub TellsFrom : List ℕ → TasksOptions → Result Opened Error → Writing → Writing → Result Told Error → Type 0
+TellsFrom file tasks (Ok opened) old new result =
+    TellsRun (numbers_of opened.layout) file tasks opened.machine.state old new result
+TellsFrom file tasks (Err error) old new result = (result ≡ Err error) × (new ≡ old)
+
+-- 0 where all worlds are apart, else 1, where that is expected; otherwise the status of the stop
+abbrev pub told_status : Bool → Told → ℕ
+told_status expected told = if expected then (if told.apart then 0 else 1) else stop_status told.stop
+
+abbrev pub tasks_status : Bool → Result Told Error → ℕ
+tasks_status expected (Ok told) = told_status expected told
+tasks_status expected (Err error) = error_status error
+
+-- the image in a file is run on a board, its worlds are told, and the status is that of the end
+pub record TasksTo (file : List ℕ) (board : Result Described BoardError) (tasks : TasksOptions) (old new : Writing)
+    (status : ℕ) : Type 0 where
+  pub opened : Result Opened Error
+  pub opens : Opens (image_of file) board opened
+  pub result : Result Told Error
+  pub tells : TellsFrom file tasks opened old new result
+  pub is : status ≡ tasks_status tasks.expect_apart result
