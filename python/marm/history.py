@@ -5,7 +5,7 @@ from __future__ import annotations
 from typing import Callable, Optional
 
 from .conditions import Until
-from .requests import putting, restoring
+from .requests import putting, restore
 from .results import Ran
 from .session import Saved, Session
 
@@ -18,7 +18,7 @@ def replay(session: Session, run: Run, since: Saved, tick: int) -> None:
     later = _after(session, since)
     if not since.tick <= tick <= session.status.tick:
         raise ValueError(f"tick {tick} isn't between {since.tick} and {session.status.tick}")
-    session.do(restoring(session, since))
+    restore(session, since)
     for at, command in later:
         if at > tick:
             break
@@ -33,7 +33,7 @@ def last(session: Session, run: Run, until: Until, since: Saved) -> Optional[Ran
     later = _after(session, since)
     end = session.status.tick
     found: Optional[Ran] = None
-    session.do(restoring(session, since))
+    restore(session, since)
     for at, command in [*later, (end, "")]:
         while session.status.tick < at:
             ran = run(at - session.status.tick, until)

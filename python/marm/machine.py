@@ -106,13 +106,13 @@ class Machine:
     def tick(self) -> int:
         """The clock, in ticks: how many steps were made since the start."""
         self._session.settle()
-        return self._session.status.tick
+        return self._session.place.tick
 
     @property
     def pc(self) -> int:
         """The address of the next instruction."""
         self._session.settle()
-        return self._session.status.pc
+        return self._session.place.pc
 
     @property
     def next(self) -> str:
@@ -124,7 +124,7 @@ class Machine:
     def stop(self) -> Optional[Stop]:
         """Why the machine has stopped, or None."""
         self._session.settle()
-        return self._session.status.stop
+        return self._session.place.stop
 
     @property
     def regs(self) -> Registers:
@@ -195,19 +195,22 @@ class Machine:
     def pulse(self, line: int) -> None:
         """Pulses an interrupt line: in the next tick, as an event of the board's script. PlaceRefused where the board
         has no such line, and where the machine has stopped."""
-        self._session.do(requests.signalling(self._session, "pulse", line))
+        self._signal("pulse", line)
 
     def rise(self, line: int) -> None:
         """Raises an interrupt line, which stays high; as `pulse`."""
-        self._session.do(requests.signalling(self._session, "rise", line))
+        self._signal("rise", line)
 
     def fall(self, line: int) -> None:
         """Lowers an interrupt line; as `pulse`."""
-        self._session.do(requests.signalling(self._session, "fall", line))
+        self._signal("fall", line)
 
     def nmi(self) -> None:
         """Makes NMI pending in the next tick. PlaceRefused where the machine has stopped."""
-        self._session.do(requests.putting(self._session, "signal nmi"))
+        requests.signal(self._session, "nmi", True)
+
+    def _signal(self, what: str, line: int) -> None:
+        requests.signal(self._session, f"{what} {line}", 0 <= line < self.lines)
 
     # ---- decisions ---------------------------------------------------------------------------------------------------
 
@@ -304,7 +307,7 @@ class Machine:
 
     def restore(self, saved: Saved) -> None:
         """Goes back to a saved state, any number of times. ValueError where it was freed, or is another machine's."""
-        self._session.do(requests.restoring(self._session, saved))
+        requests.restore(self._session, saved)
 
     @contextmanager
     def saved(self) -> Iterator[Saved]:

@@ -96,6 +96,17 @@ def signalling(session: Session, what: str, line: int) -> Request[None]:
     return putting(session, f"signal {what} {line}")
 
 
+def signal(session: Session, what: str, is_there: bool) -> None:
+    """Signals what an event of the board's script does, `pulse 0` say. Where the board has that line and the machine
+    hasn't stopped, nothing can refuse it: it goes out with the next command."""
+    session.settle()
+    command = f"signal {what}"
+    if session.place.stop is not None or not is_there:
+        return session.do(putting(session, command))
+    session.owe(command)
+    session.log.append((session.place.tick, command))
+
+
 # ---- decisions -------------------------------------------------------------------------------------------------------
 
 
@@ -188,9 +199,20 @@ def saving(session: Session, saved: Saved) -> Request[None]:
 
     def read(answers: Sequence[Answer]) -> None:
         _ok(answers[0])
-        saved.keep(session, int(answers[0].end.partition(" ")[0]))
+        saved.keep(session, answers[0].end)
 
     return Request((f"save {saved.slot(session)}",), read)
+
+
+def restore(session: Session, saved: Saved) -> None:
+    """Goes back to a saved state: with the next command, since what the program would answer is known."""
+    session.settle()
+    command = f"back {saved.slot(session)}"
+    if not saved.end:
+        return session.do(restoring(session, saved))
+    session.owe(command, saved.end)
+    session.console[:] = saved.console
+    session.log[:] = saved.log
 
 
 def restoring(session: Session, saved: Saved) -> Request[None]:

@@ -69,13 +69,22 @@ class Session:
         self.ahead: Optional[Ahead] = None
         self.free_slots: list[int] = []
         self.end_before = ""  # the end line before the answers that are being read
+        self._owed: list[str] = []  # commands that are answered `ok`, and go out with the next ones
         self._settings: Optional[Settings] = None
         self._end = ""  # that of the last answer
+        self._is_end_known = True  # unless a signal is owed, which may change the kind of the next step
         self._status: Optional[Status] = None  # what it says, where it was asked for
 
     @property
     def status(self) -> Status:
-        """What the last end line says."""
+        """Where the machine is."""
+        if not self._is_end_known:
+            self._exchange([])
+        return self.place
+
+    @property
+    def place(self) -> Status:
+        """The same, but that a signal which is owed may change the kind of the next step."""
         if self._status is None:
             try:
                 self._status = status_of(self._end)
@@ -150,6 +159,17 @@ class Session:
         except (ValueError, LookupError, TypeError, AttributeError) as error:
             self.refuse(f"not an answer to {[*changes, *request.commands]}: {answers}"[:500], error)
 
+    def owe(self, command: str, end: Optional[str] = None) -> None:
+        """Has a command go out with the next ones: one whose answer is `ok`, which saves an exchange. `end` is the end
+        line after it; None where only the kind of the next step may change."""
+        self.wire.check()
+        self._owed.append(command)
+        self._is_end_known = end is not None
+        if end is not None:
+            self.registers = None
+            self._status = None
+            self._end = end
+
     def run_again(self, commands: Sequence[str]) -> None:
         """Exchanges commands that change selection and conditions, and whose answers aren't looked at."""
         self._settings = None
@@ -163,19 +183,24 @@ class Session:
             raise error from cause
 
     def _exchange(self, commands: Sequence[str]) -> list[Answer]:
-        if not commands:
+        owed, self._owed = self._owed, []
+        if not owed and not commands:
             return []
-        answers = self.wire.exchange(commands)
+        answers = self.wire.exchange([*owed, *commands])
+        for command, answer in zip(owed, answers):
+            if answer.lines != ["ok"]:
+                self.wire.fail(ProtocolError(f"not `ok` to {command!r}: {answer.lines}"))
         self.registers = None
         self._status = None
         self._end = answers[-1].end
-        return answers
+        self._is_end_known = True
+        return answers[len(owed):]
 
 
 class Saved:
     """A state that was saved, at `tick`. Its slot is free again once nothing refers to it, or after `free`."""
 
-    __slots__ = ("tick", "console", "log", "_slot", "_free_slots")
+    __slots__ = ("tick", "end", "console", "log", "_slot", "_free_slots")
 
     def __init__(self, session: Session) -> None:
         """Takes a slot; `keep` says what is saved there. NoSlot where none is free."""
@@ -185,12 +210,14 @@ class Saved:
             raise NoSlot("no slot is free: free a saved state, or make the machine with more `slots`")
         self._slot = session.free_slots.pop()
         self.tick = -1
+        self.end = ""  # the end line of the state
         self.console = b""
         self.log: tuple[tuple[int, str], ...] = ()
 
-    def keep(self, session: Session, tick: int) -> None:
-        """Records what is known of the session as the state was saved."""
-        self.tick = tick
+    def keep(self, session: Session, end: str) -> None:
+        """Records what is known of the session as the state was saved: the answer's end line, console and log."""
+        self.tick = int(end.partition(" ")[0])
+        self.end = end
         self.console = bytes(session.console)
         self.log = tuple(session.log)
 

@@ -109,12 +109,7 @@ class Wire:
     def exchange(self, commands: Sequence[str]) -> list[Answer]:
         """Sends the commands at once and returns their answers. The program answers while commands wait in the pipe, so
         their number isn't bounded."""
-        if self.failed is not None:
-            raise self.failed
-        if not self.close.alive:
-            raise ValueError("the machine is closed")
-        if os.getpid() != self._owner:
-            raise ValueError("a fork of its process can't use a machine: make one there")
+        self.check()
         if not self._lock.acquire(blocking=False):
             raise ValueError("another thread is using the machine: make one for each thread")
         try:
@@ -125,6 +120,16 @@ class Wire:
             raise
         finally:
             self._lock.release()
+
+    def check(self) -> None:
+        """Raises the error that ended the session, if one did, and ValueError where it is closed or is another
+        process's."""
+        if self.failed is not None:
+            raise self.failed
+        if not self.close.alive:
+            raise ValueError("the machine is closed")
+        if os.getpid() != self._owner:
+            raise ValueError("a fork of its process can't use a machine: make one there")
 
     def fail(self, error: MarmError) -> NoReturn:
         """Ends the session by this error."""

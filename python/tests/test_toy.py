@@ -11,6 +11,7 @@ import threading
 import time
 import unittest
 from typing import Callable, Union
+from unittest import mock
 
 import marm
 from marm.interrupts import Uninterrupted
@@ -107,6 +108,26 @@ class Toys(laws.Laws):
         with m.batch() as b:
             b.pulse(0), b.rise(0), b.fall(0), b.nmi()
         self.assertEqual([m.run_to(marm.ENTRY).tick for _ in range(3)], [4, 5, 6])
+
+    def test_a_restore_and_a_signal_go_out_with_the_next_command(self) -> None:
+        m = self.m
+        saved = m.save()
+        with mock.patch.object(m._wire, "exchange", wraps=m._wire.exchange) as exchange:
+            m.run(30)
+            m.restore(saved)
+            m.pulse(0)
+            self.assertEqual((m.tick, m.pc, m.stop, m.console), (0, 0x100, None, b""))
+            self.assertEqual(exchange.call_count, 1)
+            self.assertEqual(m.run(1, trace="exceptions").lines, ["1 X 16"])
+            self.assertEqual(exchange.call_count, 2)
+            m.rise(1)
+            self.assertEqual((m.next, exchange.call_count), ("Instruction", 3))
+            with self.assertRaises(marm.PlaceRefused):
+                m.rise(2)
+            self.assertEqual(exchange.call_count, 4)
+            m.close()
+            with self.assertRaises(ValueError):
+                m.restore(saved)
 
     def test_expect(self) -> None:
         m = self.m
