@@ -10,7 +10,7 @@ use std::alloc::{AllocError, Global};
 pub const MOST_COLUMNS: usize = 8;
 
 /// How many rows the table has at most.
-pub const MOST_ROWS: usize = 40;
+pub const MOST_ROWS: usize = 32;
 
 /// How many sentences there are at most of bytes that one world shares with another.
 pub const MOST_SHARES: usize = 64;

@@ -335,7 +335,7 @@ fn the_longest_page_has_less_than_2_mebibytes(rt: HostRuntime) -> Result<(), Fai
     assert!(rt; text.contains("id='other-settings' data-number='42'"));
     assert!(rt; text.contains("<tr id='code-19'") && text.contains("<tr id='code-others'"));
     assert!(rt; text.contains("id='lane-other-handlers' data-columns='512'"));
-    assert!(rt; text.contains("<tr id='may-39'") && text.contains("id='other-rows'"));
+    assert!(rt; text.contains("<tr id='may-31'") && text.contains("id='other-rows'"));
     assert!(rt; text.contains("id='shares-63'") && text.contains("id='other-shares'"));
     assert!(rt;
         text.contains(
