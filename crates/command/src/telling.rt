@@ -112,7 +112,10 @@ fn end_told<E: Write>(told: Told, expected: bool, err: &mut E) -> u8
     } else if told.apart {
         0
     } else {
-        let _ = writeln!(err, "marm: expected apart, but a line begins with shares or others");
+        let _ = writeln!(
+            err,
+            "marm: expected apart, but a line begins with shares or others"
+        );
         1
     }
 }
