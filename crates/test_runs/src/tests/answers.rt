@@ -422,6 +422,7 @@ fn steps_of(alloc: Global, line: &str) -> Option<u64> {
     match subcommand_of(alloc, words.as_slice()).ok()? {
         Subcommand::Run(run) => Some(run.steps),
         Subcommand::Report(report) => Some(report.steps),
+        Subcommand::Tasks(tasks) => Some(tasks.steps),
         Subcommand::Debug(_) => None,
     }
 }
