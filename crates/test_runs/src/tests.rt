@@ -35,5 +35,4 @@ mod stored_faults;
 mod stored_handlers;
 mod tasks;
 mod traces;
-mod worlds;
 mod writers;
