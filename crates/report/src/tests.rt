@@ -3,4 +3,3 @@
 mod lengths;
 mod pages;
 mod words;
-mod worlds;
