@@ -3,3 +3,4 @@
 mod lengths;
 mod pages;
 mod words;
+mod worlds;
