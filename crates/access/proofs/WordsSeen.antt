@@ -1,5 +1,6 @@
 -- What the bus would return to a load of a word by privileged code.
-use Rattle.std.proofs.Common.{◌≡◌, ℕ, ◌/◌, ◌*◌, ◌^◌, ◌<◌, ◌==◌, Bool, true, false, Option, Some, None, refl, sym, ◌∙◌, ap, arith}
+use Rattle.std.proofs.Common.{◌≡◌, ℕ, ◌/◌, ◌*◌, ◌^◌, ◌<◌, ◌==◌, Bool, true, false, Option, Some}
+use Rattle.std.proofs.Common.{None, refl, sym, ◌∙◌, ap, arith}
 use Rattle.instruction_set.specs.declared.size.Size.TheVariants.{Word}
 use Rattle.platform.specs.declared.access.Rule.TheVariants.{MpuOff}
 use Rattle.platform.specs.declared.system.SystemRegister.{SystemRegister}

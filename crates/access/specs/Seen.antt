@@ -1,5 +1,5 @@
--- What a debugger sees of the address space: the words that loads by privileged code would return now, without an effect
--- (profile).
+-- What a debugger sees of the address space: the words that loads by privileged code would return now, without an
+-- effect (profile).
 use Rattle.std.specs.Prelude.{ℕ, ◌%◌, ◌^◌, ◌==◌, if◌then◌else◌, true, Option, Some, None}
 use Rattle.instruction_set.specs.declared.size.Size.TheVariants.{Word}
 use Rattle.platform.specs.declared.access.Kind.TheVariants.{Load}
@@ -22,8 +22,9 @@ value_read (Done access) = Some access.value
 value_read (Denied rule cause) = None
 value_read (Stop why) = None
 
--- the word at an address divisible by 4, as the bus would return it now to a load by privileged code while IPSR is x; none
--- where the bus would refuse the load. The rules of the MPU don't decide: the bus does the same under each of them
+-- the word at an address divisible by 4, as the bus would return it now to a load by privileged code while IPSR is x;
+-- none where the bus would refuse the load. The rules of the MPU don't decide: the bus does the same under each of
+-- them
 unfoldable pub word_seen : ℕ → Bus → ℕ → Option ℕ
 word_seen x b a = value_read (carried_out x b MpuOff (word_load a)).performed
 

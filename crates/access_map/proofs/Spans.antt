@@ -1,6 +1,7 @@
 -- Lists of spans: which addresses they have, and how they grow.
 use Rattle.std.proofs.Common.{◌≡◌, ◌↔◌, ℕ, ◌+◌, ◌<◌, ◌≤◌, if◌then◌else◌, Bool, true, false, ◌||◌, List, [], ◌∷◌}
-use Rattle.std.proofs.Common.{◌++◌, length, take, get_or, arith, refl, sym, ap, ◌∙◌, ◌⊎◌, ◌&&◌, nat_le, nat_lt, inl, inr}
+use Rattle.std.proofs.Common.{◌++◌, length, take, get_or, arith, refl, sym, ap, ◌∙◌, ◌⊎◌}
+use Rattle.std.proofs.Common.{◌&&◌, nat_le, nat_lt, inl, inr}
 use Rattle.std.proofs.lemmas.List.Folds.{list_any-append, list_any_more}
 use Rattle.access_map.specs.Sharing.{covers, has_address, is_in_ram, is_channel, is_shared, AreApart, AreShared}
 use Rattle.access_map.specs.Sharing.{RiseFrom}

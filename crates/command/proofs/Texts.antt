@@ -1,4 +1,4 @@
--- What is told of the worlds that were counted is told of those of the reference machine's run.
+-- What the text says of the worlds that were counted holds for those of the reference machine's run.
 use Rattle.std.proofs.Common.{◌≡◌, ◌∙◌, ap, ℕ, List, Result}
 use Rattle.access_map.specs.Counting.{Worlds, no_worlds}
 use Rattle.command.specs.declared.error.Error.{Error}

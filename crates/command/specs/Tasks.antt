@@ -40,7 +40,7 @@ pub record CutsText (board : Numbers) (name : ℕ → List ℕ) (allowed : List 
   pub is_text : IsWorldsText board name allowed v why text
   pub cut : IsCut text old new
 
--- the text was sent, and it is told why the run ended and whether all worlds are apart; or memory ran out, and nothing
+-- the text was sent, and the result says why the run ended and whether all worlds are apart; or memory ran out, and nothing
 -- was put; or a call of the writer failed
 abbrev pub Tells : Numbers → (ℕ → List ℕ) → List Span → Worlds → Stop → Writing → Writing → Result Told Error → Type 0
 Tells board name allowed v why old new (Ok told) =
@@ -54,7 +54,7 @@ Tells board name allowed v why old new (Err error) =
 abbrev pub name_in_file : List ℕ → ℕ → List ℕ
 name_in_file file = shown_name (strings_in file (places_of file)) (symbols_in file (places_of file))
 
--- the worlds of the reference machine's run from a state, with the names of a file, are told
+-- the worlds of the reference machine's run from a state, with the names of a file, are written
 abbrev pub TellsRun : Numbers → List ℕ → TasksOptions → State → Writing → Writing → Result Told Error → Type 0
 TellsRun board file tasks s old new result =
     Tells board (name_in_file file) tasks.allowed.items (worlds_after tasks.steps s no_worlds)
@@ -74,7 +74,7 @@ abbrev pub tasks_status : Bool → Result Told Error → ℕ
 tasks_status expected (Ok told) = told_status expected told
 tasks_status expected (Err error) = error_status error
 
--- the image in a file is run on a board, its worlds are told, and the status is that of the end
+-- the image in a file is run on a board, the text of its worlds is written, and the status is that of the end
 pub record TasksTo (file : List ℕ) (board : Result Described BoardError) (tasks : TasksOptions) (old new : Writing)
     (status : ℕ) : Type 0 where
   pub opened : Result Opened Error

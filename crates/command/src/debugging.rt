@@ -14,10 +14,10 @@ use machine::{In, Out, StartError};
 use std::alloc::Global;
 use std::io::Write;
 
-/// Debugs an image on a board by the commands of `input`, with `slots` slots for states of the machine, and writes their
-/// answers to `out`, or the refusal to `err`. Returns the exit status: 0 where the session ended, 3 for a refused image, board or
-/// start or where memory runs out, 5 where `input` or `out` failed. No answer waits to be sent at the end,
-/// unless `out` failed.
+/// Debugs an image on a board by the commands of `input`, with `slots` slots for states of the machine, and writes
+/// their answers to `out`, or the refusal to `err`. Returns the exit status: 0 where the session ended, 3 for a
+/// refused image, board or start or where memory runs out, 5 where `input` or `out` failed. No answer waits to be
+/// sent at the end, unless `out` failed.
 pub fn debug<I: In, O: Out, E: Write>(
     alloc: Global,
     image: InputFile<'_>,

@@ -20,7 +20,7 @@ use symbols::Symbols;
 use world_run::{WorldCount, world_run};
 use world_text::{are_all_apart, worlds_text};
 
-/// What is told of a run.
+/// What `marm tasks` reports of a run, besides its text.
 #[derive(Clone, Copy)]
 pub struct Told {
     /// Why it ended.

@@ -1,5 +1,6 @@
 -- The spans that texts ask for, text by text.
-use Rattle.std.proofs.Common.{◌≡◌, ◌∙◌, ◌<◌, ◌≤◌, ◌+◌, ℕ, List, [], ◌∷◌, ◌++◌, Option, Some, None, Bor, ap, append-nil, arith, drop, drop_of_length-le}
+use Rattle.std.proofs.Common.{◌≡◌, ◌∙◌, ◌<◌, ◌≤◌, ◌+◌, ℕ, List, [], ◌∷◌, ◌++◌, Option, Some}
+use Rattle.std.proofs.Common.{None, Bor, ap, append-nil, arith, drop, drop_of_length-le}
 use Rattle.std.proofs.Common.{length, map, slice_index_or, subst, suc, sym}
 use Rattle.std.proofs.Math.Seq.{drop-cons}
 use Rattle.std.proofs.lemmas.List.{append_assoc, map-append}
@@ -34,7 +35,8 @@ allowed_here texts spans place blank found within is so_far =
 pub allowed_more : (texts : List (Bor (List ℕ))) (spans more : List Span) (place : ℕ) (blank : Bor (List ℕ))
     (found : Option Span) (span : Span)
     → place < length texts → found ≡ span_named (slice_index_or texts place blank).now
-    → found ≡ Some span → more ≡ spans ++ span ∷ [] → AllowedSoFar texts spans place → AllowedSoFar texts more (place + 1)
+    → found ≡ Some span → more ≡ spans ++ span ∷ [] → AllowedSoFar texts spans place
+    → AllowedSoFar texts more (place + 1)
 allowed_more texts spans more place blank found span within is some longer so_far =
     rw longer
     (allowed_here texts spans place blank (Some span) within (sym some ∙ is) so_far

@@ -1,5 +1,6 @@
 -- The dumps that texts ask for, text by text.
-use Rattle.std.proofs.Common.{◌≡◌, ◌∙◌, ◌<◌, ◌≤◌, ◌+◌, ℕ, List, [], ◌∷◌, ◌++◌, Option, Some, None, Bor, ap, append-nil, arith, drop, drop_of_length-le}
+use Rattle.std.proofs.Common.{◌≡◌, ◌∙◌, ◌<◌, ◌≤◌, ◌+◌, ℕ, List, [], ◌∷◌, ◌++◌, Option, Some}
+use Rattle.std.proofs.Common.{None, Bor, ap, append-nil, arith, drop, drop_of_length-le}
 use Rattle.std.proofs.Common.{length, map, option_map, slice_index_or, subst, suc, sym}
 use Rattle.std.proofs.Math.Seq.{drop-cons}
 use Rattle.std.proofs.lemmas.List.{append_assoc, map-append}
@@ -53,7 +54,8 @@ no_dumps (d ∷ dumps) (e ∷ all) rest same = no_dumps dumps all rest cc
 
 -- the next text asks for none, so the texts ask for no dumps
 pub asked_none : (texts : List (Bor (List ℕ))) (dumps : List Dump) (place : ℕ) (blank : Bor (List ℕ)) (found : Option Dump)
-    → place < length texts → option_map value_of found ≡ dump_named (slice_index_or texts place blank).now → found ≡ None
+    → place < length texts → option_map value_of found ≡ dump_named (slice_index_or texts place blank).now
+    → found ≡ None
     → AskedSoFar texts dumps place
     → (all : List Dump) → ¬ (map dump_named (map (λ t. t.now) texts) ≡ map (λ d. Some (value_of d)) all)
 asked_none texts dumps place blank found within is none so_far all same =

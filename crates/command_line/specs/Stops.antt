@@ -22,8 +22,8 @@ IsStopText words = (why : Stop) × IsPossible why × (stop_text why ≡ words)
 abbrev pub without_stop : List ℕ → List ℕ
 without_stop text = if bytes_eq (take 5 text) (codes "stop ") then drop 5 text else text
 
--- the stop that is expected has the words of the option, as they are or after `stop `; none is expected where the option
--- is left out
+-- the stop that is expected has the words of the option, as they are or after `stop `; none is expected where the
+-- option is left out
 abbrev pub IsExpected : Option (List ℕ) → Option Stop → Type 0
 IsExpected None None = Unit {0}
 IsExpected None (Some why) = ⊥

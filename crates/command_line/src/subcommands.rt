@@ -4,7 +4,8 @@ ghost use Rattle.std.specs.Prelude.{◌≡◌, ◌⊎◌, ◌==◌, IfSome, None
 ghost use Rattle.clap.specs.Words.{first_of, found_of, rows_of, subcommand_rows_of};
 ghost use Rattle.command_line.specs.Notices.{Reads, memory, notice_of, usage};
 ghost use Rattle.command_line.specs.Stops.{IsExpected};
-ghost use Rattle.command_line.specs.Subcommands.{HasSlots, HasSteps, IsAsked, IsDebug, IsNamed, IsReport, IsRun, IsSelection};
+ghost use Rattle.command_line.specs.Subcommands.{HasSlots, HasSteps, IsAsked, IsDebug, IsNamed};
+ghost use Rattle.command_line.specs.Subcommands.{IsReport, IsRun, IsSelection};
 ghost use Rattle.command_line.specs.Subcommands.{IsTasks, is_set};
 ghost use Rattle.command_line.specs.Subcommands.{IsSteps, IsText, board_path, image_path, number_in, plus};
 ghost use Rattle.command_line.specs.Subcommands.{selection_named, text_of, texts_in, texts_of};

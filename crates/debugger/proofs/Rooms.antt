@@ -1,6 +1,8 @@
 -- The slots have room for the machine's states, whatever is answered.
-use Rattle.std.proofs.Common.{◌≡◌, ◌<◌, ◌||◌, ℕ, zero, suc, Bool, true, false, List, [], ◌∷◌, Option, Some, None, Result, Ok, Err}
-use Rattle.std.proofs.Common.{refl, ◌∙◌, ap, is_some, length, nat_lt, slice_index_or, subst, sym, arith, ◌+◌, ◌++◌, replicate}
+use Rattle.std.proofs.Common.{◌≡◌, ◌<◌, ◌||◌, ℕ, zero, suc, Bool, true, false, List, [], ◌∷◌}
+use Rattle.std.proofs.Common.{Option, Some, None, Result, Ok, Err}
+use Rattle.std.proofs.Common.{refl, ◌∙◌, ap, is_some, length, nat_lt, slice_index_or, subst}
+use Rattle.std.proofs.Common.{sym, arith, ◌+◌, ◌++◌, replicate}
 use Rattle.std.proofs.Common.{length-append}
 use Rattle.std.proofs.lemmas.Grind.{replicate_next}
 use Rattle.std.proofs.lemmas.Bool.{cond_both}
@@ -9,7 +11,8 @@ use Rattle.std.proofs.lemmas.List.Elements.{All-push, All-set}
 use Rattle.debugger.proofs.Telling.{last-append}
 use Rattle.debugger.specs.Answers.{Piece, after_edge, answer, answer_by, change_piece, changed_piece, closed}
 use Rattle.debugger.specs.Answers.{edge_signal}
-use Rattle.debugger.specs.Answers.{closing_piece, back_piece, ends_at, hit_before, is_closed, last_state, placed, replies}
+use Rattle.debugger.specs.Answers.{closing_piece, back_piece, ends_at, hit_before, is_closed}
+use Rattle.debugger.specs.Answers.{last_state, placed, replies}
 use Rattle.debugger.specs.Answers.{run_on, run_pieces, saved_after, task_on, task_piece, task_pieces}
 use Rattle.debugger.specs.Sessions.{HasAll, Kept, Talk, after_line, line_asked, opened, talk}
 use Rattle.debugger.specs.Slots.{HaveRoom, Slot, saved_in, saved_there, slots_after}
@@ -129,7 +132,8 @@ answer_stays_by k s slots asked (Some n) task room = run_stays k n s
 answer_stays_by k s slots asked None (Some n) room = task_stays k n s
 answer_stays_by k s slots asked None None room = replies_stay k s slots asked (change_of asked) room
 
-pub closed_last : (is_closed : Bool) (s : State) (ps : List Piece) → last_state s (closed is_closed s ps) ≡ last_state s ps
+pub closed_last : (is_closed : Bool) (s : State) (ps : List Piece)
+    → last_state s (closed is_closed s ps) ≡ last_state s ps
 closed_last false s ps = refl
 closed_last true s ps = last-append s ps (closing_piece (last_state s ps) ∷ [])
 

@@ -18,7 +18,8 @@ unfolding console_after
 after-append c [] ys = refl
 after-append c (x ∷ xs) ys = after-append (console_with c x) xs ys
 
-pub sent-append : (c : Console) (xs ys : List ℕ) → sent_by c (xs ++ ys) ≡ sent_by c xs ++ sent_by (console_after c xs) ys
+pub sent-append : (c : Console) (xs ys : List ℕ)
+    → sent_by c (xs ++ ys) ≡ sent_by c xs ++ sent_by (console_after c xs) ys
 unfolding sent_by console_after
 sent-append c [] ys = refl
 sent-append c (x ∷ xs) ys =

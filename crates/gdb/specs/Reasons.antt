@@ -74,7 +74,7 @@ abbrev pub refusal_reason : Option Cause → Option StopReason
 refusal_reason None = None
 refusal_reason (Some cause) = Some (reason.Refused cause)
 
--- a fault by an access is told as the access
+-- a fault by an access is reported as the access
 abbrev pub fault_reason : Option Cause → StopReason
 fault_reason None = reason.Fault
 fault_reason (Some cause) = reason.Refused cause

@@ -2,7 +2,8 @@
 
 ghost use Rattle.std.specs.Prelude.{◌≡◌, [], ◌∷◌, is_some};
 ghost use Rattle.gdb.specs.Consoles.{Shows};
-ghost use Rattle.gdb.specs.Reasons.{cause_of, first_cause, has_entry, has_fault, is_continue, is_entry, leaves, reason_after};
+ghost use Rattle.gdb.specs.Reasons.{cause_of, first_cause, has_entry, has_fault, is_continue};
+ghost use Rattle.gdb.specs.Reasons.{is_entry, leaves, reason_after};
 ghost use Rattle.gdb.specs.Reasons.{reason_at_breakpoint, reason_before, reason_of_events, selection_of};
 ghost use Rattle.gdb.specs.Reasons.{tests_breakpoints};
 ghost use Rattle.platform.specs.Events.{recorded_fault_of};
@@ -180,8 +181,8 @@ fn leaves(how: Resume, pc: u32) -> bool
     }
 }
 
-/// Returns why a run ends after a step, which was an Instruction step or not, with these events. `stop` is why the machine
-/// has stopped by then, and `pc` the address of the next instruction.
+/// Returns why a run ends after a step, which was an Instruction step or not, with these events. `stop` is why the
+/// machine has stopped by then, and `pc` the address of the next instruction.
 pub fn reason_after(
     settings: &Settings,
     how: Resume,

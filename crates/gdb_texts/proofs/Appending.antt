@@ -1,5 +1,6 @@
 -- Texts that are put one after another.
-use Rattle.std.proofs.Common.{◌≡◌, ℕ, ◌+◌, ◌-◌, List, [], ◌∷◌, ◌++◌, add-one, append_assoc, arith, length, length-append}
+use Rattle.std.proofs.Common.{◌≡◌, ℕ, ◌+◌, ◌-◌, List, [], ◌∷◌, ◌++◌}
+use Rattle.std.proofs.Common.{add-one, append_assoc, arith, length, length-append}
 use Rattle.std.proofs.Common.{refl, take}
 use Rattle.std.proofs.Math.Seq.{take-append_seam}
 use Rattle.gdb_texts.specs.Bytes.{byte_at, first_bytes}

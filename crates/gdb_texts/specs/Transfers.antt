@@ -15,7 +15,7 @@ use Rattle.gdb_texts.specs.declared.transfers.TheConstants.{DESCRIPTION, MAP_HEA
 abbrev pub most_piece : ℕ
 most_piece = 4095
 
--- `l` and the rest of a text, where it has at most `count` bytes, or else `m` and so many
+-- `l` and the rest of a text, where it has at most `count` bytes, or else `m` and its first `count` bytes
 abbrev pub piece_of : List ℕ → ℕ → List ℕ
 piece_of rest count = if nat_le (length rest) count then codes "l" ++ rest else codes "m" ++ take count rest
 

@@ -320,7 +320,7 @@ fn watchpoints_are_met(rt: HostRuntime) -> Result<(), Fail> {
     Ok(())
 }
 
-/// Addresses on the small board, and where lldb is told that they are.
+/// Addresses on the small board, and the answers to lldb about them.
 const REGIONS: [(u32, &str); 7] = [
     (0, "start:0;size:1000;permissions:rx;"),
     (0x1000, "start:1000;size:1ffff000;"),

@@ -84,7 +84,7 @@ fn at_most(count: u32, text: &[u8]) -> &[u8]
     &text[..count as usize]
 }
 
-/// Appends `l` and the rest of a text, where it has at most `count` bytes, or else `m` and so many.
+/// Appends `l` and the rest of a text, where it has at most `count` bytes, or else `m` and its first `count` bytes.
 fn put_piece_of<const ROOM: usize>(page: &mut ArrayVec<u8, ROOM>, rest: &[u8], count: u32)
     requires few { count ≤ 4095 }
     requires room { array_vec_len page.old + 4096 ≤ ROOM }

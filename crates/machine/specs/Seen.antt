@@ -7,7 +7,7 @@ use Rattle.reference.specs.State.{State}
 abbrev pub byte_of_word : ℕ → ℕ → ℕ
 byte_of_word k word = word / 2 ^ (8 * k) % 256
 
--- the byte at an address: that of the word that a load by privileged code would return there now, whose effect it hasn't;
--- none where the bus would refuse that load. The MPU isn't asked
+-- the byte at an address: that of the word that a load by privileged code would return there now, whose effect it
+-- hasn't; none where the bus would refuse that load. The MPU isn't asked
 abbrev pub seen_at : State → ℕ → Option ℕ
 seen_at s a = option_map (λ word. byte_of_word (a % 4) word) (word_seen s.registers.exception s.bus (a / 4 * 4))

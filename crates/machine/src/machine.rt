@@ -353,9 +353,9 @@ impl<D: Decider, C: KeptCode, L: Levels, U: DueTicks> Machine<D, C, L, U> {
         self.core.byte(address)
     }
 
-    /// Returns the byte at an address as a debugger sees it: that of the word that a load by privileged code would return
-    /// there now, and None where the bus would refuse that load. The MPU isn't asked, and nothing changes: COUNTFLAG
-    /// stays, and no tick is made.
+    /// Returns the byte at an address as a debugger sees it: that of the word that a load by privileged code would
+    /// return there now, and None where the bus would refuse that load. The MPU isn't asked, and nothing changes:
+    /// COUNTFLAG stays, and no tick is made.
     pub fn seen(&self, address: u32) -> Option<u8>
         ensures { result ≡ seen_at self.now.state address }
     {

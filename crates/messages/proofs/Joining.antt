@@ -1,9 +1,11 @@
 -- The characters of a text as pieces of a message: one more, none left, and none more after a cut.
-use Rattle.std.proofs.Common.{◌≡◌, ℕ, ◌-◌, if◌then◌else◌, Bool, true, false, not, ◌&&◌, ◌==◌, List, [], ◌∷◌, ◌++◌, length, encode_utf8, refl, sym, ◌∙◌, subst, arith}
+use Rattle.std.proofs.Common.{◌≡◌, ℕ, ◌-◌, if◌then◌else◌, Bool, true, false, not, ◌&&◌, ◌==◌, List, [], ◌∷◌, ◌++◌}
+use Rattle.std.proofs.Common.{length, encode_utf8, refl, sym, ◌∙◌, subst, arith}
 use Rattle.std.proofs.lemmas.Bool.{and_parts, eqb-true}
 use Rattle.std.specs.Str.{IsUtf8, chars}
 use Rattle.std.proofs.lemmas.Str.{chars-nil, chars_past_char}
-use Rattle.messages.specs.Clips.{Clip, clipped, empty, is_nothing, joined, left_after, line_feed, with_character, with_characters}
+use Rattle.messages.specs.Clips.{Clip, clipped, empty, is_nothing, joined, left_after}
+use Rattle.messages.specs.Clips.{line_feed, with_character, with_characters}
 
 -- nothing is appended after a cut
 clipped_cut : (room : ℕ) (clip : Clip) (piece : List ℕ) → clip.is_cut ≡ true → clipped room clip piece ≡ clip

@@ -23,7 +23,8 @@ emission writing name now (first ∷ later) =
 abbrev pub BeforeStep : {O : Type 0} → (O → Writing) → ℕ → O → List (O × Event) → Type 0
 BeforeStep writing name now items = emission writing name now items ≡ emission writing name now []
 
--- the text of the events of the selected kinds so far: it went out and no call failed, or a prefix of it did and one call failed
+-- the text of the events of the selected kinds so far: it went out and no call failed, or a prefix of it did and one
+-- call failed
 abbrev pub WritesSoFar : TraceSelection → Emission → Writing → Bool → Type 0
 WritesSoFar selection e now false =
     Appends e.written now.written (kinds_text selection e.events) × (now.errors ≡ e.errors)

@@ -12,8 +12,8 @@ use std::io::Write;
 /// The number of the BKPT of a semihosting call in Thumb code (Arm, "Semihosting for AArch32 and AArch64").
 const SEMIHOSTING: u8 = 0xAB;
 
-/// Writes a line for each of these: the run ended at a semihosting call, the stack pointer at the start isn't in RAM, and
-/// the script pends an interrupt whose vector isn't in the image.
+/// Writes a line for each of these: the run ended at a semihosting call, the stack pointer at the start isn't in RAM,
+/// and the script pends an interrupt whose vector isn't in the image.
 pub fn write_notes<W: Write>(
     out: &mut W,
     file: &[u8],

@@ -1,5 +1,6 @@
 -- What a page begins and ends with.
-use Rattle.std.proofs.Common.{◌≡◌, ◌∙◌, ◌≤◌, ◌++◌, Bool, true, false, if◌then◌else◌, List, ℕ, ap, arith, codes, drop, length}
+use Rattle.std.proofs.Common.{◌≡◌, ◌∙◌, ◌≤◌, ◌++◌, Bool, true, false, if◌then◌else◌, List, ℕ}
+use Rattle.std.proofs.Common.{ap, arith, codes, drop, length}
 use Rattle.std.proofs.Common.{sym, take, take-append-drop}
 use Rattle.std.proofs.lemmas.List.{length-take, take-append-le}
 use Rattle.report.specs.Edges.{page_start}

@@ -117,7 +117,8 @@ impl AccessTable {
         Ok(())
     }
 
-    /// Adds the bytes that worlds share: for each pair, those by which the first reaches the second, and then the others.
+    /// Adds the bytes that worlds share: for each pair, those by which the first reaches the second, and then the
+    /// others.
     fn add_shares(
         &mut self,
         alloc: Global,
@@ -227,8 +228,8 @@ impl AccessRow {
         true
     }
 
-    /// Returns whether bytes of the row are shared: the world of one column may write them, and that of another may read
-    /// or execute them.
+    /// Returns whether bytes of the row are shared: the world of one column may write them, and that of another may
+    /// read or execute them.
     pub fn is_shared(&self, writer: usize, reader: usize) -> bool
         requires writer { writer < MOST_COLUMNS }
         requires reader { reader < MOST_COLUMNS }

@@ -16,9 +16,9 @@ pub enum SessionError {
     Write,
 }
 
-/// Reads bytes, and writes what a protocol answers to each of them, to the end of the input, or until the protocol reads
-/// no further. What waits to be sent is sent before a call of the reader that may wait, and at the end. Where the reader
-/// or the writer fails, the machine is in its state after the steps and the changes that were made.
+/// Reads bytes, and writes what a protocol answers to each of them, to the end of the input, or until the protocol
+/// reads no further. What waits to be sent is sent before a call of the reader that may wait, and at the end. Where
+/// the reader or the writer fails, the machine is in its state after the steps and the changes that were made.
 pub fn serve<P: Protocol<L, U>, D: Decider, C: KeptCode, L: Levels, U: DueTicks, I: In, W: Out>(
     protocol: &mut P,
     machine: &mut Machine<D, C, L, U>,

@@ -16,8 +16,8 @@ use std::marker::Brand;
 use survey::{Moment, Survey};
 use world_run::WorldCount;
 
-/// Makes at most `limit` steps, up to the first stop, and counts each of them, in the survey and, if it runs in a world,
-/// in the worlds. Writes nothing. Returns the stop, `StepLimit` where the machine hasn't stopped.
+/// Makes at most `limit` steps, up to the first stop, and counts each of them, in the survey and, if it runs in a
+/// world, in the worlds. Writes nothing. Returns the stop, `StepLimit` where the machine hasn't stopped.
 pub fn survey_run<D: Decider, C: KeptCode, L: Levels, U: DueTicks>(
     machine: &mut Machine<D, C, L, U>,
     limit: u64,

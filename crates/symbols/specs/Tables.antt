@@ -107,7 +107,8 @@ absolute = 0xFFF1
 abbrev pub has_section : ℕ → Bool
 has_section section = not (section == undefined_section) && not (section == absolute)
 
--- whether a symbol of a type and a size covers addresses: it has a size, or is a function, which may have none (profile)
+-- whether a symbol of a type and a size covers addresses: it has a size, or is a function, which may have none
+-- (profile)
 abbrev pub has_extent : ℕ → ℕ → Bool
 has_extent type size = (type == function_type) || not (size == 0)
 

@@ -1,6 +1,7 @@
 -- How a run of a task ends is determined by the state before it: where it ended, no further step is an Instruction step
 -- within the limit.
-use Rattle.std.proofs.Common.{◌≡◌, ℕ, zero, suc, ◌<◌, ◌≤◌, true, false, ◌||◌, is_some, Option, Some, None, refl, sym, ap, subst}
+use Rattle.std.proofs.Common.{◌≡◌, ℕ, zero, suc, ◌<◌, ◌≤◌, true, false, ◌||◌, is_some, Option}
+use Rattle.std.proofs.Common.{Some, None, refl, sym, ap, subst}
 use Rattle.std.proofs.Common.{arith}
 use Rattle.platform.specs.declared.stop.Stop.{Stop}
 use Rattle.reference.specs.Invariant.{Invariant}

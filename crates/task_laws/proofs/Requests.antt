@@ -1,5 +1,6 @@
 -- The accesses of an instruction of unprivileged code.
-use Rattle.std.proofs.Common.{◌≡◌, inl, inr, ℕ, ◌%◌, Bool, false, not, ◌&&◌, ◌==◌, if◌then◌else◌, List, [], ◌∷◌, refl, arith, Result, Ok, Err}
+use Rattle.std.proofs.Common.{◌≡◌, inl, inr, ℕ, ◌%◌, Bool, false, not, ◌&&◌, ◌==◌, if◌then◌else◌, List}
+use Rattle.std.proofs.Common.{[], ◌∷◌, refl, arith, Result, Ok, Err}
 use Rattle.std.proofs.Common.{eqb-true}
 use Rattle.std.proofs.lemmas.Bool.{cond_both, not-false, and_left}
 use Rattle.instruction_set.specs.declared.branch.Branch.{Branch}

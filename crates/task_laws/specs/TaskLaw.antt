@@ -123,8 +123,8 @@ pub record EndedAlike (s t : State) (a b : ℕ) (x y : TaskEnd) : Type 0 where
   pub events : events_of b t ≡ events_of a s
   pub same : Same (after a s) (after b t)
 
--- where a task runs in s, or the machine has stopped, and t looks the same: a run of at most n steps from t ended as one
--- from s did
+-- where a task runs in s, or the machine has stopped, and t looks the same: a run of at most n steps from t ended as
+-- one from s did
 abbrev pub TwoRunsLaw : ℕ → State → State → ℕ → ℕ → TaskEnd → TaskEnd → Type 0
 TwoRunsLaw n s t a b x y =
     Invariant s → is_some s.stop || is_task s ≡ true → Same s t → EndsAfter n s a x → EndsAfter n t b y →

@@ -161,8 +161,8 @@ fn write_over<const COUNT: usize>(bytes: &mut [u8], text: &[u8; COUNT])
     }
 }
 
-/// Writes 16 bytes over as many. Both halves are loaded before either is stored, and the compiler makes one load and one
-/// store of them. For a single copy of 16 bytes it would first compute both addresses.
+/// Writes 16 bytes over as many. Both halves are loaded before either is stored, and the compiler makes one load and
+/// one store of them. For a single copy of 16 bytes it would first compute both addresses.
 #[inline(always)]
 fn write_halves(bytes: &mut [u8], text: &[u8; 16])
     requires { length bytes.old ≡ 16 }

@@ -2,7 +2,8 @@
 
 ghost use Rattle.std.specs.Prelude.{◌≡◌, List, [], ◌∷◌, ◌++◌, is_some};
 ghost use Rattle.platform.specs.declared.event.Event.{Event};
-ghost use Rattle.trace.specs.Selection.{enters_fault_handler, handles_faults, has_faulty_steps, has_refusal, is_refusal};
+ghost use Rattle.trace.specs.Selection.{enters_fault_handler, handles_faults, has_faulty_steps};
+ghost use Rattle.trace.specs.Selection.{has_refusal, is_refusal};
 ghost use Rattle.trace.specs.Selection.{kinds_text, last_printed, selected_text, selects, writes_bytes};
 
 use platform::event::{Event, EventKind};

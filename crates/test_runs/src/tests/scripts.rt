@@ -1,8 +1,8 @@
 //! Sessions whose answers say more: which lines steps have, what ends a run, and where the machine is. Each is held
 //! over a `Slow` machine of the small board, and over a `Fast` one.
 //!
-//! A row has places, as the runs of `run` have them, a line `in` for each line of the session, and a line `out` for each
-//! line of its answers. Expected lines are by hand.
+//! A row has places, as the runs of `run` have them, a line `in` for each line of the session, and a line `out` for
+//! each line of its answers. Expected lines are by hand.
 
 ghost use Rattle.std.specs.Prelude.{◌≡◌};
 ghost use Rattle.debugger.specs.Slots.{HaveRoom};
