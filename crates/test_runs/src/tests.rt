@@ -35,4 +35,5 @@ mod stored_faults;
 mod stored_handlers;
 mod tasks;
 mod traces;
+mod worlds;
 mod writers;
