@@ -24,8 +24,8 @@ In a table with a column "Definition", "Function" or "Test", a chapter or a crat
 has to be: "Step `running`", "exec `plan`", "test_runs `short_runs`". The links of all pages are checked too. Without a
 page, the manual page docs/marm.1 is formatted too, by `groff -ww` and `man --warnings` where they are installed: each
 warning is an error. So is a file in crates/*/data that differs from the one of that name in examples/, or in the data of
-another crate, a command of the debugger that the help or docs/DEBUGGING.md leaves out, and a named stop that
-docs/STOPS.md or the images of test_runs leave out.
+another crate, a command of the debugger that the help or docs/DEBUGGING.md leaves out, a named stop that
+docs/STOPS.md or the images of test_runs leave out, and more than 4,000 lines in docs/*.md and the pages at the top.
 """
 
 import fnmatch
@@ -411,6 +411,9 @@ def lists(repo):
     return lost
 
 
+# how many lines docs/*.md and the pages at the top may have together, so that somebody can still read them all
+MOST_LINES = 4000
+
 # where the help lists the debugger's commands
 HELP_OF_DEBUG = "crates/command_line/src/texts.rt"
 
@@ -473,6 +476,17 @@ def stops():
     return found + [f"{IMAGES_OF_STOPS}: no image for {name}" for name in sorted(untested)]
 
 
+def length():
+    """Says so where the pages together are too long."""
+    counted = {os.path.relpath(path, TOP): read(path).count("\n")
+               for pattern in ("docs/*.md", "*.md") for path in glob.glob(os.path.join(TOP, pattern))}
+    lines = sum(counted.values())
+    if lines > MOST_LINES:
+        longest = ", ".join(f"{page} {counted[page]}" for page in sorted(counted, key=counted.get, reverse=True)[:5])
+        yield (f"docs/*.md and the pages at the top have {lines:,} lines together, and may have {MOST_LINES:,}: "
+               f"delete {lines - MOST_LINES:,} (the longest are {longest})")
+
+
 def pages():
     found = ["README.md", "CONTRIBUTING.md"]
     for pattern in ("docs/*.md", "crates/*/README.md", "mutations/README.md"):
@@ -506,6 +520,7 @@ def of_repository(repo):
     yield from copies()
     yield from debugger_commands()
     yield from stops()
+    yield from length()
     for warning in manual_page():
         yield f"{MANUAL_PAGE}: {warning}"
 
