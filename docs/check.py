@@ -52,6 +52,11 @@ SCRIPT = "marm"
 COMMANDS = set("""rt make man groff python3 valgrind taskset ld.lld arm-none-eabi-ld arm-none-eabi-gcc clang gcc git apt-get
 llvm-readelf llvm-objdump llvm-mc llvm-objcopy qemu-system-arm readelf awk date ulimit""".split())
 
+# the commands of gdb, on its page
+GDB_PAGE = "docs/GDB.md"
+GDB_COMMANDS = set("""break hbreak tbreak step stepi next until advance finish continue info set jump call print x bt load
+detach disconnect kill quit monitor place target maintenance on off""".split())
+
 # what `rt` takes: its words and options
 RT_WORDS = set("""check ci test try lib lemma fmt tidy plant must-fail version doc run new verdict all names help --only
 --margin --fail-alloc --test --max --start --allow-holes""".split())
@@ -263,6 +268,8 @@ def missing(repo, span, page):
     if re.match(r"^[\"'\[(<>=.,;:!?*+&|{}#\\-]+$", span) or PAGE_ID.fullmatch(span):
         return []
     words = span.split()
+    if page == GDB_PAGE and words[0] in GDB_COMMANDS:
+        return []
     if words[0] in COMMANDS or words[0].startswith(("./", "crosscheck/", "bench/", "fuzz/", "docs/", "mutations/")) and len(words) > 1:
         lost = [w for w in words if "/" in w and w[0].isalpha() and not repo.has_path(w, page)]
         if words[0] == "rt" and len(words) > 1 and words[1] not in RT_WORDS:
