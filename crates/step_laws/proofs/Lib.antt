@@ -1,8 +1,8 @@
+pub mod StepRules
+pub mod BusRules
 mod Lines
 mod Bytes
 mod Faults
-mod Exceptions
-mod Steps
 mod Words
 mod Frames
 pub mod Stored
