@@ -1,8 +1,8 @@
--- A law about the bus alone: if five changes keep a property of the bus and the events so far, a step keeps it.
+-- A law about the bus alone: if four changes keep a property of the bus and the events so far, a step keeps it.
 --
--- - `BusRules B` has a field for each of the five. Registers, sleep, the entry phase and a stop aren't in the bus.
--- - An instance proves these, and has `bus_keeps`. A failure needs nothing further: it sets status bits, makes an
---   exception pending and adds its line.
+-- - `BusRules B` has a field for each of the four. Registers, sleep, the entry phase and a stop aren't in the bus.
+-- - An instance proves these, and has `bus_keeps`, where the property holds before and after the tick. A failure needs
+--   nothing further: it sets status bits, makes an exception pending and adds its line.
 use Rattle.std.proofs.Common.{◌≡◌, ℕ, ◌==◌, List, [], ◌∷◌, ◌++◌, Option, None, refl}
 use Rattle.std.proofs.lemmas.Bool.{cond_both}
 use Rattle.platform.specs.declared.access.Request.{Request}
@@ -15,14 +15,14 @@ use Rattle.platform.specs.declared.fault_status.TheConstants.{FORCED}
 use Rattle.platform.specs.Events.{access_of}
 use Rattle.platform.specs.Priorities.{Nvic, is_fixed}
 use Rattle.platform.specs.Status.{Status, with_fault_bits}
-use Rattle.platform.specs.System.{System, after_tick, deactivated, exception_ended, is_held, with_nvic}
+use Rattle.platform.specs.System.{System, deactivated, exception_ended, is_held, with_nvic}
 use Rattle.reference.specs.declared.failure.Failure.{Failure}
 use Rattle.reference.specs.declared.failure.Failure.TheVariants as failure
 use Rattle.reference.specs.Accesses.{access_lines, perform}
 use Rattle.reference.specs.ExceptionEntry.{vector_refused}
 use Rattle.reference.specs.Faults.{escalated, failed, fault_line, fault_of, faulted, recorded, usage_fault_of}
 use Rattle.reference.specs.Faults.{vector_fault, with_status}
-use Rattle.reference.specs.State.{Bus, State, Stepped}
+use Rattle.reference.specs.State.{Bus, State, Stepped, ticked}
 use Rattle.reference.specs.Step.{step}
 use Rattle.step_laws.proofs.StepRules.{StepRules, step_keeps}
 
@@ -30,12 +30,11 @@ use Rattle.step_laws.proofs.StepRules.{StepRules, step_keeps}
 abbrev pub with_control : Bus → System → Bus
 with_control b t = record b { system = t }
 
--- each of these changes keeps what holds of the bus and of the events so far: an access, a tick, a change of the
--- exceptions or of the status registers, and a line of no access
+-- each of these changes keeps what holds of the bus and of the events so far: an access, a change of the exceptions or
+-- of the status registers, and a line of no access
 pub record BusRules (B : Bus → List Event → Type 0) : Type 0 where
   pub access : (x tick : ℕ) (b : Bus) (events : List Event) (q : Request) → B b events
       → B (perform x b q).after (events ++ access_lines tick q (perform x b q).performed)
-  pub tick : (b : Bus) → B b [] → B (with_control b (after_tick b.system)) []
   pub nvic : (b : Bus) (events : List Event) (n : Nvic) → B b events → B (with_control b (with_nvic b.system n)) events
   pub status : (b : Bus) (events : List Event) (st : Status) → B b events
       → B (with_control b (record b.system { status = st })) events
@@ -112,7 +111,6 @@ module _ {B : Bus → List Event → Type 0} (k : BusRules B) where
     failing = λ why s events h. h;
     access = λ tick s events q fits h. k.access s.registers.exception tick s.bus events q h;
     line = λ s events e other h. k.line s.bus events e other h;
-    tick = λ s early h. k.tick s.bus h;
     asleep = λ s events on h. h;
     pending = λ s events x h. k.nvic s.bus events _ h;
     status = λ s events st h. k.status s.bus events st h;
@@ -130,5 +128,5 @@ module _ {B : Bus → List Event → Type 0} (k : BusRules B) where
   }
 
   -- a step keeps it
-  pub bus_keeps : (s : State) → B s.bus [] → B (step s).state.bus (step s).events
-  bus_keeps s h = step_keeps bus_rules s h
+  pub bus_keeps : (s : State) → B s.bus [] → B (ticked s).bus [] → B (step s).state.bus (step s).events
+  bus_keeps s h after = step_keeps bus_rules s h (λ early. after)

@@ -93,11 +93,11 @@ covered_rules : (old : Memory) → BusRules (λ b events. OnlyCovered old b.memo
 covered_rules old = record {
   access = λ x tick b events q only.
       covered-append old b.memory (perform x b q).after.memory events _ only (perform_writes x tick b q);
-  tick = λ b only. only;
   nvic = λ b events n only. only;
   status = λ b events st only. only;
   line = λ b events e other only. covered-more old b.memory events (e ∷ []) only;
 }
 
 pub step_covered : (s : State) → OnlyCovered s.bus.memory (step s).state.bus.memory (step s).events
-step_covered s = bus_keeps (covered_rules s.bus.memory) s (covered-same s.bus.memory [])
+step_covered s =
+    let same = covered-same s.bus.memory [] in bus_keeps (covered_rules s.bus.memory) s same same

@@ -256,7 +256,6 @@ refusal_rules = record {
       ends-append (failure_in (value_of q (perform s.registers.exception s.bus q).performed)) events _ none
       (shown_ends tick q (perform s.registers.exception s.bus q).performed);
   line = λ s events e other none. line_added events e other none;
-  tick = λ s early none. none;
   asleep = λ s events on none. none;
   pending = λ s events x none. none;
   status = λ s events st none. none;
@@ -274,4 +273,4 @@ refusal_rules = record {
 }
 
 pub step_refusal : (s : State) → OneRefusal (step s).events
-step_refusal s = step_keeps refusal_rules s unrefused-nil
+step_refusal s = step_keeps refusal_rules s unrefused-nil (λ early. unrefused-nil)

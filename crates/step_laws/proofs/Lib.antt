@@ -3,6 +3,7 @@ pub mod BusRules
 mod Lines
 mod Bytes
 mod Faults
+pub mod Regions
 mod Words
 mod Frames
 pub mod Stored

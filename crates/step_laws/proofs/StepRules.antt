@@ -7,7 +7,9 @@
 --   the entry phase alone. The walk proves both, and names the candidate where an entry begins.
 -- - The lemmas follow `reference` from the last phase up: a list of accesses, entry, return, an instruction, the
 --   fetches, the step. `cond_both` takes both branches of a test.
--- - `step_keeps` is what a law uses. A law about the bus alone proves the five changes of `BusRules` in place of these.
+-- - `search ends` proves an end of the step with any further lines of no access, so it names none of them.
+-- - `step_keeps` is what a law uses, with what holds before and after the tick. A law about the bus alone proves the
+--   four changes of `BusRules` in place of these.
 use Rattle.std.proofs.Common.{◌≡◌, ℕ, nat_le, Bool, true, false, not, ◌||◌, is_some, List, [], ◌∷◌, ◌++◌, Option, Some}
 use Rattle.std.proofs.Common.{None, Result, Ok, Err, refl, sym, subst, append_assoc}
 use Rattle.std.specs.Prelude.{⊤}
@@ -35,13 +37,11 @@ use Rattle.platform.specs.declared.access.Performed.{Performed}
 use Rattle.platform.specs.declared.access.Performed.TheVariants as performed
 use Rattle.platform.specs.declared.access.Request.{Request}
 use Rattle.platform.specs.declared.event.Event.{Event}
-use Rattle.platform.specs.declared.event.EventKind.TheVariants.{HandlerEntered}
 use Rattle.platform.specs.declared.exception.Escalation.{Escalation}
 use Rattle.platform.specs.declared.exception.Escalation.TheVariants.{Itself, HardFault, Lockup}
 use Rattle.platform.specs.declared.exception.TheConstants.{HARD_FAULT, SV_CALL}
 use Rattle.platform.specs.declared.fault_status.TheConstants.{FORCED}
 use Rattle.platform.specs.declared.stop.Stop.{Stop}
-use Rattle.platform.specs.declared.stop.Stop.TheVariants as stop
 use Rattle.platform.specs.Events.{access_of}
 use Rattle.platform.specs.Kinds.{is_load, is_store}
 use Rattle.platform.specs.Priorities.{Nvic, activated, candidate}
@@ -60,7 +60,7 @@ use Rattle.reference.specs.ExceptionEntry.{begin_entry, entering, exception_take
 use Rattle.reference.specs.ExceptionEntry.{taken_if_any, vector_read, vector_refused, vector_taken, words_from}
 use Rattle.reference.specs.ExceptionReturn.{chained, exception_return, fits_mode, frame_read, is_allowed, pop_stack}
 use Rattle.reference.specs.ExceptionReturn.{pops, return_line, returned, unstacked, with_entry}
-use Rattle.reference.specs.Faults.{failed, fault_line, pended, supervisor_called, supervisor_called_by, with_status}
+use Rattle.reference.specs.Faults.{failed, pended, supervisor_called, supervisor_called_by, with_status}
 use Rattle.reference.specs.LoadStore.{fetch_at}
 use Rattle.reference.specs.Operations.{result_of}
 use Rattle.reference.specs.ProgramCounter.{Finished, moves_on}
@@ -106,8 +106,7 @@ pub record StepRules (P : Option Failure → State → List Event → Type 0) (Q
       (lines_after tick s events q)
   pub line : (s : State) (events : List Event) (e : Event) → access_of e.what ≡ None → P None s events
       → P None s (events ++ e ∷ [])
-  -- the clock, sleep, an exception that becomes pending, and the status registers
-  pub tick : (s : State) → nat_le last_tick s.bus.system.time.ticks ≡ false → P None s [] → P None (ticked s) []
+  -- sleep, an exception that becomes pending, and the status registers
   pub asleep : (s : State) (events : List Event) (on : Bool) → P None s events
       → P None (record s { asleep = on }) events
   pub pending : (s : State) (events : List Event) (x : ℕ) → P None s events → P None (pended s x) events
@@ -168,6 +167,20 @@ pushes_fit entry r = words_fit entry Push (is_privileged r) (frame_base (sp r)) 
 -- ---- the walk
 
 module _ {P : Option Failure → State → List Event → Type 0} {Q : Stepped → Type 0} (k : StepRules P Q) where
+  -- ---- the ends of a step
+
+  done : (s : State) (events : List Event) → P None s events → Q (goes_on s events)
+  done = k.ends
+
+  stop_ends : (s : State) (events : List Event) (why : Stop) → P None s events → Q (stopped s events why)
+  stop_ends = k.stops
+
+  line_added : (s : State) (events : List Event) (e : Event) → access_of e.what ≡ None → P None s events
+      → P None s (events ++ e ∷ [])
+  line_added = k.line
+
+  ruleset ends = (done, stop_ends, line_added)
+
   -- a fault of no access, after which an entry may begin
   faults : (s : State) (events : List Event) (fault : UsageFault) (entry : Option ℕ) → P None s events
       → Q (failed (record s { entry = entry }) events (failure.Usage fault))
@@ -199,13 +212,11 @@ module _ {P : Option Failure → State → List Event → Type 0} {Q : Stepped �
 
   called_keeps : (s : State) (events : List Event) (e : Escalation) → P None s events
       → Q (supervisor_called_by s events e)
-  called_keeps s events Itself p = k.ends _ events (k.pending _ events SV_CALL (k.moved s events Short p))
+  called_keeps s events Itself p = let after = k.pending _ events SV_CALL (k.moved s events Short p) in search ends
   called_keeps s events HardFault p =
-      let st = with_fault_bits s.bus.system.status 0 FORCED in
-      let forced = k.status s events st p in
-      k.ends _ _ (k.pending (with_status s st) _ HARD_FAULT
-      (k.line (with_status s st) events (fault_line (with_status s st) HARD_FAULT) refl forced))
-  called_keeps s events Lockup p = k.stops s _ stop.Lockup (k.line s events (fault_line s 0) refl p)
+      let forced = k.status s events (with_fault_bits s.bus.system.status 0 FORCED) p in
+      let after = k.pending _ events HARD_FAULT forced in search ends
+  called_keeps s events Lockup p = search ends
 
   supervisor_keeps : (s : State) (events : List Event) → P None s events → Q (supervisor_called s events)
   unfolding supervisor_called
@@ -215,7 +226,7 @@ module _ {P : Option Failure → State → List Event → Type 0} {Q : Stepped �
 
   stacked_keeps : (s : State) (all : ListResult) (end : Option Failure) → P end (with_bus s all.bus) all.events
       → Q (stacked s all end)
-  stacked_keeps s all None p = k.ends (with_bus s all.bus) all.events p
+  stacked_keeps s all None p = search ends
   stacked_keeps s all (Some why) p = k.fails why (with_bus s all.bus) all.events s.entry p
 
   entry_keeps : (s : State) (x : ℕ) → candidate s.bus.system.nvic ≡ Some x → P None s [] → Q (begin_entry s)
@@ -233,8 +244,7 @@ module _ {P : Option Failure → State → List Event → Type 0} {Q : Stepped �
       → q.access.kind ≡ Vector → candidate n ≡ Some x → P (failure_in (value_of q o)) s events
       → Q (vector_taken s events x e (value_of q o))
   vector_keeps n s events x e q (performed.Done access) kind next p =
-      let entered : Event = record { tick = s.bus.system.time.ticks; what = HandlerEntered x } in
-      k.ends _ _ (k.handler n s _ x e access.value next (k.line s events entered refl p))
+      let after = k.handler n s events x e access.value next p in search ends
   vector_keeps n s events x e q (performed.Denied rule cause) kind next p = k.refused s events x q.access cause kind p
   vector_keeps n s events x e q (performed.Stop why) kind next p = k.fails (failure.Stop why) s events s.entry p
 
@@ -263,8 +273,8 @@ module _ {P : Option Failure → State → List Event → Type 0} {Q : Stepped �
   unfolding unstacked
   unstacked_keeps s events e frame p =
       cond_both (not (fits_mode e frame)) _ _ Q (λ is. faults s events InvalidReturn (Some e) p)
-      (λ is. cond_both (is_bit (popped_pc frame) 0) _ _ Q (λ odd. k.stops s events _ p)
-      (λ even. k.ends _ events (k.unstacked s events e frame even p)))
+      (λ is. cond_both (is_bit (popped_pc frame) 0) _ _ Q (λ odd. search ends)
+      (λ even. let after = k.unstacked s events e frame even p in search ends))
 
   read_keeps : (s : State) (events : List Event) (e : ℕ) (all : ListResult) (end : Option Failure)
       → P end (with_bus s all.bus) (events ++ all.events) → Q (frame_read s events e all end)
@@ -282,7 +292,7 @@ module _ {P : Option Failure → State → List Event → Type 0} {Q : Stepped �
 
   chained_keeps : (s : State) (events : List Event) (e : ℕ) (next : Option ℕ) → candidate s.bus.system.nvic ≡ next
       → s.entry ≡ None → P None s events → Q (chained s events e next)
-  chained_keeps s events e (Some x) is out p = k.ends (with_entry s e) events (k.entry s events e x is p)
+  chained_keeps s events e (Some x) is out p = let after = k.entry s events e x is p in search ends
   chained_keeps s events e None is out p = popped_keeps s events e out p
 
   returned_keeps : (s : State) (events : List Event) (e : ℕ) (allowed : Bool) → s.entry ≡ None → P None s events
@@ -298,20 +308,20 @@ module _ {P : Option Failure → State → List Event → Type 0} {Q : Stepped �
       cond_both (has_reserved_ones e) _ _ Q
       (λ ones. returned_keeps (with_system s (exception_ended s.bus.system s.registers.exception))
       (before ++ return_line s e ∷ []) e (is_allowed s e) out (k.deactivated s _ out begun))
-      (λ other. k.stops s _ _ begun)
+      (λ other. search ends)
 
   -- ---- the end of an instruction, and its accesses
 
   ended_keeps : (s : State) (events : List Event) (end : Ending) → s.entry ≡ None → P None s events
       → Q (ended s events end)
-  ended_keeps s events ending.Next out p = k.ends s events p
-  ended_keeps s events (ending.ReadSpecial o) out p = k.ends _ events (k.special_read s events o p)
+  ended_keeps s events ending.Next out p = search ends
+  ended_keeps s events (ending.ReadSpecial o) out p = let after = k.special_read s events o p in search ends
   ended_keeps s events (ending.WriteSpecial special value) out p =
-      k.ends _ events (k.special_written s events special value out p)
-  ended_keeps s events (ending.ChangeState o) out p = k.ends _ events (k.state_changed s events o out p)
-  ended_keeps s events ending.Sleep out p = k.ends _ events (k.asleep s events true p)
+      let after = k.special_written s events special value out p in search ends
+  ended_keeps s events (ending.ChangeState o) out p = let after = k.state_changed s events o out p in search ends
+  ended_keeps s events ending.Sleep out p = let after = k.asleep s events true p in search ends
   ended_keeps s events (ending.SupervisorCall number) out p = supervisor_keeps s events p
-  ended_keeps s events (ending.Breakpoint number) out p = k.stops s events (stop.Breakpoint number) p
+  ended_keeps s events (ending.Breakpoint number) out p = search ends
   ended_keeps s events (ending.ExceptionReturn value) out p = return_keeps s events value out p
 
   finished_keeps : (s : State) (events : List Event) (f : Finished) → s.entry ≡ None
@@ -353,7 +363,7 @@ module _ {P : Option Failure → State → List Event → Type 0} {Q : Stepped �
   executed_keeps s events length (decoded.Instr i) out p = planned_keeps s events i _ out p
   executed_keeps s events length decoded.Undefined out p = meaningless_keeps s events length UndefinedInstruction out p
   executed_keeps s events length decoded.NoCoprocessor out p = meaningless_keeps s events length NoCoprocessor out p
-  executed_keeps s events length (decoded.Unpredictable place why) out p = k.stops s events _ p
+  executed_keeps s events length (decoded.Unpredictable place why) out p = search ends
 
   -- ---- the fetches
 
@@ -397,15 +407,19 @@ module _ {P : Option Failure → State → List Event → Type 0} {Q : Stepped �
       cond_both (sleeps_on s) _ _ Q (λ sleeps. k.ends s [] p)
       (λ wakes. instruction_keeps (record s { asleep = false }) is (k.asleep s [] false p))
 
-  running_keeps : (s : State) → P None s [] → Q (running s)
-  running_keeps s p =
+  -- what holds after the tick, where the clock isn't at its end
+  abbrev AfterTick : State → Type 0
+  AfterTick s = nat_le last_tick s.bus.system.time.ticks ≡ false → P None (ticked s) []
+
+  running_keeps : (s : State) → P None s [] → AfterTick s → Q (running s)
+  running_keeps s p after =
       cond_both (nat_le last_tick s.bus.system.time.ticks) _ _ Q (λ late. k.stops s [] _ p)
-      (λ early. phase_keeps (ticked s) s.entry _ refl refl (k.tick s early p))
+      (λ early. phase_keeps (ticked s) s.entry _ refl refl (after early))
 
-  stopped_keeps : (s : State) (why : Option Stop) → P None s [] → Q (unless_stopped s why)
-  stopped_keeps s None p = running_keeps s p
-  stopped_keeps s (Some why) p = k.ends s [] p
+  stopped_keeps : (s : State) (why : Option Stop) → P None s [] → AfterTick s → Q (unless_stopped s why)
+  stopped_keeps s None p after = running_keeps s p after
+  stopped_keeps s (Some why) p after = k.ends s [] p
 
-  pub step_keeps : (s : State) → P None s [] → Q (step s)
+  pub step_keeps : (s : State) → P None s [] → AfterTick s → Q (step s)
   unfolding step
-  step_keeps s p = stopped_keeps s s.stop p
+  step_keeps s p after = stopped_keeps s s.stop p after
