@@ -8,7 +8,7 @@ use Rattle.std.proofs.Common.{refl, sym, ◌∙◌}
 use Rattle.std.proofs.lemmas.Bool.{cond_both, or_parts}
 use Rattle.std.proofs.lemmas.List.Folds.{list_any-append}
 use Rattle.platform.specs.declared.access.Kind.{Kind}
-use Rattle.platform.specs.declared.access.Kind.TheVariants.{Fetch, Load, Store, Push, Pop, Vector, Probe}
+use Rattle.platform.specs.declared.access.Kind.TheVariants.{Store}
 use Rattle.platform.specs.declared.access.Request.{Request}
 use Rattle.platform.specs.declared.access.Rule.{Rule}
 use Rattle.platform.specs.declared.event.Event.{Event}
@@ -38,13 +38,8 @@ none_later xs ys e = (or_parts _ _ (sym (list_any-append (λ (event : Event). wr
 
 -- a store is a write
 store_writes : (k : Kind) → is_store k ≡ true → is_write k ≡ true
-store_writes Fetch e = absurd cc
-store_writes Load e = absurd cc
 store_writes Store e = refl
-store_writes Push e = absurd cc
-store_writes Pop e = absurd cc
-store_writes Vector e = absurd cc
-store_writes Probe e = absurd cc
+store_writes other e = absurd cc
 
 -- an access to the Private Peripheral Bus leaves these registers, unless its event is such a write
 abbrev SystemStays : ℕ → Request → Mpu → Outcome System → Type 0
