@@ -10,6 +10,8 @@ mod state;
 mod tasks;
 mod texts;
 
-pub use sessions::{SessionError, session};
+pub use serving::SessionError;
+pub use sessions::session;
 pub use slots::Slots;
 pub use state::write_state;
+pub use texts::put_part;
