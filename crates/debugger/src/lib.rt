@@ -10,8 +10,9 @@ mod state;
 mod tasks;
 mod texts;
 
+pub use changes::refusal_text;
 pub use serving::SessionError;
 pub use sessions::session;
 pub use slots::Slots;
-pub use state::write_state;
-pub use texts::put_part;
+pub use state::{StatePage, state_page, write_state};
+pub use texts::{next_text, put_part, regions_text};
