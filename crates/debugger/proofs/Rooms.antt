@@ -191,17 +191,6 @@ saved_same s slots (Some (change.Save slot)) =
     map-set (λ (x : Slot). saved_there x) slots slot (record { state = s; is_saved = true })
 saved_same s slots (Some (change.Back slot)) = refl
 
--- what is held after the answer to a line
-pub line_held : (h : Held) (s : State) (new : Held) (line : Option (List ℕ)) (asked : Result Command LineError)
-    (quit : Bool) → asked ≡ line_asked (kept_of h) → line ≡ Some [] → quit ≡ quits asked
-    → new ≡ record {
-      settings = settings_after h.settings asked;
-      line = line;
-      slots = slots_after s h.slots (change_of asked);
-      is_open = not quit;
-    } → new ≡ held_after_line h s
-line_held h s new line asked quit is empty quitted kept = rw (kept, empty, quitted, is) refl
-
 -- so what is held after a byte is what the session keeps
 pub holds : (h : Held) (s : State) (byte : ℕ) → kept_of (held_after h s byte) ≡ next (kept_of h) s byte
 holds h s byte = split (is_line_feed byte) refl
@@ -212,6 +201,17 @@ holds h s byte = split (is_line_feed byte) refl
         (ap (λ (saved : List (Option State)). record (after_line (kept_of h) s) { saved = saved })
         (saved_same s h.slots (change_of (line_asked (kept_of h)))))
     split false e = rw e refl
+
+-- what is held after the answer to a line
+pub line_held : (h : Held) (s : State) (new : Held) (line : Option (List ℕ)) (asked : Result Command LineError)
+    (quit : Bool) → asked ≡ line_asked (kept_of h) → line ≡ Some [] → quit ≡ quits asked
+    → new ≡ record {
+      settings = settings_after h.settings asked;
+      line = line;
+      slots = slots_after s h.slots (change_of asked);
+      is_open = not quit;
+    } → new ≡ held_after_line h s
+line_held h s new line asked quit is empty quitted kept = rw (kept, empty, quitted, is) refl
 
 -- ---- before the first byte
 
@@ -247,6 +247,7 @@ opened_is board slots =
 -- a session of what is held first is that of what is saved
 pub session_is : (board : Numbers) (slots : List Slot) (h : Held) (s : State) → h ≡ held_first board slots
     → course_of holding h s ≡ session_of board (saved_in slots) s
+unfolding session_of
 session_is board slots h s e =
     course_seen kept_of held_after debugging holds h s
     ∙ ap (λ (k : Kept). course_of debugging k s) (ap kept_of e ∙ opened_is board slots)
