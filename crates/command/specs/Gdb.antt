@@ -4,18 +4,25 @@ use Rattle.command.specs.declared.error.Error.{Error}
 use Rattle.command.specs.declared.opening.Opened.{Opened}
 use Rattle.command.specs.Opening.{Opens}
 use Rattle.command.specs.Sessions.{SaysNothing, Talked, session_status}
-use Rattle.gdb_server.specs.Sessions.{session_of}
+use Rattle.gdb_server.specs.Conduct.{conduct, first}
 use Rattle.output.specs.Input.{Reading}
 use Rattle.output.specs.Output.{Writing}
 use Rattle.platform.specs.declared.error.BoardError.{BoardError}
 use Rattle.platform.specs.declared.error.LoadError.{LoadError}
-use Rattle.platform.specs.Boards.{Described, numbers_of}
+use Rattle.platform.specs.Boards.{Described, Numbers, numbers_of}
 use Rattle.platform.specs.Images.{Segment}
+use Rattle.reference.specs.State.{State}
+use Rattle.serving.specs.Conduct.{course_of}
+use Rattle.serving.specs.Sessions.{Course}
 
--- a session of a machine before its first step, whose clock stays within a limit
+-- a session with GDB of a machine of a board, in a state before the first byte; its clock stays within a limit
+unfoldable pub gdb_session : Numbers → ℕ → State → Course
+gdb_session board limit s = course_of conduct (first limit board) s
+
+-- a session of a machine before its first step
 abbrev pub ServesOf : Opened → ℕ → Reading → Reading → Writing → Writing → Result (Unit {0}) Error → Type 0
 ServesOf machine limit before after out out' result =
-    Talked (session_of (numbers_of machine.layout) limit machine.machine.state) machine.machine
+    Talked (gdb_session (numbers_of machine.layout) limit machine.machine.state) machine.machine
     before after out out' result
 
 -- a session of a machine before its first step, or a refusal

@@ -43,6 +43,7 @@ pub fn serve_gdb<I: In, O: Out, E: Write>(
 }
 
 /// Holds a session of a machine with GDB.
+#[tactic(auto, unfolding(crate::specs::Gdb::gdb_session))]
 fn hold_gdb_session<I: In, O: Out>(
     opened: Opened,
     steps: u64,
@@ -56,7 +57,7 @@ fn hold_gdb_session<I: In, O: Out>(
         mut machine,
         layout,
     } = opened;
-    let mut server = Server::new(layout, steps);
+    let mut server = Server::new(steps, layout);
     match serve(&mut server, &mut machine, input, out) {
         Ok(()) => Ok(()),
         Err(_) => Err(Error::Io),
