@@ -1,4 +1,5 @@
 pub mod Dumping
+pub mod Gdb
 pub mod Opening
 pub mod Program
 pub mod Reports

@@ -6,6 +6,7 @@ use Rattle.command.specs.declared.error.Error.{Error}
 use Rattle.command.specs.declared.files.FileError.{FileError}
 use Rattle.command.specs.declared.running.Ran.{Ran}
 use Rattle.command.specs.Dumping.{Dumps}
+use Rattle.command.specs.Gdb.{GdbTo}
 use Rattle.command.specs.Opening.{board_in_file}
 use Rattle.command.specs.Reports.{ReportsTo}
 use Rattle.command.specs.Running.{RunsOn}
@@ -17,7 +18,7 @@ use Rattle.command_line.specs.Notices.{Takes}
 use Rattle.command_line.specs.declared.dumps.Dump.{Dump}
 use Rattle.command_line.specs.declared.subcommands.RunOptions.{RunOptions}
 use Rattle.command_line.specs.declared.subcommands.Subcommand.{Subcommand}
-use Rattle.command_line.specs.declared.subcommands.Subcommand.TheVariants.{Run, Report, Tasks, Debug}
+use Rattle.command_line.specs.declared.subcommands.Subcommand.TheVariants.{Run, Report, Tasks, Debug, Gdb}
 use Rattle.command_line.specs.declared.words.WordsError.{WordsError}
 use Rattle.command_line.specs.declared.words.WordsError.TheVariants.{Wrong, Help, Version, OutOfMemory}
 use Rattle.output.specs.Input.{Reading}
@@ -60,7 +61,7 @@ pub record RunsAndSaves (image : Result (List Segment) LoadError) (board : Resul
   pub dumps : DumpsAfter run.dumps.items ran done
   pub is : status ≡ run_status run.expect ran done
 
--- what each subcommand does with the bytes of an image; a debug session alone reads standard input
+-- what each subcommand does with the bytes of an image; sessions alone read standard input
 abbrev pub Performs : Subcommand → List ℕ → Result Described BoardError → Reading → Reading → Writing → Writing → ℕ
     → Type 0
 Performs (Run run) image board before after old new status =
@@ -71,6 +72,8 @@ Performs (Tasks tasks) image board before after old new status =
     TasksTo image board tasks old new status × (after ≡ before)
 Performs (Debug debug) image board before after old new status =
     SessionTo (image_of image) board debug.slots before after old new status
+Performs (Gdb gdb) image board before after old new status =
+    GdbTo (image_of image) board gdb.steps before after old new status
 
 -- ---- with the files
 

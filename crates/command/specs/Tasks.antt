@@ -40,8 +40,8 @@ pub record CutsText (board : Numbers) (name : ℕ → List ℕ) (allowed : List 
   pub is_text : IsWorldsText board name allowed v why text
   pub cut : IsCut text old new
 
--- the text was sent, and the result says why the run ended and whether all worlds are apart; or memory ran out, and nothing
--- was put; or a call of the writer failed
+-- the text was sent, and the result says why the run ended and whether all worlds are apart; or memory ran out, and
+-- nothing was put; or a call of the writer failed
 abbrev pub Tells : Numbers → (ℕ → List ℕ) → List Span → Worlds → Stop → Writing → Writing → Result Told Error → Type 0
 Tells board name allowed v why old new (Ok told) =
     (told.stop ≡ why) × Decides told.apart (AreAllApart board allowed v) × SendsText board name allowed v why old new

@@ -13,6 +13,7 @@ use crate::debugging::debug;
 use crate::dumping::{FailedDump, write_dumps};
 use crate::error::{Error, write_error};
 use crate::files::{FileError, InputFile, read_file};
+use crate::gdb_session::serve_gdb;
 use crate::last_error::LastError;
 use crate::reason::{refuse, write_dump_reason, write_run_notes};
 use crate::reporting::report;
@@ -30,9 +31,9 @@ use std::marker::Brand;
 use std::rt::Files;
 use std::sync::ledger::{Blank, Ledger};
 
-/// Does what the arguments ask for; the first one is the program's name. Reads the image, then the
-/// board, and writes the trace to `out`, or the answers to the commands of `input`, or the refusal to
-/// `err`, in short lines (`Messages`). Returns the exit status. Help and the version go to `out`.
+/// Does what the arguments ask for; the first one is the program's name. Reads the image, then the board, and writes
+/// the trace to `out`, or the answers to the commands or the packets of `input`, or the refusal to `err`, in short
+/// lines (`Messages`). Returns the exit status. Help and the version go to `out`.
 pub fn program<R: Files + AllocGlobal, I: Read + Drop, W: Write + Drop, E: Write>(
     rt: &R,
     words: &[String],
@@ -155,7 +156,7 @@ fn do_subcommand<R: Files + AllocGlobal, I: In, O: Out, E: Write>(
     perform(rt, subcommand, image, board, input, out, err)
 }
 
-/// Runs, reports, tells the worlds of, or debugs an image on a board, as the subcommand says.
+/// Runs, reports, tells the worlds of, or debugs an image on a board, by commands or by GDB, as the subcommand says.
 fn perform<R: Files + AllocGlobal, I: In, O: Out, E: Write>(
     rt: &R,
     subcommand: Subcommand<'_>,
@@ -176,6 +177,9 @@ fn perform<R: Files + AllocGlobal, I: In, O: Out, E: Write>(
         Subcommand::Tasks(options) => tasks(rt.alloc(), image, board, &options, out, err),
         Subcommand::Debug(options) => {
             debug(rt.alloc(), image, board, options.slots, input, out, err)
+        }
+        Subcommand::Gdb(options) => {
+            serve_gdb(rt.alloc(), image, board, options.steps, input, out, err)
         }
     }
 }

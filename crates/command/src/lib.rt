@@ -1,5 +1,5 @@
 //! The command `marm`: the files that its arguments name, a run from the bytes of an image and of a board to
-//! the bytes of a trace, a page about such a run, the text about its worlds, and a debug session.
+//! the bytes of a trace, a page about such a run, the text about its worlds, a debug session, and a session with GDB.
 #![tactic(auto)]
 
 mod commands;
@@ -7,6 +7,7 @@ mod debugging;
 mod dumping;
 mod error;
 mod files;
+mod gdb_session;
 mod last_error;
 mod opening;
 mod reason;
@@ -22,6 +23,7 @@ pub use commands::{answer, program, refuse_words};
 pub use debugging::debug;
 pub use error::{Error, write_error};
 pub use files::{FileError, InputFile, read_file, words};
+pub use gdb_session::serve_gdb;
 pub use opening::{Opened, open};
 pub use reason::write_reason;
 pub use reporting::report;

@@ -1,6 +1,7 @@
 mod Allowing
 mod Asking
 mod Dumping
+mod Listing
 mod Parsing
 mod Searching
 mod Stopping

@@ -16,9 +16,13 @@ option id = record (operand id) { long = Some id }
 abbrev pub board : Rule
 board = record (option (codes "board")) { required = true }
 
--- a decimal number from 0 to 2^32
+-- a decimal number from 0 to 2^32, which may be left out
+abbrev pub limit : Rule
+limit = record (option (codes "steps")) { parser = Some (Unsigned 0 (2 ^ 32)) }
+
+-- the same, which has to be there
 abbrev pub steps : Rule
-steps = record (option (codes "steps")) { required = true; parser = Some (Unsigned 0 (2 ^ 32)) }
+steps = record limit { required = true }
 
 abbrev pub image : Rule
 image = record (operand (codes "image")) { required = true }
@@ -70,6 +74,10 @@ tasks = with_rule (with_rule (with_rule tasks_in_steps expect_apart) allow) imag
 abbrev pub debug : App
 debug = with_rule (with_rule (with_rule (new_app (codes "debug")) board) (option (codes "slots"))) image
 
+-- marm gdb --board FILE [--steps N] IMAGE
+abbrev pub gdb : App
+gdb = with_rule (with_rule (with_rule (new_app (codes "gdb")) board) limit) image
+
 -- marm has a version, and needs one of its commands
 abbrev pub with_version : Shape → Shape
 with_version s = record s { has_version = true; subcommand_required = true }
@@ -81,5 +89,8 @@ marm_of_runs =
 abbrev pub marm_with_tasks : App
 marm_with_tasks = with_subcommand marm_of_runs tasks.top
 
+abbrev pub marm_with_debug : App
+marm_with_debug = with_subcommand marm_with_tasks debug.top
+
 abbrev pub marm : App
-marm = with_subcommand marm_with_tasks debug.top
+marm = with_subcommand marm_with_debug gdb.top

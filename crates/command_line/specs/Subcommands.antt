@@ -10,10 +10,11 @@ use Rattle.command_line.specs.Allowed.{AreAllowed}
 use Rattle.command_line.specs.Dumps.{AreDumps}
 use Rattle.command_line.specs.Stops.{IsExpected}
 use Rattle.command_line.specs.declared.subcommands.DebugOptions.{DebugOptions}
+use Rattle.command_line.specs.declared.subcommands.GdbOptions.{GdbOptions}
 use Rattle.command_line.specs.declared.subcommands.ReportOptions.{ReportOptions}
 use Rattle.command_line.specs.declared.subcommands.RunOptions.{RunOptions}
 use Rattle.command_line.specs.declared.subcommands.Subcommand.{Subcommand}
-use Rattle.command_line.specs.declared.subcommands.Subcommand.TheVariants.{Run, Report, Tasks, Debug}
+use Rattle.command_line.specs.declared.subcommands.Subcommand.TheVariants.{Run, Report, Tasks, Debug, Gdb}
 use Rattle.command_line.specs.declared.subcommands.TasksOptions.{TasksOptions}
 use Rattle.trace.specs.declared.selection.TraceSelection.{TraceSelection}
 use Rattle.trace.specs.declared.selection.TraceSelection.TheVariants as which
@@ -36,6 +37,11 @@ IsSteps text = IsNumeral 10 text × (number_in text ≤ 2 ^ 32)
 abbrev pub HasSteps : Option (List ℕ) → ℕ → Type 0
 HasSteps None steps = ⊥
 HasSteps (Some text) steps = IsSteps text × (steps ≡ number_in text)
+
+-- the limit of a session is the number of steps that the option has, and 2^32 without the option
+abbrev pub HasLimit : Option (List ℕ) → ℕ → Type 0
+HasLimit None limit = limit ≡ 2 ^ 32
+HasLimit (Some text) limit = IsSteps text × (limit ≡ number_in text)
 
 -- a number of slots: digits alone, from 0 to 8
 abbrev pub IsSlots : List ℕ → Type 0
@@ -119,12 +125,19 @@ pub record IsDebug (rows : List Row) (debug : DebugOptions) : Type 0 where
   pub image : IsText (first_of (codes "image") rows) debug.image
   pub slots : HasSlots (first_of (codes "slots") rows) debug.slots
 
+-- the options of `gdb` have the values of its matches
+pub record IsGdb (rows : List Row) (gdb : GdbOptions) : Type 0 where
+  pub board : IsText (first_of (codes "board") rows) gdb.board
+  pub image : IsText (first_of (codes "image") rows) gdb.image
+  pub steps : HasLimit (first_of (codes "steps") rows) gdb.steps
+
 -- the subcommand of a name, with the values of its matches
 abbrev pub IsNamed : Text → List Row → Subcommand → Type 0
 IsNamed name rows (Run run) = (name ≡ codes "run") × IsRun rows run
 IsNamed name rows (Report report) = (name ≡ codes "report") × IsReport rows report
 IsNamed name rows (Tasks tasks) = (name ≡ codes "tasks") × IsTasks rows tasks
 IsNamed name rows (Debug debug) = (name ≡ codes "debug") × IsDebug rows debug
+IsNamed name rows (Gdb gdb) = (name ≡ codes "gdb") × IsGdb rows gdb
 
 -- the subcommand that the matches have
 abbrev pub IsAsked : Option (Text × List Row) → Subcommand → Type 0
@@ -137,9 +150,11 @@ image_path (Run run) = run.image.now
 image_path (Report report) = report.image.now
 image_path (Tasks tasks) = tasks.image.now
 image_path (Debug debug) = debug.image.now
+image_path (Gdb gdb) = gdb.image.now
 
 abbrev pub board_path : Subcommand → Text
 board_path (Run run) = run.board.now
 board_path (Report report) = report.board.now
 board_path (Tasks tasks) = tasks.board.now
 board_path (Debug debug) = debug.board.now
+board_path (Gdb gdb) = gdb.board.now

@@ -5,7 +5,7 @@ ghost use Rattle.clap.specs.Words.{app_of, rule_of};
 ghost use Rattle.clap.specs.declared.builder.command.Command.TheViews.{out-Command};
 ghost use Rattle.command_line.specs.Commands as spec;
 
-use crate::texts::{AFTER_DEBUG, AFTER_MARM, AFTER_REPORT, AFTER_RUN, AFTER_TASKS};
+use crate::texts::{AFTER_DEBUG, AFTER_GDB, AFTER_MARM, AFTER_REPORT, AFTER_RUN, AFTER_TASKS};
 use clap::builder::ValueParser;
 use clap::{Arg, ArgAction, Command};
 use std::alloc::{AllocError, Global};
@@ -20,13 +20,17 @@ pub const MOST_SLOTS: u64 = 8;
 pub const STEPS_HELP: &str =
     "The most steps (instructions, halves of exception entries, idle ticks) to make, from 0 to 4294967296";
 
+/// What the help says of the `--steps` of a session.
+pub const LIMIT_HELP: &str = "\
+The most steps (instructions, halves of exception entries, idle ticks) to make, from 0 to 4294967296 (the default)";
+
 /// What the help says of `--trace`.
 const TRACE_HELP: &str = "\
 Which lines are written, before the line of the stop: all (the default), refused, faults, exceptions, console or none";
 
 /// What the help says of `--expect`.
-const EXPECT_HELP: &str =
-    "The words of the last line, as \"breakpoint 0\" or \"stop breakpoint 0\": status 0 if the run ends so, and 1 if not";
+const EXPECT_HELP: &str = "\
+The words of the last line, as \"breakpoint 0\" or \"stop breakpoint 0\": status 0 if the run ends so, and 1 if not";
 
 /// What the help says of `--state`.
 const STATE_HELP: &str =
@@ -56,6 +60,15 @@ const VERSION: &str = "0.3.0";
 /// Returns the command `marm`, with its subcommands.
 pub fn marm<'a>(alloc: Global) -> Result<Command<'a>, AllocError>
     ensures { IfOk result (λ c. app_of c ≡ spec.marm) }
+{
+    let gdb = gdb(alloc)?;
+    let marm = marm_with_debug(alloc)?;
+    marm.subcommand(gdb)
+}
+
+/// Returns the command `marm`, with the subcommands that make a run, and `debug`.
+fn marm_with_debug<'a>(alloc: Global) -> Result<Command<'a>, AllocError>
+    ensures { IfOk result (λ c. app_of c ≡ spec.marm_with_debug) }
 {
     let debug = debug(alloc)?;
     let marm = marm_with_tasks(alloc)?;
@@ -96,6 +109,19 @@ fn debug<'a>(alloc: Global) -> Result<Command<'a>, AllocError>
     let debug = debug.arg(board(alloc))?;
     let debug = debug.arg(option(alloc, "slots", "N", SLOTS_HELP))?;
     debug.arg(image(alloc))
+}
+
+/// Returns the subcommand `gdb`, with its arguments.
+fn gdb<'a>(alloc: Global) -> Result<Command<'a>, AllocError>
+    ensures app { IfOk result (λ c. app_of c ≡ spec.gdb) }
+    ensures local { IfOk result (λ c. (out-Command c).has_globals ≡ false) }
+{
+    let gdb = Command::new(alloc, "gdb")
+        .about("Serves GDB on standard input and output, by its remote serial protocol")
+        .after_help(AFTER_GDB);
+    let gdb = gdb.arg(board(alloc))?;
+    let gdb = gdb.arg(limit(alloc, LIMIT_HELP))?;
+    gdb.arg(image(alloc))
 }
 
 /// Returns the subcommand `report`, with its three arguments.
@@ -230,14 +256,20 @@ fn board<'a>(alloc: Global) -> Arg<'a>
     .required(true)
 }
 
-/// Returns `--steps N`, from 0 to 4294967296.
+/// Returns `--steps N`, from 0 to 4294967296, which may be left out.
+fn limit<'a>(alloc: Global, help: &'a str) -> Arg<'a>
+    ensures rule { rule_of result ≡ spec.limit }
+    ensures local { result.global ≡ false }
+{
+    option(alloc, "steps", "N", help).value_parser(ValueParser::unsigned(0, MOST_STEPS))
+}
+
+/// Returns `--steps N`, which has to be there.
 fn steps<'a>(alloc: Global) -> Arg<'a>
     ensures rule { rule_of result ≡ spec.steps }
     ensures local { result.global ≡ false }
 {
-    option(alloc, "steps", "N", STEPS_HELP)
-        .required(true)
-        .value_parser(ValueParser::unsigned(0, MOST_STEPS))
+    limit(alloc, STEPS_HELP).required(true)
 }
 
 /// Returns the image's path.

@@ -1,5 +1,5 @@
 //! The command line: `marm run --board FILE --steps N IMAGE`, `marm report --board FILE --steps N IMAGE`,
-//! `marm tasks --board FILE --steps N IMAGE` and `marm debug --board FILE IMAGE`.
+//! `marm tasks --board FILE --steps N IMAGE`, `marm debug --board FILE IMAGE` and `marm gdb --board FILE IMAGE`.
 #![tactic(auto)]
 
 mod allowed;
@@ -15,6 +15,8 @@ mod words;
 
 pub use dumps::Dump;
 pub use stops::{have_same_words, words_in};
-pub use subcommands::{DebugOptions, ReportOptions, RunOptions, Subcommand, TasksOptions};
+pub use subcommands::{
+    DebugOptions, GdbOptions, ReportOptions, RunOptions, Subcommand, TasksOptions,
+};
 pub use texts::AFTER_DEBUG;
 pub use words::{WordsError, subcommand_of};

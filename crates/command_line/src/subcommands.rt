@@ -4,7 +4,7 @@ ghost use Rattle.std.specs.Prelude.{◌≡◌, ◌⊎◌, ◌==◌, IfSome, None
 ghost use Rattle.clap.specs.Words.{first_of, found_of, rows_of, subcommand_rows_of};
 ghost use Rattle.command_line.specs.Notices.{Reads, memory, notice_of, usage};
 ghost use Rattle.command_line.specs.Stops.{IsExpected};
-ghost use Rattle.command_line.specs.Subcommands.{HasSlots, HasSteps, IsAsked, IsDebug, IsNamed};
+ghost use Rattle.command_line.specs.Subcommands.{HasLimit, HasSlots, HasSteps, IsAsked, IsDebug, IsGdb, IsNamed};
 ghost use Rattle.command_line.specs.Subcommands.{IsReport, IsRun, IsSelection};
 ghost use Rattle.command_line.specs.Subcommands.{IsTasks, is_set};
 ghost use Rattle.command_line.specs.Subcommands.{IsSteps, IsText, board_path, image_path, number_in, plus};
@@ -78,6 +78,17 @@ pub struct DebugOptions<'a> {
     pub slots: u8,
 }
 
+/// The options of `marm gdb`.
+#[derive(Clone, Copy)]
+pub struct GdbOptions<'a> {
+    /// The path of the board file.
+    pub board: &'a str,
+    /// The path of the image file.
+    pub image: &'a str,
+    /// The most steps to make, from 0 to 2^32.
+    pub steps: u64,
+}
+
 /// A subcommand with its options.
 #[derive(Drop)]
 pub enum Subcommand<'a> {
@@ -89,6 +100,8 @@ pub enum Subcommand<'a> {
     Tasks(TasksOptions<'a>),
     /// Debug an image by the commands on standard input.
     Debug(DebugOptions<'a>),
+    /// Debug an image by GDB, which sends packets on standard input.
+    Gdb(GdbOptions<'a>),
 }
 
 impl<'a> Subcommand<'a> {
@@ -101,6 +114,7 @@ impl<'a> Subcommand<'a> {
             Subcommand::Report(options) => options.image,
             Subcommand::Tasks(options) => options.image,
             Subcommand::Debug(options) => options.image,
+            Subcommand::Gdb(options) => options.image,
         }
     }
 
@@ -113,6 +127,7 @@ impl<'a> Subcommand<'a> {
             Subcommand::Report(options) => options.board,
             Subcommand::Tasks(options) => options.board,
             Subcommand::Debug(options) => options.board,
+            Subcommand::Gdb(options) => options.board,
         }
     }
 }
@@ -146,6 +161,8 @@ fn subcommand_named<'a>(
         Ok(Subcommand::Tasks(tasks_options(alloc, matches)?))
     } else if name == "debug" {
         Ok(Subcommand::Debug(debug_options(alloc, matches)?))
+    } else if name == "gdb" {
+        Ok(Subcommand::Gdb(gdb_options(alloc, matches)?))
     } else {
         Err(WordsError::Wrong(String::new(alloc)))
     }
@@ -204,6 +221,17 @@ fn debug_options<'a>(alloc: Global, debug: &ArgMatches<'a>) -> Result<DebugOptio
     })
 }
 
+/// Returns the options of `gdb`.
+fn gdb_options<'a>(alloc: Global, gdb: &ArgMatches<'a>) -> Result<GdbOptions<'a>, WordsError>
+    ensures { Reads (IsGdb (rows_of (found_of gdb.now))) result }
+{
+    Ok(GdbOptions {
+        board: text_in(alloc, value_of(gdb, "board"))?,
+        image: text_in(alloc, value_of(gdb, "image"))?,
+        steps: limit_in(alloc, value_of(gdb, "steps"))?,
+    })
+}
+
 /// Returns the value of an argument.
 fn value_of<'a>(matches: &ArgMatches<'a>, id: &str) -> Option<&'a str>
     ensures { text_of result ≡ first_of id.entry.now (rows_of (found_of matches.entry.now)) }
@@ -246,6 +274,16 @@ fn steps_in(alloc: Global, text: Option<&str>) -> Result<u64, WordsError>
     match number_in(text) {
         Some(steps) => Ok(steps),
         None => Err(wrong_value(alloc, text, "--steps <N>", STEPS_ADVICE)),
+    }
+}
+
+/// Returns the number of steps in a text, 2^32 where there is none.
+fn limit_in(alloc: Global, text: Option<&str>) -> Result<u64, WordsError>
+    ensures { Reads (HasLimit (text_of text.entry)) result }
+{
+    match text {
+        Some(_) => steps_in(alloc, text),
+        None => Ok(MOST_STEPS),
     }
 }
 

@@ -10,13 +10,13 @@ A file whose name begins with - is written with ./ before it.
 ";
 
 /// The commands of the program.
-pub const COMMANDS_ADVICE: &str = "The commands are run, report, tasks, debug and help.\n";
+pub const COMMANDS_ADVICE: &str = "The commands are run, report, tasks, debug, gdb and help.\n";
 
 /// What the program's help says of its statuses and messages.
 pub const AFTER_MARM: &str = "\
 Exit status:
   0  all steps were made, a breakpoint was met, the run ended as expected (--expect, --expect-apart), or a
-     debug session ended; or the version was asked for
+     session of debug or gdb ended; or the version was asked for
   1  the run ended otherwise than expected (--expect, --expect-apart)
   2  the arguments are wrong, or help was asked for (marm: usage)
   3  the image or the board is refused, or memory ran out for the board or the machine
@@ -162,3 +162,33 @@ Exit status:
 Example:
   echo 'explain 0x20000000 u w' |
   marm debug --board examples/boards/small.toml examples/first.elf";
+
+/// What the help of `gdb` says of the session and of the statuses.
+pub const AFTER_GDB: &str = "\
+GDB starts this program, and both speak over standard input and output:
+  target remote | marm gdb --board FILE IMAGE
+
+The machine makes steps only while GDB waits for it to stop, and Ctrl-C in GDB stops it. GDB shows what the
+firmware prints, and before a stop the lines of a trace that say why. `monitor help` in GDB lists the commands
+of this program.
+
+GDB has a signal for each stop:
+  SIGTRAP  a step was made, a breakpoint is next, or the machine has stopped at a BKPT
+  SIGINT   Ctrl-C
+  SIGSEGV  memory protection refused an access, after `monitor stop refused on` or `monitor stop faults on`
+  SIGBUS   the bus refused an access, after one of these
+  SIGILL   another fault, after `monitor stop faults on`; or the machine has stopped: unpredictable
+  SIGUSR1  a handler was entered, after `monitor stop exceptions on`
+  SIGXCPU  the steps of --steps were made
+  SIGABRT, SIGSYS, SIGTERM
+           the machine has stopped: lockup, outofprofile, reset
+
+Exit status:
+  0  the session ended
+  2  the arguments are wrong, or help was asked for (marm: usage)
+  3  the image or the board is refused, or memory ran out for the board or the machine
+     (marm: load, board, start, size)
+  5  reading or writing failed, or memory ran out for the arguments or a file (marm: io)
+
+Example:
+  gdb-multiarch -ex 'target remote | marm gdb --board examples/boards/small.toml examples/first.elf'";

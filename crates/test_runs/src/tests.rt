@@ -9,6 +9,7 @@ mod exclusives;
 mod fault_registers;
 mod faulty_steps;
 mod files;
+mod gdb_sessions;
 mod growths;
 mod handlers;
 mod instructions;

@@ -26,6 +26,7 @@ out   run     Runs an image on a board and writes the trace to standard output
 out   report  Runs an image on a board and writes a page about the run, in HTML, to standard output
 out   tasks   Runs an image on a board and writes which memory its tasks may touch and share
 out   debug   Reads commands from standard input and writes their answers to standard output
+out   gdb     Serves GDB on standard input and output, by its remote serial protocol
 out   help    Print this message or the help of the given subcommand(s)
 out
 out Options:
@@ -34,7 +35,7 @@ out   -V, --version  Print version
 out
 out Exit status:
 out   0  all steps were made, a breakpoint was met, the run ended as expected (--expect, --expect-apart), or a
-out      debug session ended; or the version was asked for
+out      session of debug or gdb ended; or the version was asked for
 out   1  the run ended otherwise than expected (--expect, --expect-apart)
 out   2  the arguments are wrong, or help was asked for (marm: usage)
 out   3  the image or the board is refused, or memory ran out for the board or the machine
@@ -153,6 +154,53 @@ out
 help
 err marm: usage
 
+the help of gdb
+words gdb --help
+words help gdb
+ends 2
+out Serves GDB on standard input and output, by its remote serial protocol
+out
+out Usage: marm gdb [OPTIONS] --board <FILE> <IMAGE>
+out
+out Arguments:
+out   <IMAGE>  The image: an ELF file for ARM of at most 16 MiB, linked to run
+out
+out Options:
+out       --board <FILE>  The board: a TOML file of at most 16 MiB with the memory sizes, the interrupt lines and the \
+events
+out       --steps <N>     The most steps (instructions, halves of exception entries, idle ticks) to make, \
+from 0 to 4294967296 (the default)
+out   -h, --help          Print help
+out
+out GDB starts this program, and both speak over standard input and output:
+out   target remote | marm gdb --board FILE IMAGE
+out
+out The machine makes steps only while GDB waits for it to stop, and Ctrl-C in GDB stops it. GDB shows what the
+out firmware prints, and before a stop the lines of a trace that say why. `monitor help` in GDB lists the commands
+out of this program.
+out
+out GDB has a signal for each stop:
+out   SIGTRAP  a step was made, a breakpoint is next, or the machine has stopped at a BKPT
+out   SIGINT   Ctrl-C
+out   SIGSEGV  memory protection refused an access, after `monitor stop refused on` or `monitor stop faults on`
+out   SIGBUS   the bus refused an access, after one of these
+out   SIGILL   another fault, after `monitor stop faults on`; or the machine has stopped: unpredictable
+out   SIGUSR1  a handler was entered, after `monitor stop exceptions on`
+out   SIGXCPU  the steps of --steps were made
+out   SIGABRT, SIGSYS, SIGTERM
+out            the machine has stopped: lockup, outofprofile, reset
+out
+out Exit status:
+out   0  the session ended
+out   2  the arguments are wrong, or help was asked for (marm: usage)
+out   3  the image or the board is refused, or memory ran out for the board or the machine
+out      (marm: load, board, start, size)
+out   5  reading or writing failed, or memory ran out for the arguments or a file (marm: io)
+out
+out Example:
+out   gdb-multiarch -ex 'target remote | marm gdb --board examples/boards/small.toml examples/first.elf'
+err marm: usage
+
 help as a word, of help
 words help help
 ends 2
@@ -173,7 +221,7 @@ err
 err Usage: marm <COMMAND>
 err
 err For more information, try '--help'.
-err The commands are run, report, tasks, debug and help.
+err The commands are run, report, tasks, debug, gdb and help.
 
 an option that does not exist
 words run --frob --board board.toml --steps 10 image.elf
@@ -226,14 +274,14 @@ err
 err Usage: marm <COMMAND>
 err
 err For more information, try '--help'.
-err The commands are run, report, tasks, debug and help.
+err The commands are run, report, tasks, debug, gdb and help.
 
 no words
 words
 ends 2
 err marm: usage
 err error: 'marm' requires a subcommand but one was not provided
-err   [subcommands: run, report, tasks, debug, help]
+err   [subcommands: run, report, tasks, debug, gdb, help]
 err
 err Usage: marm <COMMAND>
 err
@@ -361,6 +409,26 @@ err For more information, try '--help'.
 err Only the options of the usage are taken, and --steps takes no negative number.
 err A file whose name begins with - is written with ./ before it.
 
+too many steps of a session
+words gdb --board board.toml --steps 4294967297 image.elf
+ends 2
+err marm: usage
+err error: invalid value '4294967297' for '--steps <N>': 4294967297 is not in 0..=4294967296
+err
+err For more information, try '--help'.
+err --steps takes a decimal number from 0 to 4294967296.
+
+a session without a board
+words gdb image.elf
+ends 2
+err marm: usage
+err error: the following required arguments were not provided:
+err   --board <FILE>
+err
+err Usage: marm gdb --board <FILE> <IMAGE>
+err
+err For more information, try '--help'.
+
 slots that there can't be
 words debug --board board.toml --slots 9 image.elf
 words debug --board board.toml --slots=9 image.elf
@@ -423,6 +491,7 @@ fn steps_of(alloc: Global, line: &str) -> Option<u64> {
         Subcommand::Run(run) => Some(run.steps),
         Subcommand::Report(report) => Some(report.steps),
         Subcommand::Tasks(tasks) => Some(tasks.steps),
+        Subcommand::Gdb(gdb) => Some(gdb.steps),
         Subcommand::Debug(_) => None,
     }
 }
@@ -452,6 +521,10 @@ marm report --board b.toml --steps 4294967296 first.elf | 4294967296
 marm report --board b.toml --steps 4294967297 first.elf | -
 marm report --board b.toml first.elf | -
 marm report --board b.toml --steps 1 --trace none first.elf | -
+marm gdb --board b.toml --steps 10 first.elf | 10
+marm gdb --board b.toml first.elf | 4294967296
+marm gdb --board b.toml --steps 4294967297 first.elf | -
+marm gdb --steps 10 first.elf | -
 marm run --board b.toml --steps 10 | -
 marm run --board b.toml first.elf | -
 marm run --steps 10 first.elf | -

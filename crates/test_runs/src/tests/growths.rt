@@ -329,8 +329,11 @@ fn answer_of(subcommand: &Subcommand<'_>) -> Answer {
             if run.steps == 2 && run.board == BOARD_PATH && run.image == IMAGE_PATH => {
             Answer::Whole
         }
-        Subcommand::Run(_) | Subcommand::Report(_) | Subcommand::Tasks(_) | Subcommand::Debug(_) =>
-            Answer::Wrong,
+        Subcommand::Run(_)
+        | Subcommand::Report(_)
+        | Subcommand::Tasks(_)
+        | Subcommand::Debug(_)
+        | Subcommand::Gdb(_) => Answer::Wrong,
     }
 }
 

@@ -46,7 +46,7 @@ const HIDDEN: [(&str, u8, &str, &[&str], &str); 5] = [
         "a command with a line feed and an override of direction",
         2,
         "marm: usage\nerror: unrecognized subcommand 'frob\\u000Amarm: size\\u202E'\n\nUsage: marm <COMMAND>\n\nFor \
-more information, try '--help'.\nThe commands are run, report, tasks, debug and help.\n",
+more information, try '--help'.\nThe commands are run, report, tasks, debug, gdb and help.\n",
         &[],
         "frob\nmarm: size\u{202E}",
     ),
@@ -103,8 +103,8 @@ const CUT: [(&str, usize, u8, &[&str], &str, &str); 3] = [
         2,
         &[],
         "marm: usage\nerror: unrecognized subcommand '",
-        "..'\n\nUsage: marm <COMMAND>\n\nFor more information, try '--help'.\nThe commands are run, report, tasks, debug \
-and help.\n",
+        "..'\n\nUsage: marm <COMMAND>\n\nFor more information, try '--help'.\nThe commands are run, report, tasks, \
+debug, gdb and help.\n",
     ),
     (
         "a path",

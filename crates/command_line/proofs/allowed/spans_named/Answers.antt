@@ -9,7 +9,8 @@ returns-in-None c =
           inl (
             usage,
             λ value all.
-                allowed_none _ _ _ _ _ c.texts-test.true c.span_named.ensures c.in-None.is c.texts.invariant value.items all.1,
+                allowed_none _ _ _ _ _ c.texts-test.true c.span_named.ensures c.in-None.is c.texts.invariant
+                value.items all.1,
           )
       | inr memory ↦ inr memory
     ]
