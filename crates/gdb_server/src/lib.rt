@@ -1,0 +1,15 @@
+//! A server of GDB's remote serial protocol: what it keeps between two bytes of its input, and what each byte makes.
+#![tactic(auto)]
+
+mod commands;
+mod data;
+mod purposes;
+mod reading;
+mod server;
+mod session;
+mod writes;
+
+pub use data::Data;
+pub use purposes::{Constant, MachineChange, Purpose, Reading, SessionChange, purpose_of};
+pub use server::Server;
+pub use session::Session;
