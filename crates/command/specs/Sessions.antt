@@ -5,7 +5,7 @@ use Rattle.command.specs.declared.error.Error.TheVariants.{Io, Start}
 use Rattle.command.specs.declared.opening.Opened.{Opened}
 use Rattle.command.specs.Opening.{Opens}
 use Rattle.command.specs.Statuses.{error_status}
-use Rattle.debugger.specs.Sessions.{FailsToRead, FailsToWrite, Holds, Talk, opened}
+use Rattle.debugger.specs.Sessions.{session_of}
 use Rattle.machine.specs.Whole.{Whole}
 use Rattle.output.specs.Input.{Reading}
 use Rattle.output.specs.Output.{Writing}
@@ -14,10 +14,11 @@ use Rattle.platform.specs.declared.error.LoadError.{LoadError}
 use Rattle.platform.specs.declared.error.StartError.TheVariants.{NoMemory}
 use Rattle.platform.specs.Boards.{Described, numbers_of}
 use Rattle.platform.specs.Images.{Segment}
+use Rattle.serving.specs.Sessions.{Course, FailsToRead, FailsToWrite, Holds}
 
 -- a session from there on, with the machine as it is at the end: it ends, or its reader or its writer fails. Nothing
 -- waits unless the writer failed
-abbrev pub Talks : Talk → Whole → Whole → Reading → Reading → Writing → Writing → Result (Unit {0}) Error → Type 0
+abbrev pub Talks : Course → Whole → Whole → Reading → Reading → Writing → Writing → Result (Unit {0}) Error → Type 0
 Talks t first last before after out out' (Ok done) =
     Holds t first last before after out out' × (out'.waits ≡ [])
 Talks t first last before after out out' (Err error) =
@@ -26,7 +27,7 @@ Talks t first last before after out out' (Err error) =
     ⊎ FailsToWrite t first last before after out out')
 
 -- a session from there on, whatever the machine is at its end
-pub record Talked (t : Talk) (first : Whole) (before after : Reading) (out out' : Writing)
+pub record Talked (t : Course) (first : Whole) (before after : Reading) (out out' : Writing)
     (result : Result (Unit {0}) Error) : Type 0 where
   pub last : Whole
   pub talks : Talks t first last before after out out' result
@@ -38,7 +39,7 @@ SaysNothing error before after out out' result = (result ≡ Err error) × (afte
 -- a session of a machine before its first step, with slots in which nothing was saved; or out of memory for the slots
 abbrev pub TalksOf : Opened → ℕ → Reading → Reading → Writing → Writing → Result (Unit {0}) Error → Type 0
 TalksOf machine slots before after out out' result =
-    Talked (opened (numbers_of machine.layout) (replicate slots None) machine.machine.state) machine.machine
+    Talked (session_of (numbers_of machine.layout) (replicate slots None) machine.machine.state) machine.machine
     before after out out' result
     ⊎ (0 < slots) × SaysNothing (Start NoMemory) before after out out' result
 

@@ -1,6 +1,5 @@
 mod BackLaws
 mod Chosen
-mod Hearing
 mod Joining
 mod Rooms
 mod RunLaws
@@ -9,5 +8,4 @@ mod Showing
 mod TaskAnswers
 mod TaskRuns
 mod Tasking
-mod Telling
 mod Words

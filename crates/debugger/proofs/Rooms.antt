@@ -1,20 +1,20 @@
 -- The slots have room for the machine's states, whatever is answered.
 use Rattle.std.proofs.Common.{◌≡◌, ◌<◌, ◌||◌, ℕ, zero, suc, Bool, true, false, List, [], ◌∷◌}
 use Rattle.std.proofs.Common.{Option, Some, None, Result, Ok, Err}
-use Rattle.std.proofs.Common.{refl, ◌∙◌, ap, is_some, length, nat_lt, slice_index_or, subst}
+use Rattle.std.proofs.Common.{refl, ◌∙◌, ap, is_some, not, length, nat_lt, slice_index_or, subst}
 use Rattle.std.proofs.Common.{sym, arith, ◌+◌, ◌++◌, replicate}
 use Rattle.std.proofs.Common.{length-append}
 use Rattle.std.proofs.lemmas.Grind.{replicate_next}
 use Rattle.std.proofs.lemmas.Bool.{cond_both}
 use Rattle.std.proofs.lemmas.List.{length-map, map-append, map-set}
 use Rattle.std.proofs.lemmas.List.Elements.{All-push, All-set}
-use Rattle.debugger.proofs.Telling.{last-append}
-use Rattle.debugger.specs.Answers.{Piece, after_edge, answer, answer_by, change_piece, changed_piece, closed}
+use Rattle.debugger.specs.Answers.{after_edge, answer, answer_by, change_piece, changed_piece, closed}
 use Rattle.debugger.specs.Answers.{edge_signal}
 use Rattle.debugger.specs.Answers.{closing_piece, back_piece, ends_at, hit_before, is_closed}
-use Rattle.debugger.specs.Answers.{last_state, placed, replies}
+use Rattle.debugger.specs.Answers.{placed, replies}
 use Rattle.debugger.specs.Answers.{run_on, run_pieces, saved_after, task_on, task_piece, task_pieces}
-use Rattle.debugger.specs.Sessions.{HasAll, Kept, Talk, after_line, line_asked, opened, talk}
+use Rattle.debugger.specs.Held.{Held, held_after, held_after_line, held_first, holding, kept_of}
+use Rattle.debugger.specs.Sessions.{Kept, after_line, debugging, is_line_feed, line_asked, next, opened, session_of}
 use Rattle.debugger.specs.Slots.{HaveRoom, Slot, saved_in, saved_there, slots_after}
 use Rattle.debugger_commands.specs.declared.changes.Change.{Change}
 use Rattle.debugger_commands.specs.declared.changes.Change.TheVariants as change
@@ -22,7 +22,7 @@ use Rattle.debugger_commands.specs.declared.changes.Edge.{Edge}
 use Rattle.debugger_commands.specs.declared.commands.Command.{Command}
 use Rattle.debugger_commands.specs.declared.commands.LineError.{LineError}
 use Rattle.debugger_commands.specs.declared.conditions.Hit.{Hit}
-use Rattle.debugger_commands.specs.Commands.{change_of, steps_of, task_steps_of}
+use Rattle.debugger_commands.specs.Commands.{change_of, quits, steps_of, task_steps_of}
 use Rattle.debugger_commands.specs.Conditions.{first_hit}
 use Rattle.debugger_commands.specs.Settings.{Settings, opened_settings, settings_after, without_conditions}
 use Rattle.machine.specs.Foresight.{is_instruction_next}
@@ -40,6 +40,10 @@ use Rattle.step_laws.proofs.Sizes.{alter_sizes, signal_sizes, sizes_refl, sizes_
 use Rattle.step_laws.specs.SizeLaw.{KeepsSizes}
 use Rattle.task_laws.specs.declared.task.TaskEnd.TheVariants.{NotTask}
 use Rattle.task_laws.specs.Tasks.{is_task}
+use Rattle.serving.proofs.Lifting.{course_seen}
+use Rattle.serving.proofs.Telling.{last-append}
+use Rattle.serving.specs.Conduct.{course_of}
+use Rattle.serving.specs.Pieces.{Piece, last_state}
 
 -- a state after another one of the same machine
 abbrev Stays : State → State → Type 0
@@ -187,20 +191,27 @@ saved_same s slots (Some (change.Save slot)) =
     map-set (λ (x : Slot). saved_there x) slots slot (record { state = s; is_saved = true })
 saved_same s slots (Some (change.Back slot)) = refl
 
--- what is kept after a line has what the session has
-pub kept_all : (s : State) (k new : Kept) (line : Option (List ℕ)) (asked : Result Command LineError)
-    → asked ≡ line_asked (talk s k) → line ≡ Some []
+-- what is held after the answer to a line
+pub line_held : (h : Held) (s : State) (new : Held) (line : Option (List ℕ)) (asked : Result Command LineError)
+    (quit : Bool) → asked ≡ line_asked (kept_of h) → line ≡ Some [] → quit ≡ quits asked
     → new ≡ record {
-      settings = settings_after k.settings asked;
+      settings = settings_after h.settings asked;
       line = line;
-      slots = slots_after s k.slots (change_of asked);
-    } → HasAll (after_line (talk s k)) new
-kept_all s k new line asked is empty kept =
-    rw (kept, empty, is) (record {
-      settings = refl;
-      line = refl;
-      saved = saved_same s k.slots (change_of (line_asked (talk s k)));
-    })
+      slots = slots_after s h.slots (change_of asked);
+      is_open = not quit;
+    } → new ≡ held_after_line h s
+line_held h s new line asked quit is empty quitted kept = rw (kept, empty, quitted, is) refl
+
+-- so what is held after a byte is what the session keeps
+pub holds : (h : Held) (s : State) (byte : ℕ) → kept_of (held_after h s byte) ≡ next (kept_of h) s byte
+holds h s byte = split (is_line_feed byte) refl
+  where
+    split : (b : Bool) → is_line_feed byte ≡ b → kept_of (held_after h s byte) ≡ next (kept_of h) s byte
+    split true e =
+        rw e
+        (ap (λ (saved : List (Option State)). record (after_line (kept_of h) s) { saved = saved })
+        (saved_same s h.slots (change_of (line_asked (kept_of h)))))
+    split false e = rw e refl
 
 -- ---- before the first byte
 
@@ -228,14 +239,14 @@ one_made n slots more slot s h empty same longer =
       room = All-push (λ (x : Slot). HaveSameSizes x.state.bus.memory m) slots slot h.room fits;
     })
 
-pub opened_is : (board : Numbers) (s : State) (k : Kept) (slots : List Slot)
-    → k ≡ record { settings = opened_settings board (length slots); line = Some []; slots = slots }
-    → opened board (saved_in slots) s ≡ talk s k
-opened_is board s k slots e =
-    rw e (ap (λ (n : ℕ). let t : Talk = record {
-      state = s;
-      settings = opened_settings board n;
-      line = Some [];
-      saved = saved_in slots;
-      is_open = true;
-    } in t) (length-map slots (λ (x : Slot). saved_there x)))
+opened_is : (board : Numbers) (slots : List Slot) → kept_of (held_first board slots) ≡ opened board (saved_in slots)
+opened_is board slots =
+    ap (λ (n : ℕ). record (opened board (saved_in slots)) { settings = opened_settings board n })
+    (sym (length-map slots (λ (x : Slot). saved_there x)))
+
+-- a session of what is held first is that of what is saved
+pub session_is : (board : Numbers) (slots : List Slot) (h : Held) (s : State) → h ≡ held_first board slots
+    → course_of holding h s ≡ session_of board (saved_in slots) s
+session_is board slots h s e =
+    course_seen kept_of held_after debugging holds h s
+    ∙ ap (λ (k : Kept). course_of debugging k s) (ap kept_of e ∙ opened_is board slots)

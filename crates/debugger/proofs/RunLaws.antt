@@ -2,7 +2,7 @@
 use Rattle.std.proofs.Common.{◌≡◌, ℕ, zero, suc, ◌+◌, ◌-◌, ◌<◌, Bool, true, false, List, [], ◌∷◌, ◌++◌, Option}
 use Rattle.std.proofs.Common.{Some, None}
 use Rattle.std.proofs.Common.{Result, Ok, Err, is_some, ◌||◌, if◌then◌else◌, refl, sym, ◌∙◌, ap, arith}
-use Rattle.debugger.specs.Answers.{Piece, closed, end_piece, hit_before, is_closed, is_hit, last_state, part_text}
+use Rattle.debugger.specs.Answers.{closed, end_piece, hit_before, is_closed, is_hit, part_text}
 use Rattle.debugger.specs.Answers.{run_on, run_pieces, step_piece}
 use Rattle.debugger.specs.Laws.{PartsLaw, PlainRunLaw, ShowLaw, place_piece, plain_on, plain_run, whole_step}
 use Rattle.debugger_commands.proofs.Plain.{plain_goes_on, plain_lines}
@@ -18,6 +18,7 @@ use Rattle.platform.specs.declared.event.Event.{Event}
 use Rattle.platform.specs.Events.{lines}
 use Rattle.reference.specs.State.{State}
 use Rattle.reference.specs.Step.{step}
+use Rattle.serving.specs.Pieces.{Piece, last_state}
 
 -- ---- runs that only breakpoints end
 

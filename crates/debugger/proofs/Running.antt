@@ -2,10 +2,9 @@
 use Rattle.std.proofs.Common.{◌≡◌, ℕ, zero, suc, ◌-◌, ◌<◌, Bool, true, false, List, [], ◌∷◌, Option, is_some}
 use Rattle.std.proofs.Common.{refl, sym, ◌∙◌, ap, subst, arith}
 use Rattle.std.proofs.Common.{None, Result, Ok, Err}
-use Rattle.debugger.proofs.Telling.{Told, one_more, rest_cut, cut_before, cut_on, tells_on, tells_rest}
-use Rattle.debugger.specs.Answers.{Piece, answer_by, closed, closing_piece, end_piece, ends_at, hit_before, last_state}
+use Rattle.serving.proofs.Telling.{Told, one_more, rest_cut, cut_before, cut_on, tells_on, tells_rest}
+use Rattle.debugger.specs.Answers.{answer_by, closed, closing_piece, end_piece, ends_at, hit_before}
 use Rattle.debugger.specs.Answers.{reply, run_on, run_pieces, step_piece}
-use Rattle.debugger.specs.Sessions.{Tells, TellsAll, TellsPart}
 use Rattle.debugger_commands.specs.declared.commands.Command.{Command}
 use Rattle.debugger_commands.specs.declared.commands.LineError.{LineError}
 use Rattle.debugger_commands.specs.declared.conditions.Hit.{Hit}
@@ -17,6 +16,7 @@ use Rattle.output.specs.Output.{Writing}
 use Rattle.platform.specs.declared.stop.Stop.{Stop}
 use Rattle.reference.specs.State.{State}
 use Rattle.reference.specs.Step.{step}
+use Rattle.serving.specs.Pieces.{Piece, Tells, TellsAll, TellsPart, last_state}
 
 pub end_same : (k : Settings) (h : Option Hit) (pc pc' : ℕ) (o o' : Option Stop) → pc ≡ pc' → o ≡ o'
     → run_end_text k h pc o ≡ run_end_text k h pc' o'

@@ -1,6 +1,6 @@
 -- The answers to `task n` from two states that look the same to a task.
 use Rattle.std.proofs.Common.{◌≡◌, ℕ, Bool, true, false, ◌||◌, is_some, List, ◌++◌, refl, sym, ◌∙◌, ap, subst}
-use Rattle.debugger.specs.Answers.{Piece, last_state, task_pieces, task_text}
+use Rattle.debugger.specs.Answers.{task_pieces, task_text}
 use Rattle.debugger.specs.Laws.{SayTheSame, SaysHowItRan, TaskAnswersLaw}
 use Rattle.debugger_commands.specs.Conditions.{written}
 use Rattle.debugger_commands.specs.Settings.{Settings, without_conditions}
@@ -15,6 +15,7 @@ use Rattle.task_laws.specs.Sight.{Same}
 use Rattle.task_laws.specs.TaskLaw.{EndsAfter}
 use Rattle.task_laws.specs.Tasks.{is_task}
 use Rattle.task_laws.proofs.Endings.{two_runs_law}
+use Rattle.serving.specs.Pieces.{Piece, last_state}
 
 -- whether a command makes steps or has the answer of a stopped machine
 abbrev runs : State → Bool

@@ -3,7 +3,7 @@ use Rattle.std.proofs.Common.{◌≡◌, ℕ, zero, suc, ◌+◌, ◌<◌, ◌�
 use Rattle.std.proofs.Common.{Some, None, refl, sym, ◌∙◌, ap, subst, append_assoc, arith, below_more}
 use Rattle.std.proofs.lemmas.List.{append-nil}
 use Rattle.debugger.proofs.Chosen.{text-append}
-use Rattle.debugger.specs.Answers.{Piece, last_state, step_piece, task_on, task_piece, task_text, texts}
+use Rattle.debugger.specs.Answers.{step_piece, task_on, task_piece, task_text}
 use Rattle.debugger.specs.Laws.{TaskLaw}
 use Rattle.debugger_commands.specs.Conditions.{written}
 use Rattle.debugger_commands.specs.Settings.{Settings, without_conditions}
@@ -17,6 +17,7 @@ use Rattle.reference.specs.Step.{step}
 use Rattle.platform.specs.Events.{lines}
 use Rattle.task_laws.specs.declared.task.TaskEnd.{TaskEnd}
 use Rattle.task_laws.specs.Tasks.{AreInstructions, Ends}
+use Rattle.serving.specs.Pieces.{Piece, last_state, texts}
 
 -- the lines of no step, and of one step more
 none_shown : (k : Settings) (s : State) → lines (written k (events_of 0 s)) ≡ []

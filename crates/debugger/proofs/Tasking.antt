@@ -3,9 +3,8 @@ use Rattle.std.proofs.Common.{◌≡◌, ◌⊎◌, inl, inr, ℕ, zero, suc, �
 use Rattle.std.proofs.Common.{refl, sym, ◌∙◌, ap, subst, arith}
 use Rattle.std.proofs.lemmas.Bool.Decides.{nat_tests}
 use Rattle.debugger.proofs.Running.{step_cut, step_more}
-use Rattle.debugger.proofs.Telling.{Told}
-use Rattle.debugger.specs.Answers.{Piece, step_piece, task_on, task_piece}
-use Rattle.debugger.specs.Sessions.{TellsAll, TellsPart}
+use Rattle.serving.proofs.Telling.{Told}
+use Rattle.debugger.specs.Answers.{step_piece, task_on, task_piece}
 use Rattle.debugger_commands.specs.Settings.{Settings}
 use Rattle.machine.specs.Foresight.{is_instruction_next}
 use Rattle.machine.specs.Tasks.{end_of}
@@ -14,6 +13,7 @@ use Rattle.output.specs.Output.{Writing}
 use Rattle.reference.specs.State.{State}
 use Rattle.reference.specs.Step.{step}
 use Rattle.task_laws.specs.declared.task.TaskEnd.{TaskEnd}
+use Rattle.serving.specs.Pieces.{Piece, TellsAll, TellsPart}
 
 -- no step is left, or the next one isn't an Instruction step
 task_at_end : (k : Settings) (n : ℕ) (s : State) → (n ≡ 0) ⊎ (is_instruction_next s ≡ false)

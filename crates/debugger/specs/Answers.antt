@@ -36,6 +36,7 @@ use Rattle.reference.specs.declared.place.Place.{Place}
 use Rattle.reference.specs.Places.{altered, signalled}
 use Rattle.reference.specs.State.{State}
 use Rattle.reference.specs.Step.{step}
+use Rattle.serving.specs.Pieces.{Piece, last_state}
 use Rattle.platform.specs.Text.{hex_word, line_feed, stop_line, stop_text}
 use Rattle.platform.specs.Events.{lines}
 use Rattle.task_laws.specs.declared.foresight.StepKind.{StepKind}
@@ -43,23 +44,6 @@ use Rattle.task_laws.specs.declared.foresight.StepKind.TheVariants as kind
 use Rattle.task_laws.specs.declared.task.TaskEnd.{TaskEnd}
 use Rattle.task_laws.specs.declared.task.TaskEnd.TheVariants as task_end
 use Rattle.task_laws.specs.Tasks.{is_task}
-
--- ---- pieces of text
-
--- a text that is written at once, and the state of the machine by then
-pub record Piece : Type 0 where
-  pub state : State
-  pub text : List ℕ
-
--- the text of all pieces
-abbrev pub texts : List Piece → List ℕ
-texts [] = []
-texts (p ∷ ps) = p.text ++ texts ps
-
--- the state by the end of the last piece
-abbrev pub last_state : State → List Piece → State
-last_state s [] = s
-last_state s (p ∷ ps) = last_state p.state ps
 
 -- ---- step and run n
 

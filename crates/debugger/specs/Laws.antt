@@ -2,9 +2,9 @@
 -- goes back to.
 use Rattle.std.specs.Prelude.{◌≡◌, ℕ, zero, suc, ◌+◌, ◌-◌, ◌<◌, ◌≤◌, true, false, ◌||◌, if◌then◌else◌, is_some, List}
 use Rattle.std.specs.Prelude.{[], ◌∷◌, ◌++◌, length, Option, Some, None, Result, Ok}
-use Rattle.debugger.specs.Answers.{Piece, answer, end_piece, is_hit, last_state, run_pieces, task_pieces}
-use Rattle.debugger.specs.Answers.{task_text, texts}
-use Rattle.debugger.specs.Sessions.{Talk, after_command}
+use Rattle.debugger.specs.Answers.{answer, end_piece, is_hit, run_pieces, task_pieces}
+use Rattle.debugger.specs.Answers.{task_text}
+use Rattle.debugger.specs.Sessions.{Kept, after_command}
 use Rattle.debugger_commands.specs.declared.changes.Change.TheVariants as change
 use Rattle.debugger_commands.specs.declared.commands.Command.{Command}
 use Rattle.debugger_commands.specs.declared.commands.Command.TheVariants as command
@@ -22,6 +22,8 @@ use Rattle.platform.specs.Events.{lines}
 use Rattle.task_laws.specs.declared.task.TaskEnd.{TaskEnd}
 use Rattle.task_laws.specs.Sight.{Same}
 use Rattle.task_laws.specs.Tasks.{AreInstructions, Ends, is_task}
+use Rattle.serving.specs.Conduct.{Talk}
+use Rattle.serving.specs.Pieces.{Piece, last_state, texts}
 
 -- the pieces are those of a run of at most n steps: `steps` steps were made, each of them an Instruction step; their
 -- lines come first and then why the run ended, and the machine is in the state after them
@@ -102,10 +104,10 @@ abbrev pub back_to : ℕ → Result Command LineError
 back_to slot = Ok (command.Change (change.Back slot))
 
 -- a state that is saved stays the machine's
-abbrev pub SaveLaw : Talk → ℕ → Type 0
+abbrev pub SaveLaw : Talk Kept → ℕ → Type 0
 SaveLaw t slot = (after_command t (save_in slot)).state ≡ t.state
 
-abbrev pub after_commands : Talk → List (Result Command LineError) → Talk
+abbrev pub after_commands : Talk Kept → List (Result Command LineError) → Talk Kept
 after_commands t [] = t
 after_commands t (asked ∷ more) = after_commands (after_command t asked) more
 
@@ -115,7 +117,7 @@ LeaveSlot slot [] = Unit {0}
 LeaveSlot slot (asked ∷ more) = ¬ (change_of asked ≡ Some (change.Save slot)) × LeaveSlot slot more
 
 -- `back k` goes back to the state that `save k` saved, whatever comes between that doesn't save another one there
-abbrev pub BackLaw : Talk → ℕ → List (Result Command LineError) → Type 0
+abbrev pub BackLaw : Talk Kept → ℕ → List (Result Command LineError) → Type 0
 BackLaw t slot between =
-    slot < length t.saved → LeaveSlot slot between
+    slot < length t.kept.saved → LeaveSlot slot between
     → (after_command (after_commands (after_command t (save_in slot)) between) (back_to slot)).state ≡ t.state

@@ -1,4 +1,5 @@
 pub mod Answers
+pub mod Held
 pub mod Laws
 pub mod Sessions
 pub mod Slots

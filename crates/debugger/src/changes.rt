@@ -80,7 +80,7 @@ fn change_text(changed: Result<(), PlaceError>) -> Reply
 }
 
 /// Returns the number of a refusal, and its name.
-fn refusal_text(error: PlaceError) -> Reply
+pub fn refusal_text(error: PlaceError) -> Reply
     ensures { result ≡ refusal_text error }
 {
     let mut page = Reply::new();

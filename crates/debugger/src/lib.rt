@@ -10,6 +10,9 @@ mod state;
 mod tasks;
 mod texts;
 
-pub use sessions::{SessionError, session};
+pub use changes::refusal_text;
+pub use serving::SessionError;
+pub use sessions::session;
 pub use slots::Slots;
-pub use state::write_state;
+pub use state::{StatePage, state_page, write_state};
+pub use texts::{next_text, put_part, regions_text};

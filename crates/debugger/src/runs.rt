@@ -2,11 +2,11 @@
 
 ghost use Rattle.std.specs.Prelude.{◌≡◌, ◌-◌, true, [], ◌∷◌, IfOk};
 ghost use Rattle.debugger.specs.Answers.{end_piece, ends_at, hit_before, is_hit, run_on, run_pieces, step_piece};
-ghost use Rattle.debugger.specs.Sessions.{Tells};
 ghost use Rattle.debugger_commands.specs.Conditions.{first_hit, is_plain, written};
 ghost use Rattle.output.specs.Output.{Put};
 ghost use Rattle.platform.specs.Events.{lines};
 ghost use Rattle.reference.specs.Step.{step};
+ghost use Rattle.serving.specs.Pieces.{Tells};
 
 use debugger_commands::{Hit, Settings};
 use machine::{

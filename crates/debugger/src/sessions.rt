@@ -1,15 +1,16 @@
 //! A session: lines are read byte by byte, and each is answered before the reader may wait for the next one.
 
-ghost use Rattle.std.specs.Prelude.{◌≡◌, ◌&&◌, [], ◌∷◌, not, true, Some, OnErr, IfOk, length};
+ghost use Rattle.std.specs.Prelude.{◌≡◌, ◌&&◌, [], ◌∷◌, not, OnOk};
 ghost use Rattle.debugger.specs.Answers.{answer, answer_by, change_piece, closing_piece, reply_text};
-ghost use Rattle.debugger.specs.Sessions.{after_line, GivesByte, GoesOn, line_answered, next, NothingWaits, answered};
-ghost use Rattle.debugger.specs.Sessions.{answered_at_end, opened, SendsBefore, SendsRest, Sessions, TakesNext};
-ghost use Rattle.debugger.specs.Sessions.{talk, Tells};
+ghost use Rattle.debugger.specs.Held.{held_after_line, held_first, holding, kept_of};
+ghost use Rattle.debugger.specs.Sessions.{line_answered, session_of};
 ghost use Rattle.debugger.specs.Slots.{HaveRoom, saved_in, slots_after, slots_by};
 ghost use Rattle.debugger_commands.specs.Commands.{change_of, quits, steps_of, task_steps_of};
-ghost use Rattle.debugger_commands.specs.Settings.{opened_settings, settings_after};
+ghost use Rattle.debugger_commands.specs.Settings.{settings_after};
 ghost use Rattle.output.specs.Output.{Put};
 ghost use Rattle.platform.specs.Boards.{numbers_of};
+ghost use Rattle.serving.specs.Pieces.{Tells};
+ghost use Rattle.serving.specs.Sessions.{NothingWaits, Sessions};
 
 use crate::changes::change;
 use crate::runs::run;
@@ -21,16 +22,8 @@ use debugger_commands::{
     task_steps_of,
 };
 use machine::{Decider, DueTicks, In, IoError, KeptCode, Layout, Levels, Machine, Out};
+use serving::{Protocol, SessionError, serve};
 use std::marker::Model;
-
-/// Why a session ends before its input does.
-#[derive(Clone, Copy)]
-pub enum SessionError {
-    /// The reader failed.
-    Read,
-    /// The writer failed.
-    Write,
-}
 
 /// What a session keeps between two bytes, beside the machine.
 #[derive(Drop)]
@@ -38,29 +31,33 @@ struct Debugger<L: Levels, U: DueTicks> {
     settings: Settings,
     listener: Listener,
     slots: Slots<L, U>,
+    // Whether no `quit` was read.
+    is_open: bool,
 }
 
 impl<L: Levels, U: DueTicks> Model for Debugger<L, U> {
-    ghost use Rattle.debugger.specs.Sessions.{Kept};
+    ghost use Rattle.debugger.specs.Held.{Held};
 
-    ghost Value = { Kept };
+    ghost Value = { Held };
 
-    ghost view = { λ d. record { settings = d.settings; line = d.listener; slots = d.slots } };
+    ghost view = { λ d. record {
+      settings = d.settings;
+      line = d.listener;
+      slots = d.slots;
+      is_open = d.is_open;
+    } };
 }
 
 impl<L: Levels, U: DueTicks> Debugger<L, U> {
     /// Returns what is kept before the first byte of a session on a board.
     fn new(layout: Layout, slots: Slots<L, U>) -> Self
-        ensures { result ≡ record {
-          settings = opened_settings (numbers_of layout) (length slots);
-          line = Some [];
-          slots = slots;
-        } }
+        ensures { result ≡ held_first (numbers_of layout) slots }
     {
         Debugger {
             settings: Settings::new(layout, slots.count()),
             listener: Listener::new(),
             slots,
+            is_open: true,
         }
     }
 
@@ -162,48 +159,48 @@ impl<L: Levels, U: DueTicks> Debugger<L, U> {
         Ok(())
     }
 
-    /// Answers the line that was read, and begins the next one. Returns whether the session goes on.
+    /// Answers the line that was read, and begins the next one. `quit` closes the session.
     fn answer_line<D: Decider, C: KeptCode, W: Out>(
         &mut self,
         machine: &mut Machine<D, C, L, U>,
         out: &mut W,
-    ) -> Result<bool, IoError>
+    ) -> Result<(), IoError>
         requires { HaveRoom self.old.slots machine.old.state.bus.memory }
-        ensures tells { Tells (line_answered (talk machine.old.state self.old)) machine.old machine.new
+        ensures tells { Tells (line_answered (kept_of self.old) machine.old.state) machine.old machine.new
             (W.writing out.old) (W.writing out.new) result }
-        ensures kept { GoesOn (after_line (talk machine.old.state self.old)) self.new result }
-        ensures room { IfOk result (λ _. HaveRoom self.new.slots machine.new.state.bus.memory) }
+        ensures kept { OnOk result (self.new ≡ held_after_line self.old machine.old.state) }
+        ensures room { OnOk result (HaveRoom self.new.slots machine.new.state.bus.memory) }
     {
         let asked = read_line(self.settings.slots(), self.listener.line());
         self.listener.clear();
+        self.is_open = !quits(asked);
         match self.answer(machine, asked, out) {
-            Ok(()) => Ok(!quits(asked)),
+            Ok(()) => Ok(()),
             Err(error) => Err(error),
         }
     }
+}
 
-    /// Takes a byte of the input. Returns whether the session goes on.
+impl<L: Levels, U: DueTicks> Protocol<L, U> for Debugger<L, U> {
+    ghost conduct = { holding };
+
+    ghost ready = { λ d s. HaveRoom d.slots s.bus.memory };
+
+    fn is_open(&self) -> bool {
+        self.is_open
+    }
+
     fn hear<D: Decider, C: KeptCode, W: Out>(
         &mut self,
         machine: &mut Machine<D, C, L, U>,
         byte: u8,
         out: &mut W,
-    ) -> Result<bool, IoError>
-        requires { HaveRoom self.old.slots machine.old.state.bus.memory }
-        ensures tells { Tells (answered (talk machine.old.state self.old) byte) machine.old machine.new
-            (W.writing out.old) (W.writing out.new) result }
-        ensures kept { GoesOn (next (talk machine.old.state self.old) byte) self.new result }
-        ensures room { IfOk result (λ _. HaveRoom self.new.slots machine.new.state.bus.memory) }
-    {
+    ) -> Result<(), IoError> {
         if byte == b'\n' {
-            match self.answer_line(machine, out) {
-                Ok(goes_on) => Ok(goes_on),
-                Err(error) => Err(error),
-            }
-        } else {
-            self.listener.push(byte);
-            Ok(true)
+            return self.answer_line(machine, out);
         }
+        self.listener.push(byte);
+        Ok(())
     }
 
     /// Answers a last line without a line feed, if it has a byte.
@@ -211,18 +208,11 @@ impl<L: Levels, U: DueTicks> Debugger<L, U> {
         &mut self,
         machine: &mut Machine<D, C, L, U>,
         out: &mut W,
-    ) -> Result<(), IoError>
-        requires { HaveRoom self.old.slots machine.old.state.bus.memory }
-        ensures { Tells (answered_at_end (talk machine.old.state self.old)) machine.old machine.new
-            (W.writing out.old) (W.writing out.new) result }
-    {
+    ) -> Result<(), IoError> {
         if self.listener.is_empty() {
             return Ok(());
         }
-        match self.answer_line(machine, out) {
-            Ok(_) => Ok(()),
-            Err(error) => Err(error),
-        }
+        self.answer_line(machine, out)
     }
 }
 
@@ -250,75 +240,10 @@ pub fn session<D: Decider, C: KeptCode, L: Levels, U: DueTicks, I: In, W: Out>(
     out: &mut W,
 ) -> Result<(), SessionError>
     requires { HaveRoom slots machine.old.state.bus.memory }
-    ensures talked { Sessions (opened (numbers_of layout) (saved_in slots) machine.old.state) machine.old machine.new
-        (I.reading reader.old) (I.reading reader.new) (W.writing out.old) (W.writing out.new) result }
+    ensures talked { Sessions (session_of (numbers_of layout) (saved_in slots) machine.old.state) machine.old
+        machine.new (I.reading reader.old) (I.reading reader.new) (W.writing out.old) (W.writing out.new) result }
     ensures sent { NothingWaits (W.writing out.new) result }
 {
     let mut debugger = Debugger::new(layout, slots);
-    'calls: for call in 0..u64::MAX {
-        let _ = call;
-        let byte = match take_next(reader, out) {
-            Ok(Some(byte)) => byte,
-            Ok(None) => {
-                match debugger.finish(machine, out) {
-                    Ok(()) => return send_rest(out),
-                    Err(_) => return Err(SessionError::Write),
-                }
-            }
-            Err(error) => return Err(error),
-        };
-        match debugger.hear(machine, byte, out) {
-            Ok(true) => {}
-            Ok(false) => return send_rest(out),
-            Err(_) => return Err(SessionError::Write),
-        }
-    }
-    send_rest(out)
-}
-
-/// Sends what waits, before a session ends.
-fn send_rest<W: Out>(out: &mut W) -> Result<(), SessionError>
-    ensures { SendsRest (W.writing out.old) (W.writing out.new) result }
-{
-    match out.hand_on() {
-        Ok(()) => Ok(()),
-        Err(_) => Err(SessionError::Write),
-    }
-}
-
-/// Sends what waits, if the next call of the reader may wait.
-fn send_before<I: In, W: Out>(reader: &I, out: &mut W) -> Result<(), IoError>
-    ensures { SendsBefore (I.reading reader.now) (W.writing out.old) (W.writing out.new) result }
-{
-    if reader.may_wait() {
-        return out.hand_on();
-    }
-    Ok(())
-}
-
-/// Returns the next byte of the input, None at its end. Sends what waits before a call of the reader that may wait.
-fn take_next<I: In, W: Out>(reader: &mut I, out: &mut W) -> Result<Option<u8>, SessionError>
-    ensures { TakesNext (I.reading reader.old) (I.reading reader.new) (W.writing out.old) (W.writing out.new) result }
-{
-    match send_before(reader, out) {
-        Ok(()) => {}
-        Err(_) => return Err(SessionError::Write),
-    }
-    match take_byte(reader) {
-        Ok(byte) => Ok(byte),
-        Err(_) => Err(SessionError::Read),
-    }
-}
-
-/// Returns the next byte of the input, None at its end.
-fn take_byte<I: In>(reader: &mut I) -> Result<Option<u8>, IoError>
-    ensures given { GivesByte (I.reading reader.old) (I.reading reader.new) result }
-    ensures failed { OnErr result ((I.reading reader.old).may_wait ≡ true) }
-{
-    let mut room = [0; 1];
-    match reader.take(&mut room) {
-        Ok(0) => Ok(None),
-        Ok(_) => Ok(Some(room[0])),
-        Err(error) => Err(error),
-    }
+    serve(&mut debugger, machine, reader, out)
 }

@@ -12,7 +12,7 @@ use platform::exception::EXCEPTIONS;
 use trace::page::Page;
 
 /// Room for the text of a state.
-type StatePage = Page<0x4000>;
+pub type StatePage = Page<0x4000>;
 
 /// Appends the line of the clock.
 #[tactic(auto, using(debugger_commands::proofs::Concatenation::in_three))]
@@ -108,13 +108,12 @@ fn put_active<D: Decider, C: KeptCode, L: Levels, U: DueTicks>(
     page.put(b"\n");
 }
 
-/// Writes the state of a machine, a line for each value.
+/// Returns the state of a machine, a line for each value.
 #[tactic(auto, using(crate::proofs::Joining::in_six))]
-pub fn write_state<D: Decider, C: KeptCode, L: Levels, U: DueTicks, W: Out>(
+pub fn state_page<D: Decider, C: KeptCode, L: Levels, U: DueTicks>(
     machine: &Machine<D, C, L, U>,
-    out: &mut W,
-) -> Result<(), IoError>
-    ensures { Put (W.writing out.old) (W.writing out.new) (state_text machine.now.state) result }
+) -> StatePage
+    ensures { result ≡ state_text machine.now.state }
 {
     let mut page = StatePage::new();
     page.put_slice(registers_text(&machine.regs()).as_slice());
@@ -123,5 +122,15 @@ pub fn write_state<D: Decider, C: KeptCode, L: Levels, U: DueTicks, W: Out>(
     page.put_slice(regions_text(machine).as_slice());
     put_pending(&mut page, machine);
     put_active(&mut page, machine);
-    out.put_all(page.as_slice())
+    page
+}
+
+/// Writes the state of a machine, a line for each value.
+pub fn write_state<D: Decider, C: KeptCode, L: Levels, U: DueTicks, W: Out>(
+    machine: &Machine<D, C, L, U>,
+    out: &mut W,
+) -> Result<(), IoError>
+    ensures { Put (W.writing out.old) (W.writing out.new) (state_text machine.now.state) result }
+{
+    out.put_all(state_page(machine).as_slice())
 }

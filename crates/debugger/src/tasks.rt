@@ -2,7 +2,7 @@
 
 ghost use Rattle.std.specs.Prelude.{◌≡◌, [], ◌∷◌};
 ghost use Rattle.debugger.specs.Answers.{task_on, task_piece, task_pieces};
-ghost use Rattle.debugger.specs.Sessions.{Tells};
+ghost use Rattle.serving.specs.Pieces.{Tells};
 
 use crate::runs::{StepRoom, write_step};
 use crate::texts::task_text;

@@ -59,7 +59,7 @@ fn put_next(page: &mut Reply, kind: Option<StepKind>, stop: Option<Stop>)
 }
 
 /// Returns the line of the kind of the next step, or of the stop.
-fn next_text<D: Decider, C: KeptCode, L: Levels, U: DueTicks>(
+pub fn next_text<D: Decider, C: KeptCode, L: Levels, U: DueTicks>(
     machine: &Machine<D, C, L, U>,
 ) -> Reply
     ensures { result ≡ next_text machine.now.state }

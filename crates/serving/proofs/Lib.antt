@@ -1,2 +1,3 @@
 mod Hearing
+pub mod Lifting
 pub mod Telling

@@ -49,3 +49,12 @@ course_of c kept s = record {
       ++ end_answers c (after_bytes c (record { kept = kept; state = s }) given);
   is_open = λ given. c.is_open (after_bytes c (record { kept = kept; state = s }) given).kept;
 }
+
+-- what a protocol does that keeps a B, by what it makes of a part of that; `after` is what is kept after a byte
+abbrev pub lifted : {A B : Type 0} → (B → A) → (B → State → ℕ → B) → Conduct A → Conduct B
+lifted part after c = record {
+  is_open = λ b. c.is_open (part b);
+  answered = λ b s byte. c.answered (part b) s byte;
+  kept = after;
+  at_end = λ b s. c.at_end (part b) s;
+}

@@ -1,6 +1,6 @@
 use Rattle.std.proofs.Common.{◌≡◌, ◌∙◌, ap, refl}
 use Rattle.debugger.proofs.Running.{end_same}
-use Rattle.debugger.proofs.Telling.{put_told}
+use Rattle.serving.proofs.Telling.{put_told}
 use Rattle.debugger.specs.Answers.{end_piece}
 use Rattle.debugger_commands.specs.Conditions.{run_end_text}
 use Rattle.machine.specs.declared.readers.RegValues.{RegValues}

@@ -1,6 +1,6 @@
 use Rattle.std.proofs.Common.{◌≡◌, ◌∙◌, ap, false, sym, arith, Option}
 use Rattle.debugger.proofs.Running.{run_cut, run_ends, run_more, run_over}
-use Rattle.debugger.proofs.Telling.{tells_nothing}
+use Rattle.serving.proofs.Telling.{tells_nothing}
 use Rattle.debugger.specs.Answers.{ends_at, hit_before}
 use Rattle.debugger_commands.specs.declared.conditions.Hit.{Hit}
 use Rattle.debugger.proofs.runs.run_on.Goals as goal

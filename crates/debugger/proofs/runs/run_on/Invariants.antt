@@ -1,4 +1,4 @@
-use Rattle.debugger.proofs.Telling.{Told}
+use Rattle.serving.proofs.Telling.{Told}
 use Rattle.debugger.specs.Answers.{run_on}
 use Rattle.debugger.proofs.runs.run_on.Given as goal
 

@@ -1,5 +1,5 @@
 use Rattle.std.proofs.Common.{◌≡◌, ◌∙◌}
-use Rattle.debugger.proofs.Telling.{one_cut}
+use Rattle.serving.proofs.Telling.{one_cut}
 use Rattle.debugger.specs.Answers.{step_piece}
 use Rattle.reference.specs.Step.{step}
 use Rattle.debugger.proofs.runs.write_chosen_step.Goals as goal

@@ -1,4 +1,4 @@
-use Rattle.debugger.proofs.Telling.{put_told}
+use Rattle.serving.proofs.Telling.{put_told}
 use Rattle.debugger.specs.Answers.{step_piece}
 use Rattle.debugger_commands.proofs.Plain.{plain_lines}
 use Rattle.reference.specs.Step.{step}

@@ -1,5 +1,5 @@
 use Rattle.std.proofs.Common.{◌≡◌, ◌∙◌, refl}
-use Rattle.debugger.proofs.Telling.{put_told}
+use Rattle.serving.proofs.Telling.{put_told}
 use Rattle.debugger.specs.Answers.{closing_piece, closing_text}
 use Rattle.debugger.proofs.sessions.close.Goals as goal
 

@@ -1,6 +1,6 @@
 use Rattle.std.proofs.Common.{◌≡◌, ◌⊎◌, inl, inr, true, false, Option, nat_lt, ◌∙◌, sym, ap, arith}
 use Rattle.debugger.proofs.Tasking.{task_cut, task_ends, task_more}
-use Rattle.debugger.proofs.Telling.{tells_nothing, tells_rest}
+use Rattle.serving.proofs.Telling.{tells_nothing, tells_rest}
 use Rattle.machine.specs.Foresight.{is_instruction, is_instruction_next}
 use Rattle.machine.specs.Tasks.{end_of}
 use Rattle.platform.specs.declared.stop.Stop.{Stop}

@@ -1,4 +1,4 @@
-use Rattle.debugger.proofs.Telling.{Told}
+use Rattle.serving.proofs.Telling.{Told}
 use Rattle.debugger.specs.Answers.{task_on}
 use Rattle.debugger.proofs.tasks.task_on.Given as goal
 

@@ -1,7 +1,7 @@
 use Rattle.std.proofs.Common.{◌≡◌, ◌&&◌, ◌∙◌, ap, sym, not, true, false}
 use Rattle.debugger.proofs.Running.{closed_after, closed_cut, not_closed}
 use Rattle.debugger.specs.Answers.{is_closed}
-use Rattle.debugger.specs.Sessions.{Kept}
+use Rattle.debugger.specs.Held.{Held}
 use Rattle.debugger_commands.specs.Commands.{quits}
 use Rattle.debugger.proofs.sessions.Debugger.answer.Goals as goal
 
@@ -12,7 +12,7 @@ returns-in-Err-clause-tells g c =
 pub returns-then-closes-clause-tells : goal.returns-then-closes-clause-tells
 returns-then-closes-clause-tells g c =
     let closes : is_closed c.args.self.now.settings c.args.asked ≡ true =
-    ap (λ (d : Kept). d.settings.is_script && not (quits c.args.asked)) (sym c.answer_command.ensures.kept)
+    ap (λ (d : Held). d.settings.is_script && not (quits c.args.asked)) (sym c.answer_command.ensures.kept)
     ∙ sym c.closes.ensures ∙ c.if-closes.true in
     closed_after (is_closed c.args.self.now.settings c.args.asked) _ _ _ _ _ _ _ _ closes c.in-Ok.ensures.tells
     c.close.ensures
@@ -20,6 +20,6 @@ returns-then-closes-clause-tells g c =
 pub returns-clause-tells : goal.returns-clause-tells
 returns-clause-tells g c =
     let open_end : is_closed c.args.self.now.settings c.args.asked ≡ false =
-    ap (λ (d : Kept). d.settings.is_script && not (quits c.args.asked)) (sym c.answer_command.ensures.kept)
+    ap (λ (d : Held). d.settings.is_script && not (quits c.args.asked)) (sym c.answer_command.ensures.kept)
     ∙ sym c.closes.ensures ∙ c.if-closes.false in
     not_closed (is_closed c.args.self.now.settings c.args.asked) _ _ _ _ _ open_end c.in-Ok.ensures.tells

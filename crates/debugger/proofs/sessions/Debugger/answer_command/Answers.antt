@@ -1,6 +1,6 @@
 use Rattle.std.proofs.Common.{◌∙◌, sym, refl}
 use Rattle.debugger.proofs.Running.{replied}
-use Rattle.debugger.proofs.Telling.{put_told}
+use Rattle.serving.proofs.Telling.{put_told}
 use Rattle.debugger.specs.Answers.{reply_text}
 use Rattle.debugger.specs.Slots.{saved_in}
 use Rattle.debugger.proofs.sessions.Debugger.answer_command.Goals as goal

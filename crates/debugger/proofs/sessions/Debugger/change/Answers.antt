@@ -1,8 +1,9 @@
 use Rattle.std.proofs.Common.{◌≡◌, ◌∙◌}
-use Rattle.debugger.proofs.Telling.{put_told}
-use Rattle.debugger.specs.Answers.{Piece, change_piece}
+use Rattle.serving.proofs.Telling.{put_told}
+use Rattle.debugger.specs.Answers.{change_piece}
 use Rattle.debugger.specs.Slots.{saved_in}
 use Rattle.debugger.proofs.sessions.Debugger.change.Goals as goal
+use Rattle.serving.specs.Pieces.{Piece}
 
 pub returns-clause-tells : goal.returns-clause-tells
 returns-clause-tells g c =
