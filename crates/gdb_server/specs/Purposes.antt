@@ -1,5 +1,5 @@
 -- What a packet asks of a server at rest (GDB manual, "Packets", "General Query Packets").
-use Rattle.std.specs.Prelude.{ℕ, List, Option, Some, None}
+use Rattle.std.specs.Prelude.{ℕ, Bool, true, false, List, Option, Some, None}
 use Rattle.gdb_packets.specs.declared.packets.PointKind.{PointKind}
 use Rattle.gdb_packets.specs.declared.packets.PointKind.TheVariants as point
 use Rattle.gdb_packets.specs.declared.packets.Request.{Request}
@@ -78,3 +78,45 @@ purpose_of request.Detach tail = purpose.Set setting.End
 purpose_of request.Kill tail = purpose.Kill
 purpose_of request.KillProcess tail = purpose.Set setting.End
 purpose_of request.FileReply tail = purpose.Nothing  -- there was no question
+
+-- whether a packet is the reply to a question
+abbrev pub is_file_reply : Request → Bool
+is_file_reply request.Unknown = false
+is_file_reply request.Malformed = false
+is_file_reply request.Supported = false
+is_file_reply request.StartNoAckMode = false
+is_file_reply request.StopReason = false
+is_file_reply request.ReadRegisters = false
+is_file_reply request.WriteRegisters = false
+is_file_reply (request.ReadRegister n) = false
+is_file_reply (request.WriteRegister n) = false
+is_file_reply (request.ReadMemory a n) = false
+is_file_reply (request.WriteMemory a n) = false
+is_file_reply (request.WriteBinary a n) = false
+is_file_reply request.Continue = false
+is_file_reply request.Step = false
+is_file_reply request.ResumeActions = false
+is_file_reply request.Resume = false
+is_file_reply request.ReverseStep = false
+is_file_reply request.ReverseContinue = false
+is_file_reply (request.Insert k a n) = false
+is_file_reply (request.Remove k a n) = false
+is_file_reply (request.ReadDescription at n) = false
+is_file_reply request.NoAnnex = false
+is_file_reply (request.ReadMemoryMap at n) = false
+is_file_reply request.Monitor = false
+is_file_reply (request.MemoryRegion a) = false
+is_file_reply request.Attached = false
+is_file_reply request.SelectThread = false
+is_file_reply request.CurrentThread = false
+is_file_reply request.FirstThreads = false
+is_file_reply request.MoreThreads = false
+is_file_reply request.ThreadDescription = false
+is_file_reply request.ThreadAlive = false
+is_file_reply request.ExtendedMode = false
+is_file_reply request.Run = false
+is_file_reply request.Restart = false
+is_file_reply request.Detach = false
+is_file_reply request.Kill = false
+is_file_reply request.KillProcess = false
+is_file_reply request.FileReply = true

@@ -1,13 +1,16 @@
 //! What a session keeps between two packets, and what a packet makes.
 
-ghost use Rattle.std.specs.Prelude.{◌≡◌, ◌≤◌, [], ◌∷◌, OnOk, length};
-ghost use Rattle.gdb.specs.Turns.{IsAsked};
-ghost use Rattle.gdb_packets.specs.Replies.{packet_of};
+ghost use Rattle.std.specs.Prelude.{◌≡◌, OnOk, bytes_eq};
 ghost use Rattle.gdb_packets.specs.Seen.{seen_packet};
-ghost use Rattle.gdb_server.specs.Conduct.{acknowledged, acknowledgement, answered, commanded, heard, interrupted};
-ghost use Rattle.gdb_server.specs.Conduct.{interrupted_by, is_interrupt, packet_heard, replied, reply_after, resumed};
-ghost use Rattle.gdb_server.specs.Conduct.{turned, while_running, wrote};
-ghost use Rattle.gdb_server.specs.Sessions.{opened, reply_packet, session_after, set_data, with_reply};
+ghost use Rattle.gdb_server.specs.Commands.{command_of};
+ghost use Rattle.gdb_server.specs.Conduct.{acknowledgement, answered, commanded, first_turn, heard, interrupted};
+ghost use Rattle.gdb_server.specs.Conduct.{interrupted_by, is_interrupt, long_heard, packet_heard, replied};
+ghost use Rattle.gdb_server.specs.Conduct.{reply_heard, resumed, sent_again, told, too_long, whole_heard, with_turn};
+ghost use Rattle.gdb_server.specs.Conduct.{wrote};
+ghost use Rattle.gdb_server.specs.Purposes.{is_file_reply};
+ghost use Rattle.gdb_server.specs.Sessions.{data_of_reply, data_of_write, opened, reply_packet, session_after};
+ghost use Rattle.gdb_server.specs.Sessions.{set_data, with_reply};
+ghost use Rattle.gdb_server.specs.Writes.{written};
 ghost use Rattle.output.specs.Output.{Put};
 ghost use Rattle.platform.specs.Boards.{numbers_of};
 ghost use Rattle.serving.specs.Pieces.{Tells};
@@ -17,10 +20,11 @@ use crate::data::{Data, constant_text, features};
 use crate::purposes::{MachineChange, Purpose, SessionChange, purpose_of};
 use crate::reading::read;
 use crate::writes::write;
-use gdb::{Run, SentPacket, Terms, Turn, go_on};
-use gdb_packets::{Event, Packet, Request, put_packet, read_packet};
+use debugger_commands::LineError;
+use gdb::{Run, SentPacket, Terms, Turn, go_on, send_packet};
+use gdb_packets::{Event, Packet, Request, read_packet};
 use gdb_texts::{
-    Breakpoints, ErrorCode, Features, Reply, Resume, Settings, Signal, first_settings, read_features,
+    Breakpoints, ErrorCode, Features, Monitor, Reply, Resume, Settings, Signal, first_settings, read_features,
     refusal, reply_text,
 };
 use machine::{Decider, DueTicks, IoError, KeptCode, Layout, Levels, Machine, Out, PlaceError};
@@ -70,7 +74,9 @@ impl Model for Session {
 }
 
 /// Returns the data of a reply that is one word.
-fn data_of_reply(reply: Reply) -> Result<Data, ErrorCode> {
+fn data_of_reply(reply: Reply) -> Result<Data, ErrorCode>
+    ensures { result ≡ data_of_reply reply }
+{
     match reply {
         Reply::Error(error) => Err(error),
         Reply::Empty | Reply::Done => Ok(Data::of(reply_text(reply))),
@@ -78,20 +84,42 @@ fn data_of_reply(reply: Reply) -> Result<Data, ErrorCode> {
 }
 
 /// Returns the data of the reply to a write.
-fn data_of_write(refused: Option<PlaceError>) -> Result<Data, ErrorCode> {
+fn data_of_write(refused: Option<PlaceError>) -> Result<Data, ErrorCode>
+    ensures { result ≡ data_of_write refused }
+{
     match refused {
         Some(error) => Err(refusal(error)),
         None => data_of_reply(Reply::Done),
     }
 }
 
+/// Returns whether two texts are equal.
+fn is_same(text: &[u8], other: &[u8]) -> bool
+    ensures { result ≡ bytes_eq text.now other.now }
+{
+    text == other
+}
+
 /// Returns whether the reply to a question says that the user has interrupted the run.
-fn is_interrupt(tail: &[u8]) -> bool {
-    tail.len() >= 2 && &tail[tail.len() - 2..] == b",C"
+fn is_interrupt(tail: &[u8]) -> bool
+    ensures { result ≡ is_interrupt tail.now }
+{
+    tail.len() >= 2 && is_same(&tail[tail.len() - 2..], b",C")
+}
+
+/// Returns a run, interrupted if the reply to its question says so.
+fn interrupted_by(tail: &[u8], run: Run) -> Run
+    ensures { result ≡ interrupted_by tail.now run }
+{
+    let mut replied = run;
+    replied.is_interrupted = run.is_interrupted || is_interrupt(tail);
+    replied
 }
 
 /// Returns a run before its first step.
-fn first_turn(how: Resume) -> Run {
+fn first_turn(how: Resume) -> Run
+    ensures { result ≡ first_turn how }
+{
     Run {
         how,
         made: 0,
@@ -100,9 +128,18 @@ fn first_turn(how: Resume) -> Run {
     }
 }
 
+/// Returns whether a packet is the reply to a question.
+fn is_file_reply(request: Request) -> bool
+    ensures { result ≡ is_file_reply request }
+{
+    matches!(request, Request::FileReply)
+}
+
 impl Session {
     /// Returns a session before its first packet, whose runs go to the tick `limit` at most.
-    pub fn new(limit: u64, board: Layout) -> Self {
+    pub fn new(limit: u64, board: Layout) -> Self
+        ensures { result ≡ opened limit (numbers_of board) }
+    {
         Session {
             breakpoints: Breakpoints::new(),
             settings: first_settings(),
@@ -123,30 +160,50 @@ impl Session {
     }
 
     /// Returns whether the session reads on.
-    pub fn is_open(&self) -> bool {
+    pub fn is_open(&self) -> bool
+        ensures { result ≡ self.now.is_open }
+    {
         self.is_open
     }
 
-    /// Writes a packet, and keeps it.
-    fn send<W: Out>(&mut self, content: &[u8], out: &mut W) -> Result<(), IoError> {
-        self.sent.clear();
-        put_packet(&mut self.sent, content);
-        out.put_all(self.sent.as_slice())
-    }
-
     /// Writes the reply to a packet, and keeps why the packet was refused, if it was.
-    fn reply<W: Out>(&mut self, data: Result<Data, ErrorCode>, out: &mut W) -> Result<(), IoError> {
+    fn put_reply<W: Out>(
+        &mut self,
+        data: Result<Data, ErrorCode>,
+        out: &mut W,
+    ) -> Result<(), IoError>
+        ensures put { Put (W.writing out.old) (W.writing out.new) (reply_packet data) result }
+        ensures kept { self.new ≡ with_reply self.old data }
+    {
         match data {
-            Ok(data) => self.send(data.as_slice(), out),
+            Ok(data) => send_packet(data.as_slice(), &mut self.sent, out),
             Err(error) => {
                 self.refused = Some(error);
-                self.send(reply_text(Reply::Error(error)), out)
+                send_packet(reply_text(Reply::Error(error)), &mut self.sent, out)
             }
         }
     }
 
+    /// Writes the reply to a packet, and keeps why the packet was refused, if it was. Nothing of the machine changes.
+    fn reply<D: Decider, C: KeptCode, L: Levels, U: DueTicks, W: Out>(
+        &mut self,
+        machine: &Machine<D, C, L, U>,
+        data: Result<Data, ErrorCode>,
+        out: &mut W,
+    ) -> Result<(), IoError>
+        ensures tells { Tells (replied self.old machine.now.state data).pieces machine.now machine.now
+            (W.writing out.old) (W.writing out.new) result }
+        ensures kept { self.new ≡ (replied self.old machine.now.state data).session }
+    {
+        let _ = machine;
+        self.put_reply(data, out)
+    }
+
     /// Makes a change of the session. Returns the data of the reply.
-    fn set(&mut self, change: SessionChange, tail: &[u8]) -> Result<Data, ErrorCode> {
+    fn set(&mut self, change: SessionChange, tail: &[u8]) -> Result<Data, ErrorCode>
+        ensures data { result ≡ set_data self.old change }
+        ensures kept { self.new ≡ session_after self.old change tail.now }
+    {
         match change {
             SessionChange::Features => {
                 self.features = read_features(tail);
@@ -175,9 +232,32 @@ impl Session {
         change: MachineChange,
         tail: &[u8],
         out: &mut W,
-    ) -> Result<(), IoError> {
+    ) -> Result<(), IoError>
+        ensures tells { Tells (wrote self.old (written machine.old.state change tail.now)).pieces machine.old
+            machine.new (W.writing out.old) (W.writing out.new) result }
+        ensures kept { self.new ≡ (wrote self.old (written machine.old.state change tail.now)).session }
+    {
         let refused = write(machine, change, tail);
-        self.reply(data_of_write(refused), out)
+        self.put_reply(data_of_write(refused), out)
+    }
+
+    /// Writes the text of a command that was carried out, and then the reply.
+    fn tell<D: Decider, C: KeptCode, L: Levels, U: DueTicks, W: Out>(
+        &mut self,
+        machine: &Machine<D, C, L, U>,
+        refused: Option<PlaceError>,
+        asked: Result<Monitor, LineError>,
+        out: &mut W,
+    ) -> Result<(), IoError>
+        ensures tells { Tells (told self.old machine.now.state refused asked).pieces machine.now machine.now
+            (W.writing out.old) (W.writing out.new) result }
+        ensures kept { OnOk result (self.new ≡ (told self.old machine.now.state refused asked).session) }
+    {
+        match tell_command(machine, self.refused, refused, asked, out) {
+            Ok(()) => {}
+            Err(error) => return Err(error),
+        }
+        self.put_reply(data_of_reply(Reply::Done), out)
     }
 
     /// Carries out a command of `monitor`, and answers.
@@ -186,15 +266,29 @@ impl Session {
         machine: &mut Machine<D, C, L, U>,
         digits: &[u8],
         out: &mut W,
-    ) -> Result<(), IoError> {
+    ) -> Result<(), IoError>
+        ensures tells { Tells (commanded self.old machine.old.state (command_of digits.now)).pieces machine.old
+            machine.new (W.writing out.old) (W.writing out.new) result }
+        ensures kept { OnOk result
+            (self.new ≡ (commanded self.old machine.old.state (command_of digits.now)).session) }
+    {
         let asked = read_command(digits);
         let refused = place_by(machine, asked);
         self.settings = settings_with(self.settings, asked);
-        match tell_command(machine, self.refused, refused, asked, out) {
-            Ok(()) => {}
-            Err(error) => return Err(error),
+        self.tell(machine, refused, asked, out)
+    }
+
+    /// Keeps how a turn of a run ended.
+    fn keep_turn(&mut self, turn: Turn)
+        ensures { self.new ≡ with_turn self.old turn }
+    {
+        match turn {
+            Turn::Asks(run) => self.running = Some(run),
+            Turn::Ends(signal) => {
+                self.running = None;
+                self.signal = signal;
+            }
         }
-        self.reply(data_of_reply(Reply::Done), out)
     }
 
     /// Makes the next turn of a run.
@@ -203,7 +297,11 @@ impl Session {
         machine: &mut Machine<D, C, L, U>,
         run: Run,
         out: &mut W,
-    ) -> Result<(), IoError> {
+    ) -> Result<(), IoError>
+        ensures tells { Tells (resumed self.old machine.old.state run).pieces machine.old machine.new
+            (W.writing out.old) (W.writing out.new) result }
+        ensures kept { OnOk result (self.new ≡ (resumed self.old machine.old.state run).session) }
+    {
         let terms = Terms {
             points: &self.breakpoints,
             settings: self.settings,
@@ -211,13 +309,8 @@ impl Session {
             limit: self.limit,
         };
         match go_on(run, &terms, &mut self.sent, machine, out) {
-            Ok(Turn::Asks(run)) => {
-                self.running = Some(run);
-                Ok(())
-            }
-            Ok(Turn::Ends(signal)) => {
-                self.running = None;
-                self.signal = signal;
+            Ok(turn) => {
+                self.keep_turn(turn);
                 Ok(())
             }
             Err(error) => Err(error),
@@ -231,19 +324,23 @@ impl Session {
         purpose: Purpose,
         tail: &[u8],
         out: &mut W,
-    ) -> Result<(), IoError> {
+    ) -> Result<(), IoError>
+        ensures tells { Tells (answered self.old machine.old.state purpose tail.now).pieces machine.old machine.new
+            (W.writing out.old) (W.writing out.new) result }
+        ensures kept { OnOk result (self.new ≡ (answered self.old machine.old.state purpose tail.now).session) }
+    {
         match purpose {
             Purpose::Nothing => Ok(()),
-            Purpose::Say(what) => self.reply(Ok(Data::of(constant_text(what))), out),
-            Purpose::Refuse(error) => self.reply(Err(error), out),
+            Purpose::Say(what) => self.reply(machine, Ok(Data::of(constant_text(what))), out),
+            Purpose::Refuse(error) => self.reply(machine, Err(error), out),
             Purpose::Read(reading) => {
                 let data = read(self.signal, &self.board, machine, reading);
-                self.reply(data, out)
+                self.reply(machine, data, out)
             }
             Purpose::Write(change) => self.write(machine, change, tail, out),
             Purpose::Set(change) => {
                 let data = self.set(change, tail);
-                self.reply(data, out)
+                self.reply(machine, data, out)
             }
             Purpose::Kill => {
                 self.is_open = false;
@@ -261,13 +358,17 @@ impl Session {
         run: Run,
         packet: Packet<'_>,
         out: &mut W,
-    ) -> Result<(), IoError> {
-        if !is_file_reply(packet.request) {
-            return Ok(());
+    ) -> Result<(), IoError>
+        ensures tells { Tells (reply_heard self.old machine.old.state run (seen_packet packet)).pieces machine.old
+            machine.new (W.writing out.old) (W.writing out.new) result }
+        ensures kept { OnOk result
+            (self.new ≡ (reply_heard self.old machine.old.state run (seen_packet packet)).session) }
+    {
+        if is_file_reply(packet.request) {
+            self.resume(machine, interrupted_by(packet.tail, run), out)
+        } else {
+            Ok(())
         }
-        let mut run = run;
-        run.is_interrupted = run.is_interrupted || is_interrupt(packet.tail);
-        self.resume(machine, run, out)
     }
 
     /// Takes a packet.
@@ -276,26 +377,49 @@ impl Session {
         machine: &mut Machine<D, C, L, U>,
         packet: Packet<'_>,
         out: &mut W,
-    ) -> Result<(), IoError> {
+    ) -> Result<(), IoError>
+        ensures tells { Tells (packet_heard self.old machine.old.state (seen_packet packet)).pieces machine.old
+            machine.new (W.writing out.old) (W.writing out.new) result }
+        ensures kept { OnOk result
+            (self.new ≡ (packet_heard self.old machine.old.state (seen_packet packet)).session) }
+    {
         match self.running {
             Some(run) => self.take_reply(machine, run, packet, out),
             None => {
-                self.answer(machine, purpose_of(packet.request, packet.tail), packet.tail, out)
+                let purpose = purpose_of(packet.request, packet.tail);
+                self.answer(machine, purpose, packet.tail, out)
             }
         }
     }
 
     /// Writes a byte of acknowledgement, where packets are acknowledged.
-    fn acknowledge<W: Out>(&self, byte: u8, out: &mut W) -> Result<(), IoError> {
+    fn acknowledge<D: Decider, C: KeptCode, L: Levels, U: DueTicks, W: Out>(
+        &self,
+        machine: &Machine<D, C, L, U>,
+        byte: u8,
+        out: &mut W,
+    ) -> Result<(), IoError>
+        ensures { Tells (acknowledgement self.now machine.now.state byte) machine.now machine.now
+            (W.writing out.old) (W.writing out.new) result }
+    {
+        let _ = machine;
         if self.acknowledges {
-            out.put_all(&[byte])
+            out.put_byte(byte)
         } else {
             Ok(())
         }
     }
 
     /// Writes the last packet that was sent once more, where packets are acknowledged.
-    fn send_again<W: Out>(&self, out: &mut W) -> Result<(), IoError> {
+    fn send_again<D: Decider, C: KeptCode, L: Levels, U: DueTicks, W: Out>(
+        &self,
+        machine: &Machine<D, C, L, U>,
+        out: &mut W,
+    ) -> Result<(), IoError>
+        ensures { Tells (sent_again self.now machine.now.state) machine.now machine.now
+            (W.writing out.old) (W.writing out.new) result }
+    {
+        let _ = machine;
         if self.acknowledges {
             out.put_all(self.sent.as_slice())
         } else {
@@ -303,8 +427,10 @@ impl Session {
         }
     }
 
-    /// Interrupts a run. At rest nothing changes.
-    fn interrupt(&mut self) {
+    /// Interrupts a run that waits. At rest nothing changes.
+    fn interrupt(&mut self)
+        ensures { self.new ≡ interrupted self.old }
+    {
         match self.running {
             Some(run) => {
                 let mut run = run;
@@ -315,12 +441,55 @@ impl Session {
         }
     }
 
-    /// Refuses a packet that is too long. While a run waits it is skipped.
-    fn refuse_long<W: Out>(&mut self, out: &mut W) -> Result<(), IoError> {
+    /// Refuses a packet of too many bytes. While a run waits it is skipped.
+    fn refuse_long<D: Decider, C: KeptCode, L: Levels, U: DueTicks, W: Out>(
+        &mut self,
+        machine: &Machine<D, C, L, U>,
+        out: &mut W,
+    ) -> Result<(), IoError>
+        ensures tells { Tells (too_long self.old machine.now.state).pieces machine.now machine.now
+            (W.writing out.old) (W.writing out.new) result }
+        ensures kept { self.new ≡ (too_long self.old machine.now.state).session }
+    {
         match self.running {
             Some(_) => Ok(()),
-            None => self.reply(Err(ErrorCode::TooLong), out),
+            None => self.reply(machine, Err(ErrorCode::TooLong), out),
         }
+    }
+
+    /// Acknowledges a packet, and takes it.
+    fn take_whole<D: Decider, C: KeptCode, L: Levels, U: DueTicks, W: Out>(
+        &mut self,
+        machine: &mut Machine<D, C, L, U>,
+        content: &[u8],
+        out: &mut W,
+    ) -> Result<(), IoError>
+        ensures tells { Tells (whole_heard self.old machine.old.state content.now).pieces machine.old machine.new
+            (W.writing out.old) (W.writing out.new) result }
+        ensures kept { OnOk result (self.new ≡ (whole_heard self.old machine.old.state content.now).session) }
+    {
+        match self.acknowledge(machine, b'+', out) {
+            Ok(()) => {}
+            Err(error) => return Err(error),
+        }
+        self.take_packet(machine, read_packet(content), out)
+    }
+
+    /// Acknowledges a packet of too many bytes, and refuses it.
+    fn take_long<D: Decider, C: KeptCode, L: Levels, U: DueTicks, W: Out>(
+        &mut self,
+        machine: &Machine<D, C, L, U>,
+        out: &mut W,
+    ) -> Result<(), IoError>
+        ensures tells { Tells (long_heard self.old machine.now.state).pieces machine.now machine.now
+            (W.writing out.old) (W.writing out.new) result }
+        ensures kept { OnOk result (self.new ≡ (long_heard self.old machine.now.state).session) }
+    {
+        match self.acknowledge(machine, b'+', out) {
+            Ok(()) => {}
+            Err(error) => return Err(error),
+        }
+        self.refuse_long(machine, out)
     }
 
     /// Takes what a byte made. `content` is the data of the last packet.
@@ -330,28 +499,21 @@ impl Session {
         event: Event,
         content: &[u8],
         out: &mut W,
-    ) -> Result<(), IoError> {
+    ) -> Result<(), IoError>
+        ensures tells { Tells (heard self.old machine.old.state event content.now).pieces machine.old machine.new
+            (W.writing out.old) (W.writing out.new) result }
+        ensures kept { OnOk result (self.new ≡ (heard self.old machine.old.state event content.now).session) }
+    {
         match event {
             Event::Nothing | Event::Acknowledgement => Ok(()),
-            Event::Rejection => self.send_again(out),
+            Event::Rejection => self.send_again(machine, out),
             Event::Interrupt => {
                 self.interrupt();
                 Ok(())
             }
-            Event::WrongChecksum => self.acknowledge(b'-', out),
-            Event::TooLong => match self.acknowledge(b'+', out) {
-                Ok(()) => self.refuse_long(out),
-                Err(error) => Err(error),
-            },
-            Event::Packet => match self.acknowledge(b'+', out) {
-                Ok(()) => self.take_packet(machine, read_packet(content), out),
-                Err(error) => Err(error),
-            },
+            Event::WrongChecksum => self.acknowledge(machine, b'-', out),
+            Event::TooLong => self.take_long(machine, out),
+            Event::Packet => self.take_whole(machine, content, out),
         }
     }
-}
-
-/// Returns whether a packet is the reply to a question.
-fn is_file_reply(request: Request) -> bool {
-    matches!(request, Request::FileReply)
 }
