@@ -136,11 +136,13 @@ plan_of k limit run = record { how = run.how; limit = limit; settings = k }
 abbrev pub turn : List Breakpoint → Settings → Features → ℕ → Run → State → Turned
 turn points k features limit run s =
     if run.is_interrupted then ended k features Interrupted [] (begun run s)
-    else all_slices (plan_of k limit run) points features (steps_left (most_steps k features.is_gdb) run.made) (begun run s)
+    else all_slices (plan_of k limit run) points features (steps_left (most_steps k features.is_gdb) run.made)
+    (begun run s)
 
 -- ---- what a call that took a turn leaves
 
-pub record TakesTurn (turned : Turned) (old new : Whole) (before after : Writing) (sent : List ℕ) (ends : Turn) : Type 0 where
+pub record TakesTurn (turned : Turned) (old new : Whole) (before after : Writing) (sent : List ℕ) (ends : Turn)
+    : Type 0 where
   pub tells : TellsAll turned.pieces old new before after
   pub outcome : ends ≡ turned.outcome
   pub remembered : sent ≡ turned.sent

@@ -206,13 +206,12 @@ pub fn go_on<D: Decider, C: KeptCode, L: Levels, U: DueTicks, W: Out>(
     machine: &mut Machine<D, C, L, U>,
     out: &mut W,
 ) -> Result<Turn, IoError>
-    ensures tells { Tells
-        (turn terms.now.points.now terms.now.settings terms.now.features terms.now.limit run machine.old.state).pieces
-        machine.old machine.new (W.writing out.old) (W.writing out.new) result }
-    ensures outcome { IfOk result (λ ends. ends
-        ≡ (turn terms.now.points.now terms.now.settings terms.now.features terms.now.limit run machine.old.state).outcome) }
-    ensures sent { IfOk result (λ ends. sent.new.items
-        ≡ (turn terms.now.points.now terms.now.settings terms.now.features terms.now.limit run machine.old.state).sent) }
+    ensures tells { Tells (turn terms.now.points.now terms.now.settings terms.now.features terms.now.limit run
+        machine.old.state).pieces machine.old machine.new (W.writing out.old) (W.writing out.new) result }
+    ensures outcome { IfOk result (λ ends. ends ≡ (turn terms.now.points.now terms.now.settings terms.now.features
+        terms.now.limit run machine.old.state).outcome) }
+    ensures sent { IfOk result (λ ends. sent.new.items ≡ (turn terms.now.points.now terms.now.settings
+        terms.now.features terms.now.limit run machine.old.state).sent) }
 {
     let mut progress = Progress::new(run.made, run.last);
     if run.is_interrupted {
