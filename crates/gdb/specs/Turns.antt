@@ -1,7 +1,7 @@
 -- A turn of a run: its steps up to a question to GDB, or up to its end (GDB manual, "Stop Reply Packets" and "File-I/O
 -- Remote Protocol Extension", isatty).
 use Rattle.std.specs.Prelude.{ℕ, zero, suc, ◌-◌, ◌/◌, ◌%◌, ◌^◌, false, if◌then◌else◌, List, [], ◌∷◌, ◌++◌, codes}
-use Rattle.std.specs.Prelude.{Option, Some, None}
+use Rattle.std.specs.Prelude.{◌≡◌, Option, Some, None, Result, Ok, Err, unwrap_or}
 use Rattle.gdb.specs.declared.slices.Plan.{Plan}
 use Rattle.gdb.specs.declared.turns.Run.{Run}
 use Rattle.gdb.specs.declared.turns.Turn.{Turn}
@@ -21,7 +21,9 @@ use Rattle.gdb_texts.specs.Settings.{most_steps}
 use Rattle.gdb_texts.specs.Stops.{signal_of, stop_reply}
 use Rattle.platform.specs.declared.event.Event.{Event}
 use Rattle.reference.specs.State.{State}
-use Rattle.serving.specs.Pieces.{Piece}
+use Rattle.machine.specs.Whole.{Whole}
+use Rattle.output.specs.Output.{Writing}
+use Rattle.serving.specs.Pieces.{Piece, TellsAll, TellsPart}
 
 pub record Turned : Type 0 where
   -- the pieces that go out
@@ -92,32 +94,36 @@ steps_left None made = 2 ^ 64 - 1 - made
 steps_left (Some most) made = most - made
 
 -- the run ended in a slice, or goes on
-abbrev pub ended_or : Settings → Features → Option StopReason → List Event → Flow → Turned → Turned
-ended_or k features (Some r) events f later = ended k features r events f
-ended_or k features None events f later = later
-
-abbrev pub after_slice : Settings → Features → Sliced → Turned → Turned
-after_slice k features sliced later =
-    with_pieces sliced.pieces (ended_or k features sliced.reason sliced.events sliced.flow later)
+abbrev pub ended_or : Settings → Features → Sliced → Option StopReason → Turned → Turned
+ended_or k features sliced (Some r) later = ended k features r sliced.events sliced.flow
+ended_or k features sliced None later = later
 
 -- after a whole slice GDB is asked, and another client isn't
 abbrev pub asked_or : Features → Resume → Flow → Turned → Turned
 asked_or features how f later = if features.is_gdb then asked how f else later
 
--- n whole slices, and then one of the steps that are left, at whose end the budget is made
-unfoldable pub slices : Plan → List Breakpoint → Features → ℕ → ℕ → Flow → Turned
-slices p points features zero rest f =
-    after_slice p.settings features (slice p points rest f)
-    (ended p.settings features Interrupted [] (slice p points rest f).flow)
-slices p points features (suc n) rest f =
-    after_slice p.settings features (slice p points steps_at_once f)
-    (with_pieces (flushing (slice p points steps_at_once f).flow ∷ [])
-    (asked_or features p.how (flushed (slice p points steps_at_once f).flow)
-    (slices p points features n rest (flushed (slice p points steps_at_once f).flow))))
+-- a whole slice, after which all text goes out; and what comes later, where the run goes on at once
+abbrev pub after_slice : Plan → Features → Sliced → Turned → Turned
+after_slice p features sliced later =
+    with_pieces sliced.pieces (ended_or p.settings features sliced sliced.reason
+    (with_pieces (flushing sliced.flow ∷ []) (asked_or features p.how (flushed sliced.flow) later)))
 
--- all slices of `left` steps
-abbrev pub sliced_by : Plan → List Breakpoint → Features → ℕ → Flow → Turned
-sliced_by p points features left f =
+-- the last slice: where nothing else ends the run in it, its budget is made
+abbrev pub last_slice : Plan → Features → Sliced → Turned
+last_slice p features sliced =
+    with_pieces sliced.pieces
+    (ended p.settings features (unwrap_or sliced.reason Interrupted) sliced.events sliced.flow)
+
+-- n whole slices, and one of the `rest` of the steps
+unfoldable pub slices : Plan → List Breakpoint → Features → ℕ → ℕ → Flow → Turned
+slices p points features zero rest f = last_slice p features (slice p points rest f)
+slices p points features (suc n) rest f =
+    after_slice p features (slice p points steps_at_once f)
+    (slices p points features n rest (flushed (slice p points steps_at_once f).flow))
+
+-- the slices of `left` steps
+abbrev pub all_slices : Plan → List Breakpoint → Features → ℕ → Flow → Turned
+all_slices p points features left f =
     slices p points features (left / steps_at_once) (left % steps_at_once) f
 
 abbrev pub begun : Run → State → Flow
@@ -130,4 +136,17 @@ plan_of k limit run = record { how = run.how; limit = limit; settings = k }
 abbrev pub turn : List Breakpoint → Settings → Features → ℕ → Run → State → Turned
 turn points k features limit run s =
     if run.is_interrupted then ended k features Interrupted [] (begun run s)
-    else sliced_by (plan_of k limit run) points features (steps_left (most_steps k features.is_gdb) run.made) (begun run s)
+    else all_slices (plan_of k limit run) points features (steps_left (most_steps k features.is_gdb) run.made)
+    (begun run s)
+
+-- ---- what a call that took a turn leaves
+
+pub record TakesTurn (turned : Turned) (old new : Whole) (before after : Writing) (sent : List ℕ) (ends : Turn)
+    : Type 0 where
+  pub tells : TellsAll turned.pieces old new before after
+  pub outcome : ends ≡ turned.outcome
+  pub remembered : sent ≡ turned.sent
+
+abbrev pub Takes : {E : Type 0} → Turned → Whole → Whole → Writing → Writing → List ℕ → Result Turn E → Type 0
+Takes turned old new before after sent (Ok ends) = TakesTurn turned old new before after sent ends
+Takes turned old new before after sent (Err error) = TellsPart turned.pieces old new before after

@@ -1,11 +1,11 @@
 //! A turn of a run: its steps up to a question to GDB, or up to its end.
 
-ghost use Rattle.std.specs.Prelude.{◌≡◌, ◌+◌, ◌*◌, ◌≤◌, [], ◌∷◌, length, IfOk};
-ghost use Rattle.gdb.specs.Slices.{flow};
-ghost use Rattle.gdb.specs.Turns.{after_whys, asked, ended, flushing, question, said, slices, steps_left, stop_packet};
-ghost use Rattle.gdb.specs.Turns.{turn, whys};
+ghost use Rattle.std.specs.Prelude.{◌≡◌, ◌+◌, ◌*◌, ◌^◌, ◌<◌, ◌≤◌, length, IfOk};
+ghost use Rattle.gdb.specs.Slices.{flow, slice};
+ghost use Rattle.gdb.specs.Turns.{Takes, all_slices, asked, ended, last_slice, steps_left, stop_packet, turn};
 ghost use Rattle.gdb_packets.specs.Replies.{packet_of};
 ghost use Rattle.output.specs.Output.{Put};
+ghost use Rattle.reference.specs.State.{State};
 ghost use Rattle.serving.specs.Pieces.{Tells};
 
 use crate::registers::register_values;
@@ -99,13 +99,8 @@ fn end_run<D: Decider, C: KeptCode, L: Levels, U: DueTicks, W: Out>(
     machine: &Machine<D, C, L, U>,
     out: &mut W,
 ) -> Result<Turn, IoError>
-    ensures tells { Tells
-        (ended settings.now features reason progress.old.events (flow progress.old machine.now.state)).pieces
-        machine.now machine.now (W.writing out.old) (W.writing out.new) result }
-    ensures outcome { IfOk result (λ turn. turn
-        ≡ (ended settings.now features reason progress.old.events (flow progress.old machine.now.state)).outcome) }
-    ensures sent { IfOk result (λ turn. sent.new.items
-        ≡ (ended settings.now features reason progress.old.events (flow progress.old machine.now.state)).sent) }
+    ensures { Takes (ended settings.now features reason progress.old.events (flow progress.old machine.now.state))
+        machine.now machine.now (W.writing out.old) (W.writing out.new) sent.new.items result }
 {
     match progress.put_whys(settings, told_stop(reason, machine.stop()), out) {
         Ok(()) => {}
@@ -121,26 +116,16 @@ fn end_run<D: Decider, C: KeptCode, L: Levels, U: DueTicks, W: Out>(
     }
 }
 
-/// Asks GDB whether its user has interrupted the run.
-fn ask<W: Out>(
-    how: Resume,
-    progress: &Progress,
-    sent: &mut SentPacket,
-    out: &mut W,
-) -> Result<Turn, IoError>
-    ensures put { Put (W.writing out.old) (W.writing out.new) question result }
+/// Returns the turn whose run goes on after a question.
+fn asked(how: Resume, progress: &Progress) -> Turn
+    ensures { (s : State) → result ≡ (asked how (flow progress.now s)).outcome }
 {
-    match send_packet(QUESTION, sent, out) {
-        Ok(()) => {
-            Ok(Turn::Asks(Run {
-                how,
-                made: progress.made(),
-                last: progress.last(),
-                is_interrupted: false,
-            }))
-        }
-        Err(error) => Err(error),
-    }
+    Turn::Asks(Run {
+        how,
+        made: progress.made(),
+        last: progress.last(),
+        is_interrupted: false,
+    })
 }
 
 /// Returns how many steps are left of a budget.
@@ -153,6 +138,65 @@ fn steps_left(budget: Option<u32>, made: u64) -> u64
     }
 }
 
+/// Makes the last slice of a turn, of `steps` steps, and ends the run.
+fn last_slice<D: Decider, C: KeptCode, L: Levels, U: DueTicks, W: Out>(
+    plan: &Plan,
+    terms: &Terms,
+    steps: u64,
+    progress: &mut Progress,
+    sent: &mut SentPacket,
+    machine: &mut Machine<D, C, L, U>,
+    out: &mut W,
+) -> Result<Turn, IoError>
+    requires { progress.old.made + steps < 2 ^ 64 }
+    ensures { Takes (last_slice plan.now terms.now.features
+        (slice plan.now terms.now.points.now steps (flow progress.old machine.old.state)))
+        machine.old machine.new (W.writing out.old) (W.writing out.new) sent.new.items result }
+{
+    let reason = match run_slice(plan, terms.points, steps, progress, machine, out) {
+        Ok(reason) => reason.unwrap_or(StopReason::Interrupted),
+        Err(error) => return Err(error),
+    };
+    end_run(reason, &plan.settings, terms.features, progress, sent, machine, out)
+}
+
+/// Makes the slices of `left` steps, up to the end of the run or a question.
+fn make_slices<D: Decider, C: KeptCode, L: Levels, U: DueTicks, W: Out>(
+    plan: &Plan,
+    terms: &Terms,
+    left: u64,
+    progress: &mut Progress,
+    sent: &mut SentPacket,
+    machine: &mut Machine<D, C, L, U>,
+    out: &mut W,
+) -> Result<Turn, IoError>
+    requires { progress.old.made + left < 2 ^ 64 }
+    ensures { Takes (all_slices plan.now terms.now.points.now terms.now.features left
+        (flow progress.old machine.old.state))
+        machine.old machine.new (W.writing out.old) (W.writing out.new) sent.new.items result }
+{
+    'slices: for _ in 0..left / STEPS_AT_ONCE {
+        match run_slice(plan, terms.points, STEPS_AT_ONCE, progress, machine, out) {
+            Ok(None) => {}
+            Ok(Some(reason)) => {
+                return end_run(reason, &plan.settings, terms.features, progress, sent, machine, out);
+            }
+            Err(error) => return Err(error),
+        }
+        match progress.flush(out) {
+            Ok(()) => {}
+            Err(error) => return Err(error),
+        }
+        if terms.features.is_gdb {
+            return match send_packet(QUESTION, sent, out) {
+                Ok(()) => Ok(asked(plan.how, progress)),
+                Err(error) => Err(error),
+            };
+        }
+    }
+    last_slice(plan, terms, left % STEPS_AT_ONCE, progress, sent, machine, out)
+}
+
 /// Makes a run's next steps: at most 1,000,000 before GDB is asked whether its user has interrupted; a client that
 /// isn't GDB isn't asked. Writes its text as it comes, and at the end the lines that say why, and the stop reply.
 pub fn go_on<D: Decider, C: KeptCode, L: Levels, U: DueTicks, W: Out>(
@@ -162,13 +206,12 @@ pub fn go_on<D: Decider, C: KeptCode, L: Levels, U: DueTicks, W: Out>(
     machine: &mut Machine<D, C, L, U>,
     out: &mut W,
 ) -> Result<Turn, IoError>
-    ensures tells { Tells
-        (turn terms.now.points.now terms.now.settings terms.now.features terms.now.limit run machine.old.state).pieces
-        machine.old machine.new (W.writing out.old) (W.writing out.new) result }
-    ensures outcome { IfOk result (λ ends. ends
-        ≡ (turn terms.now.points.now terms.now.settings terms.now.features terms.now.limit run machine.old.state).outcome) }
-    ensures sent { IfOk result (λ ends. sent.new.items
-        ≡ (turn terms.now.points.now terms.now.settings terms.now.features terms.now.limit run machine.old.state).sent) }
+    ensures tells { Tells (turn terms.now.points.now terms.now.settings terms.now.features terms.now.limit run
+        machine.old.state).pieces machine.old machine.new (W.writing out.old) (W.writing out.new) result }
+    ensures outcome { IfOk result (λ ends. ends ≡ (turn terms.now.points.now terms.now.settings terms.now.features
+        terms.now.limit run machine.old.state).outcome) }
+    ensures sent { IfOk result (λ ends. sent.new.items ≡ (turn terms.now.points.now terms.now.settings
+        terms.now.features terms.now.limit run machine.old.state).sent) }
 {
     let mut progress = Progress::new(run.made, run.last);
     if run.is_interrupted {
@@ -189,47 +232,4 @@ pub fn go_on<D: Decider, C: KeptCode, L: Levels, U: DueTicks, W: Out>(
     };
     let left = steps_left(most_steps(terms.settings, terms.features.is_gdb), run.made);
     make_slices(&plan, terms, left, &mut progress, sent, machine, out)
-}
-
-/// Makes slices.
-fn make_slices<D: Decider, C: KeptCode, L: Levels, U: DueTicks, W: Out>(
-    plan: &Plan,
-    terms: &Terms,
-    left: u64,
-    progress: &mut Progress,
-    sent: &mut SentPacket,
-    machine: &mut Machine<D, C, L, U>,
-    out: &mut W,
-) -> Result<Turn, IoError> {
-    'slices: for index in 0..left / STEPS_AT_ONCE {
-        let _ = index;
-        match run_slice(plan, terms.points, STEPS_AT_ONCE, progress, machine, out) {
-            Ok(None) => {}
-            Ok(Some(reason)) => {
-                return end_run(reason, &plan.settings, terms.features, progress, sent, machine, out);
-            }
-            Err(error) => return Err(error),
-        }
-        match progress.flush(out) {
-            Ok(()) => {}
-            Err(error) => return Err(error),
-        }
-        if terms.features.is_gdb {
-            return ask(plan.how, progress, sent, out);
-        }
-    }
-    match run_slice(plan, terms.points, left % STEPS_AT_ONCE, progress, machine, out) {
-        Ok(reason) => {
-            end_run(
-                reason.unwrap_or(StopReason::Interrupted),
-                &plan.settings,
-                terms.features,
-                progress,
-                sent,
-                machine,
-                out,
-            )
-        }
-        Err(error) => Err(error),
-    }
 }

@@ -61,18 +61,13 @@ fn has_line(settings: &Settings, events: &[Event], stop: Option<Stop>) -> bool
     events.iter().any(|event| is_told(settings, &event.what)) || stop.is_some()
 }
 
-/// Puts a line feed where a line follows, unless the text begins there or ends with one.
-fn put_line_begun<W: Out>(
-    follows: bool,
-    console: &mut Console,
-    out: &mut W,
-) -> Result<(), IoError>
-    ensures { Shows (W.writing out.old) (W.writing out.new) console.old console.new
-        (line_begun follows console.old.last) result }
+/// Returns a line feed where a line follows, unless the text is empty or ends with one.
+fn line_begun(follows: bool, last: Option<u8>) -> &'static [u8]
+    ensures { result.now ≡ line_begun follows last }
 {
-    match console.last() {
-        Some(byte) if follows && byte != b'\n' => console.put(b"\n", out),
-        Some(_) | None => Ok(()),
+    match last {
+        Some(byte) if follows && byte != b'\n' => b"\n",
+        Some(_) | None => b"",
     }
 }
 
@@ -136,7 +131,8 @@ fn put_lines<W: Out>(
     ensures { Shows (W.writing out.old) (W.writing out.new) console.old console.new
         (lines_of settings.now events.now stop console.old.last) result }
 {
-    match put_line_begun(has_line(settings, events, stop), console, out) {
+    let follows = has_line(settings, events, stop);
+    match console.put(line_begun(follows, console.last()), out) {
         Ok(()) => {}
         Err(error) => return Err(error),
     }
