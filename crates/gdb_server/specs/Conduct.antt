@@ -45,7 +45,7 @@ piece s text = record { state = s; text = text }
 
 -- one reply, in this state of the machine
 abbrev pub replied : Session → State → Result (List ℕ) ErrorCode → Answered
-replied k s data = record { pieces = piece s (reply_packet data) ∷ []; session = with_reply k data }
+replied k s answer = record { pieces = piece s (reply_packet answer) ∷ []; session = with_reply k answer }
 
 -- ---- writes, and commands of `monitor`
 

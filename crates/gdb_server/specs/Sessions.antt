@@ -63,20 +63,20 @@ opened limit board = record {
 -- ---- replies: their data, or why the packet is refused
 
 abbrev pub reply_data : Result (List ℕ) ErrorCode → List ℕ
-reply_data (Ok data) = data
+reply_data (Ok text) = text
 reply_data (Err error) = error_text error
 
 -- the packet of a reply
 abbrev pub reply_packet : Result (List ℕ) ErrorCode → List ℕ
-reply_packet data = packet_of (reply_data data)
+reply_packet answer = packet_of (reply_data answer)
 
 abbrev pub refused_after : Option ErrorCode → Result (List ℕ) ErrorCode → Option ErrorCode
-refused_after last (Ok data) = last
+refused_after last (Ok text) = last
 refused_after last (Err error) = Some error
 
 -- after a reply: it can be sent again, and `monitor why` tells a refusal
 abbrev pub with_reply : Session → Result (List ℕ) ErrorCode → Session
-with_reply k data = record k { sent = reply_packet data; refused = refused_after k.refused data }
+with_reply k answer = record k { sent = reply_packet answer; refused = refused_after k.refused answer }
 
 -- the reply `OK`
 abbrev pub ok : Result (List ℕ) ErrorCode

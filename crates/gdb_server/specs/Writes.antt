@@ -1,6 +1,6 @@
 -- The packets that write to the machine (GDB manual, "Packets", G, M, P and X).
-use Rattle.std.specs.Prelude.{◌≡◌, ℕ, zero, suc, ◌+◌, ◌-◌, ◌*◌, ◌/◌, ◌%◌, ◌^◌, nat_lt, nat_le, Bool, not, ◌&&◌, ◌||◌}
-use Rattle.std.specs.Prelude.{◌==◌, if◌then◌else◌, is_some, List, [], ◌∷◌, length, slice_index, unwrap_or}
+use Rattle.std.specs.Prelude.{◌≡◌, ℕ, zero, suc, ◌+◌, ◌-◌, ◌*◌, ◌/◌, ◌%◌, ◌^◌, nat_lt, nat_le, Bool, false, not, ◌&&◌}
+use Rattle.std.specs.Prelude.{◌||◌, ◌==◌, if◌then◌else◌, is_some, List, [], ◌∷◌, length, slice_index, unwrap_or}
 use Rattle.std.specs.Prelude.{Option, Some, None, Result, Ok, Err}
 use Rattle.gdb.specs.Targets.{altered_if, register_written}
 use Rattle.gdb_server.specs.Replies.{bytes_in}
@@ -89,12 +89,19 @@ unfoldable pub with_bytes : State → ℕ → List ℕ → State
 with_bytes s a [] = s
 with_bytes s a (byte ∷ bytes) = with_bytes (with_byte s a byte) (a + 1) bytes
 
+-- the last of n bytes from a on, at least one; none where they go beyond the address space
+abbrev pub last_of : ℕ → ℕ → Option ℕ
+last_of a n = if nat_le (a + n) (2 ^ 32) then Some (a + n - 1) else None
+
+abbrev pub are_there_to : Memory → ℕ → Option ℕ → Bool
+are_there_to m a None = false
+are_there_to m a (Some last) =
+    is_some (byte_at m a) && (is_some (byte_at m last) && (nat_lt last ram_base || nat_le ram_base a))
+
 -- n bytes from a on, at least one, are in flash, or in RAM: the first and the last are there, on one side of the
 -- beginning of RAM
 abbrev pub are_there : Memory → ℕ → ℕ → Bool
-are_there m a n =
-    nat_le (a + n) (2 ^ 32) && (is_some (byte_at m a) && (is_some (byte_at m (a + n - 1))
-    && (nat_lt (a + n - 1) ram_base || nat_le ram_base a)))
+are_there m a n = are_there_to m a (last_of a n)
 
 -- a machine that has stopped takes none
 abbrev pub block_written : State → ℕ → List ℕ → Written

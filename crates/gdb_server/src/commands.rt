@@ -9,7 +9,7 @@ ghost use Rattle.output.specs.Output.{Put};
 ghost use Rattle.platform.specs.Priorities.{is_below_zero};
 ghost use Rattle.platform.specs.Rules.{decision_of};
 
-use crate::data::Data;
+use crate::content::Data;
 use crate::writes::put;
 use debugger::{next_text, refusal_text, regions_text, state_page};
 use debugger_commands::{LineError, Reply, decision_text, error_text, ok_text};

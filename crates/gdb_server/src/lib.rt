@@ -2,14 +2,14 @@
 #![tactic(auto)]
 
 mod commands;
-mod data;
+mod content;
 mod purposes;
 mod reading;
 mod server;
 mod session;
 mod writes;
 
-pub use data::Data;
+pub use content::Data;
 pub use purposes::{Constant, MachineChange, Purpose, Reading, SessionChange, purpose_of};
 pub use server::Server;
 pub use session::Session;

@@ -6,7 +6,7 @@ ghost use Rattle.gdb_server.specs.Replies.{register_data};
 ghost use Rattle.gdb_texts.specs.Transfers.{memory_map};
 ghost use Rattle.platform.specs.Boards.{numbers_of};
 
-use crate::data::Data;
+use crate::content::Data;
 use crate::purposes::Reading;
 use gdb::register_values;
 use gdb_texts::{Activity, ErrorCode, REGISTERS, Signal, description};

@@ -1,13 +1,14 @@
 //! What a session keeps between two packets, and what a packet makes.
 
-ghost use Rattle.std.specs.Prelude.{◌≡◌, OnOk, bytes_eq};
+ghost use Rattle.std.specs.Prelude.{◌≡◌, OnOk, false, bytes_eq};
 ghost use Rattle.gdb_packets.specs.Seen.{seen_packet};
-ghost use Rattle.gdb_server.specs.Commands.{command_of};
+ghost use Rattle.gdb_server.specs.Commands.{command_of, settings_with};
 ghost use Rattle.gdb_server.specs.Conduct.{acknowledgement, answered, commanded, first_turn, heard, interrupted};
 ghost use Rattle.gdb_server.specs.Conduct.{interrupted_by, is_interrupt, long_heard, packet_heard, replied};
 ghost use Rattle.gdb_server.specs.Conduct.{reply_heard, resumed, sent_again, told, too_long, whole_heard, with_turn};
 ghost use Rattle.gdb_server.specs.Conduct.{wrote};
 ghost use Rattle.gdb_server.specs.Purposes.{is_file_reply};
+ghost use Rattle.gdb_server.specs.Replies.{data_read};
 ghost use Rattle.gdb_server.specs.Sessions.{data_of_reply, data_of_write, opened, reply_packet, session_after};
 ghost use Rattle.gdb_server.specs.Sessions.{set_data, with_reply};
 ghost use Rattle.gdb_server.specs.Writes.{written};
@@ -16,8 +17,8 @@ ghost use Rattle.platform.specs.Boards.{numbers_of};
 ghost use Rattle.serving.specs.Pieces.{Tells};
 
 use crate::commands::{place_by, read_command, settings_with, tell_command};
-use crate::data::{Data, constant_text, features};
-use crate::purposes::{MachineChange, Purpose, SessionChange, purpose_of};
+use crate::content::{Data, constant_text, features};
+use crate::purposes::{MachineChange, Purpose, Reading, SessionChange, purpose_of};
 use crate::reading::read;
 use crate::writes::write;
 use debugger_commands::LineError;
@@ -166,16 +167,69 @@ impl Session {
         self.is_open
     }
 
+    /// Returns why the last packet was refused that was.
+    fn last_refusal(&self) -> Option<ErrorCode>
+        ensures { result ≡ self.now.refused }
+    {
+        self.refused
+    }
+
+    /// Returns the run that waits for the reply to its question, if one does.
+    fn waiting(&self) -> Option<Run>
+        ensures { result ≡ self.now.running }
+    {
+        self.running
+    }
+
+    /// Returns whether packets are acknowledged.
+    fn acknowledges(&self) -> bool
+        ensures { result ≡ self.now.acknowledges }
+    {
+        self.acknowledges
+    }
+
+    /// Returns the last packet that was sent.
+    fn last_sent(&self) -> &[u8]
+        ensures { result.now ≡ self.now.sent }
+    {
+        self.sent.as_slice()
+    }
+
+    /// Returns what a packet reads.
+    fn read<D: Decider, C: KeptCode, L: Levels, U: DueTicks>(
+        &self,
+        machine: &Machine<D, C, L, U>,
+        what: Reading,
+    ) -> Result<Data, ErrorCode>
+        ensures { result ≡ data_read self.now.signal self.now.board machine.now.state what }
+    {
+        read(self.signal, &self.board, machine, what)
+    }
+
+    /// Ends the session.
+    fn close(&mut self)
+        ensures { self.new ≡ record self.old { is_open = false } }
+    {
+        self.is_open = false;
+    }
+
+    /// Makes the change of the settings that a command asks for.
+    fn change_settings(&mut self, asked: Result<Monitor, LineError>)
+        ensures { self.new ≡ record self.old { settings = settings_with self.old.settings asked } }
+    {
+        self.settings = settings_with(self.settings, asked);
+    }
+
     /// Writes the reply to a packet, and keeps why the packet was refused, if it was.
     fn put_reply<W: Out>(
         &mut self,
-        data: Result<Data, ErrorCode>,
+        answer: Result<Data, ErrorCode>,
         out: &mut W,
     ) -> Result<(), IoError>
-        ensures put { Put (W.writing out.old) (W.writing out.new) (reply_packet data) result }
-        ensures kept { self.new ≡ with_reply self.old data }
+        ensures put { Put (W.writing out.old) (W.writing out.new) (reply_packet answer) result }
+        ensures kept { self.new ≡ with_reply self.old answer }
     {
-        match data {
+        match answer {
             Ok(data) => send_packet(data.as_slice(), &mut self.sent, out),
             Err(error) => {
                 self.refused = Some(error);
@@ -188,20 +242,20 @@ impl Session {
     fn reply<D: Decider, C: KeptCode, L: Levels, U: DueTicks, W: Out>(
         &mut self,
         machine: &Machine<D, C, L, U>,
-        data: Result<Data, ErrorCode>,
+        answer: Result<Data, ErrorCode>,
         out: &mut W,
     ) -> Result<(), IoError>
-        ensures tells { Tells (replied self.old machine.now.state data).pieces machine.now machine.now
+        ensures tells { Tells (replied self.old machine.now.state answer).pieces machine.now machine.now
             (W.writing out.old) (W.writing out.new) result }
-        ensures kept { self.new ≡ (replied self.old machine.now.state data).session }
+        ensures kept { self.new ≡ (replied self.old machine.now.state answer).session }
     {
         let _ = machine;
-        self.put_reply(data, out)
+        self.put_reply(answer, out)
     }
 
     /// Makes a change of the session. Returns the data of the reply.
     fn set(&mut self, change: SessionChange, tail: &[u8]) -> Result<Data, ErrorCode>
-        ensures data { result ≡ set_data self.old change }
+        ensures answer { result ≡ set_data self.old change }
         ensures kept { self.new ≡ session_after self.old change tail.now }
     {
         match change {
@@ -253,7 +307,7 @@ impl Session {
             (W.writing out.old) (W.writing out.new) result }
         ensures kept { OnOk result (self.new ≡ (told self.old machine.now.state refused asked).session) }
     {
-        match tell_command(machine, self.refused, refused, asked, out) {
+        match tell_command(machine, self.last_refusal(), refused, asked, out) {
             Ok(()) => {}
             Err(error) => return Err(error),
         }
@@ -274,7 +328,7 @@ impl Session {
     {
         let asked = read_command(digits);
         let refused = place_by(machine, asked);
-        self.settings = settings_with(self.settings, asked);
+        self.change_settings(asked);
         self.tell(machine, refused, asked, out)
     }
 
@@ -334,7 +388,7 @@ impl Session {
             Purpose::Say(what) => self.reply(machine, Ok(Data::of(constant_text(what))), out),
             Purpose::Refuse(error) => self.reply(machine, Err(error), out),
             Purpose::Read(reading) => {
-                let data = read(self.signal, &self.board, machine, reading);
+                let data = self.read(machine, reading);
                 self.reply(machine, data, out)
             }
             Purpose::Write(change) => self.write(machine, change, tail, out),
@@ -343,7 +397,7 @@ impl Session {
                 self.reply(machine, data, out)
             }
             Purpose::Kill => {
-                self.is_open = false;
+                self.close();
                 Ok(())
             }
             Purpose::Resume(how) => self.resume(machine, first_turn(how), out),
@@ -383,7 +437,7 @@ impl Session {
         ensures kept { OnOk result
             (self.new ≡ (packet_heard self.old machine.old.state (seen_packet packet)).session) }
     {
-        match self.running {
+        match self.waiting() {
             Some(run) => self.take_reply(machine, run, packet, out),
             None => {
                 let purpose = purpose_of(packet.request, packet.tail);
@@ -403,7 +457,7 @@ impl Session {
             (W.writing out.old) (W.writing out.new) result }
     {
         let _ = machine;
-        if self.acknowledges {
+        if self.acknowledges() {
             out.put_byte(byte)
         } else {
             Ok(())
@@ -420,8 +474,8 @@ impl Session {
             (W.writing out.old) (W.writing out.new) result }
     {
         let _ = machine;
-        if self.acknowledges {
-            out.put_all(self.sent.as_slice())
+        if self.acknowledges() {
+            out.put_all(self.last_sent())
         } else {
             Ok(())
         }
@@ -451,7 +505,7 @@ impl Session {
             (W.writing out.old) (W.writing out.new) result }
         ensures kept { self.new ≡ (too_long self.old machine.now.state).session }
     {
-        match self.running {
+        match self.waiting() {
             Some(_) => Ok(()),
             None => self.reply(machine, Err(ErrorCode::TooLong), out),
         }

@@ -1,12 +1,13 @@
 //! The packets that write to the machine.
 
-ghost use Rattle.std.specs.Prelude.{◌≡◌, ◌+◌, ◌-◌, ◌<◌, ◌≤◌, ◌^◌, length, slice_index};
+ghost use Rattle.std.specs.Prelude.{◌≡◌, ◌+◌, ◌<◌, ◌≤◌, ◌^◌, is_some, length, slice_index};
 ghost use Rattle.gdb.specs.Targets.{altered_if};
 ghost use Rattle.gdb_server.specs.Writes.{Writes, after_place, are_there, block_written, byte_beside, byte_there};
-ghost use Rattle.gdb_server.specs.Writes.{memory_written, register_after, registers_written, with_byte, with_bytes};
-ghost use Rattle.gdb_server.specs.Writes.{word_beside, word_of, word_written, written};
+ghost use Rattle.gdb_server.specs.Writes.{last_of, memory_written, register_after, registers_written, with_byte};
+ghost use Rattle.gdb_server.specs.Writes.{with_bytes, word_beside, word_of, word_written, written};
+ghost use Rattle.platform.specs.Memory.{byte_at};
 
-use crate::data::Data;
+use crate::content::Data;
 use crate::purposes::MachineChange;
 use gdb::place_of;
 use gdb_texts::{word_at, written_register};
@@ -132,6 +133,28 @@ fn put_bytes<D: Decider, C: KeptCode, L: Levels, U: DueTicks>(
     }
 }
 
+/// Returns the address of the last of `length` bytes, at least one; none where they go beyond the address space.
+fn last_of(address: u32, length: usize) -> Option<u32>
+    requires { 0 < length }
+    ensures { result ≡ last_of address length }
+{
+    if length <= 0x1_0000_0000 - address as usize {
+        Some((address as usize + length - 1) as u32)
+    } else {
+        None
+    }
+}
+
+/// Returns whether a byte of flash or RAM is at an address.
+fn is_there<D: Decider, C: KeptCode, L: Levels, U: DueTicks>(
+    machine: &Machine<D, C, L, U>,
+    address: u32,
+) -> bool
+    ensures { result ≡ is_some (byte_at machine.now.state.bus.memory address) }
+{
+    machine.byte(address).is_some()
+}
+
 /// Returns whether `length` bytes from an address on, at least one, are in flash, or in RAM: the first and the last
 /// are there, on one side of the beginning of RAM.
 fn are_there<D: Decider, C: KeptCode, L: Levels, U: DueTicks>(
@@ -142,12 +165,13 @@ fn are_there<D: Decider, C: KeptCode, L: Levels, U: DueTicks>(
     requires { 0 < length }
     ensures { result ≡ are_there machine.now.state.bus.memory address length }
 {
-    if length > 0x1_0000_0000 - address as usize {
-        return false;
+    match last_of(address, length) {
+        Some(last) => {
+            is_there(machine, address)
+                && (is_there(machine, last) && (last < RAM_BASE || RAM_BASE <= address))
+        }
+        None => false,
     }
-    let last = (address as usize + length - 1) as u32;
-    machine.byte(address).is_some()
-        && (machine.byte(last).is_some() && (last < RAM_BASE || RAM_BASE <= address))
 }
 
 /// Writes bytes that are all in flash, or all in RAM.
@@ -206,6 +230,7 @@ fn put_word<D: Decider, C: KeptCode, L: Levels, U: DueTicks>(
 }
 
 /// Writes bytes, from an address on, all of them or none.
+#[tactic(auto, using(crate::proofs::Bytes::fits))]
 fn put_memory<D: Decider, C: KeptCode, L: Levels, U: DueTicks>(
     machine: &mut Machine<D, C, L, U>,
     address: u32,
