@@ -413,10 +413,10 @@ impl Session {
         packet: Packet<'_>,
         out: &mut W,
     ) -> Result<(), IoError>
-        ensures tells { Tells (reply_heard self.old machine.old.state run (seen_packet packet)).pieces machine.old
+        ensures tells { Tells (reply_heard self.old machine.old.state run (seen_packet packet.entry)).pieces machine.old
             machine.new (W.writing out.old) (W.writing out.new) result }
         ensures kept { OnOk result
-            (self.new ≡ (reply_heard self.old machine.old.state run (seen_packet packet)).session) }
+            (self.new ≡ (reply_heard self.old machine.old.state run (seen_packet packet.entry)).session) }
     {
         if is_file_reply(packet.request) {
             self.resume(machine, interrupted_by(packet.tail, run), out)
@@ -432,10 +432,10 @@ impl Session {
         packet: Packet<'_>,
         out: &mut W,
     ) -> Result<(), IoError>
-        ensures tells { Tells (packet_heard self.old machine.old.state (seen_packet packet)).pieces machine.old
+        ensures tells { Tells (packet_heard self.old machine.old.state (seen_packet packet.entry)).pieces machine.old
             machine.new (W.writing out.old) (W.writing out.new) result }
         ensures kept { OnOk result
-            (self.new ≡ (packet_heard self.old machine.old.state (seen_packet packet)).session) }
+            (self.new ≡ (packet_heard self.old machine.old.state (seen_packet packet.entry)).session) }
     {
         match self.waiting() {
             Some(run) => self.take_reply(machine, run, packet, out),
