@@ -17,9 +17,7 @@ use gdb::Console;
 use gdb_texts::{
     ErrorCode, Monitor, Settings, explanation, monitor_help, read_monitor, settings_after, why_text,
 };
-use machine::{
-    Decider, Decision, DueTicks, IoError, KeptCode, Levels, Machine, Out, PlaceError,
-};
+use machine::{Decider, Decision, DueTicks, IoError, KeptCode, Levels, Machine, Out, PlaceError};
 use trace::page::Page;
 
 /// Returns whether a command is known. Those of going back in time, of steps over handlers and of restarts aren't.

@@ -109,8 +109,6 @@ pub fn read<D: Decider, C: KeptCode, L: Levels, U: DueTicks>(
         Reading::Description(offset, count) => piece_data(description(), offset, count),
         Reading::MemoryMap(offset, count) => map_piece(board, offset, count),
         Reading::Region(address) => Ok(Data::of_region(board, address)),
-        Reading::Thread => {
-            Ok(Data::of_thread(activity_of(machine), machine.execution().asleep))
-        }
+        Reading::Thread => { Ok(Data::of_thread(activity_of(machine), machine.execution().asleep)) }
     }
 }

@@ -56,7 +56,8 @@ impl<L: Levels, U: DueTicks> Protocol<L, U> for Server {
         out: &mut W,
     ) -> Result<(), IoError> {
         let event = self.framer.push(byte);
-        self.session.take(machine, event, self.framer.content(), out)
+        self.session
+            .take(machine, event, self.framer.content(), out)
     }
 
     fn finish<D: Decider, C: KeptCode, W: Out>(

@@ -25,8 +25,8 @@ use debugger_commands::LineError;
 use gdb::{Run, SentPacket, Terms, Turn, go_on, send_packet};
 use gdb_packets::{Event, Packet, Request, read_packet};
 use gdb_texts::{
-    Breakpoints, ErrorCode, Features, Monitor, Reply, Resume, Settings, Signal, first_settings, read_features,
-    refusal, reply_text,
+    Breakpoints, ErrorCode, Features, Monitor, Reply, Resume, Settings, Signal, first_settings,
+    read_features, refusal, reply_text,
 };
 use machine::{Decider, DueTicks, IoError, KeptCode, Layout, Levels, Machine, Out, PlaceError};
 use std::marker::Model;

@@ -6,8 +6,7 @@ use Rattle.gdb_server.proofs.commands.tell.Goals as goal
 pub returns-in-Err : goal.returns-in-Err
 returns-in-Err g c =
     let text = c.args.text.now in
-    let cut = rw c.new-console.ensures at c.in-Err.ensures in
-    (
+    let cut = rw c.new-console.ensures at c.in-Err.ensures in (
       cut_before _ _ (sent_by (console_from None) text) (flush_text (console_after (console_from None) text)) cut.0,
       cut.1,
     )

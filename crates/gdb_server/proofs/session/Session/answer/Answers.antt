@@ -9,7 +9,7 @@ returns-in-Say-clause-tells g c =
 pub returns-in-Say-clause-kept : goal.returns-in-Say-clause-kept
 returns-in-Say-clause-kept g c =
     let kept : c.reply.new.self
-        ≡ (answered c.args.self.now c.args.machine.now.state c.args.purpose c.args.tail.now).session =
+    ≡ (answered c.args.self.now c.args.machine.now.state c.args.purpose c.args.tail.now).session =
     rw c.in-Say.is (rw (c.of.ensures ∙ c.constant_text.ensures.text) at c.reply.ensures.kept) in
     search rules
 
@@ -19,7 +19,7 @@ returns-in-Read-clause-tells g c = rw c.in-Read.is (rw c.read-data.ensures at c.
 pub returns-in-Read-clause-kept : goal.returns-in-Read-clause-kept
 returns-in-Read-clause-kept g c =
     let kept : c.reply-in-Read.new.self
-        ≡ (answered c.args.self.now c.args.machine.now.state c.args.purpose c.args.tail.now).session =
+    ≡ (answered c.args.self.now c.args.machine.now.state c.args.purpose c.args.tail.now).session =
     rw c.in-Read.is (rw c.read-data.ensures at c.reply-in-Read.ensures.kept) in
     search rules
 
@@ -31,7 +31,7 @@ returns-in-Set-clause-tells g c =
 pub returns-in-Set-clause-kept : goal.returns-in-Set-clause-kept
 returns-in-Set-clause-kept g c =
     let kept : c.reply-in-Set.new.self
-        ≡ (answered c.args.self.now c.args.machine.now.state c.args.purpose c.args.tail.now).session =
+    ≡ (answered c.args.self.now c.args.machine.now.state c.args.purpose c.args.tail.now).session =
     rw c.in-Set.is
     (rw (c.set-data.ensures.answer, c.set-data.ensures.kept) at c.reply-in-Set.ensures.kept) in
     search rules
