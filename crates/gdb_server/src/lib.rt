@@ -9,7 +9,5 @@ mod server;
 mod session;
 mod writes;
 
-pub use content::Data;
-pub use purposes::{Constant, MachineChange, Purpose, Reading, SessionChange, purpose_of};
 pub use server::Server;
-pub use session::Session;
+
