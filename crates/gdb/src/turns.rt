@@ -153,11 +153,20 @@ fn last_slice<D: Decider, C: KeptCode, L: Levels, U: DueTicks, W: Out>(
         (slice plan.now terms.now.points.now steps (flow progress.old machine.old.state)))
         machine.old machine.new (W.writing out.old) (W.writing out.new) sent.new.items result }
 {
-    let reason = match run_slice(plan, terms.points, steps, progress, machine, out) {
-        Ok(reason) => reason.unwrap_or(StopReason::Interrupted),
-        Err(error) => return Err(error),
-    };
-    end_run(reason, &plan.settings, terms.features, progress, sent, machine, out)
+    match run_slice(plan, terms.points, steps, progress, machine, out) {
+        Ok(reason) => {
+            end_run(
+                reason.unwrap_or(StopReason::Interrupted),
+                &plan.settings,
+                terms.features,
+                progress,
+                sent,
+                machine,
+                out,
+            )
+        }
+        Err(error) => Err(error),
+    }
 }
 
 /// Makes the slices of `left` steps, up to the end of the run or a question.
@@ -175,7 +184,8 @@ fn make_slices<D: Decider, C: KeptCode, L: Levels, U: DueTicks, W: Out>(
         (flow progress.old machine.old.state))
         machine.old machine.new (W.writing out.old) (W.writing out.new) sent.new.items result }
 {
-    'slices: for _ in 0..left / STEPS_AT_ONCE {
+    let mut whole = left / STEPS_AT_ONCE;
+    'slices: while whole > 0 {
         match run_slice(plan, terms.points, STEPS_AT_ONCE, progress, machine, out) {
             Ok(None) => {}
             Ok(Some(reason)) => {
@@ -193,6 +203,7 @@ fn make_slices<D: Decider, C: KeptCode, L: Levels, U: DueTicks, W: Out>(
                 Err(error) => Err(error),
             };
         }
+        whole -= 1;
     }
     last_slice(plan, terms, left % STEPS_AT_ONCE, progress, sent, machine, out)
 }
