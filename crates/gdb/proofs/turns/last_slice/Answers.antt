@@ -18,5 +18,7 @@ returns-in-Ok g c =
 
 pub returns-in-Err : goal.returns-in-Err
 returns-in-Err g c =
-    last_cut c.args.plan.now c.args.terms.now.features _ c.args.machine.now c.run_slice.new.machine
+    last_cut c.args.plan.now c.args.terms.now.features
+    (slice c.args.plan.now c.args.terms.now.points.now c.args.steps
+    (flow c.args.progress.now c.args.machine.now.state)) c.args.machine.now c.run_slice.new.machine
     (g.W.Out.writing c.args.out.now) (g.W.Out.writing c.run_slice.new.out) c.in-Err.ensures.tells
