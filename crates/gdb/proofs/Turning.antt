@@ -234,18 +234,19 @@ pub past_slice : (p : Plan) (points : List Breakpoint) (features : Features) (n 
     (q : Progress) (o : Option StopReason) (old mid new : Whole) (a b c : Writing)
     → Going all (slices p points features n rest f) old mid a b → n ≡ suc m
     → TellsAll (slice p points steps_at_once f).pieces mid new b c → Slices (slice p points steps_at_once f) q o
-    → o ≡ None → new.state ≡ (slice p points steps_at_once f).flow.state
-    → Going all (with_pieces (flushing (flow q new.state) ∷ [])
+    → o ≡ None → mid.state ≡ f.state → Going all (with_pieces (flushing (flow q new.state) ∷ [])
     (asked_or features p.how (flushed (flow q new.state))
     (slices p points features m rest (flushed (flow q new.state))))) old new a c
-past_slice p points features n m rest f all q o old mid new a b c so_far some tells left none same =
+past_slice p points features n m rest f all q o old mid new a b c so_far some tells left none at =
     gone_on all (slices p points features n rest f) _ (slice p points steps_at_once f).pieces old mid new a b c so_far
     (some_left p points features n m rest f some
     ∙ (gone_past p features (slice p points steps_at_once f)
     (slices p points features m rest (flushed (slice p points steps_at_once f).flow)) (sym none ∙ left.0)
     ∙ ap (λ (u : Flow). with_pieces (slice p points steps_at_once f).pieces (with_pieces (flushing u ∷ [])
     (asked_or features p.how (flushed u) (slices p points features m rest (flushed u)))))
-    (sym (flow_left (slice p points steps_at_once f) q new.state o left same)))) tells
+    (sym (flow_left (slice p points steps_at_once f) q new.state o left
+    (stands_there f steps_at_once (slice p points steps_at_once f) mid new b c at (slice_leaves p points steps_at_once f)
+    tells))))) tells
 
 -- its text was sent
 pub past_flush : (p : Plan) (points : List Breakpoint) (features : Features) (m rest : ℕ) (all : Turned)
@@ -307,17 +308,18 @@ pub whole_end : {E : Type 0} (p : Plan) (points : List Breakpoint) (features : F
     (sent : List ℕ) (result : Result Turn E)
     → Going all (slices p points features n rest f) old mid a b → n ≡ suc m
     → TellsAll (slice p points steps_at_once f).pieces mid new b c → Slices (slice p points steps_at_once f) q o
-    → o ≡ Some r → new.state ≡ (slice p points steps_at_once f).flow.state
-    → Takes (ended p.settings features r q.events (flow q new.state)) new new c d sent result
+    → o ≡ Some r → mid.state ≡ f.state → Takes (ended p.settings features r q.events (flow q new.state)) new new c d sent result
     → Takes all old new a d sent result
-whole_end p points features n m rest f all q o r old mid new a b c d sent result so_far some tells left is same takes =
+whole_end p points features n m rest f all q o r old mid new a b c d sent result so_far some tells left is at takes =
     taken all (ended p.settings features r q.events (flow q new.state)) old new new a c d sent result
     (gone_on all (slices p points features n rest f) _ (slice p points steps_at_once f).pieces old mid new a b c so_far
     (some_left p points features n m rest f some
     ∙ (ended_in p features (slice p points steps_at_once f)
     (slices p points features m rest (flushed (slice p points steps_at_once f).flow)) r (sym is ∙ left.0)
     ∙ ap (λ (t : Turned). with_pieces (slice p points steps_at_once f).pieces t)
-    (sym (end_left p.settings features r (slice p points steps_at_once f) q new.state o left same)))) tells) takes
+    (sym (end_left p.settings features r (slice p points steps_at_once f) q new.state o left
+    (stands_there f steps_at_once (slice p points steps_at_once f) mid new b c at (slice_leaves p points steps_at_once f)
+    tells))))) tells) takes
 
 -- ---- the last slice
 

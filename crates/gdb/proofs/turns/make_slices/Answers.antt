@@ -1,6 +1,6 @@
 use Rattle.std.proofs.Common.{◌≡◌, ◌+◌, ◌*◌, ◌-◌, ◌/◌, ◌%◌, ◌<◌, ◌≤◌, suc, true, false, refl, arith, sym, ap, ◌∙◌}
-use Rattle.gdb.proofs.Turning.{Leaves, asks, asks_cut, asks_none, flush_cut, not_begun, past_flush, past_slice, rest_cut}
-use Rattle.gdb.proofs.Turning.{none_left, slice_leaves, some_left, stands_there, taken, taken_as, whole_end}
+use Rattle.gdb.proofs.Turning.{asks, asks_cut, asks_none, flush_cut, not_begun, past_flush, past_slice, rest_cut}
+use Rattle.gdb.proofs.Turning.{none_left, slice_leaves, some_left, taken, taken_as, whole_end}
 use Rattle.gdb.specs.Slices.{Progress, flow, slice}
 use Rattle.gdb.specs.Turns.{all_slices, slices, steps_at_once}
 use Rattle.gdb.proofs.turns.make_slices.Goals as goal
@@ -35,10 +35,7 @@ returns-in-Ok-Some g c =
     c.run_slice.new.progress _ c.in-Ok-Some.reason c.args.machine.now c.slices.machine c.run_slice.new.machine
     (g.W.Out.writing c.args.out.now) (g.W.Out.writing c.slices.out) (g.W.Out.writing c.run_slice.new.out)
     (g.W.Out.writing c.end_run.new.out) c.end_run.new.sent.items c.end_run.result c.slices.invariant.goes some
-    made.tells made.slices refl
-    (stands_there f steps_at_once (slice p points steps_at_once f) c.slices.machine c.run_slice.new.machine
-    (g.W.Out.writing c.slices.out) (g.W.Out.writing c.run_slice.new.out) refl
-    (slice_leaves p points steps_at_once f) made.tells) c.end_run.ensures
+    made.tells made.slices refl refl c.end_run.ensures
 
 pub returns-in-Err-flush : goal.returns-in-Err-flush
 returns-in-Err-flush g c =
@@ -54,10 +51,7 @@ returns-in-Err-flush g c =
     (all_slices p points features c.args.left (flow c.args.progress.now c.args.machine.now.state))
     c.run_slice.new.progress _ c.args.machine.now c.slices.machine c.run_slice.new.machine
     (g.W.Out.writing c.args.out.now) (g.W.Out.writing c.slices.out) (g.W.Out.writing c.run_slice.new.out)
-    c.slices.invariant.goes some made.tells made.slices refl
-    (stands_there f steps_at_once (slice p points steps_at_once f) c.slices.machine c.run_slice.new.machine
-    (g.W.Out.writing c.slices.out) (g.W.Out.writing c.run_slice.new.out) refl
-    (slice_leaves p points steps_at_once f) made.tells))
+    c.slices.invariant.goes some made.tells made.slices refl refl)
     c.in-Err-flush.ensures.put.0 c.in-Err-flush.ensures.put.1
 
 pub returns-in-Ok-send_packet : goal.returns-in-Ok-send_packet
@@ -80,10 +74,7 @@ returns-in-Ok-send_packet g c =
     (all_slices p points features c.args.left (flow c.args.progress.now c.args.machine.now.state))
     c.run_slice.new.progress _ c.args.machine.now c.slices.machine c.run_slice.new.machine
     (g.W.Out.writing c.args.out.now) (g.W.Out.writing c.slices.out) (g.W.Out.writing c.run_slice.new.out)
-    c.slices.invariant.goes some made.tells made.slices refl
-    (stands_there f steps_at_once (slice p points steps_at_once f) c.slices.machine c.run_slice.new.machine
-    (g.W.Out.writing c.slices.out) (g.W.Out.writing c.run_slice.new.out) refl
-    (slice_leaves p points steps_at_once f) made.tells))
+    c.slices.invariant.goes some made.tells made.slices refl refl)
     c.in-Ok.ensures.put c.in-Ok.ensures.kept)
     gdb c.in-Ok-send_packet.ensures.put (c.asked.ensures c.run_slice.new.machine.state) c.send_packet.ensures.sent
 
@@ -106,10 +97,7 @@ returns-in-Err-send_packet g c =
     (all_slices p points features c.args.left (flow c.args.progress.now c.args.machine.now.state))
     c.run_slice.new.progress _ c.args.machine.now c.slices.machine c.run_slice.new.machine
     (g.W.Out.writing c.args.out.now) (g.W.Out.writing c.slices.out) (g.W.Out.writing c.run_slice.new.out)
-    c.slices.invariant.goes some made.tells made.slices refl
-    (stands_there f steps_at_once (slice p points steps_at_once f) c.slices.machine c.run_slice.new.machine
-    (g.W.Out.writing c.slices.out) (g.W.Out.writing c.run_slice.new.out) refl
-    (slice_leaves p points steps_at_once f) made.tells))
+    c.slices.invariant.goes some made.tells made.slices refl refl)
     c.in-Ok.ensures.put c.in-Ok.ensures.kept)
     gdb c.in-Err-send_packet.ensures.put.0 c.in-Err-send_packet.ensures.put.1
 
@@ -123,12 +111,12 @@ slices-preserved g c =
     let some : c.slices.whole ≡ suc (c.slices.whole - 1) = omega (arith, c.slices-test.true) in
     let other : features.is_gdb ≡ false = cc in
     let made = rw c.in-Ok-None.field-0-is at c.in-Ok-None.ensures in
-    let leaves : Leaves f steps_at_once (slice p points steps_at_once f) = slice_leaves p points steps_at_once f in
     let same : c.flush.new.self.made ≡ c.run_slice.new.progress.made =
     ap (λ (q : Progress). q.made) c.in-Ok.ensures.kept in
     let steps : c.run_slice.new.progress.made ≡ (slice p points steps_at_once f).flow.made =
     ap (λ (q : Progress). q.made) made.slices.1 in
-    let most : (slice p points steps_at_once f).flow.made ≤ c.slices.progress.made + steps_at_once = leaves.made in
+    let most : (slice p points steps_at_once f).flow.made ≤ c.slices.progress.made + steps_at_once =
+    (slice_leaves p points steps_at_once f).made in
     record {
       goes = asks_none features p _ _ (flow c.flush.new.self c.run_slice.new.machine.state) c.args.machine.now
           c.run_slice.new.machine (g.W.Out.writing c.args.out.now) (g.W.Out.writing c.flush.new.out)
@@ -139,9 +127,7 @@ slices-preserved g c =
           (all_slices p points features c.args.left (flow c.args.progress.now c.args.machine.now.state))
           c.run_slice.new.progress _ c.args.machine.now c.slices.machine c.run_slice.new.machine
           (g.W.Out.writing c.args.out.now) (g.W.Out.writing c.slices.out) (g.W.Out.writing c.run_slice.new.out)
-          c.slices.invariant.goes some made.tells made.slices refl
-          (stands_there f steps_at_once (slice p points steps_at_once f) c.slices.machine c.run_slice.new.machine
-          (g.W.Out.writing c.slices.out) (g.W.Out.writing c.run_slice.new.out) refl leaves made.tells))
+          c.slices.invariant.goes some made.tells made.slices refl refl)
           c.in-Ok.ensures.put c.in-Ok.ensures.kept) other;
       count = omega (arith, c.slices.invariant.count, c.slices-test.true, same, steps, most);
     }
