@@ -1,5 +1,5 @@
 -- The turns of a run: what a slice leaves, and slice after slice.
-use Rattle.std.proofs.Common.{◌≡◌, ℕ, zero, suc, ◌+◌, ◌-◌, ◌≤◌, ◌<◌, Bool, true, false, List, [], ◌∷◌, ◌++◌}
+use Rattle.std.proofs.Common.{◌≡◌, ℕ, zero, suc, ◌+◌, ◌≤◌, Bool, true, false, List, [], ◌∷◌, ◌++◌}
 use Rattle.std.proofs.Common.{Option, Some, None, Result, Ok, Err, IfOk, refl, sym, ◌∙◌, ap, subst, arith, append_assoc}
 use Rattle.std.proofs.Common.{if◌then◌else◌, unwrap_or}
 use Rattle.std.proofs.lemmas.List.{append-nil}
@@ -18,11 +18,11 @@ use Rattle.gdb_texts.specs.declared.settings.Settings.{Settings}
 use Rattle.gdb_texts.specs.declared.stops.StopReason.{StopReason}
 use Rattle.gdb_texts.specs.declared.stops.StopReason.TheVariants.{Interrupted}
 use Rattle.machine.specs.Whole.{Whole}
-use Rattle.output.specs.Output.{IsCutShort, Put, Writing, WritesAll}
+use Rattle.output.specs.Output.{IsCutShort, Writing, WritesAll}
 use Rattle.platform.specs.declared.event.Event.{Event}
 use Rattle.reference.specs.State.{State}
 use Rattle.reference.specs.Step.{step}
-use Rattle.serving.proofs.Telling.{cut_before, cut_on, one_cut, put_told, tells_none, tells_on}
+use Rattle.serving.proofs.Telling.{cut_before, cut_on, one_cut, tells_none, tells_on}
 use Rattle.serving.specs.Pieces.{Piece, Tells, TellsAll, TellsPart, last_state}
 
 -- ---- what a slice leaves: the state of its last piece, and at most n steps more
@@ -245,8 +245,8 @@ past_slice p points features n m rest f all q o old mid new a b c so_far some te
     ∙ ap (λ (u : Flow). with_pieces (slice p points steps_at_once f).pieces (with_pieces (flushing u ∷ [])
     (asked_or features p.how (flushed u) (slices p points features m rest (flushed u)))))
     (sym (flow_left (slice p points steps_at_once f) q new.state o left
-    (stands_there f steps_at_once (slice p points steps_at_once f) mid new b c at (slice_leaves p points steps_at_once f)
-    tells))))) tells
+    (stands_there f steps_at_once (slice p points steps_at_once f) mid new b c at
+    (slice_leaves p points steps_at_once f) tells))))) tells
 
 -- its text was sent
 pub past_flush : (p : Plan) (points : List Breakpoint) (features : Features) (m rest : ℕ) (all : Turned)
@@ -308,7 +308,8 @@ pub whole_end : {E : Type 0} (p : Plan) (points : List Breakpoint) (features : F
     (sent : List ℕ) (result : Result Turn E)
     → Going all (slices p points features n rest f) old mid a b → n ≡ suc m
     → TellsAll (slice p points steps_at_once f).pieces mid new b c → Slices (slice p points steps_at_once f) q o
-    → o ≡ Some r → mid.state ≡ f.state → Takes (ended p.settings features r q.events (flow q new.state)) new new c d sent result
+    → o ≡ Some r → mid.state ≡ f.state
+    → Takes (ended p.settings features r q.events (flow q new.state)) new new c d sent result
     → Takes all old new a d sent result
 whole_end p points features n m rest f all q o r old mid new a b c d sent result so_far some tells left is at takes =
     taken all (ended p.settings features r q.events (flow q new.state)) old new new a c d sent result
@@ -318,15 +319,16 @@ whole_end p points features n m rest f all q o r old mid new a b c d sent result
     (slices p points features m rest (flushed (slice p points steps_at_once f).flow)) r (sym is ∙ left.0)
     ∙ ap (λ (t : Turned). with_pieces (slice p points steps_at_once f).pieces t)
     (sym (end_left p.settings features r (slice p points steps_at_once f) q new.state o left
-    (stands_there f steps_at_once (slice p points steps_at_once f) mid new b c at (slice_leaves p points steps_at_once f)
-    tells))))) tells) takes
+    (stands_there f steps_at_once (slice p points steps_at_once f) mid new b c at
+    (slice_leaves p points steps_at_once f) tells))))) tells) takes
 
 -- ---- the last slice
 
 pub last_taken : {E : Type 0} (p : Plan) (features : Features) (sliced : Sliced) (q : Progress) (o : Option StopReason)
     (r : StopReason) (old mid : Whole) (a b c : Writing) (sent : List ℕ) (result : Result Turn E)
     → TellsAll sliced.pieces old mid a b → Slices sliced q o → r ≡ unwrap_or o Interrupted
-    → mid.state ≡ sliced.flow.state → Takes (ended p.settings features r q.events (flow q mid.state)) mid mid b c sent result
+    → mid.state ≡ sliced.flow.state
+    → Takes (ended p.settings features r q.events (flow q mid.state)) mid mid b c sent result
     → Takes (last_slice p features sliced) old mid a c sent result
 last_taken p features sliced q o r old mid a b c sent result tells left is same takes =
     taken (last_slice p features sliced)

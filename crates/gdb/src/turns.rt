@@ -189,7 +189,15 @@ fn make_slices<D: Decider, C: KeptCode, L: Levels, U: DueTicks, W: Out>(
         match run_slice(plan, terms.points, STEPS_AT_ONCE, progress, machine, out) {
             Ok(None) => {}
             Ok(Some(reason)) => {
-                return end_run(reason, &plan.settings, terms.features, progress, sent, machine, out);
+                return end_run(
+                    reason,
+                    &plan.settings,
+                    terms.features,
+                    progress,
+                    sent,
+                    machine,
+                    out,
+                );
             }
             Err(error) => return Err(error),
         }
@@ -205,7 +213,15 @@ fn make_slices<D: Decider, C: KeptCode, L: Levels, U: DueTicks, W: Out>(
         }
         whole -= 1;
     }
-    last_slice(plan, terms, left % STEPS_AT_ONCE, progress, sent, machine, out)
+    last_slice(
+        plan,
+        terms,
+        left % STEPS_AT_ONCE,
+        progress,
+        sent,
+        machine,
+        out,
+    )
 }
 
 /// Makes a run's next steps: at most 1,000,000 before GDB is asked whether its user has interrupted; a client that

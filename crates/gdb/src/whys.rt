@@ -115,11 +115,7 @@ fn put_told<W: Out>(
 }
 
 /// Puts the line of a stop, if there is one.
-fn put_stop<W: Out>(
-    stop: Option<Stop>,
-    console: &mut Console,
-    out: &mut W,
-) -> Result<(), IoError>
+fn put_stop<W: Out>(stop: Option<Stop>, console: &mut Console, out: &mut W) -> Result<(), IoError>
     ensures { Shows (W.writing out.old) (W.writing out.new) console.old console.new (stop_text stop) result }
 {
     match stop {

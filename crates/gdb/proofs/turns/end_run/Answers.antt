@@ -1,4 +1,4 @@
-use Rattle.std.proofs.Common.{◌≡◌, Option, ap, ◌∙◌}
+use Rattle.std.proofs.Common.{Option, ap, ◌∙◌}
 use Rattle.gdb.proofs.Turning.{ends_all, ends_first, ends_second, ends_third, told_as}
 use Rattle.gdb.specs.declared.turns.Turn.TheVariants.{Ends}
 use Rattle.gdb.specs.Whys.{told_stop}

@@ -1,4 +1,4 @@
-use Rattle.std.proofs.Common.{◌≡◌, ◌+◌, ◌*◌, ◌-◌, ◌/◌, ◌%◌, ◌<◌, ◌≤◌, suc, true, false, refl, arith, sym, ap, ◌∙◌}
+use Rattle.std.proofs.Common.{◌≡◌, ◌+◌, ◌-◌, ◌%◌, ◌≤◌, suc, true, false, refl, arith, sym, ap}
 use Rattle.gdb.proofs.Turning.{asks, asks_cut, asks_none, flush_cut, not_begun, past_flush, past_slice, rest_cut}
 use Rattle.gdb.proofs.Turning.{none_left, slice_leaves, some_left, taken, taken_as, whole_end}
 use Rattle.gdb.specs.Slices.{Progress, flow, slice}

@@ -1,4 +1,4 @@
-use Rattle.std.proofs.Common.{◌≡◌, ◌+◌, ◌*◌, ◌%◌, ◌^◌, ◌<◌}
+use Rattle.std.proofs.Common.{◌+◌, ◌*◌, ◌%◌, ◌^◌, ◌<◌}
 use Rattle.gdb.proofs.Turning.{Going}
 use Rattle.gdb.specs.Slices.{flow}
 use Rattle.gdb.specs.Turns.{all_slices, slices, steps_at_once}
