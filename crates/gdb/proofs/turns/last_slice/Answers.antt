@@ -9,9 +9,9 @@ returns-in-Ok g c =
     let p = c.args.plan.now in
     let points = c.args.terms.now.points.now in
     last_taken p c.args.terms.now.features (slice p points c.args.steps f) c.run_slice.new.progress c.in-Ok.reason
-    c.unwrap_or.result c.args.machine.now c.run_slice.new.machine (g.W.Out.writing c.args.out.now)
+    c.unwrap_or-reason.result c.args.machine.now c.run_slice.new.machine (g.W.Out.writing c.args.out.now)
     (g.W.Out.writing c.run_slice.new.out) (g.W.Out.writing c.end_run.new.out) c.end_run.new.sent.items
-    c.end_run.result c.in-Ok.ensures.tells c.in-Ok.ensures.slices c.unwrap_or.ensures
+    c.end_run.result c.in-Ok.ensures.tells c.in-Ok.ensures.slices c.unwrap_or-reason.ensures
     (stands_there f c.args.steps (slice p points c.args.steps f) c.args.machine.now c.run_slice.new.machine
     (g.W.Out.writing c.args.out.now) (g.W.Out.writing c.run_slice.new.out) refl
     (slice_leaves p points c.args.steps f) c.in-Ok.ensures.tells) c.end_run.ensures
