@@ -408,7 +408,7 @@ module _ {P : Option Failure → State → List Event → Type 0} {Q : Stepped �
       (λ wakes. instruction_keeps (record s { asleep = false }) is (k.asleep s [] false p))
 
   -- what holds after the tick, where the clock isn't at its end
-  abbrev AfterTick : State → Type 0
+  abbrev pub AfterTick : State → Type 0
   AfterTick s = nat_le last_tick s.bus.system.time.ticks ≡ false → P None (ticked s) []
 
   running_keeps : (s : State) → P None s [] → AfterTick s → Q (running s)
