@@ -52,9 +52,9 @@ SCRIPT = "marm"
 COMMANDS = set("""rt make man groff python3 valgrind taskset ld.lld arm-none-eabi-ld arm-none-eabi-gcc clang gcc git apt-get
 llvm-readelf llvm-objdump llvm-mc llvm-objcopy qemu-system-arm readelf awk date ulimit""".split())
 
-# the commands of gdb, on its page
-GDB_PAGE = "docs/GDB.md"
-GDB_COMMANDS = set("""break hbreak tbreak step stepi next until advance finish continue info set jump call print x bt load
+# the commands of gdb and its packets, on the pages about it
+GDB_PAGES = re.compile("docs/GDB.md|crates/(gdb\\w*|test_gdb)/README.md")
+GDB_COMMANDS = set("""G break hbreak tbreak step stepi next until advance finish continue info set jump call print x bt load
 detach disconnect kill quit monitor place target maintenance on off""".split())
 
 # what `rt` takes: its words and options
@@ -268,7 +268,7 @@ def missing(repo, span, page):
     if re.match(r"^[\"'\[(<>=.,;:!?*+&|{}#\\-]+$", span) or PAGE_ID.fullmatch(span):
         return []
     words = span.split()
-    if page == GDB_PAGE and words[0] in GDB_COMMANDS:
+    if GDB_PAGES.fullmatch(page) and words[0] in GDB_COMMANDS:
         return []
     if words[0] in COMMANDS or words[0].startswith(("./", "crosscheck/", "bench/", "fuzz/", "docs/", "mutations/")) and len(words) > 1:
         lost = [w for w in words if "/" in w and w[0].isalpha() and not repo.has_path(w, page)]
