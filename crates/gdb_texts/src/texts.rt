@@ -7,26 +7,23 @@ use crate::replies::ErrorCode;
 use platform::access::{Decision, Rule};
 use trace::page::Page;
 
-/// A line for each command of `monitor`.
+/// A line for each command of `monitor` that a session carries out.
 pub const HELP: &str = "\
 explain <a> p|u r|w|x       shows the rule that would decide an access, and says it in words
 regions                     shows RBAR and RASR of each region of the MPU
 state                       shows registers, the clock, fault registers, regions and exceptions
 next                        shows the kind of the next step, or the stop line
-history                     shows the ticks of writes that can be undone, and the tick now
 trace <which>               chooses the lines of steps: all, refused, exceptions, console or none
 trace on|off                the same as all, and as console
-lines on|off                sets whether lines tell why a run ended
+lines on|off                sets whether lines say why a run ended
 stop <what> on|off          sets whether runs end at: refused, faults or exceptions
-step into|over              sets whether steps go into handlers and other tasks, or over them
 budget <n>                  sets the most steps of a run; 0 sets no limit
 place reg <n> <v>           puts a value into a core register: 13 is the stack pointer in use, 14 LR, 15 PC
 place special <n> <v>       puts a value into a special register, numbered as in MSR
 place word <a> <v>          puts a value into a word of memory or a system register
-restart                     goes back to the start, and forgets the rest
 why                         says why the last packet was refused
 help                        shows these lines
-After place and restart, `maintenance flush register-cache` makes GDB read the registers again.
+After place, `maintenance flush register-cache` makes GDB read the registers again.
 ";
 
 /// Returns a line for each command.
