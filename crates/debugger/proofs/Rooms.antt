@@ -9,10 +9,8 @@ use Rattle.std.proofs.lemmas.Bool.{cond_both}
 use Rattle.std.proofs.lemmas.List.{length-map, map-append, map-set}
 use Rattle.std.proofs.lemmas.List.Elements.{All-push, All-set}
 use Rattle.debugger.specs.Answers.{after_edge, answer, answer_by, change_piece, changed_piece, closed}
-use Rattle.debugger.specs.Answers.{edge_signal}
-use Rattle.debugger.specs.Answers.{closing_piece, back_piece, ends_at, hit_before, is_closed}
-use Rattle.debugger.specs.Answers.{placed, replies}
-use Rattle.debugger.specs.Answers.{run_on, run_pieces, saved_after, task_on, task_piece, task_pieces}
+use Rattle.debugger.specs.Answers.{closing_piece, back_piece, edge_signal, ends_at, hit_before, is_closed, placed}
+use Rattle.debugger.specs.Answers.{replies, run_on, run_pieces, saved_after, task_on, task_piece, task_pieces}
 use Rattle.debugger.specs.Held.{Held, held_after, held_after_line, held_first, holding, kept_of}
 use Rattle.debugger.specs.Sessions.{Kept, after_line, debugging, is_line_feed, line_asked, next, opened, session_of}
 use Rattle.debugger.specs.Slots.{HaveRoom, Slot, saved_in, saved_there, slots_after}
@@ -191,17 +189,6 @@ saved_same s slots (Some (change.Save slot)) =
     map-set (λ (x : Slot). saved_there x) slots slot (record { state = s; is_saved = true })
 saved_same s slots (Some (change.Back slot)) = refl
 
--- what is held after the answer to a line
-pub line_held : (h : Held) (s : State) (new : Held) (line : Option (List ℕ)) (asked : Result Command LineError)
-    (quit : Bool) → asked ≡ line_asked (kept_of h) → line ≡ Some [] → quit ≡ quits asked
-    → new ≡ record {
-      settings = settings_after h.settings asked;
-      line = line;
-      slots = slots_after s h.slots (change_of asked);
-      is_open = not quit;
-    } → new ≡ held_after_line h s
-line_held h s new line asked quit is empty quitted kept = rw (kept, empty, quitted, is) refl
-
 -- so what is held after a byte is what the session keeps
 pub holds : (h : Held) (s : State) (byte : ℕ) → kept_of (held_after h s byte) ≡ next (kept_of h) s byte
 holds h s byte = split (is_line_feed byte) refl
@@ -212,6 +199,17 @@ holds h s byte = split (is_line_feed byte) refl
         (ap (λ (saved : List (Option State)). record (after_line (kept_of h) s) { saved = saved })
         (saved_same s h.slots (change_of (line_asked (kept_of h)))))
     split false e = rw e refl
+
+-- what is held after the answer to a line
+pub line_held : (h : Held) (s : State) (new : Held) (line : Option (List ℕ)) (asked : Result Command LineError)
+    (quit : Bool) → asked ≡ line_asked (kept_of h) → line ≡ Some [] → quit ≡ quits asked
+    → new ≡ record {
+      settings = settings_after h.settings asked;
+      line = line;
+      slots = slots_after s h.slots (change_of asked);
+      is_open = not quit;
+    } → new ≡ held_after_line h s
+line_held h s new line asked quit is empty quitted kept = rw (kept, empty, quitted, is) refl
 
 -- ---- before the first byte
 
@@ -247,6 +245,7 @@ opened_is board slots =
 -- a session of what is held first is that of what is saved
 pub session_is : (board : Numbers) (slots : List Slot) (h : Held) (s : State) → h ≡ held_first board slots
     → course_of holding h s ≡ session_of board (saved_in slots) s
+unfolding session_of
 session_is board slots h s e =
     course_seen kept_of held_after debugging holds h s
     ∙ ap (λ (k : Kept). course_of debugging k s) (ap kept_of e ∙ opened_is board slots)

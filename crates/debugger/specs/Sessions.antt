@@ -81,5 +81,5 @@ debugging = record {
 }
 
 -- a session of a machine of a board in a state before the first byte, with these saved states
-abbrev pub session_of : Numbers → List (Option State) → State → Course
+unfoldable pub session_of : Numbers → List (Option State) → State → Course
 session_of board saved s = course_of debugging (opened board saved) s

@@ -3,8 +3,8 @@ use Rattle.debugger.proofs.Rooms.{session_is}
 use Rattle.serving.specs.Sessions.{Course, Sessions}
 use Rattle.debugger.proofs.sessions.session.Goals as goal
 
-pub serve-requires-ready : goal.serve-requires-ready
-serve-requires-ready g c = rw c.new-debugger.ensures c.requires
+pub serve-requires-clause-ready : goal.serve-requires-clause-ready
+serve-requires-clause-ready g c = rw c.new-debugger.ensures c.requires
 
 pub returns-clause-talked : goal.returns-clause-talked
 returns-clause-talked g c =
