@@ -1,5 +1,5 @@
 -- The registers of the target description: their values, and where a value is written (profile).
-use Rattle.std.specs.Prelude.{ℕ, Bool, nat_lt, ◌==◌, if◌then◌else◌, List, [], ◌∷◌, slice_index}
+use Rattle.std.specs.Prelude.{ℕ, nat_lt, ◌==◌, if◌then◌else◌, List, [], ◌∷◌, slice_index}
 use Rattle.std.specs.Prelude.{Option, Some, None, Result, Err}
 use Rattle.instruction_set.specs.Registers.{Registers, control, sp, weighed, xpsr}
 use Rattle.platform.specs.declared.error.PlaceError.{PlaceError}

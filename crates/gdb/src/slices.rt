@@ -86,7 +86,13 @@ impl Progress {
             (why_text settings.now self.old.events stop self.old.console.last) result }
         ensures kept { self.new ≡ record self.old { console = self.new.console } }
     {
-        put_whys(settings, self.events.as_slice(), stop, &mut self.console, out)
+        put_whys(
+            settings,
+            self.events.as_slice(),
+            stop,
+            &mut self.console,
+            out,
+        )
     }
 
     /// Forgets the events of the last step.

@@ -92,17 +92,17 @@ fn send_stop_reply<D: Decider, C: KeptCode, L: Levels, U: DueTicks, W: Out>(
 /// Ends a run: puts the lines that say why, and sends all text, and then the stop reply.
 fn end_run<D: Decider, C: KeptCode, L: Levels, U: DueTicks, W: Out>(
     reason: StopReason,
-    settings: &Settings,
+    plan: &Plan,
     features: Features,
     progress: &mut Progress,
     sent: &mut SentPacket,
     machine: &Machine<D, C, L, U>,
     out: &mut W,
 ) -> Result<Turn, IoError>
-    ensures { Takes (ended settings.now features reason progress.old.events (flow progress.old machine.now.state))
+    ensures { Takes (ended plan.now.settings features reason progress.old.events (flow progress.old machine.now.state))
         machine.now machine.now (W.writing out.old) (W.writing out.new) sent.new.items result }
 {
-    match progress.put_whys(settings, told_stop(reason, machine.stop()), out) {
+    match progress.put_whys(&plan.settings, told_stop(reason, machine.stop()), out) {
         Ok(()) => {}
         Err(error) => return Err(error),
     }
@@ -153,11 +153,13 @@ fn last_slice<D: Decider, C: KeptCode, L: Levels, U: DueTicks, W: Out>(
         (slice plan.now terms.now.points.now steps (flow progress.old machine.old.state)))
         machine.old machine.new (W.writing out.old) (W.writing out.new) sent.new.items result }
 {
-    let reason = match run_slice(plan, terms.points, steps, progress, machine, out) {
-        Ok(reason) => reason.unwrap_or(StopReason::Interrupted),
-        Err(error) => return Err(error),
-    };
-    end_run(reason, &plan.settings, terms.features, progress, sent, machine, out)
+    match run_slice(plan, terms.points, steps, progress, machine, out) {
+        Ok(reason) => {
+            let reason = reason.unwrap_or(StopReason::Interrupted);
+            end_run(reason, plan, terms.features, progress, sent, machine, out)
+        }
+        Err(error) => Err(error),
+    }
 }
 
 /// Makes the slices of `left` steps, up to the end of the run or a question.
@@ -175,11 +177,12 @@ fn make_slices<D: Decider, C: KeptCode, L: Levels, U: DueTicks, W: Out>(
         (flow progress.old machine.old.state))
         machine.old machine.new (W.writing out.old) (W.writing out.new) sent.new.items result }
 {
-    'slices: for _ in 0..left / STEPS_AT_ONCE {
+    let mut whole = left / STEPS_AT_ONCE;
+    'slices: while whole > 0 {
         match run_slice(plan, terms.points, STEPS_AT_ONCE, progress, machine, out) {
             Ok(None) => {}
             Ok(Some(reason)) => {
-                return end_run(reason, &plan.settings, terms.features, progress, sent, machine, out);
+                return end_run(reason, plan, terms.features, progress, sent, machine, out);
             }
             Err(error) => return Err(error),
         }
@@ -193,8 +196,10 @@ fn make_slices<D: Decider, C: KeptCode, L: Levels, U: DueTicks, W: Out>(
                 Err(error) => Err(error),
             };
         }
+        whole -= 1;
     }
-    last_slice(plan, terms, left % STEPS_AT_ONCE, progress, sent, machine, out)
+    let rest = left % STEPS_AT_ONCE;
+    last_slice(plan, terms, rest, progress, sent, machine, out)
 }
 
 /// Makes a run's next steps: at most 1,000,000 before GDB is asked whether its user has interrupted; a client that
@@ -213,11 +218,17 @@ pub fn go_on<D: Decider, C: KeptCode, L: Levels, U: DueTicks, W: Out>(
     ensures sent { IfOk result (λ ends. sent.new.items ≡ (turn terms.now.points.now terms.now.settings
         terms.now.features terms.now.limit run machine.old.state).sent) }
 {
+    let plan = Plan {
+        how: run.how,
+        limit: terms.limit,
+        settings: terms.settings,
+    };
     let mut progress = Progress::new(run.made, run.last);
     if run.is_interrupted {
+        let reason = StopReason::Interrupted;
         return end_run(
-            StopReason::Interrupted,
-            &terms.settings,
+            reason,
+            &plan,
             terms.features,
             &mut progress,
             sent,
@@ -225,11 +236,6 @@ pub fn go_on<D: Decider, C: KeptCode, L: Levels, U: DueTicks, W: Out>(
             out,
         );
     }
-    let plan = Plan {
-        how: run.how,
-        limit: terms.limit,
-        settings: terms.settings,
-    };
     let left = steps_left(most_steps(terms.settings, terms.features.is_gdb), run.made);
     make_slices(&plan, terms, left, &mut progress, sent, machine, out)
 }

@@ -1,6 +1,7 @@
 //! The lines that say why a run ended.
 
 ghost use Rattle.std.specs.Prelude.{◌≡◌, [], ◌∷◌};
+ghost use Rattle.std.specs.List.{list_any};
 ghost use Rattle.gdb.specs.Consoles.{Shows};
 ghost use Rattle.gdb.specs.Whys.{has_line, is_told, line_begun, lines_of, stop_text, stops_at, told_lines, told_stop};
 ghost use Rattle.gdb.specs.Whys.{why_text};
@@ -54,11 +55,18 @@ pub fn told_stop(reason: StopReason, before: Option<Stop>) -> Option<Stop>
     }
 }
 
+/// Returns whether the line of an event is still to be told.
+fn has_told(settings: &Settings, events: &[Event]) -> bool
+    ensures { result ≡ list_any (λ e. is_told settings.now e.what) events.now }
+{
+    events.iter().any(|event| is_told(settings, &event.what))
+}
+
 /// Returns whether there is a line to tell.
 fn has_line(settings: &Settings, events: &[Event], stop: Option<Stop>) -> bool
     ensures { result ≡ has_line settings.now events.now stop }
 {
-    events.iter().any(|event| is_told(settings, &event.what)) || stop.is_some()
+    has_told(settings, events) || stop.is_some()
 }
 
 /// Returns a line feed where a line follows, unless the text is empty or ends with one.
@@ -107,11 +115,7 @@ fn put_told<W: Out>(
 }
 
 /// Puts the line of a stop, if there is one.
-fn put_stop<W: Out>(
-    stop: Option<Stop>,
-    console: &mut Console,
-    out: &mut W,
-) -> Result<(), IoError>
+fn put_stop<W: Out>(stop: Option<Stop>, console: &mut Console, out: &mut W) -> Result<(), IoError>
     ensures { Shows (W.writing out.old) (W.writing out.new) console.old console.new (stop_text stop) result }
 {
     match stop {

@@ -1,6 +1,6 @@
-use Rattle.std.proofs.Common.{◌≡◌, ◌+◌, ◌-◌, ◌<◌, ℕ, [], ◌∷◌, Some, None, refl, sym, ◌∙◌}
-use Rattle.std.proofs.Common.{ap, subst, arith, is_some, true, false}
-use Rattle.gdb.proofs.Slicing.{Sliding, all_told, ended_before, ends_after, flow_after, goes_on, left_at, makes_step}
+use Rattle.std.proofs.Common.{◌≡◌, ◌+◌, ◌-◌, ◌<◌, ℕ, [], ◌∷◌, None, refl, sym, ◌∙◌}
+use Rattle.std.proofs.Common.{ap, arith, is_some, true, false}
+use Rattle.gdb.proofs.Slicing.{all_told, ended_before, ends_after, flow_after, goes_on, left_at, makes_step}
 use Rattle.gdb.proofs.Slicing.{next_cut, none_left, not_before, nothing_yet, one_more}
 use Rattle.gdb.specs.Reasons.{reason_before}
 use Rattle.gdb.specs.Slices.{Flow, Progress, Sliced, after_pieces, after_step, before_step, flow, slice, step_piece}

@@ -1,4 +1,4 @@
-use Rattle.std.proofs.Common.{◌≡◌, ℕ, List, true, false, sym, subst, ◌∙◌}
+use Rattle.std.proofs.Common.{◌≡◌, ℕ, List, true, sym, subst, ◌∙◌}
 use Rattle.gdb.proofs.Showing.{shown_none}
 use Rattle.gdb.proofs.Telling.{not_told, told_one}
 use Rattle.gdb.specs.Consoles.{Shows}

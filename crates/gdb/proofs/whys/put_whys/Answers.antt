@@ -1,4 +1,4 @@
-use Rattle.std.proofs.Common.{◌≡◌, true, false}
+use Rattle.std.proofs.Common.{◌≡◌, false}
 use Rattle.gdb.proofs.Showing.{shown_none}
 use Rattle.gdb.proofs.whys.put_whys.Goals as goal
 
