@@ -9,10 +9,8 @@ use Rattle.std.proofs.lemmas.Bool.{cond_both}
 use Rattle.std.proofs.lemmas.List.{length-map, map-append, map-set}
 use Rattle.std.proofs.lemmas.List.Elements.{All-push, All-set}
 use Rattle.debugger.specs.Answers.{after_edge, answer, answer_by, change_piece, changed_piece, closed}
-use Rattle.debugger.specs.Answers.{edge_signal}
-use Rattle.debugger.specs.Answers.{closing_piece, back_piece, ends_at, hit_before, is_closed}
-use Rattle.debugger.specs.Answers.{placed, replies}
-use Rattle.debugger.specs.Answers.{run_on, run_pieces, saved_after, task_on, task_piece, task_pieces}
+use Rattle.debugger.specs.Answers.{closing_piece, back_piece, edge_signal, ends_at, hit_before, is_closed, placed}
+use Rattle.debugger.specs.Answers.{replies, run_on, run_pieces, saved_after, task_on, task_piece, task_pieces}
 use Rattle.debugger.specs.Held.{Held, held_after, held_after_line, held_first, holding, kept_of}
 use Rattle.debugger.specs.Sessions.{Kept, after_line, debugging, is_line_feed, line_asked, next, opened, session_of}
 use Rattle.debugger.specs.Slots.{HaveRoom, Slot, saved_in, saved_there, slots_after}

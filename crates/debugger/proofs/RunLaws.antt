@@ -191,12 +191,14 @@ stays : (is_closed : Bool) (s : State) (text : List ℕ)
 stays true s text = refl
 stays false s text = refl
 
-pub show_law : (k : Settings) (s : State) (saved : List (Option State)) (asked : Result Command LineError) (what : Part) → ShowLaw k s saved asked what
+pub show_law : (k : Settings) (s : State) (saved : List (Option State)) (asked : Result Command LineError)
+    (what : Part) → ShowLaw k s saved asked what
 show_law k s saved (Err why) what e = absurd (cc)
 show_law k s saved (Ok (command.Run n)) what e = absurd (cc)
 show_law k s saved (Ok (command.Task n)) what e = absurd (cc)
 show_law k s saved (Ok (command.Break a)) what e = absurd (cc)
-show_law k s saved (Ok (command.Show part)) what e = (stays (is_closed k (Ok (command.Show part))) s (part_text s part), refl)
+show_law k s saved (Ok (command.Show part)) what e =
+    (stays (is_closed k (Ok (command.Show part))) s (part_text s part), refl)
 show_law k s saved (Ok command.Quit) what e = absurd (cc)
 show_law k s saved (Ok (command.Trace selection)) what e = absurd (cc)
 show_law k s saved (Ok (command.Watch watchpoint)) what e = absurd (cc)

@@ -2,8 +2,7 @@
 -- goes back to.
 use Rattle.std.specs.Prelude.{◌≡◌, ℕ, zero, suc, ◌+◌, ◌-◌, ◌<◌, ◌≤◌, true, false, ◌||◌, if◌then◌else◌, is_some, List}
 use Rattle.std.specs.Prelude.{[], ◌∷◌, ◌++◌, length, Option, Some, None, Result, Ok}
-use Rattle.debugger.specs.Answers.{answer, end_piece, is_hit, run_pieces, task_pieces}
-use Rattle.debugger.specs.Answers.{task_text}
+use Rattle.debugger.specs.Answers.{answer, end_piece, is_hit, run_pieces, task_pieces, task_text}
 use Rattle.debugger.specs.Sessions.{Kept, after_command}
 use Rattle.debugger_commands.specs.declared.changes.Change.TheVariants as change
 use Rattle.debugger_commands.specs.declared.commands.Command.{Command}

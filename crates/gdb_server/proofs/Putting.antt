@@ -1,5 +1,5 @@
 -- Texts that are put one after another, as pieces.
-use Rattle.std.proofs.Common.{◌≡◌, ◌+◌, ℕ, List, [], ◌∷◌, ◌++◌, Option, Result, Ok, Err, sym, ◌∙◌, ap, append_assoc}
+use Rattle.std.proofs.Common.{◌+◌, ℕ, List, ◌∷◌, ◌++◌, Option, Result, Ok, Err, sym, ◌∙◌, ap, append_assoc}
 use Rattle.std.proofs.KnownBytes.{Appends-trans}
 use Rattle.std.specs.Io.KnownBytes.{Appends}
 use Rattle.machine.specs.Whole.{Whole}

@@ -8,8 +8,6 @@ use Rattle.gdb.specs.declared.turns.Turn.TheVariants.{Asks, Ends}
 use Rattle.gdb.specs.Turns.{Turned, turn}
 use Rattle.gdb_packets.specs.declared.framer.Event.{Event}
 use Rattle.gdb_packets.specs.declared.framer.Event.TheVariants as event
-use Rattle.gdb_packets.specs.declared.packets.Request.{Request}
-use Rattle.gdb_packets.specs.declared.packets.Request.TheVariants.{FileReply}
 use Rattle.gdb_packets.specs.Framing.{Framing, after, at_start, event_of, minus, plus}
 use Rattle.gdb_packets.specs.Packets.{Packet, packet_of}
 use Rattle.gdb_server.specs.Commands.{command_of, command_text, console_text, placed_by, settings_with}

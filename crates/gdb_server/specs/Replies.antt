@@ -1,6 +1,6 @@
 -- The data of the replies that change neither the machine nor the session (GDB manual, "Packets", "General Query
 -- Packets").
-use Rattle.std.specs.Prelude.{ℕ, ◌/◌, min, nat_lt, Bool, true, false, not, ◌==◌, if◌then◌else◌, List, [], length}
+use Rattle.std.specs.Prelude.{ℕ, ◌/◌, min, nat_lt, Bool, true, false, not, ◌==◌, if◌then◌else◌, List, [], ◌++◌, length}
 use Rattle.std.specs.Prelude.{codes, slice_index, Option, Some, None, Result, Ok, Err}
 use Rattle.gdb.specs.MemoryReads.{memory_read}
 use Rattle.gdb.specs.Targets.{target_values}
@@ -41,7 +41,8 @@ constant_text constant.MoreThreads = codes "l"
 -- what this server takes, beside GDB's usual packets
 abbrev pub server_features : List ℕ
 server_features =
-    codes "PacketSize=1000;QStartNoAckMode+;qXfer:features:read+;qXfer:memory-map:read+;vContSupported+;swbreak+;hwbreak+"
+    codes "PacketSize=1000;QStartNoAckMode+;qXfer:features:read+;qXfer:memory-map:read+;"
+    ++ codes "vContSupported+;swbreak+;hwbreak+"
 
 -- ---- digits as bytes: two for each, at most as many bytes as a packet has
 

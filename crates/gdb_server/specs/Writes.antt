@@ -2,7 +2,7 @@
 use Rattle.std.specs.Prelude.{◌≡◌, ℕ, zero, suc, ◌+◌, ◌-◌, ◌*◌, ◌/◌, ◌%◌, ◌^◌, nat_lt, nat_le, Bool, false, not, ◌&&◌}
 use Rattle.std.specs.Prelude.{◌||◌, ◌==◌, if◌then◌else◌, is_some, List, [], ◌∷◌, length, slice_index, unwrap_or}
 use Rattle.std.specs.Prelude.{Option, Some, None, Result, Ok, Err}
-use Rattle.gdb.specs.Targets.{altered_if, register_written}
+use Rattle.gdb.specs.Targets.{register_written}
 use Rattle.gdb_server.specs.Replies.{bytes_in}
 use Rattle.gdb_server.specs.declared.purposes.MachineChange.{MachineChange}
 use Rattle.gdb_server.specs.declared.purposes.MachineChange.TheVariants as change

@@ -10,4 +10,3 @@ mod session;
 mod writes;
 
 pub use server::Server;
-

@@ -1,6 +1,7 @@
 //! What a session keeps between two packets, and what a packet makes.
 
-ghost use Rattle.std.specs.Prelude.{◌≡◌, OnOk, false, bytes_eq};
+ghost use Rattle.std.specs.Prelude.{◌≡◌, ◌≤◌, OnOk, Some, bytes_eq, false, length};
+ghost use Rattle.gdb_packets.specs.Replies.{packet_of};
 ghost use Rattle.gdb_packets.specs.Seen.{seen_packet};
 ghost use Rattle.gdb_server.specs.Commands.{command_of, settings_with};
 ghost use Rattle.gdb_server.specs.Conduct.{acknowledgement, answered, commanded, first_turn, heard, interrupted};
@@ -220,6 +221,22 @@ impl Session {
         self.settings = settings_with(self.settings, asked);
     }
 
+    /// Keeps why a packet is refused.
+    fn keep_refusal(&mut self, error: ErrorCode)
+        ensures { self.new ≡ record self.old { refused = Some error } }
+    {
+        self.refused = Some(error);
+    }
+
+    /// Writes a packet, and keeps it.
+    fn send<W: Out>(&mut self, content: &[u8], out: &mut W) -> Result<(), IoError>
+        requires { length content.now ≤ 4096 }
+        ensures put { Put (W.writing out.old) (W.writing out.new) (packet_of content.now) result }
+        ensures kept { self.new ≡ record self.old { sent = packet_of content.now } }
+    {
+        send_packet(content, &mut self.sent, out)
+    }
+
     /// Writes the reply to a packet, and keeps why the packet was refused, if it was.
     fn put_reply<W: Out>(
         &mut self,
@@ -230,10 +247,10 @@ impl Session {
         ensures kept { self.new ≡ with_reply self.old answer }
     {
         match answer {
-            Ok(data) => send_packet(data.as_slice(), &mut self.sent, out),
+            Ok(data) => self.send(data.as_slice(), out),
             Err(error) => {
-                self.refused = Some(error);
-                send_packet(reply_text(Reply::Error(error)), &mut self.sent, out)
+                self.keep_refusal(error);
+                self.send(reply_text(Reply::Error(error)), out)
             }
         }
     }

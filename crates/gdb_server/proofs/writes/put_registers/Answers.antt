@@ -1,4 +1,4 @@
-use Rattle.std.proofs.Common.{◌≡◌, ◌∙◌, ap, sym, arith}
+use Rattle.std.proofs.Common.{◌∙◌, ap, sym, arith}
 use Rattle.gdb_server.proofs.Writing.{registers_all, registers_end, registers_on}
 use Rattle.machine.specs.Whole.{Whole}
 use Rattle.gdb_server.proofs.writes.put_registers.Goals as goal

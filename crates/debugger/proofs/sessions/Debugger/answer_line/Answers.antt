@@ -1,4 +1,4 @@
-use Rattle.std.proofs.Common.{◌≡◌, ◌∙◌, ap}
+use Rattle.std.proofs.Common.{◌≡◌, ap}
 use Rattle.debugger.proofs.Rooms.{line_held, room_after}
 use Rattle.debugger.specs.Held.{Held, kept_of}
 use Rattle.debugger.specs.Sessions.{line_asked}

@@ -1,4 +1,3 @@
-use Rattle.std.proofs.Common.{◌≡◌, ap}
 use Rattle.gdb_packets.specs.Framing.{plus}
 use Rattle.gdb_packets.specs.Packets.{packet_of}
 use Rattle.gdb_server.proofs.Putting.{tells_then}
