@@ -24,8 +24,8 @@ In a table with a column "Definition", "Function" or "Test", a chapter or a crat
 has to be: "Step `running`", "exec `plan`", "test_runs `short_runs`". The links of all pages are checked too. Without a
 page, the manual page docs/marm.1 is formatted too, by `groff -ww` and `man --warnings` where they are installed: each
 warning is an error. So is a file in crates/*/data that differs from the one of that name in examples/, or in the data of
-another crate, a command of the debugger that the help or docs/DEBUGGING.md leaves out, and a named stop that
-docs/STOPS.md or the images of test_runs leave out.
+another crate, a command of the debugger that the help or docs/DEBUGGING.md leaves out, a named stop that
+docs/STOPS.md or the images of test_runs leave out, and more than 4,000 lines in docs/*.md and the pages at the top.
 """
 
 import fnmatch
@@ -51,6 +51,11 @@ SCRIPT = "marm"
 # programs, and the first words of commands
 COMMANDS = set("""rt make man groff python3 valgrind taskset ld.lld arm-none-eabi-ld arm-none-eabi-gcc clang gcc git apt-get
 llvm-readelf llvm-objdump llvm-mc llvm-objcopy qemu-system-arm readelf awk date ulimit""".split())
+
+# the commands of gdb and its packets, on the pages about it
+GDB_PAGES = re.compile("docs/GDB.md|crates/(gdb\\w*|test_gdb)/README.md")
+GDB_COMMANDS = set("""G break hbreak tbreak step stepi next until advance finish continue info set jump call print x bt load
+detach disconnect kill quit monitor place target maintenance on off""".split())
 
 # what `rt` takes: its words and options
 RT_WORDS = set("""check ci test try lib lemma fmt tidy plant must-fail version doc run new verdict all names help --only
@@ -263,6 +268,8 @@ def missing(repo, span, page):
     if re.match(r"^[\"'\[(<>=.,;:!?*+&|{}#\\-]+$", span) or PAGE_ID.fullmatch(span):
         return []
     words = span.split()
+    if GDB_PAGES.fullmatch(page) and words[0] in GDB_COMMANDS:
+        return []
     if words[0] in COMMANDS or words[0].startswith(("./", "crosscheck/", "bench/", "fuzz/", "docs/", "mutations/")) and len(words) > 1:
         lost = [w for w in words if "/" in w and w[0].isalpha() and not repo.has_path(w, page)]
         if words[0] == "rt" and len(words) > 1 and words[1] not in RT_WORDS:
@@ -411,6 +418,9 @@ def lists(repo):
     return lost
 
 
+# how many lines docs/*.md and the pages at the top may have together, so that somebody can still read them all
+MOST_LINES = 4000
+
 # where the help lists the debugger's commands
 HELP_OF_DEBUG = "crates/command_line/src/texts.rt"
 
@@ -473,6 +483,17 @@ def stops():
     return found + [f"{IMAGES_OF_STOPS}: no image for {name}" for name in sorted(untested)]
 
 
+def length():
+    """Says so where the pages together are too long."""
+    counted = {os.path.relpath(path, TOP): read(path).count("\n")
+               for pattern in ("docs/*.md", "*.md") for path in glob.glob(os.path.join(TOP, pattern))}
+    lines = sum(counted.values())
+    if lines > MOST_LINES:
+        longest = ", ".join(f"{page} {counted[page]}" for page in sorted(counted, key=counted.get, reverse=True)[:5])
+        yield (f"docs/*.md and the pages at the top have {lines:,} lines together, and may have {MOST_LINES:,}: "
+               f"delete {lines - MOST_LINES:,} (the longest are {longest})")
+
+
 def pages():
     found = ["README.md", "CONTRIBUTING.md"]
     for pattern in ("docs/*.md", "crates/*/README.md", "mutations/README.md"):
@@ -506,6 +527,7 @@ def of_repository(repo):
     yield from copies()
     yield from debugger_commands()
     yield from stops()
+    yield from length()
     for warning in manual_page():
         yield f"{MANUAL_PAGE}: {warning}"
 

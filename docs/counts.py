@@ -61,12 +61,6 @@ def crates_above(base):
         found |= more
 
 
-def proved_above(base):
-    """Returns how many crates above a crate aren't made for tests or programs alone."""
-    others = "test_ example_bench slow_machine"
-    return len([name for name in crates_above(base) if not name.startswith(tuple(others.split()))])
-
-
 def chapters():
     paths = found(*(f"crates/{crate}/specs/*.antt" for crate in DEFINITIONS))
     return len([path for path in paths if not path.endswith("/Lib.antt")])
@@ -236,9 +230,7 @@ def steps_of_firmware():
 COUNTS = {
     "crates": crates,
     "above reference": lambda: len(crates_above("reference")),
-    "proved above reference": lambda: proved_above("reference"),
     "above platform": lambda: len(crates_above("platform")),
-    "proved above platform": lambda: proved_above("platform"),
     "above instruction_set": lambda: len(crates_above("instruction_set")),
     "chapters": chapters,
     "rows": lambda: rows("Short") + rows("Long"),

@@ -1,8 +1,8 @@
 #!/usr/bin/env bash
 # Builds the kernels for a Cortex-M3. Usage: examples/kernels/build.sh [FOLDER]
 #
-# CC is clang (with ld.lld) where it isn't set, or arm-none-eabi-gcc; FOLDER is crates/test_firmware/data where it isn't
-# given, whose files CI runs. Files for CI are clang's.
+# CC is clang (with ld.lld) where it isn't set, or arm-none-eabi-gcc; CFLAGS has further options, as -g for a debugger.
+# FOLDER is crates/test_firmware/data where it isn't given, whose files CI runs. Files for CI are clang's, without CFLAGS.
 set -euo pipefail
 here=$(cd "$(dirname "${BASH_SOURCE[0]}")" && pwd)
 folder=$(realpath "${1:-$here/../../crates/test_firmware/data}")
@@ -16,6 +16,8 @@ case $compiler in
 *clang*) flags+=(--target=thumbv7m-none-eabi -fuse-ld=lld -Qunused-arguments) ;;
 *) flags+=(-fno-tree-loop-distribute-patterns) ;;
 esac
+read -ra more <<<"${CFLAGS:-}"
+flags+=("${more[@]}")
 
 # The start code of the kit, for a program without a C library.
 "$compiler" "${flags[@]}" -Wa,-defsym,PLAIN=1 -c "$here/../firmware/kit/start.s" -o "$work/start.o"

@@ -1,3 +1,5 @@
 mod BytesSeen
 mod Showing
 mod Slicing
+mod Telling
+mod Turning

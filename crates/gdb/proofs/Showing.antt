@@ -1,19 +1,17 @@
 -- Text that is put piece by piece.
 use Rattle.std.proofs.Common.{◌≡◌, ℕ, ◌+◌, ◌<◌, List, [], ◌∷◌, ◌++◌, length, take, drop, get_or, Option}
-use Rattle.std.proofs.Common.{refl, sym, ◌∙◌, ap, subst, append_assoc}
+use Rattle.std.proofs.Common.{Result, Ok, Err, refl, sym, ◌∙◌, ap, subst, append_assoc}
 use Rattle.std.proofs.KnownBytes.{Appends-nil, Appends-trans}
 use Rattle.std.proofs.lemmas.List.{append-nil, take-append-drop, take_more}
 use Rattle.std.specs.Io.KnownBytes.{Appends}
-use Rattle.gdb.specs.Consoles.{Console, Shown, ShownInPart, console_after, console_with, sent_by, sent_with}
+use Rattle.gdb.specs.Consoles.{Console, Shown, ShownInPart, Shows, console_after, console_with, sent_by, sent_with}
 use Rattle.output.specs.Output.{IsCutShort, Writing, WritesAll}
 use Rattle.platform.specs.declared.event.Event.{Event}
-use Rattle.trace.proofs.Selecting.{kinds-append, kinds-nil}
-use Rattle.trace.specs.declared.selection.TraceSelection.{TraceSelection}
-use Rattle.trace.specs.Selection.{kinds_text}
 
 -- ---- one text after another
 
-pub after-append : (c : Console) (xs ys : List ℕ) → console_after c (xs ++ ys) ≡ console_after (console_after c xs) ys
+pub after-append : (c : Console) (xs ys : List ℕ)
+    → console_after c (xs ++ ys) ≡ console_after (console_after c xs) ys
 unfolding console_after
 after-append c [] ys = refl
 after-append c (x ∷ xs) ys = after-append (console_with c x) xs ys
@@ -64,7 +62,7 @@ unfolding sent_by console_after
 shown_none a c = ((Appends-nil a.written, refl), refl)
 
 -- more text after some
-shown_on : (a b e : Writing) (c d f : Console) (xs ys : List ℕ) → Shown a b c d xs → Shown b e d f ys
+pub shown_on : (a b e : Writing) (c d f : Console) (xs ys : List ℕ) → Shown a b c d xs → Shown b e d f ys
     → Shown a e c f (xs ++ ys)
 shown_on a b e c d f xs ys first then = (
   (
@@ -77,7 +75,7 @@ shown_on a b e c d f xs ys first then = (
 )
 
 -- it was cut
-part_on : (a b e : Writing) (c d : Console) (xs ys : List ℕ) → Shown a b c d xs → ShownInPart b e d ys
+pub part_on : (a b e : Writing) (c d : Console) (xs ys : List ℕ) → Shown a b c d xs → ShownInPart b e d ys
     → ShownInPart a e c (xs ++ ys)
 part_on a b e c d xs ys first then = (
   rw (sent-append c xs ys) (cut_later a.written b.written e.written (sent_by c xs)
@@ -87,7 +85,7 @@ part_on a b e c d xs ys first then = (
 )
 
 -- a text that was cut, with more that would have come
-part_before : (a b : Writing) (c : Console) (xs ys : List ℕ) → ShownInPart a b c xs → ShownInPart a b c (xs ++ ys)
+pub part_before : (a b : Writing) (c : Console) (xs ys : List ℕ) → ShownInPart a b c xs → ShownInPart a b c (xs ++ ys)
 part_before a b c xs ys cut = (
   rw (sent-append c xs ys) (cut_before a.written b.written (sent_by c xs) (sent_by (console_after c xs) ys) cut.0),
   cut.1,
@@ -113,41 +111,43 @@ bytes_cut a b e c d text i inside so_far put =
     (part_before a e c (take (i + 1) text) (drop (i + 1) text)
     (rw (take_more text i 0 inside) (part_on a b e c d (take i text) (get_or text i 0 ∷ []) so_far one)))
 
--- ---- a loop over the events of a step
+-- ---- texts one after another, the last of which may be cut
 
-pub kinds_none : (a : Writing) (c : Console) (selection : TraceSelection) → Shown a a c c (kinds_text selection [])
-kinds_none a c selection = rw (kinds-nil selection) (shown_none a c)
+pub shows_on : {E : Type 0} (a b e : Writing) (c d f : Console) (xs ys : List ℕ) (result : Result (Unit {0}) E)
+    → Shown a b c d xs → Shows b e d f ys result → Shows a e c f (xs ++ ys) result
+shows_on a b e c d f xs ys (Ok done) first then = shown_on a b e c d f xs ys first then
+shows_on a b e c d f xs ys (Err error) first then = part_on a b e c d xs ys first then
+
+-- ---- a loop over the events of a step, each of which has a text
+
+-- the text of some events, and of more
+abbrev pub Joins : (List Event → List ℕ) → Type 0
+Joins text = (xs ys : List Event) → text (xs ++ ys) ≡ text xs ++ text ys
 
 -- the text of the events before an index, and of the one there
-kinds_at : (selection : TraceSelection) (events : List Event) (i : ℕ) (d : Event) → i < length events
-    → kinds_text selection (take (i + 1) events)
-    ≡ kinds_text selection (take i events) ++ kinds_text selection (get_or events i d ∷ [])
-kinds_at selection events i d inside =
-    rw (take_more events i d inside) (kinds-append selection (take i events) (get_or events i d ∷ []))
+text_at : (text : List Event → List ℕ) (joins : Joins text) (events : List Event) (i : ℕ) (d : Event)
+    → i < length events → text (take (i + 1) events) ≡ text (take i events) ++ text (get_or events i d ∷ [])
+text_at text joins events i d inside =
+    rw (take_more events i d inside) (joins (take i events) (get_or events i d ∷ []))
 
 -- the text of the events up to an index, and of those after it
-kinds_parted : (selection : TraceSelection) (events : List Event) (i : ℕ)
-    → kinds_text selection events ≡ kinds_text selection (take i events) ++ kinds_text selection (drop i events)
-kinds_parted selection events i =
-    ap (kinds_text selection) (sym (take-append-drop i events))
-    ∙ kinds-append selection (take i events) (drop i events)
+text_parted : (text : List Event → List ℕ) (joins : Joins text) (events : List Event) (i : ℕ)
+    → text events ≡ text (take i events) ++ text (drop i events)
+text_parted text joins events i =
+    ap text (sym (take-append-drop i events)) ∙ joins (take i events) (drop i events)
 
-pub events_on : (a b e : Writing) (c d f : Console) (selection : TraceSelection) (events : List Event) (i : ℕ)
-    (event : Event) → i < length events → Shown a b c d (kinds_text selection (take i events))
-    → Shown b e d f (kinds_text selection (get_or events i event ∷ []))
-    → Shown a e c f (kinds_text selection (take (i + 1) events))
-events_on a b e c d f selection events i event inside so_far more =
-    subst (λ (text : List ℕ). Shown a e c f text) (sym (kinds_at selection events i event inside))
-    (shown_on a b e c d f (kinds_text selection (take i events)) (kinds_text selection (get_or events i event ∷ []))
-    so_far more)
+pub events_on : (text : List Event → List ℕ) (joins : Joins text) (a b e : Writing) (c d f : Console)
+    (events : List Event) (i : ℕ) (event : Event) → i < length events → Shown a b c d (text (take i events))
+    → Shown b e d f (text (get_or events i event ∷ [])) → Shown a e c f (text (take (i + 1) events))
+events_on text joins a b e c d f events i event inside so_far more =
+    subst (λ (t : List ℕ). Shown a e c f t) (sym (text_at text joins events i event inside))
+    (shown_on a b e c d f (text (take i events)) (text (get_or events i event ∷ [])) so_far more)
 
-pub events_cut : (a b e : Writing) (c d : Console) (selection : TraceSelection) (events : List Event) (i : ℕ)
-    (event : Event) → i < length events → Shown a b c d (kinds_text selection (take i events))
-    → ShownInPart b e d (kinds_text selection (get_or events i event ∷ []))
-    → ShownInPart a e c (kinds_text selection events)
-events_cut a b e c d selection events i event inside so_far cut =
-    subst (λ (text : List ℕ). ShownInPart a e c text) (sym (kinds_parted selection events (i + 1)))
-    (part_before a e c (kinds_text selection (take (i + 1) events)) (kinds_text selection (drop (i + 1) events))
-    (subst (λ (text : List ℕ). ShownInPart a e c text) (sym (kinds_at selection events i event inside))
-    (part_on a b e c d (kinds_text selection (take i events)) (kinds_text selection (get_or events i event ∷ []))
-    so_far cut)))
+pub events_cut : (text : List Event → List ℕ) (joins : Joins text) (a b e : Writing) (c d : Console)
+    (events : List Event) (i : ℕ) (event : Event) → i < length events → Shown a b c d (text (take i events))
+    → ShownInPart b e d (text (get_or events i event ∷ [])) → ShownInPart a e c (text events)
+events_cut text joins a b e c d events i event inside so_far cut =
+    subst (λ (t : List ℕ). ShownInPart a e c t) (sym (text_parted text joins events (i + 1)))
+    (part_before a e c (text (take (i + 1) events)) (text (drop (i + 1) events))
+    (subst (λ (t : List ℕ). ShownInPart a e c t) (sym (text_at text joins events i event inside))
+    (part_on a b e c d (text (take i events)) (text (get_or events i event ∷ [])) so_far cut)))

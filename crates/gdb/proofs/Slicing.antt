@@ -1,6 +1,6 @@
 -- The pieces of the steps of a run, one after another.
-use Rattle.std.proofs.Common.{◌≡◌, ℕ, zero, suc, ◌+◌, ◌-◌, ◌<◌, List, [], ◌∷◌, ◌++◌}
-use Rattle.std.proofs.Common.{Option, Some, None, Result, Ok, Err}
+use Rattle.std.proofs.Common.{◌≡◌, ℕ, suc, ◌-◌, ◌<◌, List, [], ◌∷◌, ◌++◌}
+use Rattle.std.proofs.Common.{Option, Some, None}
 use Rattle.std.proofs.Common.{refl, sym, ◌∙◌, ap, subst, arith, append_assoc, is_some, true, false}
 use Rattle.std.proofs.lemmas.List.{append-nil}
 use Rattle.gdb.specs.declared.slices.Plan.{Plan}
@@ -11,7 +11,6 @@ use Rattle.gdb_texts.specs.declared.stops.StopReason.{StopReason}
 use Rattle.machine.specs.Whole.{Whole}
 use Rattle.output.specs.Output.{Writing}
 use Rattle.platform.specs.declared.event.Event.{Event}
-use Rattle.reference.specs.State.{State}
 use Rattle.reference.specs.Step.{step}
 use Rattle.serving.proofs.Telling.{cut_before, cut_on, tells_none, tells_on}
 use Rattle.serving.specs.Pieces.{Piece, TellsAll, TellsPart}

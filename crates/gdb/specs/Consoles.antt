@@ -1,5 +1,5 @@
 -- The text of a run on its way to GDB's console: it is sent as soon as it fills a packet (profile).
-use Rattle.std.specs.Prelude.{◌≡◌, ℕ, ◌+◌, Bool, ◌==◌, if◌then◌else◌, List, [], ◌∷◌, ◌++◌, length, Option, Some}
+use Rattle.std.specs.Prelude.{◌≡◌, ℕ, ◌+◌, ◌==◌, if◌then◌else◌, List, [], ◌∷◌, ◌++◌, length, Option, Some}
 use Rattle.std.specs.Prelude.{Result, Ok, Err}
 use Rattle.gdb_texts.specs.Console.{console_packet, is_full}
 use Rattle.output.specs.Output.{IsCutShort, WritesAll, Writing}

@@ -3,3 +3,5 @@ pub mod MemoryReads
 pub mod Reasons
 pub mod Slices
 pub mod Targets
+pub mod Turns
+pub mod Whys

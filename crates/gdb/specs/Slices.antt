@@ -1,6 +1,5 @@
 -- The steps of a run, up to a reason to stop (profile).
 use Rattle.std.specs.Prelude.{◌≡◌, ℕ, zero, suc, ◌+◌, Bool, not, ◌&&◌, List, [], ◌∷◌, ◌++◌, Option, Some, None}
-use Rattle.std.specs.Prelude.{Result, Ok, Err}
 use Rattle.gdb.specs.declared.slices.Plan.{Plan}
 use Rattle.gdb.specs.Consoles.{Console, console_after, sent_by}
 use Rattle.gdb.specs.Reasons.{is_continue, reason_after, reason_before, selection_of}

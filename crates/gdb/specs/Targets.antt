@@ -1,5 +1,5 @@
 -- The registers of the target description: their values, and where a value is written (profile).
-use Rattle.std.specs.Prelude.{ℕ, Bool, nat_lt, ◌==◌, if◌then◌else◌, List, [], ◌∷◌, slice_index}
+use Rattle.std.specs.Prelude.{ℕ, nat_lt, ◌==◌, if◌then◌else◌, List, [], ◌∷◌, slice_index}
 use Rattle.std.specs.Prelude.{Option, Some, None, Result, Err}
 use Rattle.instruction_set.specs.Registers.{Registers, control, sp, weighed, xpsr}
 use Rattle.platform.specs.declared.error.PlaceError.{PlaceError}
@@ -16,8 +16,8 @@ values_in r m =
     slice_index r.general 0 ∷ slice_index r.general 1 ∷ slice_index r.general 2 ∷ slice_index r.general 3
     ∷ slice_index r.general 4 ∷ slice_index r.general 5 ∷ slice_index r.general 6 ∷ slice_index r.general 7
     ∷ slice_index r.general 8 ∷ slice_index r.general 9 ∷ slice_index r.general 10 ∷ slice_index r.general 11
-    ∷ slice_index r.general 12 ∷ sp r ∷ r.lr ∷ r.pc ∷ xpsr r ∷ r.msp ∷ r.psp ∷ weighed m.primask 1 ∷ m.basepri ∷ weighed m.faultmask 1
-    ∷ control r ∷ []
+    ∷ slice_index r.general 12 ∷ sp r ∷ r.lr ∷ r.pc ∷ xpsr r ∷ r.msp ∷ r.psp
+    ∷ weighed m.primask 1 ∷ m.basepri ∷ weighed m.faultmask 1 ∷ control r ∷ []
 
 abbrev pub target_values : State → List ℕ
 target_values s = values_in s.registers s.bus.system.nvic.masks

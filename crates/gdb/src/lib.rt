@@ -6,6 +6,8 @@ mod reading;
 mod registers;
 mod slices;
 mod steps;
+mod turns;
+mod whys;
 
 pub use console::Console;
 pub use reading::{Content, put_memory};
@@ -15,3 +17,4 @@ pub use steps::{
     first_cause, has_entry, has_fault, is_continue, put_step, reason_after, reason_before,
     selection_of,
 };
+pub use turns::{Run, SentPacket, Terms, Turn, go_on, send_packet};

@@ -1,16 +1,20 @@
 //! The steps of a run, up to a reason to stop.
 
-ghost use Rattle.std.specs.Prelude.{◌≡◌, ◌+◌, ◌-◌, ◌^◌, ◌<◌, [], ◌∷◌, IfOk};
-ghost use Rattle.gdb.specs.Consoles.{console_after};
+ghost use Rattle.std.specs.Prelude.{◌≡◌, ◌+◌, ◌-◌, ◌^◌, ◌<◌, [], ◌∷◌, IfOk, OnOk};
+ghost use Rattle.gdb.specs.Consoles.{Shows, console_after, console_from, emptied, flush_text};
 ghost use Rattle.gdb.specs.Slices.{Slices, flow, reason_then, slice, step_piece, step_text};
+ghost use Rattle.gdb.specs.Whys.{why_text};
+ghost use Rattle.output.specs.Output.{Put};
 ghost use Rattle.reference.specs.Step.{step};
 ghost use Rattle.serving.specs.Pieces.{Tells};
 
 use crate::console::Console;
 use crate::steps::{is_continue, put_step, reason_after, reason_before, selection_of};
+use crate::whys::put_whys;
 use gdb_texts::{Breakpoints, Resume, Settings, StopReason};
 use machine::{Decider, DueTicks, Events, KeptCode, Levels, Machine, is_instruction};
 use output::{IoError, Out};
+use platform::stop::Stop;
 use std::marker::Model;
 
 /// What a run does: how far it goes, to which tick at most, and what the settings say.
@@ -38,11 +42,57 @@ impl Model for Progress {
 }
 
 impl Progress {
+    /// Returns what a run has made by the begin of a turn: how many steps, and text with this last byte.
+    pub fn new(made: u64, last: Option<u8>) -> Self
+        ensures { result ≡ record { made = made; console = console_from last; events = [] } }
+    {
+        Progress {
+            made,
+            console: Console::new(last),
+            events: Events::new(),
+        }
+    }
+
     /// Returns how many steps were made.
-    fn made(&self) -> u64
+    pub fn made(&self) -> u64
         ensures { result ≡ self.now.made }
     {
         self.made
+    }
+
+    /// Returns the last byte of the text.
+    pub fn last(&self) -> Option<u8>
+        ensures { result ≡ self.now.console.last }
+    {
+        self.console.last()
+    }
+
+    /// Sends the text that waits, where there is one.
+    pub fn flush<W: Out>(&mut self, out: &mut W) -> Result<(), IoError>
+        ensures put { Put (W.writing out.old) (W.writing out.new) (flush_text self.old.console) result }
+        ensures kept { OnOk result (self.new ≡ record self.old { console = emptied self.old.console }) }
+    {
+        self.console.flush(out)
+    }
+
+    /// Puts the lines that say why a run ended after the last step, or by this stop.
+    pub fn put_whys<W: Out>(
+        &mut self,
+        settings: &Settings,
+        stop: Option<Stop>,
+        out: &mut W,
+    ) -> Result<(), IoError>
+        ensures shows { Shows (W.writing out.old) (W.writing out.new) self.old.console self.new.console
+            (why_text settings.now self.old.events stop self.old.console.last) result }
+        ensures kept { self.new ≡ record self.old { console = self.new.console } }
+    {
+        put_whys(
+            settings,
+            self.events.as_slice(),
+            stop,
+            &mut self.console,
+            out,
+        )
     }
 
     /// Forgets the events of the last step.

@@ -129,7 +129,7 @@ pub fn has_fault(events: &[Event]) -> bool
 }
 
 /// Returns whether a handler was entered.
-fn is_entry(what: &EventKind) -> bool
+pub fn is_entry(what: &EventKind) -> bool
     ensures { result ≡ is_entry what.now }
 {
     match what {

@@ -51,11 +51,10 @@ use Rattle.state_laws.specs.StateLaw.{IfGiven, TickKeeps, AccessKeeps, Instructi
 use Rattle.state_laws.proofs.Accesses.{IsWholeBus, carried_whole, perform_whole, served_whole}
 use Rattle.state_laws.proofs.Effects.{register_kept, result_kept}
 use Rattle.state_laws.proofs.Entries.{none}
-use Rattle.state_laws.proofs.Faults.{HasWhole}
 use Rattle.state_laws.proofs.Memories.{overwritten_apart, start_apart}
 use Rattle.state_laws.proofs.Registers.{writes_kept, special_kept, reset_has}
 use Rattle.state_laws.proofs.Sets.{top_bits_of_board, board_of, board_at_reset}
-use Rattle.state_laws.proofs.Steps.{step_good}
+use Rattle.state_laws.proofs.Steps.{HasWhole, step_good}
 use Rattle.state_laws.proofs.Systems.{IsWhole, tick_whole, parts_kept}
 use Rattle.state_laws.proofs.Ticks.{timely_at_start}
 
@@ -87,7 +86,10 @@ pub step_keeps : (s : State) → Invariant s → Invariant (step s).state
 step_keeps s h =
     let interrupts = s.bus.system.nvic.interrupts in
     let bits = s.bus.system.nvic.priority_bits in
-    let after = step_good interrupts bits s h.entry (record { registers = h.registers; bus = whole_state s h }) in
+    let after = step_good interrupts bits s (record {
+      good = record { registers = h.registers; bus = whole_state s h };
+      called = h.entry;
+    }) in
     record {
       registers = after.good.registers;
       entry = after.called;

@@ -1,30 +1,21 @@
--- What the entry phase needs: a candidate. Each fault is of an exception of the board, and pushes and reads of vectors
--- leave the System Control Space.
-use Rattle.std.proofs.Common.{◌≡◌, ℕ, ◌<◌, Bool, true, is_some, List, [], ◌∷◌}
-use Rattle.std.proofs.Common.{Option, Some, None, Result, Ok, Err, refl, ◌∙◌, arith}
+-- What the entry phase needs: a candidate. Each fault is of an exception of the board, and accesses that are neither
+-- loads nor stores, as pushes and reads of vectors, leave the System Control Space.
+use Rattle.std.proofs.Common.{◌≡◌, ℕ, ◌<◌, true, false, ◌||◌, is_some, Option, Some, None, refl, arith}
 use Rattle.std.proofs.lemmas.Bool.{cond_both}
-use Rattle.instruction_set.specs.declared.size.Size.TheVariants.{Word}
-use Rattle.instruction_set.specs.Frames.{frame, frame_base}
-use Rattle.instruction_set.specs.Registers.{is_privileged, sp}
-use Rattle.instruction_set.specs.Words.{word_sum}
 use Rattle.platform.specs.declared.access.Cause.{Cause}
 use Rattle.platform.specs.declared.access.Cause.TheVariants as cause
 use Rattle.platform.specs.declared.access.Kind.{Kind}
 use Rattle.platform.specs.declared.access.Kind.TheVariants.{Fetch, Load, Store, Push, Pop, Vector, Probe}
 use Rattle.platform.specs.declared.access.Request.{Request}
 use Rattle.platform.specs.declared.access.Rule.{Rule}
-use Rattle.platform.specs.declared.event.Event.{Event}
 use Rattle.platform.specs.declared.exception.TheConstants.{EXCEPTIONS}
-use Rattle.reference.specs.declared.failure.Failure.{Failure}
 use Rattle.reference.specs.declared.failure.UsageFault.{UsageFault}
 use Rattle.reference.specs.declared.failure.UsageFault.TheVariants.{UndefinedInstruction, InvalidState, InvalidReturn}
 use Rattle.reference.specs.declared.failure.UsageFault.TheVariants.{NoCoprocessor, Unaligned, DivideByZero}
 use Rattle.platform.specs.declared.fault_status.FaultEffect.{FaultEffect}
-use Rattle.reference.specs.Accesses.{ListResult, carried_out, decision, perform, perform_all, value_of, followed}
-use Rattle.reference.specs.ExceptionEntry.{words_from, pushes, vector_read}
+use Rattle.reference.specs.Accesses.{carried_out, decision, perform}
 use Rattle.reference.specs.Faults.{access_fault, usage_fault_of}
-use Rattle.platform.specs.Kinds.{is_probe}
-use Rattle.reference.specs.LoadStore.{request}
+use Rattle.platform.specs.Kinds.{is_load, is_probe, is_store}
 use Rattle.platform.specs.Map.{is_in_ppb}
 use Rattle.platform.specs.Outcomes.{Outcome}
 use Rattle.platform.specs.Priorities.{is_exception}
@@ -73,55 +64,29 @@ usage_is NoCoprocessor = record { small = omega arith; exists = λ interrupts. r
 usage_is Unaligned = record { small = omega arith; exists = λ interrupts. refl }
 usage_is DivideByZero = record { small = omega arith; exists = λ interrupts. refl }
 
--- ---- pushes and reads of vectors leave the System Control Space
+-- ---- an access that is neither a load nor a store leaves the System Control Space
 
--- an access that is neither a load nor a store
 abbrev IsApart : Request → Type 0
-IsApart q = ((x : ℕ) (s : System) (rule : Rule) → (system_access x s rule q).after ≡ s)
+IsApart q = (is_load q.access.kind || is_store q.access.kind) ≡ false
 
 -- an access leaves the System Control Space as it was
 abbrev LeavesSystem : System → Outcome Bus → Type 0
 LeavesSystem s o = o.after.system ≡ s
+
+system_leaves : (x : ℕ) (s : System) (rule : Rule) (q : Request) → IsApart q → (system_access x s rule q).after ≡ s
+unfolding system_access
+system_leaves x s rule q apart = rw apart refl
 
 carried_leaves : (x : ℕ) (b : Bus) (rule : Rule) (q : Request) → IsApart q →
     LeavesSystem b.system (carried_out x b rule q)
 unfolding carried_out
 carried_leaves x b rule q apart =
     cond_both (is_probe q.access.kind) _ _ (LeavesSystem b.system) (λ e. refl)
-    (λ e. cond_both (is_in_ppb q.access.address) _ _ (LeavesSystem b.system) (λ f. apart x b.system rule) (λ f. refl))
+    (λ e. cond_both (is_in_ppb q.access.address) _ _ (LeavesSystem b.system)
+    (λ f. system_leaves x b.system rule q apart) (λ f. refl))
 
 pub perform_leaves : (x : ℕ) (b : Bus) (q : Request) → IsApart q → LeavesSystem b.system (perform x b q)
 unfolding perform
 perform_leaves x b q apart =
     cond_both (decision b q).granted _ _ (LeavesSystem b.system)
     (λ e. carried_leaves x b (decision b q).rule q apart) (λ e. refl)
-
-push_apart : (privileged : Bool) (address value : ℕ) → IsApart (request Push privileged Word address value)
-unfolding system_access
-push_apart privileged address value x s rule = refl
-
-pub vector_apart : (s : State) (y : ℕ) → IsApart (vector_read s y)
-unfolding system_access
-vector_apart s y x t rule = refl
-
-followed_leaves : (t : System) (events : List Event) (after : Bus) (value : Result ℕ Failure) (rest : ListResult) →
-    after.system ≡ t → rest.bus.system ≡ t → (followed events after value rest).bus.system ≡ t
-followed_leaves t events after (Ok value) rest e f = f
-followed_leaves t events after (Err why) rest e f = e
-
-words_leave : (x tick : ℕ) (b : Bus) (privileged : Bool) (address : ℕ) (values : List ℕ) →
-    (perform_all x tick b (words_from Push privileged address values)).bus.system ≡ b.system
-unfolding perform_all
-words_leave x tick b privileged address [] = refl
-words_leave x tick b privileged address (v ∷ values) =
-    let q = request Push privileged Word address v in
-    let first = perform_leaves x b q (push_apart privileged address v) in
-    followed_leaves b.system _ _ (value_of q (perform x b q).performed) _ first
-    (words_leave x tick (perform x b q).after privileged (word_sum address 4) values ∙ first)
-
-pub pushes_leave : (s : State) →
-    (perform_all s.registers.exception s.bus.system.time.ticks s.bus (pushes s.registers)).bus.system ≡ s.bus.system
-unfolding pushes
-pushes_leave s =
-    words_leave s.registers.exception s.bus.system.time.ticks s.bus (is_privileged s.registers)
-    (frame_base (sp s.registers)) (frame s.registers)

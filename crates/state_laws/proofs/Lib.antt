@@ -3,7 +3,6 @@ mod Ticks
 mod Systems
 mod Memories
 mod Accesses
-mod Faults
 mod Steps
 pub mod Effects
 mod Registers

@@ -1,194 +1,219 @@
--- The phases of a step keep what holds of the core registers and of the bus, from the last one up.
-use Rattle.std.proofs.Common.{◌≡◌, ℕ, ◌<◌, nat_le, false, List, [], ◌++◌, Option, Some, None, Result, Ok, Err}
-use Rattle.std.proofs.Common.{arith, ◌≡◌, is_some, true, refl, ap}
+-- A step keeps what holds of the core registers and of the bus, and leaves an entry phase that has a candidate.
+--
+-- - `EndsGood` is what holds inside a step and at its end: `AreGood`, and that an entry phase has a candidate.
+-- - One part of a state changes at a time: `with_registers_good`, `with_bus_good`, `with_system_good`.
+-- - A fault is taken, escalates or stops: `escalated_good` shows for each that what it makes pending becomes the
+--   candidate (`Follows`), so the entry phase that begins has one.
+-- - `good_rules` is the instance of the walk over a step (`StepRules` of `step_laws`).
+use Rattle.std.proofs.Common.{◌≡◌, ◌<◌, ℕ, nat_le, true, false, is_some, List, Some, refl, sym, subst}
+use Rattle.std.proofs.Common.{ap, ◌∙◌, arith}
 use Rattle.std.proofs.lemmas.Bool.{cond_both}
 use Rattle.std.proofs.lemmas.Bool.Decides.{nat_tests}
-use Rattle.instruction_set.specs.declared.instruction.CodedInstruction.{CodedInstruction}
-use Rattle.instruction_set.specs.declared.instruction.Decoded.{Decoded}
-use Rattle.instruction_set.specs.declared.instruction.Decoded.TheVariants as decoded
-use Rattle.instruction_set.specs.declared.instruction.InstructionLength.{InstructionLength}
-use Rattle.instruction_set.specs.declared.instruction.InstructionLength.TheVariants.{Short, Long}
-use Rattle.instruction_set.specs.Arithmetic.{condition_passed}
-use Rattle.instruction_set.specs.Decoding.{is_long}
-use Rattle.instruction_set.specs.Registers.{is_privileged}
-use Rattle.instruction_set.specs.Words.{word_sum}
-use Rattle.nvic.proofs.Systems.{cps_kept, msr_kept}
+use Rattle.instruction_set.specs.Frames.{frame_base}
+use Rattle.instruction_set.specs.Registers.{Registers, is_privileged, sp}
+use Rattle.nvic.proofs.Systems.{begun_kept, cps_kept, ended_kept, msr_kept, pending_kept, with_status_kept}
 use Rattle.platform.specs.declared.access.Request.{Request}
-use Rattle.reference.specs.declared.ending.Ending.{Ending}
-use Rattle.reference.specs.declared.ending.Ending.TheVariants as ending
 use Rattle.platform.specs.declared.event.Event.{Event}
+use Rattle.platform.specs.declared.exception.Escalation.{Escalation}
+use Rattle.platform.specs.declared.exception.Escalation.TheVariants.{Itself, HardFault, Lockup}
+use Rattle.platform.specs.declared.exception.TheConstants.{EXCEPTIONS, HARD_FAULT}
+use Rattle.platform.specs.declared.fault_status.FaultEffect.{FaultEffect}
+use Rattle.platform.specs.declared.stop.Stop.{Stop}
+use Rattle.platform.specs.Priorities.{Nvic, candidate, is_fixed}
+use Rattle.platform.specs.Status.{Status}
+use Rattle.platform.specs.System.{System, after_tick}
+use Rattle.platform.specs.Time.{last_tick, tick_pends}
 use Rattle.reference.specs.declared.failure.Failure.{Failure}
 use Rattle.reference.specs.declared.failure.Failure.TheVariants as failure
-use Rattle.reference.specs.declared.failure.UsageFault.{UsageFault}
-use Rattle.reference.specs.declared.failure.UsageFault.TheVariants.{UndefinedInstruction, NoCoprocessor, InvalidState}
-use Rattle.platform.specs.declared.stop.Stop.{Stop}
-use Rattle.reference.specs.Accesses.{ListResult, perform_all, perform}
-use Rattle.reference.specs.LoadStore.{fetch_at}
-use Rattle.reference.specs.Operations.{result_of}
-use Rattle.reference.specs.ProgramCounter.{Finished, moves_on}
-use Rattle.reference.specs.State.{State, ticked, with_bus, with_registers}
-use Rattle.reference.specs.Step.{ended, finished, served, performed_all, planned, without_meaning, executed}
-use Rattle.reference.specs.Step.{fetched_second, with_second, fetched_first, instruction, sleeps_on, phase, running}
-use Rattle.reference.specs.Step.{unless_stopped, step}
-use Rattle.platform.specs.Time.{last_tick, tick_pends}
+use Rattle.reference.specs.ExceptionEntry.{vector_refused}
+use Rattle.reference.specs.Faults.{escalated, failed, fault_of, faulted, pended, recorded, usage_fault_of, vector_fault}
+use Rattle.reference.specs.Faults.{with_status}
 use Rattle.reference.specs.Invariant.{HasRegisters}
-use Rattle.platform.specs.Priorities.{candidate}
-use Rattle.platform.specs.System.{System, after_tick}
-use Rattle.state_laws.proofs.Accesses.{perform_whole, served_whole}
-use Rattle.state_laws.proofs.Systems.{tick_whole, parts_kept}
-use Rattle.state_laws.proofs.Faults.{IsGood, LeavesGood, with_registers_good, with_bus_good, with_system_good}
-use Rattle.state_laws.proofs.Faults.{failed_good}
-use Rattle.state_laws.proofs.Faults.{supervisor_good, entry_good, vector_step_good, return_good, out_good}
-use Rattle.state_laws.proofs.Effects.{Leaves, register_kept, moves_on_kept, result_kept}
-use Rattle.state_laws.proofs.Registers.{writes_kept, write_special_kept}
-use Rattle.state_laws.proofs.Candidates.{Calls, pended_calls}
-use Rattle.state_laws.proofs.Entries.{IsCalled, some_none}
+use Rattle.reference.specs.State.{Bus, State, Stepped, ticked, with_bus, with_registers, with_system}
+use Rattle.reference.specs.Step.{step}
+use Rattle.step_laws.proofs.StepRules.{FitsEntry, StepRules, after_access, step_keeps}
+use Rattle.state_laws.proofs.Accesses.{IsWholeBus, perform_whole}
+use Rattle.state_laws.proofs.Candidates.{Calls, Follows, escalation_follows, pended_calls, pending_calls}
+use Rattle.state_laws.proofs.Effects.{moves_on_kept, register_kept, result_kept, sp_kept}
+use Rattle.state_laws.proofs.Entries.{IsCalled, IsFault, access_is, none, perform_leaves, some_none, usage_is}
+use Rattle.state_laws.proofs.Frames.{IsBelow, candidate_small, handler_kept, popped_kept}
+use Rattle.state_laws.proofs.Registers.{write_special_kept, writes_kept}
+use Rattle.state_laws.proofs.Systems.{IsWhole, parts_kept, tick_whole}
 
-pub is_early : (ticks : ℕ) → nat_le last_tick ticks ≡ false → ticks < last_tick
+-- what holds of the core registers, and of the bus of a board with these interrupts and these bits of a priority
+pub record AreGood (interrupts bits : ℕ) (r : Registers) (b : Bus) : Type 0 where
+  pub registers : HasRegisters r
+  pub bus : IsWholeBus interrupts bits b
+
+-- a state inside a step, or at its end: an entry phase has a candidate, unless the machine has stopped
+pub record EndsGood (interrupts bits : ℕ) (s : State) : Type 0 where
+  pub good : AreGood interrupts bits s.registers s.bus
+  pub called : IsCalled s
+
+-- what holds of the bus of a state
+abbrev pub HasWhole : ℕ → ℕ → State → Type 0
+HasWhole interrupts bits s = IsWholeBus interrupts bits s.bus
+
+is_early : (ticks : ℕ) → nat_le last_tick ticks ≡ false → ticks < last_tick
 is_early ticks e = grind (arith, nat_tests, e)
 
+tick_calls : (s : System) → Calls s.nvic → Calls (after_tick s).nvic
+unfolding after_tick
+tick_calls s c = pended_calls s.nvic (tick_pends s.time) c
+
 module _ (interrupts bits : ℕ) where
-  -- ---- the end of an instruction
+  -- what holds of a state, and of what a step makes of one
+  abbrev IsGood : State → Type 0
+  IsGood s = AreGood interrupts bits s.registers s.bus
 
-  ended_good : (s : State) (events : List Event) (end : Ending) → s.entry ≡ None → IsGood interrupts bits s →
-      LeavesGood interrupts bits (ended s events end)
-  ended_good s events ending.Next out h = out_good interrupts bits _ out h
-  ended_good s events (ending.ReadSpecial o) out h =
-      out_good interrupts bits _ out
-      (with_registers_good interrupts bits s _ (register_kept writes_kept s.registers o.destination _ h.registers) h)
-  ended_good s events (ending.WriteSpecial special value) out h =
-      out_good interrupts bits _ out
-      (record {
-        registers = write_special_kept s.registers special value h.registers;
-        bus = (
-          msr_kept (parts_kept interrupts bits) s.bus.system
-              (is_privileged s.registers) special value h.bus.0,
-          h.bus.1,
-        );
+  abbrev LeavesGood : Stepped → Type 0
+  LeavesGood step = EndsGood interrupts bits step.state
+
+  -- ---- one part changes
+
+  with_registers_good : (s : State) (r : Registers) → HasRegisters r → EndsGood interrupts bits s
+      → EndsGood interrupts bits (with_registers s r)
+  with_registers_good s r new h = record { good = record { registers = new; bus = h.good.bus }; called = h.called }
+
+  with_bus_good : (s : State) (b : Bus) → IsWholeBus interrupts bits b → IsGood s → IsGood (with_bus s b)
+  with_bus_good s b new h = record { registers = h.registers; bus = new }
+
+  with_system_good : (s : State) (y : System) → IsWhole interrupts bits y → IsGood s → IsGood (with_system s y)
+  with_system_good s y new h = with_bus_good s (with_system s y).bus (new, h.bus.1) h
+
+  with_status_good : (s : State) (st : Status) → IsGood s → IsGood (with_status s st)
+  with_status_good s st h =
+      with_system_good s (with_status s st).bus.system
+      (with_status_kept (parts_kept interrupts bits) s.bus.system st h.bus.0) h
+
+  pended_good : (s : State) (x : ℕ) → IsGood s → IsGood (pended s x)
+  pended_good s x h =
+      with_system_good s (pended s x).bus.system
+      (pending_kept (parts_kept interrupts bits) s.bus.system x true h.bus.0) h
+
+  stop_good : (s : State) (why : Stop) → s.stop ≡ Some why → IsGood s → EndsGood interrupts bits s
+  stop_good s why is h = record { good = h; called = λ stop entry. some_none _ why (sym is ∙ stop) }
+
+  -- ---- faults
+
+  escalated_good : (s : State) (events : List Event) (x : ℕ) (e : Escalation) → Follows s.bus.system.nvic x e →
+      IsGood s → LeavesGood (escalated s events x e)
+  escalated_good s events x Itself f h = record { good = pended_good s x h; called = λ stop entry. f }
+  escalated_good s events x HardFault f h = record {
+    good = pended_good (with_status s _) HARD_FAULT (with_status_good s _ h);
+    called = λ stop entry. f;
+  }
+  escalated_good s events x Lockup f h = stop_good _ _ refl h
+
+  faulted_good : (s : State) (events : List Event) (f : FaultEffect) → IsFault f → IsGood s →
+      LeavesGood (faulted s events f)
+  unfolding faulted
+  faulted_good s events f is h =
+      escalated_good (recorded s f) events f.exception _
+      (escalation_follows s.bus.system.nvic f.exception h.bus.0.nvic.board.sets.pending.places is.small
+      (is.exists s.bus.system.nvic.interrupts))
+      (with_status_good s _ h)
+
+  failed_good : (why : Failure) (s : State) (events : List Event) → IsGood s → LeavesGood (failed s events why)
+  failed_good (failure.Refused access cause) s events h =
+      faulted_good s events (fault_of access cause) (access_is access.kind cause access.address) h
+  failed_good (failure.Usage fault) s events h = faulted_good s events (usage_fault_of fault) (usage_is fault) h
+  failed_good (failure.Stop why) s events h = stop_good _ _ refl h
+
+  refused_good : (s : State) (events : List Event) (x : ℕ) → EndsGood interrupts bits s →
+      LeavesGood (vector_refused s events x)
+  refused_good s events x h =
+      let after = with_status_good s (recorded s vector_fault).bus.system.status h.good in
+      cond_both (is_fixed x) _ _ LeavesGood (λ f. stop_good _ _ refl after)
+      (λ f. record {
+        good = pended_good (recorded s vector_fault) HARD_FAULT after;
+        called = λ stop entry. pending_calls s.bus.system.nvic HARD_FAULT (h.called stop entry);
       })
-  ended_good s events (ending.ChangeState o) out h =
-      out_good interrupts bits _ out
-      (with_system_good interrupts bits s _
-      (cps_kept (parts_kept interrupts bits) s.bus.system (is_privileged s.registers) o h.bus.0) h)
-  ended_good s events ending.Sleep out h = out_good interrupts bits _ out h
-  ended_good s events (ending.SupervisorCall number) out h = supervisor_good interrupts bits s events out h
-  ended_good s events (ending.Breakpoint number) out h = out_good interrupts bits _ out h
-  ended_good s events (ending.ExceptionReturn value) out h = return_good interrupts bits s events value out h
 
-  finished_good : (s : State) (events : List Event) (f : Finished) → Leaves HasRegisters f → s.entry ≡ None →
-      IsGood interrupts bits s → LeavesGood interrupts bits (finished s events f)
-  finished_good s events f new out h =
-      ended_good (with_registers s f.registers) events f.ending out
-      (with_registers_good interrupts bits s f.registers new.kept h)
+  -- ---- a tick, an access, and a handler
 
-  -- ---- its accesses
+  tick_good : (s : State) → nat_le last_tick s.bus.system.time.ticks ≡ false → EndsGood interrupts bits s
+      → EndsGood interrupts bits (ticked s)
+  tick_good s early h = record {
+    good = with_bus_good s (ticked s).bus
+        (tick_whole interrupts bits s.bus.system (is_early s.bus.system.time.ticks early) h.good.bus.0, h.good.bus.1)
+        h.good;
+    called = λ stop entry. tick_calls s.bus.system (h.called stop entry);
+  }
 
-  end_good : (s : State) (events : List Event) (i : CodedInstruction) (all : ListResult) (end : Option Failure) →
-      s.entry ≡ None → IsGood interrupts bits (with_bus s all.bus)
-      → LeavesGood interrupts bits (served s events i all end)
-  end_good s events i all None out h =
-      finished_good (with_bus s all.bus) (events ++ all.events) (result_of i s.registers all.values)
-      (result_kept writes_kept i s.registers all.values h.registers) out h
-  end_good s events i all (Some why) out h = failed_good interrupts bits (with_bus s all.bus)
-      (events ++ all.events) why h
+  after_one : (s : State) (q : Request) → FitsEntry s.entry q → EndsGood interrupts bits s
+      → EndsGood interrupts bits (after_access s q)
+  after_one s q fits h = record {
+    good = with_bus_good s _ (perform_whole interrupts bits s.registers.exception s.bus q h.good.bus) h.good;
+    called = λ stop entry.
+        rw (ap (λ (t : System). is_some (candidate t.nvic))
+        (perform_leaves s.registers.exception s.bus q (fits entry))) (h.called stop entry);
+  }
 
-  performed_good : (s : State) (events : List Event) (i : CodedInstruction) (qs : List Request) → s.entry ≡ None →
-      IsGood interrupts bits s → LeavesGood interrupts bits (performed_all s events i qs)
-  unfolding performed_all
-  performed_good s events i qs out h =
-      let all = perform_all s.registers.exception s.bus.system.time.ticks s.bus qs in
-      end_good s events i all all.failure out
-      (with_bus_good interrupts bits s all.bus
-      (served_whole interrupts bits s.registers.exception s.bus.system.time.ticks s.bus qs h.bus) h)
-
-  planned_good : (s : State) (events : List Event) (i : CodedInstruction) (asked : Result (List Request) Failure) →
-      s.entry ≡ None → IsGood interrupts bits s → LeavesGood interrupts bits (planned s events i asked)
-  planned_good s events i (Ok qs) out h = performed_good s events i qs out h
-  planned_good s events i (Err why) out h = failed_good interrupts bits s events why h
-
-  -- ---- the decoded instruction
-
-  meaningless_good : (s : State) (events : List Event) (length : InstructionLength) (fault : UsageFault) →
-      s.entry ≡ None → IsGood interrupts bits s → LeavesGood interrupts bits (without_meaning s events length fault)
-  meaningless_good s events length fault out h =
-      cond_both (condition_passed s.registers.it_state s.registers.flags) _ _ (LeavesGood interrupts bits)
-      (λ passed. failed_good interrupts bits s events (failure.Usage fault) h)
-      (λ skipped. finished_good s events (moves_on length s.registers)
-      (moves_on_kept writes_kept length s.registers h.registers) out h)
-
-  executed_good : (s : State) (events : List Event) (length : InstructionLength) (d : Decoded) → s.entry ≡ None →
-      IsGood interrupts bits s → LeavesGood interrupts bits (executed s events length d)
-  executed_good s events length (decoded.Instr i) out h = planned_good s events i _ out h
-  executed_good s events length decoded.Undefined out h = meaningless_good s events length UndefinedInstruction out h
-  executed_good s events length decoded.NoCoprocessor out h = meaningless_good s events length NoCoprocessor out h
-  executed_good s events length (decoded.Unpredictable place why) out h = out_good interrupts bits _ out h
-
-  -- ---- the fetches
-
-  -- an access
-  after_one : (s : State) (q : Request) → IsGood interrupts bits s →
-      IsGood interrupts bits (with_bus s (perform s.registers.exception s.bus q).after)
-  after_one s q h = with_bus_good interrupts bits s _
-      (perform_whole interrupts bits s.registers.exception s.bus q h.bus) h
-
-  second_good : (s : State) (events : List Event) (hw1 : ℕ) (answer : Result ℕ Failure) → s.entry ≡ None →
-      IsGood interrupts bits s → LeavesGood interrupts bits (fetched_second s events hw1 answer)
-  second_good s events hw1 (Ok hw2) out h = executed_good s events Long _ out h
-  second_good s events hw1 (Err why) out h = failed_good interrupts bits s events why h
-
-  with_second_good : (s : State) (events : List Event) (hw1 : ℕ) → s.entry ≡ None → IsGood interrupts bits s →
-      LeavesGood interrupts bits (with_second s events hw1)
-  unfolding with_second
-  with_second_good s events hw1 out h =
-      cond_both (is_long hw1) _ _ (LeavesGood interrupts bits)
-      (λ long. second_good _ _ hw1 _ out
-      (after_one s (fetch_at (word_sum s.registers.pc 2) (is_privileged s.registers)) h))
-      (λ short. executed_good s events Short _ out h)
-
-  first_good : (s : State) (events : List Event) (answer : Result ℕ Failure) → s.entry ≡ None → IsGood interrupts bits s
-      →
-      LeavesGood interrupts bits (fetched_first s events answer)
-  first_good s events (Ok hw1) out h = with_second_good s events hw1 out h
-  first_good s events (Err why) out h = failed_good interrupts bits s events why h
-
-  instruction_good : (s : State) → s.entry ≡ None → IsGood interrupts bits s
-      → LeavesGood interrupts bits (instruction s)
-  unfolding instruction
-  instruction_good s out h =
-      cond_both s.registers.thumb _ _ (LeavesGood interrupts bits)
-      (λ thumb. first_good _ _ _ out (after_one s (fetch_at s.registers.pc (is_privileged s.registers)) h))
-      (λ arm. failed_good interrupts bits s [] (failure.Usage InvalidState) h)
+  is_small : (n : Nvic) (x : ℕ) → candidate n ≡ Some x → x < EXCEPTIONS
+  is_small n x next = subst (IsBelow EXCEPTIONS) next (candidate_small n)
 
   -- ---- the step
 
-  phase_good : (s : State) (entry next : Option ℕ) → s.entry ≡ entry → candidate s.bus.system.nvic ≡ next →
-      (is_some entry ≡ true → Calls s.bus.system.nvic) → IsGood interrupts bits s →
-      LeavesGood interrupts bits (phase s entry next)
-  unfolding phase
-  phase_good s (Some e) next is is_next c h = vector_step_good interrupts bits s e (c refl) h
-  phase_good s None (Some x) is is_next c h = entry_good interrupts bits s (ap is_some is_next) h
-  phase_good s None None is is_next c h =
-      cond_both (sleeps_on s) _ _ (LeavesGood interrupts bits) (λ sleeps. out_good interrupts bits _ is h)
-      (λ wakes. instruction_good (record s { asleep = false }) is h)
+  good_rules : StepRules (λ end s events. EndsGood interrupts bits s) LeavesGood
+  good_rules = record {
+    ends = λ s events h. h;
+    stops = λ s events why h. stop_good (record s { stop = Some why }) why refl h.good;
+    fails = λ why s events entry h. failed_good why (record s { entry = entry }) events h.good;
+    failing = λ why s events h. h;
+    access = λ tick s events q fits h. after_one s q fits h;
+    line = λ s events e other h. h;
+    asleep = λ s events on h. record { good = h.good; called = h.called };
+    pending = λ s events x h. record {
+      good = pended_good s x h.good;
+      called = λ stop entry. pending_calls s.bus.system.nvic x (h.called stop entry);
+    };
+    status = λ s events st h. record { good = with_status_good s st h.good; called = h.called };
+    result = λ s events i values h.
+        with_registers_good s _ (result_kept writes_kept i s.registers values h.good.registers).kept h;
+    moved = λ s events length h.
+        with_registers_good s _ (moves_on_kept writes_kept length s.registers h.good.registers).kept h;
+    special_read = λ s events o h.
+        with_registers_good s _ (register_kept writes_kept s.registers o.destination _ h.good.registers) h;
+    special_written = λ s events special value out h. record {
+      good = record {
+        registers = write_special_kept s.registers special value h.good.registers;
+        bus = (
+          msr_kept (parts_kept interrupts bits) s.bus.system (is_privileged s.registers) special value h.good.bus.0,
+          h.good.bus.1,
+        );
+      };
+      called = λ stop entry. none _ _ out entry;
+    };
+    state_changed = λ s events o out h. record {
+      good = with_system_good s _
+          (cps_kept (parts_kept interrupts bits) s.bus.system (is_privileged s.registers) o h.good.bus.0) h.good;
+      called = λ stop entry. none _ _ out entry;
+    };
+    entry = λ s events e x next h. record { good = h.good; called = λ stop entry. ap is_some next };
+    stacked = λ end s events h. record {
+      good = record {
+        registers = sp_kept writes_kept s.registers (frame_base (sp s.registers)) h.good.registers;
+        bus = h.good.bus;
+      };
+      called = h.called;
+    };
+    refused = λ s events x access cause kind h. refused_good s events x h;
+    handler = λ n s events x e vector next h. record {
+      good = record {
+        registers = handler_kept s.registers x e vector (is_small n x next) h.good.registers;
+        bus = (begun_kept (parts_kept interrupts bits) s.bus.system x h.good.bus.0, h.good.bus.1);
+      };
+      called = λ stop entry. absurd (let w : ⊥ = cc in w);
+    };
+    deactivated = λ s events out h. record {
+      good = with_system_good s _
+          (ended_kept (parts_kept interrupts bits) s.bus.system s.registers.exception h.good.bus.0) h.good;
+      called = λ stop entry. none _ _ out entry;
+    };
+    unstacked = λ s events e frame even h.
+        with_registers_good s _ (popped_kept s.registers e frame even h.good.registers) h;
+  }
 
-  tick_calls : (s : System) → Calls s.nvic → Calls (after_tick s).nvic
-  unfolding after_tick
-  tick_calls s c = pended_calls s.nvic (tick_pends s.time) c
-
-  running_good : (s : State) → s.stop ≡ None → IsCalled s → IsGood interrupts bits s
-      → LeavesGood interrupts bits (running s)
-  running_good s going c h =
-      cond_both (nat_le last_tick s.bus.system.time.ticks) _ _ (LeavesGood interrupts bits)
-      (λ late. record { good = h; called = λ stop entry. some_none _ _ stop })
-      (λ early. phase_good (ticked s) s.entry _ refl refl (λ entering. tick_calls s.bus.system (c going entering))
-      (with_bus_good interrupts bits s (ticked s).bus
-      (tick_whole interrupts bits s.bus.system (is_early s.bus.system.time.ticks early) h.bus.0, h.bus.1) h))
-
-  stopped_good : (s : State) (why : Option Stop) → s.stop ≡ why → IsCalled s → IsGood interrupts bits s →
-      LeavesGood interrupts bits (unless_stopped s why)
-  stopped_good s None is c h = running_good s is c h
-  stopped_good s (Some why) is c h = record { good = h; called = c }
-
-  pub step_good : (s : State) → IsCalled s → IsGood interrupts bits s → LeavesGood interrupts bits (step s)
-  unfolding step
-  step_good s c h = stopped_good s s.stop refl c h
+  pub step_good : (s : State) → EndsGood interrupts bits s → LeavesGood (step s)
+  step_good s h = step_keeps good_rules s h (λ early. tick_good s early h)

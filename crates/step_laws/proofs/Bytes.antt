@@ -1,27 +1,24 @@
--- One access, and a list of them.
+-- Memory changes only where a store or a push of the step covers it: one access does so, and no other change of the bus
+-- touches memory.
 use Rattle.std.proofs.Common.{◌≡◌, inl, inr, ℕ, ◌+◌, nat_le, nat_lt, Bool, true, false, ◌&&◌, ◌||◌}
-use Rattle.std.proofs.Common.{List, [], ◌∷◌, length, Option, Some, None, Result, Ok, Err, refl, arith}
+use Rattle.std.proofs.Common.{[], ◌∷◌, length, refl, arith}
 use Rattle.std.proofs.lemmas.Bool.{cond_both}
 use Rattle.std.proofs.lemmas.Bool.Decides.{nat_tests}
 use Rattle.instruction_set.specs.Sizes.{bytes_in}
-use Rattle.platform.specs.declared.access.Performed.{Performed}
-use Rattle.platform.specs.declared.access.Performed.TheVariants as performed
 use Rattle.platform.specs.declared.access.Request.{Request}
 use Rattle.platform.specs.declared.access.Rule.{Rule}
-use Rattle.platform.specs.declared.event.Event.{Event}
-use Rattle.reference.specs.declared.failure.Failure.{Failure}
-use Rattle.reference.specs.Accesses.{ListResult, carried_out, decision, perform, accessed, console_line, access_lines}
-use Rattle.reference.specs.Accesses.{value_of, followed, perform_all}
+use Rattle.reference.specs.Accesses.{access_lines, carried_out, decision, perform}
 use Rattle.platform.specs.Kinds.{is_probe, is_write}
 use Rattle.platform.specs.Map.{is_in_ppb, is_in_window}
 use Rattle.platform.specs.Memory.{Memory, is_in_ram, bytes_of, overwritten}
 use Rattle.platform.specs.Outcomes.{Outcome, done, within}
 use Rattle.platform.specs.Space.{written_to, space_access}
-use Rattle.reference.specs.State.{Bus}
-use Rattle.step_laws.specs.AccessLaw.{NoneRefused, are_covering, OnlyCovered}
+use Rattle.reference.specs.State.{Bus, State}
+use Rattle.reference.specs.Step.{step}
+use Rattle.step_laws.specs.AccessLaw.{are_covering, OnlyCovered}
 use Rattle.space.proofs.Blocks.{IsOutside, blocks_kept, length-bytes_of}
-use Rattle.step_laws.proofs.Lines.{unrefused-nil, unrefused-cons, EndIn, failure_in, ends-append}
-use Rattle.step_laws.proofs.Lines.{covered-append, covered-same}
+use Rattle.step_laws.proofs.BusRules.{BusRules, bus_keeps}
+use Rattle.step_laws.proofs.Lines.{covered-append, covered-more, covered-same}
 
 -- ---- the bytes of one access
 
@@ -90,46 +87,17 @@ perform_writes exception tick b q =
     cond_both (decision b q).granted _ _ (BusWrites tick q b)
     (λ e. carried_writes exception tick b q (decision b q).rule) (λ e. covered-same _ _)
 
--- ---- the lines of one access
+-- ---- the step
 
-console_unrefused : (tick : ℕ) (sent : Option ℕ) → NoneRefused (console_line tick sent)
-console_unrefused tick (Some byte) = unrefused-cons _ [] refl unrefused-nil
-console_unrefused tick None = unrefused-nil
-
--- the lines of an access end as it does
-pub shown_ends : (tick : ℕ) (q : Request) (p : Performed) → EndIn (failure_in (value_of q p)) (access_lines tick q p)
-shown_ends tick q (performed.Done access) = unrefused-cons _ _ refl (console_unrefused tick access.sent)
-shown_ends tick q (performed.Denied rule cause) = record {
-  unrefused = [];
-  refused = accessed tick q rule (Some cause);
-  rule = rule;
-  events_are = refl;
-  none_refused = unrefused-nil;
-  is_refusal = refl;
+covered_rules : (old : Memory) → BusRules (λ b events. OnlyCovered old b.memory events)
+covered_rules old = record {
+  access = λ x tick b events q only.
+      covered-append old b.memory (perform x b q).after.memory events _ only (perform_writes x tick b q);
+  nvic = λ b events n only. only;
+  status = λ b events st only. only;
+  line = λ b events e other only. covered-more old b.memory events (e ∷ []) only;
 }
-shown_ends tick q (performed.Stop why) = unrefused-nil
 
--- ---- a list of accesses
-
--- what a list of accesses leaves, from a memory on
-pub record ServedWell (old : Memory) (all : ListResult) : Type 0 where
-  pub ends : EndIn all.failure all.events
-  pub only : OnlyCovered old all.bus.memory all.events
-
-followed_well : (old : Memory) (events : List Event) (after : Bus) (value : Result ℕ Failure) (rest : ListResult) →
-    EndIn (failure_in value) events → OnlyCovered old after.memory events → ServedWell after.memory rest →
-    ServedWell old (followed events after value rest)
-followed_well old events after (Ok value) rest ends only well = record {
-  ends = ends-append rest.failure events rest.events ends well.ends;
-  only = covered-append old after.memory rest.bus.memory events rest.events only well.only;
-}
-followed_well old events after (Err why) rest ends only well = record { ends = ends; only = only }
-
-pub served_well : (exception tick : ℕ) (b : Bus) (qs : List Request) →
-    ServedWell b.memory (perform_all exception tick b qs)
-unfolding perform_all
-served_well exception tick b [] = record { ends = unrefused-nil; only = covered-same b.memory [] }
-served_well exception tick b (q ∷ qs) =
-    followed_well b.memory _ _ _ _ (shown_ends tick q (perform exception b q).performed)
-    (perform_writes exception tick b q)
-    (served_well exception tick (perform exception b q).after qs)
+pub step_covered : (s : State) → OnlyCovered s.bus.memory (step s).state.bus.memory (step s).events
+step_covered s =
+    let same = covered-same s.bus.memory [] in bus_keeps (covered_rules s.bus.memory) s same same

@@ -1,14 +1,15 @@
--- A failure: what it leaves of the lines, and the line of its fault.
+-- At most one access of a step is refused: how a step ends by a failure, and the line of its fault.
 --
--- - A phase begins with `MayGoOn` (memory as the lines so far say, and none of them a refusal) and ends the step with
---   `IsLawful`.
+-- - Inside a step no line is of a refused access (`NoneRefused`), and after an access they end as it did (`EndIn`).
 -- - `line_of` and `forced_line` say what the line of a fault shows: the bits that were set for it, FORCED where it
 --   escalated.
 -- - A failure without an access adds the line of its fault to lines without a refusal (`fault_unrefused`); one of an
 --   access adds it right after the refusal (`refusal_ends`). Both are then carried through escalation
---   (`escalated_..`), the record of the fault (`faulted_..`) and `failed`; a vector and SVC have lemmas of their own.
-use Rattle.std.proofs.Common.{◌≡◌, ◌⊎◌, inl, inr, ℕ, Bool, true, false, if◌then◌else◌, List, [], ◌∷◌, ◌++◌, bit_and}
-use Rattle.std.proofs.Common.{bit_or, Some, None, refl, sym, ◌∙◌, ap, subst, append_assoc}
+--   (`escalated_..`), the record of the fault (`faulted_..`) and `failed`; a vector has a lemma of its own.
+-- - `refusal_rules` is the instance of the walk: no other change of a step looks at lines.
+use Rattle.std.proofs.Common.{◌≡◌, ◌⊎◌, inl, inr, ℕ, false, List, [], ◌∷◌, ◌++◌, bit_and, bit_or, Option, Some, None}
+use Rattle.std.proofs.Common.{refl, ◌∙◌, ap, append_assoc}
+use Rattle.std.proofs.lemmas.Bool.{cond_both}
 use Rattle.std.proofs.lemmas.Nat.{and_or_self, and_or_apart}
 use Rattle.std.specs.Int.Bits.{or_zero_r}
 use Rattle.platform.specs.declared.access.Access.{Access}
@@ -16,72 +17,61 @@ use Rattle.platform.specs.declared.access.Cause.{Cause}
 use Rattle.platform.specs.declared.access.Cause.TheVariants.{Mpu, Bus}
 use Rattle.platform.specs.declared.access.Kind.{Kind}
 use Rattle.platform.specs.declared.access.Kind.TheVariants.{Fetch, Load, Store, Push, Pop, Vector, Probe}
+use Rattle.platform.specs.declared.access.Performed.{Performed}
+use Rattle.platform.specs.declared.access.Performed.TheVariants as performed
+use Rattle.platform.specs.declared.access.Request.{Request}
 use Rattle.platform.specs.declared.event.Event.{Event}
 use Rattle.platform.specs.declared.event.EventKind.{EventKind}
 use Rattle.platform.specs.declared.event.RecordedFault.{RecordedFault}
 use Rattle.platform.specs.declared.exception.Escalation.{Escalation}
 use Rattle.platform.specs.declared.exception.Escalation.TheVariants.{Itself, HardFault, Lockup}
-use Rattle.platform.specs.declared.exception.TheConstants.{HARD_FAULT, SV_CALL}
-use Rattle.reference.specs.declared.failure.Failure.{Failure}
-use Rattle.reference.specs.declared.failure.Failure.TheVariants as failure
+use Rattle.platform.specs.declared.exception.TheConstants.{HARD_FAULT}
 use Rattle.platform.specs.declared.fault_status.FaultAddress.{FaultAddress}
 use Rattle.platform.specs.declared.fault_status.FaultAddress.TheVariants.{NotKept, Mmfar, Bfar}
 use Rattle.platform.specs.declared.fault_status.FaultEffect.{FaultEffect}
 use Rattle.platform.specs.declared.fault_status.TheConstants.{FORCED}
 use Rattle.platform.specs.Events.{access_of, is_refused}
-use Rattle.reference.specs.Faults.{access_fault, fault_of, usage_fault_of, vector_fault, with_fault_address, recorded}
-use Rattle.reference.specs.Faults.{fault_line, with_status, pended_by_fault, locked_up, escalated, faulted, failed}
-use Rattle.reference.specs.Faults.{supervisor_called_by, supervisor_called}
-use Rattle.platform.specs.Memory.{Memory}
-use Rattle.reference.specs.ExceptionEntry.{vector_refused}
 use Rattle.platform.specs.Priorities.{is_fixed}
-use Rattle.reference.specs.State.{State, Stepped}
 use Rattle.platform.specs.Status.{Status, with_fault_bits}
-use Rattle.step_laws.specs.AccessLaw.{NoneRefused, IsLineOf, EndsRefused, OneRefusal, OnlyCovered}
-use Rattle.step_laws.proofs.Lines.{unrefused-nil, unrefused-cons, unrefused-append, LastRefused, EndIn, covered-more}
-use Rattle.step_laws.proofs.Lines.{covered-same}
+use Rattle.reference.specs.declared.failure.Failure.{Failure}
+use Rattle.reference.specs.declared.failure.Failure.TheVariants as failure
+use Rattle.reference.specs.Accesses.{access_lines, accessed, console_line, perform, value_of}
+use Rattle.reference.specs.ExceptionEntry.{vector_refused}
+use Rattle.reference.specs.Faults.{access_fault, escalated, failed, fault_line, fault_of, faulted, recorded}
+use Rattle.reference.specs.Faults.{usage_fault_of, vector_fault, with_fault_address, with_status}
+use Rattle.reference.specs.State.{State, Stepped}
+use Rattle.reference.specs.Step.{step}
+use Rattle.step_laws.specs.AccessLaw.{NoneRefused, IsLineOf, EndsRefused, OneRefusal}
+use Rattle.step_laws.proofs.Lines.{unrefused-nil, unrefused-cons, unrefused-append, LastRefused, EndIn, ends-append}
+use Rattle.step_laws.proofs.StepRules.{StepRules, failure_in, step_keeps}
 
--- what holds of a step that began with this memory
-pub record IsLawful (old : Memory) (step : Stepped) : Type 0 where
-  pub one_refusal : OneRefusal step.events
-  pub only_covered : OnlyCovered old step.state.bus.memory step.events
+-- ---- the lines of an access, and other lines
 
--- lines without a refusal, and memory differs from the old one only where they say
-pub record AreOpen (old new : Memory) (events : List Event) : Type 0 where
-  pub unrefused : NoneRefused events
-  pub only : OnlyCovered old new events
+console_unrefused : (tick : ℕ) (sent : Option ℕ) → NoneRefused (console_line tick sent)
+console_unrefused tick (Some byte) = unrefused-cons _ [] refl unrefused-nil
+console_unrefused tick None = unrefused-nil
 
--- a phase may go on with these lines
-abbrev pub MayGoOn : Memory → State → List Event → Type 0
-MayGoOn old s events = AreOpen old s.bus.memory events
-
--- the first phase may
-pub at_first : (old : Memory) (s : State) → s.bus.memory ≡ old → MayGoOn old s []
-at_first old s e =
-    record { unrefused = unrefused-nil; only = subst (λ m. OnlyCovered old m []) (sym e) (covered-same old []) }
+-- the lines of an access end as it does
+shown_ends : (tick : ℕ) (q : Request) (p : Performed) → EndIn (failure_in (value_of q p)) (access_lines tick q p)
+shown_ends tick q (performed.Done access) = unrefused-cons _ _ refl (console_unrefused tick access.sent)
+shown_ends tick q (performed.Denied rule cause) = inr (record {
+  unrefused = [];
+  refused = accessed tick q rule (Some cause);
+  rule = rule;
+  events_are = refl;
+  none_refused = unrefused-nil;
+  is_refusal = refl;
+})
+shown_ends tick q (performed.Stop why) = unrefused-nil
 
 -- an event that is no access isn't a refused one
 unrefused_other : (what : EventKind) → access_of what ≡ None → is_refused what ≡ false
 unrefused_other what other = rw other refl
 
--- a line that is of no access may be added
-pub line_added : (old new : Memory) (events : List Event) (e : Event) → access_of e.what ≡ None →
-    AreOpen old new events → AreOpen old new (events ++ e ∷ [])
-line_added old new events e other ready = record {
-  unrefused =
-      unrefused-append events (e ∷ []) ready.unrefused
-      (unrefused-cons e [] (unrefused_other e.what other) unrefused-nil);
-  only = covered-more old new events (e ∷ []) ready.only;
-}
-
--- a step that ends here
-pub goes_on_lawful : (old : Memory) (s : State) (events : List Event) → MayGoOn old s events →
-    IsLawful old (record { state = s; events = events })
-goes_on_lawful old s events ready = record { one_refusal = inl ready.unrefused; only_covered = ready.only }
-
--- a step may end without a failure, with lines of its own that are of no access: so a proof of such an end, `search
--- ends`, names none of its lines
-pub ruleset ends = (goes_on_lawful, line_added)
+line_added : (events : List Event) (e : Event) → access_of e.what ≡ None → NoneRefused events
+    → NoneRefused (events ++ e ∷ [])
+line_added events e other unrefused =
+    unrefused-append events (e ∷ []) unrefused (unrefused-cons e [] (unrefused_other e.what other) unrefused-nil)
 
 -- ---- the line of a fault
 
@@ -155,9 +145,8 @@ forced_line s f apart = record {
 
 -- unrefused lines, and the line of a fault
 fault_unrefused : (s : State) (events : List Event) (x : ℕ) → NoneRefused events →
-    NoneRefused (events ++ fault_line s x ∷ [])
-fault_unrefused s events x unrefused =
-    unrefused-append events (fault_line s x ∷ []) unrefused (unrefused-cons (fault_line s x) [] refl unrefused-nil)
+    OneRefusal (events ++ fault_line s x ∷ [])
+fault_unrefused s events x unrefused = inl (line_added events (fault_line s x) refl unrefused)
 
 -- lines whose last is the refusal of an access, and the line of its fault
 refusal_ends : (access : Access) (cause : Cause) (s : State) (events : List Event) (x : ℕ) →
@@ -182,76 +171,51 @@ refusal_ends access cause s events x last line = record {
 
 -- ---- failures
 
+-- at most one access of a step was refused
+abbrev HasOneRefusal : Stepped → Type 0
+HasOneRefusal r = OneRefusal r.events
+
 -- a fault after unrefused lines
-escalated_unrefused : (old : Memory) (s : State) (events : List Event) (x : ℕ) (e : Escalation) →
-    MayGoOn old s events → IsLawful old (escalated s events x e)
-escalated_unrefused old s events x Itself ready = record {
-  one_refusal = inl (fault_unrefused s events x ready.unrefused);
-  only_covered = covered-more old s.bus.memory events _ ready.only;
-}
-escalated_unrefused old s events x HardFault ready = record {
-  one_refusal = inl (fault_unrefused (with_forced s) events HARD_FAULT ready.unrefused);
-  only_covered = covered-more old s.bus.memory events _ ready.only;
-}
-escalated_unrefused old s events x Lockup ready = record {
-  one_refusal = inl (fault_unrefused s events 0 ready.unrefused);
-  only_covered = covered-more old s.bus.memory events _ ready.only;
-}
+escalated_unrefused : (s : State) (events : List Event) (x : ℕ) (e : Escalation) → NoneRefused events →
+    HasOneRefusal (escalated s events x e)
+escalated_unrefused s events x Itself unrefused = fault_unrefused s events x unrefused
+escalated_unrefused s events x HardFault unrefused = fault_unrefused (with_forced s) events HARD_FAULT unrefused
+escalated_unrefused s events x Lockup unrefused = fault_unrefused s events 0 unrefused
 
 -- a fault by a refused access
-escalated_refused : (old : Memory) (s : State) (events : List Event) (access : Access) (cause : Cause)
-    (e : Escalation) → LastRefused access cause events → OnlyCovered old s.bus.memory events →
-    IsLawful old (escalated (recorded s (fault_of access cause)) events (fault_of access cause).exception e)
-escalated_refused old s events access cause Itself last only = record {
-  one_refusal =
-      inr
-      (refusal_ends access cause (recorded s (fault_of access cause)) events _ last
-      (line_of s (fault_of access cause) _ (inl refl)));
-  only_covered = covered-more old s.bus.memory events _ only;
-}
-escalated_refused old s events access cause HardFault last only = record {
-  one_refusal =
-      inr
-      (refusal_ends access cause (with_forced (recorded s (fault_of access cause))) events HARD_FAULT last
-      (forced_line s (fault_of access cause) (access_apart access.kind cause access.address)));
-  only_covered = covered-more old s.bus.memory events _ only;
-}
-escalated_refused old s events access cause Lockup last only = record {
-  one_refusal =
-      inr
-      (refusal_ends access cause (recorded s (fault_of access cause)) events 0 last
-      (line_of s (fault_of access cause) 0 (inr (inr refl))));
-  only_covered = covered-more old s.bus.memory events _ only;
-}
+escalated_refused : (s : State) (events : List Event) (access : Access) (cause : Cause) (e : Escalation) →
+    LastRefused access cause events →
+    HasOneRefusal (escalated (recorded s (fault_of access cause)) events (fault_of access cause).exception e)
+escalated_refused s events access cause Itself last =
+    inr
+    (refusal_ends access cause (recorded s (fault_of access cause)) events _ last
+    (line_of s (fault_of access cause) _ (inl refl)))
+escalated_refused s events access cause HardFault last =
+    inr
+    (refusal_ends access cause (with_forced (recorded s (fault_of access cause))) events HARD_FAULT last
+    (forced_line s (fault_of access cause) (access_apart access.kind cause access.address)))
+escalated_refused s events access cause Lockup last =
+    inr
+    (refusal_ends access cause (recorded s (fault_of access cause)) events 0 last
+    (line_of s (fault_of access cause) 0 (inr (inr refl))))
 
-faulted_unrefused : (old : Memory) (s : State) (events : List Event) (f : FaultEffect) → MayGoOn old s events →
-    IsLawful old (faulted s events f)
+faulted_unrefused : (s : State) (events : List Event) (f : FaultEffect) → NoneRefused events →
+    HasOneRefusal (faulted s events f)
 unfolding faulted
-faulted_unrefused old s events f ready =
-    escalated_unrefused old (recorded s f) events f.exception _
-    (record { unrefused = ready.unrefused; only = ready.only })
+faulted_unrefused s events f unrefused = escalated_unrefused (recorded s f) events f.exception _ unrefused
 
-faulted_refused : (old : Memory) (s : State) (events : List Event) (access : Access) (cause : Cause) →
-    LastRefused access cause events → OnlyCovered old s.bus.memory events →
-    IsLawful old (faulted s events (fault_of access cause))
+faulted_refused : (s : State) (events : List Event) (access : Access) (cause : Cause) →
+    LastRefused access cause events → HasOneRefusal (faulted s events (fault_of access cause))
 unfolding faulted
-faulted_refused old s events access cause last only = escalated_refused old s events access cause _ last only
+faulted_refused s events access cause last = escalated_refused s events access cause _ last
 
--- a failure that isn't of an access
-pub failed_unrefused : (old : Memory) (s : State) (events : List Event) (why : Failure) → MayGoOn old s events →
-    IsLawful old (failed s events why)
-failed_unrefused old s events (failure.Refused access cause) ready =
-    faulted_unrefused old s events (fault_of access cause) ready
-failed_unrefused old s events (failure.Usage fault) ready = faulted_unrefused old s events (usage_fault_of fault) ready
-failed_unrefused old s events (failure.Stop why) ready = search ends
-
--- a failure of an access
-pub failed_lawful : (old : Memory) (s : State) (events : List Event) (why : Failure) → EndIn (Some why) events →
-    OnlyCovered old s.bus.memory events → IsLawful old (failed s events why)
-failed_lawful old s events (failure.Refused access cause) end only = faulted_refused old s events access cause end only
-failed_lawful old s events (failure.Usage fault) end only =
-    faulted_unrefused old s events (usage_fault_of fault) (record { unrefused = end; only = only })
-failed_lawful old s events (failure.Stop why) end only = record { one_refusal = inl end; only_covered = only }
+failed_refusal : (why : Failure) (s : State) (events : List Event) → EndIn (Some why) events →
+    HasOneRefusal (failed s events why)
+failed_refusal (failure.Refused access cause) s events (inl none) =
+    faulted_unrefused s events (fault_of access cause) none
+failed_refusal (failure.Refused access cause) s events (inr last) = faulted_refused s events access cause last
+failed_refusal (failure.Usage fault) s events none = faulted_unrefused s events (usage_fault_of fault) none
+failed_refusal (failure.Stop why) s events none = inl none
 
 -- the vector of an exception was refused
 vector_line : (s : State) (access : Access) (cause : Cause) (x : ℕ) → access.kind ≡ Vector →
@@ -260,39 +224,53 @@ vector_line : (s : State) (access : Access) (cause : Cause) (x : ℕ) → access
 vector_line s access Mpu x kind which = rw kind (line_of s vector_fault x which)
 vector_line s access Bus x kind which = rw kind (line_of s vector_fault x which)
 
-vector_ends : (old : Memory) (s : State) (events : List Event) (access : Access) (cause : Cause) (fixed : Bool) →
-    access.kind ≡ Vector → LastRefused access cause events → OnlyCovered old s.bus.memory events →
-    IsLawful old (if fixed then locked_up (recorded s vector_fault) events
-    else pended_by_fault (recorded s vector_fault) events HARD_FAULT)
-vector_ends old s events access cause true kind last only = record {
-  one_refusal =
-      inr
-      (refusal_ends access cause (recorded s vector_fault) events 0 last
-      (vector_line s access cause 0 kind (inr (inr refl))));
-  only_covered = covered-more old s.bus.memory events _ only;
+vector_refusal : (s : State) (events : List Event) (x : ℕ) (access : Access) (cause : Cause) → access.kind ≡ Vector →
+    EndIn (Some (failure.Refused access cause)) events → HasOneRefusal (vector_refused s events x)
+vector_refusal s events x access cause kind (inl none) =
+    cond_both (is_fixed x) _ _ HasOneRefusal (λ fixed. fault_unrefused (recorded s vector_fault) events 0 none)
+    (λ other. fault_unrefused (recorded s vector_fault) events HARD_FAULT none)
+vector_refusal s events x access cause kind (inr last) =
+    cond_both (is_fixed x) _ _ HasOneRefusal
+    (λ fixed. inr
+    (refusal_ends access cause (recorded s vector_fault) events 0 last
+    (vector_line s access cause 0 kind (inr (inr refl)))))
+    (λ other. inr
+    (refusal_ends access cause (recorded s vector_fault) events HARD_FAULT last
+    (vector_line s access cause HARD_FAULT kind (inl refl))))
+
+-- ---- the step
+
+-- a failure of no access
+failing_ends : (why : Failure) (events : List Event) → NoneRefused events → EndIn (Some why) events
+failing_ends (failure.Refused access cause) events none = inl none
+failing_ends (failure.Usage fault) events none = none
+failing_ends (failure.Stop why) events none = none
+
+refusal_rules : StepRules (λ end s events. EndIn end events) HasOneRefusal
+refusal_rules = record {
+  ends = λ s events none. inl none;
+  stops = λ s events why none. inl none;
+  fails = λ why s events entry. failed_refusal why (record s { entry = entry }) events;
+  failing = λ why s events none. failing_ends why events none;
+  access = λ tick s events q fits none.
+      ends-append (failure_in (value_of q (perform s.registers.exception s.bus q).performed)) events _ none
+      (shown_ends tick q (perform s.registers.exception s.bus q).performed);
+  line = λ s events e other none. line_added events e other none;
+  asleep = λ s events on none. none;
+  pending = λ s events x none. none;
+  status = λ s events st none. none;
+  result = λ s events i values none. none;
+  moved = λ s events length none. none;
+  special_read = λ s events o none. none;
+  special_written = λ s events special value out none. none;
+  state_changed = λ s events o out none. none;
+  entry = λ s events e x next none. none;
+  stacked = λ end s events ends. ends;
+  refused = vector_refusal;
+  handler = λ n s events x e vector next none. none;
+  deactivated = λ s events out none. none;
+  unstacked = λ s events e frame even none. none;
 }
-vector_ends old s events access cause false kind last only = record {
-  one_refusal =
-      inr
-      (refusal_ends access cause (recorded s vector_fault) events HARD_FAULT last
-      (vector_line s access cause HARD_FAULT kind (inl refl)));
-  only_covered = covered-more old s.bus.memory events _ only;
-}
 
-pub vector_refused_lawful : (old : Memory) (s : State) (events : List Event) (x : ℕ) (access : Access)
-    (cause : Cause) → access.kind ≡ Vector → LastRefused access cause events → OnlyCovered old s.bus.memory events →
-    IsLawful old (vector_refused s events x)
-vector_refused_lawful old s events x access cause kind last only =
-    vector_ends old s events access cause (is_fixed x) kind last only
-
--- SVC
-called_lawful : (old : Memory) (s : State) (events : List Event) (e : Escalation) → MayGoOn old s events →
-    IsLawful old (supervisor_called_by s events e)
-called_lawful old s events Itself ready = search ends
-called_lawful old s events HardFault ready = escalated_unrefused old s events SV_CALL HardFault ready
-called_lawful old s events Lockup ready = escalated_unrefused old s events SV_CALL Lockup ready
-
-pub supervisor_lawful : (old : Memory) (s : State) (events : List Event) → MayGoOn old s events →
-    IsLawful old (supervisor_called s events)
-unfolding supervisor_called
-supervisor_lawful old s events ready = called_lawful old s events _ ready
+pub step_refusal : (s : State) → OneRefusal (step s).events
+step_refusal s = step_keeps refusal_rules s unrefused-nil (λ early. unrefused-nil)

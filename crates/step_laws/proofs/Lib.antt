@@ -1,8 +1,9 @@
+pub mod StepRules
+pub mod BusRules
 mod Lines
 mod Bytes
 mod Faults
-mod Exceptions
-mod Steps
+pub mod Regions
 mod Words
 mod Frames
 pub mod Stored

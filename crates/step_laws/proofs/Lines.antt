@@ -1,5 +1,5 @@
 -- The lines of accesses, one after another.
-use Rattle.std.proofs.Common.{◌≡◌, ℕ, ◌+◌, false, List, [], ◌∷◌, ◌++◌, Option, Some, None, Result, Ok, Err}
+use Rattle.std.proofs.Common.{◌≡◌, ◌⊎◌, inl, inr, ℕ, ◌+◌, false, List, [], ◌∷◌, ◌++◌, Option, Some, None}
 use Rattle.std.proofs.Common.{refl, sym, ◌∙◌, ap, subst, append_assoc}
 use Rattle.std.proofs.lemmas.List.Elements.{All-nil, All-cons, All-append}
 use Rattle.std.proofs.lemmas.List.Folds.{list_any-append}
@@ -36,16 +36,12 @@ pub record LastRefused (access : Access) (cause : Cause) (events : List Event) :
   pub none_refused : NoneRefused unrefused
   pub is_refusal : refused.what ≡ Accessed (record { access = access; rule = rule; refused = Some cause })
 
--- lines that end in a failure, or in none
+-- lines that may go on, or that end in a failure: the refusal of an access is the last of them, if an access failed
 abbrev pub EndIn : Option Failure → List Event → Type 0
 EndIn None events = NoneRefused events
-EndIn (Some (Refused access cause)) events = LastRefused access cause events
+EndIn (Some (Refused access cause)) events = NoneRefused events ⊎ LastRefused access cause events
 EndIn (Some (Usage fault)) events = NoneRefused events
 EndIn (Some (Stop why)) events = NoneRefused events
-
-abbrev pub failure_in : Result ℕ Failure → Option Failure
-failure_in (Ok value) = None
-failure_in (Err why) = Some why
 
 last-append : (access : Access) (cause : Cause) (xs ys : List Event) → NoneRefused xs →
     LastRefused access cause ys → LastRefused access cause (xs ++ ys)
@@ -62,7 +58,8 @@ last-append access cause xs ys before last = record {
 pub ends-append : (failure : Option Failure) (xs ys : List Event) → NoneRefused xs → EndIn failure ys →
     EndIn failure (xs ++ ys)
 ends-append None xs ys before end = unrefused-append xs ys before end
-ends-append (Some (Refused access cause)) xs ys before end = last-append access cause xs ys before end
+ends-append (Some (Refused access cause)) xs ys before (inl end) = inl (unrefused-append xs ys before end)
+ends-append (Some (Refused access cause)) xs ys before (inr end) = inr (last-append access cause xs ys before end)
 ends-append (Some (Usage fault)) xs ys before end = unrefused-append xs ys before end
 ends-append (Some (Stop why)) xs ys before end = unrefused-append xs ys before end
 

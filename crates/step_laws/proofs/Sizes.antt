@@ -1,6 +1,6 @@
 -- Flash and RAM keep their places and sizes, in a step and where something comes from outside.
-use Rattle.std.proofs.Common.{◌≡◌, ℕ, Bool, true, false, not, ◌&&◌, ◌||◌, if◌then◌else◌, is_some, List, [], ◌∷◌, length}
-use Rattle.std.proofs.Common.{Option, Some, None, Result, Ok, Err, refl, sym, ◌∙◌}
+use Rattle.std.proofs.Common.{◌≡◌, ℕ, Bool, true, false, not, ◌&&◌, ◌||◌, is_some}
+use Rattle.std.proofs.Common.{Option, Some, None, refl, sym, ◌∙◌}
 use Rattle.std.proofs.lemmas.Bool.{cond_both}
 use Rattle.instruction_set.specs.declared.system.SpecialRegister.{SpecialRegister}
 use Rattle.instruction_set.specs.Registers.{is_handler}
@@ -8,21 +8,19 @@ use Rattle.instruction_set.specs.RowOperands.{special_of}
 use Rattle.platform.specs.declared.access.Performed.{Performed}
 use Rattle.platform.specs.declared.access.Performed.TheVariants as performed
 use Rattle.platform.specs.declared.access.Rule.TheVariants.{PrivatePeripheralBus}
-use Rattle.platform.specs.declared.error.PlaceError.{PlaceError}
 use Rattle.platform.specs.declared.script.Signal.{Signal}
 use Rattle.platform.specs.Map.{is_in_ppb}
-use Rattle.platform.specs.Memory.{Memory, bytes_of, is_in_flash, is_in_ram, overwritten}
-use Rattle.platform.specs.Outcomes.{Outcome}
+use Rattle.platform.specs.Memory.{Memory, bytes_of, is_in_flash, is_in_ram}
 use Rattle.reference.specs.declared.place.Place.{Place}
 use Rattle.reference.specs.declared.place.Place.TheVariants.{Reg, Special, Word}
 use Rattle.reference.specs.Accesses.{carried_out}
 use Rattle.reference.specs.Places.{altered, is_plain, is_there, is_wired, is_word_aligned, register_taken, signalled}
-use Rattle.reference.specs.Places.{special_taken, store_of, stored_in_ppb, taken}
+use Rattle.reference.specs.Places.{special_taken, store_of, taken}
 use Rattle.reference.specs.State.{Bus, State}
 use Rattle.reference.specs.Step.{step}
-use Rattle.space.proofs.Blocks.{MemoryKept, length-bytes_of, memory_kept}
+use Rattle.space.proofs.Blocks.{MemoryKept, memory_kept}
 use Rattle.space.specs.Sizes.{HaveSameSizes}
-use Rattle.step_laws.proofs.Steps.{step_lawful}
+use Rattle.step_laws.proofs.Bytes.{step_covered}
 use Rattle.step_laws.specs.SizeLaw.{KeepsSizes}
 
 pub sizes_refl : (m : Memory) → HaveSameSizes m m
@@ -40,7 +38,7 @@ sizes_trans m k l h i = record {
 
 pub step_sizes : (s : State) → HaveSameSizes s.bus.memory (step s).state.bus.memory
 step_sizes s =
-    let only = (step_lawful s).only_covered in
+    let only = step_covered s in
     record { flash_base = only.flash_base; flash = only.flash.size; ram = only.ram.size }
 
 -- ---- values that are put

@@ -2,5 +2,6 @@
 pub use Rattle.reference.specs.Step
 pub mod AccessLaw
 pub mod FrameLaw
+pub mod RegionLaw
 pub mod SignalLaw
 pub mod SizeLaw

@@ -13,6 +13,7 @@ ghost use Rattle.reference.specs.Step.{step};
 ghost use Rattle.step_laws.specs.AccessLaw.{OneRefusal, OnlyCovered};
 ghost use Rattle.space.specs.Sizes.{HaveSameSizes};
 ghost use Rattle.step_laws.specs.FrameLaw.{FrameGivesBack, ReturnGivesBack};
+ghost use Rattle.step_laws.specs.RegionLaw.{RegionsStay};
 ghost use Rattle.step_laws.specs.SignalLaw.{SignalIsEvent};
 ghost use Rattle.step_laws.specs.SizeLaw.{KeepsSizes};
 
@@ -51,4 +52,10 @@ pub fn sizes_stay()
     ensures step { (s : State) → HaveSameSizes s.bus.memory (step s).state.bus.memory }
     ensures alter { (s : State) (p : Place) → KeepsSizes s (altered s p) }
     ensures signal { (s : State) (what : Signal) → KeepsSizes s (signalled s what) }
+{}
+
+/// A step leaves the registers of the MPU as they are, unless one of its events is a write to the Private Peripheral
+/// Bus that was carried out.
+pub fn regions_change_by_writes()
+    ensures { RegionsStay }
 {}

@@ -1,3 +1,4 @@
+pub use Rattle.step_laws.proofs.Regions
 pub mod Counting
 pub mod Places
 pub mod Sums
@@ -5,5 +6,4 @@ pub mod Columns
 pub mod CountedLines
 pub mod Times
 pub mod Lanes
-pub mod Regions
 pub mod CodeCounting

@@ -1,3 +1,5 @@
+-- The law of the MPU's registers is in the crate `step_laws`.
+pub use Rattle.step_laws.specs.RegionLaw
 pub mod Counts
 pub mod Settings
 pub mod Faults
@@ -10,5 +12,4 @@ pub mod CountLaw
 pub mod LineLaw
 pub mod SumLaw
 pub mod TimeLaw
-pub mod RegionLaw
 pub mod CodeLaw

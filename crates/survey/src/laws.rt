@@ -3,7 +3,6 @@
 ghost use Rattle.survey.specs.CodeLaw.{CodeIsCounted, HalfwordsDiffer};
 ghost use Rattle.survey.specs.CountLaw.{CountersCount, CountersDiffer};
 ghost use Rattle.survey.specs.LineLaw.{CountedHaveLines, EachHasOneLine};
-ghost use Rattle.survey.specs.RegionLaw.{RegionsStay};
 ghost use Rattle.survey.specs.SumLaw.{OutcomesAddUp, SumsCount};
 ghost use Rattle.survey.specs.TimeLaw.{LanesStay, TimelinesShow};
 
@@ -41,10 +40,4 @@ pub fn counters_add_up()
 pub fn columns_show_their_ticks()
     ensures marks { TimelinesShow }
     ensures lanes { LanesStay }
-{}
-
-/// A step leaves the registers of the MPU as they are, unless one of its events is a write to the Private Peripheral
-/// Bus that was carried out.
-pub fn regions_change_by_writes()
-    ensures { RegionsStay }
 {}

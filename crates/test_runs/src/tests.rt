@@ -36,4 +36,5 @@ mod stored_faults;
 mod stored_handlers;
 mod tasks;
 mod traces;
+mod worlds;
 mod writers;

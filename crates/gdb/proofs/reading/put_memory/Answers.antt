@@ -1,4 +1,4 @@
-use Rattle.std.proofs.Common.{◌≡◌, ◌+◌, ◌<◌, None, Some, Option, ℕ, min, ap, sym, ◌∙◌, arith}
+use Rattle.std.proofs.Common.{◌≡◌, ◌+◌, ◌<◌, None, Some, ℕ, min, ap, sym, ◌∙◌, arith}
 use Rattle.gdb.proofs.BytesSeen.{all_put, gap_found, one_put}
 use Rattle.gdb.specs.MemoryReads.{byte_seen, most_read}
 use Rattle.gdb.proofs.reading.put_memory.Goals as goal

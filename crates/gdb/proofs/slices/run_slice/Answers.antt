@@ -1,6 +1,6 @@
-use Rattle.std.proofs.Common.{◌≡◌, ◌+◌, ◌-◌, ◌<◌, ℕ, [], ◌∷◌, Some, None, refl, sym, ◌∙◌}
-use Rattle.std.proofs.Common.{ap, subst, arith, is_some, true, false}
-use Rattle.gdb.proofs.Slicing.{Sliding, all_told, ended_before, ends_after, flow_after, goes_on, left_at, makes_step}
+use Rattle.std.proofs.Common.{◌≡◌, ◌+◌, ◌-◌, ◌<◌, ℕ, [], ◌∷◌, None, refl, sym, ◌∙◌}
+use Rattle.std.proofs.Common.{ap, arith, is_some, true, false}
+use Rattle.gdb.proofs.Slicing.{all_told, ended_before, ends_after, flow_after, goes_on, left_at, makes_step}
 use Rattle.gdb.proofs.Slicing.{next_cut, none_left, not_before, nothing_yet, one_more}
 use Rattle.gdb.specs.Reasons.{reason_before}
 use Rattle.gdb.specs.Slices.{Flow, Progress, Sliced, after_pieces, after_step, before_step, flow, slice, step_piece}
@@ -70,7 +70,8 @@ returns-in-Err-clause-tells g c =
     ∙ ap (λ (m : ℕ). reason_before c.args.points.now p.limit p.how m c.steps.machine.state) c.made.ensures in
     let none : is_some c.reason_before-before.result ≡ false = cc in
     next_cut _ _ _ (step_piece p f) _ _ _ _ _ _ c.steps.invariant.slides
-    (makes_step p c.args.points.now c.steps.left f c.steps-test.true (not_before _ _ before none)) c.in-Err.ensures.tells
+    (makes_step p c.args.points.now c.steps.left f c.steps-test.true (not_before _ _ before none))
+    c.in-Err.ensures.tells
 
 -- it goes on
 pub steps-preserved : goal.steps-preserved
@@ -82,13 +83,15 @@ steps-preserved g c =
     ∙ ap (λ (m : ℕ). reason_before c.args.points.now p.limit p.how m c.steps.machine.state) c.made.ensures in
     let none : is_some c.reason_before-before.result ≡ false = cc in
     let made = rw c.in-Ok-None.field-0-is at c.in-Ok-None.ensures in
-    let more : c.make_step.new.progress.made ≡ c.steps.progress.made + 1 = ap (λ (q : Progress). q.made) made.progress in
+    let more : c.make_step.new.progress.made ≡ c.steps.progress.made + 1 =
+    ap (λ (q : Progress). q.made) made.progress in
     let some : 0 < c.steps.left = c.steps-test.true in
     record {
       slides = one_more _ _ _ (step_piece p f) _ _ _ _ _ _ c.steps.invariant.slides
           (goes_on p c.args.points.now c.steps.left f some (not_before _ _ before none) (sym made.reason)
           ∙ ap (λ (u : Flow). after_pieces (step_piece p f ∷ []) (slice p c.args.points.now (c.steps.left - 1) u))
-          (sym (flow_after p f _ _ c.steps.machine c.make_step.new.machine made.progress made.tells.stands))) made.tells;
+          (sym (flow_after p f _ _ c.steps.machine c.make_step.new.machine made.progress made.tells.stands)))
+          made.tells;
       count = omega (arith, c.steps.invariant.count);
     }
 

@@ -7,7 +7,9 @@ use Rattle.trace.specs.Selection.{selects, writes_bytes}
 use Rattle.gdb.proofs.steps.put_event.Goals as goal
 
 pub returns-then-not-selects : goal.returns-then-not-selects
-returns-then-not-selects g c = rw (not_selected c.args.selection c.args.event.now cc) (shown_none (g.W.Out.writing c.args.out.now) c.args.console.now)
+returns-then-not-selects g c =
+    rw (not_selected c.args.selection c.args.event.now cc)
+    (shown_none (g.W.Out.writing c.args.out.now) c.args.console.now)
 
 pub returns-in-Some : goal.returns-in-Some
 returns-in-Some g c =
@@ -21,7 +23,8 @@ returns-in-None g c =
     let chosen : selects c.args.selection c.args.event.now.what ≡ true = cc in
     let bare : writes_bytes c.args.selection ≡ true = cc in
     let is : byte_of c.args.event.now.what ≡ None = sym c.byte.ensures ∙ c.in-None.is in
-    rw (byte_selected c.args.selection c.args.event.now None chosen bare is) (shown_none (g.W.Out.writing c.args.out.now) c.args.console.now)
+    rw (byte_selected c.args.selection c.args.event.now None chosen bare is)
+    (shown_none (g.W.Out.writing c.args.out.now) c.args.console.now)
 
 pub returns : goal.returns
 returns g c =

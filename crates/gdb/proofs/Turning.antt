@@ -1,0 +1,397 @@
+-- The turns of a run: what a slice leaves, and slice after slice.
+use Rattle.std.proofs.Common.{◌≡◌, ℕ, zero, suc, ◌+◌, ◌≤◌, Bool, true, false, List, [], ◌∷◌, ◌++◌}
+use Rattle.std.proofs.Common.{Option, Some, None, Result, Ok, Err, IfOk, refl, sym, ◌∙◌, ap, subst, arith, append_assoc}
+use Rattle.std.proofs.Common.{if◌then◌else◌, unwrap_or}
+use Rattle.std.proofs.lemmas.List.{append-nil}
+use Rattle.gdb.specs.declared.slices.Plan.{Plan}
+use Rattle.gdb.specs.declared.turns.Turn.{Turn}
+use Rattle.gdb.specs.Slices.{Flow, Progress, Sliced, Slices, after_pieces, after_step, at_rest, before_step, flow}
+use Rattle.gdb.specs.Slices.{reason_then, slice, step_piece, unless_ended}
+use Rattle.gdb.specs.Turns.{Takes, TakesTurn, Turned, after_slice, asked, asked_or, ended, ended_or, flushed, flushing}
+use Rattle.gdb.specs.Turns.{last_slice, question, said, slices, steps_at_once, stop_packet, whys, with_pieces}
+use Rattle.gdb.specs.Consoles.{Console, Shown, ShownInPart, console_after, emptied, flush_text, sent_by}
+use Rattle.gdb.specs.Whys.{told_stop, why_text}
+use Rattle.platform.specs.declared.stop.Stop.{Stop}
+use Rattle.gdb_texts.specs.declared.features.Features.{Features}
+use Rattle.gdb_texts.specs.declared.points.Breakpoint.{Breakpoint}
+use Rattle.gdb_texts.specs.declared.settings.Settings.{Settings}
+use Rattle.gdb_texts.specs.declared.stops.StopReason.{StopReason}
+use Rattle.gdb_texts.specs.declared.stops.StopReason.TheVariants.{Interrupted}
+use Rattle.machine.specs.Whole.{Whole}
+use Rattle.output.specs.Output.{IsCutShort, Writing, WritesAll}
+use Rattle.platform.specs.declared.event.Event.{Event}
+use Rattle.reference.specs.State.{State}
+use Rattle.reference.specs.Step.{step}
+use Rattle.serving.proofs.Telling.{cut_before, cut_on, one_cut, tells_none, tells_on}
+use Rattle.serving.specs.Pieces.{Piece, Tells, TellsAll, TellsPart, last_state}
+
+-- ---- what a slice leaves: the state of its last piece, and at most n steps more
+
+pub record Leaves (f : Flow) (n : ℕ) (sliced : Sliced) : Type 0 where
+  pub state : last_state f.state sliced.pieces ≡ sliced.flow.state
+  pub made : sliced.flow.made ≤ f.made + n
+
+rests : (f : Flow) (n : ℕ) (r : Option StopReason) (events : List Event) → Leaves f n (at_rest r events f)
+rests f n r events = record { state = refl; made = omega arith }
+
+ends_or : (f : Flow) (n : ℕ) (r : Option StopReason) (events : List Event) (later : Sliced) → Leaves f n later
+    → Leaves f n (unless_ended r events f later)
+ends_or f n (Some r) events later leaves = rests f n (Some r) events
+ends_or f n None events later leaves = leaves
+
+steps_on : (p : Plan) (f : Flow) (n m : ℕ) (later : Sliced) → m ≡ suc n → Leaves (after_step p f) n later
+    → Leaves f m (after_pieces (step_piece p f ∷ []) later)
+steps_on p f n m later is leaves = record {
+  state = leaves.state;
+  made = omega (arith, leaves.made, is);
+}
+
+pub slice_leaves : (p : Plan) (points : List Breakpoint) (n : ℕ) (f : Flow) → Leaves f n (slice p points n f)
+unfolding slice
+slice_leaves p points zero f = rests f 0 None []
+slice_leaves p points (suc n) f =
+    ends_or f (suc n) (before_step p points f) [] _
+    (steps_on p f n (suc n) _ refl
+    (ends_or (after_step p f) n (reason_then p f.state) (step f.state).events _
+    (slice_leaves p points n (after_step p f))))
+
+-- the machine is in the state that the slice leaves
+pub stands_there : (f : Flow) (n : ℕ) (sliced : Sliced) (old new : Whole) (a b : Writing) → old.state ≡ f.state
+    → Leaves f n sliced → TellsAll sliced.pieces old new a b → new.state ≡ sliced.flow.state
+stands_there f n sliced old new a b same leaves tells =
+    ap (λ (m : Whole). m.state) tells.stands
+    ∙ (ap (λ (s : State). last_state s sliced.pieces) same ∙ leaves.state)
+
+-- what a run has made after it
+pub flow_left : (sliced : Sliced) (progress : Progress) (s : State) (r : Option StopReason)
+    → Slices sliced progress r → s ≡ sliced.flow.state → flow progress s ≡ sliced.flow
+flow_left sliced progress s r left same =
+    ap (λ (q : Progress). flow q s) left.1
+    ∙ ap (λ (u : State). let g : Flow = record {
+      made = sliced.flow.made;
+      console = sliced.flow.console;
+      state = u;
+    } in g) same
+
+pub events_left : (sliced : Sliced) (progress : Progress) (r : Option StopReason) → Slices sliced progress r
+    → progress.events ≡ sliced.events
+events_left sliced progress r left = ap (λ (q : Progress). q.events) left.1
+
+-- the end of a run after it
+pub end_left : (k : Settings) (features : Features) (r : StopReason) (sliced : Sliced) (progress : Progress) (s : State)
+    (o : Option StopReason) → Slices sliced progress o → s ≡ sliced.flow.state
+    → ended k features r progress.events (flow progress s) ≡ ended k features r sliced.events sliced.flow
+end_left k features r sliced progress s o left same =
+    ap (λ (es : List Event). ended k features r es (flow progress s)) (events_left sliced progress o left)
+    ∙ ap (λ (f : Flow). ended k features r sliced.events f) (flow_left sliced progress s o left same)
+
+-- ---- so far
+
+-- some pieces of a turn went out, and `rest` is still to come
+pub record Going (all rest : Turned) (old new : Whole) (a b : Writing) : Type 0 where
+  pub done : List Piece
+  pub whole : all ≡ with_pieces done rest
+  pub tells : TellsAll done old new a b
+
+pub not_begun : (all : Turned) (m : Whole) (a : Writing) → Going all all m m a a
+not_begun all m a = record { done = []; whole = refl; tells = tells_none m a }
+
+pub gone_on : (all rest later : Turned) (ps : List Piece) (old mid new : Whole) (a b c : Writing)
+    → Going all rest old mid a b → rest ≡ with_pieces ps later → TellsAll ps mid new b c
+    → Going all later old new a c
+gone_on all rest later ps old mid new a b c so_far is next = record {
+  done = so_far.done ++ ps;
+  whole = so_far.whole ∙ (ap (λ (t : Turned). with_pieces so_far.done t) is
+      ∙ ap (λ (qs : List Piece). record later { pieces = qs })
+      (sym (append_assoc so_far.done ps later.pieces)));
+  tells = tells_on so_far.done ps old mid new a b c so_far.tells next;
+}
+
+-- the next pieces were cut
+pub rest_cut : (all rest later : Turned) (ps : List Piece) (old mid new : Whole) (a b c : Writing)
+    → Going all rest old mid a b → rest ≡ with_pieces ps later → TellsPart ps mid new b c
+    → TellsPart all.pieces old new a c
+rest_cut all rest later ps old mid new a b c so_far is next =
+    subst (λ (qs : List Piece). TellsPart qs old new a c)
+    (sym (ap (λ (t : Turned). t.pieces) (so_far.whole ∙ ap (λ (t : Turned). with_pieces so_far.done t) is)))
+    (cut_on so_far.done (ps ++ later.pieces) old mid new a b c so_far.tells
+    (cut_before ps later.pieces mid new b c next))
+
+-- the rest of the turn was taken
+pub taken : {E : Type 0} (all rest : Turned) (old mid new : Whole) (a b c : Writing) (sent : List ℕ)
+    (result : Result Turn E) → Going all rest old mid a b → Takes rest mid new b c sent result
+    → Takes all old new a c sent result
+taken all rest old mid new a b c sent (Ok ends) so_far next = record {
+  tells = subst (λ (qs : List Piece). TellsAll qs old new a c) (sym (ap (λ (t : Turned). t.pieces) so_far.whole))
+      (tells_on so_far.done rest.pieces old mid new a b c so_far.tells next.tells);
+  outcome = next.outcome ∙ sym (ap (λ (t : Turned). t.outcome) so_far.whole);
+  remembered = next.remembered ∙ sym (ap (λ (t : Turned). t.sent) so_far.whole);
+}
+taken all rest old mid new a b c sent (Err error) so_far next =
+    subst (λ (qs : List Piece). TellsPart qs old new a c) (sym (ap (λ (t : Turned). t.pieces) so_far.whole))
+    (cut_on so_far.done rest.pieces old mid new a b c so_far.tells next)
+
+-- the rest in another form
+pub taken_as : {E : Type 0} (rest same : Turned) (old new : Whole) (a b : Writing) (sent : List ℕ)
+    (result : Result Turn E) → rest ≡ same → Takes rest old new a b sent result → Takes same old new a b sent result
+taken_as {E} rest same old new a b sent result is takes =
+    subst (λ (t : Turned). Takes t old new a b sent result) is takes
+
+-- ---- the cases of the slices
+
+pub none_left : (p : Plan) (points : List Breakpoint) (features : Features) (n rest : ℕ) (f : Flow) → n ≡ 0
+    → slices p points features n rest f ≡ last_slice p features (slice p points rest f)
+unfolding slices
+none_left p points features n rest f e = rw e refl
+
+pub some_left : (p : Plan) (points : List Breakpoint) (features : Features) (n m rest : ℕ) (f : Flow) → n ≡ suc m
+    → slices p points features n rest f ≡ after_slice p features (slice p points steps_at_once f)
+    (slices p points features m rest (flushed (slice p points steps_at_once f).flow))
+unfolding slices
+some_left p points features n m rest f e = rw e refl
+
+-- the run ended in a slice
+pub ended_in : (p : Plan) (features : Features) (sliced : Sliced) (later : Turned) (r : StopReason)
+    → Some r ≡ sliced.reason → after_slice p features sliced later
+    ≡ with_pieces sliced.pieces (ended p.settings features r sliced.events sliced.flow)
+ended_in p features sliced later r is =
+    ap (λ (o : Option StopReason). with_pieces sliced.pieces (ended_or p.settings features sliced o
+    (with_pieces (flushing sliced.flow ∷ []) (asked_or features p.how (flushed sliced.flow) later)))) (sym is)
+
+-- it goes on
+pub gone_past : (p : Plan) (features : Features) (sliced : Sliced) (later : Turned) → None ≡ sliced.reason
+    → after_slice p features sliced later
+    ≡ with_pieces sliced.pieces (with_pieces (flushing sliced.flow ∷ [])
+    (asked_or features p.how (flushed sliced.flow) later))
+gone_past p features sliced later is =
+    ap (λ (o : Option StopReason). with_pieces sliced.pieces (ended_or p.settings features sliced o
+    (with_pieces (flushing sliced.flow ∷ []) (asked_or features p.how (flushed sliced.flow) later)))) (sym is)
+
+pub is_asked : (features : Features) (p : Plan) (f : Flow) (later : Turned) → features.is_gdb ≡ true
+    → asked_or features p.how f later ≡ asked p.how f
+is_asked features p f later is = ap (λ (b : Bool). if b then asked p.how f else later) is
+
+pub not_asked : (features : Features) (p : Plan) (f : Flow) (later : Turned) → features.is_gdb ≡ false
+    → asked_or features p.how f later ≡ later
+not_asked features p f later is = ap (λ (b : Bool). if b then asked p.how f else later) is
+
+-- ---- the end of a run, in three pieces
+
+pub cut_first : (p q r : Piece) (m : Whole) (a b : Writing) → TellsPart (p ∷ []) m m a b
+    → TellsPart (p ∷ q ∷ r ∷ []) m m a b
+cut_first p q r m a b cut = cut_before (p ∷ []) (q ∷ r ∷ []) m m a b cut
+
+pub cut_second : (p q r : Piece) (m : Whole) (a b c : Writing) → TellsAll (p ∷ []) m m a b
+    → TellsPart (q ∷ []) m m b c → TellsPart (p ∷ q ∷ r ∷ []) m m a c
+cut_second p q r m a b c first cut =
+    cut_on (p ∷ []) (q ∷ r ∷ []) m m m a b c first (cut_before (q ∷ []) (r ∷ []) m m b c cut)
+
+pub cut_third : (p q r : Piece) (m : Whole) (a b c d : Writing) → TellsAll (p ∷ []) m m a b
+    → TellsAll (q ∷ []) m m b c → TellsPart (r ∷ []) m m c d → TellsPart (p ∷ q ∷ r ∷ []) m m a d
+cut_third p q r m a b c d first second cut =
+    cut_on (p ∷ []) (q ∷ r ∷ []) m m m a b d first (cut_on (q ∷ []) (r ∷ []) m m m b c d second cut)
+
+pub all_three : (p q r : Piece) (m : Whole) (a b c d : Writing) → TellsAll (p ∷ []) m m a b
+    → TellsAll (q ∷ []) m m b c → TellsAll (r ∷ []) m m c d → TellsAll (p ∷ q ∷ r ∷ []) m m a d
+all_three p q r m a b c d first second third =
+    tells_on (p ∷ []) (q ∷ r ∷ []) m m m a b d first (tells_on (q ∷ []) (r ∷ []) m m m b c d second third)
+
+-- a text went out between two steps, or was cut
+pub said_all : (m : Whole) (text : List ℕ) (a b : Writing) → WritesAll a b text
+    → TellsAll ((let p : Piece = record { state = m.state; text = text } in p) ∷ []) m m a b
+said_all m text a b went = record {
+  went = rw (append-nil text) went.0;
+  stands = refl;
+  quiet = went.1;
+}
+
+pub said_part : (m : Whole) (text : List ℕ) (a b : Writing) → IsCutShort a.written b.written text
+    → b.errors ≡ a.errors + 1
+    → TellsPart ((let p : Piece = record { state = m.state; text = text } in p) ∷ []) m m a b
+said_part m text a b cut failed =
+    one_cut (record { state = m.state; text = text }) m m a b cut refl failed
+
+-- ---- the clauses of a turn that was taken
+
+pub takes_tells : {E : Type 0} (t : Turned) (old new : Whole) (a b : Writing) (sent : List ℕ) (result : Result Turn E)
+    → Takes t old new a b sent result → Tells t.pieces old new a b result
+takes_tells t old new a b sent (Ok ends) takes = takes.tells
+takes_tells t old new a b sent (Err error) takes = takes
+
+pub takes_outcome : {E : Type 0} (t : Turned) (old new : Whole) (a b : Writing) (sent : List ℕ) (result : Result Turn E)
+    → Takes t old new a b sent result → IfOk result (λ ends. ends ≡ t.outcome)
+takes_outcome t old new a b sent (Ok ends) takes = takes.outcome
+takes_outcome t old new a b sent (Err error) takes = tt
+
+pub takes_sent : {E : Type 0} (t : Turned) (old new : Whole) (a b : Writing) (sent : List ℕ) (result : Result Turn E)
+    → Takes t old new a b sent result → IfOk result (λ ends. sent ≡ t.sent)
+takes_sent t old new a b sent (Ok ends) takes = takes.remembered
+takes_sent t old new a b sent (Err error) takes = tt
+
+-- ---- a whole slice in which the run didn't end
+
+pub past_slice : (p : Plan) (points : List Breakpoint) (features : Features) (n m rest : ℕ) (f : Flow) (all : Turned)
+    (q : Progress) (o : Option StopReason) (old mid new : Whole) (a b c : Writing)
+    → Going all (slices p points features n rest f) old mid a b → n ≡ suc m
+    → TellsAll (slice p points steps_at_once f).pieces mid new b c → Slices (slice p points steps_at_once f) q o
+    → o ≡ None → mid.state ≡ f.state → Going all (with_pieces (flushing (flow q new.state) ∷ [])
+    (asked_or features p.how (flushed (flow q new.state))
+    (slices p points features m rest (flushed (flow q new.state))))) old new a c
+past_slice p points features n m rest f all q o old mid new a b c so_far some tells left none at =
+    gone_on all (slices p points features n rest f) _ (slice p points steps_at_once f).pieces old mid new a b c so_far
+    (some_left p points features n m rest f some
+    ∙ (gone_past p features (slice p points steps_at_once f)
+    (slices p points features m rest (flushed (slice p points steps_at_once f).flow)) (sym none ∙ left.0)
+    ∙ ap (λ (u : Flow). with_pieces (slice p points steps_at_once f).pieces (with_pieces (flushing u ∷ [])
+    (asked_or features p.how (flushed u) (slices p points features m rest (flushed u)))))
+    (sym (flow_left (slice p points steps_at_once f) q new.state o left
+    (stands_there f steps_at_once (slice p points steps_at_once f) mid new b c at
+    (slice_leaves p points steps_at_once f) tells))))) tells
+
+-- its text was sent
+pub past_flush : (p : Plan) (points : List Breakpoint) (features : Features) (m rest : ℕ) (all : Turned)
+    (q r : Progress) (old new : Whole) (a b c : Writing)
+    → Going all (with_pieces (flushing (flow q new.state) ∷ []) (asked_or features p.how (flushed (flow q new.state))
+    (slices p points features m rest (flushed (flow q new.state))))) old new a b
+    → WritesAll b c (flush_text q.console) → r ≡ record q { console = emptied q.console }
+    → Going all (asked_or features p.how (flow r new.state) (slices p points features m rest (flow r new.state)))
+    old new a c
+past_flush p points features m rest all q r old new a b c so_far went kept =
+    gone_on all _ _ (flushing (flow q new.state) ∷ []) old new new a b c so_far
+    (ap (λ (k : Progress). with_pieces (flushing (flow q new.state) ∷ []) (asked_or features p.how (flow k new.state)
+    (slices p points features m rest (flow k new.state)))) (sym kept)) (said_all new (flush_text q.console) b c went)
+
+-- it was cut
+pub flush_cut : (all later : Turned) (q : Progress) (old new : Whole) (a b c : Writing)
+    → Going all (with_pieces (flushing (flow q new.state) ∷ []) later) old new a b
+    → IsCutShort b.written c.written (flush_text q.console) → c.errors ≡ b.errors + 1
+    → TellsPart all.pieces old new a c
+flush_cut all later q old new a b c so_far cut failed =
+    rest_cut all _ later (flushing (flow q new.state) ∷ []) old new new a b c so_far refl
+    (said_part new (flush_text q.console) b c cut failed)
+
+-- GDB is asked
+pub asks : (features : Features) (p : Plan) (all later : Turned) (q : Progress) (old new : Whole) (a b c : Writing)
+    (sent : List ℕ) (ends : Turn)
+    → Going all (asked_or features p.how (flow q new.state) later) old new a b → features.is_gdb ≡ true
+    → WritesAll b c question → ends ≡ (asked p.how (flow q new.state)).outcome → sent ≡ question
+    → TakesTurn all old new a c sent ends
+asks features p all later q old new a b c sent ends so_far gdb went outcome remembered =
+    let is : all ≡ with_pieces so_far.done (asked p.how (flow q new.state)) =
+    so_far.whole ∙ ap (λ (t : Turned). with_pieces so_far.done t) (is_asked features p (flow q new.state) later gdb) in
+    record {
+      tells = subst (λ (qs : List Piece). TellsAll qs old new a c) (sym (ap (λ (t : Turned). t.pieces) is))
+          (tells_on so_far.done (said (flow q new.state) question ∷ []) old new new a b c so_far.tells
+          (said_all new question b c went));
+      outcome = outcome ∙ sym (ap (λ (t : Turned). t.outcome) is);
+      remembered = remembered ∙ sym (ap (λ (t : Turned). t.sent) is);
+    }
+
+pub asks_cut : (features : Features) (p : Plan) (all later : Turned) (q : Progress) (old new : Whole) (a b c : Writing)
+    → Going all (asked_or features p.how (flow q new.state) later) old new a b → features.is_gdb ≡ true
+    → IsCutShort b.written c.written question → c.errors ≡ b.errors + 1 → TellsPart all.pieces old new a c
+asks_cut features p all later q old new a b c so_far gdb cut failed =
+    let is : all ≡ with_pieces so_far.done (asked p.how (flow q new.state)) =
+    so_far.whole ∙ ap (λ (t : Turned). with_pieces so_far.done t) (is_asked features p (flow q new.state) later gdb) in
+    subst (λ (qs : List Piece). TellsPart qs old new a c) (sym (ap (λ (t : Turned). t.pieces) is))
+    (cut_on so_far.done (said (flow q new.state) question ∷ []) old new new a b c so_far.tells
+    (said_part new question b c cut failed))
+
+pub asks_none : (features : Features) (p : Plan) (all later : Turned) (f : Flow) (old new : Whole) (a b : Writing)
+    → Going all (asked_or features p.how f later) old new a b → features.is_gdb ≡ false → Going all later old new a b
+asks_none features p all later f old new a b so_far other =
+    subst (λ (t : Turned). Going all t old new a b) (not_asked features p f later other) so_far
+
+-- the run ended in a whole slice
+pub whole_end : {E : Type 0} (p : Plan) (points : List Breakpoint) (features : Features) (n m rest : ℕ) (f : Flow)
+    (all : Turned) (q : Progress) (o : Option StopReason) (r : StopReason) (old mid new : Whole) (a b c d : Writing)
+    (sent : List ℕ) (result : Result Turn E)
+    → Going all (slices p points features n rest f) old mid a b → n ≡ suc m
+    → TellsAll (slice p points steps_at_once f).pieces mid new b c → Slices (slice p points steps_at_once f) q o
+    → o ≡ Some r → mid.state ≡ f.state
+    → Takes (ended p.settings features r q.events (flow q new.state)) new new c d sent result
+    → Takes all old new a d sent result
+whole_end p points features n m rest f all q o r old mid new a b c d sent result so_far some tells left is at takes =
+    taken all (ended p.settings features r q.events (flow q new.state)) old new new a c d sent result
+    (gone_on all (slices p points features n rest f) _ (slice p points steps_at_once f).pieces old mid new a b c so_far
+    (some_left p points features n m rest f some
+    ∙ (ended_in p features (slice p points steps_at_once f)
+    (slices p points features m rest (flushed (slice p points steps_at_once f).flow)) r (sym is ∙ left.0)
+    ∙ ap (λ (t : Turned). with_pieces (slice p points steps_at_once f).pieces t)
+    (sym (end_left p.settings features r (slice p points steps_at_once f) q new.state o left
+    (stands_there f steps_at_once (slice p points steps_at_once f) mid new b c at
+    (slice_leaves p points steps_at_once f) tells))))) tells) takes
+
+-- ---- the last slice
+
+pub last_taken : {E : Type 0} (p : Plan) (features : Features) (sliced : Sliced) (q : Progress) (o : Option StopReason)
+    (r : StopReason) (old mid : Whole) (a b c : Writing) (sent : List ℕ) (result : Result Turn E)
+    → TellsAll sliced.pieces old mid a b → Slices sliced q o → r ≡ unwrap_or o Interrupted
+    → mid.state ≡ sliced.flow.state
+    → Takes (ended p.settings features r q.events (flow q mid.state)) mid mid b c sent result
+    → Takes (last_slice p features sliced) old mid a c sent result
+last_taken p features sliced q o r old mid a b c sent result tells left is same takes =
+    taken (last_slice p features sliced)
+    (ended p.settings features (unwrap_or sliced.reason Interrupted) sliced.events sliced.flow)
+    old mid mid a b c sent result
+    (gone_on _ (last_slice p features sliced) _ sliced.pieces old old mid a a b
+    (not_begun (last_slice p features sliced) old a) refl tells)
+    (taken_as _ _ mid mid b c sent result
+    (ap (λ (x : StopReason). ended p.settings features x q.events (flow q mid.state))
+    (is ∙ ap (λ (u : Option StopReason). unwrap_or u Interrupted) left.0)
+    ∙ end_left p.settings features (unwrap_or sliced.reason Interrupted) sliced q mid.state o left same) takes)
+
+pub last_cut : (p : Plan) (features : Features) (sliced : Sliced) (old mid : Whole) (a b : Writing)
+    → TellsPart sliced.pieces old mid a b → TellsPart (last_slice p features sliced).pieces old mid a b
+last_cut p features sliced old mid a b cut =
+    cut_before sliced.pieces (ended p.settings features (unwrap_or sliced.reason Interrupted) sliced.events
+    sliced.flow).pieces old mid a b cut
+
+-- ---- the end of a run
+
+pub ends_first : (k : Settings) (features : Features) (r : StopReason) (q : Progress) (m : Whole) (a b : Writing)
+    (stop : Option Stop) → stop ≡ told_stop r m.state.stop
+    → ShownInPart a b q.console (why_text k q.events stop q.console.last)
+    → TellsPart (ended k features r q.events (flow q m.state)).pieces m m a b
+ends_first k features r q m a b stop is cut =
+    let shown : ShownInPart a b q.console (whys k r q.events (flow q m.state)) =
+    subst (λ (o : Option Stop). ShownInPart a b q.console (why_text k q.events o q.console.last)) is cut in
+    cut_first _ _ _ m a b (said_part m (sent_by q.console (whys k r q.events (flow q m.state))) a b shown.0 shown.1)
+
+-- the lines were put
+abbrev pub Told : Settings → StopReason → Progress → Progress → Whole → Writing → Writing → Type 0
+Told k r q next m a b = Shown a b q.console next.console (whys k r q.events (flow q m.state))
+
+pub told_as : (k : Settings) (r : StopReason) (q next : Progress) (m : Whole) (a b : Writing) (stop : Option Stop)
+    → stop ≡ told_stop r m.state.stop
+    → Shown a b q.console next.console (why_text k q.events stop q.console.last) → Told k r q next m a b
+told_as k r q next m a b stop is shown =
+    subst (λ (o : Option Stop). Shown a b q.console next.console (why_text k q.events o q.console.last)) is shown
+
+pub ends_second : (k : Settings) (features : Features) (r : StopReason) (q next : Progress) (m : Whole)
+    (a b c : Writing) → Told k r q next m a b → IsCutShort b.written c.written (flush_text next.console)
+    → c.errors ≡ b.errors + 1 → TellsPart (ended k features r q.events (flow q m.state)).pieces m m a c
+ends_second k features r q next m a b c told cut failed =
+    cut_second _ _ _ m a b c (said_all m (sent_by q.console (whys k r q.events (flow q m.state))) a b told.0)
+    (said_part m (flush_text (console_after q.console (whys k r q.events (flow q m.state)))) b c
+    (subst (λ (d : Console). IsCutShort b.written c.written (flush_text d)) told.1 cut) failed)
+
+pub ends_third : (k : Settings) (features : Features) (r : StopReason) (q next : Progress) (m : Whole)
+    (a b c d : Writing) → Told k r q next m a b → WritesAll b c (flush_text next.console)
+    → IsCutShort c.written d.written (stop_packet features r m.state) → d.errors ≡ c.errors + 1
+    → TellsPart (ended k features r q.events (flow q m.state)).pieces m m a d
+ends_third k features r q next m a b c d told went cut failed =
+    cut_third _ _ _ m a b c d (said_all m (sent_by q.console (whys k r q.events (flow q m.state))) a b told.0)
+    (said_all m (flush_text (console_after q.console (whys k r q.events (flow q m.state)))) b c
+    (subst (λ (e : Console). WritesAll b c (flush_text e)) told.1 went))
+    (said_part m (stop_packet features r m.state) c d cut failed)
+
+pub ends_all : (k : Settings) (features : Features) (r : StopReason) (q next : Progress) (m : Whole)
+    (a b c d : Writing) → Told k r q next m a b → WritesAll b c (flush_text next.console)
+    → WritesAll c d (stop_packet features r m.state)
+    → TellsAll (ended k features r q.events (flow q m.state)).pieces m m a d
+ends_all k features r q next m a b c d told went reply =
+    all_three _ _ _ m a b c d (said_all m (sent_by q.console (whys k r q.events (flow q m.state))) a b told.0)
+    (said_all m (flush_text (console_after q.console (whys k r q.events (flow q m.state)))) b c
+    (subst (λ (e : Console). WritesAll b c (flush_text e)) told.1 went))
+    (said_all m (stop_packet features r m.state) c d reply)

@@ -1,0 +1,17 @@
+use Rattle.std.proofs.Common.{◌+◌, ◌*◌, ◌%◌, ◌^◌, ◌<◌}
+use Rattle.gdb.proofs.Turning.{Going}
+use Rattle.gdb.specs.Slices.{flow}
+use Rattle.gdb.specs.Turns.{all_slices, slices, steps_at_once}
+use Rattle.gdb.proofs.turns.make_slices.Given as goal
+
+-- the pieces so far went out, and those of the slices that are left are still to come
+abbrev pub invariant-slices : goal.invariant-slices
+invariant-slices g l = record {
+  goes : Going (all_slices l.plan l.terms.points.now l.terms.features l.left (flow l.fn.progress l.fn.machine.state))
+      (slices l.plan l.terms.points.now l.terms.features l.whole (l.left % steps_at_once)
+      (flow l.progress l.machine.state)) l.fn.machine l.machine (g.W.Out.writing l.fn.out) (g.W.Out.writing l.out);
+  count : l.progress.made + l.whole * steps_at_once + l.left % steps_at_once < 2 ^ 64;
+}
+
+abbrev pub decreases-slices : goal.decreases-slices
+decreases-slices g l = l.whole

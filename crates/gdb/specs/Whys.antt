@@ -1,0 +1,57 @@
+-- The lines that say why a run ended (profile).
+use Rattle.std.specs.Prelude.{ℕ, Bool, not, ◌&&◌, ◌||◌, if◌then◌else◌, List, [], ◌++◌, Option, Some, None, is_some}
+use Rattle.std.specs.List.{filter, list_any}
+use Rattle.gdb.specs.Reasons.{is_entry, selection_of}
+use Rattle.gdb_texts.specs.declared.settings.Settings.{Settings}
+use Rattle.gdb_texts.specs.declared.stops.StopReason.{StopReason}
+use Rattle.gdb_texts.specs.declared.stops.StopReason.TheVariants as reason
+use Rattle.platform.specs.declared.event.Event.{Event}
+use Rattle.platform.specs.declared.event.EventKind.{EventKind}
+use Rattle.platform.specs.declared.stop.Stop.{Stop}
+use Rattle.platform.specs.Events.{lines}
+use Rattle.platform.specs.Text.{stop_line}
+use Rattle.trace.specs.Selection.{is_refusal, new_line_after, selects}
+
+-- whether the settings stop at an event: a refused access, a fault, or a handler's entry
+abbrev pub stops_at : Settings → EventKind → Bool
+stops_at k what = (k.refused || k.faults) && is_refusal what || k.exceptions && is_entry what
+
+-- whether the line of an event is still to be told: the selection hasn't written it
+abbrev pub is_told : Settings → EventKind → Bool
+is_told k what = stops_at k what && not (selects (selection_of k.selection) what)
+
+-- the lines of those events of the last step
+abbrev pub told_lines : Settings → List Event → List ℕ
+told_lines k events = lines (filter (λ e. is_told k e.what) events)
+
+-- the stop that has a line: the machine stopped, now or before, or its clock is at the limit
+abbrev pub told_stop : StopReason → Option Stop → Option Stop
+told_stop (reason.Stopped why) before = Some why
+told_stop reason.StoppedBefore before = before
+told_stop reason.Done before = None
+told_stop (reason.Breakpoint kind) before = None
+told_stop (reason.Watchpoint kind address) before = None
+told_stop reason.PastBegins before = None
+told_stop (reason.Refused cause) before = None
+told_stop reason.Fault before = None
+told_stop reason.Entered before = None
+told_stop reason.Interrupted before = None
+
+abbrev pub stop_text : Option Stop → List ℕ
+stop_text None = []
+stop_text (Some why) = stop_line why
+
+-- whether a line follows
+abbrev pub has_line : Settings → List Event → Option Stop → Bool
+has_line k events stop = list_any (λ e. is_told k e.what) events || is_some stop
+
+-- the lines begin on a line of their own
+abbrev pub line_begun : Bool → Option ℕ → List ℕ
+line_begun follows last = if follows then new_line_after last else []
+
+abbrev pub lines_of : Settings → List Event → Option Stop → Option ℕ → List ℕ
+lines_of k events stop last = line_begun (has_line k events stop) last ++ (told_lines k events ++ stop_text stop)
+
+-- the lines after a step with these events, where this was the last byte of the run's text
+abbrev pub why_text : Settings → List Event → Option Stop → Option ℕ → List ℕ
+why_text k events stop last = if k.has_lines then lines_of k events stop last else []

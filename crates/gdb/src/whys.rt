@@ -1,0 +1,165 @@
+//! The lines that say why a run ended.
+
+ghost use Rattle.std.specs.Prelude.{◌≡◌, [], ◌∷◌};
+ghost use Rattle.std.specs.List.{list_any};
+ghost use Rattle.gdb.specs.Consoles.{Shows};
+ghost use Rattle.gdb.specs.Whys.{has_line, is_told, line_begun, lines_of, stop_text, stops_at, told_lines, told_stop};
+ghost use Rattle.gdb.specs.Whys.{why_text};
+ghost use Rattle.trace.specs.Selection.{is_refusal};
+
+use crate::console::Console;
+use crate::steps::{is_entry, selection_of};
+use gdb_texts::{Settings, StopReason};
+use machine::{Event, event_line, stop_line};
+use output::{IoError, Out};
+use platform::event::EventKind;
+use platform::stop::Stop;
+
+/// Returns whether an event is a refused access or a recorded fault.
+fn is_refusal(what: &EventKind) -> bool
+    ensures { result ≡ is_refusal what.now }
+{
+    what.is_refused() || what.recorded_fault().is_some()
+}
+
+/// Returns whether the settings stop at an event.
+fn stops_at(settings: &Settings, what: &EventKind) -> bool
+    ensures { result ≡ stops_at settings.now what.now }
+{
+    (settings.refused || settings.faults) && is_refusal(what)
+        || settings.exceptions && is_entry(what)
+}
+
+/// Returns whether the line of an event is still to be told.
+fn is_told(settings: &Settings, what: &EventKind) -> bool
+    ensures { result ≡ is_told settings.now what.now }
+{
+    stops_at(settings, what) && !selection_of(settings.selection).selects(what)
+}
+
+/// Returns the stop that has a line. `before` is why the machine has stopped, if it has.
+pub fn told_stop(reason: StopReason, before: Option<Stop>) -> Option<Stop>
+    ensures { result ≡ told_stop reason before }
+{
+    match reason {
+        StopReason::Stopped(stop) => Some(stop),
+        StopReason::StoppedBefore => before,
+        StopReason::Done
+        | StopReason::Breakpoint(_)
+        | StopReason::Watchpoint(_, _)
+        | StopReason::PastBegins
+        | StopReason::Refused(_)
+        | StopReason::Fault
+        | StopReason::Entered
+        | StopReason::Interrupted => None,
+    }
+}
+
+/// Returns whether the line of an event is still to be told.
+fn has_told(settings: &Settings, events: &[Event]) -> bool
+    ensures { result ≡ list_any (λ e. is_told settings.now e.what) events.now }
+{
+    events.iter().any(|event| is_told(settings, &event.what))
+}
+
+/// Returns whether there is a line to tell.
+fn has_line(settings: &Settings, events: &[Event], stop: Option<Stop>) -> bool
+    ensures { result ≡ has_line settings.now events.now stop }
+{
+    has_told(settings, events) || stop.is_some()
+}
+
+/// Returns a line feed where a line follows, unless the text is empty or ends with one.
+fn line_begun(follows: bool, last: Option<u8>) -> &'static [u8]
+    ensures { result.now ≡ line_begun follows last }
+{
+    match last {
+        Some(byte) if follows && byte != b'\n' => b"\n",
+        Some(_) | None => b"",
+    }
+}
+
+/// Puts the line of an event that is still to be told.
+fn put_told_event<W: Out>(
+    settings: &Settings,
+    event: &Event,
+    console: &mut Console,
+    out: &mut W,
+) -> Result<(), IoError>
+    ensures { Shows (W.writing out.old) (W.writing out.new) console.old console.new
+        (told_lines settings.now (event.now ∷ [])) result }
+{
+    if is_told(settings, &event.what) {
+        return console.put(event_line(event).as_slice(), out);
+    }
+    Ok(())
+}
+
+/// Puts the lines of the events that are still to be told.
+fn put_told<W: Out>(
+    settings: &Settings,
+    events: &[Event],
+    console: &mut Console,
+    out: &mut W,
+) -> Result<(), IoError>
+    ensures { Shows (W.writing out.old) (W.writing out.new) console.old console.new
+        (told_lines settings.now events.now) result }
+{
+    'events: for event in events {
+        match put_told_event(settings, event, console, out) {
+            Ok(()) => {}
+            Err(error) => return Err(error),
+        }
+    }
+    Ok(())
+}
+
+/// Puts the line of a stop, if there is one.
+fn put_stop<W: Out>(stop: Option<Stop>, console: &mut Console, out: &mut W) -> Result<(), IoError>
+    ensures { Shows (W.writing out.old) (W.writing out.new) console.old console.new (stop_text stop) result }
+{
+    match stop {
+        Some(stop) => console.put(stop_line(&stop).as_slice(), out),
+        None => Ok(()),
+    }
+}
+
+/// Puts the lines of the last step of a run, and of a stop, on lines of their own.
+fn put_lines<W: Out>(
+    settings: &Settings,
+    events: &[Event],
+    stop: Option<Stop>,
+    console: &mut Console,
+    out: &mut W,
+) -> Result<(), IoError>
+    ensures { Shows (W.writing out.old) (W.writing out.new) console.old console.new
+        (lines_of settings.now events.now stop console.old.last) result }
+{
+    let follows = has_line(settings, events, stop);
+    match console.put(line_begun(follows, console.last()), out) {
+        Ok(()) => {}
+        Err(error) => return Err(error),
+    }
+    match put_told(settings, events, console, out) {
+        Ok(()) => {}
+        Err(error) => return Err(error),
+    }
+    put_stop(stop, console, out)
+}
+
+/// Puts the lines that say why a run ended, where the settings have such lines.
+pub fn put_whys<W: Out>(
+    settings: &Settings,
+    events: &[Event],
+    stop: Option<Stop>,
+    console: &mut Console,
+    out: &mut W,
+) -> Result<(), IoError>
+    ensures { Shows (W.writing out.old) (W.writing out.new) console.old console.new
+        (why_text settings.now events.now stop console.old.last) result }
+{
+    if settings.has_lines {
+        return put_lines(settings, events, stop, console, out);
+    }
+    Ok(())
+}

@@ -1,0 +1,112 @@
+-- The commands of `monitor` (GDB manual, "General Query Packets", qRcmd; the commands are a choice of this project).
+use Rattle.std.specs.Prelude.{ℕ, Bool, true, false, if◌then◌else◌, List, ◌++◌, codes, Option, Some, None}
+use Rattle.std.specs.Prelude.{Result, Ok, Err}
+use Rattle.debugger.specs.Answers.{next_text, refusal_text}
+use Rattle.debugger.specs.StateText.{state_text}
+use Rattle.debugger_commands.specs.declared.commands.LineError.{LineError}
+use Rattle.debugger_commands.specs.declared.commands.LineError.TheVariants as error
+use Rattle.debugger_commands.specs.Settings.{ok_text}
+use Rattle.debugger_commands.specs.Texts.{decision_text, error_text, region_lines}
+use Rattle.gdb.specs.Consoles.{console_after, console_from, flush_text, sent_by}
+use Rattle.gdb.specs.Targets.{altered_if}
+use Rattle.gdb_server.specs.Replies.{bytes_in}
+use Rattle.gdb_server.specs.Writes.{Written, after_place, done}
+use Rattle.gdb_texts.specs.Monitor.{monitor_of}
+use Rattle.gdb_texts.specs.Settings.{settings_after}
+use Rattle.gdb_texts.specs.Texts.{explanation, monitor_help, why_text}
+use Rattle.gdb_texts.specs.declared.monitor.Monitor.{Monitor}
+use Rattle.gdb_texts.specs.declared.monitor.Monitor.TheVariants as monitor
+use Rattle.gdb_texts.specs.declared.replies.ErrorCode.{ErrorCode}
+use Rattle.gdb_texts.specs.declared.settings.Settings.{Settings}
+use Rattle.platform.specs.declared.access.Decision.{Decision}
+use Rattle.platform.specs.declared.error.PlaceError.{PlaceError}
+use Rattle.platform.specs.declared.mpu.TheConstants.{MOST_REGIONS}
+use Rattle.platform.specs.Priorities.{is_below_zero}
+use Rattle.platform.specs.Rules.{decision_of}
+use Rattle.platform.specs.Text.{line_feed}
+use Rattle.reference.specs.State.{State}
+
+-- ---- reading a command
+
+-- whether a command is known. Those of going back in time, of steps over handlers and of restarts aren't (profile)
+abbrev pub is_known : Monitor → Bool
+is_known monitor.Help = true
+is_known (monitor.Explain a privileged kind) = true
+is_known monitor.Regions = true
+is_known monitor.State = true
+is_known monitor.Next = true
+is_known monitor.History = false
+is_known (monitor.Trace selection) = true
+is_known (monitor.Lines on) = true
+is_known (monitor.Stop what on) = true
+is_known (monitor.Step over) = false
+is_known (monitor.Budget steps) = true
+is_known (monitor.Place place) = true
+is_known monitor.Restart = false
+is_known monitor.Why = true
+
+abbrev pub known : Result Monitor LineError → Result Monitor LineError
+known (Ok m) = if is_known m then Ok m else Err error.Command
+known (Err why) = Err why
+
+-- the command of some digits
+abbrev pub command_of : List ℕ → Result Monitor LineError
+command_of digits = known (monitor_of (bytes_in digits))
+
+-- ---- what a command changes
+
+abbrev pub settings_with : Settings → Result Monitor LineError → Settings
+settings_with k (Ok m) = settings_after k m
+settings_with k (Err why) = k
+
+-- the machine with the value of a command in its place
+abbrev pub placed_by : State → Result Monitor LineError → Written
+placed_by s (Ok monitor.Help) = done s
+placed_by s (Ok (monitor.Explain a privileged kind)) = done s
+placed_by s (Ok monitor.Regions) = done s
+placed_by s (Ok monitor.State) = done s
+placed_by s (Ok monitor.Next) = done s
+placed_by s (Ok monitor.History) = done s
+placed_by s (Ok (monitor.Trace selection)) = done s
+placed_by s (Ok (monitor.Lines on)) = done s
+placed_by s (Ok (monitor.Stop what on)) = done s
+placed_by s (Ok (monitor.Step over)) = done s
+placed_by s (Ok (monitor.Budget steps)) = done s
+placed_by s (Ok (monitor.Place place)) = after_place s (altered_if s place)
+placed_by s (Ok monitor.Restart) = done s
+placed_by s (Ok monitor.Why) = done s
+placed_by s (Err why) = done s
+
+-- ---- the text of a command
+
+-- the rule of a decision, and what it means
+abbrev pub decided_text : Decision → List ℕ
+decided_text d = decision_text d ++ explanation d
+
+-- whether a value was refused. GDB keeps the registers that it read, and reads them again by its own command
+abbrev pub placed_text : Option PlaceError → List ℕ
+placed_text None = codes "ok (gdb: maintenance flush register-cache)" ++ line_feed
+placed_text (Some why) = refusal_text why
+
+-- the text of a command after the last refusal of a packet, whose value was refused or not
+abbrev pub command_text : State → Option ErrorCode → Option PlaceError → Result Monitor LineError → List ℕ
+command_text s why refused (Ok monitor.Help) = monitor_help
+command_text s why refused (Ok (monitor.Explain a privileged kind)) =
+    decided_text (decision_of s.bus.system.mpu a kind privileged (is_below_zero s.bus.system.nvic))
+command_text s why refused (Ok monitor.Regions) = region_lines s.bus.system.mpu MOST_REGIONS
+command_text s why refused (Ok monitor.State) = state_text s
+command_text s why refused (Ok monitor.Next) = next_text s
+command_text s why refused (Ok monitor.History) = error_text error.Command
+command_text s why refused (Ok (monitor.Trace selection)) = ok_text
+command_text s why refused (Ok (monitor.Lines on)) = ok_text
+command_text s why refused (Ok (monitor.Stop what on)) = ok_text
+command_text s why refused (Ok (monitor.Step over)) = error_text error.Command
+command_text s why refused (Ok (monitor.Budget steps)) = ok_text
+command_text s why refused (Ok (monitor.Place place)) = placed_text refused
+command_text s why refused (Ok monitor.Restart) = error_text error.Command
+command_text s why refused (Ok monitor.Why) = why_text why
+command_text s why refused (Err wrong) = error_text wrong
+
+-- the packets of a text for GDB's console
+abbrev pub console_text : List ℕ → List ℕ
+console_text text = sent_by (console_from None) text ++ flush_text (console_after (console_from None) text)

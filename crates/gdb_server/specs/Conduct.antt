@@ -1,0 +1,192 @@
+-- What a byte of the input makes: the pieces of text that are written, and what is kept (GDB manual, "Overview" of the
+-- Remote Serial Protocol).
+use Rattle.std.specs.Prelude.{ℕ, ◌-◌, Bool, true, false, ◌||◌, if◌then◌else◌, List, [], ◌∷◌, ◌++◌, length, drop, codes}
+use Rattle.std.specs.Prelude.{bytes_eq, nat_le, ◌&&◌, Option, Some, None, Result, Ok, Err}
+use Rattle.gdb.specs.declared.turns.Run.{Run}
+use Rattle.gdb.specs.declared.turns.Turn.{Turn}
+use Rattle.gdb.specs.declared.turns.Turn.TheVariants.{Asks, Ends}
+use Rattle.gdb.specs.Turns.{Turned, turn}
+use Rattle.gdb_packets.specs.declared.framer.Event.{Event}
+use Rattle.gdb_packets.specs.declared.framer.Event.TheVariants as event
+use Rattle.gdb_packets.specs.declared.packets.Request.{Request}
+use Rattle.gdb_packets.specs.declared.packets.Request.TheVariants.{FileReply}
+use Rattle.gdb_packets.specs.Framing.{Framing, after, at_start, event_of, minus, plus}
+use Rattle.gdb_packets.specs.Packets.{Packet, packet_of}
+use Rattle.gdb_server.specs.Commands.{command_of, command_text, console_text, placed_by, settings_with}
+use Rattle.gdb_server.specs.declared.purposes.Purpose.{Purpose}
+use Rattle.gdb_server.specs.declared.purposes.Purpose.TheVariants as purpose
+use Rattle.gdb_server.specs.Purposes.{is_file_reply, purpose_of}
+use Rattle.gdb_server.specs.Replies.{constant_text, data_read}
+use Rattle.gdb_server.specs.Sessions.{Session, data_of_write, ok, opened, reply_packet, session_after, set_data}
+use Rattle.gdb_server.specs.Sessions.{with_reply}
+use Rattle.gdb_server.specs.Writes.{Written, written}
+use Rattle.debugger_commands.specs.declared.commands.LineError.{LineError}
+use Rattle.gdb_texts.specs.declared.actions.Resume.{Resume}
+use Rattle.gdb_texts.specs.declared.monitor.Monitor.{Monitor}
+use Rattle.gdb_texts.specs.declared.replies.ErrorCode.{ErrorCode}
+use Rattle.gdb_texts.specs.declared.replies.ErrorCode.TheVariants.{TooLong}
+use Rattle.platform.specs.Boards.{Numbers}
+use Rattle.platform.specs.declared.error.PlaceError.{PlaceError}
+use Rattle.reference.specs.State.{State}
+use Rattle.serving.specs.Conduct.{Conduct}
+use Rattle.serving.specs.Pieces.{Piece}
+
+-- the pieces that are written, and the session after them
+pub record Answered : Type 0 where
+  pub pieces : List Piece
+  pub session : Session
+
+-- nothing is written
+abbrev pub silent : Session → Answered
+silent k = record { pieces = []; session = k }
+
+abbrev pub piece : State → List ℕ → Piece
+piece s text = record { state = s; text = text }
+
+-- one reply, in this state of the machine
+abbrev pub replied : Session → State → Result (List ℕ) ErrorCode → Answered
+replied k s answer = record { pieces = piece s (reply_packet answer) ∷ []; session = with_reply k answer }
+
+-- ---- writes, and commands of `monitor`
+
+abbrev pub wrote : Session → Written → Answered
+wrote k w = replied k w.state (data_of_write w.refused)
+
+-- the text of a command for GDB's console, after its value was refused or not, and then `OK`
+abbrev pub told : Session → State → Option PlaceError → Result Monitor LineError → Answered
+told k s refused asked = record {
+  pieces = piece s (console_text (command_text s k.refused refused asked)) ∷ piece s (reply_packet ok) ∷ [];
+  session = with_reply k ok;
+}
+
+abbrev pub commanded_by : Session → Written → Result Monitor LineError → Answered
+commanded_by k w asked = told (record k { settings = settings_with k.settings asked }) w.state w.refused asked
+
+-- a command
+abbrev pub commanded : Session → State → Result Monitor LineError → Answered
+commanded k s asked = commanded_by k (placed_by s asked) asked
+
+-- ---- runs
+
+-- a run that asks waits for the reply; one that ended leaves its signal
+abbrev pub with_turn : Session → Turn → Session
+with_turn k (Asks run) = record k { running = Some run }
+with_turn k (Ends signal) = record k { running = None; signal = signal }
+
+abbrev pub turned : Session → Turned → Answered
+turned k t = record { pieces = t.pieces; session = with_turn (record k { sent = t.sent }) t.outcome }
+
+-- the next turn of a run
+abbrev pub resumed : Session → State → Run → Answered
+resumed k s run = turned k (turn k.breakpoints k.settings k.features k.limit run s)
+
+-- a run before its first step
+abbrev pub first_turn : Resume → Run
+first_turn how = record { how = how; made = 0; last = None; is_interrupted = false }
+
+-- ---- a packet at rest
+
+-- by what it asks for, with what follows its fields
+abbrev pub answered : Session → State → Purpose → List ℕ → Answered
+answered k s purpose.Nothing tail = silent k
+answered k s (purpose.Say what) tail = replied k s (Ok (constant_text what))
+answered k s (purpose.Refuse error) tail = replied k s (Err error)
+answered k s (purpose.Read what) tail = replied k s (data_read k.signal k.board s what)
+answered k s (purpose.Write change) tail = wrote k (written s change tail)
+answered k s (purpose.Set change) tail = replied (session_after k change tail) s (set_data k change)
+answered k s purpose.Kill tail = silent (record k { is_open = false })
+answered k s (purpose.Resume how) tail = resumed k s (first_turn how)
+answered k s purpose.Command tail = commanded k s (command_of tail)
+
+-- ---- a packet while a run waits for the reply to its question
+
+-- whether a reply ends with `,C`: the user has interrupted
+abbrev pub is_interrupt : List ℕ → Bool
+is_interrupt tail = nat_le 2 (length tail) && bytes_eq (drop (length tail - 2) tail) (codes ",C")
+
+abbrev pub interrupted_by : List ℕ → Run → Run
+interrupted_by tail run = record run { is_interrupted = run.is_interrupted || is_interrupt tail }
+
+-- the reply goes on with the run; other packets are skipped (profile)
+abbrev pub reply_heard : Session → State → Run → Packet → Answered
+reply_heard k s run p =
+    if is_file_reply p.request then resumed k s (interrupted_by p.tail run) else silent k
+
+abbrev pub packet_by : Session → State → Option Run → Packet → Answered
+packet_by k s None p = answered k s (purpose_of p.request p.tail) p.tail
+packet_by k s (Some run) p = reply_heard k s run p
+
+-- a packet
+abbrev pub packet_heard : Session → State → Packet → Answered
+packet_heard k s p = packet_by k s k.running p
+
+-- ---- a byte
+
+-- a byte of acknowledgement, until there is none any more
+abbrev pub acknowledgement : Session → State → ℕ → List Piece
+acknowledgement k s byte = if k.acknowledges then piece s (byte ∷ []) ∷ [] else []
+
+-- what comes after an acknowledgement
+abbrev pub acknowledged : Session → State → ℕ → Answered → Answered
+acknowledged k s byte later = record later { pieces = acknowledgement k s byte ++ later.pieces }
+
+-- the last packet once more
+abbrev pub sent_again : Session → State → List Piece
+sent_again k s = if k.acknowledges then piece s k.sent ∷ [] else []
+
+abbrev pub interrupted_run : Option Run → Option Run
+interrupted_run None = None
+interrupted_run (Some run) = Some (record run { is_interrupted = true })
+
+-- a run that waits ends by its next turn. At rest an interrupt has crossed the end of a run, and counts for nothing
+abbrev pub interrupted : Session → Session
+interrupted k = record k { running = interrupted_run k.running }
+
+abbrev pub too_long_by : Session → State → Option Run → Answered
+too_long_by k s None = replied k s (Err TooLong)
+too_long_by k s (Some run) = silent k
+
+-- a packet of too many bytes is refused, and skipped while a run waits (profile)
+abbrev pub too_long : Session → State → Answered
+too_long k s = too_long_by k s k.running
+
+abbrev pub long_heard : Session → State → Answered
+long_heard k s = acknowledged k s plus (too_long k s)
+
+abbrev pub whole_heard : Session → State → List ℕ → Answered
+whole_heard k s content = acknowledged k s plus (packet_heard k s (packet_of content))
+
+-- what a byte makes, by its event; `content` is the data of the last packet
+abbrev pub heard : Session → State → Event → List ℕ → Answered
+heard k s event.Nothing content = silent k
+heard k s event.Acknowledgement content = silent k
+heard k s event.Rejection content = record { pieces = sent_again k s; session = k }
+heard k s event.Interrupt content = silent (interrupted k)
+heard k s event.WrongChecksum content = record { pieces = acknowledgement k s minus; session = k }
+heard k s event.TooLong content = long_heard k s
+heard k s event.Packet content = whole_heard k s content
+
+-- ---- the server
+
+pub record Server : Type 0 where
+  pub framing : Framing
+  pub session : Session
+
+-- before the first byte
+abbrev pub first : ℕ → Numbers → Server
+first limit board = record { framing = at_start; session = opened limit board }
+
+abbrev pub byte_heard : Server → State → ℕ → Answered
+byte_heard server s byte = heard server.session s (event_of server.framing byte) (after server.framing byte).content
+
+-- the protocol. Nothing is written at the end of the input
+abbrev pub conduct : Conduct Server
+conduct = record {
+  is_open = λ server. server.session.is_open;
+  answered = λ server s byte. (byte_heard server s byte).pieces;
+  kept = λ server s byte. record {
+    framing = after server.framing byte;
+    session = (byte_heard server s byte).session;
+  };
+  at_end = λ server s. [];
+}

@@ -1,0 +1,172 @@
+//! The commands of `monitor`.
+
+ghost use Rattle.std.specs.Prelude.{◌≡◌};
+ghost use Rattle.debugger.specs.Answers.{next_text};
+ghost use Rattle.gdb_server.specs.Commands.{command_of, command_text, console_text, decided_text, is_known, known};
+ghost use Rattle.gdb_server.specs.Commands.{placed_by, placed_text, settings_with};
+ghost use Rattle.gdb_server.specs.Writes.{Writes};
+ghost use Rattle.output.specs.Output.{Put};
+ghost use Rattle.platform.specs.Priorities.{is_below_zero};
+ghost use Rattle.platform.specs.Rules.{decision_of};
+
+use crate::content::Data;
+use crate::writes::put;
+use debugger::{next_text, refusal_text, regions_text, state_page};
+use debugger_commands::{LineError, Reply, decision_text, error_text, ok_text};
+use gdb::Console;
+use gdb_texts::{
+    ErrorCode, Monitor, Settings, explanation, monitor_help, read_monitor, settings_after, why_text,
+};
+use machine::{Decider, Decision, DueTicks, IoError, KeptCode, Levels, Machine, Out, PlaceError};
+use trace::page::Page;
+
+/// Returns whether a command is known. Those of going back in time, of steps over handlers and of restarts aren't.
+fn is_known(command: Monitor) -> bool
+    ensures { result ≡ is_known command }
+{
+    match command {
+        Monitor::Help
+        | Monitor::Explain(_, _, _)
+        | Monitor::Regions
+        | Monitor::State
+        | Monitor::Next
+        | Monitor::Trace(_)
+        | Monitor::Lines(_)
+        | Monitor::Stop(_, _)
+        | Monitor::Budget(_)
+        | Monitor::Place(_)
+        | Monitor::Why => true,
+        Monitor::History | Monitor::Step(_) | Monitor::Restart => false,
+    }
+}
+
+/// Returns a command that is known.
+fn known(asked: Result<Monitor, LineError>) -> Result<Monitor, LineError>
+    ensures { result ≡ known asked }
+{
+    match asked {
+        Ok(command) => {
+            if is_known(command) {
+                Ok(command)
+            } else {
+                Err(LineError::Command)
+            }
+        }
+        Err(error) => Err(error),
+    }
+}
+
+/// Returns the command that some digits have.
+pub fn read_command(digits: &[u8]) -> Result<Monitor, LineError>
+    ensures { result ≡ command_of digits.now }
+{
+    let text = Data::of_digits(digits);
+    known(read_monitor(text.as_slice()))
+}
+
+/// Returns the settings after a command.
+pub fn settings_with(settings: Settings, asked: Result<Monitor, LineError>) -> Settings
+    ensures { result ≡ settings_with settings asked }
+{
+    match asked {
+        Ok(command) => settings_after(settings, command),
+        Err(_) => settings,
+    }
+}
+
+/// Puts the value of a command into its place, where the command has one. Returns why it was refused, if it was.
+pub fn place_by<D: Decider, C: KeptCode, L: Levels, U: DueTicks>(
+    machine: &mut Machine<D, C, L, U>,
+    asked: Result<Monitor, LineError>,
+) -> Option<PlaceError>
+    ensures { Writes (placed_by machine.old.state asked) machine.old machine.new result }
+{
+    match asked {
+        Ok(Monitor::Place(place)) => put(machine, place),
+        Ok(
+            Monitor::Help
+            | Monitor::Explain(_, _, _)
+            | Monitor::Regions
+            | Monitor::State
+            | Monitor::Next
+            | Monitor::History
+            | Monitor::Trace(_)
+            | Monitor::Lines(_)
+            | Monitor::Stop(_, _)
+            | Monitor::Step(_)
+            | Monitor::Budget(_)
+            | Monitor::Restart
+            | Monitor::Why,
+        )
+        | Err(_) => None,
+    }
+}
+
+/// Returns the text of `explain`: the line of the rule, and what the rule means.
+fn decided_text(decision: &Decision) -> Page<2048>
+    ensures { result ≡ decided_text decision.now }
+{
+    let mut page: Page<2048> = Page::new();
+    page.put_slice(decision_text(decision).as_slice());
+    page.put_slice(explanation(decision).as_slice());
+    page
+}
+
+/// Returns the text of `place`, whose value was refused or not.
+fn placed_text(refused: Option<PlaceError>) -> Reply
+    ensures { result ≡ placed_text refused }
+{
+    match refused {
+        Some(error) => refusal_text(error),
+        None => {
+            let mut page = Reply::new();
+            page.put(b"ok (gdb: maintenance flush register-cache)\n");
+            page
+        }
+    }
+}
+
+/// Writes text for GDB's console, in packets.
+fn tell<W: Out>(text: &[u8], out: &mut W) -> Result<(), IoError>
+    ensures { Put (W.writing out.old) (W.writing out.new) (console_text text.now) result }
+{
+    let mut console = Console::new(None);
+    match console.put(text, out) {
+        Ok(()) => {}
+        Err(error) => return Err(error),
+    }
+    console.flush(out)
+}
+
+/// Writes the text of a command, in packets. `why` is the last refusal of a packet, and `refused` that of the
+/// command's value.
+pub fn tell_command<D: Decider, C: KeptCode, L: Levels, U: DueTicks, W: Out>(
+    machine: &Machine<D, C, L, U>,
+    why: Option<ErrorCode>,
+    refused: Option<PlaceError>,
+    asked: Result<Monitor, LineError>,
+    out: &mut W,
+) -> Result<(), IoError>
+    ensures { Put (W.writing out.old) (W.writing out.new)
+        (console_text (command_text machine.now.state why refused asked)) result }
+{
+    match asked {
+        Ok(Monitor::Help) => tell(monitor_help(), out),
+        Ok(Monitor::Explain(address, privileged, kind)) => tell(
+            decided_text(&machine.explain(address, privileged, kind)).as_slice(),
+            out,
+        ),
+        Ok(Monitor::Regions) => tell(regions_text(machine).as_slice(), out),
+        Ok(Monitor::State) => tell(state_page(machine).as_slice(), out),
+        Ok(Monitor::Next) => tell(next_text(machine).as_slice(), out),
+        Ok(Monitor::Place(_)) => tell(placed_text(refused).as_slice(), out),
+        Ok(Monitor::Why) => tell(why_text(why), out),
+        Ok(Monitor::Trace(_) | Monitor::Lines(_) | Monitor::Stop(_, _) | Monitor::Budget(_)) => {
+            tell(ok_text().as_slice(), out)
+        }
+        Ok(Monitor::History | Monitor::Step(_) | Monitor::Restart) => {
+            tell(error_text(LineError::Command).as_slice(), out)
+        }
+        Err(error) => tell(error_text(error).as_slice(), out),
+    }
+}

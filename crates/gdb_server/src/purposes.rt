@@ -1,0 +1,196 @@
+//! What a packet asks of a server at rest.
+
+ghost use Rattle.std.specs.Prelude.{◌≡◌};
+ghost use Rattle.gdb_server.specs.Purposes.{insertion_of, purpose_of, removal_of, resumption};
+
+use gdb_packets::{PointKind, Request};
+use gdb_texts::{Breakpoint, BreakpointKind, ErrorCode, Resume, read_actions};
+
+/// A reply that is the same whenever it is asked for.
+#[derive(Clone, Copy)]
+pub enum Constant {
+    /// Nothing: the packet isn't known.
+    Empty,
+    /// `OK`.
+    Done,
+    /// The actions of `vCont`.
+    ResumeActions,
+    /// The target ran before GDB came.
+    Attached,
+    /// The number of the thread.
+    CurrentThread,
+    /// All threads.
+    FirstThreads,
+    /// No more threads.
+    MoreThreads,
+}
+
+/// What a packet reads of the machine, or of its board.
+#[derive(Clone, Copy)]
+pub enum Reading {
+    /// The last signal, and all registers.
+    StopReason,
+    /// All registers.
+    Registers,
+    /// The register of a number.
+    Register(u32),
+    /// The bytes from an address on, at most so many.
+    Memory(u32, u32),
+    /// The description of the registers, by an offset and a length.
+    Description(u32, u32),
+    /// The map of the memory, by an offset and a length.
+    MemoryMap(u32, u32),
+    /// The region of an address.
+    Region(u32),
+    /// What the thread is at.
+    Thread,
+}
+
+/// What a packet writes to the machine, by what follows its fields.
+#[derive(Clone, Copy)]
+pub enum MachineChange {
+    /// The register of a number.
+    Register(u32),
+    /// All registers.
+    Registers,
+    /// The bytes from an address on, as digits.
+    Digits(u32),
+    /// The bytes from an address on, as they are.
+    Bytes(u32),
+}
+
+/// What a packet changes of the session.
+#[derive(Clone, Copy)]
+pub enum SessionChange {
+    /// GDB's features are read, and the server's are written.
+    Features,
+    /// No packet is acknowledged any more.
+    NoAcknowledgement,
+    /// A breakpoint is set.
+    Insert(Breakpoint),
+    /// A breakpoint is removed.
+    Remove(Breakpoint),
+    /// The session ends.
+    End,
+}
+
+/// What a packet asks for.
+#[derive(Clone, Copy)]
+pub enum Purpose {
+    /// Nothing: it is skipped.
+    Nothing,
+    /// A reply that is always the same.
+    Say(Constant),
+    /// A refusal.
+    Refuse(ErrorCode),
+    /// A part of the machine or of its board.
+    Read(Reading),
+    /// A change of the machine.
+    Write(MachineChange),
+    /// A change of the session.
+    Set(SessionChange),
+    /// The end of the session, without a reply.
+    Kill,
+    /// A run.
+    Resume(Resume),
+    /// A command of `monitor`.
+    Command,
+}
+
+/// Returns a breakpoint.
+fn breakpoint(kind: BreakpointKind, address: u32) -> Breakpoint
+    ensures { result ≡ record { kind = kind; address = address } }
+{
+    Breakpoint { kind, address }
+}
+
+/// Returns what a packet that sets a breakpoint or watchpoint asks for. Watchpoints aren't known.
+fn insertion_of(kind: PointKind, address: u32) -> Purpose
+    ensures { result ≡ insertion_of kind address }
+{
+    match kind {
+        PointKind::SoftwareBreakpoint => {
+            Purpose::Set(SessionChange::Insert(breakpoint(BreakpointKind::Software, address)))
+        }
+        PointKind::HardwareBreakpoint => {
+            Purpose::Set(SessionChange::Insert(breakpoint(BreakpointKind::Hardware, address)))
+        }
+        PointKind::WriteWatchpoint | PointKind::ReadWatchpoint | PointKind::AccessWatchpoint => {
+            Purpose::Say(Constant::Empty)
+        }
+    }
+}
+
+/// Returns what a packet that removes a breakpoint or watchpoint asks for. Watchpoints aren't known.
+fn removal_of(kind: PointKind, address: u32) -> Purpose
+    ensures { result ≡ removal_of kind address }
+{
+    match kind {
+        PointKind::SoftwareBreakpoint => {
+            Purpose::Set(SessionChange::Remove(breakpoint(BreakpointKind::Software, address)))
+        }
+        PointKind::HardwareBreakpoint => {
+            Purpose::Set(SessionChange::Remove(breakpoint(BreakpointKind::Hardware, address)))
+        }
+        PointKind::WriteWatchpoint | PointKind::ReadWatchpoint | PointKind::AccessWatchpoint => {
+            Purpose::Say(Constant::Empty)
+        }
+    }
+}
+
+/// Returns what `vCont` with its actions asks for.
+fn resumption(how: Option<Resume>) -> Purpose
+    ensures { result ≡ resumption how }
+{
+    match how {
+        Some(how) => Purpose::Resume(how),
+        None => Purpose::Refuse(ErrorCode::Malformed),
+    }
+}
+
+/// Returns what a packet asks for, by its name and fields and what follows them. Packets of going back in time, of
+/// restarts and of the extended mode aren't known.
+#[tactic(auto, unfolding(crate::specs::Purposes::purpose_of))]
+pub fn purpose_of(request: Request, tail: &[u8]) -> Purpose
+    ensures { result ≡ purpose_of request tail.now }
+{
+    match request {
+        Request::Unknown
+        | Request::ReverseStep
+        | Request::ReverseContinue
+        | Request::ExtendedMode
+        | Request::Run
+        | Request::Restart => Purpose::Say(Constant::Empty),
+        Request::SelectThread | Request::ThreadAlive => Purpose::Say(Constant::Done),
+        Request::ResumeActions => Purpose::Say(Constant::ResumeActions),
+        Request::Attached => Purpose::Say(Constant::Attached),
+        Request::CurrentThread => Purpose::Say(Constant::CurrentThread),
+        Request::FirstThreads => Purpose::Say(Constant::FirstThreads),
+        Request::MoreThreads => Purpose::Say(Constant::MoreThreads),
+        Request::Malformed => Purpose::Refuse(ErrorCode::Malformed),
+        Request::NoAnnex => Purpose::Refuse(ErrorCode::NoAnnex),
+        Request::StopReason => Purpose::Read(Reading::StopReason),
+        Request::ReadRegisters => Purpose::Read(Reading::Registers),
+        Request::ReadRegister(number) => Purpose::Read(Reading::Register(number)),
+        Request::ReadMemory(address, count) => Purpose::Read(Reading::Memory(address, count)),
+        Request::ReadDescription(at, count) => Purpose::Read(Reading::Description(at, count)),
+        Request::ReadMemoryMap(at, count) => Purpose::Read(Reading::MemoryMap(at, count)),
+        Request::MemoryRegion(address) => Purpose::Read(Reading::Region(address)),
+        Request::ThreadDescription => Purpose::Read(Reading::Thread),
+        Request::WriteRegister(number) => Purpose::Write(MachineChange::Register(number)),
+        Request::WriteRegisters => Purpose::Write(MachineChange::Registers),
+        Request::WriteMemory(address, _) => Purpose::Write(MachineChange::Digits(address)),
+        Request::WriteBinary(address, _) => Purpose::Write(MachineChange::Bytes(address)),
+        Request::Supported => Purpose::Set(SessionChange::Features),
+        Request::StartNoAckMode => Purpose::Set(SessionChange::NoAcknowledgement),
+        Request::Insert(kind, address, _) => insertion_of(kind, address),
+        Request::Remove(kind, address, _) => removal_of(kind, address),
+        Request::Detach | Request::KillProcess => Purpose::Set(SessionChange::End),
+        Request::Kill => Purpose::Kill,
+        Request::Continue => Purpose::Resume(Resume::Continue),
+        Request::Step => Purpose::Resume(Resume::Step),
+        Request::Resume => resumption(read_actions(tail)),
+        Request::Monitor => Purpose::Command,
+        Request::FileReply => Purpose::Nothing,
+    }
+}

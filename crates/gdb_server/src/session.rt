@@ -1,0 +1,573 @@
+//! What a session keeps between two packets, and what a packet makes.
+
+ghost use Rattle.std.specs.Prelude.{◌≡◌, OnOk, false, bytes_eq};
+ghost use Rattle.gdb_packets.specs.Seen.{seen_packet};
+ghost use Rattle.gdb_server.specs.Commands.{command_of, settings_with};
+ghost use Rattle.gdb_server.specs.Conduct.{acknowledgement, answered, commanded, first_turn, heard, interrupted};
+ghost use Rattle.gdb_server.specs.Conduct.{interrupted_by, is_interrupt, long_heard, packet_heard, replied};
+ghost use Rattle.gdb_server.specs.Conduct.{reply_heard, resumed, sent_again, told, too_long, whole_heard, with_turn};
+ghost use Rattle.gdb_server.specs.Conduct.{wrote};
+ghost use Rattle.gdb_server.specs.Purposes.{is_file_reply};
+ghost use Rattle.gdb_server.specs.Replies.{data_read};
+ghost use Rattle.gdb_server.specs.Sessions.{data_of_reply, data_of_write, opened, reply_packet, session_after};
+ghost use Rattle.gdb_server.specs.Sessions.{set_data, with_reply};
+ghost use Rattle.gdb_server.specs.Writes.{written};
+ghost use Rattle.output.specs.Output.{Put};
+ghost use Rattle.platform.specs.Boards.{numbers_of};
+ghost use Rattle.serving.specs.Pieces.{Tells};
+
+use crate::commands::{place_by, read_command, settings_with, tell_command};
+use crate::content::{Data, constant_text, features};
+use crate::purposes::{MachineChange, Purpose, Reading, SessionChange, purpose_of};
+use crate::reading::read;
+use crate::writes::write;
+use debugger_commands::LineError;
+use gdb::{Run, SentPacket, Terms, Turn, go_on, send_packet};
+use gdb_packets::{Event, Packet, Request, read_packet};
+use gdb_texts::{
+    Breakpoints, ErrorCode, Features, Monitor, Reply, Resume, Settings, Signal, first_settings,
+    read_features, refusal, reply_text,
+};
+use machine::{Decider, DueTicks, IoError, KeptCode, Layout, Levels, Machine, Out, PlaceError};
+use std::marker::Model;
+
+/// What a session keeps between two packets, beside the machine.
+#[derive(Drop)]
+pub struct Session {
+    breakpoints: Breakpoints,
+    settings: Settings,
+    /// The signal of the last run's end.
+    signal: Signal,
+    features: Features,
+    /// Whether packets are acknowledged.
+    acknowledges: bool,
+    /// The last packet that was sent.
+    sent: SentPacket,
+    /// The run that GDB has been asked about.
+    running: Option<Run>,
+    /// Why the last packet was refused that was.
+    refused: Option<ErrorCode>,
+    is_open: bool,
+    /// The tick to which runs go at most.
+    limit: u64,
+    board: Layout,
+}
+
+impl Model for Session {
+    ghost use Rattle.gdb_server.specs.Sessions.{Session as SessionView};
+    ghost use Rattle.platform.specs.Boards.{numbers_of};
+
+    ghost Value = { SessionView };
+
+    ghost view = { λ k. record {
+      breakpoints = k.breakpoints;
+      settings = k.settings;
+      signal = k.signal;
+      features = k.features;
+      acknowledges = k.acknowledges;
+      sent = k.sent.items;
+      running = k.running;
+      refused = k.refused;
+      is_open = k.is_open;
+      limit = k.limit;
+      board = numbers_of k.board;
+    } };
+}
+
+/// Returns the data of a reply that is one word.
+fn data_of_reply(reply: Reply) -> Result<Data, ErrorCode>
+    ensures { result ≡ data_of_reply reply }
+{
+    match reply {
+        Reply::Error(error) => Err(error),
+        Reply::Empty | Reply::Done => Ok(Data::of(reply_text(reply))),
+    }
+}
+
+/// Returns the data of the reply to a write.
+fn data_of_write(refused: Option<PlaceError>) -> Result<Data, ErrorCode>
+    ensures { result ≡ data_of_write refused }
+{
+    match refused {
+        Some(error) => Err(refusal(error)),
+        None => data_of_reply(Reply::Done),
+    }
+}
+
+/// Returns whether two texts are equal.
+fn is_same(text: &[u8], other: &[u8]) -> bool
+    ensures { result ≡ bytes_eq text.now other.now }
+{
+    text == other
+}
+
+/// Returns whether the reply to a question says that the user has interrupted the run.
+fn is_interrupt(tail: &[u8]) -> bool
+    ensures { result ≡ is_interrupt tail.now }
+{
+    tail.len() >= 2 && is_same(&tail[tail.len() - 2..], b",C")
+}
+
+/// Returns a run, interrupted if the reply to its question says so.
+fn interrupted_by(tail: &[u8], run: Run) -> Run
+    ensures { result ≡ interrupted_by tail.now run }
+{
+    let mut replied = run;
+    replied.is_interrupted = run.is_interrupted || is_interrupt(tail);
+    replied
+}
+
+/// Returns a run before its first step.
+fn first_turn(how: Resume) -> Run
+    ensures { result ≡ first_turn how }
+{
+    Run {
+        how,
+        made: 0,
+        last: None,
+        is_interrupted: false,
+    }
+}
+
+/// Returns whether a packet is the reply to a question.
+fn is_file_reply(request: Request) -> bool
+    ensures { result ≡ is_file_reply request }
+{
+    matches!(request, Request::FileReply)
+}
+
+impl Session {
+    /// Returns a session before its first packet, whose runs go to the tick `limit` at most.
+    pub fn new(limit: u64, board: Layout) -> Self
+        ensures { result ≡ opened limit (numbers_of board) }
+    {
+        Session {
+            breakpoints: Breakpoints::new(),
+            settings: first_settings(),
+            signal: Signal::Trap,
+            features: Features {
+                is_gdb: false,
+                takes_swbreak: false,
+                takes_hwbreak: false,
+            },
+            acknowledges: true,
+            sent: SentPacket::new(),
+            running: None,
+            refused: None,
+            is_open: true,
+            limit,
+            board,
+        }
+    }
+
+    /// Returns whether the session reads on.
+    pub fn is_open(&self) -> bool
+        ensures { result ≡ self.now.is_open }
+    {
+        self.is_open
+    }
+
+    /// Returns why the last packet was refused that was.
+    fn last_refusal(&self) -> Option<ErrorCode>
+        ensures { result ≡ self.now.refused }
+    {
+        self.refused
+    }
+
+    /// Returns the run that waits for the reply to its question, if one does.
+    fn waiting(&self) -> Option<Run>
+        ensures { result ≡ self.now.running }
+    {
+        self.running
+    }
+
+    /// Returns whether packets are acknowledged.
+    fn acknowledges(&self) -> bool
+        ensures { result ≡ self.now.acknowledges }
+    {
+        self.acknowledges
+    }
+
+    /// Returns the last packet that was sent.
+    fn last_sent(&self) -> &[u8]
+        ensures { result.now ≡ self.now.sent }
+    {
+        self.sent.as_slice()
+    }
+
+    /// Returns what a packet reads.
+    fn read<D: Decider, C: KeptCode, L: Levels, U: DueTicks>(
+        &self,
+        machine: &Machine<D, C, L, U>,
+        what: Reading,
+    ) -> Result<Data, ErrorCode>
+        ensures { result ≡ data_read self.now.signal self.now.board machine.now.state what }
+    {
+        read(self.signal, &self.board, machine, what)
+    }
+
+    /// Ends the session.
+    fn close(&mut self)
+        ensures { self.new ≡ record self.old { is_open = false } }
+    {
+        self.is_open = false;
+    }
+
+    /// Makes the change of the settings that a command asks for.
+    fn change_settings(&mut self, asked: Result<Monitor, LineError>)
+        ensures { self.new ≡ record self.old { settings = settings_with self.old.settings asked } }
+    {
+        self.settings = settings_with(self.settings, asked);
+    }
+
+    /// Writes the reply to a packet, and keeps why the packet was refused, if it was.
+    fn put_reply<W: Out>(
+        &mut self,
+        answer: Result<Data, ErrorCode>,
+        out: &mut W,
+    ) -> Result<(), IoError>
+        ensures put { Put (W.writing out.old) (W.writing out.new) (reply_packet answer) result }
+        ensures kept { self.new ≡ with_reply self.old answer }
+    {
+        match answer {
+            Ok(data) => send_packet(data.as_slice(), &mut self.sent, out),
+            Err(error) => {
+                self.refused = Some(error);
+                send_packet(reply_text(Reply::Error(error)), &mut self.sent, out)
+            }
+        }
+    }
+
+    /// Writes the reply to a packet, and keeps why the packet was refused, if it was. Nothing of the machine changes.
+    fn reply<D: Decider, C: KeptCode, L: Levels, U: DueTicks, W: Out>(
+        &mut self,
+        machine: &Machine<D, C, L, U>,
+        answer: Result<Data, ErrorCode>,
+        out: &mut W,
+    ) -> Result<(), IoError>
+        ensures tells { Tells (replied self.old machine.now.state answer).pieces machine.now machine.now
+            (W.writing out.old) (W.writing out.new) result }
+        ensures kept { self.new ≡ (replied self.old machine.now.state answer).session }
+    {
+        let _ = machine;
+        self.put_reply(answer, out)
+    }
+
+    /// Makes a change of the session. Returns the data of the reply.
+    fn set(&mut self, change: SessionChange, tail: &[u8]) -> Result<Data, ErrorCode>
+        ensures answer { result ≡ set_data self.old change }
+        ensures kept { self.new ≡ session_after self.old change tail.now }
+    {
+        match change {
+            SessionChange::Features => {
+                self.features = read_features(tail);
+                Ok(Data::of(features()))
+            }
+            SessionChange::NoAcknowledgement => {
+                self.acknowledges = false;
+                data_of_reply(Reply::Done)
+            }
+            SessionChange::Insert(breakpoint) => data_of_reply(self.breakpoints.insert(breakpoint)),
+            SessionChange::Remove(breakpoint) => {
+                self.breakpoints.remove(breakpoint);
+                data_of_reply(Reply::Done)
+            }
+            SessionChange::End => {
+                self.is_open = false;
+                data_of_reply(Reply::Done)
+            }
+        }
+    }
+
+    /// Writes to the machine, and answers.
+    fn write<D: Decider, C: KeptCode, L: Levels, U: DueTicks, W: Out>(
+        &mut self,
+        machine: &mut Machine<D, C, L, U>,
+        change: MachineChange,
+        tail: &[u8],
+        out: &mut W,
+    ) -> Result<(), IoError>
+        ensures tells { Tells (wrote self.old (written machine.old.state change tail.now)).pieces machine.old
+            machine.new (W.writing out.old) (W.writing out.new) result }
+        ensures kept { self.new ≡ (wrote self.old (written machine.old.state change tail.now)).session }
+    {
+        let refused = write(machine, change, tail);
+        self.put_reply(data_of_write(refused), out)
+    }
+
+    /// Writes the text of a command that was carried out, and then the reply.
+    fn tell<D: Decider, C: KeptCode, L: Levels, U: DueTicks, W: Out>(
+        &mut self,
+        machine: &Machine<D, C, L, U>,
+        refused: Option<PlaceError>,
+        asked: Result<Monitor, LineError>,
+        out: &mut W,
+    ) -> Result<(), IoError>
+        ensures tells { Tells (told self.old machine.now.state refused asked).pieces machine.now machine.now
+            (W.writing out.old) (W.writing out.new) result }
+        ensures kept { OnOk result (self.new ≡ (told self.old machine.now.state refused asked).session) }
+    {
+        match tell_command(machine, self.last_refusal(), refused, asked, out) {
+            Ok(()) => {}
+            Err(error) => return Err(error),
+        }
+        self.put_reply(data_of_reply(Reply::Done), out)
+    }
+
+    /// Carries out a command of `monitor`, and answers.
+    fn command<D: Decider, C: KeptCode, L: Levels, U: DueTicks, W: Out>(
+        &mut self,
+        machine: &mut Machine<D, C, L, U>,
+        digits: &[u8],
+        out: &mut W,
+    ) -> Result<(), IoError>
+        ensures tells { Tells (commanded self.old machine.old.state (command_of digits.now)).pieces machine.old
+            machine.new (W.writing out.old) (W.writing out.new) result }
+        ensures kept { OnOk result
+            (self.new ≡ (commanded self.old machine.old.state (command_of digits.now)).session) }
+    {
+        let asked = read_command(digits);
+        let refused = place_by(machine, asked);
+        self.change_settings(asked);
+        self.tell(machine, refused, asked, out)
+    }
+
+    /// Keeps how a turn of a run ended.
+    fn keep_turn(&mut self, turn: Turn)
+        ensures { self.new ≡ with_turn self.old turn }
+    {
+        match turn {
+            Turn::Asks(run) => self.running = Some(run),
+            Turn::Ends(signal) => {
+                self.running = None;
+                self.signal = signal;
+            }
+        }
+    }
+
+    /// Makes the next turn of a run.
+    fn resume<D: Decider, C: KeptCode, L: Levels, U: DueTicks, W: Out>(
+        &mut self,
+        machine: &mut Machine<D, C, L, U>,
+        run: Run,
+        out: &mut W,
+    ) -> Result<(), IoError>
+        ensures tells { Tells (resumed self.old machine.old.state run).pieces machine.old machine.new
+            (W.writing out.old) (W.writing out.new) result }
+        ensures kept { OnOk result (self.new ≡ (resumed self.old machine.old.state run).session) }
+    {
+        let terms = Terms {
+            points: &self.breakpoints,
+            settings: self.settings,
+            features: self.features,
+            limit: self.limit,
+        };
+        match go_on(run, &terms, &mut self.sent, machine, out) {
+            Ok(turn) => {
+                self.keep_turn(turn);
+                Ok(())
+            }
+            Err(error) => Err(error),
+        }
+    }
+
+    /// Does at rest what a packet asks for.
+    fn answer<D: Decider, C: KeptCode, L: Levels, U: DueTicks, W: Out>(
+        &mut self,
+        machine: &mut Machine<D, C, L, U>,
+        purpose: Purpose,
+        tail: &[u8],
+        out: &mut W,
+    ) -> Result<(), IoError>
+        ensures tells { Tells (answered self.old machine.old.state purpose tail.now).pieces machine.old machine.new
+            (W.writing out.old) (W.writing out.new) result }
+        ensures kept { OnOk result (self.new ≡ (answered self.old machine.old.state purpose tail.now).session) }
+    {
+        match purpose {
+            Purpose::Nothing => Ok(()),
+            Purpose::Say(what) => self.reply(machine, Ok(Data::of(constant_text(what))), out),
+            Purpose::Refuse(error) => self.reply(machine, Err(error), out),
+            Purpose::Read(reading) => {
+                let data = self.read(machine, reading);
+                self.reply(machine, data, out)
+            }
+            Purpose::Write(change) => self.write(machine, change, tail, out),
+            Purpose::Set(change) => {
+                let data = self.set(change, tail);
+                self.reply(machine, data, out)
+            }
+            Purpose::Kill => {
+                self.close();
+                Ok(())
+            }
+            Purpose::Resume(how) => self.resume(machine, first_turn(how), out),
+            Purpose::Command => self.command(machine, tail, out),
+        }
+    }
+
+    /// Takes a packet while a run waits for the reply to a question: any other packet is skipped.
+    fn take_reply<D: Decider, C: KeptCode, L: Levels, U: DueTicks, W: Out>(
+        &mut self,
+        machine: &mut Machine<D, C, L, U>,
+        run: Run,
+        packet: Packet<'_>,
+        out: &mut W,
+    ) -> Result<(), IoError>
+        ensures tells { Tells (reply_heard self.old machine.old.state run (seen_packet packet.entry)).pieces machine.old
+            machine.new (W.writing out.old) (W.writing out.new) result }
+        ensures kept { OnOk result
+            (self.new ≡ (reply_heard self.old machine.old.state run (seen_packet packet.entry)).session) }
+    {
+        if is_file_reply(packet.request) {
+            self.resume(machine, interrupted_by(packet.tail, run), out)
+        } else {
+            Ok(())
+        }
+    }
+
+    /// Takes a packet.
+    fn take_packet<D: Decider, C: KeptCode, L: Levels, U: DueTicks, W: Out>(
+        &mut self,
+        machine: &mut Machine<D, C, L, U>,
+        packet: Packet<'_>,
+        out: &mut W,
+    ) -> Result<(), IoError>
+        ensures tells { Tells (packet_heard self.old machine.old.state (seen_packet packet.entry)).pieces machine.old
+            machine.new (W.writing out.old) (W.writing out.new) result }
+        ensures kept { OnOk result
+            (self.new ≡ (packet_heard self.old machine.old.state (seen_packet packet.entry)).session) }
+    {
+        match self.waiting() {
+            Some(run) => self.take_reply(machine, run, packet, out),
+            None => {
+                let purpose = purpose_of(packet.request, packet.tail);
+                self.answer(machine, purpose, packet.tail, out)
+            }
+        }
+    }
+
+    /// Writes a byte of acknowledgement, where packets are acknowledged.
+    fn acknowledge<D: Decider, C: KeptCode, L: Levels, U: DueTicks, W: Out>(
+        &self,
+        machine: &Machine<D, C, L, U>,
+        byte: u8,
+        out: &mut W,
+    ) -> Result<(), IoError>
+        ensures { Tells (acknowledgement self.now machine.now.state byte) machine.now machine.now
+            (W.writing out.old) (W.writing out.new) result }
+    {
+        let _ = machine;
+        if self.acknowledges() {
+            out.put_byte(byte)
+        } else {
+            Ok(())
+        }
+    }
+
+    /// Writes the last packet that was sent once more, where packets are acknowledged.
+    fn send_again<D: Decider, C: KeptCode, L: Levels, U: DueTicks, W: Out>(
+        &self,
+        machine: &Machine<D, C, L, U>,
+        out: &mut W,
+    ) -> Result<(), IoError>
+        ensures { Tells (sent_again self.now machine.now.state) machine.now machine.now
+            (W.writing out.old) (W.writing out.new) result }
+    {
+        let _ = machine;
+        if self.acknowledges() {
+            out.put_all(self.last_sent())
+        } else {
+            Ok(())
+        }
+    }
+
+    /// Interrupts a run that waits. At rest nothing changes.
+    fn interrupt(&mut self)
+        ensures { self.new ≡ interrupted self.old }
+    {
+        match self.running {
+            Some(run) => {
+                let mut run = run;
+                run.is_interrupted = true;
+                self.running = Some(run);
+            }
+            None => {}
+        }
+    }
+
+    /// Refuses a packet of too many bytes. While a run waits it is skipped.
+    fn refuse_long<D: Decider, C: KeptCode, L: Levels, U: DueTicks, W: Out>(
+        &mut self,
+        machine: &Machine<D, C, L, U>,
+        out: &mut W,
+    ) -> Result<(), IoError>
+        ensures tells { Tells (too_long self.old machine.now.state).pieces machine.now machine.now
+            (W.writing out.old) (W.writing out.new) result }
+        ensures kept { self.new ≡ (too_long self.old machine.now.state).session }
+    {
+        match self.waiting() {
+            Some(_) => Ok(()),
+            None => self.reply(machine, Err(ErrorCode::TooLong), out),
+        }
+    }
+
+    /// Acknowledges a packet, and takes it.
+    fn take_whole<D: Decider, C: KeptCode, L: Levels, U: DueTicks, W: Out>(
+        &mut self,
+        machine: &mut Machine<D, C, L, U>,
+        content: &[u8],
+        out: &mut W,
+    ) -> Result<(), IoError>
+        ensures tells { Tells (whole_heard self.old machine.old.state content.now).pieces machine.old machine.new
+            (W.writing out.old) (W.writing out.new) result }
+        ensures kept { OnOk result (self.new ≡ (whole_heard self.old machine.old.state content.now).session) }
+    {
+        match self.acknowledge(machine, b'+', out) {
+            Ok(()) => {}
+            Err(error) => return Err(error),
+        }
+        self.take_packet(machine, read_packet(content), out)
+    }
+
+    /// Acknowledges a packet of too many bytes, and refuses it.
+    fn take_long<D: Decider, C: KeptCode, L: Levels, U: DueTicks, W: Out>(
+        &mut self,
+        machine: &Machine<D, C, L, U>,
+        out: &mut W,
+    ) -> Result<(), IoError>
+        ensures tells { Tells (long_heard self.old machine.now.state).pieces machine.now machine.now
+            (W.writing out.old) (W.writing out.new) result }
+        ensures kept { OnOk result (self.new ≡ (long_heard self.old machine.now.state).session) }
+    {
+        match self.acknowledge(machine, b'+', out) {
+            Ok(()) => {}
+            Err(error) => return Err(error),
+        }
+        self.refuse_long(machine, out)
+    }
+
+    /// Takes what a byte made. `content` is the data of the last packet.
+    pub fn take<D: Decider, C: KeptCode, L: Levels, U: DueTicks, W: Out>(
+        &mut self,
+        machine: &mut Machine<D, C, L, U>,
+        event: Event,
+        content: &[u8],
+        out: &mut W,
+    ) -> Result<(), IoError>
+        ensures tells { Tells (heard self.old machine.old.state event content.now).pieces machine.old machine.new
+            (W.writing out.old) (W.writing out.new) result }
+        ensures kept { OnOk result (self.new ≡ (heard self.old machine.old.state event content.now).session) }
+    {
+        match event {
+            Event::Nothing | Event::Acknowledgement => Ok(()),
+            Event::Rejection => self.send_again(machine, out),
+            Event::Interrupt => {
+                self.interrupt();
+                Ok(())
+            }
+            Event::WrongChecksum => self.acknowledge(machine, b'-', out),
+            Event::TooLong => self.take_long(machine, out),
+            Event::Packet => self.take_whole(machine, content, out),
+        }
+    }
+}

@@ -1,0 +1,8 @@
+/* Counts, and never ends. */
+volatile unsigned counted;
+
+int main(void)
+{
+    for (;;)
+        counted++;
+}
