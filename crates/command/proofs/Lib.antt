@@ -1,5 +1,6 @@
 mod Dumped
 mod Ends
 mod Sent
+mod Talking
 mod Waiting
 mod Texts

@@ -1,17 +1,19 @@
 //! A session with GDB from the bytes of an image and of a board.
 
 ghost use Rattle.std.specs.Prelude.{◌≡◌};
-ghost use Rattle.command.specs.Gdb.{GdbTo, ServesOf};
+ghost use Rattle.command.specs.Gdb.{GdbTo, ServesOf, gdb_session};
 ghost use Rattle.command.specs.Opening.{board_in_file};
+ghost use Rattle.platform.specs.Boards.{numbers_of};
 ghost use Rattle.platform.specs.Images.{image_of};
+ghost use Rattle.serving.specs.Sessions.{NothingWaits, Sessions};
 
 use crate::error::Error;
 use crate::files::InputFile;
 use crate::opening::{Opened, open};
 use crate::reason::refuse;
 use gdb_server::Server;
-use machine::{In, Out};
-use serving::serve;
+use machine::{Fast, In, Layout, Out};
+use serving::{SessionError, serve};
 use std::alloc::Global;
 use std::io::Write;
 
@@ -42,8 +44,7 @@ pub fn serve_gdb<I: In, O: Out, E: Write>(
     }
 }
 
-/// Holds a session of a machine with GDB.
-#[tactic(auto, unfolding(crate::specs::Gdb::gdb_session))]
+/// Holds a session with GDB of a machine before its first step.
 fn hold_gdb_session<I: In, O: Out>(
     opened: Opened,
     steps: u64,
@@ -57,9 +58,25 @@ fn hold_gdb_session<I: In, O: Out>(
         mut machine,
         layout,
     } = opened;
-    let mut server = Server::new(steps, layout);
-    match serve(&mut server, &mut machine, input, out) {
+    match serve_machine(&mut machine, layout, steps, input, out) {
         Ok(()) => Ok(()),
         Err(_) => Err(Error::Io),
     }
+}
+
+/// Holds a session with GDB of a machine of a board.
+#[tactic(auto, unfolding(crate::specs::Gdb::gdb_session))]
+fn serve_machine<I: In, O: Out>(
+    machine: &mut Fast,
+    layout: Layout,
+    steps: u64,
+    input: &mut I,
+    out: &mut O,
+) -> Result<(), SessionError>
+    ensures talked { Sessions (gdb_session (numbers_of layout) steps machine.old.state) machine.old machine.new
+        (I.reading input.old) (I.reading input.new) (O.writing out.old) (O.writing out.new) result }
+    ensures sent { NothingWaits (O.writing out.new) result }
+{
+    let mut server = Server::new(steps, layout);
+    serve(&mut server, machine, input, out)
 }

@@ -1,0 +1,16 @@
+-- How a session that failed ended.
+use Rattle.std.proofs.Common.{Err, inl, inr, refl}
+use Rattle.command.specs.declared.error.Error.TheVariants.{Io}
+use Rattle.command.specs.Sessions.{Talks}
+use Rattle.machine.specs.Whole.{Whole}
+use Rattle.output.specs.Input.{Reading}
+use Rattle.output.specs.Output.{Writing}
+use Rattle.serving.specs.declared.sessions.SessionError.{SessionError}
+use Rattle.serving.specs.declared.sessions.SessionError.TheVariants.{Read, Write}
+use Rattle.serving.specs.Sessions.{Course, NothingWaits, Sessions}
+
+pub failed_talk : (t : Course) (first last : Whole) (before after : Reading) (out out' : Writing) (error : SessionError)
+    → Sessions t first last before after out out' (Err error) → NothingWaits out' (Err error)
+    → Talks t first last before after out out' (Err Io)
+failed_talk t first last before after out out' Read sessions waits = (refl, inl (sessions, waits))
+failed_talk t first last before after out out' Write sessions waits = (refl, inr sessions)
