@@ -1,13 +1,14 @@
 -- What a poke leaves of the content of an address.
-use Rattle.std.proofs.Common.{◌≡◌, ◌≢◌, ℕ, zero, suc, ◌+◌, ◌-◌, ◌*◌, ◌/◌, ◌%◌, ◌^◌, ◌<◌, ◌≤◌, ◌||◌, Bool, true, false, List, [], ◌∷◌}
-use Rattle.std.proofs.Common.{length, get_or, Option, Some, None, refl, ap, arith, sym, ◌∙◌, ◌==◌, if◌then◌else◌}
+use Rattle.std.proofs.Common.{◌≡◌, ◌≢◌, ℕ, ◌+◌, ◌*◌, ◌%◌, ◌^◌, ◌<◌, ◌≤◌, Bool, true, false}
+use Rattle.std.proofs.Common.{List, [], ◌∷◌}
+use Rattle.std.proofs.Common.{length, refl, ap, arith, sym, ◌∙◌, ◌==◌, if◌then◌else◌}
 use Rattle.std.proofs.lemmas.Bool.Decides.{nat_tests}
 use Rattle.std.proofs.lemmas.List.{get_or-set_same, get_or-set_other, length-set}
 use Rattle.devices.specs.declared.device.Device.{Device}
 use Rattle.devices.specs.declared.device.Poke.{Poke}
-use Rattle.devices.specs.Devices.{DeviceWords, content_at, poked}
-use Rattle.devices.specs.Laws.{AreOfWords, AreWhole, IsWhole, LastPokeDecides, have}
-use Rattle.devices.specs.Pokes.{last_poke, poked_all}
+use Rattle.devices.specs.Devices.{DeviceWords, content_at, poked, with_content}
+use Rattle.devices.specs.Laws.{AreWhole, IsWhole, LastPokeDecides, have}
+use Rattle.devices.specs.Pokes.{last_poke}
 use Rattle.devices.specs.Table.{has, place}
 use Rattle.devices.specs.Words.{content_of, stored_for}
 
@@ -47,7 +48,8 @@ same_poked (d ∷ ds) ticks a v whole small there = by (has d.device a) refl (sa
     by : (b : Bool) → has d.device a ≡ b → (have ds a ≡ true → content_at (poked ds ticks a v) ticks a ≡ v) →
         content_at (poked (d ∷ ds) ticks a v) ticks a ≡ v
     by true h rest =
-        rw (h, h, get_or-set_same d.words (place d.device a) (stored_for d.device ticks v) 0 (place_below d a whole.0 h))
+        let below : place d.device a < length d.words = place_below d a whole.0 h in
+        rw (h, h, get_or-set_same d.words (place d.device a) (stored_for d.device ticks v) 0 below)
         (stored_content d.device ticks v small)
     by false h rest = rw (h, h) (rest (rw h at there))
 
@@ -73,17 +75,25 @@ other_poked (d ∷ ds) ticks a b v whole one two apart =
     by false true hb ha rest = rw (hb, ha) refl
     by false false hb ha rest = rw (hb, ha) rest
 
+-- numbers that are compared and differ
+differs : {p a : ℕ} → (p == a) ≡ false → p ≡ a → ⊥
+differs e same = grind (arith, nat_tests, e, same)
+
 -- ---- the pokes of a tick
 
 -- devices stay whole
+with_content_whole : (d : DeviceWords) (ticks b v : ℕ) → IsWhole d → IsWhole (with_content d ticks b v)
+with_content_whole d ticks b v whole = record {
+  base = whole.base;
+  words = ap (λ n. n * 4) (length-set d.words (place d.device b) (stored_for d.device ticks v)) ∙ whole.words;
+}
+
 poke_whole : (ds : List DeviceWords) (ticks b v : ℕ) → AreWhole ds → AreWhole (poked ds ticks b v)
 poke_whole [] ticks b v whole = tt
 poke_whole (d ∷ ds) ticks b v whole = by (has d.device b) refl (poke_whole ds ticks b v whole.1)
   where
     by : (x : Bool) → has d.device b ≡ x → AreWhole (poked ds ticks b v) → AreWhole (poked (d ∷ ds) ticks b v)
-    by true h rest =
-        rw h
-        (record { words = ap (λ n. n * 4) (length-set d.words (place d.device b) (stored_for d.device ticks v)) ∙ whole.0.words; base = whole.0.base }, whole.1)
+    by true h rest = rw h (with_content_whole d ticks b v whole.0, whole.1)
     by false h rest = rw h (whole.0, rest)
 
 -- and keep their addresses
@@ -112,4 +122,4 @@ foreseen ds ticks (p ∷ ps) a whole words one there =
         rw same (same_poked ds ticks a p.value whole words.1 there)
     by false e =
         other_poked ds ticks a p.address p.value whole one words.0
-        (λ same. absurd (let w : (p.address == a) ≡ true = rw (sym same) (grind (arith, nat_tests)) in let u : true ≡ false = sym w ∙ e in cc))
+        (λ same. differs e (sym same))

@@ -1,6 +1,7 @@
 -- The first device that has an address.
-use Rattle.std.proofs.Common.{◌≡◌, ℕ, zero, suc, ◌+◌, ◌<◌, Bool, true, false, List, [], ◌∷◌, length, slice_set, slice_index_or}
-use Rattle.std.proofs.Common.{Option, Some, None, refl, ap, arith, subst, sym}
+use Rattle.std.proofs.Common.{◌≡◌, ℕ, suc, ◌+◌, ◌<◌, Bool, true, false, List, [], ◌∷◌, length}
+use Rattle.std.proofs.Common.{slice_set, slice_index_or}
+use Rattle.std.proofs.Common.{Some, None, refl, ap, arith, subst}
 use Rattle.devices.specs.Devices.{DeviceWords, poked, position_from, with_content}
 use Rattle.devices.specs.Table.{has}
 
@@ -18,7 +19,8 @@ none_poked k (d ∷ ds) ticks a v e = by_has (has d.device a) refl (none_poked (
 pub record IsFirst (ds : List DeviceWords) (a i : ℕ) : Type 0 where
   pub below : i < length ds
   pub there : (d : DeviceWords) → has (slice_index_or ds i d).device a ≡ true
-  pub pokes : (ticks v : ℕ) (d : DeviceWords) → slice_set ds i (with_content (slice_index_or ds i d) ticks a v) ≡ poked ds ticks a v
+  pub pokes : (ticks v : ℕ) (d : DeviceWords) →
+      slice_set ds i (with_content (slice_index_or ds i d) ticks a v) ≡ poked ds ticks a v
 
 -- likewise, counted from k on
 pub record IsFirstFrom (k : ℕ) (ds : List DeviceWords) (a j : ℕ) : Type 0 where

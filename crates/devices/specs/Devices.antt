@@ -53,7 +53,7 @@ abbrev pub value_in : List DeviceWords → ℕ → ℕ → Option Word → Optio
 value_in ds ticks a None = None
 value_in ds ticks a (Some w) =
     Some (value_of w.device (content_of w.device ticks w.stored)
-        (content_at ds ticks (unwrap_or w.device.of a)))
+    (content_at ds ticks (unwrap_or w.device.of a)))
 
 -- the value of the word at an address, if a device has it
 abbrev pub value_at : List DeviceWords → ℕ → ℕ → Option ℕ

@@ -4,4 +4,5 @@ pub mod Parts
 pub mod Devices
 pub mod Pokes
 pub mod Lines
+pub mod Copies
 pub mod Laws

@@ -1,5 +1,5 @@
 -- The part of a word that an aligned access of 1, 2 or 4 bytes takes (profile: little endian, as memory).
-use Rattle.std.specs.Prelude.{ℕ, ◌-◌, ◌*◌, ◌/◌, ◌%◌, ◌^◌, Bool, ◌&&◌, ◌==◌, if◌then◌else◌, Option, Some, None}
+use Rattle.std.specs.Prelude.{ℕ, ◌-◌, ◌*◌, ◌/◌, ◌%◌, ◌^◌, ◌&&◌, ◌==◌, if◌then◌else◌, Option, Some, None}
 use Rattle.instruction_set.specs.declared.size.Size.{Size}
 use Rattle.instruction_set.specs.Sizes.{bytes_in}
 use Rattle.devices.specs.declared.device.Device.{Device}

@@ -3,6 +3,7 @@
 ghost use Rattle.std.specs.Prelude.{◌≡◌, ◌<◌, ◌≤◌, ◌^◌, length, option_map, true, IfOk, IfSome};
 ghost use Rattle.instruction_set.specs.Sizes.{bytes_in};
 ghost use Rattle.devices.specs.Table.{has};
+ghost use Rattle.devices.specs.Copies.{HaveSameDevices};
 ghost use Rattle.devices.specs.Devices.{after_store_at, at_start, content_at, fresh, loaded, poked, poked_by};
 ghost use Rattle.devices.specs.Devices.{position_from, read_at, sent_at, value_at, with_content, word_at};
 ghost use Rattle.devices.specs.Pokes.{poked_all};
@@ -72,6 +73,25 @@ impl Devices {
         Ok(Devices { devices })
     }
 
+    /// Returns a copy. Fails where memory can't be allocated.
+    pub fn copied(&self, alloc: Global) -> Result<Self, AllocError>
+        ensures { IfOk result (λ devices. devices ≡ self.now) }
+    {
+        let mut devices = Vec::with_capacity(alloc, self.devices.len())?;
+        'devices: for device in self.devices.as_slice() {
+            devices.push(device.copied(alloc)?)?;
+        }
+        Ok(Devices { devices })
+    }
+
+    /// Takes the words of the same devices, without an allocation.
+    pub fn copy_from(&mut self, other: &Devices)
+        requires { HaveSameDevices self.old other.now }
+        ensures { self.new ≡ other.now }
+    {
+        copy_words(self.devices.as_mut_slice(), other.devices.as_slice());
+    }
+
     /// Returns the devices, in the order of the board.
     pub(crate) fn devices(&self) -> &[DeviceWords]
         ensures value { result.now ≡ self.now }
@@ -134,11 +154,11 @@ impl Devices {
         ensures small { IfSome result (λ value. value < 256 ^ bytes_in size) }
         ensures after { self.new ≡ loaded self.old ticks address }
     {
-        let value = self.read(ticks, address, size);
         let poke = match self.word(address) {
             Some((device, _)) => device.load_poke,
             None => None,
         };
+        let value = self.read(ticks, address, size);
         self.poke_by(ticks, poke);
         value
     }
@@ -150,11 +170,16 @@ impl Devices {
     {
         let (device, stored) = self.word(address)?;
         let before = content_of(device, ticks, stored);
-        let content = content_after(device, before, covered(address, size), in_place(address, value));
-        let poke = device.store_poke;
+        let content = content_after(
+            device,
+            before,
+            covered(address, size),
+            in_place(address, value),
+        );
+        let store_poke = device.store_poke;
         let sent = sent(device, address, value);
         self.put(ticks, address, content);
-        self.poke_by(ticks, poke);
+        self.poke_by(ticks, store_poke);
         Some(Stored { sent })
     }
 
@@ -206,6 +231,17 @@ impl Devices {
     }
 }
 
+/// Takes the words of the same devices.
+#[tactic(auto, using(crate::proofs::Copying::copying_lemmas))]
+fn copy_words(to: &mut [DeviceWords], from: &[DeviceWords])
+    requires { HaveSameDevices to.old from.now }
+    ensures { to.new ≡ from.now }
+{
+    'devices: for (at, device) in from.iter().enumerate() {
+        to[at].copy_from(device);
+    }
+}
+
 impl DeviceWords {
     /// Returns a device at the start.
     fn at_start(alloc: Global, device: &Device) -> Result<Self, AllocError>
@@ -216,6 +252,27 @@ impl DeviceWords {
             device: *device,
             words,
         })
+    }
+
+    /// Returns a copy.
+    fn copied(&self, alloc: Global) -> Result<Self, AllocError>
+        ensures { IfOk result (λ d. d ≡ self.now) }
+    {
+        let words = Vec::from_slice(alloc, self.words.as_slice())?;
+        Ok(DeviceWords {
+            device: self.device,
+            words,
+        })
+    }
+
+    /// Takes the words of the same device.
+    fn copy_from(&mut self, other: &DeviceWords)
+        requires { self.old.device ≡ other.now.device }
+        ensures { self.new ≡ other.now }
+    {
+        self.words
+            .as_mut_slice()
+            .copy_from_slice(other.words.as_slice());
     }
 
     /// Gives the word at an address a content.

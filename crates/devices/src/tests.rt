@@ -45,11 +45,17 @@ fn uart() -> [Device; 3] {
     let mut status = one_word(STATUS);
     status.ones = 0xC0;
     status.stores = Stores::Ignored;
-    status.line = Some(Line { number: 5, enable: CONTROL });
+    status.line = Some(Line {
+        number: 5,
+        enable: CONTROL,
+    });
     let mut data = one_word(DATA);
     data.stores = Stores::Ignored;
     data.console = true;
-    data.load_poke = Some(Poke { address: STATUS, value: 0 });
+    data.load_poke = Some(Poke {
+        address: STATUS,
+        value: 0,
+    });
     [control, status, data]
 }
 
@@ -154,9 +160,13 @@ fn ones_and_zeros_clear_only_bits_that_are_covered(rt: HostRuntime) -> Result<()
 fn the_first_byte_of_a_word_goes_to_the_console(rt: HostRuntime) -> Result<(), Fail> {
     let mut devices = Devices::new(rt.alloc(), &uart())?;
     assert_eq!(rt; store(&mut devices, 1, DATA, 0x141), Some(0x41));
-    let second = devices.store(2, DATA + 1, Size::Byte, 0x41).ok_or("second byte")?;
+    let second = devices
+        .store(2, DATA + 1, Size::Byte, 0x41)
+        .ok_or("second byte")?;
     assert_eq!(rt; second.sent, None);
-    let half = devices.store(3, DATA + 2, Size::Halfword, 0x41).ok_or("upper half")?;
+    let half = devices
+        .store(3, DATA + 2, Size::Halfword, 0x41)
+        .ok_or("upper half")?;
     assert_eq!(rt; half.sent, None);
     assert_eq!(rt; store(&mut devices, 4, CONTROL, 0x41), None);
     assert_eq!(rt; load(&mut devices, 5, DATA), Some(0));
@@ -166,8 +176,14 @@ fn the_first_byte_of_a_word_goes_to_the_console(rt: HostRuntime) -> Result<(), F
 #[test]
 fn a_received_byte_is_loaded_and_clears_the_status(rt: HostRuntime) -> Result<(), Fail> {
     let mut devices = Devices::new(rt.alloc(), &uart())?;
-    let data = Poke { address: DATA, value: 0x61 };
-    let status = Poke { address: STATUS, value: 0x20 };
+    let data = Poke {
+        address: DATA,
+        value: 0x61,
+    };
+    let status = Poke {
+        address: STATUS,
+        value: 0x20,
+    };
     devices.poke_all(1, &[data, status]);
     assert_eq!(rt; load(&mut devices, 1, STATUS), Some(0xE0));
     assert_eq!(rt; devices.load(2, DATA, Size::Byte), Some(0x61));
@@ -178,8 +194,20 @@ fn a_received_byte_is_loaded_and_clears_the_status(rt: HostRuntime) -> Result<()
 #[test]
 fn a_debugger_reads_bytes_without_an_effect(rt: HostRuntime) -> Result<(), Fail> {
     let mut devices = Devices::new(rt.alloc(), &uart())?;
-    devices.poke(0, Poke { address: DATA, value: 0x161 });
-    devices.poke(0, Poke { address: STATUS, value: 0x120 });
+    devices.poke(
+        0,
+        Poke {
+            address: DATA,
+            value: 0x161,
+        },
+    );
+    devices.poke(
+        0,
+        Poke {
+            address: STATUS,
+            value: 0x120,
+        },
+    );
     assert_eq!(rt; devices.read(0, STATUS - 1, Size::Byte), None);
     assert_eq!(rt; devices.read(0, STATUS, Size::Byte), Some(0xE0));
     assert_eq!(rt; devices.read(0, STATUS + 1, Size::Byte), Some(0x01));
@@ -197,7 +225,10 @@ fn a_store_pokes_another_word(rt: HostRuntime) -> Result<(), Fail> {
     let mut data = one_word(0x4000_251C);
     data.stores = Stores::Ignored;
     data.console = true;
-    data.store_poke = Some(Poke { address: 0x4000_211C, value: 1 });
+    data.store_poke = Some(Poke {
+        address: 0x4000_211C,
+        value: 1,
+    });
     let mut devices = Devices::new(rt.alloc(), &[flag, data])?;
     assert_eq!(rt; load(&mut devices, 1, 0x4000_211C), Some(0));
     assert_eq!(rt; store(&mut devices, 2, 0x4000_251C, 0x21), Some(0x21));
@@ -209,9 +240,15 @@ fn a_store_pokes_another_word(rt: HostRuntime) -> Result<(), Fail> {
 fn words_that_poke_themselves_do_it_after_the_access(rt: HostRuntime) -> Result<(), Fail> {
     let mut cleared_by_load = one_word(0x4001_0100);
     cleared_by_load.start = 5;
-    cleared_by_load.load_poke = Some(Poke { address: 0x4001_0100, value: 0 });
+    cleared_by_load.load_poke = Some(Poke {
+        address: 0x4001_0100,
+        value: 0,
+    });
     let mut set_by_store = one_word(0x4001_0104);
-    set_by_store.store_poke = Some(Poke { address: 0x4001_0104, value: 8 });
+    set_by_store.store_poke = Some(Poke {
+        address: 0x4001_0104,
+        value: 8,
+    });
     let mut devices = Devices::new(rt.alloc(), &[cleared_by_load, set_by_store])?;
     assert_eq!(rt; load(&mut devices, 1, 0x4001_0100), Some(5));
     assert_eq!(rt; load(&mut devices, 2, 0x4001_0100), Some(0));
@@ -235,7 +272,13 @@ fn words_count_the_ticks_from_what_was_stored(rt: HostRuntime) -> Result<(), Fai
     store(&mut devices, 2, counter, 0x100);
     assert_eq!(rt; load(&mut devices, 3, counter), Some(0x101));
     assert_eq!(rt; load(&mut devices, 4, counter + 4), Some(6));
-    devices.poke(5, Poke { address: counter, value: 0x50 });
+    devices.poke(
+        5,
+        Poke {
+            address: counter,
+            value: 0x50,
+        },
+    );
     assert_eq!(rt; load(&mut devices, 5, counter), Some(0x50));
     devices.store(6, counter, Size::Halfword, 8);
     assert_eq!(rt; load(&mut devices, 7, counter), Some(9));
@@ -250,7 +293,10 @@ fn the_first_device_has_an_address_that_two_have(rt: HostRuntime) -> Result<(), 
     let mut others = one_word(0x4001_0000);
     others.size = 16;
     others.start = 9;
-    others.load_poke = Some(Poke { address: 0x4001_0004, value: 5 });
+    others.load_poke = Some(Poke {
+        address: 0x4001_0004,
+        value: 5,
+    });
     let mut devices = Devices::new(rt.alloc(), &[special, others])?;
     assert_eq!(rt; load(&mut devices, 1, base + 4), Some(7));
     assert_eq!(rt; load(&mut devices, 2, base + 8), Some(9));
@@ -279,9 +325,21 @@ fn a_line_is_high_while_an_enabled_bit_is_set(rt: HostRuntime) -> Result<(), Fai
 #[test]
 fn the_line_of_a_received_byte_falls_where_the_byte_is_loaded(rt: HostRuntime) -> Result<(), Fail> {
     let mut devices = Devices::new(rt.alloc(), &uart())?;
-    let received = Poke { address: STATUS, value: 0x20 };
-    let taken = Poke { address: STATUS, value: 0 };
-    devices.poke(0, Poke { address: CONTROL, value: 0x20 });
+    let received = Poke {
+        address: STATUS,
+        value: 0x20,
+    };
+    let taken = Poke {
+        address: STATUS,
+        value: 0,
+    };
+    devices.poke(
+        0,
+        Poke {
+            address: CONTROL,
+            value: 0x20,
+        },
+    );
     assert_eq!(rt; first_level(&devices, 1), Some((5, false)));
     devices.poke_all(2, &[received]);
     assert_eq!(rt; first_level(&devices, 2), Some((5, true)));
