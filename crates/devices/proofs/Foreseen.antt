@@ -88,7 +88,7 @@ with_content_whole d ticks b v whole = record {
   words = ap (λ n. n * 4) (length-set d.words (place d.device b) (stored_for d.device ticks v)) ∙ whole.words;
 }
 
-poke_whole : (ds : List DeviceWords) (ticks b v : ℕ) → AreWhole ds → AreWhole (poked ds ticks b v)
+pub poke_whole : (ds : List DeviceWords) (ticks b v : ℕ) → AreWhole ds → AreWhole (poked ds ticks b v)
 poke_whole [] ticks b v whole = tt
 poke_whole (d ∷ ds) ticks b v whole = by (has d.device b) refl (poke_whole ds ticks b v whole.1)
   where
@@ -97,7 +97,7 @@ poke_whole (d ∷ ds) ticks b v whole = by (has d.device b) refl (poke_whole ds 
     by false h rest = rw h (whole.0, rest)
 
 -- and keep their addresses
-have_poked : (ds : List DeviceWords) (ticks b v a : ℕ) → have (poked ds ticks b v) a ≡ have ds a
+pub have_poked : (ds : List DeviceWords) (ticks b v a : ℕ) → have (poked ds ticks b v) a ≡ have ds a
 have_poked [] ticks b v a = refl
 have_poked (d ∷ ds) ticks b v a = by (has d.device b) refl (have_poked ds ticks b v a)
   where

@@ -349,3 +349,14 @@ fn the_line_of_a_received_byte_falls_where_the_byte_is_loaded(rt: HostRuntime) -
     assert_eq!(rt; first_level(&devices, 5), Some((5, false)));
     Ok(())
 }
+
+#[test]
+fn a_copy_keeps_its_words(rt: HostRuntime) -> Result<(), Fail> {
+    let mut devices = Devices::new(rt.alloc(), &uart())?;
+    store(&mut devices, 1, CONTROL, 0x88);
+    let copy = devices.copied(rt.alloc())?;
+    store(&mut devices, 2, CONTROL, 0x20);
+    assert_eq!(rt; copy.value(2, CONTROL), Some(0x88));
+    assert_eq!(rt; devices.value(2, CONTROL), Some(0x20));
+    Ok(())
+}
