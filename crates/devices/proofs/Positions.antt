@@ -1,0 +1,76 @@
+-- The first device that has an address.
+use Rattle.std.proofs.Common.{◌≡◌, ℕ, suc, ◌+◌, ◌<◌, Bool, true, false, List, [], ◌∷◌, length}
+use Rattle.std.proofs.Common.{slice_set, slice_index_or}
+use Rattle.std.proofs.Common.{Some, None, refl, ap, arith, subst}
+use Rattle.devices.specs.Devices.{DeviceWords, poked, position_from, with_content}
+use Rattle.devices.specs.Table.{has}
+
+-- where there is none, nothing is poked
+pub none_poked : (k : ℕ) (ds : List DeviceWords) (ticks a v : ℕ) → position_from k ds a ≡ None → poked ds ticks a v ≡ ds
+none_poked k [] ticks a v e = refl
+none_poked k (d ∷ ds) ticks a v e = by_has (has d.device a) refl (none_poked (suc k) ds ticks a v)
+  where
+    by_has : (b : Bool) → has d.device a ≡ b → (position_from (suc k) ds a ≡ None → poked ds ticks a v ≡ ds) →
+        poked (d ∷ ds) ticks a v ≡ d ∷ ds
+    by_has true h rest = absurd cc (rw h at e)
+    by_has false h rest = rw h (ap (λ tail. d ∷ tail) (rest (rw h at e)))
+
+-- number i has the address, and is the first that has it
+pub record IsFirst (ds : List DeviceWords) (a i : ℕ) : Type 0 where
+  pub below : i < length ds
+  pub there : (d : DeviceWords) → has (slice_index_or ds i d).device a ≡ true
+  pub pokes : (ticks v : ℕ) (d : DeviceWords) →
+      slice_set ds i (with_content (slice_index_or ds i d) ticks a v) ≡ poked ds ticks a v
+
+-- likewise, counted from k on
+pub record IsFirstFrom (k : ℕ) (ds : List DeviceWords) (a j : ℕ) : Type 0 where
+  pub i : ℕ
+  pub is : j ≡ k + i
+  pub first : IsFirst ds a i
+
+first_from : (k : ℕ) (ds : List DeviceWords) (a j : ℕ) → position_from k ds a ≡ Some j → IsFirstFrom k ds a j
+first_from k [] a j e = absurd cc
+first_from k (d ∷ ds) a j e = by_has (has d.device a) refl (first_from (suc k) ds a j)
+  where
+    next : has d.device a ≡ false → IsFirstFrom (suc k) ds a j → IsFirstFrom k (d ∷ ds) a j
+    next h rest = record {
+      i = suc rest.i;
+      is = (let s : j ≡ suc k + rest.i = rest.is in omega arith);
+      first = record {
+        below = (let s : rest.i < length ds = rest.first.below in omega arith);
+        there = λ other. rest.first.there other;
+        pokes = λ ticks v other. rw h (ap (λ tail. d ∷ tail) (rest.first.pokes ticks v other));
+      };
+    }
+
+    by_has : (b : Bool) → has d.device a ≡ b → (position_from (suc k) ds a ≡ Some j → IsFirstFrom (suc k) ds a j) →
+        IsFirstFrom k (d ∷ ds) a j
+    by_has true h rest = record {
+      i = 0;
+      is = (let s : Some k ≡ Some j = rw h at e in let same : k ≡ j = cc in omega arith);
+      first = record {
+        below = omega arith;
+        there = λ other. h;
+        pokes = λ ticks v other. rw h refl;
+      };
+    }
+    by_has false h rest = next h (rest (rw h at e))
+
+pub first_of : (ds : List DeviceWords) (a j : ℕ) → position_from 0 ds a ≡ Some j → IsFirst ds a j
+first_of ds a j e =
+    let f = first_from 0 ds a j e in
+    let same : f.i ≡ j = (let s : j ≡ 0 + f.i = f.is in omega arith) in
+    subst (IsFirst ds a) same f.first
+
+pub first_below : (ds : List DeviceWords) (a j : ℕ) → position_from 0 ds a ≡ Some j → j < length ds
+first_below ds a j e = (first_of ds a j e).below
+
+pub first_there : (ds : List DeviceWords) (a j : ℕ) (d : DeviceWords) → position_from 0 ds a ≡ Some j →
+    has (slice_index_or ds j d).device a ≡ true
+first_there ds a j d e = (first_of ds a j e).there d
+
+pub first_pokes : (ds : List DeviceWords) (ticks a v j : ℕ) (d : DeviceWords) → position_from 0 ds a ≡ Some j →
+    slice_set ds j (with_content (slice_index_or ds j d) ticks a v) ≡ poked ds ticks a v
+first_pokes ds ticks a v j d e = (first_of ds a j e).pokes ticks v d
+
+pub ruleset position_lemmas = (none_poked, first_below, first_there, first_pokes)

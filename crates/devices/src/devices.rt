@@ -1,0 +1,286 @@
+//! The words of a board's devices (profile).
+
+ghost use Rattle.std.specs.Prelude.{◌≡◌, ◌<◌, ◌≤◌, ◌^◌, length, option_map, true, IfOk, IfSome};
+ghost use Rattle.instruction_set.specs.Sizes.{bytes_in};
+ghost use Rattle.devices.specs.Table.{has};
+ghost use Rattle.devices.specs.Copies.{HaveSameDevices};
+ghost use Rattle.devices.specs.Devices.{after_store_at, at_start, content_at, fresh, loaded, poked, poked_by};
+ghost use Rattle.devices.specs.Devices.{position_from, read_at, sent_at, value_at, with_content, word_at};
+ghost use Rattle.devices.specs.Pokes.{poked_all};
+
+use crate::device::{Device, MOST_DEVICES, Poke};
+use crate::part::{covered, in_place, part, sent};
+use crate::word::{content_after, content_of, stored_for, value_of};
+use instruction_set::size::Size;
+use std::alloc::{AllocError, Global};
+use std::marker::Model;
+
+/// A device, and what is stored for each of its words.
+#[derive(Drop)]
+pub(crate) struct DeviceWords {
+    pub(crate) device: Device,
+    words: Vec<u32>,
+}
+
+impl Model for DeviceWords {
+    ghost use Rattle.std.specs.Prelude.{◌≡◌, ◌*◌, length};
+    ghost use Rattle.devices.specs.Devices.{DeviceWords as State};
+
+    ghost Value = { State };
+
+    ghost view = { λ d. record { device = d.device; words = d.words.items } };
+
+    ghost invariant = { λ d. length d.words.items * 4 ≡ d.device.size };
+}
+
+/// A board's devices with their words, in the order of the board. A contract sees the list of them.
+#[derive(Drop)]
+pub struct Devices {
+    devices: Vec<DeviceWords>,
+}
+
+impl Model for Devices {
+    ghost use Rattle.std.specs.Prelude.{List, ◌≤◌, length};
+    ghost use Rattle.devices.specs.Devices.{DeviceWords as State};
+
+    ghost Value = { List State };
+
+    ghost view = { λ d. d.devices.items };
+
+    ghost invariant = { λ d. length d.devices.items ≤ 256 };
+}
+
+/// What a store to a device sends.
+#[derive(Clone, Copy)]
+pub struct Stored {
+    /// The byte that goes to the console, if one does.
+    pub sent: Option<u8>,
+}
+
+impl Devices {
+    /// Returns the devices of a board at the start. Fails where memory can't be allocated, and where there are more
+    /// than 256.
+    pub fn new(alloc: Global, table: &[Device]) -> Result<Self, AllocError>
+        ensures { IfOk result (λ devices. devices ≡ fresh table.now) }
+    {
+        if table.len() > MOST_DEVICES {
+            return Err(AllocError);
+        }
+        let mut devices = Vec::with_capacity(alloc, table.len())?;
+        'devices: for device in table {
+            devices.push(DeviceWords::at_start(alloc, device)?)?;
+        }
+        Ok(Devices { devices })
+    }
+
+    /// Returns a copy. Fails where memory can't be allocated.
+    pub fn copied(&self, alloc: Global) -> Result<Self, AllocError>
+        ensures { IfOk result (λ devices. devices ≡ self.now) }
+    {
+        let mut devices = Vec::with_capacity(alloc, self.devices.len())?;
+        'devices: for device in self.devices.as_slice() {
+            devices.push(device.copied(alloc)?)?;
+        }
+        Ok(Devices { devices })
+    }
+
+    /// Takes the words of the same devices, without an allocation.
+    pub fn copy_from(&mut self, other: &Devices)
+        requires { HaveSameDevices self.old other.now }
+        ensures { self.new ≡ other.now }
+    {
+        copy_words(self.devices.as_mut_slice(), other.devices.as_slice());
+    }
+
+    /// Returns the devices, in the order of the board.
+    pub(crate) fn devices(&self) -> &[DeviceWords]
+        ensures value { result.now ≡ self.now }
+        ensures few { length result.now ≤ 256 }
+    {
+        self.devices.as_slice()
+    }
+
+    /// Returns the device that has an address, with what is stored in the word there.
+    pub(crate) fn word(&self, address: u32) -> Option<(&Device, u32)>
+        ensures { option_map (λ w. record { device = w.0.now; stored = w.1 }) result ≡ word_at self.now address }
+    {
+        'devices: for device in self.devices.as_slice() {
+            if device.device.has(address) {
+                let place = device.device.place(address);
+                return Some((&device.device, device.words[place]));
+            }
+        }
+        None
+    }
+
+    /// Returns the content of the word at an address, 0 where no device has it.
+    fn content(&self, ticks: u64, address: u32) -> u32
+        ensures { result ≡ content_at self.now ticks address }
+    {
+        match self.word(address) {
+            Some((device, stored)) => content_of(device, ticks, stored),
+            None => 0,
+        }
+    }
+
+    /// Returns the value of the word at an address after this many ticks, if a device has it.
+    pub fn value(&self, ticks: u64, address: u32) -> Option<u32>
+        ensures { result ≡ value_at self.now ticks address }
+    {
+        match self.word(address) {
+            Some((device, stored)) => {
+                let content = content_of(device, ticks, stored);
+                let followed = self.content(ticks, device.of.unwrap_or(address));
+                Some(value_of(device, content, followed))
+            }
+            None => None,
+        }
+    }
+
+    /// Returns what a load of this size would read at an address, if a device has it.
+    pub fn read(&self, ticks: u64, address: u32, size: Size) -> Option<u32>
+        ensures value { result ≡ read_at self.now ticks address size }
+        ensures small { IfSome result (λ value. value < 256 ^ bytes_in size) }
+    {
+        match self.value(ticks, address) {
+            Some(value) => Some(part(address, size, value)),
+            None => None,
+        }
+    }
+
+    /// Loads from an address, if a device has it, and then pokes what its load pokes.
+    pub fn load(&mut self, ticks: u64, address: u32, size: Size) -> Option<u32>
+        ensures value { result ≡ read_at self.old ticks address size }
+        ensures small { IfSome result (λ value. value < 256 ^ bytes_in size) }
+        ensures after { self.new ≡ loaded self.old ticks address }
+    {
+        let poke = match self.word(address) {
+            Some((device, _)) => device.load_poke,
+            None => None,
+        };
+        let value = self.read(ticks, address, size);
+        self.poke_by(ticks, poke);
+        value
+    }
+
+    /// Stores to an address, if a device has it, and then pokes what its store pokes.
+    pub fn store(&mut self, ticks: u64, address: u32, size: Size, value: u32) -> Option<Stored>
+        ensures sent { option_map (λ s. s.sent) result ≡ sent_at self.old address value }
+        ensures after { self.new ≡ after_store_at self.old ticks address size value }
+    {
+        let (device, stored) = self.word(address)?;
+        let before = content_of(device, ticks, stored);
+        let content = content_after(
+            device,
+            before,
+            covered(address, size),
+            in_place(address, value),
+        );
+        let store_poke = device.store_poke;
+        let sent = sent(device, address, value);
+        self.put(ticks, address, content);
+        self.poke_by(ticks, store_poke);
+        Some(Stored { sent })
+    }
+
+    /// Pokes words one after another, each where a device has it.
+    pub fn poke_all(&mut self, ticks: u64, pokes: &[Poke])
+        ensures { self.new ≡ poked_all self.old ticks pokes.now }
+    {
+        for poke in pokes {
+            self.poke(ticks, *poke);
+        }
+    }
+
+    /// Pokes a word, if a device has it.
+    pub fn poke(&mut self, ticks: u64, poke: Poke)
+        ensures { self.new ≡ poked self.old ticks poke.address poke.value }
+    {
+        self.put(ticks, poke.address, poke.value);
+    }
+
+    /// Makes a poke, if there is one.
+    fn poke_by(&mut self, ticks: u64, poke: Option<Poke>)
+        ensures { self.new ≡ poked_by self.old ticks poke }
+    {
+        if let Some(poke) = poke {
+            self.poke(ticks, poke);
+        }
+    }
+
+    /// Gives the word at an address a content, if a device has it.
+    #[tactic(auto, using(crate::proofs::Positions::position_lemmas))]
+    fn put(&mut self, ticks: u64, address: u32, content: u32)
+        ensures { self.new ≡ poked self.old ticks address content }
+    {
+        if let Some(at) = self.position(address) {
+            self.devices[at].put(ticks, address, content);
+        }
+    }
+
+    /// Returns the number of the first device that has an address.
+    fn position(&self, address: u32) -> Option<usize>
+        ensures { result ≡ position_from 0 self.now address }
+    {
+        'devices: for (at, device) in self.devices.as_slice().iter().enumerate() {
+            if device.device.has(address) {
+                return Some(at);
+            }
+        }
+        None
+    }
+}
+
+/// Takes the words of the same devices.
+#[tactic(auto, using(crate::proofs::Copying::copying_lemmas))]
+fn copy_words(to: &mut [DeviceWords], from: &[DeviceWords])
+    requires { HaveSameDevices to.old from.now }
+    ensures { to.new ≡ from.now }
+{
+    'devices: for (at, device) in from.iter().enumerate() {
+        to[at].copy_from(device);
+    }
+}
+
+impl DeviceWords {
+    /// Returns a device at the start.
+    fn at_start(alloc: Global, device: &Device) -> Result<Self, AllocError>
+        ensures { IfOk result (λ d. d ≡ at_start device.now) }
+    {
+        let words = vec![in alloc; device.start; device.size as usize / 4]?;
+        Ok(DeviceWords {
+            device: *device,
+            words,
+        })
+    }
+
+    /// Returns a copy.
+    fn copied(&self, alloc: Global) -> Result<Self, AllocError>
+        ensures { IfOk result (λ d. d ≡ self.now) }
+    {
+        let words = Vec::from_slice(alloc, self.words.as_slice())?;
+        Ok(DeviceWords {
+            device: self.device,
+            words,
+        })
+    }
+
+    /// Takes the words of the same device.
+    fn copy_from(&mut self, other: &DeviceWords)
+        requires { self.old.device ≡ other.now.device }
+        ensures { self.new ≡ other.now }
+    {
+        self.words
+            .as_mut_slice()
+            .copy_from_slice(other.words.as_slice());
+    }
+
+    /// Gives the word at an address a content.
+    fn put(&mut self, ticks: u64, address: u32, content: u32)
+        requires { has self.old.device address ≡ true }
+        ensures { self.new ≡ with_content self.old ticks address content }
+    {
+        let place = self.device.place(address);
+        self.words[place] = stored_for(&self.device, ticks, content);
+    }
+}
