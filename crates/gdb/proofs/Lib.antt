@@ -1,5 +1,5 @@
 mod BytesSeen
-mod Showing
+pub mod Showing
 mod Slicing
 mod Telling
 mod Turning

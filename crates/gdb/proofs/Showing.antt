@@ -34,7 +34,7 @@ unfolding console_after
 after_one c x = refl
 
 -- a text that was cut short is cut short before a longer one
-cut_before : (old new : Option (List ℕ)) (text more : List ℕ) → IsCutShort old new text
+pub cut_before : (old new : Option (List ℕ)) (text more : List ℕ) → IsCutShort old new text
     → IsCutShort old new (text ++ more)
 cut_before old new text more cut = record {
   front = cut.front;
@@ -45,7 +45,7 @@ cut_before old new text more cut = record {
 }
 
 -- and after another one
-cut_later : (old mid new : Option (List ℕ)) (text more : List ℕ) → Appends old mid text → IsCutShort mid new more
+pub cut_later : (old mid new : Option (List ℕ)) (text more : List ℕ) → Appends old mid text → IsCutShort mid new more
     → IsCutShort old new (text ++ more)
 cut_later old mid new text more went cut = record {
   front = text ++ cut.front;

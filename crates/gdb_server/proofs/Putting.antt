@@ -1,33 +1,11 @@
 -- Texts that are put one after another, as pieces.
-use Rattle.std.proofs.Common.{◌+◌, ℕ, List, ◌∷◌, ◌++◌, Option, Result, Ok, Err, sym, ◌∙◌, ap, append_assoc}
+use Rattle.std.proofs.Common.{◌+◌, ℕ, List, ◌++◌, Result, Ok, Err, ◌∙◌, ap}
 use Rattle.std.proofs.KnownBytes.{Appends-trans}
-use Rattle.std.specs.Io.KnownBytes.{Appends}
+use Rattle.gdb.proofs.Showing.{cut_later}
 use Rattle.machine.specs.Whole.{Whole}
-use Rattle.output.specs.Output.{IsCutShort, Put, Writing, WritesAll}
+use Rattle.output.specs.Output.{Put, Writing, WritesAll}
 use Rattle.serving.proofs.Telling.{cut_on, tells_on}
 use Rattle.serving.specs.Pieces.{Piece, Tells, TellsAll}
-
--- a text that was cut short is cut short before a longer one
-pub cut_before : (old new : Option (List ℕ)) (text more : List ℕ) → IsCutShort old new text
-    → IsCutShort old new (text ++ more)
-cut_before old new text more cut = record {
-  front = cut.front;
-  byte = cut.byte;
-  later = cut.later ++ more;
-  whole = rw cut.whole (append_assoc cut.front (cut.byte ∷ cut.later) more);
-  went = cut.went;
-}
-
--- and after another one
-cut_later : (old mid new : Option (List ℕ)) (text more : List ℕ) → Appends old mid text → IsCutShort mid new more
-    → IsCutShort old new (text ++ more)
-cut_later old mid new text more went cut = record {
-  front = text ++ cut.front;
-  byte = cut.byte;
-  later = cut.later;
-  whole = rw cut.whole (sym (append_assoc text cut.front (cut.byte ∷ cut.later)));
-  went = Appends-trans old mid new text cut.front went cut.went;
-}
 
 -- a text was put, and then more, or a part of it
 pub put_on : {E : Type 0} (a b e : Writing) (text more : List ℕ) (result : Result (Unit {0}) E) → WritesAll a b text

@@ -34,7 +34,7 @@ pub enum Reading {
     Registers,
     /// The register of a number.
     Register(u32),
-    /// The bytes from an address on, at most so many.
+    /// The bytes from an address on: the address, and the most bytes.
     Memory(u32, u32),
     /// The description of the registers, by an offset and a length.
     Description(u32, u32),

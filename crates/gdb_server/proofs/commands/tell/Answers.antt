@@ -1,6 +1,7 @@
 use Rattle.std.proofs.Common.{None}
 use Rattle.gdb.specs.Consoles.{console_after, console_from, flush_text, sent_by}
-use Rattle.gdb_server.proofs.Putting.{cut_before, put_on}
+use Rattle.gdb.proofs.Showing.{cut_before}
+use Rattle.gdb_server.proofs.Putting.{put_on}
 use Rattle.gdb_server.proofs.commands.tell.Goals as goal
 
 pub returns-in-Err : goal.returns-in-Err
