@@ -1,3 +1,5 @@
 pub mod Bytes
+mod Keeping
 pub mod Putting
+mod Sizes
 pub mod Writing
