@@ -1,6 +1,7 @@
 -- A session of the program with GDB.
-use Rattle.std.specs.Prelude.{◌≡◌, ℕ, List, Result, Ok, Err}
+use Rattle.std.specs.Prelude.{◌≡◌, ◌⊎◌, ℕ, List, Result, Ok, Err}
 use Rattle.command.specs.declared.error.Error.{Error}
+use Rattle.command.specs.declared.error.Error.TheVariants.{Start}
 use Rattle.command.specs.declared.opening.Opened.{Opened}
 use Rattle.command.specs.Opening.{Opens}
 use Rattle.command.specs.Sessions.{SaysNothing, Talked, session_status}
@@ -9,6 +10,7 @@ use Rattle.output.specs.Input.{Reading}
 use Rattle.output.specs.Output.{Writing}
 use Rattle.platform.specs.declared.error.BoardError.{BoardError}
 use Rattle.platform.specs.declared.error.LoadError.{LoadError}
+use Rattle.platform.specs.declared.error.StartError.TheVariants.{NoMemory}
 use Rattle.platform.specs.Boards.{Described, Numbers, numbers_of}
 use Rattle.platform.specs.Images.{Segment}
 use Rattle.reference.specs.State.{State}
@@ -17,13 +19,14 @@ use Rattle.serving.specs.Sessions.{Course}
 
 -- a session with GDB of a machine of a board, in a state before the first byte; its clock stays within a limit
 unfoldable pub gdb_session : Numbers → ℕ → State → Course
-gdb_session board limit s = course_of conduct (first limit board) s
+gdb_session board limit s = course_of conduct (first limit board s) s
 
--- a session of a machine before its first step
+-- a session of a machine before its first step; or out of memory for the states to which it can go back
 abbrev pub ServesOf : Opened → ℕ → Reading → Reading → Writing → Writing → Result (Unit {0}) Error → Type 0
 ServesOf machine limit before after out out' result =
     Talked (gdb_session (numbers_of machine.layout) limit machine.machine.state) machine.machine
     before after out out' result
+    ⊎ SaysNothing (Start NoMemory) before after out out' result
 
 -- a session of a machine before its first step, or a refusal
 abbrev pub ServesFrom

@@ -1,19 +1,17 @@
 //! A session with GDB from the bytes of an image and of a board.
 
 ghost use Rattle.std.specs.Prelude.{◌≡◌};
-ghost use Rattle.command.specs.Gdb.{GdbTo, ServesOf, gdb_session};
+ghost use Rattle.command.specs.Gdb.{GdbTo, ServesOf};
 ghost use Rattle.command.specs.Opening.{board_in_file};
-ghost use Rattle.platform.specs.Boards.{numbers_of};
 ghost use Rattle.platform.specs.Images.{image_of};
-ghost use Rattle.serving.specs.Sessions.{NothingWaits, Sessions};
 
 use crate::error::Error;
 use crate::files::InputFile;
 use crate::opening::{Opened, open};
 use crate::reason::refuse;
 use gdb_server::Server;
-use machine::{Fast, In, Layout, Out};
-use serving::{SessionError, serve};
+use machine::{In, Out, StartError};
+use serving::serve;
 use std::alloc::Global;
 use std::io::Write;
 
@@ -38,14 +36,16 @@ pub fn serve_gdb<I: In, O: Out, E: Write>(
         Ok(opened) => opened,
         Err(error) => return refuse(alloc, error, image, board, err),
     };
-    match hold_gdb_session(opened, steps, input, out) {
+    match hold_gdb_session(alloc, opened, steps, input, out) {
         Ok(()) => 0,
         Err(error) => refuse(alloc, error, image, board, err),
     }
 }
 
-/// Holds a session with GDB of a machine before its first step.
+/// Holds a session with GDB of a machine before its first step, or fails where memory can't be allocated for the states
+/// to which it can go back.
 fn hold_gdb_session<I: In, O: Out>(
+    alloc: Global,
     opened: Opened,
     steps: u64,
     input: &mut I,
@@ -58,25 +58,11 @@ fn hold_gdb_session<I: In, O: Out>(
         mut machine,
         layout,
     } = opened;
-    match serve_machine(&mut machine, layout, steps, input, out) {
+    let Ok(mut server) = Server::new(alloc, steps, layout, &machine) else {
+        return Err(Error::Start(StartError::NoMemory));
+    };
+    match serve(&mut server, &mut machine, input, out) {
         Ok(()) => Ok(()),
         Err(_) => Err(Error::Io),
     }
-}
-
-/// Holds a session with GDB of a machine of a board.
-#[tactic(auto, unfolding(crate::specs::Gdb::gdb_session))]
-fn serve_machine<I: In, O: Out>(
-    machine: &mut Fast,
-    layout: Layout,
-    steps: u64,
-    input: &mut I,
-    out: &mut O,
-) -> Result<(), SessionError>
-    ensures talked { Sessions (gdb_session (numbers_of layout) steps machine.old.state) machine.old machine.new
-        (I.reading input.old) (I.reading input.new) (O.writing out.old) (O.writing out.new) result }
-    ensures sent { NothingWaits (O.writing out.new) result }
-{
-    let mut server = Server::new(steps, layout);
-    serve(&mut server, machine, input, out)
 }

@@ -1,65 +1,201 @@
 -- The pieces of the steps of a run, one after another.
-use Rattle.std.proofs.Common.{◌≡◌, ℕ, suc, ◌-◌, ◌<◌, List, [], ◌∷◌, ◌++◌}
-use Rattle.std.proofs.Common.{Option, Some, None}
-use Rattle.std.proofs.Common.{refl, sym, ◌∙◌, ap, subst, arith, append_assoc, is_some, true, false}
+use Rattle.std.proofs.Common.{◌≡◌, ◌==◌, ℕ, zero, suc, ◌+◌, ◌-◌, ◌<◌, ◌≤◌, List, [], ◌∷◌, ◌++◌, length}
+use Rattle.std.proofs.Common.{Option, Some, None, if◌then◌else◌}
+use Rattle.std.proofs.Common.{refl, sym, ◌∙◌, ap, subst, arith, append_assoc, is_some, Bool, true, false}
+use Rattle.std.proofs.lemmas.Bool.Decides.{nat_tests}
 use Rattle.std.proofs.lemmas.List.{append-nil}
 use Rattle.gdb.specs.declared.slices.Plan.{Plan}
+use Rattle.gdb.specs.declared.slices.Points.{Points}
+use Rattle.gdb.specs.Consoles.{ShownInPart}
+use Rattle.gdb.specs.Reasons.{event_hit, first_hit, hit_by_access, selection_of, watch_reason}
 use Rattle.gdb.specs.Slices.{Flow, Progress, Sliced, Slices, after_pieces, after_step, at_rest, before_step, flow}
-use Rattle.gdb.specs.Slices.{reason_then, slice, step_piece, unless_ended}
-use Rattle.gdb_texts.specs.declared.points.Breakpoint.{Breakpoint}
+use Rattle.gdb.specs.Slices.{going_on, hit_next, one_step, reason_then, slice, step_piece, step_text}
+use Rattle.gdb.specs.Slices.{unless_ended}
+use Rattle.gdb.specs.Watching.{state_unless}
 use Rattle.gdb_texts.specs.declared.stops.StopReason.{StopReason}
+use Rattle.gdb_texts.specs.declared.watchpoints.Watchpoint.{Watchpoint}
 use Rattle.machine.specs.Whole.{Whole}
 use Rattle.output.specs.Output.{Writing}
+use Rattle.platform.specs.declared.access.DecidedAccess.{DecidedAccess}
 use Rattle.platform.specs.declared.event.Event.{Event}
+use Rattle.platform.specs.Events.{access_of}
+use Rattle.reference.specs.State.{State}
 use Rattle.reference.specs.Step.{step}
-use Rattle.serving.proofs.Telling.{cut_before, cut_on, tells_none, tells_on}
-use Rattle.serving.specs.Pieces.{Piece, TellsAll, TellsPart}
+use Rattle.serving.proofs.Telling.{cut_before, cut_on, last-append, one_cut, tells_none, tells_on}
+use Rattle.serving.specs.Pieces.{Piece, TellsAll, TellsPart, last_state}
+use Rattle.trace.specs.declared.selection.TraceSelection.{TraceSelection}
+use Rattle.trace.specs.Selection.{selected_text}
+
+-- no access hits a watchpoint where there is none
+none_of : (a : DecidedAccess) (b : Bool) → is_some a.refused ≡ b → hit_by_access [] (Some a) ≡ None
+none_of a true is = rw is refl
+none_of a false is = rw is refl
+
+none_by : (o : Option DecidedAccess) → hit_by_access [] o ≡ None
+none_by None = refl
+none_by (Some a) = none_of a (is_some a.refused) refl
+
+-- ---- the cases of a step
+
+-- a watchpoint is hit
+pub step_hit : (p : Plan) (points : Points) (f : Flow) (o : Option StopReason) → o ≡ hit_next points f.state
+    → is_some o ≡ true → one_step p points f ≡ at_rest o (step f.state).events f
+step_hit p points f (Some r) is has =
+    ap (λ (o : Option StopReason). unless_ended o (step f.state).events f
+    (after_pieces (step_piece p f ∷ []) (at_rest (reason_then p f.state) (step f.state).events (after_step p f))))
+    (sym is)
+step_hit p points f None is has = absurd (let wrong : false ≡ true = has in cc)
+
+-- none is
+pub step_made : (p : Plan) (points : Points) (f : Flow) (o : Option StopReason) → o ≡ hit_next points f.state
+    → is_some o ≡ false → one_step p points f
+    ≡ after_pieces (step_piece p f ∷ []) (at_rest (reason_then p f.state) (step f.state).events (after_step p f))
+step_made p points f (Some r) is has = absurd (let wrong : true ≡ false = has in cc)
+step_made p points f None is has =
+    ap (λ (o : Option StopReason). unless_ended o (step f.state).events f
+    (after_pieces (step_piece p f ∷ []) (at_rest (reason_then p f.state) (step f.state).events (after_step p f))))
+    (sym is)
+
+-- the state that such a step leaves
+pub back_at : (o : Option StopReason) (s : State) → is_some o ≡ true → state_unless o s ≡ s
+back_at (Some r) s has = refl
+back_at None s has = absurd (let wrong : false ≡ true = has in cc)
+
+pub past_it : (o : Option StopReason) (s : State) → is_some o ≡ false → state_unless o s ≡ (step s).state
+past_it (Some r) s has = absurd (let wrong : true ≡ false = has in cc)
+past_it None s has = refl
+
+-- without watchpoints nothing is hit
+none_hit : (events : List Event) → first_hit [] events ≡ None
+unfolding first_hit
+none_hit [] = refl
+none_hit (e ∷ es) = (let is : event_hit [] e.what ≡ None = none_by (access_of e.what) in rw is (none_hit es))
+
+pub none_watched : (watchpoints : List Watchpoint) (events : List Event) → (length watchpoints == 0) ≡ true
+    → watch_reason (first_hit watchpoints events) ≡ None
+none_watched [] events empty = ap watch_reason (none_hit events)
+none_watched (w ∷ ws) events empty =
+    let none : length (w ∷ ws) ≡ 0 = grind (arith, nat_tests) in
+    absurd (omega arith)
+
+-- the step's text was cut
+pub step_cut : (p : Plan) (points : Points) (f : Flow) (o : Option StopReason) (k : TraceSelection)
+    (events : List Event) (old new : Whole) (a b : Writing) → o ≡ hit_next points f.state → is_some o ≡ false
+    → k ≡ selection_of p.settings.selection → events ≡ (step f.state).events
+    → new ≡ record old { state = state_unless o f.state }
+    → ShownInPart a b f.console (selected_text k events) → TellsPart (one_step p points f).pieces old new a b
+step_cut p points f o k events old new a b is none same these stands cut =
+    let shown : ShownInPart a b f.console (step_text p f.state) =
+    subst (λ (text : List ℕ). ShownInPart a b f.console text)
+    (ap (λ (m : TraceSelection). selected_text m events) same
+    ∙ ap (λ (es : List Event). selected_text (selection_of p.settings.selection) es) these) cut in
+    subst (λ (ps : List Piece). TellsPart ps old new a b) (sym (ap (λ (r : Sliced). r.pieces)
+    (step_made p points f o is none)))
+    (one_cut (step_piece p f) old new a b shown.0
+    (stands ∙ ap (λ (s : State). record old { state = s }) (past_it o f.state none)) shown.1)
+
+-- ---- what a slice leaves: the state of its last piece, and at most n steps more
+
+pub record Leaves (f : Flow) (n : ℕ) (sliced : Sliced) : Type 0 where
+  pub state : last_state f.state sliced.pieces ≡ sliced.flow.state
+  pub made : sliced.flow.made ≤ f.made + n
+
+rests : (f : Flow) (n : ℕ) (r : Option StopReason) (events : List Event) → Leaves f n (at_rest r events f)
+rests f n r events = record { state = refl; made = omega arith }
+
+ends_or : (f : Flow) (n : ℕ) (r : Option StopReason) (events : List Event) (later : Sliced) → Leaves f n later
+    → Leaves f n (unless_ended r events f later)
+ends_or f n (Some r) events later leaves = rests f n (Some r) events
+ends_or f n None events later leaves = leaves
+
+pub step_leaves : (p : Plan) (points : Points) (f : Flow) → Leaves f 1 (one_step p points f)
+step_leaves p points f =
+    ends_or f 1 (hit_next points f.state) (step f.state).events _
+    (record { state = refl; made = omega arith })
+
+then_leaves : (f : Flow) (n : ℕ) (part later : Sliced) → Leaves f 1 part → Leaves part.flow n later
+    → Leaves f (suc n) (after_pieces part.pieces later)
+then_leaves f n part later first next = record {
+  state = last-append f.state part.pieces later.pieces
+      ∙ (ap (λ (s : State). last_state s later.pieces) first.state ∙ next.state);
+  made = omega (arith, first.made, next.made);
+}
+
+pub slice_leaves : (p : Plan) (points : Points) (n : ℕ) (f : Flow) → Leaves f n (slice p points n f)
+unfolding slice
+slice_leaves p points zero f = rests f 0 None []
+slice_leaves p points (suc n) f =
+    let part : Sliced = one_step p points f in
+    ends_or f (suc n) (before_step p points f) [] _
+    (then_leaves f n part _ (step_leaves p points f)
+    (ends_or part.flow n part.reason part.events _ (slice_leaves p points n part.flow)))
+
+-- the machine is in the state that the slice leaves
+pub stands_there : (f : Flow) (n : ℕ) (sliced : Sliced) (old new : Whole) (a b : Writing) → old.state ≡ f.state
+    → Leaves f n sliced → TellsAll sliced.pieces old new a b → new.state ≡ sliced.flow.state
+stands_there f n sliced old new a b same leaves tells =
+    ap (λ (m : Whole). m.state) tells.stands
+    ∙ (ap (λ (s : State). last_state s sliced.pieces) same ∙ leaves.state)
+
+-- what a run has made after it
+pub flow_left : (sliced : Sliced) (progress : Progress) (s : State) (r : Option StopReason)
+    → Slices sliced progress r → s ≡ sliced.flow.state → flow progress s ≡ sliced.flow
+flow_left sliced progress s r left same =
+    ap (λ (q : Progress). flow q s) left.1
+    ∙ ap (λ (u : State). let g : Flow = record {
+      made = sliced.flow.made;
+      console = sliced.flow.console;
+      state = u;
+    } in g) same
 
 -- ---- the cases of a slice
 
-pub none_left : (p : Plan) (points : List Breakpoint) (n : ℕ) (f : Flow) → n ≡ 0
-    → slice p points n f ≡ at_rest None [] f
+pub none_left : (p : Plan) (points : Points) (n : ℕ) (f : Flow) → n ≡ 0 → slice p points n f ≡ at_rest None [] f
 unfolding slice
 none_left p points n f e = rw e refl
 
-some_left : (p : Plan) (points : List Breakpoint) (n m : ℕ) (f : Flow) → n ≡ suc m
+some_left : (p : Plan) (points : Points) (n m : ℕ) (f : Flow) → n ≡ suc m
     → slice p points n f ≡ unless_ended (before_step p points f) [] f
-    (after_pieces (step_piece p f ∷ [])
-    (unless_ended (reason_then p f.state) (step f.state).events (after_step p f) (slice p points m (after_step p f))))
+    (going_on (one_step p points f) (slice p points m (one_step p points f).flow))
 unfolding slice
 some_left p points n m f e = rw e refl
 
-pub ends_before : (p : Plan) (points : List Breakpoint) (n : ℕ) (f : Flow) (r : StopReason) → 0 < n
+pub ends_before : (p : Plan) (points : Points) (n : ℕ) (f : Flow) (r : StopReason) → 0 < n
     → before_step p points f ≡ Some r → slice p points n f ≡ at_rest (Some r) [] f
 ends_before p points n f r some is =
     some_left p points n (n - 1) f (omega arith) ∙ ap (λ (o : Option StopReason). unless_ended o [] f
-    (after_pieces (step_piece p f ∷ [])
-    (unless_ended (reason_then p f.state) (step f.state).events (after_step p f)
-    (slice p points (n - 1) (after_step p f))))) is
+    (going_on (one_step p points f) (slice p points (n - 1) (one_step p points f).flow))) is
 
-pub makes_step : (p : Plan) (points : List Breakpoint) (n : ℕ) (f : Flow) → 0 < n → before_step p points f ≡ None
-    → slice p points n f ≡ after_pieces (step_piece p f ∷ [])
-    (unless_ended (reason_then p f.state) (step f.state).events (after_step p f)
-    (slice p points (n - 1) (after_step p f)))
+makes_step : (p : Plan) (points : Points) (n : ℕ) (f : Flow) → 0 < n → before_step p points f ≡ None
+    → slice p points n f ≡ going_on (one_step p points f) (slice p points (n - 1) (one_step p points f).flow)
 makes_step p points n f some is =
     some_left p points n (n - 1) f (omega arith) ∙ ap (λ (o : Option StopReason). unless_ended o [] f
-    (after_pieces (step_piece p f ∷ [])
-    (unless_ended (reason_then p f.state) (step f.state).events (after_step p f)
-    (slice p points (n - 1) (after_step p f))))) is
+    (going_on (one_step p points f) (slice p points (n - 1) (one_step p points f).flow))) is
 
-pub ends_after : (p : Plan) (points : List Breakpoint) (n : ℕ) (f : Flow) (r : StopReason) → 0 < n
-    → before_step p points f ≡ None → reason_then p f.state ≡ Some r
-    → slice p points n f ≡ after_pieces (step_piece p f ∷ []) (at_rest (Some r) (step f.state).events (after_step p f))
-ends_after p points n f r some before is =
-    makes_step p points n f some before ∙ ap (λ (o : Option StopReason). after_pieces (step_piece p f ∷ [])
-    (unless_ended o (step f.state).events (after_step p f) (slice p points (n - 1) (after_step p f)))) is
+-- what comes after the pieces of a step
+pub later_of : Plan → Points → ℕ → Flow → Sliced
+later_of p points n f =
+    unless_ended (one_step p points f).reason (one_step p points f).events (one_step p points f).flow
+    (slice p points (n - 1) (one_step p points f).flow)
 
-pub goes_on : (p : Plan) (points : List Breakpoint) (n : ℕ) (f : Flow) → 0 < n
-    → before_step p points f ≡ None → reason_then p f.state ≡ None
-    → slice p points n f ≡ after_pieces (step_piece p f ∷ []) (slice p points (n - 1) (after_step p f))
-goes_on p points n f some before is =
-    makes_step p points n f some before ∙ ap (λ (o : Option StopReason). after_pieces (step_piece p f ∷ [])
-    (unless_ended o (step f.state).events (after_step p f) (slice p points (n - 1) (after_step p f)))) is
+pub has_pieces : (p : Plan) (points : Points) (n : ℕ) (f : Flow) → 0 < n → before_step p points f ≡ None
+    → slice p points n f ≡ after_pieces (one_step p points f).pieces (later_of p points n f)
+unfolding later_of
+has_pieces p points n f some is = makes_step p points n f some is
+
+pub ends_in : (p : Plan) (points : Points) (n : ℕ) (f : Flow) (r : StopReason) → Some r ≡ (one_step p points f).reason
+    → later_of p points n f ≡ at_rest (Some r) (one_step p points f).events (one_step p points f).flow
+unfolding later_of
+ends_in p points n f r is =
+    ap (λ (o : Option StopReason). unless_ended o (one_step p points f).events (one_step p points f).flow
+    (slice p points (n - 1) (one_step p points f).flow)) (sym is)
+
+pub goes_on : (p : Plan) (points : Points) (n : ℕ) (f : Flow) → None ≡ (one_step p points f).reason
+    → later_of p points n f ≡ slice p points (n - 1) (one_step p points f).flow
+unfolding later_of
+goes_on p points n f is =
+    ap (λ (o : Option StopReason). unless_ended o (one_step p points f).events (one_step p points f).flow
+    (slice p points (n - 1) (one_step p points f).flow)) (sym is)
 
 -- ---- so far
 
@@ -72,16 +208,16 @@ pub record Sliding (all rest : Sliced) (old new : Whole) (a b : Writing) : Type 
 pub nothing_yet : (all : Sliced) (m : Whole) (a : Writing) → Sliding all all m m a a
 nothing_yet all m a = record { done = []; whole = refl; tells = tells_none m a }
 
--- one piece more
-pub one_more : (all rest later : Sliced) (piece : Piece) (old mid new : Whole) (a b c : Writing)
-    → Sliding all rest old mid a b → rest ≡ after_pieces (piece ∷ []) later → TellsAll (piece ∷ []) mid new b c
+-- more pieces went out
+pub more_told : (all rest later : Sliced) (more : List Piece) (old mid new : Whole) (a b c : Writing)
+    → Sliding all rest old mid a b → rest ≡ after_pieces more later → TellsAll more mid new b c
     → Sliding all later old new a c
-one_more all rest later piece old mid new a b c so_far is then = record {
-  done = so_far.done ++ piece ∷ [];
+more_told all rest later more old mid new a b c so_far is next = record {
+  done = so_far.done ++ more;
   whole = so_far.whole ∙ (ap (λ (r : Sliced). after_pieces so_far.done r) is
       ∙ ap (λ (ps : List Piece). record later { pieces = ps })
-      (sym (append_assoc so_far.done (piece ∷ []) later.pieces)));
-  tells = tells_on so_far.done (piece ∷ []) old mid new a b c so_far.tells then;
+      (sym (append_assoc so_far.done more later.pieces)));
+  tells = tells_on so_far.done more old mid new a b c so_far.tells next;
 }
 
 -- the rest has no piece
@@ -92,15 +228,15 @@ all_told all rest old new a b so_far none =
     (sym (ap (λ (r : Sliced). r.pieces) so_far.whole ∙ (ap (λ (ps : List Piece). so_far.done ++ ps) none
     ∙ append-nil so_far.done))) so_far.tells
 
--- the next piece was cut
-pub next_cut : (all rest later : Sliced) (piece : Piece) (old mid new : Whole) (a b c : Writing)
-    → Sliding all rest old mid a b → rest ≡ after_pieces (piece ∷ []) later → TellsPart (piece ∷ []) mid new b c
+-- the next pieces were cut
+pub next_cut : (all rest later : Sliced) (more : List Piece) (old mid new : Whole) (a b c : Writing)
+    → Sliding all rest old mid a b → rest ≡ after_pieces more later → TellsPart more mid new b c
     → TellsPart all.pieces old new a c
-next_cut all rest later piece old mid new a b c so_far is then =
+next_cut all rest later more old mid new a b c so_far is next =
     subst (λ (ps : List Piece). TellsPart ps old new a c)
     (sym (ap (λ (r : Sliced). r.pieces) (so_far.whole ∙ ap (λ (r : Sliced). after_pieces so_far.done r) is)))
-    (cut_on so_far.done ((piece ∷ []) ++ later.pieces) old mid new a b c so_far.tells
-    (cut_before (piece ∷ []) later.pieces mid new b c then))
+    (cut_on so_far.done (more ++ later.pieces) old mid new a b c so_far.tells
+    (cut_before more later.pieces mid new b c next))
 
 -- a slice that is at rest: what a call leaves
 pub left_at : (all rest : Sliced) (old new : Whole) (a b : Writing) (r : Option StopReason) (events : List Event)
@@ -116,7 +252,7 @@ left_at all rest old new a b r events f now so_far is kept =
 
 -- ---- by what the calls returned
 
-pub ended_before : (p : Plan) (points : List Breakpoint) (n : ℕ) (f : Flow) (o : Option StopReason) → 0 < n
+pub ended_before : (p : Plan) (points : Points) (n : ℕ) (f : Flow) (o : Option StopReason) → 0 < n
     → o ≡ before_step p points f → is_some o ≡ true → slice p points n f ≡ at_rest o [] f
 ended_before p points n f (Some r) some is has = ends_before p points n f r some (sym is)
 ended_before p points n f None some is has = absurd (let wrong : false ≡ true = has in cc)
@@ -125,13 +261,10 @@ pub not_before : (o before : Option StopReason) → o ≡ before → is_some o �
 not_before (Some r) before is has = absurd (let wrong : true ≡ false = has in cc)
 not_before None before is has = sym is
 
-pub flow_after : (p : Plan) (f : Flow) (progress : Progress) (events : List Event) (old new : Whole)
-    → progress ≡ record { made = (after_step p f).made; console = (after_step p f).console; events = events }
-    → new ≡ record old { state = (after_step p f).state } → flow progress new.state ≡ after_step p f
-flow_after p f progress events old new made stands =
-    ap (λ (q : Progress). flow q new.state) made
-    ∙ ap (λ (m : Whole). let g : Flow = record {
-      made = (after_step p f).made;
-      console = (after_step p f).console;
-      state = m.state;
-    } in g) stands
+-- where a step leaves a run
+pub flow_made : (p : Plan) (points : Points) (f : Flow) (progress : Progress) (r : Option StopReason) (old new : Whole)
+    (a b : Writing) → old.state ≡ f.state → TellsAll (one_step p points f).pieces old new a b
+    → Slices (one_step p points f) progress r → flow progress new.state ≡ (one_step p points f).flow
+flow_made p points f progress r old new a b same tells left =
+    flow_left (one_step p points f) progress new.state r left
+    (stands_there f 1 (one_step p points f) old new a b same (step_leaves p points f) tells)

@@ -3,23 +3,24 @@ use Rattle.std.proofs.Common.{◌≡◌, Bool, true, false, List, [], ◌∷◌,
 use Rattle.std.proofs.lemmas.List.Elements.{filter-append}
 use Rattle.gdb.specs.Whys.{is_told, told_lines}
 use Rattle.gdb_texts.specs.declared.settings.Settings.{Settings}
+use Rattle.gdb_texts.specs.declared.watchpoints.Watchpoint.{Watchpoint}
 use Rattle.platform.specs.declared.event.Event.{Event}
 use Rattle.platform.specs.Events.{line, lines}
 use Rattle.std.specs.List.{filter}
 use Rattle.trace.proofs.Selecting.{line_alone, lines-append}
 
-pub told-append : (k : Settings) (xs ys : List Event)
-    → told_lines k (xs ++ ys) ≡ told_lines k xs ++ told_lines k ys
-told-append k xs ys =
-    ap lines (filter-append (λ (e : Event). is_told k e.what) xs ys)
-    ∙ lines-append (filter (λ (e : Event). is_told k e.what) xs) (filter (λ (e : Event). is_told k e.what) ys)
+pub told-append : (k : Settings) (w : List Watchpoint) (xs ys : List Event)
+    → told_lines k w (xs ++ ys) ≡ told_lines k w xs ++ told_lines k w ys
+told-append k w xs ys =
+    ap lines (filter-append (λ (e : Event). is_told k w e.what) xs ys)
+    ∙ lines-append (filter (λ (e : Event). is_told k w e.what) xs) (filter (λ (e : Event). is_told k w e.what) ys)
 
-pub told-nil : (k : Settings) → told_lines k [] ≡ []
+pub told-nil : (k : Settings) (w : List Watchpoint) → told_lines k w [] ≡ []
 unfolding lines
-told-nil k = refl
+told-nil k w = refl
 
-pub told_one : (k : Settings) (e : Event) → is_told k e.what ≡ true → told_lines k (e ∷ []) ≡ line e
-told_one k e is = ap (λ (b : Bool). lines (cond b (e ∷ []) [])) is ∙ line_alone e
+pub told_one : (k : Settings) (w : List Watchpoint) (e : Event) → is_told k w e.what ≡ true → told_lines k w (e ∷ []) ≡ line e
+told_one k w e is = ap (λ (b : Bool). lines (cond b (e ∷ []) [])) is ∙ line_alone e
 
-pub not_told : (k : Settings) (e : Event) → is_told k e.what ≡ false → told_lines k (e ∷ []) ≡ []
-not_told k e is = ap (λ (b : Bool). lines (cond b (e ∷ []) [])) is ∙ told-nil k
+pub not_told : (k : Settings) (w : List Watchpoint) (e : Event) → is_told k w e.what ≡ false → told_lines k w (e ∷ []) ≡ []
+not_told k w e is = ap (λ (b : Bool). lines (cond b (e ∷ []) [])) is ∙ told-nil k w

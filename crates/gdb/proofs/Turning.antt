@@ -3,7 +3,9 @@ use Rattle.std.proofs.Common.{◌≡◌, ℕ, zero, suc, ◌+◌, ◌≤◌, Boo
 use Rattle.std.proofs.Common.{Option, Some, None, Result, Ok, Err, IfOk, refl, sym, ◌∙◌, ap, subst, arith, append_assoc}
 use Rattle.std.proofs.Common.{if◌then◌else◌, unwrap_or}
 use Rattle.std.proofs.lemmas.List.{append-nil}
+use Rattle.gdb.proofs.Slicing.{flow_left, slice_leaves, stands_there}
 use Rattle.gdb.specs.declared.slices.Plan.{Plan}
+use Rattle.gdb.specs.declared.slices.Points.{Points}
 use Rattle.gdb.specs.declared.turns.Turn.{Turn}
 use Rattle.gdb.specs.Slices.{Flow, Progress, Sliced, Slices, after_pieces, after_step, at_rest, before_step, flow}
 use Rattle.gdb.specs.Slices.{reason_then, slice, step_piece, unless_ended}
@@ -13,7 +15,7 @@ use Rattle.gdb.specs.Consoles.{Console, Shown, ShownInPart, console_after, empti
 use Rattle.gdb.specs.Whys.{told_stop, why_text}
 use Rattle.platform.specs.declared.stop.Stop.{Stop}
 use Rattle.gdb_texts.specs.declared.features.Features.{Features}
-use Rattle.gdb_texts.specs.declared.points.Breakpoint.{Breakpoint}
+use Rattle.gdb_texts.specs.declared.watchpoints.Watchpoint.{Watchpoint}
 use Rattle.gdb_texts.specs.declared.settings.Settings.{Settings}
 use Rattle.gdb_texts.specs.declared.stops.StopReason.{StopReason}
 use Rattle.gdb_texts.specs.declared.stops.StopReason.TheVariants.{Interrupted}
@@ -25,65 +27,19 @@ use Rattle.reference.specs.Step.{step}
 use Rattle.serving.proofs.Telling.{cut_before, cut_on, one_cut, tells_none, tells_on}
 use Rattle.serving.specs.Pieces.{Piece, Tells, TellsAll, TellsPart, last_state}
 
--- ---- what a slice leaves: the state of its last piece, and at most n steps more
-
-pub record Leaves (f : Flow) (n : ℕ) (sliced : Sliced) : Type 0 where
-  pub state : last_state f.state sliced.pieces ≡ sliced.flow.state
-  pub made : sliced.flow.made ≤ f.made + n
-
-rests : (f : Flow) (n : ℕ) (r : Option StopReason) (events : List Event) → Leaves f n (at_rest r events f)
-rests f n r events = record { state = refl; made = omega arith }
-
-ends_or : (f : Flow) (n : ℕ) (r : Option StopReason) (events : List Event) (later : Sliced) → Leaves f n later
-    → Leaves f n (unless_ended r events f later)
-ends_or f n (Some r) events later leaves = rests f n (Some r) events
-ends_or f n None events later leaves = leaves
-
-steps_on : (p : Plan) (f : Flow) (n m : ℕ) (later : Sliced) → m ≡ suc n → Leaves (after_step p f) n later
-    → Leaves f m (after_pieces (step_piece p f ∷ []) later)
-steps_on p f n m later is leaves = record {
-  state = leaves.state;
-  made = omega (arith, leaves.made, is);
-}
-
-pub slice_leaves : (p : Plan) (points : List Breakpoint) (n : ℕ) (f : Flow) → Leaves f n (slice p points n f)
-unfolding slice
-slice_leaves p points zero f = rests f 0 None []
-slice_leaves p points (suc n) f =
-    ends_or f (suc n) (before_step p points f) [] _
-    (steps_on p f n (suc n) _ refl
-    (ends_or (after_step p f) n (reason_then p f.state) (step f.state).events _
-    (slice_leaves p points n (after_step p f))))
-
--- the machine is in the state that the slice leaves
-pub stands_there : (f : Flow) (n : ℕ) (sliced : Sliced) (old new : Whole) (a b : Writing) → old.state ≡ f.state
-    → Leaves f n sliced → TellsAll sliced.pieces old new a b → new.state ≡ sliced.flow.state
-stands_there f n sliced old new a b same leaves tells =
-    ap (λ (m : Whole). m.state) tells.stands
-    ∙ (ap (λ (s : State). last_state s sliced.pieces) same ∙ leaves.state)
-
--- what a run has made after it
-pub flow_left : (sliced : Sliced) (progress : Progress) (s : State) (r : Option StopReason)
-    → Slices sliced progress r → s ≡ sliced.flow.state → flow progress s ≡ sliced.flow
-flow_left sliced progress s r left same =
-    ap (λ (q : Progress). flow q s) left.1
-    ∙ ap (λ (u : State). let g : Flow = record {
-      made = sliced.flow.made;
-      console = sliced.flow.console;
-      state = u;
-    } in g) same
+-- ---- what a slice leaves
 
 pub events_left : (sliced : Sliced) (progress : Progress) (r : Option StopReason) → Slices sliced progress r
     → progress.events ≡ sliced.events
 events_left sliced progress r left = ap (λ (q : Progress). q.events) left.1
 
 -- the end of a run after it
-pub end_left : (k : Settings) (features : Features) (r : StopReason) (sliced : Sliced) (progress : Progress) (s : State)
+pub end_left : (k : Settings) (w : List Watchpoint) (features : Features) (r : StopReason) (sliced : Sliced) (progress : Progress) (s : State)
     (o : Option StopReason) → Slices sliced progress o → s ≡ sliced.flow.state
-    → ended k features r progress.events (flow progress s) ≡ ended k features r sliced.events sliced.flow
-end_left k features r sliced progress s o left same =
-    ap (λ (es : List Event). ended k features r es (flow progress s)) (events_left sliced progress o left)
-    ∙ ap (λ (f : Flow). ended k features r sliced.events f) (flow_left sliced progress s o left same)
+    → ended k w features r progress.events (flow progress s) ≡ ended k w features r sliced.events sliced.flow
+end_left k w features r sliced progress s o left same =
+    ap (λ (es : List Event). ended k w features r es (flow progress s)) (events_left sliced progress o left)
+    ∙ ap (λ (f : Flow). ended k w features r sliced.events f) (flow_left sliced progress s o left same)
 
 -- ---- so far
 
@@ -139,32 +95,32 @@ taken_as {E} rest same old new a b sent result is takes =
 
 -- ---- the cases of the slices
 
-pub none_left : (p : Plan) (points : List Breakpoint) (features : Features) (n rest : ℕ) (f : Flow) → n ≡ 0
-    → slices p points features n rest f ≡ last_slice p features (slice p points rest f)
+pub none_left : (p : Plan) (points : Points) (features : Features) (n rest : ℕ) (f : Flow) → n ≡ 0
+    → slices p points features n rest f ≡ last_slice p points.watchpoints features (slice p points rest f)
 unfolding slices
 none_left p points features n rest f e = rw e refl
 
-pub some_left : (p : Plan) (points : List Breakpoint) (features : Features) (n m rest : ℕ) (f : Flow) → n ≡ suc m
-    → slices p points features n rest f ≡ after_slice p features (slice p points steps_at_once f)
+pub some_left : (p : Plan) (points : Points) (features : Features) (n m rest : ℕ) (f : Flow) → n ≡ suc m
+    → slices p points features n rest f ≡ after_slice p points.watchpoints features (slice p points steps_at_once f)
     (slices p points features m rest (flushed (slice p points steps_at_once f).flow))
 unfolding slices
 some_left p points features n m rest f e = rw e refl
 
 -- the run ended in a slice
-pub ended_in : (p : Plan) (features : Features) (sliced : Sliced) (later : Turned) (r : StopReason)
-    → Some r ≡ sliced.reason → after_slice p features sliced later
-    ≡ with_pieces sliced.pieces (ended p.settings features r sliced.events sliced.flow)
-ended_in p features sliced later r is =
-    ap (λ (o : Option StopReason). with_pieces sliced.pieces (ended_or p.settings features sliced o
+pub ended_in : (p : Plan) (w : List Watchpoint) (features : Features) (sliced : Sliced) (later : Turned) (r : StopReason)
+    → Some r ≡ sliced.reason → after_slice p w features sliced later
+    ≡ with_pieces sliced.pieces (ended p.settings w features r sliced.events sliced.flow)
+ended_in p w features sliced later r is =
+    ap (λ (o : Option StopReason). with_pieces sliced.pieces (ended_or p.settings w features sliced o
     (with_pieces (flushing sliced.flow ∷ []) (asked_or features p.how (flushed sliced.flow) later)))) (sym is)
 
 -- it goes on
-pub gone_past : (p : Plan) (features : Features) (sliced : Sliced) (later : Turned) → None ≡ sliced.reason
-    → after_slice p features sliced later
+pub gone_past : (p : Plan) (w : List Watchpoint) (features : Features) (sliced : Sliced) (later : Turned) → None ≡ sliced.reason
+    → after_slice p w features sliced later
     ≡ with_pieces sliced.pieces (with_pieces (flushing sliced.flow ∷ [])
     (asked_or features p.how (flushed sliced.flow) later))
-gone_past p features sliced later is =
-    ap (λ (o : Option StopReason). with_pieces sliced.pieces (ended_or p.settings features sliced o
+gone_past p w features sliced later is =
+    ap (λ (o : Option StopReason). with_pieces sliced.pieces (ended_or p.settings w features sliced o
     (with_pieces (flushing sliced.flow ∷ []) (asked_or features p.how (flushed sliced.flow) later)))) (sym is)
 
 pub is_asked : (features : Features) (p : Plan) (f : Flow) (later : Turned) → features.is_gdb ≡ true
@@ -230,7 +186,7 @@ takes_sent t old new a b sent (Err error) takes = tt
 
 -- ---- a whole slice in which the run didn't end
 
-pub past_slice : (p : Plan) (points : List Breakpoint) (features : Features) (n m rest : ℕ) (f : Flow) (all : Turned)
+pub past_slice : (p : Plan) (points : Points) (features : Features) (n m rest : ℕ) (f : Flow) (all : Turned)
     (q : Progress) (o : Option StopReason) (old mid new : Whole) (a b c : Writing)
     → Going all (slices p points features n rest f) old mid a b → n ≡ suc m
     → TellsAll (slice p points steps_at_once f).pieces mid new b c → Slices (slice p points steps_at_once f) q o
@@ -240,7 +196,7 @@ pub past_slice : (p : Plan) (points : List Breakpoint) (features : Features) (n 
 past_slice p points features n m rest f all q o old mid new a b c so_far some tells left none at =
     gone_on all (slices p points features n rest f) _ (slice p points steps_at_once f).pieces old mid new a b c so_far
     (some_left p points features n m rest f some
-    ∙ (gone_past p features (slice p points steps_at_once f)
+    ∙ (gone_past p points.watchpoints features (slice p points steps_at_once f)
     (slices p points features m rest (flushed (slice p points steps_at_once f).flow)) (sym none ∙ left.0)
     ∙ ap (λ (u : Flow). with_pieces (slice p points steps_at_once f).pieces (with_pieces (flushing u ∷ [])
     (asked_or features p.how (flushed u) (slices p points features m rest (flushed u)))))
@@ -249,7 +205,7 @@ past_slice p points features n m rest f all q o old mid new a b c so_far some te
     (slice_leaves p points steps_at_once f) tells))))) tells
 
 -- its text was sent
-pub past_flush : (p : Plan) (points : List Breakpoint) (features : Features) (m rest : ℕ) (all : Turned)
+pub past_flush : (p : Plan) (points : Points) (features : Features) (m rest : ℕ) (all : Turned)
     (q r : Progress) (old new : Whole) (a b c : Writing)
     → Going all (with_pieces (flushing (flow q new.state) ∷ []) (asked_or features p.how (flushed (flow q new.state))
     (slices p points features m rest (flushed (flow q new.state))))) old new a b
@@ -303,95 +259,95 @@ asks_none features p all later f old new a b so_far other =
     subst (λ (t : Turned). Going all t old new a b) (not_asked features p f later other) so_far
 
 -- the run ended in a whole slice
-pub whole_end : {E : Type 0} (p : Plan) (points : List Breakpoint) (features : Features) (n m rest : ℕ) (f : Flow)
+pub whole_end : {E : Type 0} (p : Plan) (points : Points) (features : Features) (n m rest : ℕ) (f : Flow)
     (all : Turned) (q : Progress) (o : Option StopReason) (r : StopReason) (old mid new : Whole) (a b c d : Writing)
     (sent : List ℕ) (result : Result Turn E)
     → Going all (slices p points features n rest f) old mid a b → n ≡ suc m
     → TellsAll (slice p points steps_at_once f).pieces mid new b c → Slices (slice p points steps_at_once f) q o
     → o ≡ Some r → mid.state ≡ f.state
-    → Takes (ended p.settings features r q.events (flow q new.state)) new new c d sent result
+    → Takes (ended p.settings points.watchpoints features r q.events (flow q new.state)) new new c d sent result
     → Takes all old new a d sent result
 whole_end p points features n m rest f all q o r old mid new a b c d sent result so_far some tells left is at takes =
-    taken all (ended p.settings features r q.events (flow q new.state)) old new new a c d sent result
+    taken all (ended p.settings points.watchpoints features r q.events (flow q new.state)) old new new a c d sent result
     (gone_on all (slices p points features n rest f) _ (slice p points steps_at_once f).pieces old mid new a b c so_far
     (some_left p points features n m rest f some
-    ∙ (ended_in p features (slice p points steps_at_once f)
+    ∙ (ended_in p points.watchpoints features (slice p points steps_at_once f)
     (slices p points features m rest (flushed (slice p points steps_at_once f).flow)) r (sym is ∙ left.0)
     ∙ ap (λ (t : Turned). with_pieces (slice p points steps_at_once f).pieces t)
-    (sym (end_left p.settings features r (slice p points steps_at_once f) q new.state o left
+    (sym (end_left p.settings points.watchpoints features r (slice p points steps_at_once f) q new.state o left
     (stands_there f steps_at_once (slice p points steps_at_once f) mid new b c at
     (slice_leaves p points steps_at_once f) tells))))) tells) takes
 
 -- ---- the last slice
 
-pub last_taken : {E : Type 0} (p : Plan) (features : Features) (sliced : Sliced) (q : Progress) (o : Option StopReason)
+pub last_taken : {E : Type 0} (p : Plan) (w : List Watchpoint) (features : Features) (sliced : Sliced) (q : Progress) (o : Option StopReason)
     (r : StopReason) (old mid : Whole) (a b c : Writing) (sent : List ℕ) (result : Result Turn E)
     → TellsAll sliced.pieces old mid a b → Slices sliced q o → r ≡ unwrap_or o Interrupted
     → mid.state ≡ sliced.flow.state
-    → Takes (ended p.settings features r q.events (flow q mid.state)) mid mid b c sent result
-    → Takes (last_slice p features sliced) old mid a c sent result
-last_taken p features sliced q o r old mid a b c sent result tells left is same takes =
-    taken (last_slice p features sliced)
-    (ended p.settings features (unwrap_or sliced.reason Interrupted) sliced.events sliced.flow)
+    → Takes (ended p.settings w features r q.events (flow q mid.state)) mid mid b c sent result
+    → Takes (last_slice p w features sliced) old mid a c sent result
+last_taken p w features sliced q o r old mid a b c sent result tells left is same takes =
+    taken (last_slice p w features sliced)
+    (ended p.settings w features (unwrap_or sliced.reason Interrupted) sliced.events sliced.flow)
     old mid mid a b c sent result
-    (gone_on _ (last_slice p features sliced) _ sliced.pieces old old mid a a b
-    (not_begun (last_slice p features sliced) old a) refl tells)
+    (gone_on _ (last_slice p w features sliced) _ sliced.pieces old old mid a a b
+    (not_begun (last_slice p w features sliced) old a) refl tells)
     (taken_as _ _ mid mid b c sent result
-    (ap (λ (x : StopReason). ended p.settings features x q.events (flow q mid.state))
+    (ap (λ (x : StopReason). ended p.settings w features x q.events (flow q mid.state))
     (is ∙ ap (λ (u : Option StopReason). unwrap_or u Interrupted) left.0)
-    ∙ end_left p.settings features (unwrap_or sliced.reason Interrupted) sliced q mid.state o left same) takes)
+    ∙ end_left p.settings w features (unwrap_or sliced.reason Interrupted) sliced q mid.state o left same) takes)
 
-pub last_cut : (p : Plan) (features : Features) (sliced : Sliced) (old mid : Whole) (a b : Writing)
-    → TellsPart sliced.pieces old mid a b → TellsPart (last_slice p features sliced).pieces old mid a b
-last_cut p features sliced old mid a b cut =
-    cut_before sliced.pieces (ended p.settings features (unwrap_or sliced.reason Interrupted) sliced.events
+pub last_cut : (p : Plan) (w : List Watchpoint) (features : Features) (sliced : Sliced) (old mid : Whole) (a b : Writing)
+    → TellsPart sliced.pieces old mid a b → TellsPart (last_slice p w features sliced).pieces old mid a b
+last_cut p w features sliced old mid a b cut =
+    cut_before sliced.pieces (ended p.settings w features (unwrap_or sliced.reason Interrupted) sliced.events
     sliced.flow).pieces old mid a b cut
 
 -- ---- the end of a run
 
-pub ends_first : (k : Settings) (features : Features) (r : StopReason) (q : Progress) (m : Whole) (a b : Writing)
+pub ends_first : (k : Settings) (w : List Watchpoint) (features : Features) (r : StopReason) (q : Progress) (m : Whole) (a b : Writing)
     (stop : Option Stop) → stop ≡ told_stop r m.state.stop
-    → ShownInPart a b q.console (why_text k q.events stop q.console.last)
-    → TellsPart (ended k features r q.events (flow q m.state)).pieces m m a b
-ends_first k features r q m a b stop is cut =
-    let shown : ShownInPart a b q.console (whys k r q.events (flow q m.state)) =
-    subst (λ (o : Option Stop). ShownInPart a b q.console (why_text k q.events o q.console.last)) is cut in
-    cut_first _ _ _ m a b (said_part m (sent_by q.console (whys k r q.events (flow q m.state))) a b shown.0 shown.1)
+    → ShownInPart a b q.console (why_text k w q.events stop q.console.last)
+    → TellsPart (ended k w features r q.events (flow q m.state)).pieces m m a b
+ends_first k w features r q m a b stop is cut =
+    let shown : ShownInPart a b q.console (whys k w r q.events (flow q m.state)) =
+    subst (λ (o : Option Stop). ShownInPart a b q.console (why_text k w q.events o q.console.last)) is cut in
+    cut_first _ _ _ m a b (said_part m (sent_by q.console (whys k w r q.events (flow q m.state))) a b shown.0 shown.1)
 
 -- the lines were put
-abbrev pub Told : Settings → StopReason → Progress → Progress → Whole → Writing → Writing → Type 0
-Told k r q next m a b = Shown a b q.console next.console (whys k r q.events (flow q m.state))
+abbrev pub Told : Settings → List Watchpoint → StopReason → Progress → Progress → Whole → Writing → Writing → Type 0
+Told k w r q next m a b = Shown a b q.console next.console (whys k w r q.events (flow q m.state))
 
-pub told_as : (k : Settings) (r : StopReason) (q next : Progress) (m : Whole) (a b : Writing) (stop : Option Stop)
+pub told_as : (k : Settings) (w : List Watchpoint) (r : StopReason) (q next : Progress) (m : Whole) (a b : Writing) (stop : Option Stop)
     → stop ≡ told_stop r m.state.stop
-    → Shown a b q.console next.console (why_text k q.events stop q.console.last) → Told k r q next m a b
-told_as k r q next m a b stop is shown =
-    subst (λ (o : Option Stop). Shown a b q.console next.console (why_text k q.events o q.console.last)) is shown
+    → Shown a b q.console next.console (why_text k w q.events stop q.console.last) → Told k w r q next m a b
+told_as k w r q next m a b stop is shown =
+    subst (λ (o : Option Stop). Shown a b q.console next.console (why_text k w q.events o q.console.last)) is shown
 
-pub ends_second : (k : Settings) (features : Features) (r : StopReason) (q next : Progress) (m : Whole)
-    (a b c : Writing) → Told k r q next m a b → IsCutShort b.written c.written (flush_text next.console)
-    → c.errors ≡ b.errors + 1 → TellsPart (ended k features r q.events (flow q m.state)).pieces m m a c
-ends_second k features r q next m a b c told cut failed =
-    cut_second _ _ _ m a b c (said_all m (sent_by q.console (whys k r q.events (flow q m.state))) a b told.0)
-    (said_part m (flush_text (console_after q.console (whys k r q.events (flow q m.state)))) b c
+pub ends_second : (k : Settings) (w : List Watchpoint) (features : Features) (r : StopReason) (q next : Progress) (m : Whole)
+    (a b c : Writing) → Told k w r q next m a b → IsCutShort b.written c.written (flush_text next.console)
+    → c.errors ≡ b.errors + 1 → TellsPart (ended k w features r q.events (flow q m.state)).pieces m m a c
+ends_second k w features r q next m a b c told cut failed =
+    cut_second _ _ _ m a b c (said_all m (sent_by q.console (whys k w r q.events (flow q m.state))) a b told.0)
+    (said_part m (flush_text (console_after q.console (whys k w r q.events (flow q m.state)))) b c
     (subst (λ (d : Console). IsCutShort b.written c.written (flush_text d)) told.1 cut) failed)
 
-pub ends_third : (k : Settings) (features : Features) (r : StopReason) (q next : Progress) (m : Whole)
-    (a b c d : Writing) → Told k r q next m a b → WritesAll b c (flush_text next.console)
+pub ends_third : (k : Settings) (w : List Watchpoint) (features : Features) (r : StopReason) (q next : Progress) (m : Whole)
+    (a b c d : Writing) → Told k w r q next m a b → WritesAll b c (flush_text next.console)
     → IsCutShort c.written d.written (stop_packet features r m.state) → d.errors ≡ c.errors + 1
-    → TellsPart (ended k features r q.events (flow q m.state)).pieces m m a d
-ends_third k features r q next m a b c d told went cut failed =
-    cut_third _ _ _ m a b c d (said_all m (sent_by q.console (whys k r q.events (flow q m.state))) a b told.0)
-    (said_all m (flush_text (console_after q.console (whys k r q.events (flow q m.state)))) b c
+    → TellsPart (ended k w features r q.events (flow q m.state)).pieces m m a d
+ends_third k w features r q next m a b c d told went cut failed =
+    cut_third _ _ _ m a b c d (said_all m (sent_by q.console (whys k w r q.events (flow q m.state))) a b told.0)
+    (said_all m (flush_text (console_after q.console (whys k w r q.events (flow q m.state)))) b c
     (subst (λ (e : Console). WritesAll b c (flush_text e)) told.1 went))
     (said_part m (stop_packet features r m.state) c d cut failed)
 
-pub ends_all : (k : Settings) (features : Features) (r : StopReason) (q next : Progress) (m : Whole)
-    (a b c d : Writing) → Told k r q next m a b → WritesAll b c (flush_text next.console)
+pub ends_all : (k : Settings) (w : List Watchpoint) (features : Features) (r : StopReason) (q next : Progress) (m : Whole)
+    (a b c d : Writing) → Told k w r q next m a b → WritesAll b c (flush_text next.console)
     → WritesAll c d (stop_packet features r m.state)
-    → TellsAll (ended k features r q.events (flow q m.state)).pieces m m a d
-ends_all k features r q next m a b c d told went reply =
-    all_three _ _ _ m a b c d (said_all m (sent_by q.console (whys k r q.events (flow q m.state))) a b told.0)
-    (said_all m (flush_text (console_after q.console (whys k r q.events (flow q m.state)))) b c
+    → TellsAll (ended k w features r q.events (flow q m.state)).pieces m m a d
+ends_all k w features r q next m a b c d told went reply =
+    all_three _ _ _ m a b c d (said_all m (sent_by q.console (whys k w r q.events (flow q m.state))) a b told.0)
+    (said_all m (flush_text (console_after q.console (whys k w r q.events (flow q m.state)))) b c
     (subst (λ (e : Console). WritesAll b c (flush_text e)) told.1 went))
     (said_all m (stop_packet features r m.state) c d reply)

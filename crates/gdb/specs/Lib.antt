@@ -4,4 +4,5 @@ pub mod Reasons
 pub mod Slices
 pub mod Targets
 pub mod Turns
+pub mod Watching
 pub mod Whys

@@ -9,7 +9,10 @@ use Rattle.gdb_texts.specs.declared.points.Breakpoint.{Breakpoint}
 use Rattle.gdb_texts.specs.declared.points.BreakpointKind.{BreakpointKind}
 use Rattle.gdb_texts.specs.declared.stops.StopReason.{StopReason}
 use Rattle.gdb_texts.specs.declared.stops.StopReason.TheVariants as reason
+use Rattle.gdb_texts.specs.declared.watchpoints.WatchHit.{WatchHit}
+use Rattle.gdb_texts.specs.declared.watchpoints.Watchpoint.{Watchpoint}
 use Rattle.gdb_texts.specs.Points.{kind_at}
+use Rattle.gdb_texts.specs.Watchpoints.{hit_of}
 use Rattle.machine.specs.Foresight.{is_instruction_next}
 use Rattle.platform.specs.declared.access.Cause.{Cause}
 use Rattle.platform.specs.declared.access.DecidedAccess.{DecidedAccess}
@@ -67,6 +70,30 @@ is_entry (FaultRecorded fault) = false
 -- whether a handler was entered
 abbrev pub has_entry : List Event → Bool
 has_entry events = list_any (λ e. is_entry e.what) events
+
+-- ---- watchpoints
+
+-- what a granted access hits; a refused one hits none
+abbrev pub hit_by_access : List Watchpoint → Option DecidedAccess → Option WatchHit
+hit_by_access watchpoints None = None
+hit_by_access watchpoints (Some a) = if is_some a.refused then None else hit_of watchpoints a.access
+
+-- what an event hits, where it is an access
+abbrev pub event_hit : List Watchpoint → EventKind → Option WatchHit
+event_hit watchpoints what = hit_by_access watchpoints (access_of what)
+
+abbrev pub hit_or : Option WatchHit → Option WatchHit → Option WatchHit
+hit_or (Some hit) later = Some hit
+hit_or None later = later
+
+-- what the first access hits that hits a watchpoint
+unfoldable pub first_hit : List Watchpoint → List Event → Option WatchHit
+first_hit watchpoints [] = None
+first_hit watchpoints (e ∷ es) = hit_or (event_hit watchpoints e.what) (first_hit watchpoints es)
+
+abbrev pub watch_reason : Option WatchHit → Option StopReason
+watch_reason None = None
+watch_reason (Some hit) = Some (reason.Watchpoint hit.kind hit.address)
 
 -- ---- after a step
 

@@ -1,9 +1,9 @@
 -- The steps of a run, up to a reason to stop (profile).
 use Rattle.std.specs.Prelude.{◌≡◌, ℕ, zero, suc, ◌+◌, Bool, not, ◌&&◌, List, [], ◌∷◌, ◌++◌, Option, Some, None}
 use Rattle.gdb.specs.declared.slices.Plan.{Plan}
+use Rattle.gdb.specs.declared.slices.Points.{Points}
 use Rattle.gdb.specs.Consoles.{Console, console_after, sent_by}
-use Rattle.gdb.specs.Reasons.{is_continue, reason_after, reason_before, selection_of}
-use Rattle.gdb_texts.specs.declared.points.Breakpoint.{Breakpoint}
+use Rattle.gdb.specs.Reasons.{first_hit, is_continue, reason_after, reason_before, selection_of, watch_reason}
 use Rattle.gdb_texts.specs.declared.actions.Resume.{Resume}
 use Rattle.gdb_texts.specs.declared.stops.StopReason.{StopReason}
 use Rattle.machine.specs.Foresight.{is_instruction_next}
@@ -49,8 +49,12 @@ step_piece p f = record { state = (step f.state).state; text = sent_by f.console
 abbrev pub counts : Resume → State → Bool
 counts how s = not (is_continue how) && is_instruction_next s
 
-abbrev pub before_step : Plan → List Breakpoint → Flow → Option StopReason
-before_step p points f = reason_before points p.limit p.how f.made f.state
+abbrev pub before_step : Plan → Points → Flow → Option StopReason
+before_step p points f = reason_before points.breakpoints p.limit p.how f.made f.state
+
+-- the watchpoint that the next step would hit
+abbrev pub hit_next : Points → State → Option StopReason
+hit_next points s = watch_reason (first_hit points.watchpoints (step s).events)
 
 abbrev pub reason_then : Plan → State → Option StopReason
 reason_then p s =
@@ -62,7 +66,7 @@ pub record Sliced : Type 0 where
   pub pieces : List Piece
   -- why the run ended, if it did
   pub reason : Option StopReason
-  -- the events of its last step, where it ended after that
+  -- the events of its last step, where it ended after that, and of the step that would hit a watchpoint
   pub events : List Event
   pub flow : Flow
 
@@ -77,12 +81,21 @@ abbrev pub unless_ended : Option StopReason → List Event → Flow → Sliced �
 unless_ended (Some r) events f later = at_rest (Some r) events f
 unless_ended None events f later = later
 
-unfoldable pub slice : Plan → List Breakpoint → ℕ → Flow → Sliced
+-- one step: it isn't made where it would hit a watchpoint
+abbrev pub one_step : Plan → Points → Flow → Sliced
+one_step p points f =
+    unless_ended (hit_next points f.state) (step f.state).events f
+    (after_pieces (step_piece p f ∷ []) (at_rest (reason_then p f.state) (step f.state).events (after_step p f)))
+
+-- what comes later, unless the run ended in a part of it
+abbrev pub going_on : Sliced → Sliced → Sliced
+going_on part later = after_pieces part.pieces (unless_ended part.reason part.events part.flow later)
+
+unfoldable pub slice : Plan → Points → ℕ → Flow → Sliced
 slice p points zero f = at_rest None [] f
 slice p points (suc n) f =
     unless_ended (before_step p points f) [] f
-    (after_pieces (step_piece p f ∷ [])
-    (unless_ended (reason_then p f.state) (step f.state).events (after_step p f) (slice p points n (after_step p f))))
+    (going_on (one_step p points f) (slice p points n (one_step p points f).flow))
 
 -- what a call that made such steps leaves
 abbrev pub Slices : Sliced → Progress → Option StopReason → Type 0

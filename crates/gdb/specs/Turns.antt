@@ -3,6 +3,7 @@
 use Rattle.std.specs.Prelude.{ℕ, zero, suc, ◌-◌, ◌/◌, ◌%◌, ◌^◌, false, if◌then◌else◌, List, [], ◌∷◌, ◌++◌, codes}
 use Rattle.std.specs.Prelude.{◌≡◌, Option, Some, None, Result, Ok, Err, unwrap_or}
 use Rattle.gdb.specs.declared.slices.Plan.{Plan}
+use Rattle.gdb.specs.declared.slices.Points.{Points}
 use Rattle.gdb.specs.declared.turns.Run.{Run}
 use Rattle.gdb.specs.declared.turns.Turn.{Turn}
 use Rattle.gdb.specs.declared.turns.Turn.TheVariants.{Asks, Ends}
@@ -13,7 +14,7 @@ use Rattle.gdb.specs.Whys.{told_stop, why_text}
 use Rattle.gdb_packets.specs.Replies.{packet_of}
 use Rattle.gdb_texts.specs.declared.actions.Resume.{Resume}
 use Rattle.gdb_texts.specs.declared.features.Features.{Features}
-use Rattle.gdb_texts.specs.declared.points.Breakpoint.{Breakpoint}
+use Rattle.gdb_texts.specs.declared.watchpoints.Watchpoint.{Watchpoint}
 use Rattle.gdb_texts.specs.declared.settings.Settings.{Settings}
 use Rattle.gdb_texts.specs.declared.stops.StopReason.{StopReason}
 use Rattle.gdb_texts.specs.declared.stops.StopReason.TheVariants.{Interrupted}
@@ -49,21 +50,21 @@ flushing f = said f (flush_text f.console)
 
 -- ---- the end of a run
 
--- the lines that say why it ended after a step with these events
-abbrev pub whys : Settings → StopReason → List Event → Flow → List ℕ
-whys k r events f = why_text k events (told_stop r f.state.stop) f.console.last
+-- the lines that say why it ended at a step with these events
+abbrev pub whys : Settings → List Watchpoint → StopReason → List Event → Flow → List ℕ
+whys k watchpoints r events f = why_text k watchpoints events (told_stop r f.state.stop) f.console.last
 
-abbrev pub after_whys : Settings → StopReason → List Event → Flow → Flow
-after_whys k r events f = record f { console = console_after f.console (whys k r events f) }
+abbrev pub after_whys : Settings → List Watchpoint → StopReason → List Event → Flow → Flow
+after_whys k watchpoints r events f = record f { console = console_after f.console (whys k watchpoints r events f) }
 
 -- the stop reply, as a packet
 abbrev pub stop_packet : Features → StopReason → State → List ℕ
 stop_packet features r s = packet_of (stop_reply r features (target_values s))
 
 -- these lines, all text, and then the stop reply
-abbrev pub ended : Settings → Features → StopReason → List Event → Flow → Turned
-ended k features r events f = record {
-  pieces = said f (sent_by f.console (whys k r events f)) ∷ flushing (after_whys k r events f)
+abbrev pub ended : Settings → List Watchpoint → Features → StopReason → List Event → Flow → Turned
+ended k watchpoints features r events f = record {
+  pieces = said f (sent_by f.console (whys k watchpoints r events f)) ∷ flushing (after_whys k watchpoints r events f)
       ∷ said f (stop_packet features r f.state) ∷ [];
   outcome = Ends (signal_of r);
   sent = stop_packet features r f.state;
@@ -94,35 +95,35 @@ steps_left None made = 2 ^ 64 - 1 - made
 steps_left (Some most) made = most - made
 
 -- the run ended in a slice, or goes on
-abbrev pub ended_or : Settings → Features → Sliced → Option StopReason → Turned → Turned
-ended_or k features sliced (Some r) later = ended k features r sliced.events sliced.flow
-ended_or k features sliced None later = later
+abbrev pub ended_or : Settings → List Watchpoint → Features → Sliced → Option StopReason → Turned → Turned
+ended_or k watchpoints features sliced (Some r) later = ended k watchpoints features r sliced.events sliced.flow
+ended_or k watchpoints features sliced None later = later
 
 -- after a whole slice GDB is asked, and another client isn't
 abbrev pub asked_or : Features → Resume → Flow → Turned → Turned
 asked_or features how f later = if features.is_gdb then asked how f else later
 
 -- a whole slice, after which all text goes out; and what comes later, where the run goes on at once
-abbrev pub after_slice : Plan → Features → Sliced → Turned → Turned
-after_slice p features sliced later =
-    with_pieces sliced.pieces (ended_or p.settings features sliced sliced.reason
+abbrev pub after_slice : Plan → List Watchpoint → Features → Sliced → Turned → Turned
+after_slice p watchpoints features sliced later =
+    with_pieces sliced.pieces (ended_or p.settings watchpoints features sliced sliced.reason
     (with_pieces (flushing sliced.flow ∷ []) (asked_or features p.how (flushed sliced.flow) later)))
 
 -- the last slice: where nothing else ends the run in it, its budget is made
-abbrev pub last_slice : Plan → Features → Sliced → Turned
-last_slice p features sliced =
+abbrev pub last_slice : Plan → List Watchpoint → Features → Sliced → Turned
+last_slice p watchpoints features sliced =
     with_pieces sliced.pieces
-    (ended p.settings features (unwrap_or sliced.reason Interrupted) sliced.events sliced.flow)
+    (ended p.settings watchpoints features (unwrap_or sliced.reason Interrupted) sliced.events sliced.flow)
 
 -- n whole slices, and one of the `rest` of the steps
-unfoldable pub slices : Plan → List Breakpoint → Features → ℕ → ℕ → Flow → Turned
-slices p points features zero rest f = last_slice p features (slice p points rest f)
+unfoldable pub slices : Plan → Points → Features → ℕ → ℕ → Flow → Turned
+slices p points features zero rest f = last_slice p points.watchpoints features (slice p points rest f)
 slices p points features (suc n) rest f =
-    after_slice p features (slice p points steps_at_once f)
+    after_slice p points.watchpoints features (slice p points steps_at_once f)
     (slices p points features n rest (flushed (slice p points steps_at_once f).flow))
 
 -- the slices of `left` steps
-abbrev pub all_slices : Plan → List Breakpoint → Features → ℕ → Flow → Turned
+abbrev pub all_slices : Plan → Points → Features → ℕ → Flow → Turned
 all_slices p points features left f =
     slices p points features (left / steps_at_once) (left % steps_at_once) f
 
@@ -132,10 +133,10 @@ begun run s = record { made = run.made; console = console_from run.last; state =
 abbrev pub plan_of : Settings → ℕ → Run → Plan
 plan_of k limit run = record { how = run.how; limit = limit; settings = k }
 
--- a turn of a run, with these breakpoints and settings, for a client with these features, to the tick `limit`
-abbrev pub turn : List Breakpoint → Settings → Features → ℕ → Run → State → Turned
+-- a turn of a run, with these points and settings, for a client with these features, to the tick `limit`
+abbrev pub turn : Points → Settings → Features → ℕ → Run → State → Turned
 turn points k features limit run s =
-    if run.is_interrupted then ended k features Interrupted [] (begun run s)
+    if run.is_interrupted then ended k points.watchpoints features Interrupted [] (begun run s)
     else all_slices (plan_of k limit run) points features (steps_left (most_steps k features.is_gdb) run.made)
     (begun run s)
 

@@ -1,7 +1,8 @@
 -- The lines that say why a run ended (profile).
 use Rattle.std.specs.Prelude.{ℕ, Bool, not, ◌&&◌, ◌||◌, if◌then◌else◌, List, [], ◌++◌, Option, Some, None, is_some}
 use Rattle.std.specs.List.{filter, list_any}
-use Rattle.gdb.specs.Reasons.{is_entry, selection_of}
+use Rattle.gdb.specs.Reasons.{event_hit, is_entry, selection_of}
+use Rattle.gdb_texts.specs.declared.watchpoints.Watchpoint.{Watchpoint}
 use Rattle.gdb_texts.specs.declared.settings.Settings.{Settings}
 use Rattle.gdb_texts.specs.declared.stops.StopReason.{StopReason}
 use Rattle.gdb_texts.specs.declared.stops.StopReason.TheVariants as reason
@@ -16,13 +17,15 @@ use Rattle.trace.specs.Selection.{is_refusal, new_line_after, selects}
 abbrev pub stops_at : Settings → EventKind → Bool
 stops_at k what = (k.refused || k.faults) && is_refusal what || k.exceptions && is_entry what
 
--- whether the line of an event is still to be told: the selection hasn't written it
-abbrev pub is_told : Settings → EventKind → Bool
-is_told k what = stops_at k what && not (selects (selection_of k.selection) what)
+-- whether the line of an event is still to be told: it hits a watchpoint, or the settings stop at it, and the selection
+-- hasn't written it, nor will where the step isn't made
+abbrev pub is_told : Settings → List Watchpoint → EventKind → Bool
+is_told k watchpoints what =
+    (is_some (event_hit watchpoints what) || stops_at k what) && not (selects (selection_of k.selection) what)
 
--- the lines of those events of the last step
-abbrev pub told_lines : Settings → List Event → List ℕ
-told_lines k events = lines (filter (λ e. is_told k e.what) events)
+-- the lines of those events of a step
+abbrev pub told_lines : Settings → List Watchpoint → List Event → List ℕ
+told_lines k watchpoints events = lines (filter (λ e. is_told k watchpoints e.what) events)
 
 -- the stop that has a line: the machine stopped, now or before, or its clock is at the limit
 abbrev pub told_stop : StopReason → Option Stop → Option Stop
@@ -42,16 +45,17 @@ stop_text None = []
 stop_text (Some why) = stop_line why
 
 -- whether a line follows
-abbrev pub has_line : Settings → List Event → Option Stop → Bool
-has_line k events stop = list_any (λ e. is_told k e.what) events || is_some stop
+abbrev pub has_line : Settings → List Watchpoint → List Event → Option Stop → Bool
+has_line k watchpoints events stop = list_any (λ e. is_told k watchpoints e.what) events || is_some stop
 
 -- the lines begin on a line of their own
 abbrev pub line_begun : Bool → Option ℕ → List ℕ
 line_begun follows last = if follows then new_line_after last else []
 
-abbrev pub lines_of : Settings → List Event → Option Stop → Option ℕ → List ℕ
-lines_of k events stop last = line_begun (has_line k events stop) last ++ (told_lines k events ++ stop_text stop)
+abbrev pub lines_of : Settings → List Watchpoint → List Event → Option Stop → Option ℕ → List ℕ
+lines_of k watchpoints events stop last =
+    line_begun (has_line k watchpoints events stop) last ++ (told_lines k watchpoints events ++ stop_text stop)
 
--- the lines after a step with these events, where this was the last byte of the run's text
-abbrev pub why_text : Settings → List Event → Option Stop → Option ℕ → List ℕ
-why_text k events stop last = if k.has_lines then lines_of k events stop last else []
+-- the lines of a step with these events, where this was the last byte of the run's text
+abbrev pub why_text : Settings → List Watchpoint → List Event → Option Stop → Option ℕ → List ℕ
+why_text k watchpoints events stop last = if k.has_lines then lines_of k watchpoints events stop last else []

@@ -12,9 +12,9 @@ mod whys;
 pub use console::Console;
 pub use reading::{Content, put_memory};
 pub use registers::{place_of, register_values};
-pub use slices::{Plan, Progress, run_slice};
+pub use slices::{Plan, Points, Progress, run_slice};
 pub use steps::{
-    first_cause, has_entry, has_fault, is_continue, put_step, reason_after, reason_before,
+    event_hit, first_cause, first_hit, has_entry, has_fault, is_continue, put_step, reason_after, reason_before,
     selection_of,
 };
 pub use turns::{Run, SentPacket, Terms, Turn, go_on, send_packet};

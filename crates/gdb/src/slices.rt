@@ -2,16 +2,19 @@
 
 ghost use Rattle.std.specs.Prelude.{◌≡◌, ◌+◌, ◌-◌, ◌^◌, ◌<◌, [], ◌∷◌, IfOk, OnOk};
 ghost use Rattle.gdb.specs.Consoles.{Shows, console_after, console_from, emptied, flush_text};
-ghost use Rattle.gdb.specs.Slices.{Slices, flow, reason_then, slice, step_piece, step_text};
+ghost use Rattle.gdb.specs.Slices.{Slices, flow, hit_next, one_step, slice};
+ghost use Rattle.gdb.specs.Watching.{IsReady, state_unless};
 ghost use Rattle.gdb.specs.Whys.{why_text};
+ghost use Rattle.gdb_past.specs.Places.{AreOfOneMachine};
 ghost use Rattle.output.specs.Output.{Put};
 ghost use Rattle.reference.specs.Step.{step};
 ghost use Rattle.serving.specs.Pieces.{Tells};
 
 use crate::console::Console;
-use crate::steps::{is_continue, put_step, reason_after, reason_before, selection_of};
+use crate::steps::{first_hit, is_continue, put_step, reason_after, reason_before, selection_of};
 use crate::whys::put_whys;
-use gdb_texts::{Breakpoints, Resume, Settings, StopReason};
+use gdb_past::Position;
+use gdb_texts::{Breakpoints, Resume, Settings, StopReason, Watchpoints};
 use machine::{Decider, DueTicks, Events, KeptCode, Levels, Machine, is_instruction};
 use output::{IoError, Out};
 use platform::stop::Stop;
@@ -23,6 +26,13 @@ pub struct Plan {
     pub how: Resume,
     pub limit: u64,
     pub settings: Settings,
+}
+
+/// Where a run stops.
+#[derive(Drop)]
+pub struct Points {
+    pub breakpoints: Breakpoints,
+    pub watchpoints: Watchpoints,
 }
 
 /// What a run has made: how many steps, and text; and the events of its last step.
@@ -75,19 +85,21 @@ impl Progress {
         self.console.flush(out)
     }
 
-    /// Puts the lines that say why a run ended after the last step, or by this stop.
+    /// Puts the lines that say why a run ended at the last step, or by this stop.
     pub fn put_whys<W: Out>(
         &mut self,
         settings: &Settings,
+        watchpoints: &Watchpoints,
         stop: Option<Stop>,
         out: &mut W,
     ) -> Result<(), IoError>
         ensures shows { Shows (W.writing out.old) (W.writing out.new) self.old.console self.new.console
-            (why_text settings.now self.old.events stop self.old.console.last) result }
+            (why_text settings.now watchpoints.now self.old.events stop self.old.console.last) result }
         ensures kept { self.new ≡ record self.old { console = self.new.console } }
     {
         put_whys(
             settings,
+            watchpoints,
             self.events.as_slice(),
             stop,
             &mut self.console,
@@ -103,25 +115,79 @@ impl Progress {
     }
 }
 
-/// Makes a step of a run, and puts its text. Returns why the run ends after it, if it does.
+/// Makes the machine's state the position to go back to, where there are watchpoints.
+fn prepare<D: Decider, C: KeptCode, L: Levels, U: DueTicks>(
+    watchpoints: &Watchpoints,
+    position: &mut Position<L, U>,
+    machine: &Machine<D, C, L, U>,
+)
+    requires { AreOfOneMachine position.old machine.now.state }
+    ensures ready { IsReady watchpoints.now position.new machine.now.state }
+    ensures fits { AreOfOneMachine position.new machine.now.state }
+{
+    if !watchpoints.is_empty() {
+        position.take(machine);
+    }
+}
+
+/// Makes a step, unless it hits a watchpoint; then it returns this reason. `events` becomes the step's events.
+fn step_unless_hit<D: Decider, C: KeptCode, L: Levels, U: DueTicks>(
+    points: &Points,
+    position: &mut Position<L, U>,
+    events: &mut Events,
+    machine: &mut Machine<D, C, L, U>,
+) -> Option<StopReason>
+    requires ready { IsReady points.now.watchpoints position.old machine.old.state }
+    requires fits { AreOfOneMachine position.old machine.old.state }
+    ensures hit { result ≡ hit_next points.now machine.old.state }
+    ensures state { machine.new ≡ record machine.old { state = state_unless result machine.old.state } }
+    ensures events { events.new.items ≡ (step machine.old.state).events }
+    ensures ready { IsReady points.now.watchpoints position.new machine.new.state }
+    ensures fits { AreOfOneMachine position.new machine.new.state }
+    ensures same { AreOfOneMachine machine.old.state machine.new.state }
+{
+    let _ = machine.step(events);
+    if points.watchpoints.is_empty() {
+        return None;
+    }
+    match first_hit(&points.watchpoints, events.as_slice()) {
+        Some(hit) => {
+            position.restore(machine);
+            Some(StopReason::Watchpoint(hit.kind, hit.address))
+        }
+        None => {
+            position.follow(machine);
+            None
+        }
+    }
+}
+
+/// Makes a step of a run, unless it hits a watchpoint, and puts its text. Returns why the run ends before or after it,
+/// if it does.
 fn make_step<D: Decider, C: KeptCode, L: Levels, U: DueTicks, W: Out>(
     plan: &Plan,
+    points: &Points,
+    position: &mut Position<L, U>,
     progress: &mut Progress,
     machine: &mut Machine<D, C, L, U>,
     out: &mut W,
 ) -> Result<Option<StopReason>, IoError>
-    requires { progress.old.made < 2 ^ 64 - 1 }
-    ensures tells { Tells (step_piece plan.now (flow progress.old machine.old.state) ∷ []) machine.old machine.new
-        (W.writing out.old) (W.writing out.new) result }
-    ensures reason { IfOk result (λ reason. reason ≡ reason_then plan.now machine.old.state) }
-    ensures progress { IfOk result (λ reason. progress.new ≡ record {
-      made = progress.old.made + 1;
-      console = console_after progress.old.console (step_text plan.now machine.old.state);
-      events = (step machine.old.state).events;
-    }) }
+    requires room { progress.old.made < 2 ^ 64 - 1 }
+    requires ready { IsReady points.now.watchpoints position.old machine.old.state }
+    requires fits { AreOfOneMachine position.old machine.old.state }
+    ensures tells { Tells (one_step plan.now points.now (flow progress.old machine.old.state)).pieces machine.old
+        machine.new (W.writing out.old) (W.writing out.new) result }
+    ensures slices { IfOk result (λ reason.
+        Slices (one_step plan.now points.now (flow progress.old machine.old.state)) progress.new reason) }
+    ensures ready { IsReady points.now.watchpoints position.new machine.new.state }
+    ensures fits { AreOfOneMachine position.new machine.new.state }
+    ensures same { AreOfOneMachine machine.old.state machine.new.state }
 {
     let counts = !is_continue(plan.how) && is_instruction(machine.next_kind());
-    let stop = machine.step(&mut progress.events);
+    let hit = step_unless_hit(points, position, &mut progress.events, machine);
+    if hit.is_some() {
+        return Ok(hit);
+    }
     progress.made += 1;
     let events = progress.events.as_slice();
     match put_step(
@@ -134,32 +200,44 @@ fn make_step<D: Decider, C: KeptCode, L: Levels, U: DueTicks, W: Out>(
         Err(error) => return Err(error),
     }
     let pc = machine.execution().pc;
-    Ok(reason_after(&plan.settings, plan.how, counts, events, stop, pc))
+    Ok(reason_after(&plan.settings, plan.how, counts, events, machine.stop(), pc))
 }
 
-/// Makes at most `steps` steps of a run with these breakpoints. Returns why it ended, if it did.
+/// Makes at most `steps` steps of a run that ends at these points. Returns why it ended, if it did. `position` is room
+/// for a state to go back to.
 pub fn run_slice<D: Decider, C: KeptCode, L: Levels, U: DueTicks, W: Out>(
     plan: &Plan,
-    points: &Breakpoints,
+    points: &Points,
     steps: u64,
+    position: &mut Position<L, U>,
     progress: &mut Progress,
     machine: &mut Machine<D, C, L, U>,
     out: &mut W,
 ) -> Result<Option<StopReason>, IoError>
-    requires { progress.old.made + steps < 2 ^ 64 }
+    requires room { progress.old.made + steps < 2 ^ 64 }
+    requires fits { AreOfOneMachine position.old machine.old.state }
     ensures tells { Tells (slice plan.now points.now steps (flow progress.old machine.old.state)).pieces machine.old
         machine.new (W.writing out.old) (W.writing out.new) result }
     ensures slices { IfOk result (λ reason.
         Slices (slice plan.now points.now steps (flow progress.old machine.old.state)) progress.new reason) }
+    ensures fits { AreOfOneMachine position.new machine.new.state }
+    ensures same { AreOfOneMachine machine.old.state machine.new.state }
 {
+    prepare(&points.watchpoints, position, machine);
     let mut left = steps;
     'steps: while left > 0 {
-        let before = reason_before(points, plan.limit, plan.how, progress.made(), machine);
+        let before = reason_before(
+            &points.breakpoints,
+            plan.limit,
+            plan.how,
+            progress.made(),
+            machine,
+        );
         if before.is_some() {
             progress.forget();
             return Ok(before);
         }
-        match make_step(plan, progress, machine, out) {
+        match make_step(plan, points, position, progress, machine, out) {
             Ok(Some(reason)) => return Ok(Some(reason)),
             Ok(None) => {}
             Err(error) => return Err(error),

@@ -2,7 +2,7 @@
 
 ghost use Rattle.std.specs.Prelude.{◌≡◌, [], ◌∷◌, is_some};
 ghost use Rattle.gdb.specs.Consoles.{Shows};
-ghost use Rattle.gdb.specs.Reasons.{cause_of, first_cause, has_entry, has_fault, is_continue};
+ghost use Rattle.gdb.specs.Reasons.{cause_of, event_hit, first_cause, first_hit, has_entry, has_fault, is_continue};
 ghost use Rattle.gdb.specs.Reasons.{is_entry, leaves, reason_after};
 ghost use Rattle.gdb.specs.Reasons.{reason_at_breakpoint, reason_before, reason_of_events, selection_of};
 ghost use Rattle.gdb.specs.Reasons.{tests_breakpoints};
@@ -11,7 +11,7 @@ ghost use Rattle.trace.specs.Selection.{kinds_text, selected_text};
 
 use crate::console::Console;
 use debugger_commands::LineSelection;
-use gdb_texts::{Breakpoints, Resume, Settings, StopReason};
+use gdb_texts::{Breakpoints, Resume, Settings, StopReason, WatchHit, Watchpoints};
 use machine::{
     Decider, DueTicks, Event, KeptCode, Levels, Machine, TraceSelection, event_line, is_instruction,
 };
@@ -108,6 +108,39 @@ pub fn first_cause(events: &[Event]) -> Option<Cause>
     'events: for event in events {
         match cause_of(&event.what) {
             Some(cause) => return Some(cause),
+            None => {}
+        }
+    }
+    None
+}
+
+/// Returns what an event hits, if it is a granted access that hits a watchpoint.
+pub fn event_hit(watchpoints: &Watchpoints, what: &EventKind) -> Option<WatchHit>
+    ensures { result ≡ event_hit watchpoints.now what.now }
+{
+    match what {
+        EventKind::Accessed(decided) => {
+            if decided.refused.is_some() {
+                None
+            } else {
+                watchpoints.hit_of(&decided.access)
+            }
+        }
+        EventKind::ConsoleByte(_)
+        | EventKind::ReturnBegan(_)
+        | EventKind::HandlerEntered(_)
+        | EventKind::FaultRecorded(_) => None,
+    }
+}
+
+/// Returns what the first access hits that hits a watchpoint, if one does.
+#[tactic(auto, unfolding(crate::specs::Reasons::first_hit))]
+pub fn first_hit(watchpoints: &Watchpoints, events: &[Event]) -> Option<WatchHit>
+    ensures { result ≡ first_hit watchpoints.now events.now }
+{
+    'events: for event in events {
+        match event_hit(watchpoints, &event.what) {
+            Some(hit) => return Some(hit),
             None => {}
         }
     }

@@ -4,18 +4,19 @@ ghost use Rattle.std.specs.Prelude.{◌≡◌, ◌+◌, ◌*◌, ◌^◌, ◌<�
 ghost use Rattle.gdb.specs.Slices.{flow, slice};
 ghost use Rattle.gdb.specs.Turns.{Takes, all_slices, asked, ended, last_slice, steps_left, stop_packet, turn};
 ghost use Rattle.gdb_packets.specs.Replies.{packet_of};
+ghost use Rattle.gdb_past.specs.Places.{AreOfOneMachine};
 ghost use Rattle.output.specs.Output.{Put};
 ghost use Rattle.reference.specs.State.{State};
 ghost use Rattle.serving.specs.Pieces.{Tells};
 
 use crate::registers::register_values;
-use crate::slices::{Plan, Progress, run_slice};
+use crate::slices::{Plan, Points, Progress, run_slice};
 use crate::whys::told_stop;
 use arrayvec::ArrayVec;
 use gdb_packets::put_packet;
+use gdb_past::Position;
 use gdb_texts::{
-    Breakpoints, Features, Resume, Settings, Signal, StopReason, most_steps, put_stop_reply,
-    signal_of,
+    Features, Resume, Settings, Signal, StopReason, Watchpoints, most_steps, put_stop_reply, signal_of,
 };
 use machine::{Decider, DueTicks, KeptCode, Levels, Machine};
 use output::{IoError, Out};
@@ -42,7 +43,7 @@ pub struct Run {
 /// What a run reads of its session.
 #[derive(Clone, Copy)]
 pub struct Terms<'a> {
-    pub points: &'a Breakpoints,
+    pub points: &'a Points,
     pub settings: Settings,
     pub features: Features,
     /// The tick at which the clock ends a run.
@@ -93,16 +94,17 @@ fn send_stop_reply<D: Decider, C: KeptCode, L: Levels, U: DueTicks, W: Out>(
 fn end_run<D: Decider, C: KeptCode, L: Levels, U: DueTicks, W: Out>(
     reason: StopReason,
     plan: &Plan,
+    watchpoints: &Watchpoints,
     features: Features,
     progress: &mut Progress,
     sent: &mut SentPacket,
     machine: &Machine<D, C, L, U>,
     out: &mut W,
 ) -> Result<Turn, IoError>
-    ensures { Takes (ended plan.now.settings features reason progress.old.events (flow progress.old machine.now.state))
-        machine.now machine.now (W.writing out.old) (W.writing out.new) sent.new.items result }
+    ensures { Takes (ended plan.now.settings watchpoints.now features reason progress.old.events
+        (flow progress.old machine.now.state)) machine.now machine.now (W.writing out.old) (W.writing out.new) sent.new.items result }
 {
-    match progress.put_whys(&plan.settings, told_stop(reason, machine.stop()), out) {
+    match progress.put_whys(&plan.settings, watchpoints, told_stop(reason, machine.stop()), out) {
         Ok(()) => {}
         Err(error) => return Err(error),
     }
@@ -143,20 +145,25 @@ fn last_slice<D: Decider, C: KeptCode, L: Levels, U: DueTicks, W: Out>(
     plan: &Plan,
     terms: &Terms,
     steps: u64,
+    position: &mut Position<L, U>,
     progress: &mut Progress,
     sent: &mut SentPacket,
     machine: &mut Machine<D, C, L, U>,
     out: &mut W,
 ) -> Result<Turn, IoError>
-    requires { progress.old.made + steps < 2 ^ 64 }
-    ensures { Takes (last_slice plan.now terms.now.features
+    requires room { progress.old.made + steps < 2 ^ 64 }
+    requires fits { AreOfOneMachine position.old machine.old.state }
+    ensures takes { Takes (last_slice plan.now terms.now.points.now.watchpoints terms.now.features
         (slice plan.now terms.now.points.now steps (flow progress.old machine.old.state)))
         machine.old machine.new (W.writing out.old) (W.writing out.new) sent.new.items result }
+    ensures fits { AreOfOneMachine position.new machine.new.state }
+    ensures same { AreOfOneMachine machine.old.state machine.new.state }
 {
-    match run_slice(plan, terms.points, steps, progress, machine, out) {
+    match run_slice(plan, terms.points, steps, position, progress, machine, out) {
         Ok(reason) => {
             let reason = reason.unwrap_or(StopReason::Interrupted);
-            end_run(reason, plan, terms.features, progress, sent, machine, out)
+            let watchpoints = &terms.points.watchpoints;
+            end_run(reason, plan, watchpoints, terms.features, progress, sent, machine, out)
         }
         Err(error) => Err(error),
     }
@@ -167,22 +174,27 @@ fn make_slices<D: Decider, C: KeptCode, L: Levels, U: DueTicks, W: Out>(
     plan: &Plan,
     terms: &Terms,
     left: u64,
+    position: &mut Position<L, U>,
     progress: &mut Progress,
     sent: &mut SentPacket,
     machine: &mut Machine<D, C, L, U>,
     out: &mut W,
 ) -> Result<Turn, IoError>
-    requires { progress.old.made + left < 2 ^ 64 }
-    ensures { Takes (all_slices plan.now terms.now.points.now terms.now.features left
+    requires room { progress.old.made + left < 2 ^ 64 }
+    requires fits { AreOfOneMachine position.old machine.old.state }
+    ensures takes { Takes (all_slices plan.now terms.now.points.now terms.now.features left
         (flow progress.old machine.old.state))
         machine.old machine.new (W.writing out.old) (W.writing out.new) sent.new.items result }
+    ensures fits { AreOfOneMachine position.new machine.new.state }
+    ensures same { AreOfOneMachine machine.old.state machine.new.state }
 {
+    let watchpoints = &terms.points.watchpoints;
     let mut whole = left / STEPS_AT_ONCE;
     'slices: while whole > 0 {
-        match run_slice(plan, terms.points, STEPS_AT_ONCE, progress, machine, out) {
+        match run_slice(plan, terms.points, STEPS_AT_ONCE, position, progress, machine, out) {
             Ok(None) => {}
             Ok(Some(reason)) => {
-                return end_run(reason, plan, terms.features, progress, sent, machine, out);
+                return end_run(reason, plan, watchpoints, terms.features, progress, sent, machine, out);
             }
             Err(error) => return Err(error),
         }
@@ -199,18 +211,23 @@ fn make_slices<D: Decider, C: KeptCode, L: Levels, U: DueTicks, W: Out>(
         whole -= 1;
     }
     let rest = left % STEPS_AT_ONCE;
-    last_slice(plan, terms, rest, progress, sent, machine, out)
+    last_slice(plan, terms, rest, position, progress, sent, machine, out)
 }
 
 /// Makes a run's next steps: at most 1,000,000 before GDB is asked whether its user has interrupted; a client that
 /// isn't GDB isn't asked. Writes its text as it comes, and at the end the lines that say why, and the stop reply.
+/// `position` is room for a state to go back to.
 pub fn go_on<D: Decider, C: KeptCode, L: Levels, U: DueTicks, W: Out>(
     run: Run,
     terms: &Terms,
+    position: &mut Position<L, U>,
     sent: &mut SentPacket,
     machine: &mut Machine<D, C, L, U>,
     out: &mut W,
 ) -> Result<Turn, IoError>
+    requires { AreOfOneMachine position.old machine.old.state }
+    ensures fits { AreOfOneMachine position.new machine.new.state }
+    ensures same { AreOfOneMachine machine.old.state machine.new.state }
     ensures tells { Tells (turn terms.now.points.now terms.now.settings terms.now.features terms.now.limit run
         machine.old.state).pieces machine.old machine.new (W.writing out.old) (W.writing out.new) result }
     ensures outcome { IfOk result (λ ends. ends ≡ (turn terms.now.points.now terms.now.settings terms.now.features
@@ -229,6 +246,7 @@ pub fn go_on<D: Decider, C: KeptCode, L: Levels, U: DueTicks, W: Out>(
         return end_run(
             reason,
             &plan,
+            &terms.points.watchpoints,
             terms.features,
             &mut progress,
             sent,
@@ -237,5 +255,5 @@ pub fn go_on<D: Decider, C: KeptCode, L: Levels, U: DueTicks, W: Out>(
         );
     }
     let left = steps_left(most_steps(terms.settings, terms.features.is_gdb), run.made);
-    make_slices(&plan, terms, left, &mut progress, sent, machine, out)
+    make_slices(&plan, terms, left, position, &mut progress, sent, machine, out)
 }

@@ -8,8 +8,8 @@ ghost use Rattle.gdb.specs.Whys.{why_text};
 ghost use Rattle.trace.specs.Selection.{is_refusal};
 
 use crate::console::Console;
-use crate::steps::{is_entry, selection_of};
-use gdb_texts::{Settings, StopReason};
+use crate::steps::{event_hit, is_entry, selection_of};
+use gdb_texts::{Settings, StopReason, Watchpoints};
 use machine::{Event, event_line, stop_line};
 use output::{IoError, Out};
 use platform::event::EventKind;
@@ -31,10 +31,11 @@ fn stops_at(settings: &Settings, what: &EventKind) -> bool
 }
 
 /// Returns whether the line of an event is still to be told.
-fn is_told(settings: &Settings, what: &EventKind) -> bool
-    ensures { result ≡ is_told settings.now what.now }
+fn is_told(settings: &Settings, watchpoints: &Watchpoints, what: &EventKind) -> bool
+    ensures { result ≡ is_told settings.now watchpoints.now what.now }
 {
-    stops_at(settings, what) && !selection_of(settings.selection).selects(what)
+    (event_hit(watchpoints, what).is_some() || stops_at(settings, what))
+        && !selection_of(settings.selection).selects(what)
 }
 
 /// Returns the stop that has a line. `before` is why the machine has stopped, if it has.
@@ -56,17 +57,24 @@ pub fn told_stop(reason: StopReason, before: Option<Stop>) -> Option<Stop>
 }
 
 /// Returns whether the line of an event is still to be told.
-fn has_told(settings: &Settings, events: &[Event]) -> bool
-    ensures { result ≡ list_any (λ e. is_told settings.now e.what) events.now }
+fn has_told(settings: &Settings, watchpoints: &Watchpoints, events: &[Event]) -> bool
+    ensures { result ≡ list_any (λ e. is_told settings.now watchpoints.now e.what) events.now }
 {
-    events.iter().any(|event| is_told(settings, &event.what))
+    events
+        .iter()
+        .any(|event| is_told(settings, watchpoints, &event.what))
 }
 
 /// Returns whether there is a line to tell.
-fn has_line(settings: &Settings, events: &[Event], stop: Option<Stop>) -> bool
-    ensures { result ≡ has_line settings.now events.now stop }
+fn has_line(
+    settings: &Settings,
+    watchpoints: &Watchpoints,
+    events: &[Event],
+    stop: Option<Stop>,
+) -> bool
+    ensures { result ≡ has_line settings.now watchpoints.now events.now stop }
 {
-    has_told(settings, events) || stop.is_some()
+    has_told(settings, watchpoints, events) || stop.is_some()
 }
 
 /// Returns a line feed where a line follows, unless the text is empty or ends with one.
@@ -82,14 +90,15 @@ fn line_begun(follows: bool, last: Option<u8>) -> &'static [u8]
 /// Puts the line of an event that is still to be told.
 fn put_told_event<W: Out>(
     settings: &Settings,
+    watchpoints: &Watchpoints,
     event: &Event,
     console: &mut Console,
     out: &mut W,
 ) -> Result<(), IoError>
     ensures { Shows (W.writing out.old) (W.writing out.new) console.old console.new
-        (told_lines settings.now (event.now ∷ [])) result }
+        (told_lines settings.now watchpoints.now (event.now ∷ [])) result }
 {
-    if is_told(settings, &event.what) {
+    if is_told(settings, watchpoints, &event.what) {
         return console.put(event_line(event).as_slice(), out);
     }
     Ok(())
@@ -98,15 +107,16 @@ fn put_told_event<W: Out>(
 /// Puts the lines of the events that are still to be told.
 fn put_told<W: Out>(
     settings: &Settings,
+    watchpoints: &Watchpoints,
     events: &[Event],
     console: &mut Console,
     out: &mut W,
 ) -> Result<(), IoError>
     ensures { Shows (W.writing out.old) (W.writing out.new) console.old console.new
-        (told_lines settings.now events.now) result }
+        (told_lines settings.now watchpoints.now events.now) result }
 {
     'events: for event in events {
-        match put_told_event(settings, event, console, out) {
+        match put_told_event(settings, watchpoints, event, console, out) {
             Ok(()) => {}
             Err(error) => return Err(error),
         }
@@ -127,20 +137,21 @@ fn put_stop<W: Out>(stop: Option<Stop>, console: &mut Console, out: &mut W) -> R
 /// Puts the lines of the last step of a run, and of a stop, on lines of their own.
 fn put_lines<W: Out>(
     settings: &Settings,
+    watchpoints: &Watchpoints,
     events: &[Event],
     stop: Option<Stop>,
     console: &mut Console,
     out: &mut W,
 ) -> Result<(), IoError>
     ensures { Shows (W.writing out.old) (W.writing out.new) console.old console.new
-        (lines_of settings.now events.now stop console.old.last) result }
+        (lines_of settings.now watchpoints.now events.now stop console.old.last) result }
 {
-    let follows = has_line(settings, events, stop);
+    let follows = has_line(settings, watchpoints, events, stop);
     match console.put(line_begun(follows, console.last()), out) {
         Ok(()) => {}
         Err(error) => return Err(error),
     }
-    match put_told(settings, events, console, out) {
+    match put_told(settings, watchpoints, events, console, out) {
         Ok(()) => {}
         Err(error) => return Err(error),
     }
@@ -150,16 +161,17 @@ fn put_lines<W: Out>(
 /// Puts the lines that say why a run ended, where the settings have such lines.
 pub fn put_whys<W: Out>(
     settings: &Settings,
+    watchpoints: &Watchpoints,
     events: &[Event],
     stop: Option<Stop>,
     console: &mut Console,
     out: &mut W,
 ) -> Result<(), IoError>
     ensures { Shows (W.writing out.old) (W.writing out.new) console.old console.new
-        (why_text settings.now events.now stop console.old.last) result }
+        (why_text settings.now watchpoints.now events.now stop console.old.last) result }
 {
     if settings.has_lines {
-        return put_lines(settings, events, stop, console, out);
+        return put_lines(settings, watchpoints, events, stop, console, out);
     }
     Ok(())
 }

@@ -1,3 +1,4 @@
 pub mod Bytes
 pub mod Putting
 pub mod Writing
+mod Sizes

@@ -28,7 +28,7 @@ use Rattle.reference.specs.State.{State}
 
 -- ---- reading a command
 
--- whether a command is known. Those of going back in time, of steps over handlers and of restarts aren't (profile)
+-- whether a command is known. Those of going back in time and of steps over handlers aren't (profile)
 abbrev pub is_known : Monitor → Bool
 is_known monitor.Help = true
 is_known (monitor.Explain a privileged kind) = true
@@ -42,7 +42,7 @@ is_known (monitor.Stop what on) = true
 is_known (monitor.Step over) = false
 is_known (monitor.Budget steps) = true
 is_known (monitor.Place place) = true
-is_known monitor.Restart = false
+is_known monitor.Restart = true
 is_known monitor.Why = true
 
 abbrev pub known : Result Monitor LineError → Result Monitor LineError
@@ -59,23 +59,23 @@ abbrev pub settings_with : Settings → Result Monitor LineError → Settings
 settings_with k (Ok m) = settings_after k m
 settings_with k (Err why) = k
 
--- the machine with the value of a command in its place
-abbrev pub placed_by : State → Result Monitor LineError → Written
-placed_by s (Ok monitor.Help) = done s
-placed_by s (Ok (monitor.Explain a privileged kind)) = done s
-placed_by s (Ok monitor.Regions) = done s
-placed_by s (Ok monitor.State) = done s
-placed_by s (Ok monitor.Next) = done s
-placed_by s (Ok monitor.History) = done s
-placed_by s (Ok (monitor.Trace selection)) = done s
-placed_by s (Ok (monitor.Lines on)) = done s
-placed_by s (Ok (monitor.Stop what on)) = done s
-placed_by s (Ok (monitor.Step over)) = done s
-placed_by s (Ok (monitor.Budget steps)) = done s
-placed_by s (Ok (monitor.Place place)) = after_place s (altered_if s place)
-placed_by s (Ok monitor.Restart) = done s
-placed_by s (Ok monitor.Why) = done s
-placed_by s (Err why) = done s
+-- the machine with the value of a command in its place, or in its first state again
+abbrev pub placed_by : State → State → Result Monitor LineError → Written
+placed_by first s (Ok monitor.Help) = done s
+placed_by first s (Ok (monitor.Explain a privileged kind)) = done s
+placed_by first s (Ok monitor.Regions) = done s
+placed_by first s (Ok monitor.State) = done s
+placed_by first s (Ok monitor.Next) = done s
+placed_by first s (Ok monitor.History) = done s
+placed_by first s (Ok (monitor.Trace selection)) = done s
+placed_by first s (Ok (monitor.Lines on)) = done s
+placed_by first s (Ok (monitor.Stop what on)) = done s
+placed_by first s (Ok (monitor.Step over)) = done s
+placed_by first s (Ok (monitor.Budget steps)) = done s
+placed_by first s (Ok (monitor.Place place)) = after_place s (altered_if s place)
+placed_by first s (Ok monitor.Restart) = done first
+placed_by first s (Ok monitor.Why) = done s
+placed_by first s (Err why) = done s
 
 -- ---- the text of a command
 
@@ -83,9 +83,13 @@ placed_by s (Err why) = done s
 abbrev pub decided_text : Decision → List ℕ
 decided_text d = decision_text d ++ explanation d
 
--- whether a value was refused. GDB keeps the registers that it read, and reads them again by its own command
+-- GDB keeps the registers that it read, and reads them again by its own command
+abbrev pub flush_advice : List ℕ
+flush_advice = codes "ok (gdb: maintenance flush register-cache)" ++ line_feed
+
+-- whether a value was refused
 abbrev pub placed_text : Option PlaceError → List ℕ
-placed_text None = codes "ok (gdb: maintenance flush register-cache)" ++ line_feed
+placed_text None = flush_advice
 placed_text (Some why) = refusal_text why
 
 -- the text of a command after the last refusal of a packet, whose value was refused or not
@@ -103,7 +107,7 @@ command_text s why refused (Ok (monitor.Stop what on)) = ok_text
 command_text s why refused (Ok (monitor.Step over)) = error_text error.Command
 command_text s why refused (Ok (monitor.Budget steps)) = ok_text
 command_text s why refused (Ok (monitor.Place place)) = placed_text refused
-command_text s why refused (Ok monitor.Restart) = error_text error.Command
+command_text s why refused (Ok monitor.Restart) = flush_advice
 command_text s why refused (Ok monitor.Why) = why_text why
 command_text s why refused (Err wrong) = error_text wrong
 

@@ -13,9 +13,10 @@ use Rattle.gdb_packets.specs.Packets.{Packet, packet_of}
 use Rattle.gdb_server.specs.Commands.{command_of, command_text, console_text, placed_by, settings_with}
 use Rattle.gdb_server.specs.declared.purposes.Purpose.{Purpose}
 use Rattle.gdb_server.specs.declared.purposes.Purpose.TheVariants as purpose
+use Rattle.gdb_server.specs.declared.purposes.Reading.TheVariants as reading
 use Rattle.gdb_server.specs.Purposes.{is_file_reply, purpose_of}
 use Rattle.gdb_server.specs.Replies.{constant_text, data_read}
-use Rattle.gdb_server.specs.Sessions.{Session, data_of_write, ok, opened, reply_packet, session_after, set_data}
+use Rattle.gdb_server.specs.Sessions.{Session, data_of_write, left, ok, opened, reply_packet, session_after, set_data}
 use Rattle.gdb_server.specs.Sessions.{with_reply}
 use Rattle.gdb_server.specs.Writes.{Written, written}
 use Rattle.debugger_commands.specs.declared.commands.LineError.{LineError}
@@ -62,7 +63,7 @@ commanded_by k w asked = told (record k { settings = settings_with k.settings as
 
 -- a command
 abbrev pub commanded : Session → State → Result Monitor LineError → Answered
-commanded k s asked = commanded_by k (placed_by s asked) asked
+commanded k s asked = commanded_by k (placed_by k.past.start s asked) asked
 
 -- ---- runs
 
@@ -76,11 +77,15 @@ turned k t = record { pieces = t.pieces; session = with_turn (record k { sent = 
 
 -- the next turn of a run
 abbrev pub resumed : Session → State → Run → Answered
-resumed k s run = turned k (turn k.breakpoints k.settings k.features k.limit run s)
+resumed k s run = turned k (turn k.points k.settings k.features k.limit run s)
 
 -- a run before its first step
 abbrev pub first_turn : Resume → Run
 first_turn how = record { how = how; made = 0; last = None; is_interrupted = false }
+
+-- the machine is in its first state, and the reply is that to `?`
+abbrev pub begun : Session → Answered
+begun k = replied k k.past.start (data_read k.signal k.board k.past.start reading.StopReason)
 
 -- ---- a packet at rest
 
@@ -92,7 +97,9 @@ answered k s (purpose.Refuse error) tail = replied k s (Err error)
 answered k s (purpose.Read what) tail = replied k s (data_read k.signal k.board s what)
 answered k s (purpose.Write change) tail = wrote k (written s change tail)
 answered k s (purpose.Set change) tail = replied (session_after k change tail) s (set_data k change)
-answered k s purpose.Kill tail = silent (record k { is_open = false })
+answered k s purpose.Kill tail = silent (left k)
+answered k s purpose.Run tail = begun k
+answered k s purpose.Restart tail = record { pieces = piece k.past.start [] ∷ []; session = k }
 answered k s (purpose.Resume how) tail = resumed k s (first_turn how)
 answered k s purpose.Command tail = commanded k s (command_of tail)
 
@@ -170,9 +177,9 @@ pub record Server : Type 0 where
   pub framing : Framing
   pub session : Session
 
--- before the first byte
-abbrev pub first : ℕ → Numbers → Server
-first limit board = record { framing = at_start; session = opened limit board }
+-- before the first byte, with the machine in its first state
+abbrev pub first : ℕ → Numbers → State → Server
+first limit board s = record { framing = at_start; session = opened limit board s }
 
 abbrev pub byte_heard : Server → State → ℕ → Answered
 byte_heard server s byte = heard server.session s (event_of server.framing byte) (after server.framing byte).content

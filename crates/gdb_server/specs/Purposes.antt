@@ -9,28 +9,35 @@ use Rattle.gdb_server.specs.declared.purposes.MachineChange.TheVariants as chang
 use Rattle.gdb_server.specs.declared.purposes.Purpose.{Purpose}
 use Rattle.gdb_server.specs.declared.purposes.Purpose.TheVariants as purpose
 use Rattle.gdb_server.specs.declared.purposes.Reading.TheVariants as reading
+use Rattle.gdb_server.specs.declared.purposes.SessionChange.{SessionChange}
 use Rattle.gdb_server.specs.declared.purposes.SessionChange.TheVariants as setting
 use Rattle.gdb_texts.specs.Actions.{actions_of}
 use Rattle.gdb_texts.specs.declared.actions.Resume.{Resume}
 use Rattle.gdb_texts.specs.declared.actions.Resume.TheVariants as resume
 use Rattle.gdb_texts.specs.declared.points.BreakpointKind.TheVariants.{Software, Hardware}
+use Rattle.gdb_texts.specs.declared.points.WatchKind.{WatchKind}
+use Rattle.gdb_texts.specs.declared.points.WatchKind.TheVariants as watch
 use Rattle.gdb_texts.specs.declared.replies.ErrorCode.TheVariants as code
+use Rattle.gdb_texts.specs.declared.watchpoints.Watchpoint.{Watchpoint}
 
--- Z kind,address,length. Watchpoints aren't known (profile)
-abbrev pub insertion_of : PointKind → ℕ → Purpose
-insertion_of point.SoftwareBreakpoint a = purpose.Set (setting.Insert (record { kind = Software; address = a }))
-insertion_of point.HardwareBreakpoint a = purpose.Set (setting.Insert (record { kind = Hardware; address = a }))
-insertion_of point.WriteWatchpoint a = purpose.Say constant.Empty
-insertion_of point.ReadWatchpoint a = purpose.Say constant.Empty
-insertion_of point.AccessWatchpoint a = purpose.Say constant.Empty
+abbrev pub watchpoint : WatchKind → ℕ → ℕ → Watchpoint
+watchpoint kind a n = record { kind = kind; address = a; length = n }
+
+-- Z kind,address,length. A breakpoint has no length (profile)
+abbrev pub insertion_of : PointKind → ℕ → ℕ → SessionChange
+insertion_of point.SoftwareBreakpoint a n = setting.Insert (record { kind = Software; address = a })
+insertion_of point.HardwareBreakpoint a n = setting.Insert (record { kind = Hardware; address = a })
+insertion_of point.WriteWatchpoint a n = setting.Watch (watchpoint watch.Write a n)
+insertion_of point.ReadWatchpoint a n = setting.Watch (watchpoint watch.Read a n)
+insertion_of point.AccessWatchpoint a n = setting.Watch (watchpoint watch.Access a n)
 
 -- z kind,address,length
-abbrev pub removal_of : PointKind → ℕ → Purpose
-removal_of point.SoftwareBreakpoint a = purpose.Set (setting.Remove (record { kind = Software; address = a }))
-removal_of point.HardwareBreakpoint a = purpose.Set (setting.Remove (record { kind = Hardware; address = a }))
-removal_of point.WriteWatchpoint a = purpose.Say constant.Empty
-removal_of point.ReadWatchpoint a = purpose.Say constant.Empty
-removal_of point.AccessWatchpoint a = purpose.Say constant.Empty
+abbrev pub removal_of : PointKind → ℕ → ℕ → SessionChange
+removal_of point.SoftwareBreakpoint a n = setting.Remove (record { kind = Software; address = a })
+removal_of point.HardwareBreakpoint a n = setting.Remove (record { kind = Hardware; address = a })
+removal_of point.WriteWatchpoint a n = setting.Unwatch (watchpoint watch.Write a n)
+removal_of point.ReadWatchpoint a n = setting.Unwatch (watchpoint watch.Read a n)
+removal_of point.AccessWatchpoint a n = setting.Unwatch (watchpoint watch.Access a n)
 
 -- vCont with its actions
 abbrev pub resumption : Option Resume → Purpose
@@ -57,8 +64,8 @@ purpose_of request.ResumeActions tail = purpose.Say constant.ResumeActions
 purpose_of request.Resume tail = resumption (actions_of tail)
 purpose_of request.ReverseStep tail = purpose.Say constant.Empty  -- not known (profile)
 purpose_of request.ReverseContinue tail = purpose.Say constant.Empty  -- not known (profile)
-purpose_of (request.Insert k a n) tail = insertion_of k a
-purpose_of (request.Remove k a n) tail = removal_of k a
+purpose_of (request.Insert k a n) tail = purpose.Set (insertion_of k a n)
+purpose_of (request.Remove k a n) tail = purpose.Set (removal_of k a n)
 purpose_of (request.ReadDescription at n) tail = purpose.Read (reading.Description at n)
 purpose_of request.NoAnnex tail = purpose.Refuse code.NoAnnex
 purpose_of (request.ReadMemoryMap at n) tail = purpose.Read (reading.MemoryMap at n)
@@ -71,9 +78,9 @@ purpose_of request.FirstThreads tail = purpose.Say constant.FirstThreads
 purpose_of request.MoreThreads tail = purpose.Say constant.MoreThreads
 purpose_of request.ThreadDescription tail = purpose.Read reading.Thread
 purpose_of request.ThreadAlive tail = purpose.Say constant.Done
-purpose_of request.ExtendedMode tail = purpose.Say constant.Empty  -- not known (profile)
-purpose_of request.Run tail = purpose.Say constant.Empty  -- not known (profile)
-purpose_of request.Restart tail = purpose.Say constant.Empty  -- not known (profile)
+purpose_of request.ExtendedMode tail = purpose.Set setting.Extended
+purpose_of request.Run tail = purpose.Run
+purpose_of request.Restart tail = purpose.Restart
 purpose_of request.Detach tail = purpose.Set setting.End
 purpose_of request.Kill tail = purpose.Kill
 purpose_of request.KillProcess tail = purpose.Set setting.End

@@ -1,6 +1,8 @@
 -- What a session keeps between two packets, and the replies that it writes.
 use Rattle.std.specs.Prelude.{ℕ, Bool, true, false, List, [], codes, Option, Some, None, Result, Ok, Err}
+use Rattle.gdb.specs.declared.slices.Points.{Points}
 use Rattle.gdb.specs.declared.turns.Run.{Run}
+use Rattle.gdb_past.specs.Places.{Past, past_from}
 use Rattle.gdb_packets.specs.Replies.{packet_of}
 use Rattle.gdb_server.specs.Replies.{server_features}
 use Rattle.gdb_server.specs.declared.purposes.SessionChange.{SessionChange}
@@ -9,8 +11,9 @@ use Rattle.gdb_texts.specs.Features.{features_of}
 use Rattle.gdb_texts.specs.Points.{insertion, with_breakpoint, without_breakpoint}
 use Rattle.gdb_texts.specs.Replies.{error_text, refusal}
 use Rattle.gdb_texts.specs.Settings.{first_settings}
+use Rattle.gdb_texts.specs.Watchpoints as watch
+use Rattle.gdb_texts.specs.Watchpoints.{with_watchpoint, without_watchpoint}
 use Rattle.gdb_texts.specs.declared.features.Features.{Features}
-use Rattle.gdb_texts.specs.declared.points.Breakpoint.{Breakpoint}
 use Rattle.gdb_texts.specs.declared.replies.ErrorCode.{ErrorCode}
 use Rattle.gdb_texts.specs.declared.replies.Reply.{Reply}
 use Rattle.gdb_texts.specs.declared.replies.Reply.TheVariants as reply
@@ -19,9 +22,10 @@ use Rattle.gdb_texts.specs.declared.stops.Signal.{Signal}
 use Rattle.gdb_texts.specs.declared.stops.Signal.TheVariants.{Trap}
 use Rattle.platform.specs.Boards.{Numbers}
 use Rattle.platform.specs.declared.error.PlaceError.{PlaceError}
+use Rattle.reference.specs.State.{State}
 
 pub record Session : Type 0 where
-  pub breakpoints : List Breakpoint
+  pub points : Points
   pub settings : Settings
   -- the signal of the last run's end
   pub signal : Signal
@@ -36,18 +40,25 @@ pub record Session : Type 0 where
   -- why the last packet was refused that was
   pub refused : Option ErrorCode
   pub is_open : Bool
+  -- whether it goes on after the program was killed, or the client left
+  pub is_extended : Bool
   -- the tick to which runs go at most
   pub limit : ℕ
   pub board : Numbers
+  -- the states to which it can go back
+  pub past : Past
 
 -- a client that has said nothing
 abbrev pub no_features : Features
 no_features = record { is_gdb = false; takes_swbreak = false; takes_hwbreak = false }
 
--- before the first packet
-abbrev pub opened : ℕ → Numbers → Session
-opened limit board = record {
-  breakpoints = [];
+abbrev pub no_points : Points
+no_points = record { breakpoints = []; watchpoints = [] }
+
+-- before the first packet, with the machine in its first state
+abbrev pub opened : ℕ → Numbers → State → Session
+opened limit board s = record {
+  points = no_points;
   settings = first_settings;
   signal = Trap;
   features = no_features;
@@ -56,8 +67,10 @@ opened limit board = record {
   running = None;
   refused = None;
   is_open = true;
+  is_extended = false;
   limit = limit;
   board = board;
+  past = past_from s;
 }
 
 -- ---- replies: their data, or why the packet is refused
@@ -92,22 +105,38 @@ abbrev pub data_of_write : Option PlaceError → Result (List ℕ) ErrorCode
 data_of_write None = ok
 data_of_write (Some error) = Err (refusal error)
 
+-- the session after its client has left, or has killed the program
+abbrev pub left : Session → Session
+left k = record k { is_open = k.is_extended }
+
 -- ---- packets that change the session
 
 -- the reply
 abbrev pub set_data : Session → SessionChange → Result (List ℕ) ErrorCode
 set_data k change.Features = Ok server_features
 set_data k change.NoAcknowledgement = ok
-set_data k (change.Insert breakpoint) = data_of_reply (insertion k.breakpoints breakpoint)
-set_data k (change.Remove breakpoint) = ok
+set_data k (change.Insert b) = data_of_reply (insertion k.points.breakpoints b)
+set_data k (change.Remove b) = ok
+set_data k (change.Watch w) = data_of_reply (watch.insertion k.points.watchpoints w)
+set_data k (change.Unwatch w) = ok
+set_data k change.Extended = ok
 set_data k change.End = ok
 
 -- the session after it, with what follows the name of the packet
 abbrev pub session_after : Session → SessionChange → List ℕ → Session
 session_after k change.Features tail = record k { features = features_of tail }
 session_after k change.NoAcknowledgement tail = record k { acknowledges = false }
-session_after k (change.Insert breakpoint) tail =
-    record k { breakpoints = with_breakpoint k.breakpoints breakpoint }
-session_after k (change.Remove breakpoint) tail =
-    record k { breakpoints = without_breakpoint k.breakpoints breakpoint }
-session_after k change.End tail = record k { is_open = false }
+session_after k (change.Insert b) tail = record k {
+  points = record k.points { breakpoints = with_breakpoint k.points.breakpoints b };
+}
+session_after k (change.Remove b) tail = record k {
+  points = record k.points { breakpoints = without_breakpoint k.points.breakpoints b };
+}
+session_after k (change.Watch w) tail = record k {
+  points = record k.points { watchpoints = with_watchpoint k.points.watchpoints w };
+}
+session_after k (change.Unwatch w) tail = record k {
+  points = record k.points { watchpoints = without_watchpoint k.points.watchpoints w };
+}
+session_after k change.Extended tail = record k { is_extended = true }
+session_after k change.End tail = left k

@@ -2,9 +2,11 @@
 
 ghost use Rattle.std.specs.Prelude.{◌≡◌};
 ghost use Rattle.debugger.specs.Answers.{next_text};
-ghost use Rattle.gdb_server.specs.Commands.{command_of, command_text, console_text, decided_text, is_known, known};
+ghost use Rattle.gdb_server.specs.Commands.{command_of, command_text, console_text, decided_text, flush_advice};
+ghost use Rattle.gdb_server.specs.Commands.{is_known, known};
 ghost use Rattle.gdb_server.specs.Commands.{placed_by, placed_text, settings_with};
 ghost use Rattle.gdb_server.specs.Writes.{Writes};
+ghost use Rattle.gdb_past.specs.Places.{AreOfOneMachine};
 ghost use Rattle.output.specs.Output.{Put};
 ghost use Rattle.platform.specs.Priorities.{is_below_zero};
 ghost use Rattle.platform.specs.Rules.{decision_of};
@@ -14,13 +16,14 @@ use crate::writes::put;
 use debugger::{next_text, refusal_text, regions_text, state_page};
 use debugger_commands::{LineError, Reply, decision_text, error_text, ok_text};
 use gdb::Console;
+use gdb_past::Past;
 use gdb_texts::{
     ErrorCode, Monitor, Settings, explanation, monitor_help, read_monitor, settings_after, why_text,
 };
 use machine::{Decider, Decision, DueTicks, IoError, KeptCode, Levels, Machine, Out, PlaceError};
 use trace::page::Page;
 
-/// Returns whether a command is known. Those of going back in time, of steps over handlers and of restarts aren't.
+/// Returns whether a command is known. Those of going back in time and of steps over handlers aren't.
 fn is_known(command: Monitor) -> bool
     ensures { result ≡ is_known command }
 {
@@ -35,8 +38,9 @@ fn is_known(command: Monitor) -> bool
         | Monitor::Stop(_, _)
         | Monitor::Budget(_)
         | Monitor::Place(_)
+        | Monitor::Restart
         | Monitor::Why => true,
-        Monitor::History | Monitor::Step(_) | Monitor::Restart => false,
+        Monitor::History | Monitor::Step(_) => false,
     }
 }
 
@@ -74,14 +78,21 @@ pub fn settings_with(settings: Settings, asked: Result<Monitor, LineError>) -> S
     }
 }
 
-/// Puts the value of a command into its place, where the command has one. Returns why it was refused, if it was.
+/// Puts the value of a command into its place, where the command has one, or takes the machine back to its first state.
+/// Returns why the value was refused, if it was.
 pub fn place_by<D: Decider, C: KeptCode, L: Levels, U: DueTicks>(
     machine: &mut Machine<D, C, L, U>,
+    past: &Past<L, U>,
     asked: Result<Monitor, LineError>,
 ) -> Option<PlaceError>
-    ensures { Writes (placed_by machine.old.state asked) machine.old machine.new result }
+    requires { AreOfOneMachine machine.old.state past.now.start }
+    ensures { Writes (placed_by past.now.start machine.old.state asked) machine.old machine.new result }
 {
     match asked {
+        Ok(Monitor::Restart) => {
+            past.restart(machine);
+            None
+        }
         Ok(Monitor::Place(place)) => put(machine, place),
         Ok(
             Monitor::Help
@@ -95,7 +106,6 @@ pub fn place_by<D: Decider, C: KeptCode, L: Levels, U: DueTicks>(
             | Monitor::Stop(_, _)
             | Monitor::Step(_)
             | Monitor::Budget(_)
-            | Monitor::Restart
             | Monitor::Why,
         )
         | Err(_) => None,
@@ -112,17 +122,22 @@ fn decided_text(decision: &Decision) -> Page<2048>
     page
 }
 
+/// Returns the text that says how GDB reads the registers again.
+fn flush_advice() -> Reply
+    ensures { result ≡ flush_advice }
+{
+    let mut page = Reply::new();
+    page.put(b"ok (gdb: maintenance flush register-cache)\n");
+    page
+}
+
 /// Returns the text of `place`, whose value was refused or not.
 fn placed_text(refused: Option<PlaceError>) -> Reply
     ensures { result ≡ placed_text refused }
 {
     match refused {
         Some(error) => refusal_text(error),
-        None => {
-            let mut page = Reply::new();
-            page.put(b"ok (gdb: maintenance flush register-cache)\n");
-            page
-        }
+        None => flush_advice(),
     }
 }
 
@@ -164,7 +179,8 @@ pub fn tell_command<D: Decider, C: KeptCode, L: Levels, U: DueTicks, W: Out>(
         Ok(Monitor::Trace(_) | Monitor::Lines(_) | Monitor::Stop(_, _) | Monitor::Budget(_)) => {
             tell(ok_text().as_slice(), out)
         }
-        Ok(Monitor::History | Monitor::Step(_) | Monitor::Restart) => {
+        Ok(Monitor::Restart) => tell(flush_advice().as_slice(), out),
+        Ok(Monitor::History | Monitor::Step(_)) => {
             tell(error_text(LineError::Command).as_slice(), out)
         }
         Err(error) => tell(error_text(error).as_slice(), out),

@@ -1,10 +1,12 @@
 //! What a packet asks of a server at rest.
 
 ghost use Rattle.std.specs.Prelude.{◌≡◌};
-ghost use Rattle.gdb_server.specs.Purposes.{insertion_of, purpose_of, removal_of, resumption};
+ghost use Rattle.gdb_server.specs.Purposes.{insertion_of, purpose_of, removal_of, resumption, watchpoint};
 
 use gdb_packets::{PointKind, Request};
-use gdb_texts::{Breakpoint, BreakpointKind, ErrorCode, Resume, read_actions};
+use gdb_texts::{
+    Breakpoint, BreakpointKind, ErrorCode, Resume, WatchKind, Watchpoint, read_actions,
+};
 
 /// A reply that is the same whenever it is asked for.
 #[derive(Clone, Copy)]
@@ -70,7 +72,13 @@ pub enum SessionChange {
     Insert(Breakpoint),
     /// A breakpoint is removed.
     Remove(Breakpoint),
-    /// The session ends.
+    /// A watchpoint is set.
+    Watch(Watchpoint),
+    /// A watchpoint is removed.
+    Unwatch(Watchpoint),
+    /// The session goes on after the program was killed, or the client left.
+    Extended,
+    /// The client leaves.
     End,
 }
 
@@ -89,10 +97,14 @@ pub enum Purpose {
     Write(MachineChange),
     /// A change of the session.
     Set(SessionChange),
-    /// The end of the session, without a reply.
+    /// The end of the program, without a reply.
     Kill,
     /// A run.
     Resume(Resume),
+    /// The first state again, with the reply to `?`.
+    Run,
+    /// The first state again, without a reply.
+    Restart,
     /// A command of `monitor`.
     Command,
 }
@@ -104,36 +116,59 @@ fn breakpoint(kind: BreakpointKind, address: u32) -> Breakpoint
     Breakpoint { kind, address }
 }
 
-/// Returns what a packet that sets a breakpoint or watchpoint asks for. Watchpoints aren't known.
-fn insertion_of(kind: PointKind, address: u32) -> Purpose
-    ensures { result ≡ insertion_of kind address }
+/// Returns a watchpoint.
+fn watchpoint(kind: WatchKind, address: u32, length: u32) -> Watchpoint
+    ensures { result ≡ watchpoint kind address length }
+{
+    Watchpoint {
+        kind,
+        address,
+        length,
+    }
+}
+
+/// Returns what a packet that sets a breakpoint or watchpoint changes.
+fn insertion_of(kind: PointKind, address: u32, length: u32) -> SessionChange
+    ensures { result ≡ insertion_of kind address length }
 {
     match kind {
         PointKind::SoftwareBreakpoint => {
-            Purpose::Set(SessionChange::Insert(breakpoint(BreakpointKind::Software, address)))
+            SessionChange::Insert(breakpoint(BreakpointKind::Software, address))
         }
         PointKind::HardwareBreakpoint => {
-            Purpose::Set(SessionChange::Insert(breakpoint(BreakpointKind::Hardware, address)))
+            SessionChange::Insert(breakpoint(BreakpointKind::Hardware, address))
         }
-        PointKind::WriteWatchpoint | PointKind::ReadWatchpoint | PointKind::AccessWatchpoint => {
-            Purpose::Say(Constant::Empty)
+        PointKind::WriteWatchpoint => {
+            SessionChange::Watch(watchpoint(WatchKind::Write, address, length))
+        }
+        PointKind::ReadWatchpoint => {
+            SessionChange::Watch(watchpoint(WatchKind::Read, address, length))
+        }
+        PointKind::AccessWatchpoint => {
+            SessionChange::Watch(watchpoint(WatchKind::Access, address, length))
         }
     }
 }
 
-/// Returns what a packet that removes a breakpoint or watchpoint asks for. Watchpoints aren't known.
-fn removal_of(kind: PointKind, address: u32) -> Purpose
-    ensures { result ≡ removal_of kind address }
+/// Returns what a packet that removes a breakpoint or watchpoint changes.
+fn removal_of(kind: PointKind, address: u32, length: u32) -> SessionChange
+    ensures { result ≡ removal_of kind address length }
 {
     match kind {
         PointKind::SoftwareBreakpoint => {
-            Purpose::Set(SessionChange::Remove(breakpoint(BreakpointKind::Software, address)))
+            SessionChange::Remove(breakpoint(BreakpointKind::Software, address))
         }
         PointKind::HardwareBreakpoint => {
-            Purpose::Set(SessionChange::Remove(breakpoint(BreakpointKind::Hardware, address)))
+            SessionChange::Remove(breakpoint(BreakpointKind::Hardware, address))
         }
-        PointKind::WriteWatchpoint | PointKind::ReadWatchpoint | PointKind::AccessWatchpoint => {
-            Purpose::Say(Constant::Empty)
+        PointKind::WriteWatchpoint => {
+            SessionChange::Unwatch(watchpoint(WatchKind::Write, address, length))
+        }
+        PointKind::ReadWatchpoint => {
+            SessionChange::Unwatch(watchpoint(WatchKind::Read, address, length))
+        }
+        PointKind::AccessWatchpoint => {
+            SessionChange::Unwatch(watchpoint(WatchKind::Access, address, length))
         }
     }
 }
@@ -148,8 +183,8 @@ fn resumption(how: Option<Resume>) -> Purpose
     }
 }
 
-/// Returns what a packet asks for, by its name and fields and what follows them. Packets of going back in time, of
-/// restarts and of the extended mode aren't known.
+/// Returns what a packet asks for, by its name and fields and what follows them. Packets of going back in time
+/// aren't known.
 #[tactic(auto, unfolding(crate::specs::Purposes::purpose_of))]
 pub fn purpose_of(request: Request, tail: &[u8]) -> Purpose
     ensures { result ≡ purpose_of request tail.now }
@@ -157,10 +192,7 @@ pub fn purpose_of(request: Request, tail: &[u8]) -> Purpose
     match request {
         Request::Unknown
         | Request::ReverseStep
-        | Request::ReverseContinue
-        | Request::ExtendedMode
-        | Request::Run
-        | Request::Restart => Purpose::Say(Constant::Empty),
+        | Request::ReverseContinue => Purpose::Say(Constant::Empty),
         Request::SelectThread | Request::ThreadAlive => Purpose::Say(Constant::Done),
         Request::ResumeActions => Purpose::Say(Constant::ResumeActions),
         Request::Attached => Purpose::Say(Constant::Attached),
@@ -183,8 +215,13 @@ pub fn purpose_of(request: Request, tail: &[u8]) -> Purpose
         Request::WriteBinary(address, _) => Purpose::Write(MachineChange::Bytes(address)),
         Request::Supported => Purpose::Set(SessionChange::Features),
         Request::StartNoAckMode => Purpose::Set(SessionChange::NoAcknowledgement),
-        Request::Insert(kind, address, _) => insertion_of(kind, address),
-        Request::Remove(kind, address, _) => removal_of(kind, address),
+        Request::Insert(kind, address, length) => {
+            Purpose::Set(insertion_of(kind, address, length))
+        }
+        Request::Remove(kind, address, length) => Purpose::Set(removal_of(kind, address, length)),
+        Request::ExtendedMode => Purpose::Set(SessionChange::Extended),
+        Request::Run => Purpose::Run,
+        Request::Restart => Purpose::Restart,
         Request::Detach | Request::KillProcess => Purpose::Set(SessionChange::End),
         Request::Kill => Purpose::Kill,
         Request::Continue => Purpose::Resume(Resume::Continue),

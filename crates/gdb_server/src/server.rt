@@ -1,6 +1,6 @@
 //! The protocol: what each byte of the input makes.
 
-ghost use Rattle.std.specs.Prelude.{◌≡◌, OnOk};
+ghost use Rattle.std.specs.Prelude.{◌≡◌, IfOk, OnOk};
 ghost use Rattle.gdb_server.specs.Conduct.{conduct, first};
 ghost use Rattle.platform.specs.Boards.{numbers_of};
 ghost use Rattle.serving.specs.Pieces.{Tells};
@@ -9,16 +9,17 @@ use crate::session::Session;
 use gdb_packets::Framer;
 use machine::{Decider, DueTicks, IoError, KeptCode, Layout, Levels, Machine, Out};
 use serving::Protocol;
+use std::alloc::{AllocError, Global};
 use std::marker::Model;
 
 /// A server between two bytes of its input.
 #[derive(Drop)]
-pub struct Server {
+pub struct Server<L: Levels, U: DueTicks> {
     framer: Framer,
-    session: Session,
+    session: Session<L, U>,
 }
 
-impl Model for Server {
+impl<L: Levels, U: DueTicks> Model for Server<L, U> {
     ghost use Rattle.gdb_server.specs.Conduct.{Server as ServerView};
 
     ghost Value = { ServerView };
@@ -26,24 +27,31 @@ impl Model for Server {
     ghost view = { λ s. record { framing = s.framer; session = s.session } };
 }
 
-impl Server {
-    /// Returns a server before its first byte. Runs go to the tick `limit` at most.
-    pub fn new(limit: u64, board: Layout) -> Self
-        ensures { result ≡ first limit (numbers_of board) }
+impl<L: Levels, U: DueTicks> Server<L, U> {
+    /// Returns a server of a machine before its first byte, or fails where memory can't be allocated. Runs go to the
+    /// tick `limit` at most.
+    pub fn new<D: Decider, C: KeptCode>(
+        alloc: Global,
+        limit: u64,
+        board: Layout,
+        machine: &Machine<D, C, L, U>,
+    ) -> Result<Self, AllocError>
+        ensures { IfOk result (λ server. server ≡ first limit (numbers_of board) machine.now.state) }
     {
-        Server {
+        Ok(Server {
             framer: Framer::new(),
-            session: Session::new(limit, board),
-        }
+            session: Session::new(alloc, limit, board, machine)?,
+        })
     }
 }
 
-impl<L: Levels, U: DueTicks> Protocol<L, U> for Server {
+impl<L: Levels, U: DueTicks> Protocol<L, U> for Server<L, U> {
+    ghost use Rattle.gdb_past.specs.Places.{AreOfOneMachine};
     ghost use Rattle.gdb_server.specs.Conduct.{conduct};
 
     ghost conduct = { conduct };
 
-    ghost ready = { λ server s. Unit {0} };
+    ghost ready = { λ server s. AreOfOneMachine server.session.past.start s };
 
     fn is_open(&self) -> bool {
         self.session.is_open()

@@ -1,16 +1,17 @@
 //! What a session keeps between two packets, and what a packet makes.
 
-ghost use Rattle.std.specs.Prelude.{◌≡◌, ◌≤◌, OnOk, Some, bytes_eq, false, length};
+ghost use Rattle.std.specs.Prelude.{◌≡◌, ◌≤◌, IfOk, OnOk, Some, bytes_eq, false, length};
 ghost use Rattle.gdb_packets.specs.Replies.{packet_of};
+ghost use Rattle.gdb_past.specs.Places.{AreOfOneMachine};
 ghost use Rattle.gdb_packets.specs.Seen.{seen_packet};
 ghost use Rattle.gdb_server.specs.Commands.{command_of, settings_with};
-ghost use Rattle.gdb_server.specs.Conduct.{acknowledgement, answered, commanded, first_turn, heard, interrupted};
+ghost use Rattle.gdb_server.specs.Conduct.{acknowledgement, answered, begun, commanded, first_turn, heard, interrupted};
 ghost use Rattle.gdb_server.specs.Conduct.{interrupted_by, is_interrupt, long_heard, packet_heard, replied};
 ghost use Rattle.gdb_server.specs.Conduct.{reply_heard, resumed, sent_again, told, too_long, whole_heard, with_turn};
 ghost use Rattle.gdb_server.specs.Conduct.{wrote};
 ghost use Rattle.gdb_server.specs.Purposes.{is_file_reply};
 ghost use Rattle.gdb_server.specs.Replies.{data_read};
-ghost use Rattle.gdb_server.specs.Sessions.{data_of_reply, data_of_write, opened, reply_packet, session_after};
+ghost use Rattle.gdb_server.specs.Sessions.{data_of_reply, data_of_write, left, opened, reply_packet, session_after};
 ghost use Rattle.gdb_server.specs.Sessions.{set_data, with_reply};
 ghost use Rattle.gdb_server.specs.Writes.{written};
 ghost use Rattle.output.specs.Output.{Put};
@@ -23,19 +24,21 @@ use crate::purposes::{MachineChange, Purpose, Reading, SessionChange, purpose_of
 use crate::reading::read;
 use crate::writes::write;
 use debugger_commands::LineError;
-use gdb::{Run, SentPacket, Terms, Turn, go_on, send_packet};
+use gdb::{Points, Run, SentPacket, Terms, Turn, go_on, send_packet};
+use gdb_past::{Past, Position};
 use gdb_packets::{Event, Packet, Request, read_packet};
 use gdb_texts::{
-    Breakpoints, ErrorCode, Features, Monitor, Reply, Resume, Settings, Signal, first_settings,
-    read_features, refusal, reply_text,
+    Breakpoints, ErrorCode, Features, Monitor, Reply, Resume, Settings, Signal, Watchpoints,
+    first_settings, read_features, refusal, reply_text,
 };
 use machine::{Decider, DueTicks, IoError, KeptCode, Layout, Levels, Machine, Out, PlaceError};
+use std::alloc::{AllocError, Global};
 use std::marker::Model;
 
 /// What a session keeps between two packets, beside the machine.
 #[derive(Drop)]
-pub struct Session {
-    breakpoints: Breakpoints,
+pub struct Session<L: Levels, U: DueTicks> {
+    points: Points,
     settings: Settings,
     /// The signal of the last run's end.
     signal: Signal,
@@ -49,19 +52,25 @@ pub struct Session {
     /// Why the last packet was refused that was.
     refused: Option<ErrorCode>,
     is_open: bool,
+    /// Whether it goes on after the program was killed, or the client left.
+    is_extended: bool,
     /// The tick to which runs go at most.
     limit: u64,
     board: Layout,
+    past: Past<L, U>,
+    /// Room for a state to go back to, which contracts don't see.
+    position: Position<L, U>,
 }
 
-impl Model for Session {
+impl<L: Levels, U: DueTicks> Model for Session<L, U> {
+    ghost use Rattle.gdb_past.specs.Places.{AreOfOneMachine};
     ghost use Rattle.gdb_server.specs.Sessions.{Session as SessionView};
     ghost use Rattle.platform.specs.Boards.{numbers_of};
 
     ghost Value = { SessionView };
 
     ghost view = { λ k. record {
-      breakpoints = k.breakpoints;
+      points = k.points;
       settings = k.settings;
       signal = k.signal;
       features = k.features;
@@ -70,9 +79,13 @@ impl Model for Session {
       running = k.running;
       refused = k.refused;
       is_open = k.is_open;
+      is_extended = k.is_extended;
       limit = k.limit;
       board = numbers_of k.board;
+      past = k.past;
     } };
+
+    ghost invariant = { λ k. AreOfOneMachine k.past.start k.position };
 }
 
 /// Returns the data of a reply that is one word.
@@ -137,13 +150,22 @@ fn is_file_reply(request: Request) -> bool
     matches!(request, Request::FileReply)
 }
 
-impl Session {
-    /// Returns a session before its first packet, whose runs go to the tick `limit` at most.
-    pub fn new(limit: u64, board: Layout) -> Self
-        ensures { result ≡ opened limit (numbers_of board) }
+impl<L: Levels, U: DueTicks> Session<L, U> {
+    /// Returns a session of a machine before its first packet, whose runs go to the tick `limit` at most; or fails
+    /// where memory can't be allocated.
+    pub fn new<D: Decider, C: KeptCode>(
+        alloc: Global,
+        limit: u64,
+        board: Layout,
+        machine: &Machine<D, C, L, U>,
+    ) -> Result<Self, AllocError>
+        ensures { IfOk result (λ session. session ≡ opened limit (numbers_of board) machine.now.state) }
     {
-        Session {
-            breakpoints: Breakpoints::new(),
+        Ok(Session {
+            points: Points {
+                breakpoints: Breakpoints::new(),
+                watchpoints: Watchpoints::new(),
+            },
             settings: first_settings(),
             signal: Signal::Trap,
             features: Features {
@@ -156,9 +178,12 @@ impl Session {
             running: None,
             refused: None,
             is_open: true,
+            is_extended: false,
             limit,
             board,
-        }
+            past: Past::new(alloc, machine)?,
+            position: Position::new(alloc, machine)?,
+        })
     }
 
     /// Returns whether the session reads on.
@@ -197,7 +222,7 @@ impl Session {
     }
 
     /// Returns what a packet reads.
-    fn read<D: Decider, C: KeptCode, L: Levels, U: DueTicks>(
+    fn read<D: Decider, C: KeptCode>(
         &self,
         machine: &Machine<D, C, L, U>,
         what: Reading,
@@ -207,11 +232,19 @@ impl Session {
         read(self.signal, &self.board, machine, what)
     }
 
-    /// Ends the session.
-    fn close(&mut self)
-        ensures { self.new ≡ record self.old { is_open = false } }
+    /// Ends the session, unless it is an extended one.
+    fn leave(&mut self)
+        ensures { self.new ≡ left self.old }
     {
-        self.is_open = false;
+        self.is_open = self.is_extended;
+    }
+
+    /// Takes the machine back to its first state.
+    fn restart<D: Decider, C: KeptCode>(&self, machine: &mut Machine<D, C, L, U>)
+        requires { AreOfOneMachine self.now.past.start machine.old.state }
+        ensures { machine.new ≡ record machine.old { state = self.now.past.start } }
+    {
+        self.past.restart(machine);
     }
 
     /// Makes the change of the settings that a command asks for.
@@ -256,7 +289,7 @@ impl Session {
     }
 
     /// Writes the reply to a packet, and keeps why the packet was refused, if it was. Nothing of the machine changes.
-    fn reply<D: Decider, C: KeptCode, L: Levels, U: DueTicks, W: Out>(
+    fn reply<D: Decider, C: KeptCode, W: Out>(
         &mut self,
         machine: &Machine<D, C, L, U>,
         answer: Result<Data, ErrorCode>,
@@ -284,36 +317,51 @@ impl Session {
                 self.acknowledges = false;
                 data_of_reply(Reply::Done)
             }
-            SessionChange::Insert(breakpoint) => data_of_reply(self.breakpoints.insert(breakpoint)),
+            SessionChange::Insert(breakpoint) => {
+                data_of_reply(self.points.breakpoints.insert(breakpoint))
+            }
             SessionChange::Remove(breakpoint) => {
-                self.breakpoints.remove(breakpoint);
+                self.points.breakpoints.remove(breakpoint);
+                data_of_reply(Reply::Done)
+            }
+            SessionChange::Watch(watchpoint) => {
+                data_of_reply(self.points.watchpoints.insert(watchpoint))
+            }
+            SessionChange::Unwatch(watchpoint) => {
+                self.points.watchpoints.remove(watchpoint);
+                data_of_reply(Reply::Done)
+            }
+            SessionChange::Extended => {
+                self.is_extended = true;
                 data_of_reply(Reply::Done)
             }
             SessionChange::End => {
-                self.is_open = false;
+                self.leave();
                 data_of_reply(Reply::Done)
             }
         }
     }
 
     /// Writes to the machine, and answers.
-    fn write<D: Decider, C: KeptCode, L: Levels, U: DueTicks, W: Out>(
+    fn write<D: Decider, C: KeptCode, W: Out>(
         &mut self,
         machine: &mut Machine<D, C, L, U>,
         change: MachineChange,
         tail: &[u8],
         out: &mut W,
     ) -> Result<(), IoError>
+        requires { AreOfOneMachine self.old.past.start machine.old.state }
         ensures tells { Tells (wrote self.old (written machine.old.state change tail.now)).pieces machine.old
             machine.new (W.writing out.old) (W.writing out.new) result }
         ensures kept { self.new ≡ (wrote self.old (written machine.old.state change tail.now)).session }
+        ensures same { AreOfOneMachine machine.old.state machine.new.state }
     {
         let refused = write(machine, change, tail);
         self.put_reply(data_of_write(refused), out)
     }
 
     /// Writes the text of a command that was carried out, and then the reply.
-    fn tell<D: Decider, C: KeptCode, L: Levels, U: DueTicks, W: Out>(
+    fn tell<D: Decider, C: KeptCode, W: Out>(
         &mut self,
         machine: &Machine<D, C, L, U>,
         refused: Option<PlaceError>,
@@ -332,19 +380,21 @@ impl Session {
     }
 
     /// Carries out a command of `monitor`, and answers.
-    fn command<D: Decider, C: KeptCode, L: Levels, U: DueTicks, W: Out>(
+    fn command<D: Decider, C: KeptCode, W: Out>(
         &mut self,
         machine: &mut Machine<D, C, L, U>,
         digits: &[u8],
         out: &mut W,
     ) -> Result<(), IoError>
+        requires { AreOfOneMachine self.old.past.start machine.old.state }
         ensures tells { Tells (commanded self.old machine.old.state (command_of digits.now)).pieces machine.old
             machine.new (W.writing out.old) (W.writing out.new) result }
         ensures kept { OnOk result
             (self.new ≡ (commanded self.old machine.old.state (command_of digits.now)).session) }
+        ensures same { AreOfOneMachine machine.old.state machine.new.state }
     {
         let asked = read_command(digits);
-        let refused = place_by(machine, asked);
+        let refused = place_by(machine, &self.past, asked);
         self.change_settings(asked);
         self.tell(machine, refused, asked, out)
     }
@@ -363,23 +413,25 @@ impl Session {
     }
 
     /// Makes the next turn of a run.
-    fn resume<D: Decider, C: KeptCode, L: Levels, U: DueTicks, W: Out>(
+    fn resume<D: Decider, C: KeptCode, W: Out>(
         &mut self,
         machine: &mut Machine<D, C, L, U>,
         run: Run,
         out: &mut W,
     ) -> Result<(), IoError>
+        requires { AreOfOneMachine self.old.past.start machine.old.state }
         ensures tells { Tells (resumed self.old machine.old.state run).pieces machine.old machine.new
             (W.writing out.old) (W.writing out.new) result }
         ensures kept { OnOk result (self.new ≡ (resumed self.old machine.old.state run).session) }
+        ensures same { AreOfOneMachine machine.old.state machine.new.state }
     {
         let terms = Terms {
-            points: &self.breakpoints,
+            points: &self.points,
             settings: self.settings,
             features: self.features,
             limit: self.limit,
         };
-        match go_on(run, &terms, &mut self.sent, machine, out) {
+        match go_on(run, &terms, &mut self.position, &mut self.sent, machine, out) {
             Ok(turn) => {
                 self.keep_turn(turn);
                 Ok(())
@@ -388,17 +440,36 @@ impl Session {
         }
     }
 
+    /// Takes the machine back to its first state, and answers as to `?`.
+    fn begin<D: Decider, C: KeptCode, W: Out>(
+        &mut self,
+        machine: &mut Machine<D, C, L, U>,
+        out: &mut W,
+    ) -> Result<(), IoError>
+        requires { AreOfOneMachine self.old.past.start machine.old.state }
+        ensures tells { Tells (begun self.old).pieces machine.old machine.new (W.writing out.old) (W.writing out.new)
+            result }
+        ensures kept { self.new ≡ (begun self.old).session }
+        ensures same { AreOfOneMachine machine.old.state machine.new.state }
+    {
+        self.restart(machine);
+        let data = self.read(machine, Reading::StopReason);
+        self.put_reply(data, out)
+    }
+
     /// Does at rest what a packet asks for.
-    fn answer<D: Decider, C: KeptCode, L: Levels, U: DueTicks, W: Out>(
+    fn answer<D: Decider, C: KeptCode, W: Out>(
         &mut self,
         machine: &mut Machine<D, C, L, U>,
         purpose: Purpose,
         tail: &[u8],
         out: &mut W,
     ) -> Result<(), IoError>
+        requires { AreOfOneMachine self.old.past.start machine.old.state }
         ensures tells { Tells (answered self.old machine.old.state purpose tail.now).pieces machine.old machine.new
             (W.writing out.old) (W.writing out.new) result }
         ensures kept { OnOk result (self.new ≡ (answered self.old machine.old.state purpose tail.now).session) }
+        ensures same { AreOfOneMachine machine.old.state machine.new.state }
     {
         match purpose {
             Purpose::Nothing => Ok(()),
@@ -414,26 +485,33 @@ impl Session {
                 self.reply(machine, data, out)
             }
             Purpose::Kill => {
-                self.close();
+                self.leave();
                 Ok(())
             }
             Purpose::Resume(how) => self.resume(machine, first_turn(how), out),
+            Purpose::Run => self.begin(machine, out),
+            Purpose::Restart => {
+                self.restart(machine);
+                Ok(())
+            }
             Purpose::Command => self.command(machine, tail, out),
         }
     }
 
     /// Takes a packet while a run waits for the reply to a question: any other packet is skipped.
-    fn take_reply<D: Decider, C: KeptCode, L: Levels, U: DueTicks, W: Out>(
+    fn take_reply<D: Decider, C: KeptCode, W: Out>(
         &mut self,
         machine: &mut Machine<D, C, L, U>,
         run: Run,
         packet: Packet<'_>,
         out: &mut W,
     ) -> Result<(), IoError>
+        requires { AreOfOneMachine self.old.past.start machine.old.state }
         ensures tells { Tells (reply_heard self.old machine.old.state run (seen_packet packet.entry)).pieces machine.old
             machine.new (W.writing out.old) (W.writing out.new) result }
         ensures kept { OnOk result
             (self.new ≡ (reply_heard self.old machine.old.state run (seen_packet packet.entry)).session) }
+        ensures same { AreOfOneMachine machine.old.state machine.new.state }
     {
         if is_file_reply(packet.request) {
             self.resume(machine, interrupted_by(packet.tail, run), out)
@@ -443,16 +521,18 @@ impl Session {
     }
 
     /// Takes a packet.
-    fn take_packet<D: Decider, C: KeptCode, L: Levels, U: DueTicks, W: Out>(
+    fn take_packet<D: Decider, C: KeptCode, W: Out>(
         &mut self,
         machine: &mut Machine<D, C, L, U>,
         packet: Packet<'_>,
         out: &mut W,
     ) -> Result<(), IoError>
+        requires { AreOfOneMachine self.old.past.start machine.old.state }
         ensures tells { Tells (packet_heard self.old machine.old.state (seen_packet packet.entry)).pieces machine.old
             machine.new (W.writing out.old) (W.writing out.new) result }
         ensures kept { OnOk result
             (self.new ≡ (packet_heard self.old machine.old.state (seen_packet packet.entry)).session) }
+        ensures same { AreOfOneMachine machine.old.state machine.new.state }
     {
         match self.waiting() {
             Some(run) => self.take_reply(machine, run, packet, out),
@@ -464,7 +544,7 @@ impl Session {
     }
 
     /// Writes a byte of acknowledgement, where packets are acknowledged.
-    fn acknowledge<D: Decider, C: KeptCode, L: Levels, U: DueTicks, W: Out>(
+    fn acknowledge<D: Decider, C: KeptCode, W: Out>(
         &self,
         machine: &Machine<D, C, L, U>,
         byte: u8,
@@ -482,7 +562,7 @@ impl Session {
     }
 
     /// Writes the last packet that was sent once more, where packets are acknowledged.
-    fn send_again<D: Decider, C: KeptCode, L: Levels, U: DueTicks, W: Out>(
+    fn send_again<D: Decider, C: KeptCode, W: Out>(
         &self,
         machine: &Machine<D, C, L, U>,
         out: &mut W,
@@ -513,7 +593,7 @@ impl Session {
     }
 
     /// Refuses a packet of too many bytes. While a run waits it is skipped.
-    fn refuse_long<D: Decider, C: KeptCode, L: Levels, U: DueTicks, W: Out>(
+    fn refuse_long<D: Decider, C: KeptCode, W: Out>(
         &mut self,
         machine: &Machine<D, C, L, U>,
         out: &mut W,
@@ -529,15 +609,17 @@ impl Session {
     }
 
     /// Acknowledges a packet, and takes it.
-    fn take_whole<D: Decider, C: KeptCode, L: Levels, U: DueTicks, W: Out>(
+    fn take_whole<D: Decider, C: KeptCode, W: Out>(
         &mut self,
         machine: &mut Machine<D, C, L, U>,
         content: &[u8],
         out: &mut W,
     ) -> Result<(), IoError>
+        requires { AreOfOneMachine self.old.past.start machine.old.state }
         ensures tells { Tells (whole_heard self.old machine.old.state content.now).pieces machine.old machine.new
             (W.writing out.old) (W.writing out.new) result }
         ensures kept { OnOk result (self.new ≡ (whole_heard self.old machine.old.state content.now).session) }
+        ensures same { AreOfOneMachine machine.old.state machine.new.state }
     {
         match self.acknowledge(machine, b'+', out) {
             Ok(()) => {}
@@ -547,7 +629,7 @@ impl Session {
     }
 
     /// Acknowledges a packet of too many bytes, and refuses it.
-    fn take_long<D: Decider, C: KeptCode, L: Levels, U: DueTicks, W: Out>(
+    fn take_long<D: Decider, C: KeptCode, W: Out>(
         &mut self,
         machine: &Machine<D, C, L, U>,
         out: &mut W,
@@ -564,16 +646,18 @@ impl Session {
     }
 
     /// Takes what a byte made. `content` is the data of the last packet.
-    pub fn take<D: Decider, C: KeptCode, L: Levels, U: DueTicks, W: Out>(
+    pub fn take<D: Decider, C: KeptCode, W: Out>(
         &mut self,
         machine: &mut Machine<D, C, L, U>,
         event: Event,
         content: &[u8],
         out: &mut W,
     ) -> Result<(), IoError>
+        requires { AreOfOneMachine self.old.past.start machine.old.state }
         ensures tells { Tells (heard self.old machine.old.state event content.now).pieces machine.old machine.new
             (W.writing out.old) (W.writing out.new) result }
         ensures kept { OnOk result (self.new ≡ (heard self.old machine.old.state event content.now).session) }
+        ensures same { AreOfOneMachine machine.old.state machine.new.state }
     {
         match event {
             Event::Nothing | Event::Acknowledgement => Ok(()),

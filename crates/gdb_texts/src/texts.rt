@@ -21,9 +21,10 @@ budget <n>                  sets the most steps of a run; 0 sets no limit
 place reg <n> <v>           puts a value into a core register: 13 is the stack pointer in use, 14 LR, 15 PC
 place special <n> <v>       puts a value into a special register, numbered as in MSR
 place word <a> <v>          puts a value into a word of memory or a system register
+restart                     goes back to the first state
 why                         says why the last packet was refused
 help                        shows these lines
-After place, `maintenance flush register-cache` makes GDB read the registers again.
+After place and restart, `maintenance flush register-cache` makes GDB read the registers again.
 ";
 
 /// Returns a line for each command.

@@ -1,18 +1,20 @@
 use Rattle.std.proofs.Common.{◌≡◌, ◌+◌, ◌-◌, ◌%◌, ◌≤◌, suc, true, false, refl, arith, sym, ap}
 use Rattle.gdb.proofs.Turning.{asks, asks_cut, asks_none, flush_cut, not_begun, past_flush, past_slice, rest_cut}
-use Rattle.gdb.proofs.Turning.{none_left, slice_leaves, some_left, taken, taken_as, whole_end}
+use Rattle.gdb.proofs.Slicing.{slice_leaves}
+use Rattle.gdb_past.proofs.Following.{same_refl, same_trans}
+use Rattle.gdb.proofs.Turning.{none_left, some_left, taken, taken_as, whole_end}
 use Rattle.gdb.specs.Slices.{Progress, flow, slice}
 use Rattle.gdb.specs.Turns.{all_slices, slices, steps_at_once}
 use Rattle.gdb.proofs.turns.make_slices.Goals as goal
 
 pub slices-init : goal.slices-init
-slices-init g c = record { goes = not_begun _ _ _; count = omega (arith, c.requires) }
+slices-init g c = record { goes = not_begun _ _ _; count = omega (arith, c.requires.room); fits = c.requires.fits; same = same_refl c.args.machine.now.state }
 
-pub run_slice-requires : goal.run_slice-requires
-run_slice-requires g c = omega (arith, c.slices.invariant.count, c.slices-test.true)
+pub run_slice-requires-clause-room : goal.run_slice-requires-clause-room
+run_slice-requires-clause-room g c = omega (arith, c.slices.invariant.count, c.slices-test.true)
 
-pub returns-in-Err : goal.returns-in-Err
-returns-in-Err g c =
+pub returns-in-Err-clause-takes : goal.returns-in-Err-clause-takes
+returns-in-Err-clause-takes g c =
     let f = flow c.slices.progress c.slices.machine.state in
     let p = c.args.plan.now in
     let points = c.args.terms.now.points.now in
@@ -22,8 +24,8 @@ returns-in-Err g c =
     (some_left p points features c.slices.whole (c.slices.whole - 1) (c.args.left % steps_at_once) f some)
     c.in-Err.ensures.tells
 
-pub returns-in-Ok-Some : goal.returns-in-Ok-Some
-returns-in-Ok-Some g c =
+pub returns-in-Ok-Some-clause-takes : goal.returns-in-Ok-Some-clause-takes
+returns-in-Ok-Some-clause-takes g c =
     let f = flow c.slices.progress c.slices.machine.state in
     let p = c.args.plan.now in
     let points = c.args.terms.now.points.now in
@@ -37,8 +39,8 @@ returns-in-Ok-Some g c =
     (g.W.Out.writing c.end_run.new.out) c.end_run.new.sent.items c.end_run.result c.slices.invariant.goes some
     made.tells made.slices refl refl c.end_run.ensures
 
-pub returns-in-Err-flush : goal.returns-in-Err-flush
-returns-in-Err-flush g c =
+pub returns-in-Err-flush-clause-takes : goal.returns-in-Err-flush-clause-takes
+returns-in-Err-flush-clause-takes g c =
     let f = flow c.slices.progress c.slices.machine.state in
     let p = c.args.plan.now in
     let points = c.args.terms.now.points.now in
@@ -54,8 +56,8 @@ returns-in-Err-flush g c =
     c.slices.invariant.goes some made.tells made.slices refl refl)
     c.in-Err-flush.ensures.put.0 c.in-Err-flush.ensures.put.1
 
-pub returns-in-Ok-send_packet : goal.returns-in-Ok-send_packet
-returns-in-Ok-send_packet g c =
+pub returns-in-Ok-send_packet-clause-takes : goal.returns-in-Ok-send_packet-clause-takes
+returns-in-Ok-send_packet-clause-takes g c =
     let f = flow c.slices.progress c.slices.machine.state in
     let p = c.args.plan.now in
     let points = c.args.terms.now.points.now in
@@ -78,8 +80,8 @@ returns-in-Ok-send_packet g c =
     c.in-Ok.ensures.put c.in-Ok.ensures.kept)
     gdb c.in-Ok-send_packet.ensures.put (c.asked.ensures c.run_slice.new.machine.state) c.send_packet.ensures.sent
 
-pub returns-in-Err-send_packet : goal.returns-in-Err-send_packet
-returns-in-Err-send_packet g c =
+pub returns-in-Err-send_packet-clause-takes : goal.returns-in-Err-send_packet-clause-takes
+returns-in-Err-send_packet-clause-takes g c =
     let f = flow c.slices.progress c.slices.machine.state in
     let p = c.args.plan.now in
     let points = c.args.terms.now.points.now in
@@ -130,11 +132,14 @@ slices-preserved g c =
           c.slices.invariant.goes some made.tells made.slices refl refl)
           c.in-Ok.ensures.put c.in-Ok.ensures.kept) other;
       count = omega (arith, c.slices.invariant.count, c.slices-test.true, same, steps, most);
+      fits = made.fits;
+      same = same_trans c.args.machine.now.state c.slices.machine.state c.run_slice.new.machine.state
+          c.slices.invariant.same made.same;
     }
 
 -- the last slice
-pub returns : goal.returns
-returns g c =
+pub returns-clause-takes : goal.returns-clause-takes
+returns-clause-takes g c =
     let f = flow c.slices.progress c.slices.machine.state in
     let p = c.args.plan.now in
     let points = c.args.terms.now.points.now in
@@ -146,4 +151,4 @@ returns g c =
     (g.W.Out.writing c.last_slice.new.out) c.last_slice.new.sent.items c.last_slice.result c.slices.invariant.goes
     (taken_as _ _ c.slices.machine c.last_slice.new.machine (g.W.Out.writing c.slices.out)
     (g.W.Out.writing c.last_slice.new.out) c.last_slice.new.sent.items c.last_slice.result
-    (sym (none_left p points features c.slices.whole (c.args.left % steps_at_once) f over)) c.last_slice.ensures)
+    (sym (none_left p points features c.slices.whole (c.args.left % steps_at_once) f over)) c.last_slice.ensures.takes)

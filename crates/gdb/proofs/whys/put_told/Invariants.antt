@@ -7,4 +7,4 @@ use Rattle.gdb.proofs.whys.put_told.Given as goal
 abbrev pub invariant-events : goal.invariant-events
 invariant-events g l =
     Shown (g.W.Out.writing l.fn.out) (g.W.Out.writing l.out) l.fn.console l.console
-    (told_lines l.settings (take l.event-index l.events))
+    (told_lines l.settings l.watchpoints (take l.event-index l.events))

@@ -1,0 +1,8 @@
+//! States of a machine that are kept, so that a session can go back to them.
+#![tactic(auto)]
+
+mod past;
+mod position;
+
+pub use past::Past;
+pub use position::{Position, make_steps};

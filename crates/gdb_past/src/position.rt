@@ -1,0 +1,89 @@
+//! A state of a machine to go back to.
+
+ghost use Rattle.std.specs.Prelude.{◌≡◌, ◌<◌, ◌≤◌, IfOk};
+ghost use Rattle.gdb_past.specs.Places.{AreOfOneMachine};
+ghost use Rattle.reference.specs.Run.{after};
+ghost use Rattle.reference.specs.Step.{step};
+
+use machine::{Decider, DueTicks, Events, Kept, KeptCode, Levels, Machine};
+use std::alloc::{AllocError, Global};
+use std::marker::Model;
+
+/// The most steps from a copy to the state that it is kept for. A copy is made after so many steps, and so many are
+/// made again at most to go back.
+const MOST_STEPS: u32 = 16_384;
+
+/// A state to go back to: a copy of an earlier one, and the number of steps from there.
+#[derive(Drop)]
+pub struct Position<L: Levels, U: DueTicks> {
+    kept: Kept<L, U>,
+    steps: u32,
+}
+
+impl<L: Levels, U: DueTicks> Model for Position<L, U> {
+    ghost use Rattle.reference.specs.Run.{after};
+    ghost use Rattle.reference.specs.State.{State};
+
+    ghost Value = { State };
+
+    ghost view = { λ p. after p.steps p.kept };
+}
+
+impl<L: Levels, U: DueTicks> Position<L, U> {
+    /// Returns the position of a machine, or fails where memory can't be allocated.
+    pub fn new<D: Decider, C: KeptCode>(
+        alloc: Global,
+        machine: &Machine<D, C, L, U>,
+    ) -> Result<Self, AllocError>
+        ensures { IfOk result (λ position. position ≡ machine.now.state) }
+    {
+        Ok(Position {
+            kept: machine.copied(alloc)?,
+            steps: 0,
+        })
+    }
+
+    /// Becomes the position of the machine.
+    pub fn take<D: Decider, C: KeptCode>(&mut self, machine: &Machine<D, C, L, U>)
+        requires { AreOfOneMachine self.old machine.now.state }
+        ensures { self.new ≡ machine.now.state }
+    {
+        machine.keep(&mut self.kept);
+        self.steps = 0;
+    }
+
+    /// Follows the machine after a step.
+    pub fn follow<D: Decider, C: KeptCode>(&mut self, machine: &Machine<D, C, L, U>)
+        requires { machine.now.state ≡ (step self.old).state }
+        ensures { self.new ≡ machine.now.state }
+    {
+        if self.steps < MOST_STEPS {
+            self.steps += 1;
+        } else {
+            self.take(machine);
+        }
+    }
+
+    /// Takes the machine back to this position.
+    pub fn restore<D: Decider, C: KeptCode>(&self, machine: &mut Machine<D, C, L, U>)
+        requires { AreOfOneMachine machine.old.state self.now }
+        ensures { machine.new ≡ record machine.old { state = self.now } }
+    {
+        machine.take_back(&self.kept);
+        make_steps(machine, u64::from(self.steps));
+    }
+}
+
+/// Makes steps, and writes nothing.
+pub fn make_steps<D: Decider, C: KeptCode, L: Levels, U: DueTicks>(
+    machine: &mut Machine<D, C, L, U>,
+    count: u64,
+)
+    ensures { machine.new ≡ record machine.old { state = after count machine.old.state } }
+{
+    let mut events = Events::new();
+    'steps: for step in 0..count {
+        let _ = step;
+        let _ = machine.step(&mut events);
+    }
+}
