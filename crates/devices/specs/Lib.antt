@@ -6,3 +6,4 @@ pub mod Pokes
 pub mod Lines
 pub mod Copies
 pub mod Laws
+pub mod Foreseen

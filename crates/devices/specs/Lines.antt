@@ -6,20 +6,19 @@ use Rattle.devices.specs.declared.device.Line.{Line}
 use Rattle.devices.specs.declared.lines.Level.{Level}
 use Rattle.devices.specs.Devices.{DeviceWords, value_at}
 
--- whether a device's line is high
-abbrev pub is_high : List DeviceWords → ℕ → Device → Line → Bool
-is_high ds ticks d line =
-    not (bit_and (unwrap_or (value_at ds ticks d.base) 0) (unwrap_or (value_at ds ticks line.enable) 0) == 0)
+-- whether a device's line is high, by the values of words
+abbrev pub is_high : (ℕ → Option ℕ) → Device → Line → Bool
+is_high value d line = not (bit_and (unwrap_or (value d.base) 0) (unwrap_or (value line.enable) 0) == 0)
 
-abbrev pub level_of : List DeviceWords → ℕ → Device → Option Line → List Level
-level_of ds ticks d None = []
-level_of ds ticks d (Some line) = record { number = line.number; is_high = is_high ds ticks d line } ∷ []
+abbrev pub level_of : (ℕ → Option ℕ) → Device → Option Line → List Level
+level_of value d None = []
+level_of value d (Some line) = record { number = line.number; is_high = is_high value d line } ∷ []
 
--- the levels of the lines of these devices, by the words of all of them
-abbrev pub levels_of : List DeviceWords → ℕ → List DeviceWords → List Level
-levels_of all ticks [] = []
-levels_of all ticks (d ∷ ds) = level_of all ticks d.device d.device.line ++ levels_of all ticks ds
+-- the levels of the lines of these devices, by the values of words
+abbrev pub levels_by : (ℕ → Option ℕ) → List DeviceWords → List Level
+levels_by value [] = []
+levels_by value (d ∷ ds) = level_of value d.device d.device.line ++ levels_by value ds
 
 -- the levels of all lines, in the order of the board
 abbrev pub levels : List DeviceWords → ℕ → List Level
-levels ds ticks = levels_of ds ticks ds
+levels ds ticks = levels_by (value_at ds ticks) ds

@@ -1,7 +1,8 @@
 //! The lines of devices (profile).
 
 ghost use Rattle.std.specs.Prelude.{◌≡◌, ◌∷◌, ◌≤◌, length};
-ghost use Rattle.devices.specs.Lines.{is_high, level_of, levels};
+ghost use Rattle.devices.specs.Devices.{value_at};
+ghost use Rattle.devices.specs.Lines.{is_high, level_of, levels, levels_by};
 
 use crate::device::{Device, Line, MOST_DEVICES};
 use crate::devices::Devices;
@@ -35,7 +36,7 @@ impl Devices {
 
     /// Returns whether a device's line is high after this many ticks.
     fn is_high(&self, ticks: u64, device: &Device, line: Line) -> bool
-        ensures { result ≡ is_high self.now ticks device.now line }
+        ensures { result ≡ is_high (value_at self.now ticks) device.now line }
     {
         let first = self.value(ticks, device.base).unwrap_or(0);
         let enabled = self.value(ticks, line.enable).unwrap_or(0);
