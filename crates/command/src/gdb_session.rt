@@ -1,17 +1,20 @@
 //! A session with GDB from the bytes of an image and of a board.
 
 ghost use Rattle.std.specs.Prelude.{◌≡◌};
-ghost use Rattle.command.specs.Gdb.{GdbTo, ServesOf};
+ghost use Rattle.command.specs.Gdb.{GdbTo, ServesOf, gdb_session};
 ghost use Rattle.command.specs.Opening.{board_in_file};
+ghost use Rattle.gdb_server.specs.Conduct.{first};
+ghost use Rattle.platform.specs.Boards.{numbers_of};
 ghost use Rattle.platform.specs.Images.{image_of};
+ghost use Rattle.serving.specs.Sessions.{NothingWaits, Sessions};
 
 use crate::error::Error;
 use crate::files::InputFile;
 use crate::opening::{Opened, open};
 use crate::reason::refuse;
 use gdb_server::Server;
-use machine::{In, Out, StartError};
-use serving::serve;
+use machine::{Decider, DueTicks, In, KeptCode, Layout, Levels, Machine, Out, StartError};
+use serving::{SessionError, serve};
 use std::alloc::Global;
 use std::io::Write;
 
@@ -58,11 +61,32 @@ fn hold_gdb_session<I: In, O: Out>(
         mut machine,
         layout,
     } = opened;
-    let Ok(mut server) = Server::new(alloc, steps, layout, &machine) else {
+    let Ok(server) = Server::new(alloc, steps, layout, &machine) else {
         return Err(Error::Start(StartError::NoMemory));
     };
-    match serve(&mut server, &mut machine, input, out) {
+    match serve_machine(server, &mut machine, layout, steps, input, out) {
         Ok(()) => Ok(()),
         Err(_) => Err(Error::Io),
     }
+}
+
+/// Holds a session with GDB of a machine of a board, by a server before its first byte.
+#[tactic(auto, unfolding(crate::specs::Gdb::gdb_session))]
+fn serve_machine<D: Decider, C: KeptCode, L: Levels, U: DueTicks, I: In, O: Out>(
+    server: Server<L, U>,
+    machine: &mut Machine<D, C, L, U>,
+    layout: Layout,
+    steps: u64,
+    input: &mut I,
+    out: &mut O,
+) -> Result<(), SessionError>
+    requires { server ≡ first steps (numbers_of layout) machine.old.state }
+    ensures talked { Sessions (gdb_session (numbers_of layout) steps machine.old.state) machine.old machine.new
+        (I.reading input.old) (I.reading input.new) (O.writing out.old) (O.writing out.new) result }
+    ensures sent { NothingWaits (O.writing out.new) result }
+{
+    let _ = layout;
+    let _ = steps;
+    let mut server = server;
+    serve(&mut server, machine, input, out)
 }

@@ -14,7 +14,7 @@ pub use reading::{Content, put_memory};
 pub use registers::{place_of, register_values};
 pub use slices::{Plan, Points, Progress, run_slice};
 pub use steps::{
-    event_hit, first_cause, first_hit, has_entry, has_fault, is_continue, put_step, reason_after, reason_before,
-    selection_of,
+    event_hit, first_cause, first_hit, has_entry, has_fault, is_continue, put_step, reason_after,
+    reason_before, selection_of,
 };
 pub use turns::{Run, SentPacket, Terms, Turn, go_on, send_packet};

@@ -16,7 +16,8 @@ use arrayvec::ArrayVec;
 use gdb_packets::put_packet;
 use gdb_past::Position;
 use gdb_texts::{
-    Features, Resume, Settings, Signal, StopReason, Watchpoints, most_steps, put_stop_reply, signal_of,
+    Features, Resume, Settings, Signal, StopReason, Watchpoints, most_steps, put_stop_reply,
+    signal_of,
 };
 use machine::{Decider, DueTicks, KeptCode, Levels, Machine};
 use output::{IoError, Out};
@@ -104,7 +105,12 @@ fn end_run<D: Decider, C: KeptCode, L: Levels, U: DueTicks, W: Out>(
     ensures { Takes (ended plan.now.settings watchpoints.now features reason progress.old.events
         (flow progress.old machine.now.state)) machine.now machine.now (W.writing out.old) (W.writing out.new) sent.new.items result }
 {
-    match progress.put_whys(&plan.settings, watchpoints, told_stop(reason, machine.stop()), out) {
+    match progress.put_whys(
+        &plan.settings,
+        watchpoints,
+        told_stop(reason, machine.stop()),
+        out,
+    ) {
         Ok(()) => {}
         Err(error) => return Err(error),
     }
@@ -163,7 +169,16 @@ fn last_slice<D: Decider, C: KeptCode, L: Levels, U: DueTicks, W: Out>(
         Ok(reason) => {
             let reason = reason.unwrap_or(StopReason::Interrupted);
             let watchpoints = &terms.points.watchpoints;
-            end_run(reason, plan, watchpoints, terms.features, progress, sent, machine, out)
+            end_run(
+                reason,
+                plan,
+                watchpoints,
+                terms.features,
+                progress,
+                sent,
+                machine,
+                out,
+            )
         }
         Err(error) => Err(error),
     }
@@ -191,10 +206,27 @@ fn make_slices<D: Decider, C: KeptCode, L: Levels, U: DueTicks, W: Out>(
     let watchpoints = &terms.points.watchpoints;
     let mut whole = left / STEPS_AT_ONCE;
     'slices: while whole > 0 {
-        match run_slice(plan, terms.points, STEPS_AT_ONCE, position, progress, machine, out) {
+        match run_slice(
+            plan,
+            terms.points,
+            STEPS_AT_ONCE,
+            position,
+            progress,
+            machine,
+            out,
+        ) {
             Ok(None) => {}
             Ok(Some(reason)) => {
-                return end_run(reason, plan, watchpoints, terms.features, progress, sent, machine, out);
+                return end_run(
+                    reason,
+                    plan,
+                    watchpoints,
+                    terms.features,
+                    progress,
+                    sent,
+                    machine,
+                    out,
+                );
             }
             Err(error) => return Err(error),
         }
@@ -255,5 +287,14 @@ pub fn go_on<D: Decider, C: KeptCode, L: Levels, U: DueTicks, W: Out>(
         );
     }
     let left = steps_left(most_steps(terms.settings, terms.features.is_gdb), run.made);
-    make_slices(&plan, terms, left, position, &mut progress, sent, machine, out)
+    make_slices(
+        &plan,
+        terms,
+        left,
+        position,
+        &mut progress,
+        sent,
+        machine,
+        out,
+    )
 }

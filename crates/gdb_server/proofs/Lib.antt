@@ -1,4 +1,5 @@
 pub mod Bytes
+mod Keeping
 pub mod Putting
-pub mod Writing
 mod Sizes
+pub mod Writing

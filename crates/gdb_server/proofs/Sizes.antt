@@ -56,7 +56,8 @@ registers_stay s digits index (suc left) =
     let w : Written = register_after s digits index in
     let first : Stays s w = register_stays s (written_register index) (word_at digits (written_register index)) in
     later_stays s w.refused w _ first
-    (same_trans s w.state _ first (registers_stay w.state digits (index + 1) left))
+    (same_trans s w.state (registers_from w.state digits (index + 1) left).state first
+    (registers_stay w.state digits (index + 1) left))
 
 byte_stays : (s : State) (a byte : ℕ) → AreOfOneMachine s (with_byte s a byte)
 byte_stays s a byte =
@@ -67,7 +68,8 @@ bytes_stay : (s : State) (a : ℕ) (bytes : List ℕ) → AreOfOneMachine s (wit
 unfolding with_bytes
 bytes_stay s a [] = same_refl s
 bytes_stay s a (byte ∷ bytes) =
-    same_trans s (with_byte s a byte) _ (byte_stays s a byte) (bytes_stay (with_byte s a byte) (a + 1) bytes)
+    same_trans s (with_byte s a byte) (with_bytes (with_byte s a byte) (a + 1) bytes) (byte_stays s a byte)
+    (bytes_stay (with_byte s a byte) (a + 1) bytes)
 
 block_stays : (s : State) (a : ℕ) (bytes : List ℕ) → Stays s (block_written s a bytes)
 block_stays s a bytes =

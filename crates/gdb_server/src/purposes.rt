@@ -190,9 +190,9 @@ pub fn purpose_of(request: Request, tail: &[u8]) -> Purpose
     ensures { result ≡ purpose_of request tail.now }
 {
     match request {
-        Request::Unknown
-        | Request::ReverseStep
-        | Request::ReverseContinue => Purpose::Say(Constant::Empty),
+        Request::Unknown | Request::ReverseStep | Request::ReverseContinue => Purpose::Say(
+            Constant::Empty,
+        ),
         Request::SelectThread | Request::ThreadAlive => Purpose::Say(Constant::Done),
         Request::ResumeActions => Purpose::Say(Constant::ResumeActions),
         Request::Attached => Purpose::Say(Constant::Attached),

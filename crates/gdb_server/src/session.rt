@@ -25,8 +25,8 @@ use crate::reading::read;
 use crate::writes::write;
 use debugger_commands::LineError;
 use gdb::{Points, Run, SentPacket, Terms, Turn, go_on, send_packet};
-use gdb_past::{Past, Position};
 use gdb_packets::{Event, Packet, Request, read_packet};
+use gdb_past::{Past, Position};
 use gdb_texts::{
     Breakpoints, ErrorCode, Features, Monitor, Reply, Resume, Settings, Signal, Watchpoints,
     first_settings, read_features, refusal, reply_text,
@@ -431,7 +431,14 @@ impl<L: Levels, U: DueTicks> Session<L, U> {
             features: self.features,
             limit: self.limit,
         };
-        match go_on(run, &terms, &mut self.position, &mut self.sent, machine, out) {
+        match go_on(
+            run,
+            &terms,
+            &mut self.position,
+            &mut self.sent,
+            machine,
+            out,
+        ) {
             Ok(turn) => {
                 self.keep_turn(turn);
                 Ok(())

@@ -1,4 +1,5 @@
 use Rattle.std.proofs.Common.{◌≡◌, ◌∙◌, rules}
+use Rattle.gdb_server.proofs.Keeping.{moved}
 use Rattle.gdb_server.specs.Conduct.{answered}
 use Rattle.gdb_server.proofs.session.Session.answer.Goals as goal
 
@@ -35,3 +36,8 @@ returns-in-Set-clause-kept g c =
     rw c.in-Set.is
     (rw (c.set-data.ensures.answer, c.set-data.ensures.kept) at c.reply-in-Set.ensures.kept) in
     search rules
+
+pub returns-in-Restart-clause-tells : goal.returns-in-Restart-clause-tells
+returns-in-Restart-clause-tells g c =
+    rw c.in-Restart.is (moved c.args.self.now.past.start c.args.machine.now c.restart.new.machine
+    (g.W.Out.writing c.args.out.now) c.restart.ensures)
