@@ -3,7 +3,7 @@
 watch turns_of_a
 #= watchpoint 1: turns_of_a
 continue
-#=  S 20000000 4 u ok r1
+#=  S 20000000 4 p ok r1
 #= watchpoint 1: turns_of_a
 #= Old value = 0
 #= New value = 1
