@@ -1,5 +1,5 @@
 -- The blocks of memory stay laid out: in each access, and in the memory of a board.
-use Rattle.std.proofs.Common.{◌≡◌, ℕ, ◌+◌, ◌≤◌, Bool, true, ◌&&◌, List, [], ◌∷◌, length, replicate, Option, Some, None}
+use Rattle.std.proofs.Common.{◌≡◌, ℕ, ◌+◌, ◌≤◌, true, List, [], ◌∷◌, length, replicate, Option, Some, None}
 use Rattle.std.proofs.Common.{arith}
 use Rattle.std.proofs.lemmas.Bool.{and_parts, cond_both}
 use Rattle.std.proofs.lemmas.Bool.Decides.{nat_tests}
@@ -16,7 +16,7 @@ use Rattle.platform.specs.Map.{are_apart, is_for_memory, is_in_window, ram_base}
 use Rattle.platform.specs.Memory.{Memory, is_writable_at, bytes_of, overwritten}
 use Rattle.platform.specs.Outcomes.{Outcome}
 use Rattle.platform.specs.Space.{written_to, space_access}
-use Rattle.space.specs.Spaces.{IsSecondInPlace, flash_block, memory_of, ram_block}
+use Rattle.space.specs.Spaces.{IsSecondInPlace, flash_block, ram_block}
 use Rattle.space.proofs.Blocks.{overwritten_laid_out}
 use Rattle.space.proofs.Places.{laid_out}
 

@@ -1,6 +1,6 @@
 -- A word that is written to memory is read back, by its bytes.
 use Rattle.std.proofs.Common.{◌≡◌, ℕ, ◌+◌, ◌-◌, ◌^◌, ◌<◌, ◌≤◌, Bool, true, false, List, [], ◌∷◌, length, get_or}
-use Rattle.std.proofs.Common.{Option, Some, None, is_some, slice_index, refl, sym, ◌∙◌, ap, arith}
+use Rattle.std.proofs.Common.{Option, Some, None, slice_index, refl, sym, ◌∙◌, ap, arith}
 use Rattle.std.proofs.lemmas.Bool.Decides.{nat_tests}
 use Rattle.platform.specs.Memory.{Block, Memory, block_at, block_with, byte_at, bytes_of, holds, is_in_memory}
 use Rattle.platform.specs.Memory.{number_at, number_in, overwritten, with_bytes}
