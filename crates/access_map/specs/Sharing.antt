@@ -1,10 +1,10 @@
 -- Bytes by which one world can influence another: bytes of RAM that one may write and the other may read or execute.
-use Rattle.std.specs.Prelude.{◌≡◌, ℕ, ◌+◌, ◌≤◌, Bool, true, false, not, ◌&&◌, ◌||◌, nat_le, nat_lt, List, [], ◌∷◌}
+use Rattle.std.specs.Prelude.{◌≡◌, ℕ, ◌+◌, ◌≤◌, Bool, true, false, not, ◌&&◌, ◌||◌, nat_le, List, [], ◌∷◌}
 use Rattle.std.specs.List.{list_any}
 use Rattle.access_map.specs.declared.world.Place.TheVariants.{Ram}
 use Rattle.access_map.specs.declared.world.Rights.{Rights}
 use Rattle.access_map.specs.declared.world.World.{World}
-use Rattle.access_map.specs.Worlds.{rights_at, first_of, end_of}
+use Rattle.access_map.specs.Worlds.{rights_at, is_in_place}
 use Rattle.mpu.specs.declared.spans.Span.{Span}
 use Rattle.platform.specs.Boards.{Numbers}
 
@@ -26,7 +26,7 @@ is_channel v w allowed a = carries (rights_at v Ram a) (rights_at w Ram a) && no
 
 -- an address is in RAM
 abbrev pub is_in_ram : Numbers → ℕ → Bool
-is_in_ram board a = nat_le (first_of board Ram) a && nat_lt a (end_of board Ram)
+is_in_ram board a = is_in_place board Ram a
 
 -- world v shares the byte at an address with world w
 unfoldable pub is_shared : Numbers → World → World → List Span → ℕ → Bool

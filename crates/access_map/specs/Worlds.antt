@@ -1,5 +1,5 @@
 -- What unprivileged code may do in a world: with the bytes of a board, while the MPU has one setting (profile).
-use Rattle.std.specs.Prelude.{ℕ, ◌+◌, Bool, true, false, ◌&&◌}
+use Rattle.std.specs.Prelude.{ℕ, ◌+◌, Bool, true, false, ◌&&◌, nat_le, nat_lt, List, [], ◌∷◌}
 use Rattle.access_map.specs.declared.world.Place.{Place}
 use Rattle.access_map.specs.declared.world.Place.TheVariants.{Flash, Ram, Window}
 use Rattle.access_map.specs.declared.world.Rights.{Rights}
@@ -55,3 +55,11 @@ size_of board Window = 0x1000
 -- the first address after a place
 abbrev pub end_of : Numbers → Place → ℕ
 end_of board place = first_of board place + size_of board place
+
+-- an address is in a place
+abbrev pub is_in_place : Numbers → Place → ℕ → Bool
+is_in_place board place a = nat_le (first_of board place) a && nat_lt a (end_of board place)
+
+-- the places of a board, in the order of their addresses
+abbrev pub places : Numbers → List Place
+places board = Flash ∷ Ram ∷ Window ∷ []

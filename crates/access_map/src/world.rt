@@ -2,12 +2,20 @@
 
 ghost use Rattle.std.specs.Bool.{Decides};
 ghost use Rattle.std.specs.Prelude.{◌≡◌, ◌+◌, ◌≤◌, ◌<◌, ◌^◌, ◌/◌};
-ghost use Rattle.access_map.specs.Worlds.{decision_in, end_of, first_of, holds_code, rights_at, rule_at, takes_stores};
+ghost use Rattle.access_map.specs.Worlds.{decision_in, end_of, first_of, holds_code, places, rights_at};
+ghost use Rattle.access_map.specs.Worlds.{rule_at, takes_stores};
 ghost use Rattle.platform.specs.Boards.{numbers_of};
 
 use mpu::{Decider, Decision, Kind, MpuRegs, Rule, Search, Span};
 use platform::board::Layout;
 use platform::map::RAM_BASE;
+
+/// Returns the places of a board, in the order of their addresses.
+pub fn places(_board: &Layout) -> &'static [Place]
+    ensures { result.now ≡ places (numbers_of _board.now) }
+{
+    &[Place::Flash, Place::Ram, Place::Window]
+}
 
 /// Where the device window begins.
 const WINDOW_BASE: u32 = 0x4000_0000;
@@ -105,7 +113,6 @@ impl Place {
         ensures first { result.first ≡ first_of (numbers_of board.now) self }
         ensures last { result.last + 1 ≡ end_of (numbers_of board.now) self }
         ensures some { result.first ≤ result.last }
-        ensures near { result.last / 2 ^ 29 ≡ result.first / 2 ^ 29 }
         ensures below { result.last < 0xE000_0000 }
     {
         let (first, size) = match self {
