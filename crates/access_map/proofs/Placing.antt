@@ -1,6 +1,5 @@
 -- The maps of places, made one after another.
-use Rattle.std.proofs.Common.{◌≡◌, ℕ, ◌+◌, ◌<◌, List, [], ◌∷◌, ◌++◌, length, get_or, take, refl, subst, sym}
-use Rattle.std.proofs.Math.Seq.{take-suc}
+use Rattle.std.proofs.Common.{◌≡◌, List, [], ◌∷◌, ◌++◌}
 use Rattle.access_map.specs.declared.map.PlaceMap.{PlaceMap}
 use Rattle.access_map.specs.declared.world.Place.{Place}
 use Rattle.access_map.specs.declared.world.World.{World}

@@ -1,16 +1,17 @@
 -- Lists of spans: which addresses they have, and how they grow.
 use Rattle.std.proofs.Common.{◌≡◌, ◌↔◌, ℕ, ◌+◌, ◌<◌, ◌≤◌, if◌then◌else◌, Bool, true, false, ◌||◌, List, [], ◌∷◌}
 use Rattle.std.proofs.Common.{◌++◌, length, take, get_or, arith, refl, sym, ap, ◌∙◌, ◌⊎◌}
-use Rattle.std.proofs.Common.{◌&&◌, nat_le, nat_lt, inl, inr}
+use Rattle.std.proofs.Common.{◌&&◌, nat_le, inl, inr}
 use Rattle.std.proofs.lemmas.List.Folds.{list_any-append, list_any_more}
 use Rattle.access_map.specs.Sharing.{covers, has_address, is_in_ram, is_channel, is_shared, AreApart, AreShared}
 use Rattle.access_map.specs.Sharing.{RiseFrom}
 use Rattle.access_map.specs.Stretches.{span_of, with_stretch}
-use Rattle.access_map.specs.Worlds.{first_of, end_of, is_in_place}
-use Rattle.access_map.specs.declared.world.Place.{Place}
-use Rattle.access_map.specs.declared.world.Place.TheVariants.{Ram}
+use Rattle.access_map.specs.Worlds.{end_of, is_in_place}
+use Rattle.access_map.proofs.Spanning.{place_ends, second_ends}
+use Rattle.platform.specs.declared.board.Layout.{Layout}
+use Rattle.access_map.specs.declared.world.Place.TheVariants.{Ram, SecondRam}
 use Rattle.access_map.specs.declared.world.World.{World}
-use Rattle.platform.specs.Boards.{Numbers}
+use Rattle.platform.specs.Boards.{Numbers, numbers_of}
 use Rattle.std.proofs.lemmas.Bool.{cases_lt}
 use Rattle.std.proofs.lemmas.Bool.Decides.{nat_tests}
 use Rattle.access_map.specs.declared.sharing.Stretch.{Stretch}
@@ -206,18 +207,6 @@ gathered_next p first xs x y made begins order holds differ =
 
 -- ---- the shared spans
 
--- an address is in a place where the span of the place has it
-pub in_place_is : (board : Numbers) (place : Place) (x : Span) (a : ℕ) → x.first ≡ first_of board place
-    → x.last + 1 ≡ end_of board place → is_in_place board place a ≡ has_address a x
-in_place_is board place x a begins ends = rw (← begins, ← ends) (lead (nat_le x.first a))
-  where
-    last : nat_lt a (x.last + 1) ≡ nat_le a x.last
-    last = grind (arith, nat_tests)
-
-    lead : (b : Bool) → (b && nat_lt a (x.last + 1)) ≡ (b && nat_le a x.last)
-    lead true = last
-    lead false = refl
-
 -- an address that isn't in RAM isn't shared
 pub shared_outside : (board : Numbers) (v w : World) (allowed : List Span) (a : ℕ) → is_in_ram board a ≡ false
     → is_shared board v w allowed a ≡ false
@@ -230,21 +219,31 @@ pub shared_inside : (board : Numbers) (v w : World) (allowed : List Span) (a : �
 unfolding is_shared
 shared_inside board v w allowed a h = ap (λ (b : Bool). b && is_channel v w allowed a) h
 
--- no place has an address after its end
-place_ends : (board : Numbers) (place : Place) (a : ℕ) → end_of board place ≤ a → is_in_place board place a ≡ false
-place_ends board place a h = lead (nat_le (first_of board place) a)
-    (let e : nat_lt a (end_of board place) ≡ false = grind (arith, nat_tests) in e)
-  where
-    lead : (b : Bool) → nat_lt a (end_of board place) ≡ false → (b && nat_lt a (end_of board place)) ≡ false
-    lead true e = e
-    lead false e = refl
+-- both RAMs end before an address
+pub record EndsBefore (board : Numbers) (a : ℕ) : Type 0 where
+  pub ram : end_of board Ram ≤ a
+  pub second : end_of board SecondRam ≤ a
 
--- RAM ends before an address
-abbrev pub EndsBefore : Numbers → ℕ → Type 0
-EndsBefore board a = end_of board Ram ≤ a
+-- so they do on each board before the system region
+pub ends_before : (board : Layout) (end : ℕ) → end ≡ 0xE000_0000 → EndsBefore (numbers_of board) end
+ends_before board end is = record {
+  ram = let small : board.ram_size ≤ 0x10_0000 = board.ram_is_small in omega arith;
+  second = let ends = second_ends board.second_ram in omega arith;
+}
 
 ram_ends : (board : Numbers) (end a : ℕ) → EndsBefore board end → end ≤ a → is_in_ram board a ≡ false
-ram_ends board end a ends after = place_ends board Ram a (omega arith)
+ram_ends board end a ends after =
+    let first : end_of board Ram ≤ a = let h = ends.ram in omega arith in
+    let other : end_of board SecondRam ≤ a = let h = ends.second in omega arith in
+    ap (λ (b : Bool). b || is_in_place board SecondRam a) (place_ends board Ram a first)
+    ∙ place_ends board SecondRam a other
+
+-- where both RAMs have all of some addresses or none, so has their union
+pub both_alike : (board : Numbers) (a b : ℕ) → is_in_place board Ram a ≡ is_in_place board Ram b
+    → is_in_place board SecondRam a ≡ is_in_place board SecondRam b → is_in_ram board a ≡ is_in_ram board b
+both_alike board a b first second =
+    ap (λ (c : Bool). c || is_in_place board SecondRam a) first
+    ∙ ap (λ (c : Bool). is_in_place board Ram b || c) second
 
 -- the spans are those that are shared, once the last stretch ends beyond RAM
 pub gathered_last : (board : Numbers) (v w : World) (allowed xs : List Span) (x : Stretch)

@@ -6,7 +6,7 @@ use Rattle.access_map.specs.declared.interval.Interval.{Interval}
 use Rattle.access_map.specs.declared.map.AccessMap.{AccessMap}
 use Rattle.access_map.specs.declared.map.PlaceMap.{PlaceMap}
 use Rattle.access_map.specs.declared.world.Place.{Place}
-use Rattle.access_map.specs.declared.world.Place.TheVariants.{Flash, Ram, Window}
+use Rattle.access_map.specs.declared.world.Place.TheVariants.{Flash, Ram, SecondRam, Window}
 use Rattle.access_map.specs.declared.world.Rights.{Rights}
 use Rattle.mpu.specs.declared.spans.Span.{Span}
 use Rattle.platform.specs.Text.{hex_word, line_feed, rule_text}
@@ -14,6 +14,7 @@ use Rattle.platform.specs.Text.{hex_word, line_feed, rule_text}
 abbrev pub place_text : Place → List ℕ
 place_text Flash = codes "flash"
 place_text Ram = codes "ram"
+place_text SecondRam = codes "ram"
 place_text Window = codes "window"
 
 -- the letter of a right, or `-` where it isn't granted

@@ -157,7 +157,7 @@ fn put_place(line: &mut Line, place: Place)
 {
     match place {
         Place::Flash => line.put(b"flash"),
-        Place::Ram => line.put(b"ram"),
+        Place::Ram | Place::SecondRam => line.put(b"ram"),
         Place::Window => line.put(b"window"),
     }
 }

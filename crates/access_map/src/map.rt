@@ -49,7 +49,10 @@ fn intervals_of(
 ) -> Result<Vec<Interval>, AllocError>
     ensures { IfOk result (λ intervals. IsPlaceMap world.now (numbers_of board.now) place intervals.items) }
 {
-    intervals_within(alloc, world, place, place.span(board))
+    match place.span(board) {
+        Some(span) => intervals_within(alloc, world, place, span),
+        None => Ok(Vec::new(alloc)),
+    }
 }
 
 /// Returns the intervals of the addresses of a span, in which addresses neighbour.

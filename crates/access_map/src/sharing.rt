@@ -1,10 +1,11 @@
 //! The bytes that one world shares with another.
 
 ghost use Rattle.std.specs.Bool.{Decides};
-ghost use Rattle.std.specs.Prelude.{◌≡◌, ◌≤◌, ◌<◌, ◌+◌, ◌^◌, ◌/◌, ℕ, IfOk, OnOk, false, MatchBool};
+ghost use Rattle.std.specs.Prelude.{◌≡◌, ◌≤◌, ◌<◌, ℕ, IfOk, OnOk, false, MatchBool};
 ghost use Rattle.access_map.specs.Sharing.{AreApart, AreShared, SharesAny, carries, covers, has_address, is_channel};
-ghost use Rattle.access_map.specs.Sharing.{is_shared};
+ghost use Rattle.access_map.specs.Sharing.{is_in_ram, is_shared};
 ghost use Rattle.access_map.specs.Stretches.{with_stretch};
+ghost use Rattle.access_map.specs.Worlds.{is_in_place};
 ghost use Rattle.platform.specs.Boards.{numbers_of};
 
 use crate::interval::Interval;
@@ -159,15 +160,15 @@ fn covers(spans: &[Span], address: u32) -> bool
         .any(|span| span.first <= address && address <= span.last)
 }
 
-/// Returns whether an address is in RAM.
+/// Returns whether an address is in RAM or in the second RAM.
 fn is_in_ram(board: &Layout, address: u32) -> bool
     ensures { result ≡ is_in_ram (numbers_of board.now) address }
 {
-    let span = Place::Ram.span(board);
-    span.first <= address && address <= span.last
+    Place::Ram.has(board, address) || Place::SecondRam.has(board, address)
 }
 
-/// Returns addresses from this one on, all of them in RAM or none, the last of them `LAST_ADDRESS` or before.
+/// Returns addresses from this one on, all of them in a RAM or none, the last of them `LAST_ADDRESS` or before.
+#[tactic(auto, using(crate::proofs::Spans::both_alike))]
 fn cut_at_ram(board: &Layout, first: u32) -> Span
     requires { first ≤ LAST_ADDRESS }
     ensures first { result.first ≡ first }
@@ -180,7 +181,23 @@ fn cut_at_ram(board: &Layout, first: u32) -> Span
         first,
         last: LAST_ADDRESS,
     };
-    cut_at(Place::Ram.span(board), within)
+    let near = cut_at_place(board, Place::Ram, within);
+    cut_at_place(board, Place::SecondRam, near)
+}
+
+/// Returns the beginning of a span of which a place has all addresses or none.
+fn cut_at_place(board: &Layout, place: Place, within: Span) -> Span
+    requires some { within.first ≤ within.last }
+    ensures first { result.first ≡ within.first }
+    ensures some { result.first ≤ result.last }
+    ensures last { result.last ≤ within.last }
+    ensures alike { (a : ℕ) → result.first ≤ a → a ≤ result.last
+        → is_in_place (numbers_of board.now) place a ≡ is_in_place (numbers_of board.now) place result.first }
+{
+    match place.span(board) {
+        Some(span) => cut_at(span, within),
+        None => within,
+    }
 }
 
 /// Returns the beginning of a span in which each span of a list has all addresses or none.
