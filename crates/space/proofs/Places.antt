@@ -3,7 +3,7 @@ use Rattle.std.proofs.Common.{◌≡◌, ℕ, ◌+◌, ◌-◌, ◌<◌, ◌≤�
 use Rattle.std.proofs.Common.{None, is_some, refl, sym, ◌∙◌, arith}
 use Rattle.std.proofs.lemmas.Bool.Decides.{nat_tests}
 use Rattle.platform.specs.Map.{are_apart, is_for_memory, is_in_window, ram_base}
-use Rattle.platform.specs.Memory.{Block, Memory, block_at, holds, is_in_memory, number_at}
+use Rattle.platform.specs.Memory.{Block, Memory, block_at, holds, is_in_memory, is_writable_at, number_at}
 use Rattle.platform.specs.SystemInvariant.{IsApartFrom, IsLaidOut}
 use Rattle.space.specs.Spaces.{AreInPlace, flash_block, memory_of, ram_block}
 
@@ -27,6 +27,14 @@ in_place (b ∷ m) a n laid there some =
 
 is_there : (m : Memory) (a n v : ℕ) → number_at m a n ≡ Some v → is_in_memory m a n ≡ true
 is_there m a n v e = split (block_at m a n) refl
+  where
+    split : (found : Option Block) → block_at m a n ≡ found → is_in_memory m a n ≡ true
+    split None f = absurd cc (rw f at e)
+    split (Some b) f = rw f refl
+
+-- bytes that a store may change are in memory
+pub writable_is_there : (m : Memory) (a n : ℕ) → is_writable_at m a n ≡ true → is_in_memory m a n ≡ true
+writable_is_there m a n e = split (block_at m a n) refl
   where
     split : (found : Option Block) → block_at m a n ≡ found → is_in_memory m a n ≡ true
     split None f = absurd cc (rw f at e)
