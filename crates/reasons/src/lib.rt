@@ -7,6 +7,7 @@ mod image;
 mod keys;
 mod notes;
 mod problem;
+mod second_ram;
 mod settings;
 mod start;
 mod text;

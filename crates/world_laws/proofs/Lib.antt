@@ -1,2 +1,2 @@
-mod Unseen
+pub mod Unseen
 mod Written
