@@ -1,7 +1,7 @@
 -- What a board is (profile): its numbers, each with its range, and the script of what happens on its interrupts. What
 -- the text of a board means is defined in the crate `board`, over the `toml` crate's meaning of a document.
-use Rattle.std.specs.Prelude.{ℕ, ◌+◌, ◌%◌, ◌<◌, ◌≤◌, Bool, ◌&&◌, ◌||◌, false, true, nat_le, ◌==◌, List, [], ◌∷◌, replicate}
-use Rattle.std.specs.Prelude.{Option, Some, None, option_map}
+use Rattle.std.specs.Prelude.{ℕ, ◌+◌, ◌%◌, ◌<◌, ◌≤◌, Bool, ◌&&◌, ◌||◌, false, true, nat_le, ◌==◌}
+use Rattle.std.specs.Prelude.{List, [], ◌∷◌, replicate, Option, Some, None, option_map}
 use Rattle.platform.specs.declared.board.Layout.{Layout}
 use Rattle.platform.specs.declared.exception.TheConstants.{MOST_INTERRUPTS}
 use Rattle.platform.specs.declared.script.ScriptedEvent.{ScriptedEvent}

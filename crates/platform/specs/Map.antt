@@ -10,8 +10,8 @@ ram_base = 0x2000_0000
 abbrev pub are_apart : ℕ → ℕ → ℕ → ℕ → Bool
 are_apart base bytes other more = nat_le (base + bytes) other || nat_le (other + more) base
 
--- whether a block of memory may be here: where the default memory map has memory, which is below 0x40000000 (the regions
--- Code and SRAM) and from 0x60000000 to 0x9FFFFFFF (the two regions RAM)
+-- whether a block of memory may be here: where the default memory map has memory, which is below 0x40000000 (the
+-- regions Code and SRAM) and from 0x60000000 to 0x9FFFFFFF (the two regions RAM)
 abbrev pub is_for_memory : ℕ → ℕ → Bool
 is_for_memory base bytes =
     nat_le (base + bytes) 0x4000_0000 || (nat_le 0x6000_0000 base && nat_le (base + bytes) 0xA000_0000)

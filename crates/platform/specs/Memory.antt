@@ -1,5 +1,5 @@
--- Memory, a partial map from addresses to bytes: a list of blocks. Flash is the first one, then RAM, then the second RAM
--- where the board has one. The board says where flash and the second RAM begin, and how large each block is.
+-- Memory, a partial map from addresses to bytes: a list of blocks. Flash is the first one, then RAM, then the second
+-- RAM where the board has one. The board says where flash and the second RAM begin, and how large each block is.
 use Rattle.std.specs.Prelude.{◌≡◌, ℕ, zero, suc, ◌+◌, ◌-◌, ◌*◌, ◌/◌, ◌%◌, Bool, true, false, ◌&&◌, nat_le}
 use Rattle.std.specs.Prelude.{if◌then◌else◌, List, [], ◌∷◌, ◌++◌, length, take, drop, slice_index, Option, Some, None}
 use Rattle.std.specs.Prelude.{is_some, option_map, unwrap_or}

@@ -1,6 +1,6 @@
 -- Where the blocks of memory are.
-use Rattle.std.proofs.Common.{◌≡◌, ℕ, ◌+◌, ◌-◌, ◌<◌, ◌≤◌, Bool, true, false, ◌||◌, List, [], ◌∷◌, drop, length, Option, Some}
-use Rattle.std.proofs.Common.{None, is_some, refl, sym, ◌∙◌, arith}
+use Rattle.std.proofs.Common.{◌≡◌, ℕ, ◌+◌, ◌-◌, ◌<◌, ◌≤◌, Bool, true, false, ◌||◌, List, [], ◌∷◌, drop, length}
+use Rattle.std.proofs.Common.{Option, Some, None, is_some, refl, sym, ◌∙◌, arith}
 use Rattle.std.proofs.lemmas.Bool.Decides.{nat_tests}
 use Rattle.platform.specs.Map.{are_apart, is_for_memory, is_in_window, ram_base}
 use Rattle.platform.specs.Memory.{Block, Memory, block_at, holds, is_in_memory, is_writable_at, number_at}

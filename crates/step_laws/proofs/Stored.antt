@@ -2,8 +2,8 @@
 use Rattle.std.proofs.Common.{◌≡◌, ℕ, ◌+◌, ◌-◌, ◌^◌, ◌<◌, ◌≤◌, Bool, true, false, List, [], ◌∷◌, length, get_or}
 use Rattle.std.proofs.Common.{Option, Some, None, is_some, slice_index, refl, sym, ◌∙◌, ap, arith}
 use Rattle.std.proofs.lemmas.Bool.Decides.{nat_tests}
-use Rattle.platform.specs.Memory.{Block, Memory, block_at, block_with, byte_at, bytes_of, holds, is_in_memory, number_at}
-use Rattle.platform.specs.Memory.{number_in, overwritten, with_bytes}
+use Rattle.platform.specs.Memory.{Block, Memory, block_at, block_with, byte_at, bytes_of, holds, is_in_memory}
+use Rattle.platform.specs.Memory.{number_at, number_in, overwritten, with_bytes}
 use Rattle.platform.specs.SystemInvariant.{IsApartFrom, IsLaidOut}
 use Rattle.space.proofs.Bytes.{length-with_bytes, written_in}
 use Rattle.space.proofs.Restoring.{not_here, over_here, over_later}

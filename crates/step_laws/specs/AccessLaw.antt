@@ -66,7 +66,7 @@ covers what address = is_access_with (λ a. writes a address) what
 abbrev pub are_covering : List Event → ℕ → Bool
 are_covering events address = list_any (λ event. covers event.what address) events
 
--- the blocks of memory stay where they are, and their bytes change only where a store or a push of these events that was
--- carried out covers them
+-- the blocks of memory stay where they are, and their bytes change only where a store or a push of these events that
+-- was carried out covers them
 abbrev pub OnlyCovered : Memory → Memory → List Event → Type 0
 OnlyCovered old new events = Agree (λ address. not (are_covering events address)) old new
