@@ -1,2 +1,2 @@
-pub mod Unseen
+mod Unseen
 mod Written

@@ -1,6 +1,6 @@
 -- Bytes that a world apart may write are not seen, so the laws of tasks are laws of worlds.
 use Rattle.std.proofs.Common.{◌≡◌, ◌∙◌, ◌<◌, ◌≤◌, ◌+◌, ◌⊎◌, ℕ, Bool, true, false, not, ◌&&◌, ◌||◌, inl, inr, []}
-use Rattle.std.proofs.Common.{◌∷◌, Option, Some, None, ap, arith, length, refl, replicate, slice_index, sym}
+use Rattle.std.proofs.Common.{◌∷◌, Option, Some, None, ap, arith, length, refl, replicate, slice_index, subst, sym}
 use Rattle.std.proofs.lemmas.Bool.{cases_lt}
 use Rattle.std.proofs.lemmas.Bool.Decides.{nat_tests}
 use Rattle.std.proofs.lemmas.List.{get_or_past, length-replicate}
@@ -93,7 +93,7 @@ in_place : (board : Numbers) (place : Place) (k : ℕ) → k < size_of board pla
     → is_in_place board place (first_of board place + k) ≡ true
 in_place board place k below = grind (arith, nat_tests, below)
 
-in_first : (board : Numbers) (k : ℕ) → k < length (replicate board.ram_size 0) → is_in_ram board (ram_base + k) ≡ true
+in_first : (board : Numbers) (k : ℕ) → k < length {A = ℕ} (replicate board.ram_size 0) → is_in_ram board (ram_base + k) ≡ true
 in_first board k below =
     let inside : k < board.ram_size = rw length-replicate at below in
     ap (λ (b : Bool). b || is_in_place board SecondRam (ram_base + k)) (in_place board Ram k inside)
@@ -103,13 +103,13 @@ or_true true = refl
 or_true false = refl
 
 in_second : (board : Numbers) (second : RamSpan) (k : ℕ) → board.second_ram ≡ Some second
-    → k < length (replicate second.size 0) → is_in_ram board (second.base + k) ≡ true
+    → k < length {A = ℕ} (replicate second.size 0) → is_in_ram board (second.base + k) ≡ true
 in_second board second k is below =
     let inside : k < second.size = rw length-replicate at below in
     let base : first_of board SecondRam ≡ second.base = rw is refl in
     let size : size_of board SecondRam ≡ second.size = rw is refl in
     let here : is_in_place board SecondRam (second.base + k) ≡ true =
-    rw base at (in_place board SecondRam k (rw size inside)) in
+    subst (λ (b : ℕ). is_in_place board SecondRam (b + k) ≡ true) base (in_place board SecondRam k (rw size inside)) in
     ap (λ (b : Bool). is_in_place board Ram (second.base + k) || b) here
     ∙ or_true (is_in_place board Ram (second.base + k))
 

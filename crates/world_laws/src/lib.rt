@@ -20,7 +20,6 @@ pub fn worlds_write_what_they_may()
 }
 
 /// The memory before a start has the RAMs of its board: each byte that a store may change is in one of them.
-#[tactic(auto, using(crate::proofs::Unseen::blank_has_rams))]
 pub fn boards_have_their_rams()
     ensures { (board : Numbers) → HasRamsOf board (blank board) }
 {}
