@@ -15,4 +15,4 @@ mod text;
 pub use image::write_image_reason;
 pub use notes::write_notes;
 pub use settings::write_board_reason;
-pub use start::write_start_reason;
+pub use start::{write_second_ram, write_start_reason};
