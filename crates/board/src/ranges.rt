@@ -22,7 +22,7 @@ pub const MOST_BYTES: u64 = 0x10_0000;
 pub const MOST_SECOND_BYTES: u64 = 0x100_0000;
 
 /// The last address of a block.
-const LAST_BLOCK: u64 = 0xFFFF_FC00;
+pub const LAST_BLOCK: u64 = 0xFFFF_FC00;
 
 /// The least number of bits that a priority has.
 pub const LEAST_PRIORITY_BITS: u64 = 3;
