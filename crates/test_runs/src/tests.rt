@@ -24,7 +24,6 @@ mod run;
 mod scripts;
 mod second_ram;
 mod segments;
-mod second_ram;
 mod selections;
 mod session_changes;
 mod session_commands;

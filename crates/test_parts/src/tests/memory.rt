@@ -69,16 +69,12 @@ impl Rows for Places {
         let place = part(row, 0);
         let address = number_at(place, 1)?;
         let length = usize::from(byte_at(place, 2)?);
-        let is_there = if is_first(word(place, 0), "flash", "ram")? {
-            self.space.is_in_flash(address, length)
-        } else {
-            self.space.is_in_ram(address, length)
-        };
+        let is_there = self.space.is_in_memory(address, length);
         Some(is_first(part(row, 1), "in", "out") == Some(is_there))
     }
 }
 
-/// Flash or RAM, an address and how many bytes; whether they lie in it; what the row is.
+/// Flash or RAM, an address and how many bytes; whether they lie wholly in memory; what the row is.
 const PLACES: &str = "\
 flash 00000FFE 2 | in | the last halfword of flash
 flash 00000FFF 2 | out | half after flash
