@@ -101,7 +101,7 @@ impl Rows for Bytes {
             let byte = self.space.byte(place);
             return Some(byte == byte_at(wanted, 0) && byte.is_none() == (wanted == "none"));
         }
-        Some(place < 256 && number_at(wanted, 0) == Some(self.space.vector(place)))
+        Some(place < 256 && number_at(wanted, 0) == Some(self.space.vector(0, place)))
     }
 }
 
@@ -116,7 +116,7 @@ byte 00001000 | none | after flash";
 #[test]
 fn bytes_that_a_debugger_puts(rt: HostRuntime) -> Result<(), Fail> {
     let mut space = blank(rt.alloc()).ok_or("memory")?;
-    assert!(rt; space.is_in_flash(4, 4));
+    assert!(rt; space.is_in_memory(4, 4));
     space.overwrite(4, &[1, 2, 3, 4]);
     check(BYTES, &mut Bytes { space })
 }

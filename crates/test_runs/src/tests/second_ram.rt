@@ -38,7 +38,7 @@ trace stop steps
 after byte 10001FFE 44
 after byte 10001FFF 33
 after byte 10002000 none
-after reg SP 10000FE0
+after reg msp 10000FE0
 
 a store in front of it is refused
 second ram
@@ -86,7 +86,7 @@ trace 3 U 10001FF4 4 p ok off
 trace 3 U 10001FF8 4 p ok off
 trace 3 U 10001FFC 4 p ok off
 trace stop steps
-after reg SP 10002000
+after reg msp 10002000
 
 a frame below it isn't pushed
 second ram
@@ -123,9 +123,9 @@ second ram
 vectors 201
 special 8 20001000
 word 10001FFC 4433AA11
-refused NoSuchPlace word 10002000 1
-refused NoSuchPlace word 0FFFFFFC 1
-refused NotAligned word 10000002 1
+refused no-such-place word 10002000 1
+refused no-such-place word 0FFFFFFC 1
+refused not-aligned word 10000002 1
 word 10000000 E7FE7802
 reg 0 10001FFD
 reg F 10000000
@@ -146,7 +146,7 @@ after byte 10002000 none
 a board without one has no byte there
 vectors 201
 special 8 20001000
-refused NoSuchPlace word 10000000 1
+refused no-such-place word 10000000 1
 word 100 BF006001
 reg 0 10000000
 reg F 100
