@@ -19,8 +19,7 @@ pub sizes_alike : (m k : Memory) → extents m ≡ extents k → HaveSameSizes m
 sizes_alike [] [] e = tt
 sizes_alike (b ∷ m) (c ∷ k) e =
     let none : Extent = record { base = 0; size = 0; is_writable = false } in
-    let first = ap (λ (xs : List Extent). slice_index_or xs 0 none) e in
-    (
+    let first = ap (λ (xs : List Extent). slice_index_or xs 0 none) e in (
       record {
         base = sym (ap (λ (x : Extent). x.base) first);
         size = sym (ap (λ (x : Extent). x.size) first);

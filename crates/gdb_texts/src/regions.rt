@@ -60,7 +60,12 @@ pub fn put_region_info<const ROOM: usize>(
             return put_gap(page, from, stretch.base);
         }
         if address < stretch.end {
-            return put_region(page, stretch.base, stretch.size(), stretch.kind.permissions());
+            return put_region(
+                page,
+                stretch.base,
+                stretch.size(),
+                stretch.kind.permissions(),
+            );
         }
         from = stretch.end;
     }

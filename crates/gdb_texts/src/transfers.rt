@@ -204,7 +204,12 @@ fn put_ram<const ROOM: usize>(page: &mut ArrayVec<u8, ROOM>, block: Stretch)
     ensures text { page.new.items ≡ page.old.items ++ ram_text block }
     ensures len { array_vec_len page.new ≤ array_vec_len page.old + 64 }
 {
-    put_block(page, b"<memory type=\"ram\" start=\"0x", block.base, block.size());
+    put_block(
+        page,
+        b"<memory type=\"ram\" start=\"0x",
+        block.base,
+        block.size(),
+    );
 }
 
 /// Appends the map of the memory of a board.

@@ -49,38 +49,38 @@ unwritten board v w a there sees none = not_carried (is_in_ram board a) (may_wri
 
 -- a block whose bytes of RAM the world sees isn't one that a world apart from it may write
 module _ (board : Numbers) (v w : World) (s : State) (apart : AreApart board v w []) (here : IsSameSetting w (world_of s))
-    where
-  seen_kept : (a : ℕ) → is_in_ram board a ≡ true → is_seen s a ≡ true → not (may_write v a) ≡ true
-  seen_kept a there sees = unwritten board v w a there (seen_is w s a here ∙ sees) (apart a).0
+  where
+    seen_kept : (a : ℕ) → is_in_ram board a ≡ true → is_seen s a ≡ true → not (may_write v a) ≡ true
+    seen_kept a there sees = unwritten board v w a there (seen_is w s a here ∙ sees) (apart a).0
 
-  same_block : (b c : Block) → (b.is_writable ≡ true → (k : ℕ) → k < length b.bytes → is_in_ram board (b.base + k) ≡ true)
-      → BlocksAgree (λ a. not (b.is_writable && may_write v a)) b c → BlocksAgree (is_seen s) b c
-  same_block b c rams agree = record {
-    base = agree.base;
-    size = agree.size;
-    is_writable = agree.is_writable;
-    bytes = λ k sees. split k sees (cases_lt k (length b.bytes));
-  }
-    where
-      kept : (k : ℕ) → is_seen s (b.base + k) ≡ true → k < length b.bytes → (writes : Bool) → b.is_writable ≡ writes
-          → not (b.is_writable && may_write v (b.base + k)) ≡ true
-      kept k sees below true is =
-          ap (λ (x : Bool). not (x && may_write v (b.base + k))) is ∙ seen_kept (b.base + k) (rams is k below) sees
-      kept k sees below false is = ap (λ (x : Bool). not (x && may_write v (b.base + k))) is
+    same_block : (b c : Block) → (b.is_writable ≡ true → (k : ℕ) → k < length b.bytes → is_in_ram board (b.base + k) ≡ true)
+        → BlocksAgree (λ a. not (b.is_writable && may_write v a)) b c → BlocksAgree (is_seen s) b c
+    same_block b c rams agree = record {
+      base = agree.base;
+      size = agree.size;
+      is_writable = agree.is_writable;
+      bytes = λ k sees. split k sees (cases_lt k (length b.bytes));
+    }
+      where
+        kept : (k : ℕ) → is_seen s (b.base + k) ≡ true → k < length b.bytes → (writes : Bool) → b.is_writable ≡ writes
+            → not (b.is_writable && may_write v (b.base + k)) ≡ true
+        kept k sees below true is =
+            ap (λ (x : Bool). not (x && may_write v (b.base + k))) is ∙ seen_kept (b.base + k) (rams is k below) sees
+        kept k sees below false is = ap (λ (x : Bool). not (x && may_write v (b.base + k))) is
 
-      split : (k : ℕ) → is_seen s (b.base + k) ≡ true → ((k < length b.bytes) ⊎ (length b.bytes ≤ k))
-          → slice_index c.bytes k ≡ slice_index b.bytes k
-      split k sees (inl below) = agree.bytes k (kept k sees below b.is_writable refl)
-      split k sees (inr beyond) =
-          let there : length c.bytes ≤ k = rw agree.size beyond in
-          get_or_past c.bytes k 0 there ∙ sym (get_or_past b.bytes k 0 beyond)
+        split : (k : ℕ) → is_seen s (b.base + k) ≡ true → ((k < length b.bytes) ⊎ (length b.bytes ≤ k))
+            → slice_index c.bytes k ≡ slice_index b.bytes k
+        split k sees (inl below) = agree.bytes k (kept k sees below b.is_writable refl)
+        split k sees (inr beyond) =
+            let there : length c.bytes ≤ k = rw agree.size beyond in
+            get_or_past c.bytes k 0 there ∙ sym (get_or_past b.bytes k 0 beyond)
 
-  same_memory : (m n : Memory) → HasRamsOf board m → AgreeButRams v m n → Agree (is_seen s) m n
-  same_memory [] [] rams agree = tt
-  same_memory [] (c ∷ n) rams agree = absurd agree
-  same_memory (b ∷ m) [] rams agree = absurd agree
-  same_memory (b ∷ m) (c ∷ n) rams agree =
-      (same_block b c rams.0 agree.0, same_memory m n rams.1 agree.1)
+    same_memory : (m n : Memory) → HasRamsOf board m → AgreeButRams v m n → Agree (is_seen s) m n
+    same_memory [] [] rams agree = tt
+    same_memory [] (c ∷ n) rams agree = absurd agree
+    same_memory (b ∷ m) [] rams agree = absurd agree
+    same_memory (b ∷ m) (c ∷ n) rams agree =
+        (same_block b c rams.0 agree.0, same_memory m n rams.1 agree.1)
 
 pub unseen_law : (board : Numbers) (v w : World) (s t : State) → UnseenLaw board v w s t
 unseen_law board v w s t here h = record {

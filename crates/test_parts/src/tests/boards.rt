@@ -715,7 +715,9 @@ fn the_second_ram_of_a_board(rt: HostRuntime) {
     let second = read(rt.alloc(), SECOND_RAM)
         .ok()
         .and_then(|board| board.layout.second_ram);
-    assert!(rt; matches!(second, Some(second) if second.base == 0x6000_0000 && second.size == 0x100_0000));
+    assert!(rt;
+        matches!(second, Some(second) if second.base == 0x6000_0000 && second.size == 0x100_0000)
+    );
     let none = read(rt.alloc(), WORKED)
         .ok()
         .and_then(|board| board.layout.second_ram);
