@@ -4,7 +4,7 @@
 
 ghost use Rattle.std.specs.Prelude.{◌≡◌, ◌↔◌, ℕ, ◌+◌, ◌^◌, ◌<◌, ◌≤◌, true, false, IfOk, IsTrue};
 ghost use Rattle.clock.specs.DueTicks.{IsRight, IsQuiet};
-ghost use Rattle.platform.specs.Time.{time_after_tick, counted, tick_pends, script_due};
+ghost use Rattle.platform.specs.Time.{time_after_tick, counted, events_at, tick_pends, script_due};
 ghost use Rattle.platform.specs.Time.{passed, is_high, start_time, csr, after_csr_read, with_csr};
 ghost use Rattle.platform.specs.Time.{pends, with_rvr, with_cvr_cleared, with_signal, IsSetOf};
 
@@ -139,15 +139,23 @@ impl<U: DueTicks> Clock<U> {
         }
     }
 
+    /// Returns the events that apply in the next tick.
+    pub fn events_next(&self) -> &[ScriptedEvent]
+        requires { self.now.time.ticks < 2 ^ 48 }
+        ensures { result.now ≡ events_at (self.now.time.ticks + 1) self.now.time.script }
+    {
+        let script = self.script.events();
+        let count = script::due_count(self.ticks + 1, script);
+        &script[..count]
+    }
+
     /// Returns what the next tick pends, by the script and SysTick.
     #[tactic(auto, unfolding(platform::specs::Time::tick_pends))]
     fn due_next(&self) -> Due
         requires { self.now.time.ticks < 2 ^ 48 }
         ensures { IsSetOf result (tick_pends self.now.time) }
     {
-        let script = self.script.events();
-        let count = script::due_count(self.ticks + 1, script);
-        sets::due_of(&script[..count], &self.systick())
+        sets::due_of(self.events_next(), &self.systick())
     }
 
     /// Makes the next tick if the due tick that is kept says that nothing is due at it. Returns whether it did.

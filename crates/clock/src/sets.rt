@@ -32,7 +32,7 @@ fn put_signal(due: &mut Due, signal: Signal)
 {
     match signal {
         Signal::Rise(interrupt) | Signal::Pulse(interrupt) => put(due, exception_of(interrupt)),
-        Signal::Fall(_) => {}
+        Signal::Fall(_) | Signal::Poke(_) => {}
         Signal::Nmi => put(due, NMI as u8),
     }
 }
