@@ -266,7 +266,7 @@ impl<D: Decider, C: KeptCode, L: Levels, U: DueTicks> Machine<D, C, L, U> {
         self.core.place(value)
     }
 
-    /// Puts a value into a register or a word, as `place` does, but takes R0 to R12, LR, and words of flash and RAM in
+    /// Puts a value into a register or a word, as `place` does, but takes R0 to R12, LR, and words of memory in
     /// Handler mode and in an exception entry too.
     pub fn alter(&mut self, value: Place) -> Result<(), PlaceError>
         ensures { Places (altered self.old.state value) self.old self.new result }
@@ -346,7 +346,7 @@ impl<D: Decider, C: KeptCode, L: Levels, U: DueTicks> Machine<D, C, L, U> {
         self.core.regs()
     }
 
-    /// Returns the byte of flash or RAM at an address, if there is one.
+    /// Returns the byte of memory at an address, if there is one.
     pub fn byte(&self, address: u32) -> Option<u8>
         ensures { result ≡ byte_at self.now.state.bus.memory address }
     {

@@ -78,7 +78,7 @@ impl<D: Decider, C: KeptCode, L: Levels, U: DueTicks> Processor<D, C, L, U> {
         }
     }
 
-    /// Returns the byte of flash or RAM at an address, if there is one.
+    /// Returns the byte of memory at an address, if there is one.
     pub fn byte(&self, address: u32) -> Option<u8>
         ensures { result ≡ byte_at self.now.bus.memory address }
     {
