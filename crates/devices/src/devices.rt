@@ -1,11 +1,12 @@
 //! The words of a board's devices (profile).
 
-ghost use Rattle.std.specs.Prelude.{◌≡◌, ◌<◌, ◌≤◌, ◌^◌, length, option_map, true, IfOk, IfSome};
+ghost use Rattle.std.specs.Prelude.{◌≡◌, ◌<◌, ◌≤◌, ◌^◌, ◌==◌, length, option_map, not, true, IfOk, IfSome};
 ghost use Rattle.instruction_set.specs.Sizes.{bytes_in};
 ghost use Rattle.devices.specs.Table.{has};
 ghost use Rattle.devices.specs.Copies.{HaveSameDevices};
 ghost use Rattle.devices.specs.Devices.{after_store_at, at_start, content_at, fresh, loaded, poked, poked_by};
 ghost use Rattle.devices.specs.Devices.{position_from, read_at, sent_at, value_at, with_content, word_at};
+ghost use Rattle.devices.specs.Laws.{have};
 ghost use Rattle.devices.specs.Pokes.{poked_all};
 
 use crate::device::{Device, MOST_DEVICES, Poke};
@@ -98,6 +99,26 @@ impl Devices {
         ensures few { length result.now ≤ 256 }
     {
         self.devices.as_slice()
+    }
+
+    /// Returns whether there is a device.
+    #[inline]
+    pub fn are_any(&self) -> bool
+        ensures { result ≡ not (length self.now == 0) }
+    {
+        !self.devices.is_empty()
+    }
+
+    /// Returns whether a device has an address.
+    pub fn have(&self, address: u32) -> bool
+        ensures { result ≡ have self.now address }
+    {
+        'devices: for device in self.devices.as_slice() {
+            if device.device.has(address) {
+                return true;
+            }
+        }
+        false
     }
 
     /// Returns the device that has an address, with what is stored in the word there.
