@@ -1,17 +1,19 @@
 -- What the pokes of a tick leave in a word, and the devices that lines are on.
 use Rattle.std.proofs.Common.{◌≡◌, ◌≢◌, ℕ, ◌+◌, ◌*◌, ◌/◌, ◌%◌, ◌^◌, ◌<◌, ◌≤◌, Bool, true, false}
 use Rattle.std.proofs.Common.{List, [], ◌∷◌, Option, Some, None}
-use Rattle.std.proofs.Common.{length, refl, ap, arith, sym, ◌∙◌, ◌==◌, if◌then◌else◌}
+use Rattle.std.proofs.Common.{length, drop, ◌++◌, slice_set, slice_index_or, refl, ap, arith, subst, sym, ◌∙◌, ◌==◌}
+use Rattle.std.proofs.Common.{if◌then◌else◌}
 use Rattle.std.proofs.lemmas.Bool.Decides.{nat_tests}
 use Rattle.std.proofs.lemmas.List.{get_or-set_same, get_or-set_other, length-set}
 use Rattle.devices.specs.declared.device.Device.{Device}
 use Rattle.devices.specs.declared.device.Poke.{Poke}
-use Rattle.devices.specs.Devices.{DeviceWords, Word, at_start, fresh, poked, with_content, word_at}
+use Rattle.devices.specs.Devices.{DeviceWords, Word, at_start, fresh, poked, position_from, with_content, word_at}
 use Rattle.devices.specs.Laws.{AreWhole, LastPokeDecides, given}
 use Rattle.devices.specs.Lines.{levels_by}
 use Rattle.devices.specs.Pokes.{last_poke, poked_all}
 use Rattle.devices.specs.Table.{has, place}
 use Rattle.devices.specs.Words.{stored_for}
+use Rattle.devices.proofs.Positions.{first_pokes}
 use Rattle.std.proofs.lemmas.List.{length-replicate}
 
 begins_below : (t : Device) (a : ℕ) → has t a ≡ true → t.base ≤ a
@@ -159,13 +161,35 @@ foreseen ds ticks (p ∷ ps) a whole =
     ∙ given_then ticks ps a None (if same_word p.address a then Some p.value else None) (word_at ds a)
 
 -- at the start devices are whole
-pub fresh_whole : (table : List Device) → AreWhole (fresh table)
+fresh_whole : (table : List Device) → AreWhole (fresh table)
 fresh_whole [] = tt
 fresh_whole (d ∷ ds) = (
   (let size : d.size % 4 ≡ 0 = d.size_is_whole in
   let count : length (at_start d).words ≡ d.size / 4 = length-replicate (d.size / 4) d.start in
   omega arith),
   fresh_whole ds,
+)
+
+-- devices that were made so far
+pub made_whole : (made : List DeviceWords) (n : ℕ) (table : List Device) →
+    made ++ fresh (drop n table) ≡ fresh table → AreWhole made
+made_whole made n table e =
+    first_whole made (fresh (drop n table)) (subst AreWhole (sym e) (fresh_whole table))
+  where
+    first_whole : (ds es : List DeviceWords) → AreWhole (ds ++ es) → AreWhole ds
+    first_whole [] es whole = tt
+    first_whole (d ∷ ds) es whole = (whole.0, first_whole ds es whole.1)
+
+-- devices that are as many as there may be, and whole
+abbrev Are256Whole : List DeviceWords → Type 0
+Are256Whole ds = (length ds ≤ 256) × AreWhole ds
+
+-- one device took a content
+pub put_fits : (ds : List DeviceWords) (ticks a v j : ℕ) (d x : DeviceWords) → position_from 0 ds a ≡ Some j →
+    x ≡ with_content (slice_index_or ds j d) ticks a v → Are256Whole ds → Are256Whole (slice_set ds j x)
+put_fits ds ticks a v j d x first e fits = (
+  (let same = length-set ds j x in rw same fits.0),
+  rw (e, first_pokes ds ticks a v j d first) (poke_whole ds ticks a v fits.1),
 )
 
 -- pokes leave the devices, on which the lines are
@@ -184,5 +208,3 @@ pub levels_stay : (f : ℕ → Option ℕ) (ds : List DeviceWords) (ticks : ℕ)
 levels_stay f ds ticks [] = refl
 levels_stay f ds ticks (p ∷ ps) =
     levels_stay f (poked ds ticks p.address p.value) ticks ps ∙ levels_poked f ds ticks p.address p.value
-
-pub ruleset foreseen_lemmas = (foreseen, levels_stay)

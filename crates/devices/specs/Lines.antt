@@ -3,16 +3,21 @@
 use Rattle.std.specs.Prelude.{ℕ, Bool, not, ◌==◌, bit_and, List, [], ◌∷◌, ◌++◌, Option, Some, None, unwrap_or}
 use Rattle.devices.specs.declared.device.Device.{Device}
 use Rattle.devices.specs.declared.device.Line.{Line}
-use Rattle.devices.specs.declared.lines.Level.{Level}
+use Rattle.devices.specs.declared.level.Level.{Level}
 use Rattle.devices.specs.Devices.{DeviceWords, value_at}
 
 -- whether a device's line is high, by the values of words
 abbrev pub is_high : (ℕ → Option ℕ) → Device → Line → Bool
 is_high value d line = not (bit_and (unwrap_or (value d.base) 0) (unwrap_or (value line.enable) 0) == 0)
 
+-- the level of a device's line
+unfoldable pub level_on : (ℕ → Option ℕ) → Device → Line → Level
+level_on value d line =
+    record { number = line.number; is_high = is_high value d line; number_is_small = line.number_is_small }
+
 abbrev pub level_of : (ℕ → Option ℕ) → Device → Option Line → List Level
 level_of value d None = []
-level_of value d (Some line) = record { number = line.number; is_high = is_high value d line } ∷ []
+level_of value d (Some line) = level_on value d line ∷ []
 
 -- the levels of the lines of these devices, by the values of words
 abbrev pub levels_by : (ℕ → Option ℕ) → List DeviceWords → List Level
