@@ -4,7 +4,7 @@ use Rattle.std.specs.Prelude.{ℕ, zero, suc, ◌+◌, ◌-◌, ◌*◌, ◌/◌
 use Rattle.std.specs.Prelude.{if◌then◌else◌, List, [], ◌∷◌, ◌++◌, Option, Some, None, unwrap_or, Result, Ok, Err}
 use Rattle.devices.specs.declared.device.Device.{Device}
 use Rattle.devices.specs.declared.device.Poke.{Poke}
-use Rattle.devices.specs.declared.lines.Level.{Level}
+use Rattle.devices.specs.declared.level.Level.{Level}
 use Rattle.devices.specs.Devices.{DeviceWords, after_store_at, fresh as fresh_devices, loaded, read_at, sent_at}
 use Rattle.devices.specs.Lines.{levels}
 use Rattle.devices.specs.Pokes.{poked_all}
