@@ -4,6 +4,7 @@ pub mod Boards
 pub mod Changes
 pub mod Systems
 pub mod Due
+pub mod Adding
 pub mod BelowZero
 pub mod Unmasked
 pub mod Waiting
