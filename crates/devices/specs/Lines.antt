@@ -1,10 +1,20 @@
 -- The lines of devices (profile): one is high while a bit is 1 both in its device's first word and in the word that
 -- enables it.
-use Rattle.std.specs.Prelude.{ℕ, Bool, not, ◌==◌, bit_and, List, [], ◌∷◌, ◌++◌, Option, Some, None, unwrap_or}
+use Rattle.std.specs.Prelude.{ℕ, Bool, false, not, ◌||◌, ◌==◌, bit_and, List, [], ◌∷◌, ◌++◌, Option, Some, None, unwrap_or}
 use Rattle.devices.specs.declared.device.Device.{Device}
 use Rattle.devices.specs.declared.device.Line.{Line}
 use Rattle.devices.specs.declared.level.Level.{Level}
 use Rattle.devices.specs.Devices.{DeviceWords, value_at}
+
+-- whether a line is that of an interrupt
+abbrev pub is_line_of : Option Line → ℕ → Bool
+is_line_of None interrupt = false
+is_line_of (Some line) interrupt = line.number == interrupt
+
+-- whether a device drives an interrupt
+abbrev pub drives : List DeviceWords → ℕ → Bool
+drives [] interrupt = false
+drives (d ∷ ds) interrupt = is_line_of d.device.line interrupt || drives ds interrupt
 
 -- whether a device's line is high, by the values of words
 abbrev pub is_high : (ℕ → Option ℕ) → Device → Line → Bool

@@ -2,7 +2,7 @@
 
 ghost use Rattle.std.specs.Prelude.{◌≡◌, ◌∷◌, ◌≤◌, length};
 ghost use Rattle.devices.specs.Devices.{value_at};
-ghost use Rattle.devices.specs.Lines.{level_of, level_on, levels, levels_by};
+ghost use Rattle.devices.specs.Lines.{drives, is_line_of, level_of, level_on, levels, levels_by};
 ghost use Rattle.devices.specs.Pokes.{poked_all};
 
 use crate::device::{Device, Line, MOST_DEVICES};
@@ -12,6 +12,18 @@ use crate::pokes::{NoPokes, Pokes};
 use arrayvec::ArrayVec;
 
 impl Devices {
+    /// Returns whether a device drives an interrupt.
+    pub fn drive(&self, interrupt: u8) -> bool
+        ensures { result ≡ drives self.now interrupt }
+    {
+        'devices: for device in self.devices() {
+            if is_line_of(device.device.line, interrupt) {
+                return true;
+            }
+        }
+        false
+    }
+
     /// Returns the levels of all lines after this many ticks, in the order of the board.
     pub fn levels(&self, ticks: u64) -> ArrayVec<Level, MOST_DEVICES>
         ensures { result.items ≡ levels self.now ticks }
@@ -44,5 +56,15 @@ impl Devices {
             number: line.number,
             is_high: first & enabled != 0,
         }
+    }
+}
+
+/// Returns whether a line is that of an interrupt.
+fn is_line_of(line: Option<Line>, interrupt: u8) -> bool
+    ensures { result ≡ is_line_of line interrupt }
+{
+    match line {
+        Some(line) => line.number == interrupt,
+        None => false,
     }
 }

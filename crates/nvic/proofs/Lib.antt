@@ -2,6 +2,7 @@ pub mod Best
 pub mod Least
 pub mod Boards
 pub mod Changes
+pub mod Tables
 pub mod Systems
 pub mod Due
 pub mod Adding

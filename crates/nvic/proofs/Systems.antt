@@ -1,8 +1,9 @@
 -- If the small changes of the exceptions, the registers of SysTick and those of the MPU keep what holds of the parts of
 -- the System Control Space, so do each access, also one to a device, MSR, CPS, each tick, each signal, and the begin and
 -- the end of a handler.
-use Rattle.std.proofs.Common.{ℕ, ◌+◌, ◌*◌, ◌/◌, Bool, true, false, not, ◌||◌, ◌==◌, List, [], ◌∷◌, Result, Ok, Err}
+use Rattle.std.proofs.Common.{◌≡◌, ℕ, ◌+◌, ◌*◌, ◌/◌, Bool, true, false, not, ◌||◌, ◌==◌, List, [], ◌∷◌, Result, Ok, Err}
 use Rattle.std.proofs.lemmas.Bool.{cond_both}
+use Rattle.devices.specs.declared.device.Device.{Device}
 use Rattle.devices.specs.declared.device.Poke.{Poke}
 use Rattle.devices.specs.declared.level.Level.{Level}
 use Rattle.devices.specs.Devices.{DeviceWords}
@@ -36,20 +37,24 @@ use Rattle.platform.specs.System.{register_access, system_access, register_at, a
 use Rattle.platform.specs.System.{after_pokes, after_signal, device_access, on_interrupts, poke_of, pokes_of, settled}
 use Rattle.platform.specs.System.{time_passed, with_devices, with_level, with_levels}
 use Rattle.platform.specs.SysTickRegisters.{after_systick_read, write_systick}
+use Rattle.platform.specs.SystemInvariant.{table_of}
 use Rattle.platform.specs.Time.{Time, events_at, is_high, pends, tick_pends, time_after_tick, with_signal}
 use Rattle.nvic.proofs.Changes.{IsKept, IfDone, interrupts_kept, priorities_kept, control_kept, mask_kept}
 use Rattle.nvic.proofs.Changes.{write_mask_kept, state_kept, activated_kept, pended_kept}
+use Rattle.nvic.proofs.Tables.{table_loaded, table_poked_all, table_stored}
 
--- what holds of the exceptions, of time and of the MPU's registers
+-- what holds of the exceptions, of time, of the MPU's registers and of the devices without their words
 pub record Parts : Type 1 where
   pub nvic : Nvic → Type 0
   pub time : Time → Type 0
   pub mpu : Mpu → Type 0
+  pub devices : List Device → Type 0
 
 pub record HasParts (P : Parts) (s : System) : Type 0 where
   pub nvic : P.nvic s.nvic
   pub time : P.time s.time
   pub mpu : P.mpu s.mpu
+  pub devices : P.devices (table_of s.devices)
 
 -- each change of a part alone keeps what holds of it
 pub record PartsAreKept (P : Parts) : Type 0 where
@@ -63,10 +68,10 @@ pub record PartsAreKept (P : Parts) : Type 0 where
 
 module _ {P : Parts} (k : PartsAreKept P) where
   pub with_nvic_kept : (s : System) (n : Nvic) → P.nvic n → HasParts P s → HasParts P (with_nvic s n)
-  with_nvic_kept s n new h = record { nvic = new; time = h.time; mpu = h.mpu }
+  with_nvic_kept s n new h = record { nvic = new; time = h.time; mpu = h.mpu; devices = h.devices }
 
   pub with_status_kept : (s : System) (st : Status) → HasParts P s → HasParts P (record s { status = st })
-  with_status_kept s st h = record { nvic = h.nvic; time = h.time; mpu = h.mpu }
+  with_status_kept s st h = record { nvic = h.nvic; time = h.time; mpu = h.mpu; devices = h.devices }
 
   -- ---- a write
 
@@ -81,14 +86,14 @@ module _ {P : Parts} (k : PartsAreKept P) where
 
   mpu_done : (s : System) (r : Result Mpu MpuStop) → HasParts P s → P.mpu (after_write s.mpu r)
       → IfDone (HasParts P) (mpu_written s r)
-  mpu_done s (Ok m) h new = record { nvic = h.nvic; time = h.time; mpu = new }
+  mpu_done s (Ok m) h new = record { nvic = h.nvic; time = h.time; mpu = new; devices = h.devices }
   mpu_done s (Err why) h new = tt
 
   written_kept : (s : System) (q : Request) (it : SystemRegister) → HasParts P s
       → IfDone (HasParts P) (register_written s q it)
   unfolding register_written
   written_kept s q (register.SysTick it) h =
-      record { nvic = h.nvic; time = k.written s.time it q.value h.time; mpu = h.mpu }
+      record { nvic = h.nvic; time = k.written s.time it q.value h.time; mpu = h.mpu; devices = h.devices }
   written_kept s q (register.Interrupts it word) h =
       with_nvic_kept s _ (interrupts_kept k.nvic s.nvic it word q.value h.nvic) h
   written_kept s q (register.Priorities first) h =
@@ -106,7 +111,7 @@ module _ {P : Parts} (k : PartsAreKept P) where
 
   read_kept : (s : System) (it : SystemRegister) → HasParts P s → HasParts P (after_read s it)
   unfolding after_read
-  read_kept s (register.SysTick it) h = record { nvic = h.nvic; time = k.read s.time it h.time; mpu = h.mpu }
+  read_kept s (register.SysTick it) h = record { nvic = h.nvic; time = k.read s.time it h.time; mpu = h.mpu; devices = h.devices }
   read_kept s (register.Interrupts it word) h = h
   read_kept s (register.Priorities first) h = h
   read_kept s (register.Control it) h = h
@@ -163,14 +168,17 @@ module _ {P : Parts} (k : PartsAreKept P) where
 
   -- ---- signals, and the lines of devices
 
-  pub with_devices_kept : (s : System) (devices : List DeviceWords) → HasParts P s → HasParts P (with_devices s devices)
-  with_devices_kept s devices h = record { nvic = h.nvic; time = h.time; mpu = h.mpu }
+  with_devices_kept : (s : System) (devices : List DeviceWords) → table_of devices ≡ table_of s.devices
+      → HasParts P s → HasParts P (with_devices s devices)
+  with_devices_kept s devices same h =
+      record { nvic = h.nvic; time = h.time; mpu = h.mpu; devices = rw same h.devices }
 
   interrupts_after : (s : System) (what : Signal) → HasParts P s → HasParts P (on_interrupts s what)
   interrupts_after s what h = record {
     nvic = pended_kept P.nvic (pends what) (λ n x e p. k.nvic.pending n x true p) s.nvic h.nvic;
     time = k.signals s.time what h.time;
     mpu = h.mpu;
+    devices = h.devices;
   }
 
   level_kept : (s : System) (l : Level) → HasParts P s → HasParts P (with_level s l)
@@ -191,7 +199,8 @@ module _ {P : Parts} (k : PartsAreKept P) where
   pokes_kept s [] h = h
   pokes_kept s (p ∷ ps) h =
       settled_kept (with_devices s (poked_all s.devices s.time.ticks (p ∷ ps)))
-      (with_devices_kept s (poked_all s.devices s.time.ticks (p ∷ ps)) h)
+      (with_devices_kept s (poked_all s.devices s.time.ticks (p ∷ ps)) (table_poked_all s.devices s.time.ticks (p ∷ ps))
+      h)
 
   pub signal_kept : (s : System) (what : Signal) → HasParts P s → HasParts P (after_signal s what)
   unfolding after_signal
@@ -201,7 +210,9 @@ module _ {P : Parts} (k : PartsAreKept P) where
   unfolding device_access
   device_kept s rule q h =
       cond_both (is_store q.access.kind) _ _ LeavesParts
-      (λ e. settled_kept _ (with_devices_kept s _ h)) (λ e. settled_kept _ (with_devices_kept s _ h))
+      (λ e. settled_kept _ (with_devices_kept s _
+      (table_stored s.devices s.time.ticks q.access.address q.access.size q.value) h))
+      (λ e. settled_kept _ (with_devices_kept s _ (table_loaded s.devices s.time.ticks q.access.address) h))
 
   -- ---- a tick, and the end of a handler
 
@@ -210,6 +221,7 @@ module _ {P : Parts} (k : PartsAreKept P) where
     nvic = pended_kept P.nvic (tick_pends s.time) (λ n x e p. k.nvic.pending n x true p) s.nvic h.nvic;
     time = time;
     mpu = h.mpu;
+    devices = h.devices;
   }
 
   pub tick_kept : (s : System) → P.time (time_after_tick s.time) → HasParts P s → HasParts P (after_tick s)

@@ -2,9 +2,8 @@
 -- have no line (profile).
 use Rattle.std.specs.Prelude.{ℕ, ◌%◌, Bool, true, false, not, ◌&&◌, ◌||◌, nat_lt, ◌==◌, if◌then◌else◌, is_some}
 use Rattle.std.specs.Prelude.{Option, Some, None, Result, Ok, Err}
-use Rattle.std.specs.List.{list_any}
-use Rattle.devices.specs.declared.device.Line.{Line}
 use Rattle.devices.specs.Laws.{have}
+use Rattle.devices.specs.Lines.{drives}
 use Rattle.instruction_set.specs.declared.system.SpecialRegister.{SpecialRegister}
 use Rattle.instruction_set.specs.declared.size.Size.TheVariants as size
 use Rattle.instruction_set.specs.Registers.{is_handler, with_register}
@@ -37,7 +36,8 @@ is_word_aligned (Word address value) = address % 4 == 0
 abbrev pub is_there : Bus → Place → Bool
 is_there b (Reg number value) = nat_lt number 16
 is_there b (Special number value) = is_some (special_of number)
-is_there b (Word address value) = is_in_memory b.memory address 4 || (is_in_ppb address || have b.system.devices address)
+is_there b (Word address value) =
+    is_in_memory b.memory address 4 || (is_in_ppb address || have b.system.devices address)
 
 -- MSR by privileged code in Thread mode
 abbrev pub with_special_placed : State → SpecialRegister → ℕ → State
@@ -94,20 +94,17 @@ unfoldable pub altered : State → Place → Result State PlaceError
 altered s p =
     if not (is_word_aligned p) then Err NotAligned
     else if not (is_there s.bus p) then Err NoSuchPlace
-    else if is_some s.stop || (not (is_plain s.bus.memory p) && (is_some s.entry || is_handler s.registers)) then Err Stopped
+    else if is_some s.stop || (not (is_plain s.bus.memory p) && (is_some s.entry || is_handler s.registers))
+    then Err Stopped
     else taken s p
 
 -- ---- signals
 
--- whether the board has what a signal is for: the interrupt, where no device drives it, or the word of a device
-abbrev pub is_line_of : Option Line → ℕ → Bool
-is_line_of None interrupt = false
-is_line_of (Some line) interrupt = line.number == interrupt
-
+-- whether the board has an interrupt, and no device drives it
 abbrev pub is_free : System → ℕ → Bool
-is_free s interrupt =
-    nat_lt interrupt s.nvic.interrupts && not (list_any (λ d. is_line_of d.device.line interrupt) s.devices)
+is_free s interrupt = nat_lt interrupt s.nvic.interrupts && not (drives s.devices interrupt)
 
+-- whether the board has what a signal is for: such an interrupt, or the word of a device
 abbrev pub is_wired : System → Signal → Bool
 is_wired s (Rise interrupt) = is_free s interrupt
 is_wired s (Fall interrupt) = is_free s interrupt

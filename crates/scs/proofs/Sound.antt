@@ -23,10 +23,10 @@ use Rattle.platform.specs.Time.{Time, time_after_tick}
 use Rattle.scs.specs.Laws.{IsSoundTime, IsSound}
 
 abbrev sound_parts : Parts
-sound_parts = record { nvic = IsOfBoard; time = IsSoundTime; mpu = IsSoundMpu }
+sound_parts = record { nvic = IsOfBoard; time = IsSoundTime; mpu = IsSoundMpu; devices = λ ds. Unit {0} }
 
 parts : (s : System) → IsSound s → HasParts sound_parts s
-parts s h = record { nvic = h.nvic; time = h.time; mpu = h.mpu }
+parts s h = record { nvic = h.nvic; time = h.time; mpu = h.mpu; devices = tt }
 
 sound : (s : System) → HasParts sound_parts s → IsSound s
 sound s h = record { mpu = h.mpu; nvic = h.nvic; time = h.time }
@@ -78,4 +78,5 @@ reset_sound flash_base interrupts bits regions script table known sorted = sound
   mpu = sound_at_reset regions known;
   nvic = reset_of_board interrupts bits;
   time = record { timer = record { reload = omega arith; current = omega arith }; script = sorted };
+  devices = tt;
 })

@@ -1,8 +1,9 @@
 //! The board's devices: accesses to them, pokes, and what their lines do to interrupts (profile).
 
-ghost use Rattle.std.specs.Prelude.{◌≡◌, ◌+◌, ◌^◌, ◌<◌, ◌∷◌, [], true};
+ghost use Rattle.std.specs.Prelude.{◌≡◌, ◌+◌, ◌^◌, ◌<◌, ◌∷◌, ◌&&◌, [], nat_lt, not, true};
 ghost use Rattle.devices.specs.Laws.{have};
 ghost use Rattle.devices.specs.Devices.{read_at};
+ghost use Rattle.devices.specs.Lines.{drives};
 ghost use Rattle.devices.specs.Pokes.{poked_all};
 ghost use Rattle.platform.specs.Kinds.{is_store};
 ghost use Rattle.platform.specs.Outcomes.{IsOf, LeavesUnlessDone};
@@ -58,6 +59,13 @@ impl<D: Decider, L: Levels, U: DueTicks> System<D, L, U> {
         ensures { result ≡ have self.now.devices address }
     {
         self.devices.have(address)
+    }
+
+    /// Returns whether the board has an interrupt, and no device drives it.
+    pub fn is_free(&self, interrupt: u8) -> bool
+        ensures { result ≡ (nat_lt interrupt self.now.nvic.interrupts && not (drives self.now.devices interrupt)) }
+    {
+        interrupt < self.levels.interrupts() && !self.devices.drive(interrupt)
     }
 
     /// Returns what a load of this size would read of a device now, if one has the address. Nothing is poked.
