@@ -1,4 +1,5 @@
 pub mod StepRules
+pub mod Settling
 pub mod BusRules
 mod Lines
 mod Bytes

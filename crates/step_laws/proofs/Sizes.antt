@@ -10,7 +10,7 @@ use Rattle.platform.specs.declared.access.Performed.TheVariants as performed
 use Rattle.platform.specs.declared.access.Rule.TheVariants.{PrivatePeripheralBus}
 use Rattle.platform.specs.declared.script.Signal.{Signal}
 use Rattle.platform.specs.Map.{is_in_ppb}
-use Rattle.platform.specs.Memory.{Agree, Memory, bytes_of}
+use Rattle.platform.specs.Memory.{Agree, Memory, bytes_of, is_in_memory}
 use Rattle.reference.specs.declared.place.Place.{Place}
 use Rattle.reference.specs.declared.place.Place.TheVariants.{Reg, Special, Word}
 use Rattle.reference.specs.Accesses.{carried_out}
@@ -62,7 +62,8 @@ word_sizes : (s : State) (address value : ℕ) → KeepsSizes s (taken s (Word a
 word_sizes s address value =
     cond_both (is_in_ppb address) _ _ (KeepsSizes s)
     (λ e. register_sizes s _ _ (ppb_memory s.registers.exception s.bus address value e))
-    (λ e. sizes_of _ s.bus.memory _ (overwritten_agrees s.bus.memory address (bytes_of 4 value)))
+    (λ e. cond_both (not (is_in_memory s.bus.memory address 4)) _ _ (KeepsSizes s) (λ f. sizes_refl s.bus.memory)
+    (λ f. sizes_of _ s.bus.memory _ (overwritten_agrees s.bus.memory address (bytes_of 4 value))))
 
 taken_sizes : (s : State) (p : Place) → KeepsSizes s (taken s p)
 taken_sizes s (Reg number value) = sizes_refl s.bus.memory
@@ -73,8 +74,8 @@ pub alter_sizes : (s : State) (p : Place) → KeepsSizes s (altered s p)
 unfolding altered
 alter_sizes s p =
     cond_both (not (is_word_aligned p)) _ _ (KeepsSizes s) (λ e. tt)
-    (λ e. cond_both (not (is_there s.bus.memory p)) _ _ (KeepsSizes s) (λ f. tt)
-    (λ f. cond_both (is_some s.stop || (not (is_plain p) && (is_some s.entry || is_handler s.registers))) _ _
+    (λ e. cond_both (not (is_there s.bus p)) _ _ (KeepsSizes s) (λ f. tt)
+    (λ f. cond_both (is_some s.stop || (not (is_plain s.bus.memory p) && (is_some s.entry || is_handler s.registers))) _ _
     (KeepsSizes s) (λ g. tt) (λ g. taken_sizes s p)))
 
 -- ---- signals
@@ -82,5 +83,5 @@ alter_sizes s p =
 pub signal_sizes : (s : State) (what : Signal) → KeepsSizes s (signalled s what)
 unfolding signalled
 signal_sizes s what =
-    cond_both (not (is_wired s.bus.system.nvic.interrupts what)) _ _ (KeepsSizes s) (λ e. tt)
+    cond_both (not (is_wired s.bus.system what)) _ _ (KeepsSizes s) (λ e. tt)
     (λ e. cond_both (is_some s.stop) _ _ (KeepsSizes s) (λ f. tt) (λ f. sizes_refl s.bus.memory))

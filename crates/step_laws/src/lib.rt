@@ -42,7 +42,8 @@ pub fn return_gives_registers_back()
     ensures { (s u : State) (before : List Event) → ReturnGivesBack s u before }
 {}
 
-/// A signal between two steps does what an event of the script, the first one of the next tick, does.
+/// A signal of an interrupt or of NMI between two steps does what an event of the script, the first one of the next
+/// tick, does.
 pub fn signals_are_events()
     ensures { (s : State) (what : Signal) → SignalIsEvent s what }
 {}
