@@ -1,5 +1,6 @@
 pub mod StepRules
 pub mod Settling
+pub mod Devices
 pub mod BusRules
 mod Lines
 mod Bytes

@@ -11,11 +11,10 @@ ghost use Rattle.reference.specs.Places.{altered, signalled};
 ghost use Rattle.reference.specs.State.{State};
 ghost use Rattle.reference.specs.Step.{step};
 ghost use Rattle.step_laws.specs.AccessLaw.{OneRefusal, OnlyCovered};
-ghost use Rattle.space.specs.Sizes.{HaveSameSizes};
 ghost use Rattle.step_laws.specs.FrameLaw.{FrameGivesBack, ReturnGivesBack};
 ghost use Rattle.step_laws.specs.RegionLaw.{RegionsStay};
 ghost use Rattle.step_laws.specs.SignalLaw.{SignalIsEvent};
-ghost use Rattle.step_laws.specs.SizeLaw.{KeepsSizes};
+ghost use Rattle.step_laws.specs.SizeLaw.{AreOfOneBoard, KeepsBoard};
 
 /// At most one access of a step is refused. It is the step's last access, and the next event is the
 /// line of its fault, which ends the step. The blocks of memory keep their addresses and sizes, and their bytes
@@ -48,11 +47,12 @@ pub fn signals_are_events()
     ensures { (s : State) (what : Signal) → SignalIsEvent s what }
 {}
 
-/// The blocks of memory keep their places and sizes, in a step and where a value or a signal comes from outside.
-pub fn sizes_stay()
-    ensures step { (s : State) → HaveSameSizes s.bus.memory (step s).state.bus.memory }
-    ensures alter { (s : State) (p : Place) → KeepsSizes s (altered s p) }
-    ensures signal { (s : State) (what : Signal) → KeepsSizes s (signalled s what) }
+/// The blocks of memory keep their places and sizes, and the devices stay, in a step and where a value or a signal comes
+/// from outside.
+pub fn board_stays()
+    ensures step { (s : State) → AreOfOneBoard s.bus (step s).state.bus }
+    ensures alter { (s : State) (p : Place) → KeepsBoard s (altered s p) }
+    ensures signal { (s : State) (what : Signal) → KeepsBoard s (signalled s what) }
 {}
 
 /// A step leaves the registers of the MPU as they are, unless one of its events is a write to the Private Peripheral
