@@ -25,7 +25,7 @@ ends_above t a h = grind (arith, nat_tests, h)
 -- ---- one word and another
 
 -- whether two addresses are of one word
-abbrev same_word : ℕ → ℕ → Bool
+abbrev pub same_word : ℕ → ℕ → Bool
 same_word b a = b / 4 == a / 4
 
 -- addresses of one word have one place
@@ -114,6 +114,26 @@ one_poke (d ∷ ds) ticks a b v whole =
             not_there true g = absurd grind (arith, nat_tests, not_of_word d.device b a ha hb, g)
             not_there false g = refl
     by false false z hb ha s rest = rw (hb, ha) rest
+
+-- a poke of another word leaves a word
+pub other_poke : (ds : List DeviceWords) (ticks a b v : ℕ) → same_word b a ≡ false →
+    word_at (poked ds ticks b v) a ≡ word_at ds a
+other_poke [] ticks a b v other = refl
+other_poke (d ∷ ds) ticks a b v other =
+    by (has d.device b) (has d.device a) refl refl (other_poke ds ticks a b v other)
+  where
+    by : (x y : Bool) → has d.device b ≡ x → has d.device a ≡ y →
+        word_at (poked ds ticks b v) a ≡ word_at ds a → word_at (poked (d ∷ ds) ticks b v) a ≡ word_at (d ∷ ds) a
+    by true true hb ha rest =
+        rw (
+          hb,
+          ha,
+          get_or-set_other d.words (place d.device b) (place d.device a) (stored_for d.device ticks v) 0
+              (λ e. two_places d.device a b (begins_below d.device a ha) (begins_below d.device b hb) other (sym e)),
+        ) refl
+    by true false hb ha rest = rw (hb, ha) refl
+    by false true hb ha rest = rw (hb, ha) refl
+    by false false hb ha rest = rw (hb, ha) rest
 
 -- ---- the pokes of a tick
 

@@ -1,10 +1,11 @@
 //! The board's devices: accesses to them, pokes, and what their lines do to interrupts (profile).
 
-ghost use Rattle.std.specs.Prelude.{◌≡◌, ◌+◌, ◌^◌, ◌<◌, ◌∷◌, ◌&&◌, [], nat_lt, not, true};
+ghost use Rattle.std.specs.Prelude.{◌≡◌, ◌+◌, ◌^◌, ◌<◌, ◌∷◌, ◌&&◌, [], nat_lt, not, true, IfSome};
 ghost use Rattle.devices.specs.Laws.{have};
 ghost use Rattle.devices.specs.Devices.{read_at};
 ghost use Rattle.devices.specs.Lines.{drives};
 ghost use Rattle.devices.specs.Pokes.{poked_all};
+ghost use Rattle.instruction_set.specs.Sizes.{bytes_in};
 ghost use Rattle.platform.specs.Kinds.{is_store};
 ghost use Rattle.platform.specs.Outcomes.{IsOf, LeavesUnlessDone};
 ghost use Rattle.platform.specs.Priorities.{with_due};
@@ -70,7 +71,8 @@ impl<D: Decider, L: Levels, U: DueTicks> System<D, L, U> {
 
     /// Returns what a load of this size would read of a device now, if one has the address. Nothing is poked.
     pub fn look_at_device(&self, address: u32, size: Size) -> Option<u32>
-        ensures { result ≡ read_at self.now.devices self.now.time.ticks address size }
+        ensures value { result ≡ read_at self.now.devices self.now.time.ticks address size }
+        ensures small { IfSome result (λ value. value < 256 ^ bytes_in size) }
     {
         self.devices.read(self.clock.now(), address, size)
     }

@@ -114,7 +114,7 @@ register_leaves x s rule q it =
     (λ f. cond_both (is_store q.access.kind) _ _ (Leaves s)
     (λ g. performed_leaves s rule (register_written s q it) (written_leaves s q it)) (λ g. read_leaves s it)))
 
-system_leaves : (x : ℕ) (s : System) (rule : Rule) (q : Request) → Leaves s (system_access x s rule q)
+pub system_leaves : (x : ℕ) (s : System) (rule : Rule) (q : Request) → Leaves s (system_access x s rule q)
 unfolding system_access
 system_leaves x s rule q =
     cond_both (is_load q.access.kind || is_store q.access.kind) _ _ (Leaves s)
@@ -142,7 +142,7 @@ module _ (es : List DeviceWords) where
   unfolding after_signal
   signal_same s what h = after_pokes_same (on_interrupts s what) (poke_of what) h
 
-  tick_same : (s : System) → Same s → Same (after_tick s)
+  pub tick_same : (s : System) → Same s → Same (after_tick s)
   unfolding after_tick
   tick_same s h = after_pokes_same (time_passed s) (pokes_of (events_at (s.time.ticks + 1) s.time.script)) h
 
@@ -168,7 +168,7 @@ module _ (es : List DeviceWords) where
       (λ e. cond_both (is_in_ppb q.access.address) _ _ BusSame (λ f. rw (system_leaves x b.system rule q) h)
       (λ f. cond_both (is_to_device b q.access) _ _ BusSame (λ g. device_same b.system rule q h) (λ g. h)))
 
-  perform_same : (x : ℕ) (b : Bus) (q : Request) → Same b.system → BusSame (perform x b q)
+  pub perform_same : (x : ℕ) (b : Bus) (q : Request) → Same b.system → BusSame (perform x b q)
   unfolding perform
   perform_same x b q h =
       cond_both (decision b q).granted _ _ BusSame (λ e. carried_same x b (decision b q).rule q h) (λ e. h)

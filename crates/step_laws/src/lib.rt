@@ -2,7 +2,7 @@
 //! nothing.
 #![tactic(auto)]
 
-ghost use Rattle.std.specs.Prelude.{List};
+ghost use Rattle.std.specs.Prelude.{ℕ, List};
 ghost use Rattle.instruction_set.specs.Registers.{Registers};
 ghost use Rattle.platform.specs.declared.event.Event.{Event};
 ghost use Rattle.platform.specs.declared.script.Signal.{Signal};
@@ -11,6 +11,7 @@ ghost use Rattle.reference.specs.Places.{altered, signalled};
 ghost use Rattle.reference.specs.State.{State};
 ghost use Rattle.reference.specs.Step.{step};
 ghost use Rattle.step_laws.specs.AccessLaw.{OneRefusal, OnlyCovered};
+ghost use Rattle.step_laws.specs.DeviceLaw.{WordStays};
 ghost use Rattle.step_laws.specs.FrameLaw.{FrameGivesBack, ReturnGivesBack};
 ghost use Rattle.step_laws.specs.RegionLaw.{RegionsStay};
 ghost use Rattle.step_laws.specs.SignalLaw.{SignalIsEvent};
@@ -53,6 +54,12 @@ pub fn board_stays()
     ensures step { (s : State) → AreOfOneBoard s.bus (step s).state.bus }
     ensures alter { (s : State) (p : Place) → KeepsBoard s (altered s p) }
     ensures signal { (s : State) (what : Signal) → KeepsBoard s (signalled s what) }
+{}
+
+/// A step leaves what is stored in a word of a device, where no poke of its tick names the word, and no load or store of
+/// the step that was carried out stores to the word or is in a device that pokes it.
+pub fn words_of_devices_change_by_accesses_and_pokes()
+    ensures { (s : State) (a : ℕ) → WordStays s a }
 {}
 
 /// A step leaves the registers of the MPU as they are, unless one of its events is a write to the Private Peripheral
