@@ -1,6 +1,7 @@
 pub mod Consoles
 pub mod MemoryReads
 pub mod Reasons
+pub mod Searches
 pub mod Slices
 pub mod Targets
 pub mod Turns

@@ -4,6 +4,7 @@
 mod console;
 mod reading;
 mod registers;
+mod searches;
 mod slices;
 mod steps;
 mod turns;
@@ -17,4 +18,4 @@ pub use steps::{
     event_hit, first_cause, first_hit, has_entry, has_fault, is_continue, put_step, reason_after,
     reason_before, selection_of,
 };
-pub use turns::{Run, SentPacket, Terms, Turn, go_on, send_packet};
+pub use turns::{Run, SentPacket, Terms, Turn, go_back, go_on, send_packet};

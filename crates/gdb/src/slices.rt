@@ -107,6 +107,14 @@ impl Progress {
         )
     }
 
+    /// Makes a step, and keeps its events.
+    pub fn repeat<D: Decider, C: KeptCode, L: Levels, U: DueTicks>(
+        &mut self,
+        machine: &mut Machine<D, C, L, U>,
+    ) {
+        let _ = machine.step(&mut self.events);
+    }
+
     /// Forgets the events of the last step.
     fn forget(&mut self)
         ensures { self.new ≡ record self.old { events = [] } }

@@ -14,7 +14,8 @@ use crate::slices::{Plan, Points, Progress, run_slice};
 use crate::whys::told_stop;
 use arrayvec::ArrayVec;
 use gdb_packets::put_packet;
-use gdb_past::Position;
+use crate::searches::{continue_back, step_back};
+use gdb_past::{Past, Position};
 use gdb_texts::{
     Features, Resume, Settings, Signal, StopReason, Watchpoints, most_steps, put_stop_reply,
     signal_of,
@@ -244,6 +245,39 @@ fn make_slices<D: Decider, C: KeptCode, L: Levels, U: DueTicks, W: Out>(
     }
     let rest = left % STEPS_AT_ONCE;
     last_slice(plan, terms, rest, position, progress, sent, machine, out)
+}
+
+/// Goes back: by a unit, or to the last place at which a run would have ended. Writes the lines that say why, and the
+/// stop reply. Returns its signal.
+pub fn go_back<D: Decider, C: KeptCode, L: Levels, U: DueTicks, W: Out>(
+    by_step: bool,
+    terms: &Terms,
+    past: &mut Past<L, U>,
+    sent: &mut SentPacket,
+    machine: &mut Machine<D, C, L, U>,
+    out: &mut W,
+) -> Result<Turn, IoError> {
+    let plan = Plan {
+        how: Resume::Continue,
+        limit: terms.limit,
+        settings: terms.settings,
+    };
+    let mut progress = Progress::new(0, None);
+    let reason = if by_step {
+        step_back(past, machine)
+    } else {
+        continue_back(terms.points, &terms.settings, past, &mut progress, machine)
+    };
+    end_run(
+        reason,
+        &plan,
+        &terms.points.watchpoints,
+        terms.features,
+        &mut progress,
+        sent,
+        machine,
+        out,
+    )
 }
 
 /// Makes a run's next steps: at most 1,000,000 before GDB is asked whether its user has interrupted; a client that

@@ -5,7 +5,11 @@ use Rattle.std.specs.Prelude.{bytes_eq, nat_le, ◌&&◌, Option, Some, None, Re
 use Rattle.gdb.specs.declared.turns.Run.{Run}
 use Rattle.gdb.specs.declared.turns.Turn.{Turn}
 use Rattle.gdb.specs.declared.turns.Turn.TheVariants.{Asks, Ends}
-use Rattle.gdb.specs.Turns.{Turned, turn}
+use Rattle.gdb.specs.Consoles.{console_from}
+use Rattle.gdb.specs.Searches.{Place, continued_back, stepped_back}
+use Rattle.gdb.specs.Slices.{Flow}
+use Rattle.gdb.specs.Turns.{Turned, ended, turn}
+use Rattle.gdb_past.specs.Places.{Past, gone_back, marked, past_from}
 use Rattle.gdb_packets.specs.declared.framer.Event.{Event}
 use Rattle.gdb_packets.specs.declared.framer.Event.TheVariants as event
 use Rattle.gdb_packets.specs.Framing.{Framing, after, at_start, event_of, minus, plus}
@@ -22,6 +26,7 @@ use Rattle.gdb_server.specs.Writes.{Written, written}
 use Rattle.debugger_commands.specs.declared.commands.LineError.{LineError}
 use Rattle.gdb_texts.specs.declared.actions.Resume.{Resume}
 use Rattle.gdb_texts.specs.declared.monitor.Monitor.{Monitor}
+use Rattle.gdb_texts.specs.declared.monitor.Monitor.TheVariants as monitor
 use Rattle.gdb_texts.specs.declared.replies.ErrorCode.{ErrorCode}
 use Rattle.gdb_texts.specs.declared.replies.ErrorCode.TheVariants.{TooLong}
 use Rattle.platform.specs.Boards.{Numbers}
@@ -48,18 +53,42 @@ replied k s answer = record { pieces = piece s (reply_packet answer) ∷ []; ses
 
 -- ---- writes, and commands of `monitor`
 
+-- a write that was taken leaves a mark
+abbrev pub past_after : Past → State → Option PlaceError → Past
+past_after past s None = marked past s
+past_after past s (Some error) = past
+
 abbrev pub wrote : Session → Written → Answered
-wrote k w = replied k w.state (data_of_write w.refused)
+wrote k w = replied (record k { past = past_after k.past w.state w.refused }) w.state (data_of_write w.refused)
 
 -- the text of a command for GDB's console, after its value was refused or not, and then `OK`
 abbrev pub told : Session → State → Option PlaceError → Result Monitor LineError → Answered
 told k s refused asked = record {
-  pieces = piece s (console_text (command_text s k.refused refused asked)) ∷ piece s (reply_packet ok) ∷ [];
+  pieces = piece s (console_text (command_text k.past s k.refused refused asked)) ∷ piece s (reply_packet ok) ∷ [];
   session = with_reply k ok;
 }
 
+-- the past after a command
+abbrev pub past_by : Past → Written → Result Monitor LineError → Past
+past_by past w (Ok monitor.Help) = past
+past_by past w (Ok (monitor.Explain a privileged kind)) = past
+past_by past w (Ok monitor.Regions) = past
+past_by past w (Ok monitor.State) = past
+past_by past w (Ok monitor.Next) = past
+past_by past w (Ok monitor.History) = past
+past_by past w (Ok (monitor.Trace selection)) = past
+past_by past w (Ok (monitor.Lines on)) = past
+past_by past w (Ok (monitor.Stop what on)) = past
+past_by past w (Ok (monitor.Step over)) = past
+past_by past w (Ok (monitor.Budget steps)) = past
+past_by past w (Ok monitor.Why) = past
+past_by past w (Ok (monitor.Place place)) = past_after past w.state w.refused
+past_by past w (Ok monitor.Restart) = past_from past.start
+past_by past w (Err why) = past
+
 abbrev pub commanded_by : Session → Written → Result Monitor LineError → Answered
-commanded_by k w asked = told (record k { settings = settings_with k.settings asked }) w.state w.refused asked
+commanded_by k w asked =
+    told (record k { settings = settings_with k.settings asked; past = past_by k.past w asked }) w.state w.refused asked
 
 -- a command
 abbrev pub commanded : Session → State → Result Monitor LineError → Answered
@@ -83,9 +112,29 @@ resumed k s run = turned k (turn k.points k.settings k.features k.limit run s)
 abbrev pub first_turn : Resume → Run
 first_turn how = record { how = how; made = 0; last = None; is_interrupted = false }
 
+-- ---- going back
+
+-- the machine is at a place of its past, and what was kept from later ticks is gone
+abbrev pub flow_at : Place → Flow
+flow_at place = record { made = 0; console = console_from None; state = place.state }
+
+abbrev pub backed : Session → Place → Answered
+backed k place =
+    turned (record k { past = gone_back k.past place.state })
+    (ended k.settings k.points.watchpoints k.features place.reason place.events (flow_at place))
+
+-- by a unit, or to the last place at which a run would have ended
+abbrev pub place_back : Session → State → Bool → Place
+place_back k s true = stepped_back k.past.marks s
+place_back k s false = continued_back k.points k.settings k.past.marks s
+
+-- the machine is in its first state, which is the only mark
+abbrev pub restarted : Session → Session
+restarted k = record k { past = past_from k.past.start }
+
 -- the machine is in its first state, and the reply is that to `?`
 abbrev pub begun : Session → Answered
-begun k = replied k k.past.start (data_read k.signal k.board k.past.start reading.StopReason)
+begun k = replied (restarted k) k.past.start (data_read k.signal k.board k.past.start reading.StopReason)
 
 -- ---- a packet at rest
 
@@ -99,7 +148,8 @@ answered k s (purpose.Write change) tail = wrote k (written s change tail)
 answered k s (purpose.Set change) tail = replied (session_after k change tail) s (set_data k change)
 answered k s purpose.Kill tail = silent (left k)
 answered k s purpose.Run tail = begun k
-answered k s purpose.Restart tail = record { pieces = piece k.past.start [] ∷ []; session = k }
+answered k s purpose.Restart tail = record { pieces = piece k.past.start [] ∷ []; session = restarted k }
+answered k s (purpose.Back by_step) tail = backed k (place_back k s by_step)
 answered k s (purpose.Resume how) tail = resumed k s (first_turn how)
 answered k s purpose.Command tail = commanded k s (command_of tail)
 

@@ -39,8 +39,9 @@ fn is_known(command: Monitor) -> bool
         | Monitor::Budget(_)
         | Monitor::Place(_)
         | Monitor::Restart
+        | Monitor::History
         | Monitor::Why => true,
-        Monitor::History | Monitor::Step(_) => false,
+        Monitor::Step(_) => false,
     }
 }
 
@@ -82,7 +83,7 @@ pub fn settings_with(settings: Settings, asked: Result<Monitor, LineError>) -> S
 /// Returns why the value was refused, if it was.
 pub fn place_by<D: Decider, C: KeptCode, L: Levels, U: DueTicks>(
     machine: &mut Machine<D, C, L, U>,
-    past: &Past<L, U>,
+    past: &mut Past<L, U>,
     asked: Result<Monitor, LineError>,
 ) -> Option<PlaceError>
     requires { AreOfOneMachine machine.old.state past.now.start }
@@ -93,7 +94,13 @@ pub fn place_by<D: Decider, C: KeptCode, L: Levels, U: DueTicks>(
             past.restart(machine);
             None
         }
-        Ok(Monitor::Place(place)) => put(machine, place),
+        Ok(Monitor::Place(place)) => {
+            let refused = put(machine, place);
+            if refused.is_none() {
+                past.mark(machine);
+            }
+            refused
+        }
         Ok(
             Monitor::Help
             | Monitor::Explain(_, _, _)
@@ -141,6 +148,22 @@ fn placed_text(refused: Option<PlaceError>) -> Reply
     }
 }
 
+/// Returns the ticks of the marks, a line each, and the tick now.
+fn history_text<D: Decider, C: KeptCode, L: Levels, U: DueTicks>(
+    past: &Past<L, U>,
+    machine: &Machine<D, C, L, U>,
+) -> Page<2048> {
+    let mut page: Page<2048> = Page::new();
+    'marks: for index in 0..past.count() {
+        page.put_decimal(past.tick(index));
+        page.put_slice(b"\n");
+    }
+    page.put_slice(b"now ");
+    page.put_decimal(machine.ticks());
+    page.put_slice(b"\n");
+    page
+}
+
 /// Writes text for GDB's console, in packets.
 fn tell<W: Out>(text: &[u8], out: &mut W) -> Result<(), IoError>
     ensures { Put (W.writing out.old) (W.writing out.new) (console_text text.now) result }
@@ -157,6 +180,7 @@ fn tell<W: Out>(text: &[u8], out: &mut W) -> Result<(), IoError>
 /// command's value.
 pub fn tell_command<D: Decider, C: KeptCode, L: Levels, U: DueTicks, W: Out>(
     machine: &Machine<D, C, L, U>,
+    past: &Past<L, U>,
     why: Option<ErrorCode>,
     refused: Option<PlaceError>,
     asked: Result<Monitor, LineError>,
@@ -180,7 +204,8 @@ pub fn tell_command<D: Decider, C: KeptCode, L: Levels, U: DueTicks, W: Out>(
             tell(ok_text().as_slice(), out)
         }
         Ok(Monitor::Restart) => tell(flush_advice().as_slice(), out),
-        Ok(Monitor::History | Monitor::Step(_)) => {
+        Ok(Monitor::History) => tell(history_text(past, machine).as_slice(), out),
+        Ok(Monitor::Step(_)) => {
             tell(error_text(LineError::Command).as_slice(), out)
         }
         Err(error) => tell(error_text(error).as_slice(), out),

@@ -101,6 +101,8 @@ pub enum Purpose {
     Kill,
     /// A run.
     Resume(Resume),
+    /// A run backwards: by a unit, or to the last place at which a run would have ended.
+    Back(bool),
     /// The first state again, with the reply to `?`.
     Run,
     /// The first state again, without a reply.
@@ -190,9 +192,9 @@ pub fn purpose_of(request: Request, tail: &[u8]) -> Purpose
     ensures { result ≡ purpose_of request tail.now }
 {
     match request {
-        Request::Unknown | Request::ReverseStep | Request::ReverseContinue => Purpose::Say(
-            Constant::Empty,
-        ),
+        Request::Unknown => Purpose::Say(Constant::Empty),
+        Request::ReverseStep => Purpose::Back(true),
+        Request::ReverseContinue => Purpose::Back(false),
         Request::SelectThread | Request::ThreadAlive => Purpose::Say(Constant::Done),
         Request::ResumeActions => Purpose::Say(Constant::ResumeActions),
         Request::Attached => Purpose::Say(Constant::Attached),

@@ -24,7 +24,7 @@ use crate::purposes::{MachineChange, Purpose, Reading, SessionChange, purpose_of
 use crate::reading::read;
 use crate::writes::write;
 use debugger_commands::LineError;
-use gdb::{Points, Run, SentPacket, Terms, Turn, go_on, send_packet};
+use gdb::{Points, Run, SentPacket, Terms, Turn, go_back, go_on, send_packet};
 use gdb_packets::{Event, Packet, Request, read_packet};
 use gdb_past::{Past, Position};
 use gdb_texts::{
@@ -240,7 +240,7 @@ impl<L: Levels, U: DueTicks> Session<L, U> {
     }
 
     /// Takes the machine back to its first state.
-    fn restart<D: Decider, C: KeptCode>(&self, machine: &mut Machine<D, C, L, U>)
+    fn restart<D: Decider, C: KeptCode>(&mut self, machine: &mut Machine<D, C, L, U>)
         requires { AreOfOneMachine self.now.past.start machine.old.state }
         ensures { machine.new ≡ record machine.old { state = self.now.past.start } }
     {
@@ -357,6 +357,9 @@ impl<L: Levels, U: DueTicks> Session<L, U> {
         ensures same { AreOfOneMachine machine.old.state machine.new.state }
     {
         let refused = write(machine, change, tail);
+        if refused.is_none() {
+            self.past.mark(machine);
+        }
         self.put_reply(data_of_write(refused), out)
     }
 
@@ -372,7 +375,7 @@ impl<L: Levels, U: DueTicks> Session<L, U> {
             (W.writing out.old) (W.writing out.new) result }
         ensures kept { OnOk result (self.new ≡ (told self.old machine.now.state refused asked).session) }
     {
-        match tell_command(machine, self.last_refusal(), refused, asked, out) {
+        match tell_command(machine, &self.past, self.last_refusal(), refused, asked, out) {
             Ok(()) => {}
             Err(error) => return Err(error),
         }
@@ -394,7 +397,7 @@ impl<L: Levels, U: DueTicks> Session<L, U> {
         ensures same { AreOfOneMachine machine.old.state machine.new.state }
     {
         let asked = read_command(digits);
-        let refused = place_by(machine, &self.past, asked);
+        let refused = place_by(machine, &mut self.past, asked);
         self.change_settings(asked);
         self.tell(machine, refused, asked, out)
     }
@@ -439,6 +442,28 @@ impl<L: Levels, U: DueTicks> Session<L, U> {
             machine,
             out,
         ) {
+            Ok(turn) => {
+                self.keep_turn(turn);
+                Ok(())
+            }
+            Err(error) => Err(error),
+        }
+    }
+
+    /// Goes back: by a unit, or to the last place at which a run would have ended.
+    fn go_back<D: Decider, C: KeptCode, W: Out>(
+        &mut self,
+        machine: &mut Machine<D, C, L, U>,
+        by_step: bool,
+        out: &mut W,
+    ) -> Result<(), IoError> {
+        let terms = Terms {
+            points: &self.points,
+            settings: self.settings,
+            features: self.features,
+            limit: self.limit,
+        };
+        match go_back(by_step, &terms, &mut self.past, &mut self.sent, machine, out) {
             Ok(turn) => {
                 self.keep_turn(turn);
                 Ok(())
@@ -496,6 +521,7 @@ impl<L: Levels, U: DueTicks> Session<L, U> {
                 Ok(())
             }
             Purpose::Resume(how) => self.resume(machine, first_turn(how), out),
+            Purpose::Back(by_step) => self.go_back(machine, by_step, out),
             Purpose::Run => self.begin(machine, out),
             Purpose::Restart => {
                 self.restart(machine);
