@@ -1,7 +1,7 @@
 //! A writer that gathers the lines of many steps, so that the writer below is called seldom.
 
 ghost use Rattle.std.specs.Prelude.{◌≡◌, ◌+◌, ◌≤◌, [], length, drop, OnOk, OnErr};
-ghost use Rattle.output.specs.Output.{with_page};
+ghost use Rattle.output.specs.Output.{Put, with_page};
 ghost use Rattle.platform.specs.Events.{line};
 ghost use Rattle.std.specs.Io.KnownBytes.{append_known, Keeps};
 
@@ -69,6 +69,23 @@ impl<O: Out + Drop> Paged<O> {
         }
     }
 
+    /// Puts the line of an event, whatever is kept. It takes a copy, so that the compiler can keep an event that never
+    /// comes here in the host's registers.
+    #[cold]
+    #[inline(never)]
+    fn put_any_line(&mut self, room: &mut LineRoom, event: Event) -> Result<(), IoError>
+        ensures { Put (with_page (drop self.old.at self.old.page) (O.writing self.old.inner))
+            (with_page (drop self.new.at self.new.page) (O.writing self.new.inner)) (line event) result }
+    {
+        match self.make_room() {
+            Ok(()) => {
+                self.page.put_event(&mut room.digits, &event);
+                Ok(())
+            }
+            Err(error) => Err(error),
+        }
+    }
+
     /// Sends the page to the writer below. On an error a prefix of it was sent, and the page
     /// still has the rest.
     #[cold]
@@ -121,12 +138,10 @@ impl<O: Out + Drop> Out for Paged<O> {
 
     #[inline(always)]
     fn put_line(&mut self, room: &mut LineRoom, event: &Event) -> Result<(), IoError> {
-        match self.make_room() {
-            Ok(()) => {
-                self.page.put_event(&mut room.digits, event);
-                Ok(())
-            }
-            Err(error) => Err(error),
+        if self.page.len() <= FULL && self.page.put_kept(&mut room.digits, event) {
+            Ok(())
+        } else {
+            self.put_any_line(room, *event)
         }
     }
 

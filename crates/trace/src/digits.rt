@@ -32,8 +32,14 @@ pub(crate) struct KeptParts {
 #[derive(Drop)]
 pub struct LineDigits {
     pub(crate) tick: Tick,
-    pub(crate) fetch: KeptParts,
-    pub(crate) data: KeptParts,
+    pub(crate) parts: PartsByKind,
+}
+
+/// What the lines of fetches, and those of data accesses, have in common with an earlier one.
+#[derive(Drop)]
+pub(crate) struct PartsByKind {
+    fetch: KeptParts,
+    data: KeptParts,
 }
 
 impl UpperDigits {
@@ -56,9 +62,8 @@ impl UpperDigits {
         }
     }
 
-    /// Makes the digits of another upper half.
-    #[cold]
-    #[inline(never)]
+    /// Makes the digits of another upper half. It isn't cold: the data of many programs have more than one.
+    #[inline(always)]
     fn reset(&mut self, half: u32)
         ensures { self.new.half ≡ half }
     {
@@ -74,8 +79,22 @@ impl LineDigits {
     pub fn new() -> Self {
         LineDigits {
             tick: Tick::new(),
-            fetch: KeptParts::new(),
-            data: KeptParts::new(),
+            parts: PartsByKind {
+                fetch: KeptParts::new(),
+                data: KeptParts::new(),
+            },
+        }
+    }
+}
+
+impl PartsByKind {
+    /// Returns the parts of fetches, or those of data accesses.
+    #[inline(always)]
+    pub(crate) fn of(&mut self, is_fetch: bool) -> &mut KeptParts {
+        if is_fetch {
+            &mut self.fetch
+        } else {
+            &mut self.data
         }
     }
 }
@@ -98,5 +117,15 @@ impl KeptParts {
     {
         self.upper.hold(address);
         self.end.hold(rule)
+    }
+
+    /// Makes the upper digits those of an access. Returns whether the end is that of the rule that decided it.
+    #[inline(always)]
+    pub(crate) fn hold_near(&mut self, address: u32, rule: Rule) -> bool
+        ensures upper { self.new.upper.half ≡ address / 0x1_0000 }
+        ensures end { OnTrue result (rule_of self.new.end.rank self.new.end.number ≡ rule) }
+    {
+        self.upper.hold(address);
+        self.end.is_of(rule)
     }
 }

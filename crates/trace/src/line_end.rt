@@ -43,7 +43,7 @@ impl LineEnd {
     /// Returns whether the end is that of a rule.
     #[inline(always)]
     #[tactic(auto, using(crate::proofs::Ends::same_rule))]
-    fn is_of(&self, rule: Rule) -> bool
+    pub(crate) fn is_of(&self, rule: Rule) -> bool
         ensures { OnTrue result (rule_of self.now.rank self.now.number ≡ rule) }
     {
         self.rank == rank_of(rule) && fits_number(self.number, rule)

@@ -1,11 +1,12 @@
 //! The lines of events and of stops.
 
-ghost use Rattle.std.specs.Prelude.{◌≡◌, ◌+◌, ◌≤◌, ◌++◌, length, codes, decimal};
+ghost use Rattle.std.specs.Prelude.{◌≡◌, ◌+◌, ◌<◌, ◌≤◌, ◌/◌, ◌++◌, None, true, false, length, codes, decimal};
 ghost use Rattle.platform.specs.declared.event.EventKind.TheVariants.{Accessed, ConsoleByte, ReturnBegan};
 ghost use Rattle.platform.specs.declared.event.EventKind.TheVariants.{HandlerEntered, FaultRecorded};
 ghost use Rattle.platform.specs.Events.{line};
 ghost use Rattle.platform.specs.Text as spec;
 ghost use Rattle.platform.specs.Text.{stop_text, outcome_text, rule_text, line_feed};
+ghost use Rattle.trace.specs.Ends.{rule_of};
 ghost use Rattle.trace.specs.Tails.{access_head, head_text, tail};
 
 use crate::digits::{KeptParts, LineDigits};
@@ -52,7 +53,6 @@ pub fn stop_line(stop: &Stop) -> LinePage
 
 impl<const ROOM: usize> Page<ROOM> {
     /// Appends the line of an event. Most are accesses, so these are tested for first.
-    #[inline(always)]
     pub fn put_event(&mut self, digits: &mut LineDigits, event: &Event)
         requires { length self.old + 64 ≤ ROOM }
         ensures text { self.new ≡ self.old ++ line event.now }
@@ -62,6 +62,25 @@ impl<const ROOM: usize> Page<ROOM> {
             EventKind::Accessed(access) => self.put_access(digits, event.tick, access),
             what => self.put_any(&mut digits.tick, event.tick, *what),
         }
+    }
+
+    /// Appends the line of an event, if it is an access that was done, and the parts that are kept are those of its
+    /// line; otherwise appends nothing. Returns whether it did. No call comes on this way, so that the compiler keeps
+    /// in the host's registers what comes after the line.
+    #[inline(always)]
+    pub fn put_kept(&mut self, digits: &mut LineDigits, event: &Event) -> bool
+        requires { length self.old + 64 ≤ ROOM }
+        ensures text { result ≡ true → self.new ≡ self.old ++ line event.now }
+        ensures same { result ≡ false → self.new ≡ self.old }
+    {
+        let EventKind::Accessed(access) = &event.what else {
+            return false;
+        };
+        if !digits.tick.hold_near(event.tick) {
+            return false;
+        }
+        let kept = digits.parts.of(access.access.kind.is_fetch());
+        self.put_by(&digits.tick, kept, event.tick, access)
     }
 
     /// Appends the line of a stop.
@@ -116,24 +135,17 @@ impl<const ROOM: usize> Page<ROOM> {
         }
     }
 
-    /// Appends the line of an access. Most lines are of this kind.
-    #[inline(always)]
+    /// Appends the line of an access.
     fn put_access(&mut self, digits: &mut LineDigits, tick: u64, decided: &DecidedAccess)
         requires { length self.old + 64 ≤ ROOM }
         ensures text { self.new ≡ self.old ++ line (record { tick = tick; what = Accessed decided.now }) }
         ensures short { length self.new ≤ length self.old + 64 }
     {
-        if decided.access.kind.is_fetch() {
-            self.put_parts(&mut digits.tick, &mut digits.fetch, tick, decided);
-        } else {
-            self.put_parts(&mut digits.tick, &mut digits.data, tick, decided);
-        }
+        let kept = digits.parts.of(decided.access.kind.is_fetch());
+        self.put_parts(&mut digits.tick, kept, tick, decided);
     }
 
-    /// Appends the line of an access: where it was done, from the kept parts. Calls that may make a part anew come
-    /// before the first `put`, and so do all loads but one, so that the compiler stores the length of the text once.
-    #[inline(always)]
-    #[tactic(auto, using(crate::proofs::PartsOfLines::done_line))]
+    /// Appends the line of an access, and makes the parts that are kept those of its line, where it was done.
     fn put_parts(
         &mut self,
         front: &mut Tick,
@@ -149,15 +161,56 @@ impl<const ROOM: usize> Page<ROOM> {
             && front.hold(tick)
             && kept.hold(decided.access.address, decided.rule)
         {
-            let head = AccessHead::of(&kept.upper, &decided.access);
-            let end = kept.end.text;
-            let count = kept.end.count;
-            front.put_held(tick, self);
-            self.put_head(&head);
-            self.put_some(&end, count);
+            self.put_held(front, kept, tick, decided);
         } else {
             self.put_any(front, tick, EventKind::Accessed(*decided));
         }
+    }
+
+    /// Appends the line of an access at one of the ten ticks whose digits are kept, if it was done and the parts are
+    /// those of its line; otherwise appends nothing. Returns whether it did.
+    #[inline(always)]
+    fn put_by(
+        &mut self,
+        front: &Tick,
+        kept: &mut KeptParts,
+        tick: u64,
+        decided: &DecidedAccess,
+    ) -> bool
+        requires from { front.now ≤ tick }
+        requires below { tick < front.now + 10 }
+        requires room { length self.old + 64 ≤ ROOM }
+        ensures text { result ≡ true
+            → self.new ≡ self.old ++ line (record { tick = tick; what = Accessed decided.now }) }
+        ensures same { result ≡ false → self.new ≡ self.old }
+    {
+        if decided.refused.is_some() || !kept.hold_near(decided.access.address, decided.rule) {
+            return false;
+        }
+        self.put_held(front, kept, tick, decided);
+        true
+    }
+
+    /// Appends the line of an access that was done, from the kept parts. All loads but one come before the first `put`,
+    /// so that the compiler stores the length of the text once.
+    #[inline(always)]
+    #[tactic(auto, using(crate::proofs::PartsOfLines::done_line))]
+    fn put_held(&mut self, front: &Tick, kept: &KeptParts, tick: u64, decided: &DecidedAccess)
+        requires done { decided.now.refused ≡ None }
+        requires from { front.now ≤ tick }
+        requires below { tick < front.now + 10 }
+        requires upper { kept.now.upper.half ≡ decided.now.access.address / 0x1_0000 }
+        requires end { rule_of kept.now.end.rank kept.now.end.number ≡ decided.now.rule }
+        requires room { length self.old + 64 ≤ ROOM }
+        ensures text { self.new ≡ self.old ++ line (record { tick = tick; what = Accessed decided.now }) }
+        ensures short { length self.new ≤ length self.old + 64 }
+    {
+        let head = AccessHead::of(&kept.upper, &decided.access);
+        let end = kept.end.text;
+        let count = kept.end.count;
+        front.put_held(tick, self);
+        self.put_head(&head);
+        self.put_some(&end, count);
     }
 
     /// Appends the head of the line of an access.

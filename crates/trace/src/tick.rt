@@ -68,7 +68,28 @@ impl Tick {
         ensures from { OnTrue result (self.new ≤ tick) }
         ensures below { OnTrue result (tick < self.new + 10) }
     {
-        tick.wrapping_sub(self.first) < 10 || self.reset(tick)
+        self.is_held(tick) || self.reset(tick)
+    }
+
+    /// Takes the digits of the ten ticks to which a tick belongs, unless it has them, if they differ from those that it
+    /// has in the last one alone. Otherwise does nothing, and returns false.
+    #[inline(always)]
+    #[tactic(auto, using(crate::proofs::Ticks::among))]
+    pub(crate) fn hold_near(&mut self, tick: u64) -> bool
+        ensures from { OnTrue result (self.new ≤ tick) }
+        ensures below { OnTrue result (tick < self.new + 10) }
+    {
+        self.is_held(tick) || self.count_up(tick)
+    }
+
+    /// Returns whether a tick is one of the ten whose digits it has.
+    #[inline(always)]
+    #[tactic(auto, using(crate::proofs::Ticks::among))]
+    pub(crate) fn is_held(&self, tick: u64) -> bool
+        ensures from { OnTrue result (self.now ≤ tick) }
+        ensures below { OnTrue result (tick < self.now + 10) }
+    {
+        tick.wrapping_sub(self.first) < 10
     }
 
     /// Appends the digits of one of the ten ticks whose digits it has.

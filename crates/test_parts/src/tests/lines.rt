@@ -105,8 +105,11 @@ impl Rows for LaterLines {
     fn holds(&mut self, row: &str) -> Option<bool> {
         let tick = long_at(part(row, 1), 0)?;
         let what = happening(row)?;
+        let event = Event { tick, what };
         let mut page = Page::<64>::new();
-        page.put_event(&mut self.digits, &Event { tick, what });
+        if !page.put_kept(&mut self.digits, &event) {
+            page.put_event(&mut self.digits, &event);
+        }
         Some(is_line(page.as_slice(), part(row, 0)))
     }
 }
