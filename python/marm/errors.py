@@ -91,7 +91,7 @@ class PlaceRefused(MarmError, ValueError):
 
 
 class NotMemory(MarmError, IndexError):
-    """A byte is in neither flash nor RAM."""
+    """A byte is in no memory: neither in flash nor in a RAM."""
 
 
 class NotReached(MarmError, AssertionError):

@@ -58,6 +58,7 @@ class Machine:
             facts = self._session.do(Request((f"script {VERSION}",), _facts))
             self.flash = _memory(facts["flash"])  # its addresses
             self.ram = _memory(facts["ram"])  # its addresses
+            self.second_ram = _memory(facts["second_ram"]) if "second_ram" in facts else range(0)
             self.lines = int(facts["lines"])  # how many interrupt lines there are
             self.priority_bits = int(facts["priority_bits"])  # of a priority that are kept
             count = int(facts["slots"])

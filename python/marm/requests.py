@@ -42,7 +42,7 @@ def reading(address: int, size: int) -> Request[bytes]:
     def read(answers: Sequence[Answer]) -> bytes:
         text = "".join([answer.lines[0].partition(":")[2] for answer in answers])
         if "-" in text:
-            raise NotMemory(f"not all bytes from {address:08X} to {end - 1:08X} are flash or RAM")
+            raise NotMemory(f"not all bytes from {address:08X} to {end - 1:08X} are memory")
         data = bytes.fromhex(text)
         if len(data) != size:
             raise ValueError(f"{len(data)} bytes for {size}")

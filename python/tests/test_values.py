@@ -127,6 +127,22 @@ class Boards(unittest.TestCase):
             "flash_base = 0\nflash_size = 1024\nram_size = 2048\npriority_bits = 4\nlines = 2\nregions = 8\n"
             '\n[[event]]\nat = 3\nnmi = true\n\n[[event]]\nat = 9\nline = 1\nwhat = "rise"\n')
 
+    def test_second_ram(self) -> None:
+        board = marm.Board(1024, 2048, lines=2, ram=marm.Ram(0x1000_0000, 8192)).with_event(3)
+        self.assertEqual(
+            board.toml(),
+            "flash_base = 0\nflash_size = 1024\nram_size = 2048\npriority_bits = 4\nlines = 2\nregions = 8\n"
+            "\n[[ram]]\nbase = 268435456\nsize = 8192\n\n[[event]]\nat = 3\nnmi = true\n")
+        self.assertEqual(boards.parse_plain(board.toml())["ram"], [{"base": 0x1000_0000, "size": 8192}])
+        with tempfile.NamedTemporaryFile("w", suffix=".toml") as file:
+            file.write(board.toml())
+            file.flush()
+            self.assertEqual(marm.Board.load(file.name), board)
+            file.write("[[ram]]\nbase = 0\nsize = 1024\n")
+            file.flush()
+            with self.assertRaises(ValueError):
+                marm.Board.load(file.name)
+
     def test_events_of_one_tick_keep_their_order(self) -> None:
         board = marm.Board(1, 1).with_event(5, 1).with_event(5, 0).with_event(2, 3)
         self.assertEqual([event.line for event in board.events], [3, 1, 0])

@@ -10,7 +10,7 @@ use Rattle.platform.specs.declared.access.Rule.{Rule}
 use Rattle.reference.specs.Accesses.{carried_out, decided, decision, perform}
 use Rattle.platform.specs.Kinds.{is_probe, is_write}
 use Rattle.platform.specs.Map.{is_in_ppb, is_in_window}
-use Rattle.platform.specs.Memory.{Memory, is_in_ram}
+use Rattle.platform.specs.Memory.{Memory, is_writable_at}
 use Rattle.platform.specs.Outcomes.{LeavesUnlessDone, Outcome, within}
 use Rattle.platform.specs.Space.{written_to, written_to_window, space_access}
 use Rattle.reference.specs.State.{Bus}
@@ -38,7 +38,7 @@ unchanged_keeps before (Stop why) = refl
 writing_keeps : (m : Memory) (rule : Rule) (q : Request) → Keeps m (written_to m rule q)
 writing_keeps m rule q =
     cond_both (is_in_window q.access.address) _ _ (Keeps m) (λ f. unchanged_keeps m (written_to_window rule q))
-    (λ f. cond_both (is_in_ram m q.access.address (bytes_in q.access.size)) _ _ (Keeps m) (λ g. tt) (λ g. refl))
+    (λ f. cond_both (is_writable_at m q.access.address (bytes_in q.access.size)) _ _ (Keeps m) (λ g. tt) (λ g. refl))
 
 space_keeps : (m : Memory) (ticks : ℕ) (rule : Rule) (q : Request) → Keeps m (space_access m ticks rule q)
 unfolding space_access

@@ -34,6 +34,6 @@ word_seen x b a = value_read (carried_out x b MpuOff (word_load a)).performed
 abbrev pub word_of_window : ℕ → ℕ → Option ℕ
 word_of_window ticks a = if a == tick_register then Some (ticks % 2 ^ 32) else None
 
--- the word of the window, of flash or of RAM
+-- the word of the window, or of memory
 abbrev pub word_outside : Memory → ℕ → ℕ → Option ℕ
 word_outside m ticks a = if is_in_window a then word_of_window ticks a else number_at m a 4

@@ -1,6 +1,8 @@
 pub mod Describing
 pub mod Spans
 pub mod Making
+pub mod Placing
+pub mod Spanning
 pub mod Texts
 pub mod Unique
 pub mod SameSettings

@@ -1,15 +1,17 @@
 -- Lists of spans: which addresses they have, and how they grow.
 use Rattle.std.proofs.Common.{◌≡◌, ◌↔◌, ℕ, ◌+◌, ◌<◌, ◌≤◌, if◌then◌else◌, Bool, true, false, ◌||◌, List, [], ◌∷◌}
 use Rattle.std.proofs.Common.{◌++◌, length, take, get_or, arith, refl, sym, ap, ◌∙◌, ◌⊎◌}
-use Rattle.std.proofs.Common.{◌&&◌, nat_le, nat_lt, inl, inr}
+use Rattle.std.proofs.Common.{◌&&◌, nat_le, inl, inr}
 use Rattle.std.proofs.lemmas.List.Folds.{list_any-append, list_any_more}
 use Rattle.access_map.specs.Sharing.{covers, has_address, is_in_ram, is_channel, is_shared, AreApart, AreShared}
 use Rattle.access_map.specs.Sharing.{RiseFrom}
 use Rattle.access_map.specs.Stretches.{span_of, with_stretch}
-use Rattle.access_map.specs.Worlds.{first_of, end_of}
-use Rattle.access_map.specs.declared.world.Place.TheVariants.{Ram}
+use Rattle.access_map.specs.Worlds.{end_of, is_in_place}
+use Rattle.access_map.proofs.Spanning.{place_ends, second_ends}
+use Rattle.platform.specs.declared.board.Layout.{Layout}
+use Rattle.access_map.specs.declared.world.Place.TheVariants.{Ram, SecondRam}
 use Rattle.access_map.specs.declared.world.World.{World}
-use Rattle.platform.specs.Boards.{Numbers}
+use Rattle.platform.specs.Boards.{Numbers, numbers_of}
 use Rattle.std.proofs.lemmas.Bool.{cases_lt}
 use Rattle.std.proofs.lemmas.Bool.Decides.{nat_tests}
 use Rattle.access_map.specs.declared.sharing.Stretch.{Stretch}
@@ -205,77 +207,70 @@ gathered_next p first xs x y made begins order holds differ =
 
 -- ---- the shared spans
 
-in_ram : (board : Numbers) (a : ℕ) → first_of board Ram ≤ a → a < end_of board Ram → is_in_ram board a ≡ true
-in_ram board a above below =
-    let e : nat_le (first_of board Ram) a ≡ true = grind (arith, nat_tests) in
-    let f : nat_lt a (end_of board Ram) ≡ true = grind (arith, nat_tests) in
-    ap (λ (b : Bool). b && nat_lt a (end_of board Ram)) e ∙ f
-
-below_ram : (board : Numbers) (a : ℕ) → a < first_of board Ram → is_in_ram board a ≡ false
-below_ram board a h =
-    ap (λ (b : Bool). b && nat_lt a (end_of board Ram))
-    (let e : nat_le (first_of board Ram) a ≡ false = grind (arith, nat_tests) in e)
-
-above_ram : (board : Numbers) (a : ℕ) → end_of board Ram ≤ a → is_in_ram board a ≡ false
-above_ram board a h = lead (nat_le (first_of board Ram) a)
-    (let e : nat_lt a (end_of board Ram) ≡ false = grind (arith, nat_tests) in e)
-  where
-    lead : (b : Bool) → nat_lt a (end_of board Ram) ≡ false → (b && nat_lt a (end_of board Ram)) ≡ false
-    lead true e = e
-    lead false e = refl
-
-pub shared_within : (board : Numbers) (v w : World) (allowed : List Span) (a : ℕ) → first_of board Ram ≤ a
-    → a < end_of board Ram → is_shared board v w allowed a ≡ is_channel v w allowed a
-unfolding is_shared
-shared_within board v w allowed a above below =
-    ap (λ (b : Bool). b && is_channel v w allowed a) (in_ram board a above below)
-
-pub shared_below : (board : Numbers) (v w : World) (allowed : List Span) (a : ℕ) → a < first_of board Ram
+-- an address that isn't in RAM isn't shared
+pub shared_outside : (board : Numbers) (v w : World) (allowed : List Span) (a : ℕ) → is_in_ram board a ≡ false
     → is_shared board v w allowed a ≡ false
 unfolding is_shared
-shared_below board v w allowed a h = ap (λ (b : Bool). b && is_channel v w allowed a) (below_ram board a h)
+shared_outside board v w allowed a h = ap (λ (b : Bool). b && is_channel v w allowed a) h
 
-pub shared_above : (board : Numbers) (v w : World) (allowed : List Span) (a : ℕ) → end_of board Ram ≤ a
-    → is_shared board v w allowed a ≡ false
+-- an address in RAM is shared where it is a channel
+pub shared_inside : (board : Numbers) (v w : World) (allowed : List Span) (a : ℕ) → is_in_ram board a ≡ true
+    → is_shared board v w allowed a ≡ is_channel v w allowed a
 unfolding is_shared
-shared_above board v w allowed a h = ap (λ (b : Bool). b && is_channel v w allowed a) (above_ram board a h)
+shared_inside board v w allowed a h = ap (λ (b : Bool). b && is_channel v w allowed a) h
 
--- the spans are those that are shared, once the last stretch ends where RAM does
-pub gathered_last : (board : Numbers) (v w : World) (allowed xs : List Span) (first : ℕ) (x : Stretch)
-    → first ≡ first_of board Ram → x.last + 1 ≡ end_of board Ram
-    → IsGathered (is_channel v w allowed) first xs x
+-- both RAMs end before an address
+pub record EndsBefore (board : Numbers) (a : ℕ) : Type 0 where
+  pub ram : end_of board Ram ≤ a
+  pub second : end_of board SecondRam ≤ a
+
+-- so they do on each board before the system region
+pub ends_before : (board : Layout) (end : ℕ) → end ≡ 0xE000_0000 → EndsBefore (numbers_of board) end
+ends_before board end is = record {
+  ram = let small : board.ram_size ≤ 0x10_0000 = board.ram_is_small in omega arith;
+  second = let ends = second_ends board.second_ram in omega arith;
+}
+
+ram_ends : (board : Numbers) (end a : ℕ) → EndsBefore board end → end ≤ a → is_in_ram board a ≡ false
+ram_ends board end a ends after =
+    let first : end_of board Ram ≤ a = let h = ends.ram in omega arith in
+    let other : end_of board SecondRam ≤ a = let h = ends.second in omega arith in
+    ap (λ (b : Bool). b || is_in_place board SecondRam a) (place_ends board Ram a first)
+    ∙ place_ends board SecondRam a other
+
+-- where both RAMs have all of some addresses or none, so has their union
+pub both_alike : (board : Numbers) (a b : ℕ) → is_in_place board Ram a ≡ is_in_place board Ram b
+    → is_in_place board SecondRam a ≡ is_in_place board SecondRam b → is_in_ram board a ≡ is_in_ram board b
+both_alike board a b first second =
+    ap (λ (c : Bool). c || is_in_place board SecondRam a) first
+    ∙ ap (λ (c : Bool). is_in_place board Ram b || c) second
+
+-- the spans are those that are shared, once the last stretch ends beyond RAM
+pub gathered_last : (board : Numbers) (v w : World) (allowed xs : List Span) (x : Stretch)
+    → EndsBefore board (x.last + 1) → IsGathered (is_shared board v w allowed) 0 xs x
     → AreShared board v w allowed (with_stretch xs x)
-gathered_last board v w allowed xs first x begins ends made =
-    let done = complete (is_channel v w allowed) first xs x made in
+gathered_last board v w allowed xs x ends made =
+    let done = complete (is_shared board v w allowed) 0 xs x made in
     record {
-      exactly = λ a. lead a (cases_lt a first) (cases_lt x.last a);
+      exactly = λ a. lead a (cases_lt x.last a);
       rising = rise_from (with_stretch xs x) 0 _ done.rise;
     }
   where
-    lead : (a : ℕ) → ((a < first) ⊎ (first ≤ a)) → ((x.last < a) ⊎ (a ≤ x.last))
-        → covers (with_stretch xs x) a ≡ is_shared board v w allowed a
-    lead a (inl h) k =
-        let done = complete (is_channel v w allowed) first xs x made in
-        done.outside a h ∙ sym (shared_below board v w allowed a (omega arith))
-    lead a (inr h) (inl k) =
-        let done = complete (is_channel v w allowed) first xs x made in
-        done.after a k ∙ sym (shared_above board v w allowed a (omega arith))
-    lead a (inr h) (inr k) =
-        let done = complete (is_channel v w allowed) first xs x made in
-        done.within a h k ∙ sym (shared_within board v w allowed a (omega arith) (omega arith))
+    lead : (a : ℕ) → ((x.last < a) ⊎ (a ≤ x.last)) → covers (with_stretch xs x) a ≡ is_shared board v w allowed a
+    lead a (inl k) =
+        let done = complete (is_shared board v w allowed) 0 xs x made in
+        done.after a k ∙ sym (shared_outside board v w allowed a (ram_ends board (x.last + 1) a ends (omega arith)))
+    lead a (inr k) =
+        let done = complete (is_shared board v w allowed) 0 xs x made in done.within a (omega arith) k
 
--- no byte of RAM is a channel, so none is shared
-pub shared_exactly_none : (board : Numbers) (v w : World) (allowed : List Span)
-    → ((a : ℕ) → first_of board Ram ≤ a → a < end_of board Ram → is_channel v w allowed a ≡ false)
-    → (a : ℕ) → is_shared board v w allowed a ≡ false
-shared_exactly_none board v w allowed none a = lead (cases_lt a (first_of board Ram)) (cases_lt a (end_of board Ram))
+-- no address up to one beyond RAM is shared, so none is
+pub shared_none : (board : Numbers) (v w : World) (allowed : List Span) (end : ℕ) → EndsBefore board end
+    → ((a : ℕ) → a < end → is_shared board v w allowed a ≡ false) → (a : ℕ) → is_shared board v w allowed a ≡ false
+shared_none board v w allowed end ends none a = lead (cases_lt a end)
   where
-    lead : ((a < first_of board Ram) ⊎ (first_of board Ram ≤ a))
-        → ((a < end_of board Ram) ⊎ (end_of board Ram ≤ a))
-        → is_shared board v w allowed a ≡ false
-    lead (inl h) k = shared_below board v w allowed a h
-    lead (inr h) (inl k) = shared_within board v w allowed a h k ∙ none a h k
-    lead (inr h) (inr k) = shared_above board v w allowed a k
+    lead : ((a < end) ⊎ (end ≤ a)) → is_shared board v w allowed a ≡ false
+    lead (inl h) = none a h
+    lead (inr h) = shared_outside board v w allowed a (ram_ends board end a ends h)
 
 -- ---- worlds that are apart
 

@@ -4,8 +4,9 @@ use Rattle.std.specs.Prelude.{ℕ, Bool, true, false, List, [], ◌∷◌, ◌++
 use Rattle.access_map.specs.declared.counting.WorldSteps.{WorldSteps}
 use Rattle.access_map.specs.declared.interval.Interval.{Interval}
 use Rattle.access_map.specs.declared.map.AccessMap.{AccessMap}
+use Rattle.access_map.specs.declared.map.PlaceMap.{PlaceMap}
 use Rattle.access_map.specs.declared.world.Place.{Place}
-use Rattle.access_map.specs.declared.world.Place.TheVariants.{Flash, Ram, Window}
+use Rattle.access_map.specs.declared.world.Place.TheVariants.{Flash, Ram, SecondRam, Window}
 use Rattle.access_map.specs.declared.world.Rights.{Rights}
 use Rattle.mpu.specs.declared.spans.Span.{Span}
 use Rattle.platform.specs.Text.{hex_word, line_feed, rule_text}
@@ -13,6 +14,7 @@ use Rattle.platform.specs.Text.{hex_word, line_feed, rule_text}
 abbrev pub place_text : Place → List ℕ
 place_text Flash = codes "flash"
 place_text Ram = codes "ram"
+place_text SecondRam = codes "ram"
 place_text Window = codes "window"
 
 -- the letter of a right, or `-` where it isn't granted
@@ -68,9 +70,12 @@ abbrev pub map_lines : ℕ → Place → List Interval → List ℕ
 map_lines k place [] = []
 map_lines k place (x ∷ xs) = map_line k place x ++ map_lines k place xs
 
+abbrev pub places_text : ℕ → List PlaceMap → List ℕ
+places_text k [] = []
+places_text k (m ∷ ms) = map_lines k m.place m.intervals.items ++ places_text k ms
+
 unfoldable pub map_text : ℕ → AccessMap → List ℕ
-map_text k m =
-    (map_lines k Flash m.flash.items ++ map_lines k Ram m.ram.items) ++ map_lines k Window m.window.items
+map_text k m = places_text k m.places.items
 
 -- ---- what worlds j and k share with one another
 

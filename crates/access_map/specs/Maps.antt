@@ -3,10 +3,10 @@ use Rattle.std.specs.Prelude.{◌≡◌, ℕ, ◌+◌, ◌≤◌, List, [], ◌�
 use Rattle.std.specs.List.{All}
 use Rattle.access_map.specs.declared.interval.Interval.{Interval}
 use Rattle.access_map.specs.declared.map.AccessMap.{AccessMap}
+use Rattle.access_map.specs.declared.map.PlaceMap.{PlaceMap}
 use Rattle.access_map.specs.declared.world.Place.{Place}
-use Rattle.access_map.specs.declared.world.Place.TheVariants.{Flash, Ram, Window}
 use Rattle.access_map.specs.declared.world.World.{World}
-use Rattle.access_map.specs.Worlds.{rights_at, rule_at, first_of, end_of}
+use Rattle.access_map.specs.Worlds.{rights_at, rule_at, first_of, end_of, places}
 use Rattle.platform.specs.Boards.{Numbers}
 
 -- an interval has the rights and the rule of each of its addresses
@@ -39,8 +39,14 @@ pub record IsPlaceMap (w : World) (board : Numbers) (place : Place) (xs : List I
   pub right : All (Describes w place) xs
   pub longest : AreLongest xs
 
+-- there is a map for each of these places, in their order
+abbrev pub AreMapsOf : World → Numbers → List Place → List PlaceMap → Type 0
+AreMapsOf w board [] [] = Unit {0}
+AreMapsOf w board (p ∷ ps) (m ∷ ms) =
+    (m.place ≡ p) × IsPlaceMap w board p m.intervals.items × AreMapsOf w board ps ms
+AreMapsOf w board [] (m ∷ ms) = ⊥
+AreMapsOf w board (p ∷ ps) [] = ⊥
+
 -- the access map of a world
-pub record IsMapOf (w : World) (board : Numbers) (m : AccessMap) : Type 0 where
-  pub flash : IsPlaceMap w board Flash m.flash.items
-  pub ram : IsPlaceMap w board Ram m.ram.items
-  pub window : IsPlaceMap w board Window m.window.items
+abbrev pub IsMapOf : World → Numbers → AccessMap → Type 0
+IsMapOf w board m = AreMapsOf w board (places board) m.places.items

@@ -1,10 +1,10 @@
 -- Bytes by which one world can influence another: bytes of RAM that one may write and the other may read or execute.
-use Rattle.std.specs.Prelude.{◌≡◌, ℕ, ◌+◌, ◌≤◌, Bool, true, false, not, ◌&&◌, ◌||◌, nat_le, nat_lt, List, [], ◌∷◌}
+use Rattle.std.specs.Prelude.{◌≡◌, ℕ, ◌+◌, ◌≤◌, Bool, true, false, not, ◌&&◌, ◌||◌, nat_le, List, [], ◌∷◌}
 use Rattle.std.specs.List.{list_any}
-use Rattle.access_map.specs.declared.world.Place.TheVariants.{Ram}
+use Rattle.access_map.specs.declared.world.Place.TheVariants.{Ram, SecondRam}
 use Rattle.access_map.specs.declared.world.Rights.{Rights}
 use Rattle.access_map.specs.declared.world.World.{World}
-use Rattle.access_map.specs.Worlds.{rights_at, first_of, end_of}
+use Rattle.access_map.specs.Worlds.{rights_at, is_in_place}
 use Rattle.mpu.specs.declared.spans.Span.{Span}
 use Rattle.platform.specs.Boards.{Numbers}
 
@@ -20,13 +20,13 @@ covers xs a = list_any (has_address a) xs
 abbrev pub carries : Rights → Rights → Bool
 carries writer reader = writer.write && (reader.read || reader.execute)
 
--- the byte of RAM at an address can carry something from world v to world w, and isn't one that is allowed to
+-- the byte of a RAM at an address can carry something from world v to world w, and isn't one that is allowed to
 abbrev pub is_channel : World → World → List Span → ℕ → Bool
 is_channel v w allowed a = carries (rights_at v Ram a) (rights_at w Ram a) && not (covers allowed a)
 
--- an address is in RAM
+-- an address is in RAM or in the second RAM
 abbrev pub is_in_ram : Numbers → ℕ → Bool
-is_in_ram board a = nat_le (first_of board Ram) a && nat_lt a (end_of board Ram)
+is_in_ram board a = is_in_place board Ram a || is_in_place board SecondRam a
 
 -- world v shares the byte at an address with world w
 unfoldable pub is_shared : Numbers → World → World → List Span → ℕ → Bool

@@ -7,6 +7,9 @@ ghost use Rattle.access_map.specs.Maps.{Describes, IsAlike};
 use crate::world::{Place, Rights, World};
 use mpu::{Rule, Span};
 
+/// The bytes of an eighth of the address space.
+const EIGHTH: u32 = 0x2000_0000;
+
 /// Addresses of a place, from the first to the last, with both, at which unprivileged code has the same rights by the
 /// same rule.
 #[derive(Clone, Copy)]
@@ -20,10 +23,10 @@ pub struct Interval {
 }
 
 impl Interval {
-    /// Returns an interval that begins where a span does, and ends with it or before. All its addresses have one owner.
+    /// Returns an interval that begins where a span does, and ends with it or before. All its addresses have one owner,
+    /// and are in one eighth of the address space, in which the default memory map is the same (B3.1).
     pub fn at(world: &World, place: Place, within: Span) -> Self
         requires some { within.first ≤ within.last }
-        requires near { within.last / 2 ^ 29 ≡ within.first / 2 ^ 29 }
         requires below { within.last < 0xE000_0000 }
         ensures first { result.first ≡ within.first }
         ensures some { result.first ≤ result.last }
@@ -33,7 +36,12 @@ impl Interval {
         let Span { first, last } = within;
         Interval {
             first,
-            last: world.registers.span(first).last.min(last),
+            last: world
+                .registers
+                .span(first)
+                .last
+                .min(last)
+                .min(end_of_eighth(first)),
             rights: world.rights_at(place, first),
             rule: world.rule_at(first),
         }
@@ -45,6 +53,14 @@ impl Interval {
     {
         self.rights.is_same(other.rights) && is_same_rule(self.rule, other.rule)
     }
+}
+
+/// Returns the last address of the eighth of the address space in which an address is.
+fn end_of_eighth(address: u32) -> u32
+    ensures same { result / 2 ^ 29 ≡ address / 2 ^ 29 }
+    ensures after { address ≤ result }
+{
+    address / EIGHTH * EIGHTH + (EIGHTH - 1)
 }
 
 /// Returns whether two rules are the same.

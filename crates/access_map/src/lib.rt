@@ -15,10 +15,10 @@ mod world_lines;
 pub use counting::{MOST_WORLDS, WorldSteps, Worlds};
 pub use interval::Interval;
 pub use lines::{Line, map_text, pair_text};
-pub use map::AccessMap;
+pub use map::{AccessMap, PlaceMap};
 pub use mpu::Span;
 pub use sharing::{are_apart, shared};
-pub use world::{Place, Rights, World};
+pub use world::{Place, Rights, World, places};
 pub use world_lines::{others_line, world_line};
 
 #[cfg(test)]

@@ -21,9 +21,9 @@ pub fn map_text(alloc: Global, number: u8, map: &AccessMap) -> Result<Vec<u8>, A
     ensures { IfOk result (λ text. text.items ≡ map_text number map.now) }
 {
     let mut text = Vec::new(alloc);
-    put_intervals(&mut text, number, Place::Flash, &map.flash)?;
-    put_intervals(&mut text, number, Place::Ram, &map.ram)?;
-    put_intervals(&mut text, number, Place::Window, &map.window)?;
+    'places: for part in map.places.as_slice() {
+        put_intervals(&mut text, number, part.place, part.intervals.as_slice())?;
+    }
     Ok(text)
 }
 
@@ -157,7 +157,7 @@ fn put_place(line: &mut Line, place: Place)
 {
     match place {
         Place::Flash => line.put(b"flash"),
-        Place::Ram => line.put(b"ram"),
+        Place::Ram | Place::SecondRam => line.put(b"ram"),
         Place::Window => line.put(b"window"),
     }
 }

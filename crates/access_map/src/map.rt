@@ -1,22 +1,27 @@
 //! The access map of a world.
 
-ghost use Rattle.std.specs.Prelude.{◌≡◌, ◌≤◌, ◌<◌, ◌+◌, ◌^◌, ◌/◌, IfOk};
+ghost use Rattle.std.specs.Prelude.{◌≤◌, ◌<◌, ◌+◌, IfOk};
 ghost use Rattle.std.specs.List.{All};
 ghost use Rattle.access_map.specs.Maps.{AreLongest, Describes, IsMapOf, IsPlaceMap, Tiles};
 ghost use Rattle.platform.specs.Boards.{numbers_of};
 
 use crate::interval::Interval;
-use crate::world::{Place, World};
+use crate::world::{Place, World, places};
 use mpu::Span;
 use platform::board::Layout;
 use std::alloc::{AllocError, Global};
 
-/// What unprivileged code may do in a world: the intervals of each place, from the lowest address on.
+/// What unprivileged code may do in a place: its intervals, from the lowest address on.
+#[derive(Drop)]
+pub struct PlaceMap {
+    pub place: Place,
+    pub intervals: Vec<Interval>,
+}
+
+/// What unprivileged code may do in a world: the maps of the places of a board, in the order of their addresses.
 #[derive(Drop)]
 pub struct AccessMap {
-    pub flash: Vec<Interval>,
-    pub ram: Vec<Interval>,
-    pub window: Vec<Interval>,
+    pub places: Vec<PlaceMap>,
 }
 
 impl AccessMap {
@@ -24,10 +29,14 @@ impl AccessMap {
     pub fn of(alloc: Global, world: &World, board: &Layout) -> Result<Self, AllocError>
         ensures { IfOk result (λ map. IsMapOf world.now (numbers_of board.now) map) }
     {
-        let flash = intervals_of(alloc, world, board, Place::Flash)?;
-        let ram = intervals_of(alloc, world, board, Place::Ram)?;
-        let window = intervals_of(alloc, world, board, Place::Window)?;
-        Ok(AccessMap { flash, ram, window })
+        let all = places(board);
+        let mut maps = Vec::new(alloc);
+        'places: for place in all {
+            let place = *place;
+            let intervals = intervals_of(alloc, world, board, place)?;
+            maps.push(PlaceMap { place, intervals })?;
+        }
+        Ok(AccessMap { places: maps })
     }
 }
 
@@ -40,7 +49,10 @@ fn intervals_of(
 ) -> Result<Vec<Interval>, AllocError>
     ensures { IfOk result (λ intervals. IsPlaceMap world.now (numbers_of board.now) place intervals.items) }
 {
-    intervals_within(alloc, world, place, place.span(board))
+    match place.span(board) {
+        Some(span) => intervals_within(alloc, world, place, span),
+        None => Ok(Vec::new(alloc)),
+    }
 }
 
 /// Returns the intervals of the addresses of a span, in which addresses neighbour.
@@ -51,7 +63,6 @@ fn intervals_within(
     span: Span,
 ) -> Result<Vec<Interval>, AllocError>
     requires some { span.first ≤ span.last }
-    requires near { span.last / 2 ^ 29 ≡ span.first / 2 ^ 29 }
     requires below { span.last < 0xE000_0000 }
     ensures tiles { IfOk result (λ intervals. Tiles intervals.items span.first (span.last + 1)) }
     ensures right { IfOk result (λ intervals. All (Describes world.now place) intervals.items) }

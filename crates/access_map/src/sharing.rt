@@ -1,10 +1,11 @@
 //! The bytes that one world shares with another.
 
 ghost use Rattle.std.specs.Bool.{Decides};
-ghost use Rattle.std.specs.Prelude.{◌≡◌, ◌≤◌, ◌<◌, ◌+◌, ◌^◌, ◌/◌, ℕ, IfOk, OnOk, false, MatchBool};
+ghost use Rattle.std.specs.Prelude.{◌≡◌, ◌≤◌, ◌<◌, ℕ, IfOk, OnOk, false, MatchBool};
 ghost use Rattle.access_map.specs.Sharing.{AreApart, AreShared, SharesAny, carries, covers, has_address, is_channel};
-ghost use Rattle.access_map.specs.Sharing.{is_shared};
+ghost use Rattle.access_map.specs.Sharing.{is_in_ram, is_shared};
 ghost use Rattle.access_map.specs.Stretches.{with_stretch};
+ghost use Rattle.access_map.specs.Worlds.{is_in_place};
 ghost use Rattle.platform.specs.Boards.{numbers_of};
 
 use crate::interval::Interval;
@@ -13,7 +14,10 @@ use mpu::Span;
 use platform::board::Layout;
 use std::alloc::{AllocError, Global};
 
-/// Neighbouring addresses of RAM: one world shares all of them with another, or none.
+/// The last address below the system region (B3.1), from which on there is no memory.
+const LAST_ADDRESS: u32 = 0xDFFF_FFFF;
+
+/// Neighbouring addresses: one world shares all of them with another, or none.
 #[derive(Clone, Copy)]
 struct Stretch {
     first: u32,
@@ -33,15 +37,10 @@ pub fn shared(
     ensures { IfOk result (λ spans.
         AreShared (numbers_of board.now) writer.now reader.now allowed.now spans.items) }
 {
-    let span = Place::Ram.span(board);
     let mut spans = Vec::new(alloc);
-    let mut current = Stretch::at(writer, reader, allowed, span);
-    'each: while current.last < span.last {
-        let rest = Span {
-            first: current.last + 1,
-            last: span.last,
-        };
-        let next = Stretch::at(writer, reader, allowed, rest);
+    let mut current = Stretch::at(board, writer, reader, allowed, 0);
+    'each: while current.last < LAST_ADDRESS {
+        let next = Stretch::at(board, writer, reader, allowed, current.last + 1);
         if current.is_shared == next.is_shared {
             current.last = next.last;
         } else {
@@ -66,14 +65,9 @@ fn shares(board: &Layout, writer: &World, reader: &World, allowed: &[Span]) -> b
         (SharesAny (numbers_of board.now) writer.now reader.now allowed.now)
         ((a : ℕ) → is_shared (numbers_of board.now) writer.now reader.now allowed.now a ≡ false) }
 {
-    let span = Place::Ram.span(board);
-    let mut first = span.first;
-    'each: while first <= span.last {
-        let rest = Span {
-            first,
-            last: span.last,
-        };
-        let stretch = Stretch::at(writer, reader, allowed, rest);
+    let mut first = 0;
+    'each: while first <= LAST_ADDRESS {
+        let stretch = Stretch::at(board, writer, reader, allowed, first);
         if stretch.is_shared {
             return true;
         }
@@ -83,10 +77,29 @@ fn shares(board: &Layout, writer: &World, reader: &World, allowed: &[Span]) -> b
 }
 
 impl Stretch {
-    /// Returns a stretch that begins where a span does, and ends with it or before.
-    fn at(writer: &World, reader: &World, allowed: &[Span], within: Span) -> Self
+    /// Returns a stretch that begins at an address, and ends with `LAST_ADDRESS` or before.
+    fn at(board: &Layout, writer: &World, reader: &World, allowed: &[Span], first: u32) -> Self
+        requires { first ≤ LAST_ADDRESS }
+        ensures first { result.first ≡ first }
+        ensures some { result.first ≤ result.last }
+        ensures last { result.last ≤ LAST_ADDRESS }
+        ensures right { (a : ℕ) → result.first ≤ a → a ≤ result.last
+            → is_shared (numbers_of board.now) writer.now reader.now allowed.now a ≡ result.is_shared }
+    {
+        let within = cut_at_ram(board, first);
+        if is_in_ram(board, first) {
+            return Stretch::in_ram(writer, reader, allowed, within);
+        }
+        Stretch {
+            first: within.first,
+            last: within.last,
+            is_shared: false,
+        }
+    }
+
+    /// Returns a stretch that begins where a span of RAM does, and ends with it or before.
+    fn in_ram(writer: &World, reader: &World, allowed: &[Span], within: Span) -> Self
         requires some { within.first ≤ within.last }
-        requires near { within.last / 2 ^ 29 ≡ within.first / 2 ^ 29 }
         requires below { within.last < 0xE000_0000 }
         ensures first { result.first ≡ within.first }
         ensures some { result.first ≤ result.last }
@@ -145,6 +158,46 @@ fn covers(spans: &[Span], address: u32) -> bool
     spans
         .iter()
         .any(|span| span.first <= address && address <= span.last)
+}
+
+/// Returns whether an address is in RAM or in the second RAM.
+fn is_in_ram(board: &Layout, address: u32) -> bool
+    ensures { result ≡ is_in_ram (numbers_of board.now) address }
+{
+    Place::Ram.has(board, address) || Place::SecondRam.has(board, address)
+}
+
+/// Returns addresses from this one on, all of them in a RAM or none, the last of them `LAST_ADDRESS` or before.
+#[tactic(auto, using(crate::proofs::Spans::both_alike))]
+fn cut_at_ram(board: &Layout, first: u32) -> Span
+    requires { first ≤ LAST_ADDRESS }
+    ensures first { result.first ≡ first }
+    ensures some { result.first ≤ result.last }
+    ensures last { result.last ≤ LAST_ADDRESS }
+    ensures alike { (a : ℕ) → result.first ≤ a → a ≤ result.last
+        → is_in_ram (numbers_of board.now) a ≡ is_in_ram (numbers_of board.now) result.first }
+{
+    let within = Span {
+        first,
+        last: LAST_ADDRESS,
+    };
+    let near = cut_at_place(board, Place::Ram, within);
+    cut_at_place(board, Place::SecondRam, near)
+}
+
+/// Returns the beginning of a span of which a place has all addresses or none.
+fn cut_at_place(board: &Layout, place: Place, within: Span) -> Span
+    requires some { within.first ≤ within.last }
+    ensures first { result.first ≡ within.first }
+    ensures some { result.first ≤ result.last }
+    ensures last { result.last ≤ within.last }
+    ensures alike { (a : ℕ) → result.first ≤ a → a ≤ result.last
+        → is_in_place (numbers_of board.now) place a ≡ is_in_place (numbers_of board.now) place result.first }
+{
+    match place.span(board) {
+        Some(span) => cut_at(span, within),
+        None => within,
+    }
 }
 
 /// Returns the beginning of a span in which each span of a list has all addresses or none.

@@ -7,7 +7,7 @@ use crate::{
     shared, world_line,
 };
 use mpu::{MpuRegister, MpuRegs};
-use platform::board::Layout;
+use platform::board::{Layout, SecondRam};
 use platform::mpu::RegionCount;
 use std::test::Fail;
 
@@ -16,6 +16,7 @@ const BOARD: Layout = Layout {
     flash_base: 0,
     flash_size: 0x4000,
     ram_size: 0x2000,
+    second_ram: None,
     priority_bits: 4,
     interrupts: 0,
     regions: RegionCount::Eight,
@@ -398,5 +399,163 @@ fn a_world_is_what_the_regions_say(rt: HostRuntime) -> Result<(), Fail> {
     below.below_zero = true;
     assert!(rt; off.is_same(&below), "the MPU is off");
     assert!(rt; !one.is_same(&off), "ENABLE");
+    Ok(())
+}
+
+/// The board of `round_robin` with a second RAM below flash, which begins at 0x08000000.
+const BELOW_FLASH: Layout = Layout {
+    flash_base: 0x0800_0000,
+    flash_size: 0x4000,
+    ram_size: 0x2000,
+    second_ram: Some(SecondRam {
+        base: 0x4_0000,
+        size: 0x1000,
+    }),
+    priority_bits: 4,
+    interrupts: 0,
+    regions: RegionCount::Eight,
+};
+
+/// With one between flash and RAM.
+const BELOW_RAM: Layout = Layout {
+    flash_base: 0,
+    flash_size: 0x4000,
+    ram_size: 0x2000,
+    second_ram: Some(SecondRam {
+        base: 0x1000_0000,
+        size: 0x2000,
+    }),
+    priority_bits: 4,
+    interrupts: 0,
+    regions: RegionCount::Eight,
+};
+
+/// With one that begins where RAM ends.
+const BESIDE_RAM: Layout = Layout {
+    flash_base: 0,
+    flash_size: 0x4000,
+    ram_size: 0x2000,
+    second_ram: Some(SecondRam {
+        base: 0x2000_2000,
+        size: 0x1000,
+    }),
+    priority_bits: 4,
+    interrupts: 0,
+    regions: RegionCount::Eight,
+};
+
+/// With one above the window, in two regions of the default memory map.
+const ABOVE_WINDOW: Layout = Layout {
+    flash_base: 0,
+    flash_size: 0x4000,
+    ram_size: 0x2000,
+    second_ram: Some(SecondRam {
+        base: 0x7FFF_FC00,
+        size: 0x800,
+    }),
+    priority_bits: 4,
+    interrupts: 0,
+    regions: RegionCount::Eight,
+};
+
+/// The MPU is off.
+const OFF: Setting<'static> = Setting {
+    control: 0,
+    below_zero: false,
+    regions: &[],
+};
+
+/// A board with a second RAM, and the map of a world with the MPU off.
+const SECOND_MAPS: [(Layout, &str); 4] = [
+    (
+        BELOW_FLASH,
+        "map 1 00040000 00040FFF ram rwx off
+map 1 08000000 08003FFF flash r-x off
+map 1 20000000 20001FFF ram rwx off
+map 1 40000000 40000FFF window rw- off
+",
+    ),
+    (
+        BELOW_RAM,
+        "map 1 00000000 00003FFF flash r-x off
+map 1 10000000 10001FFF ram rwx off
+map 1 20000000 20001FFF ram rwx off
+map 1 40000000 40000FFF window rw- off
+",
+    ),
+    (
+        BESIDE_RAM,
+        "map 1 00000000 00003FFF flash r-x off
+map 1 20000000 20001FFF ram rwx off
+map 1 20002000 20002FFF ram rwx off
+map 1 40000000 40000FFF window rw- off
+",
+    ),
+    (
+        ABOVE_WINDOW,
+        "map 1 00000000 00003FFF flash r-x off
+map 1 20000000 20001FFF ram rwx off
+map 1 40000000 40000FFF window rw- off
+map 1 7FFFFC00 800003FF ram rwx off
+",
+    ),
+];
+
+#[test]
+fn a_second_ram_has_its_place_in_a_map(rt: HostRuntime) -> Result<(), Fail> {
+    'maps: for (board, expected) in &SECOND_MAPS {
+        let map = AccessMap::of(rt.alloc(), &world(&OFF)?, board)?;
+        let text = map_text(rt.alloc(), 1, &map)?;
+        assert_eq!(rt; text.as_slice(), expected.as_bytes());
+    }
+    Ok(())
+}
+
+/// A board with a second RAM, the regions of worlds 1 and 3, and the lines of what they share.
+const SECOND_PAIRS: [(Layout, &[Region], &[Region], &str); 4] = [
+    (
+        BELOW_RAM,
+        &[(0x1000_0000, BLOCK), (0x2000_0400, MAILBOX)],
+        &[(0x1000_0100, MAILBOX), (0x2000_0400, NOTICE)],
+        "shares 1 3 10000100 1000011F\nshares 1 3 20000400 2000041F\nshares 3 1 10000100 1000011F\n",
+    ),
+    (
+        BELOW_RAM,
+        &[(0x1000_0000, BLOCK)],
+        &[(0x1000_0200, BLOCK)],
+        "apart 1 3\n",
+    ),
+    (
+        BESIDE_RAM,
+        &[(0, EVERYWHERE)],
+        &[(0, EVERYWHERE)],
+        "shares 1 3 20000000 20002FFF\nshares 3 1 20000000 20002FFF\n",
+    ),
+    (
+        ABOVE_WINDOW,
+        &[(0, EVERYWHERE)],
+        &[
+            (0x8000_0000, MAILBOX),
+            (0x7FFF_FBE0, MAILBOX),
+            (0x7FFF_FFE0, NOTICE),
+        ],
+        "shares 1 3 7FFFFFE0 8000001F\nshares 3 1 80000000 8000001F\n",
+    ),
+];
+
+#[test]
+fn a_second_ram_is_shared(rt: HostRuntime) -> Result<(), Fail> {
+    'pairs: for (board, regions, others, expected) in &SECOND_PAIRS {
+        let one = world(&on(regions))?;
+        let other = world(&on(others))?;
+        let there = shared(rt.alloc(), board, &one, &other, &[])?;
+        let back = shared(rt.alloc(), board, &other, &one, &[])?;
+        let text = pair_text(rt.alloc(), 1, 3, &there, &back)?;
+        assert_eq!(rt; text.as_slice(), expected.as_bytes());
+        assert_eq!(rt;
+            are_apart(board, &one, &other, &[]),
+            there.is_empty() && back.is_empty()
+        );
+    }
     Ok(())
 }

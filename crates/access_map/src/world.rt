@@ -1,13 +1,32 @@
 //! A world, the places of a board, and what unprivileged code may do at an address.
 
 ghost use Rattle.std.specs.Bool.{Decides};
-ghost use Rattle.std.specs.Prelude.{◌≡◌, ◌+◌, ◌≤◌, ◌<◌, ◌^◌, ◌/◌};
-ghost use Rattle.access_map.specs.Worlds.{decision_in, end_of, first_of, holds_code, rights_at, rule_at, takes_stores};
+ghost use Rattle.std.specs.Prelude.{◌≡◌, ◌+◌, ◌≤◌, ◌<◌, IfNone, IfSome};
+ghost use Rattle.access_map.specs.Worlds.{decision_in, end_of, first_of, holds_code, is_in_place, places};
+ghost use Rattle.access_map.specs.Worlds.{rights_at, rule_at, size_of, takes_stores};
 ghost use Rattle.platform.specs.Boards.{numbers_of};
 
 use mpu::{Decider, Decision, Kind, MpuRegs, Rule, Search, Span};
 use platform::board::Layout;
 use platform::map::RAM_BASE;
+
+/// Returns the places of a board, in the order of their addresses.
+pub fn places(board: &Layout) -> &'static [Place]
+    ensures { result.now ≡ places (numbers_of board.now) }
+{
+    let Some(second) = board.second_ram else {
+        return &[Place::Flash, Place::Ram, Place::Window];
+    };
+    if second.base < board.flash_base {
+        &[Place::SecondRam, Place::Flash, Place::Ram, Place::Window]
+    } else if second.base < RAM_BASE {
+        &[Place::Flash, Place::SecondRam, Place::Ram, Place::Window]
+    } else if second.base < WINDOW_BASE {
+        &[Place::Flash, Place::Ram, Place::SecondRam, Place::Window]
+    } else {
+        &[Place::Flash, Place::Ram, Place::Window, Place::SecondRam]
+    }
+}
 
 /// Where the device window begins.
 const WINDOW_BASE: u32 = 0x4000_0000;
@@ -37,6 +56,8 @@ pub struct Rights {
 pub enum Place {
     Flash,
     Ram,
+    /// The second RAM, where a board has one.
+    SecondRam,
     /// The device window.
     Window,
 }
@@ -86,7 +107,7 @@ impl Place {
     {
         match self {
             Place::Flash => false,
-            Place::Ram | Place::Window => true,
+            Place::Ram | Place::SecondRam | Place::Window => true,
         }
     }
 
@@ -95,27 +116,43 @@ impl Place {
         ensures { result ≡ holds_code self }
     {
         match self {
-            Place::Flash | Place::Ram => true,
+            Place::Flash | Place::Ram | Place::SecondRam => true,
             Place::Window => false,
         }
     }
 
-    /// Returns the addresses of the place on a board.
-    pub fn span(self, board: &Layout) -> Span
-        ensures first { result.first ≡ first_of (numbers_of board.now) self }
-        ensures last { result.last + 1 ≡ end_of (numbers_of board.now) self }
-        ensures some { result.first ≤ result.last }
-        ensures near { result.last / 2 ^ 29 ≡ result.first / 2 ^ 29 }
-        ensures below { result.last < 0xE000_0000 }
+    /// Returns the addresses of the place on a board, None where it is a second RAM that the board doesn't have.
+    #[tactic(auto, using(crate::proofs::Spanning::memory_ends))]
+    pub fn span(self, board: &Layout) -> Option<Span>
+        ensures none { IfNone result (size_of (numbers_of board.now) self ≡ 0) }
+        ensures first { IfSome result (λ span. span.first ≡ first_of (numbers_of board.now) self) }
+        ensures last { IfSome result (λ span. span.last + 1 ≡ end_of (numbers_of board.now) self) }
+        ensures some { IfSome result (λ span. span.first ≤ span.last) }
+        ensures below { IfSome result (λ span. span.last < 0xE000_0000) }
     {
         let (first, size) = match self {
             Place::Flash => (board.flash_base, board.flash_size),
             Place::Ram => (RAM_BASE, board.ram_size),
+            Place::SecondRam => match board.second_ram {
+                Some(second) => (second.base, second.size),
+                None => return None,
+            },
             Place::Window => (WINDOW_BASE, WINDOW_SIZE),
         };
-        Span {
+        Some(Span {
             first,
             last: first + (size - 1),
+        })
+    }
+
+    /// Returns whether an address is in the place on a board.
+    #[tactic(auto, using(crate::proofs::Spanning::has_lemmas))]
+    pub fn has(self, board: &Layout, address: u32) -> bool
+        ensures { result ≡ is_in_place (numbers_of board.now) self address }
+    {
+        match self.span(board) {
+            Some(span) => span.first <= address && address <= span.last,
+            None => false,
         }
     }
 }

@@ -1,3 +1,3 @@
 pub mod Scripts
 pub mod Ordered
-mod Taken
+pub mod Taken

@@ -1,6 +1,6 @@
 -- What the text of a board means (profile), over the `toml` crate's meaning of a document (TOML 1.1). A check is made
 -- only where those before it passed, so the first refusal is the result.
-use Rattle.std.specs.Prelude.{ℕ, suc, ℤ, pos, negsuc, Bool, true, false, ◌&&◌, not, nat_lt, if◌then◌else◌, List, []}
+use Rattle.std.specs.Prelude.{ℕ, suc, ℤ, pos, negsuc, Bool, true, false, ◌&&◌, not, nat_le, nat_lt, if◌then◌else◌, List, []}
 use Rattle.std.specs.Prelude.{◌∷◌, codes, bytes_eq, Option, Some, None, Result, Ok, Err}
 use Rattle.std.specs.List.{list_any}
 use Rattle.toml.specs.Data.{Data, Items, no_items, item, Members, no_members, member, get_member, as_integer, as_str}
@@ -12,8 +12,8 @@ use Rattle.platform.specs.declared.error.BoardError.TheVariants.{EventsOutOfOrde
 use Rattle.platform.specs.declared.script.ScriptedEvent.{ScriptedEvent}
 use Rattle.platform.specs.declared.script.Signal.{Signal}
 use Rattle.platform.specs.declared.script.Signal.TheVariants.{Rise, Fall, Pulse, Nmi}
-use Rattle.platform.specs.Boards.{Numbers, Described, is_whole_blocks, is_size, is_flash, is_priority_bits}
-use Rattle.platform.specs.Boards.{is_interrupt_count}
+use Rattle.platform.specs.Boards.{Numbers, Described, RamSpan, is_whole_blocks, is_size, is_flash, is_priority_bits}
+use Rattle.platform.specs.Boards.{is_interrupt_count, is_second_ram}
 use Rattle.platform.specs.Boards.{is_region_count, default_regions, is_tick, first_tick, most_events}
 
 -- one check, and then another with its result
@@ -64,7 +64,10 @@ only known fields = if has_only known fields then Ok fields else Err UnknownKey
 abbrev pub board_keys : List (List ℕ)
 board_keys =
     codes "flash_base" ∷ codes "flash_size" ∷ codes "ram_size" ∷ codes "priority_bits" ∷ codes "lines" ∷ codes "regions"
-    ∷ codes "event" ∷ []
+    ∷ codes "ram" ∷ codes "event" ∷ []
+
+abbrev pub second_ram_keys : List (List ℕ)
+second_ram_keys = codes "base" ∷ codes "size" ∷ []
 
 abbrev pub interrupt_keys : List (List ℕ)
 interrupt_keys = codes "at" ∷ codes "line" ∷ codes "what" ∷ []
@@ -72,7 +75,7 @@ interrupt_keys = codes "at" ∷ codes "line" ∷ codes "what" ∷ []
 abbrev pub nmi_keys : List (List ℕ)
 nmi_keys = codes "at" ∷ codes "nmi" ∷ []
 
--- the six numbers, one after another
+-- the six numbers, one after another, of a board without a second RAM
 unfoldable pub numbers_in : Members → Result Numbers BoardError
 numbers_in document = do
   flash_base ← where_ok is_whole_blocks (number (get_member (codes "flash_base") document))
@@ -85,6 +88,7 @@ numbers_in document = do
     flash_base = flash_base;
     flash_size = flash_size;
     ram_size = ram_size;
+    second_ram = None;
     priority_bits = priority_bits;
     interrupts = interrupts;
     regions = regions;
@@ -166,27 +170,61 @@ abbrev pub are_tables : Items → Bool
 are_tables no_items = true
 are_tables (item value others) = is_table (as_table value) && are_tables others
 
--- a list of tables, not too many
-abbrev pub tables : Option Items → Result Items BoardError
-tables None = Err WrongKind
-tables (Some items) =
+-- a list of tables, not more than `most`
+abbrev pub tables : ℕ → Option Items → Result Items BoardError
+tables most None = Err WrongKind
+tables most (Some items) =
     if not (are_tables items) then Err WrongKind
-    else if nat_lt most_events (count items) then Err OutOfRange
+    else if nat_lt most (count items) then Err OutOfRange
     else Ok items
 
--- the events of a board, which needn't have any
-abbrev pub events : Option Data → Result Items BoardError
-events None = Ok no_items
-events (Some value) = tables (as_array value)
+-- the tables at a key, which may be missing: then there are none
+abbrev pub tables_at : ℕ → Option Data → Result Items BoardError
+tables_at most None = Ok no_items
+tables_at most (Some value) = tables most (as_array value)
+
+-- a board has one table of a second RAM at most
+abbrev pub most_second_rams : ℕ
+most_second_rams = 1
+
+-- the base of a second RAM: the address of a block
+abbrev pub is_second_base : ℕ → Bool
+is_second_base base = is_whole_blocks base && nat_le base 0xFFFF_FC00
+
+-- a second RAM of a board with these numbers
+unfoldable pub second_ram_in : Numbers → Members → Result RamSpan BoardError
+second_ram_in numbers table = do
+  base ← where_ok is_second_base (number (get_member (codes "base") table))
+  size ←
+      where_ok (λ size. is_second_ram numbers (record { base = base; size = size }))
+      (number (get_member (codes "size") table))
+  known ← only second_ram_keys table
+  Ok (record { base = base; size = size })
+
+-- the second RAM, if there is a table of one
+abbrev pub second_ram_of : Numbers → Items → Result (Option RamSpan) BoardError
+second_ram_of numbers no_items = Ok None
+second_ram_of numbers (item value others) = do
+  table ← of_kind (as_table value)
+  second ← second_ram_in numbers table
+  Ok (Some second)
+
+-- the numbers of a board with the second RAM of a document, if it has one
+unfoldable pub with_second_ram : Numbers → Members → Result Numbers BoardError
+with_second_ram numbers document = do
+  rams ← tables_at most_second_rams (get_member (codes "ram") document)
+  second ← second_ram_of numbers rams
+  Ok (record numbers { second_ram = second })
 
 -- the board that a document describes, or the first refusal
 unfoldable pub board_in : Members → Result Described BoardError
 board_in document = do
   numbers ← numbers_in document
   known ← only board_keys document
-  items ← events (get_member (codes "event") document)
-  script ← script_in numbers.interrupts first_tick items
-  Ok (record { numbers = numbers; script = script })
+  all ← with_second_ram numbers document
+  items ← tables_at most_events (get_member (codes "event") document)
+  script ← script_in all.interrupts first_tick items
+  Ok (record { numbers = all; script = script })
 
 -- the board of what was parsed
 abbrev pub board_of_document : Option Members → Result Described BoardError

@@ -5,8 +5,8 @@ ghost use Rattle.toml.specs.Data.{get_member, as_table};
 ghost use Rattle.toml.specs.View.{table_view, view, items_view};
 ghost use Rattle.platform.specs.Boards.{IsScript, IsScriptFrom};
 ghost use Rattle.board.specs.Reading.{Answers, Gives};
-ghost use Rattle.board.specs.Texts.{are_tables, change, event_in, events, is_table, interrupt_signal, nmi, nmi_signal};
-ghost use Rattle.board.specs.Texts.{script_in, signal_in, timely_event};
+ghost use Rattle.board.specs.Texts.{are_tables, change, event_in, is_table, interrupt_signal, nmi, nmi_signal};
+ghost use Rattle.board.specs.Texts.{script_in, signal_in, tables_at, timely_event};
 
 use crate::keys::{INTERRUPT_KEYS, NMI_KEYS, has_only};
 use crate::ranges::{FIRST_TICK, is_tick};
@@ -20,10 +20,11 @@ use toml::{Table, Value};
 /// The most events that a board can have.
 pub const MOST_SCRIPT_EVENTS: usize = 65_536;
 
-// The events of a board, which needn't have any: a list of tables, not too many.
+// The tables at a key, which may be missing: a list of tables, at most `most`.
 #[tactic(auto, using(crate::proofs::Scripts::count_is))]
-pub fn events(value: Option<&Value>) -> Result<&[Value], BoardError>
-    ensures { Gives (λ values. items_view values.now) result (events (option_map (λ v. view v.now) value.entry)) }
+pub fn tables(value: Option<&Value>, most: usize) -> Result<&[Value], BoardError>
+    ensures { Gives (λ values. items_view values.now) result
+        (tables_at most (option_map (λ v. view v.now) value.entry)) }
 {
     let Some(value) = value else {
         return Ok(&[]);
@@ -34,7 +35,7 @@ pub fn events(value: Option<&Value>) -> Result<&[Value], BoardError>
     if !are_tables(values.as_slice()) {
         return Err(BoardError::WrongKind);
     }
-    if values.len() > MOST_SCRIPT_EVENTS {
+    if values.len() > most {
         return Err(BoardError::OutOfRange);
     }
     Ok(values.as_slice())

@@ -8,15 +8,19 @@ ghost use Rattle.board.specs.Texts.{has_only};
 use toml::Table;
 
 /// The keys of a board.
-pub const BOARD_KEYS: [&str; 7] = [
+pub const BOARD_KEYS: [&str; 8] = [
     "flash_base",
     "flash_size",
     "ram_size",
     "priority_bits",
     "lines",
     "regions",
+    "ram",
     "event",
 ];
+
+/// The keys of a second RAM.
+pub const SECOND_RAM_KEYS: [&str; 2] = ["base", "size"];
 
 /// The keys of an event on an interrupt.
 pub const INTERRUPT_KEYS: [&str; 3] = ["at", "line", "what"];

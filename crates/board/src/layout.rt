@@ -17,7 +17,7 @@ use toml::Table;
 /// How many regions there are where the text doesn't say it.
 pub const DEFAULT_REGIONS: u64 = 8;
 
-// The six numbers, one after another.
+/// Returns the layout that a document describes, without its second RAM, or the first refusal of its six numbers.
 #[tactic(auto, unfolding(crate::specs::Texts::numbers_in))]
 pub fn layout_of(document: &Table) -> Result<Layout, BoardError>
     ensures { Gives numbers_of result (numbers_in (table_view document.now)) }
@@ -48,6 +48,7 @@ pub fn layout_of(document: &Table) -> Result<Layout, BoardError>
         flash_base: flash_base as u32,
         flash_size: flash_size as u32,
         ram_size: ram_size as u32,
+        second_ram: None,
         priority_bits: priority_bits as u8,
         interrupts: interrupts as u8,
         regions,

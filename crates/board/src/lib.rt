@@ -1,5 +1,5 @@
-//! The reader of board files: the numbers of a board and the script of what happens on its interrupts,
-//! in TOML. README.md says what is proved.
+//! The reader of board files: the numbers of a board, its second RAM, and the script of what happens on its
+//! interrupts, in TOML. README.md says what is proved.
 #![tactic(auto)]
 
 ghost use Rattle.std.specs.Prelude.{◌≡◌, ◌⊎◌, Err, IfOk};
@@ -15,17 +15,19 @@ mod events;
 pub mod keys;
 mod layout;
 pub mod ranges;
+mod second_ram;
 mod values;
 
 pub use board::Board;
 pub use events::{MOST_SCRIPT_EVENTS, change, nmi};
-use events::{events, script_of};
+use events::{script_of, tables};
 use keys::{BOARD_KEYS, has_only};
-use layout::layout_of;
-pub use layout::{DEFAULT_REGIONS, region_count};
-pub use platform::board::Layout;
+pub use layout::{DEFAULT_REGIONS, layout_of, region_count};
+pub use platform::board::{Layout, SecondRam};
 pub use platform::error::BoardError;
 pub use platform::script::{InterruptNumber, ScriptedEvent, Signal};
+pub use second_ram::MOST_SECOND_RAMS;
+use second_ram::with_second_ram;
 use std::alloc::Global;
 use toml::Table;
 pub use values::{find, number, word};
@@ -60,7 +62,8 @@ pub fn board_of_table(alloc: Global, document: &Table) -> Result<Board, BoardErr
     if !has_only(&BOARD_KEYS, document) {
         return Err(BoardError::UnknownKey);
     }
-    let values = events(find(document, "event"))?;
+    let layout = with_second_ram(layout, document)?;
+    let values = tables(find(document, "event"), MOST_SCRIPT_EVENTS)?;
     let events = script_of(alloc, layout.interrupts, values)?;
     Ok(Board { layout, events })
 }

@@ -1,12 +1,14 @@
 //! The ranges of the numbers of a board. `reasons` tests a value by these functions too, so that a message names
 //! a value exactly where it is refused.
 
-ghost use Rattle.std.specs.Prelude.{◌≡◌, ◌<◌, ◌≤◌, ◌+◌, ◌%◌, ◌^◌};
+ghost use Rattle.std.specs.Prelude.{◌≡◌, ◌<◌, ◌≤◌, ◌+◌, ◌%◌, ◌^◌, true};
 ghost use Rattle.std.specs.Bool.{OnTrue};
-ghost use Rattle.platform.specs.Map.{ram_base};
-ghost use Rattle.platform.specs.Boards.{is_flash, is_interrupt_count, is_priority_bits, is_size, is_tick};
-ghost use Rattle.platform.specs.Boards.{is_whole_blocks};
+ghost use Rattle.platform.specs.Map.{are_apart, is_for_memory, ram_base};
+ghost use Rattle.platform.specs.Boards.{is_apart, is_flash, is_interrupt_count, is_priority_bits, is_second_ram};
+ghost use Rattle.platform.specs.Boards.{is_second_size, is_size, is_tick, is_whole_blocks, numbers_of};
+ghost use Rattle.board.specs.Texts.{is_second_base};
 
+use platform::board::Layout;
 use platform::exception::MOST_INTERRUPTS;
 use platform::map::RAM_BASE;
 
@@ -15,6 +17,12 @@ pub const BLOCK: u64 = 1024;
 
 /// Flash and RAM have a mebibyte each at most.
 pub const MOST_BYTES: u64 = 0x10_0000;
+
+/// The second RAM has 16 mebibytes at most.
+pub const MOST_SECOND_BYTES: u64 = 0x100_0000;
+
+/// The last address of a block.
+pub const LAST_BLOCK: u64 = 0xFFFF_FC00;
 
 /// The least number of bits that a priority has.
 pub const LEAST_PRIORITY_BITS: u64 = 3;
@@ -56,6 +64,73 @@ pub fn is_flash(base: u64, bytes: u64) -> bool
     ensures most { OnTrue result (bytes ≤ 0x10_0000) }
 {
     is_size(bytes) && base + bytes <= u64::from(RAM_BASE)
+}
+
+/// Returns whether a second RAM can begin at an address.
+pub fn is_second_base(base: u64) -> bool
+    ensures test { result ≡ is_second_base base }
+    ensures whole { OnTrue result (base % 1024 ≡ 0) }
+    ensures most { OnTrue result (base ≤ 0xFFFF_FC00) }
+{
+    is_whole_blocks(base) && base <= LAST_BLOCK
+}
+
+/// Returns whether a second RAM can have this many bytes.
+pub fn is_second_size(bytes: u64) -> bool
+    ensures test { result ≡ is_second_size bytes }
+    ensures whole { OnTrue result (bytes % 1024 ≡ 0) }
+    ensures least { OnTrue result (1024 ≤ bytes) }
+    ensures most { OnTrue result (bytes ≤ 0x100_0000) }
+{
+    is_whole_blocks(bytes) && BLOCK <= bytes && bytes <= MOST_SECOND_BYTES
+}
+
+/// Returns whether this many bytes from a base on are where the default memory map has memory (B3.1).
+pub fn is_for_memory(base: u64, bytes: u64) -> bool
+    requires base { base < 2 ^ 63 }
+    requires bytes { bytes < 2 ^ 63 }
+    ensures { result ≡ is_for_memory base bytes }
+{
+    let end = base + bytes;
+    end <= 0x4000_0000 || (0x6000_0000 <= base && end <= 0xA000_0000)
+}
+
+/// Returns whether `bytes` bytes from `base` on and `more` bytes from `other` on share no address.
+pub fn are_apart(base: u64, bytes: u64, other: u64, more: u64) -> bool
+    requires first { base + bytes < 2 ^ 64 }
+    requires second { other + more < 2 ^ 64 }
+    ensures { result ≡ are_apart base bytes other more }
+{
+    base + bytes <= other || other + more <= base
+}
+
+/// Returns whether a second RAM has no byte of the flash of a board and none of its RAM.
+pub fn is_apart(layout: &Layout, base: u64, bytes: u64) -> bool
+    requires base { base < 2 ^ 63 }
+    requires bytes { bytes < 2 ^ 63 }
+    ensures { result ≡ is_apart (numbers_of layout.now) (record { base = base; size = bytes }) }
+{
+    let (flash, flash_size) = (u64::from(layout.flash_base), u64::from(layout.flash_size));
+    are_apart(flash, flash_size, base, bytes)
+        && are_apart(u64::from(RAM_BASE), u64::from(layout.ram_size), base, bytes)
+}
+
+/// Returns whether a board can have a second RAM of this many bytes at a base.
+pub fn is_second_ram(layout: &Layout, base: u64, bytes: u64) -> bool
+    requires base { base < 2 ^ 63 }
+    requires bytes { bytes < 2 ^ 63 }
+    ensures test { result ≡ is_second_ram (numbers_of layout.now) (record { base = base; size = bytes }) }
+    ensures whole { OnTrue result (bytes % 1024 ≡ 0) }
+    ensures least { OnTrue result (1024 ≤ bytes) }
+    ensures most { OnTrue result (bytes ≤ 0x100_0000) }
+    ensures memory { OnTrue result (is_for_memory base bytes ≡ true) }
+    ensures apart { OnTrue result
+        (is_apart (numbers_of layout.now) (record { base = base; size = bytes }) ≡ true) }
+{
+    is_whole_blocks(base)
+        && is_second_size(bytes)
+        && is_for_memory(base, bytes)
+        && is_apart(layout, base, bytes)
 }
 
 /// Returns whether a board can have priorities of this many bits.

@@ -8,12 +8,12 @@ use Rattle.output.specs.Output.{IsCutShort, Writing, WritesAll}
 use Rattle.platform.specs.Memory.{Memory, byte_at}
 use Rattle.reference.specs.State.{State}
 
--- the n bytes from an address on, as far as they are in flash or RAM
+-- the n bytes from an address on, as far as they are in memory
 unfoldable pub bytes_from : Memory → ℕ → ℕ → List ℕ
 bytes_from m a zero = []
 bytes_from m a (suc n) = bytes_from m a n ++ option_to_list (byte_at m (word_sum a n))
 
--- all of them are in flash or RAM
+-- all of them are in memory
 unfoldable pub are_there : Memory → ℕ → ℕ → Bool
 are_there m a zero = true
 are_there m a (suc n) = are_there m a n && is_some (byte_at m (word_sum a n))

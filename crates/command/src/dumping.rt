@@ -21,7 +21,7 @@ pub struct FailedDump<'a> {
     pub error: Option<io::Error>,
 }
 
-/// Returns whether all bytes of these dumps are in flash or RAM.
+/// Returns whether all bytes of these dumps are in memory.
 pub fn have_all(machine: &Fast, dumps: &[Dump<'_>]) -> bool
     ensures { result ≡ have_all machine.now.state.bus.memory dumps.now }
 {
@@ -33,7 +33,7 @@ pub fn have_all(machine: &Fast, dumps: &[Dump<'_>]) -> bool
     true
 }
 
-/// Returns whether all bytes of a dump are in flash or RAM.
+/// Returns whether all bytes of a dump are in memory.
 #[tactic(auto, unfolding(crate::specs::Dumping::are_there))]
 pub fn are_there(machine: &Fast, dump: &Dump<'_>) -> bool
     ensures { result ≡ are_there machine.now.state.bus.memory dump.now.address dump.now.length }

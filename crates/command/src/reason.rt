@@ -13,7 +13,9 @@ use platform::board::Layout;
 use platform::error::StartError;
 use platform::map::RAM_BASE;
 use platform::stop::Stop;
-use reasons::{write_board_reason, write_image_reason, write_notes, write_start_reason};
+use reasons::{
+    write_board_reason, write_image_reason, write_notes, write_second_ram, write_start_reason,
+};
 use std::alloc::Global;
 use std::io;
 use std::io::Write;
@@ -79,7 +81,7 @@ pub fn write_run_notes<E: Write>(
     }
 }
 
-/// Writes which dump isn't all in flash or all in RAM, where that is why nothing was run.
+/// Writes which dump isn't all in memory, where that is why nothing was run.
 pub fn write_dump_reason<E: Write>(
     alloc: Global,
     error: Error,
@@ -106,11 +108,13 @@ pub fn write_dump_reason<E: Write>(
 fn write_outside<E: Write>(err: &mut E, dump: &Dump<'_>, layout: &Layout) -> io::Result<()> {
     let (address, length) = (dump.address, dump.length);
     let (base, flash, ram) = (layout.flash_base, layout.flash_size, layout.ram_size);
-    writeln!(
+    write!(
         err,
         "  --dump: {length} bytes at {address:08X} aren't all in memory, and the board has {flash} bytes of flash at \
          {base:08X} and {ram} bytes of RAM at {RAM_BASE:08X}"
-    )
+    )?;
+    write_second_ram(err, layout)?;
+    writeln!(err)
 }
 
 /// Writes why a machine of a board doesn't start with an image.

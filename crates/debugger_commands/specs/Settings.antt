@@ -1,5 +1,6 @@
 -- What a session keeps beside the machine and the line: which lines steps have, and what ends a run (profile).
-use Rattle.std.specs.Prelude.{ℕ, Bool, true, false, List, [], ◌++◌, codes, decimal, Result, Ok, Err}
+use Rattle.std.specs.Prelude.{ℕ, Bool, true, false, List, [], ◌++◌, codes, decimal, Option, Some, None}
+use Rattle.std.specs.Prelude.{Result, Ok, Err}
 use Rattle.debugger_commands.specs.declared.commands.Command.{Command}
 use Rattle.debugger_commands.specs.declared.commands.Command.TheVariants as command
 use Rattle.debugger_commands.specs.declared.commands.LineError.{LineError}
@@ -11,7 +12,7 @@ use Rattle.debugger_commands.specs.declared.watchpoints.Watchpoint.{Watchpoint}
 use Rattle.debugger_commands.specs.Breakpoints.{breakpoint_text, with_breakpoint}
 use Rattle.debugger_commands.specs.Texts.{error_text}
 use Rattle.debugger_commands.specs.Watchpoints.{watchpoint_text, with_watchpoint}
-use Rattle.platform.specs.Boards.{Numbers}
+use Rattle.platform.specs.Boards.{Numbers, RamSpan}
 use Rattle.platform.specs.Map.{ram_base}
 use Rattle.platform.specs.Text.{hex_word, line_feed}
 
@@ -82,13 +83,23 @@ block_line name base size = ((name ++ hex_word base) ++ codes " ") ++ (decimal s
 abbrev pub number_line : List ℕ → ℕ → List ℕ
 number_line name number = name ++ (decimal number ++ line_feed)
 
+-- the second RAM, where the board has one
+abbrev pub second_ram_line : Option RamSpan → List ℕ
+second_ram_line None = []
+second_ram_line (Some second) = block_line (codes "second_ram ") second.base second.size
+
+-- the blocks of memory of the board
+unfoldable pub memory_lines : Numbers → List ℕ
+memory_lines board =
+    block_line (codes "flash ") board.flash_base board.flash_size
+    ++ (block_line (codes "ram ") ram_base board.ram_size ++ second_ram_line board.second_ram)
+
 -- the numbers of the board, and how many states of the machine can be saved
 unfoldable pub facts_text : Numbers → ℕ → List ℕ
 facts_text board slots =
-    number_line (codes "script ") 1 ++ (block_line (codes "flash ") board.flash_base board.flash_size
-    ++ (block_line (codes "ram ") ram_base board.ram_size
+    number_line (codes "script ") 1 ++ (memory_lines board
     ++ (number_line (codes "priority_bits ") board.priority_bits ++ (number_line (codes "lines ") board.interrupts
-    ++ (number_line (codes "regions ") board.regions ++ number_line (codes "slots ") slots)))))
+    ++ (number_line (codes "regions ") board.regions ++ number_line (codes "slots ") slots))))
 
 -- the text for a line that neither makes a step, nor shows or changes the machine; `quit` has none
 abbrev pub settings_text : Settings → Result Command LineError → List ℕ

@@ -5,7 +5,8 @@ ghost use Rattle.debugger_commands.specs.Breakpoints.{has};
 ghost use Rattle.debugger_commands.specs.Conditions.{access_hit, first_hit, has_line, hit_if, hit_of, is_printed};
 ghost use Rattle.debugger_commands.specs.Conditions.{is_plain, run_end_text};
 ghost use Rattle.debugger_commands.specs.Settings.{block_line, facts_text, number_line, ok_text, opened_settings};
-ghost use Rattle.debugger_commands.specs.Settings.{settings_after, settings_text, with_condition, without_conditions};
+ghost use Rattle.debugger_commands.specs.Settings.{memory_lines, second_ram_line, settings_after, settings_text, with_condition};
+ghost use Rattle.debugger_commands.specs.Settings.{without_conditions};
 ghost use Rattle.platform.specs.Boards.{numbers_of};
 
 use crate::breakpoints::Breakpoints;
@@ -273,6 +274,29 @@ fn put_block(page: &mut Reply, name: &[u8], base: u32, size: u32)
     page.put(b"\n");
 }
 
+/// Appends the lines of the blocks of memory.
+#[tactic(auto, unfolding(crate::specs::Settings::memory_lines))]
+fn put_memory(page: &mut Reply, layout: &Layout)
+    requires { length page.old + 132 ≤ 1024 }
+    ensures text { page.new ≡ page.old ++ memory_lines (numbers_of layout.now) }
+    ensures short { length page.new ≤ length page.old + 132 }
+{
+    put_block(page, b"flash ", layout.flash_base, layout.flash_size);
+    put_block(page, b"ram ", RAM_BASE, layout.ram_size);
+    put_second_ram(page, layout);
+}
+
+/// Appends the line of the second RAM, where the board has one.
+fn put_second_ram(page: &mut Reply, layout: &Layout)
+    requires { length page.old + 44 ≤ 1024 }
+    ensures text { page.new ≡ page.old ++ second_ram_line (numbers_of layout.now).second_ram }
+    ensures short { length page.new ≤ length page.old + 44 }
+{
+    if let Some(second) = layout.second_ram {
+        put_block(page, b"second_ram ", second.base, second.size);
+    }
+}
+
 /// Appends the line of a number, by its name with a space.
 fn put_number(page: &mut Reply, name: &[u8], number: u8)
     requires name { length name.now ≤ 14 }
@@ -292,8 +316,7 @@ fn facts_text(layout: &Layout, slots: u8) -> Reply
 {
     let mut page = Reply::new();
     put_number(&mut page, b"script ", 1);
-    put_block(&mut page, b"flash ", layout.flash_base, layout.flash_size);
-    put_block(&mut page, b"ram ", RAM_BASE, layout.ram_size);
+    put_memory(&mut page, layout);
     put_number(&mut page, b"priority_bits ", layout.priority_bits);
     put_number(&mut page, b"lines ", layout.interrupts);
     put_number(&mut page, b"regions ", layout.regions.number());

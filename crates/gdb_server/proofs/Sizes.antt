@@ -3,7 +3,7 @@ use Rattle.std.proofs.Common.{◌≡◌, ◌+◌, ◌*◌, ◌/◌, ◌%◌, ◌
 use Rattle.std.proofs.Common.{List, [], ◌∷◌, length, is_some, refl, Option, Some, None, Result, Ok, Err}
 use Rattle.std.proofs.lemmas.Bool.{cond_both}
 use Rattle.gdb.specs.Targets.{altered_if, place_of, register_written}
-use Rattle.gdb_past.proofs.Following.{same_refl, same_trans}
+use Rattle.gdb_past.proofs.Following.{extents_alike, same_refl, same_trans}
 use Rattle.gdb_past.specs.Places.{AreOfOneMachine}
 use Rattle.gdb_server.specs.Commands.{placed_by}
 use Rattle.gdb_server.specs.Replies.{bytes_in}
@@ -31,7 +31,7 @@ abbrev Stays : State → Written → Type 0
 Stays s w = AreOfOneMachine s w.state
 
 placed_stays : (s : State) (r : Result State PlaceError) → KeepsSizes s r → Stays s (after_place s r)
-placed_stays s (Ok after) h = h
+placed_stays s (Ok after) h = extents_alike s.bus.memory after.bus.memory h
 placed_stays s (Err why) h = same_refl s
 
 altered_keeps : (s : State) (place : Option Place) → KeepsSizes s (altered_if s place)

@@ -8,8 +8,8 @@ use Rattle.gdb_server.specs.declared.purposes.MachineChange.{MachineChange}
 use Rattle.gdb_server.specs.declared.purposes.MachineChange.TheVariants as change
 use Rattle.gdb_texts.specs.Registers.{word_at, written_register}
 use Rattle.machine.specs.Whole.{Whole}
-use Rattle.platform.specs.Map.{is_in_ppb, ram_base}
-use Rattle.platform.specs.Memory.{Memory, byte_at}
+use Rattle.platform.specs.Map.{is_in_ppb}
+use Rattle.platform.specs.Memory.{Memory, byte_at, is_in_memory}
 use Rattle.platform.specs.declared.error.PlaceError.{PlaceError}
 use Rattle.platform.specs.declared.error.PlaceError.TheVariants.{NotAligned, NoSuchPlace, Stopped}
 use Rattle.reference.specs.declared.place.Place.TheVariants.{Word}
@@ -89,19 +89,9 @@ unfoldable pub with_bytes : State → ℕ → List ℕ → State
 with_bytes s a [] = s
 with_bytes s a (byte ∷ bytes) = with_bytes (with_byte s a byte) (a + 1) bytes
 
--- the last of n bytes from a on, at least one; none where they go beyond the address space
-abbrev pub last_of : ℕ → ℕ → Option ℕ
-last_of a n = if nat_le (a + n) (2 ^ 32) then Some (a + n - 1) else None
-
-abbrev pub are_there_to : Memory → ℕ → Option ℕ → Bool
-are_there_to m a None = false
-are_there_to m a (Some last) =
-    is_some (byte_at m a) && (is_some (byte_at m last) && (nat_lt last ram_base || nat_le ram_base a))
-
--- n bytes from a on, at least one, are in flash, or in RAM: the first and the last are there, on one side of the
--- beginning of RAM
+-- n bytes from a on lie wholly in flash, in RAM or in the second RAM, none of them beyond the address space
 abbrev pub are_there : Memory → ℕ → ℕ → Bool
-are_there m a n = are_there_to m a (last_of a n)
+are_there m a n = nat_le (a + n) (2 ^ 32) && is_in_memory m a n
 
 -- a machine that has stopped takes none
 abbrev pub block_written : State → ℕ → List ℕ → Written

@@ -3,7 +3,7 @@
 ghost use Rattle.std.specs.Prelude.{◌≡◌, ◌+◌, ◌<◌, ◌≤◌, ◌^◌, is_some, length, slice_index};
 ghost use Rattle.gdb.specs.Targets.{altered_if};
 ghost use Rattle.gdb_server.specs.Writes.{Writes, after_place, are_there, block_written, byte_beside, byte_there};
-ghost use Rattle.gdb_server.specs.Writes.{last_of, memory_written, register_after, registers_written, with_byte};
+ghost use Rattle.gdb_server.specs.Writes.{memory_written, register_after, registers_written, with_byte};
 ghost use Rattle.gdb_server.specs.Writes.{with_bytes, word_beside, word_of, word_written, written};
 ghost use Rattle.platform.specs.Memory.{byte_at};
 
@@ -12,7 +12,7 @@ use crate::purposes::MachineChange;
 use gdb::place_of;
 use gdb_texts::{word_at, written_register};
 use machine::{Decider, DueTicks, KeptCode, Levels, Machine, Place, PlaceError};
-use platform::map::{RAM_BASE, is_in_ppb};
+use platform::map::is_in_ppb;
 
 /// Puts a value into its place, None into a register that no machine has. Returns why it was refused, if it was.
 pub fn put<D: Decider, C: KeptCode, L: Levels, U: DueTicks>(
@@ -133,45 +133,15 @@ fn put_bytes<D: Decider, C: KeptCode, L: Levels, U: DueTicks>(
     }
 }
 
-/// Returns the address of the last of `length` bytes, at least one; none where they go beyond the address space.
-fn last_of(address: u32, length: usize) -> Option<u32>
-    requires { 0 < length }
-    ensures { result ≡ last_of address length }
-{
-    if length <= 0x1_0000_0000 - address as usize {
-        Some((address as usize + length - 1) as u32)
-    } else {
-        None
-    }
-}
-
-/// Returns whether a byte of flash or RAM is at an address.
-fn is_there<D: Decider, C: KeptCode, L: Levels, U: DueTicks>(
-    machine: &Machine<D, C, L, U>,
-    address: u32,
-) -> bool
-    ensures { result ≡ is_some (byte_at machine.now.state.bus.memory address) }
-{
-    machine.byte(address).is_some()
-}
-
-/// Returns whether `length` bytes from an address on, at least one, are in flash, or in RAM: the first and the last
-/// are there, on one side of the beginning of RAM.
+/// Returns whether `length` bytes from an address on lie wholly in flash, in RAM or in the second RAM.
 fn are_there<D: Decider, C: KeptCode, L: Levels, U: DueTicks>(
     machine: &Machine<D, C, L, U>,
     address: u32,
     length: usize,
 ) -> bool
-    requires { 0 < length }
     ensures { result ≡ are_there machine.now.state.bus.memory address length }
 {
-    match last_of(address, length) {
-        Some(last) => {
-            is_there(machine, address)
-                && (is_there(machine, last) && (last < RAM_BASE || RAM_BASE <= address))
-        }
-        None => false,
-    }
+    length <= (1 << 32) - address as usize && machine.has_memory(address, length)
 }
 
 /// Writes bytes that are all in flash, or all in RAM.

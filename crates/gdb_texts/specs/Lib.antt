@@ -10,6 +10,7 @@ pub mod Registers
 pub mod Replies
 pub mod Settings
 pub mod Stops
+pub mod Stretches
 pub mod Texts
 pub mod Threads
 pub mod Transfers

@@ -3,9 +3,10 @@
 use Rattle.std.specs.Prelude.{ℕ, min, nat_lt, nat_le, ◌==◌, if◌then◌else◌, List, [], ◌∷◌, ◌++◌, length, take, drop}
 use Rattle.std.specs.Prelude.{codes}
 use Rattle.platform.specs.Boards.{Numbers}
-use Rattle.platform.specs.Map.{ram_base}
 use Rattle.gdb_texts.specs.Replies.{error_text}
 use Rattle.gdb_texts.specs.Stops.{number_digits}
+use Rattle.gdb_texts.specs.Stretches.{joined, rams_of, size_of}
+use Rattle.gdb_texts.specs.declared.stretch.Stretch.{Stretch}
 use Rattle.gdb_texts.specs.declared.replies.ErrorCode.TheVariants.{Malformed}
 use Rattle.gdb_texts.specs.declared.transfers.TheConstants.{DESCRIPTION, MAP_HEAD, MAP_TAIL}
 
@@ -29,8 +30,7 @@ piece_text text offset count =
 unfoldable pub description : List ℕ
 description = DESCRIPTION.now
 
--- ---- the memory map: flash, RAM, the device window and the Private Peripheral Bus. On no board do two of them touch,
--- but flash and RAM, which differ in kind
+-- ---- the memory map: flash, and as RAM the RAMs, the device window and the Private Peripheral Bus
 
 -- digits without zeros in front
 unfoldable pub without_zeros : List ℕ → List ℕ
@@ -56,7 +56,15 @@ rom = codes "<memory type=\"rom\" start=\"0x"
 abbrev pub ram : List ℕ
 ram = codes "<memory type=\"ram\" start=\"0x"
 
+abbrev pub ram_text : Stretch → List ℕ
+ram_text s = block_text ram s.base (size_of s)
+
+abbrev pub rams_text : List Stretch → List ℕ
+rams_text [] = []
+rams_text (s ∷ others) = ram_text s ++ rams_text others
+
+-- stretches that touch are one block
 unfoldable pub memory_map : Numbers → List ℕ
 memory_map board =
-    ((MAP_HEAD.now ++ block_text rom board.flash_base board.flash_size) ++ block_text ram ram_base board.ram_size)
+    ((MAP_HEAD.now ++ block_text rom board.flash_base board.flash_size) ++ rams_text (joined (rams_of board)))
     ++ MAP_TAIL.now

@@ -13,6 +13,8 @@ mod registers;
 mod replies;
 mod settings;
 mod stops;
+mod stretch;
+mod stretches;
 mod texts;
 mod threads;
 mod transfers;

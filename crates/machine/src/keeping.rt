@@ -11,7 +11,7 @@ use std::alloc::{AllocError, Global};
 use std::marker::Model;
 
 /// A copy of a machine's state, which `keep` overwrites and `take_back` goes back to. It takes as much memory as
-/// flash and RAM have, and some 10 KiB.
+/// flash, RAM and the second RAM have, and some 10 KiB.
 #[derive(Drop)]
 pub struct Kept<L: Levels, U: DueTicks> {
     regs: Regs,

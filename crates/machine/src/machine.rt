@@ -6,7 +6,7 @@ ghost use Rattle.machine.specs.Runs.{Fails};
 ghost use Rattle.machine.specs.Selected.{SelectedFails};
 ghost use Rattle.machine.specs.Starts.{Starts, Places};
 ghost use Rattle.machine.specs.Tasks.{CountsErrors, TaskEnds, TaskFails};
-ghost use Rattle.platform.specs.Memory.{byte_at};
+ghost use Rattle.platform.specs.Memory.{byte_at, is_in_memory};
 ghost use Rattle.reference.specs.Places.{altered, place, signalled};
 ghost use Rattle.platform.specs.Priorities.{is_below_zero, is_in};
 ghost use Rattle.platform.specs.Regions.{shown};
@@ -266,7 +266,7 @@ impl<D: Decider, C: KeptCode, L: Levels, U: DueTicks> Machine<D, C, L, U> {
         self.core.place(value)
     }
 
-    /// Puts a value into a register or a word, as `place` does, but takes R0 to R12, LR, and words of flash and RAM in
+    /// Puts a value into a register or a word, as `place` does, but takes R0 to R12, LR, and words of memory in
     /// Handler mode and in an exception entry too.
     pub fn alter(&mut self, value: Place) -> Result<(), PlaceError>
         ensures { Places (altered self.old.state value) self.old self.new result }
@@ -346,11 +346,18 @@ impl<D: Decider, C: KeptCode, L: Levels, U: DueTicks> Machine<D, C, L, U> {
         self.core.regs()
     }
 
-    /// Returns the byte of flash or RAM at an address, if there is one.
+    /// Returns the byte of memory at an address, if there is one.
     pub fn byte(&self, address: u32) -> Option<u8>
         ensures { result ≡ byte_at self.now.state.bus.memory address }
     {
         self.core.byte(address)
+    }
+
+    /// Returns whether `length` bytes from an address on lie wholly in flash, in RAM or in the second RAM.
+    pub fn has_memory(&self, address: u32, length: usize) -> bool
+        ensures { result ≡ is_in_memory self.now.state.bus.memory address length }
+    {
+        self.core.has_memory(address, length)
     }
 
     /// Returns the byte at an address as a debugger sees it: that of the word that a load by privileged code would

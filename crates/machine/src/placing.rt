@@ -86,8 +86,7 @@ impl<D: Decider, C: KeptCode, L: Levels, U: DueTicks> Processor<D, C, L, U> {
             Place::Reg(number, _) => number < 16,
             Place::Special(number, _) => SpecialRegister::of(number).is_some(),
             Place::Word(address, _) => {
-                let space = self.bus().space();
-                space.is_in_flash(address, 4) || space.is_in_ram(address, 4) || is_in_ppb(address)
+                self.bus().space().is_in_memory(address, 4) || is_in_ppb(address)
             }
         }
     }
@@ -146,7 +145,7 @@ fn is_word_aligned(value: Place) -> bool
     }
 }
 
-/// Returns whether neither the mode nor an exception depends on a place: R0 to R12, LR, or a word of flash or RAM.
+/// Returns whether neither the mode nor an exception depends on a place: R0 to R12, LR, or a word of memory.
 fn is_plain(value: Place) -> bool
     ensures { result ≡ is_plain value }
 {

@@ -1,7 +1,7 @@
 //! What a debugger reads of a machine.
 
 ghost use Rattle.std.specs.Prelude.{◌≡◌};
-ghost use Rattle.platform.specs.Memory.{byte_at};
+ghost use Rattle.platform.specs.Memory.{byte_at, is_in_memory};
 ghost use Rattle.platform.specs.Priorities.{is_below_zero, is_in};
 ghost use Rattle.platform.specs.Regions.{shown};
 ghost use Rattle.platform.specs.Status.{read_status};
@@ -78,11 +78,18 @@ impl<D: Decider, C: KeptCode, L: Levels, U: DueTicks> Processor<D, C, L, U> {
         }
     }
 
-    /// Returns the byte of flash or RAM at an address, if there is one.
+    /// Returns the byte of memory at an address, if there is one.
     pub fn byte(&self, address: u32) -> Option<u8>
         ensures { result ≡ byte_at self.now.bus.memory address }
     {
         self.bus().space().byte(address)
+    }
+
+    /// Returns whether `length` bytes from an address on lie wholly in one block of memory.
+    pub fn has_memory(&self, address: u32, length: usize) -> bool
+        ensures { result ≡ is_in_memory self.now.bus.memory address length }
+    {
+        self.bus().space().is_in_memory(address, length)
     }
 
     /// The registers of the MPU.

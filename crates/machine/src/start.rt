@@ -6,8 +6,8 @@ ghost use Rattle.machine.specs.Starts.{StartsAt};
 ghost use Rattle.platform.specs.Boards.{numbers_of};
 ghost use Rattle.reference.specs.Start.{start};
 ghost use Rattle.platform.specs.Images.{are_placed, is_placed, image_loaded};
-ghost use Rattle.platform.specs.Boards.{blank};
-ghost use Rattle.platform.specs.Memory.{vector};
+ghost use Rattle.platform.specs.Boards.{blank, blank_second};
+ghost use Rattle.platform.specs.Memory.{is_in_memory, vector};
 ghost use Rattle.elf.specs.Segment.{segment_of};
 
 use crate::stepping::Processor;
@@ -41,7 +41,10 @@ pub fn start_core<D: Decider, C: KeptCode, L: Levels, U: DueTicks>(
         return Err(StartError::NoMemory);
     };
     load_segments(&mut space, image.segments());
-    let regs = Regs::reset(space.vector(0), space.vector(1));
+    let regs = Regs::reset(
+        space.vector(board.layout.flash_base, 0),
+        space.vector(board.layout.flash_base, 1),
+    );
     let system = System::reset(
         board.layout.flash_base,
         board.layout.interrupts,
@@ -64,7 +67,7 @@ fn image_bytes(segments: &[Segment<'_>]) -> usize {
     bytes
 }
 
-/// Returns whether each segment lies wholly in flash or wholly in RAM.
+/// Returns whether each segment lies wholly in one block of memory.
 fn are_placed(board: &Layout, segments: &[Segment<'_>]) -> bool
     ensures { result ≡ are_placed (blank (numbers_of board.now)) (map segment_of segments.now) }
 {
@@ -76,7 +79,7 @@ fn are_placed(board: &Layout, segments: &[Segment<'_>]) -> bool
     true
 }
 
-/// Returns whether a segment lies wholly in flash or wholly in RAM.
+/// Returns whether a segment lies wholly in one block of memory.
 fn is_placed(board: &Layout, segment: &Segment<'_>) -> bool
     ensures { result ≡ is_placed (blank (numbers_of board.now)) (segment_of segment.now) }
 {
@@ -87,11 +90,22 @@ fn is_placed(board: &Layout, segment: &Segment<'_>) -> bool
         segment.address,
         length,
     ) || is_within(RAM_BASE, board.ram_size as usize, segment.address, length)
+        || is_in_second(board, segment.address, length)
+}
+
+/// Returns whether `length` bytes from `address` on lie wholly in the second RAM of a board.
+#[tactic(auto, using(space::proofs::Places::ends_low))]
+fn is_in_second(board: &Layout, address: u32, length: usize) -> bool
+    ensures { result ≡ is_in_memory (blank_second (numbers_of board.now).second_ram) address length }
+{
+    match &board.second_ram {
+        Some(second) => is_within(second.base, second.size as usize, address, length),
+        None => false,
+    }
 }
 
 /// Puts the segments into memory, in their order.
 fn load_segments(space: &mut Space, segments: &[Segment<'_>])
-    requires { are_placed space.old (map segment_of segments.now) ≡ true }
     ensures { space.new ≡ image_loaded space.old (map segment_of segments.now) }
 {
     'segments: for segment in segments {

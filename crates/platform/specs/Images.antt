@@ -9,7 +9,7 @@ pub use Rattle.platform.specs.Memory.{number_in}
 use Rattle.platform.specs.declared.error.LoadError.TheVariants.{Truncated, NotElf, NotElf32Little, NotExecutable}
 use Rattle.platform.specs.declared.error.LoadError.TheVariants.{NotArm, HeaderSize, SegmentOutsideFile, SegmentOverlap}
 use Rattle.platform.specs.declared.error.LoadError.TheVariants.{TooManySegments}
-use Rattle.platform.specs.Memory.{Memory, is_in_flash, is_in_ram, overwritten}
+use Rattle.platform.specs.Memory.{Memory, is_in_memory, overwritten}
 
 -- bytes that are at an address before the first step
 pub record Segment : Type 0 where
@@ -156,9 +156,9 @@ image_of file =
 
 -- ---- its place in memory
 
--- whether a segment lies wholly in flash or wholly in RAM
+-- whether a segment lies wholly in one block of memory
 abbrev pub is_placed : Memory → Segment → Bool
-is_placed m s = is_in_flash m s.address (length s.bytes) || is_in_ram m s.address (length s.bytes)
+is_placed m s = is_in_memory m s.address (length s.bytes)
 
 -- memory with the segments in it, in their order
 abbrev pub image_loaded : Memory → List Segment → Memory

@@ -1,10 +1,20 @@
 -- The address space (ARM DDI 0403, "The system address map"; the addresses of RAM and of the device window are this
 -- project's choice).
-use Rattle.std.specs.Prelude.{ℕ, ◌/◌, ◌^◌, Bool, ◌||◌, ◌==◌}
+use Rattle.std.specs.Prelude.{ℕ, ◌+◌, ◌/◌, ◌^◌, Bool, ◌&&◌, ◌||◌, nat_le, ◌==◌}
 
 -- RAM begins here; flash ends here, or before
 abbrev pub ram_base : ℕ
 ram_base = 0x2000_0000
+
+-- `bytes` bytes from `base` on and `more` bytes from `other` on share no address
+abbrev pub are_apart : ℕ → ℕ → ℕ → ℕ → Bool
+are_apart base bytes other more = nat_le (base + bytes) other || nat_le (other + more) base
+
+-- whether a block of memory may be here: where the default memory map has memory, which is below 0x40000000 (the
+-- regions Code and SRAM) and from 0x60000000 to 0x9FFFFFFF (the two regions RAM)
+abbrev pub is_for_memory : ℕ → ℕ → Bool
+is_for_memory base bytes =
+    nat_le (base + bytes) 0x4000_0000 || (nat_le 0x6000_0000 base && nat_le (base + bytes) 0xA000_0000)
 
 -- the device window: 0x40000000 to 0x40000FFF
 abbrev pub is_in_window : ℕ → Bool

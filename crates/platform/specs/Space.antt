@@ -1,4 +1,4 @@
--- How flash, RAM and the device window carry out a granted access (profile); at any other address it is a bus error.
+-- How memory and the device window carry out a granted access (profile); at any other address it is a bus error.
 use Rattle.std.specs.Prelude.{ℕ, ◌%◌, ◌^◌, Bool, ◌&&◌, ◌==◌, if◌then◌else◌, Option, Some, None}
 use Rattle.instruction_set.specs.Sizes.{bytes_in, is_word}
 use Rattle.platform.specs.declared.access.Performed.{Performed}
@@ -7,7 +7,7 @@ use Rattle.platform.specs.declared.access.Request.{Request}
 use Rattle.platform.specs.declared.access.Rule.{Rule}
 use Rattle.platform.specs.Kinds.{is_load, is_store, is_write}
 use Rattle.platform.specs.Map.{is_in_window, out_register, tick_register}
-use Rattle.platform.specs.Memory.{Memory, number_at, is_in_ram, bytes_of, overwritten}
+use Rattle.platform.specs.Memory.{Memory, number_at, is_writable_at, bytes_of, overwritten}
 use Rattle.platform.specs.Outcomes.{Outcome, bus_error, done, unchanged}
 
 -- a word that is stored to OUT, whose low byte goes to the console
@@ -35,11 +35,11 @@ abbrev pub written_to_window : Rule → Request → Performed
 written_to_window rule q =
     if is_out q then Done (record { rule = rule; value = 0; sent = Some (q.value % 256) }) else bus_error rule
 
--- elsewhere RAM alone is written
+-- elsewhere the blocks alone are written that a store may change: RAM and the second RAM
 abbrev pub written_to : Memory → Rule → Request → Outcome Memory
 written_to m rule q =
     if is_in_window q.access.address then unchanged m (written_to_window rule q)
-    else if is_in_ram m q.access.address (bytes_in q.access.size)
+    else if is_writable_at m q.access.address (bytes_in q.access.size)
     then record {
       after = overwritten m q.access.address (bytes_of (bytes_in q.access.size) q.value);
       performed = done rule 0;

@@ -1,10 +1,11 @@
 -- What holds of memory and the System Control Space at the start, after each step and after each value that `place`
 -- puts. It's proved in the crate `state_laws`, and `Invariant` of `reference` has it for the whole state.
-use Rattle.std.specs.Prelude.{◌≡◌, ℕ, ◌+◌, ◌^◌, ◌<◌, ◌≤◌, Bool, true, List, length, slice_index}
+use Rattle.std.specs.Prelude.{◌≡◌, ℕ, ◌+◌, ◌^◌, ◌<◌, ◌≤◌, Bool, true, false, List, [], ◌∷◌, length, slice_index}
 use Rattle.platform.specs.declared.exception.TheConstants.{EXCEPTIONS, MOST_INTERRUPTS}
 use Rattle.platform.specs.Boards.{Described, IsScript, IsScriptFrom, is_flash, is_interrupt_count, is_region_count}
-use Rattle.platform.specs.Map.{ram_base}
-use Rattle.platform.specs.Memory.{Memory}
+use Rattle.platform.specs.Boards.{is_second_ram_or_none, is_size}
+use Rattle.platform.specs.Map.{is_for_memory}
+use Rattle.platform.specs.Memory.{Block, Memory, holds, is_in_memory}
 use Rattle.platform.specs.Priorities.{Nvic, is_in, is_exception, can_be_disabled, kept}
 use Rattle.platform.specs.Regions.{IsSound}
 use Rattle.platform.specs.System.{System}
@@ -53,9 +54,14 @@ pub record IsAhead (interrupts : ℕ) (t : Time) : Type 0 where
   pub script : IsScriptFrom interrupts (t.ticks + 1) t.script
   pub high : length t.high ≡ MOST_INTERRUPTS
 
--- flash ends where RAM begins, or below
-abbrev pub FlashEndsBelowRam : Memory → Type 0
-FlashEndsBelowRam m = m.flash_base + length m.flash ≤ ram_base
+-- no address is in the block and in one of these
+abbrev pub IsApartFrom : Block → Memory → Type 0
+IsApartFrom b m = (a : ℕ) → holds b a 1 ≡ true → is_in_memory m a 1 ≡ false
+
+-- each block is where memory may be, and no two have an address in common
+abbrev pub IsLaidOut : Memory → Type 0
+IsLaidOut [] = Unit {0}
+IsLaidOut (b ∷ m) = (is_for_memory b.base (length b.bytes) ≡ true) × IsApartFrom b m × IsLaidOut m
 
 -- ---- together
 
@@ -71,10 +77,12 @@ pub record SystemInvariant (s : System) : Type 0 where
 
 -- ---- the board that it needs
 
--- a board whose flash, number of interrupts and number of regions are in range, and whose script is sorted and names
--- only interrupts that the board has
+-- a board whose flash, RAMs, number of interrupts and number of regions are in range, and whose script is sorted and
+-- names only interrupts that the board has
 pub record IsBoard (board : Described) : Type 0 where
   pub flash : is_flash board.numbers.flash_base board.numbers.flash_size ≡ true
+  pub ram : is_size board.numbers.ram_size ≡ true
+  pub second_ram : is_second_ram_or_none board.numbers board.numbers.second_ram ≡ true
   pub interrupts : is_interrupt_count board.numbers.interrupts ≡ true
   pub regions : is_region_count board.numbers.regions ≡ true
   pub script : IsScript board.numbers.interrupts board.script

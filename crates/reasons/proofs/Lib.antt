@@ -2,3 +2,4 @@ mod Firsts
 mod Naming
 mod Numbers
 mod Refusing
+mod SecondRam

@@ -2,8 +2,8 @@
 use Rattle.std.specs.Prelude.{ℕ, ◌+◌, Bool, true, false, if◌then◌else◌, List, codes, Option, Some, None, is_some}
 use Rattle.std.specs.Prelude.{Result, Ok, Err}
 use Rattle.toml.specs.Data.{Data, Items, no_items, item, Members, as_array, as_table, get_member}
-use Rattle.board.specs.Texts.{◌>>=◌, events, is_table, script_in, timely_event}
-use Rattle.platform.specs.Boards.{first_tick}
+use Rattle.board.specs.Texts.{◌>>=◌, tables_at, is_table, script_in, timely_event}
+use Rattle.platform.specs.Boards.{first_tick, most_events}
 use Rattle.platform.specs.declared.error.BoardError.{BoardError}
 use Rattle.platform.specs.declared.error.BoardError.TheVariants.{WrongKind}
 use Rattle.platform.specs.declared.script.ScriptedEvent.{ScriptedEvent}
@@ -12,7 +12,7 @@ use Rattle.reasons.specs.Problems.{refusal_of}
 
 -- the events of a document, on a board with this many lines, or the first refusal
 abbrev pub script_of : ℕ → Members → Result (List ScriptedEvent) BoardError
-script_of lines document = events (get_member (codes "event") document) >>= script_in lines first_tick
+script_of lines document = tables_at most_events (get_member (codes "event") document) >>= script_in lines first_tick
 
 -- the number of the first item that isn't a table, where the first item has this number
 abbrev pub first_untabled : ℕ → Items → Option ℕ

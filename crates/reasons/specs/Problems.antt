@@ -3,9 +3,9 @@ use Rattle.std.specs.Prelude.{◌≡◌, ◌⊎◌, ℕ, ◌+◌, ◌&&◌, Bool
 use Rattle.std.specs.Prelude.{Option, Some, None, is_some, Result, Ok, Err, IsOk}
 use Rattle.toml.specs.Data.{Members, as_integer, get_member}
 use Rattle.toml.specs.View.{view}
-use Rattle.board.specs.Texts.{◌>>=◌, change, number, number_or, where_ok, word}
+use Rattle.board.specs.Texts.{◌>>=◌, change, is_second_base, number, number_or, where_ok, word}
 use Rattle.platform.specs.Boards.{Numbers, default_regions, is_flash, is_interrupt_count, is_priority_bits}
-use Rattle.platform.specs.Boards.{is_region_count, is_size, is_whole_blocks}
+use Rattle.platform.specs.Boards.{is_region_count, is_second_size, is_size, is_whole_blocks}
 use Rattle.platform.specs.Map.{ram_base}
 use Rattle.platform.specs.declared.script.ScriptedEvent.{ScriptedEvent}
 use Rattle.platform.specs.declared.script.Signal.{Signal}
@@ -15,10 +15,10 @@ use Rattle.platform.specs.declared.error.BoardError.TheVariants.{UnknownKey}
 use Rattle.reasons.specs.declared.keys.Key.{Key}
 use Rattle.reasons.specs.declared.keys.Takes.{Takes}
 use Rattle.reasons.specs.declared.keys.Takes.TheVariants.{Integers, Blocks, RamSizes, FlashSizes, Regions, Tables}
-use Rattle.reasons.specs.declared.keys.Takes.TheVariants.{Words}
+use Rattle.reasons.specs.declared.keys.Takes.TheVariants.{SecondBases, SecondSizes, Words}
 use Rattle.reasons.specs.declared.problem.Problem.{Problem}
-use Rattle.reasons.specs.declared.problem.Problem.TheVariants.{Missing, Value, Kind, Integer, Line, Events, Unknown}
-use Rattle.reasons.specs.declared.problem.Problem.TheVariants.{Misplaced, Order, FlashEnd}
+use Rattle.reasons.specs.declared.problem.Problem.TheVariants.{Missing, Value, Kind, Integer, Line, Count, Unknown}
+use Rattle.reasons.specs.declared.problem.Problem.TheVariants.{Misplaced, Order, FlashEnd, RamSpan}
 
 -- the refusal that a problem explains
 abbrev pub refusal_of : Problem → BoardError
@@ -28,11 +28,12 @@ refusal_of (Kind key value) = WrongKind
 refusal_of (Integer key value) = WrongKind
 refusal_of (Line None lines) = MissingKey
 refusal_of (Line (Some value) lines) = if is_some (as_integer (view value.now)) then OutOfRange else WrongKind
-refusal_of (Events count) = OutOfRange
+refusal_of (Count key count) = OutOfRange
 refusal_of (Unknown name known) = UnknownKey
 refusal_of (Misplaced name) = UnknownKey
 refusal_of (Order at before) = EventsOutOfOrder
 refusal_of (FlashEnd base size) = OutOfRange
+refusal_of (RamSpan base size) = OutOfRange
 
 -- the key whose message it is, where it is the message of one key
 abbrev pub key_of : Problem → Option Key
@@ -41,11 +42,12 @@ key_of (Value key value) = Some key
 key_of (Kind key value) = Some key
 key_of (Integer key value) = Some key
 key_of (Line value lines) = None
-key_of (Events count) = None
+key_of (Count key count) = None
 key_of (Unknown name known) = None
 key_of (Misplaced name) = None
 key_of (Order at before) = None
 key_of (FlashEnd base size) = None
+key_of (RamSpan base size) = None
 
 -- the numbers that the message for a key names. That flash of a size may end too high is a problem of its own
 abbrev pub takes : Takes → ℕ → Bool
@@ -53,6 +55,8 @@ takes (Integers least most) n = nat_le least n && nat_le n most
 takes Blocks n = is_whole_blocks n
 takes RamSizes n = is_size n
 takes FlashSizes n = is_size n
+takes SecondBases n = is_second_base n
+takes SecondSizes n = is_second_size n
 takes Regions n = is_region_count n
 takes Tables n = false
 takes (Words words) n = false
@@ -76,10 +80,11 @@ EndsTooHigh base (Value key value) = ⊥
 EndsTooHigh base (Kind key value) = ⊥
 EndsTooHigh base (Integer key value) = ⊥
 EndsTooHigh base (Line value lines) = ⊥
-EndsTooHigh base (Events count) = ⊥
+EndsTooHigh base (Count key count) = ⊥
 EndsTooHigh base (Unknown name known) = ⊥
 EndsTooHigh base (Misplaced name) = ⊥
 EndsTooHigh base (Order at before) = ⊥
+EndsTooHigh base (RamSpan other size) = ⊥
 
 -- a fact of a number that is refused; or a fact of what comes after one that is read
 abbrev pub IfRefused : Result ℕ BoardError → Type 0 → (ℕ → Type 0) → Type 0

@@ -26,7 +26,7 @@ if_within (Err error) = None
 abbrev pub segment_if : List ℕ → ℕ → Option Segment
 segment_if file place = if is_segment file place then if_within (segment_in file place) else None
 
--- there is a segment, and it is neither wholly in flash nor wholly in RAM
+-- there is a segment, and it is neither wholly in flash nor wholly in a RAM
 abbrev pub IsUnplaced : Memory → Option Segment → Type 0
 IsUnplaced m None = ⊥
 IsUnplaced m (Some segment) = is_placed m segment ≡ false

@@ -9,7 +9,7 @@ ghost use Rattle.reasons.specs.Events.{event_with, first_refused, first_untabled
 ghost use Rattle.reasons.specs.Events.{refusal_in, script_of};
 ghost use Rattle.reasons.specs.Problems.{Explained, Finds, Passes, change_in, tick_of};
 
-use crate::keys::{AT, EVENT, EVENT_TABLE, LINE_NAME, NMI, WHAT};
+use crate::keys::{AT, EVENT, EVENT_TABLE, Key, LINE_NAME, NMI, WHAT};
 use crate::problem::Problem;
 use crate::settings::{check_number, unknown};
 use board::keys::{BOARD_KEYS, INTERRUPT_KEYS, NMI_KEYS, is_known};
@@ -40,13 +40,13 @@ pub fn events_problem(document: &Table, lines: u64) -> Option<EventProblem<'_>>
         });
     };
     let values = values.as_slice();
-    if let Some(problem) = tables_problem(values) {
+    if let Some(problem) = tables_problem(values, EVENT_TABLE) {
         return Some(problem);
     }
     if values.len() > MOST_SCRIPT_EVENTS {
         return Some(EventProblem {
             number: 0,
-            problem: Problem::Events(values.len()),
+            problem: Problem::Count(EVENT, values.len()),
         });
     }
     script_problem(values, lines)
@@ -82,8 +82,8 @@ fn has_key(fields: Option<&Table>, key: &str) -> bool
     }
 }
 
-/// Returns the first event that isn't a table.
-fn tables_problem(values: &[Value]) -> Option<EventProblem<'_>>
+/// Returns the first value of a list that isn't a table, as a problem of a key.
+pub fn tables_problem(values: &[Value], key: Key) -> Option<EventProblem<'_>>
     ensures names { option_map (λ p. p.number) result ≡ first_untabled 1 (items_view values.now) }
     ensures explains { Finds (option_map (λ p. p.problem) result) (of_tables (are_tables (items_view values.now))) }
 {
@@ -91,7 +91,7 @@ fn tables_problem(values: &[Value]) -> Option<EventProblem<'_>>
         if value.as_table().is_none() {
             return Some(EventProblem {
                 number: index + 1,
-                problem: Problem::Kind(EVENT_TABLE, value),
+                problem: Problem::Kind(key, value),
             });
         }
     }

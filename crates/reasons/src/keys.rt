@@ -4,8 +4,8 @@ ghost use Rattle.std.specs.Prelude.{◌≡◌};
 ghost use Rattle.reasons.specs.Problems.{takes};
 
 use board::ranges::{
-    BLOCK, FIRST_TICK, LAST_TICK, LEAST_PRIORITY_BITS, MOST_BYTES, MOST_PRIORITY_BITS, is_size,
-    is_whole_blocks,
+    BLOCK, FIRST_TICK, LAST_BLOCK, LAST_TICK, LEAST_PRIORITY_BITS, MOST_BYTES, MOST_PRIORITY_BITS,
+    MOST_SECOND_BYTES, is_second_base, is_second_size, is_size, is_whole_blocks,
 };
 use board::{MOST_SCRIPT_EVENTS, region_count};
 use platform::exception::MOST_INTERRUPTS;
@@ -31,6 +31,10 @@ pub enum Takes {
     RamSizes,
     /// The sizes of flash: those of RAM, as far as flash ends where RAM begins, or before.
     FlashSizes,
+    /// The bases of a second RAM.
+    SecondBases,
+    /// The sizes of a second RAM.
+    SecondSizes,
     /// 8 and 16, and 8 where the key is missing.
     Regions,
     /// A list of tables.
@@ -49,6 +53,8 @@ impl Takes {
             Takes::Integers(least, most) => least <= number && number <= most,
             Takes::Blocks => is_whole_blocks(number),
             Takes::RamSizes | Takes::FlashSizes => is_size(number),
+            Takes::SecondBases => is_second_base(number),
+            Takes::SecondSizes => is_second_size(number),
             Takes::Regions => region_count(number).is_ok(),
             Takes::Tables | Takes::Words(_) => false,
         }
@@ -66,6 +72,11 @@ impl Display for Takes {
                 "a multiple of {BLOCK} from {BLOCK} to {MOST_BYTES}, with flash_base + flash_size \
                  at most {RAM_BASE}"
             ),
+            Takes::SecondBases => write!(f, "a multiple of {BLOCK} from 0 to {LAST_BLOCK}"),
+            Takes::SecondSizes => write!(
+                f,
+                "a multiple of {BLOCK} from {BLOCK} to {MOST_SECOND_BYTES}"
+            ),
             Takes::Regions => write!(f, "8 or 16 (8 where the key is missing)"),
             Takes::Tables => write!(
                 f,
@@ -78,7 +89,7 @@ impl Display for Takes {
 
 /// The keys of a board, as a message lists them.
 pub const BOARD_KEY_NAMES: &str =
-    "flash_base, flash_size, ram_size, priority_bits, lines, regions and event";
+    "flash_base, flash_size, ram_size, priority_bits, lines, regions, ram and event";
 
 pub const FLASH_BASE: Key = Key {
     name: "flash_base",
@@ -108,6 +119,29 @@ pub const LINES: Key = Key {
 pub const REGIONS: Key = Key {
     name: "regions",
     takes: Takes::Regions,
+};
+
+pub const RAM: Key = Key {
+    name: "ram",
+    takes: Takes::Words("a list of one table at most, written as [[ram]]"),
+};
+
+pub const RAM_TABLE: Key = Key {
+    name: "ram",
+    takes: Takes::Words("a table, written as [[ram]]"),
+};
+
+/// The keys of a second RAM, as a message lists them.
+pub const SECOND_RAM_KEY_NAMES: &str = "base and size";
+
+pub const SECOND_BASE: Key = Key {
+    name: "base",
+    takes: Takes::SecondBases,
+};
+
+pub const SECOND_SIZE: Key = Key {
+    name: "size",
+    takes: Takes::SecondSizes,
 };
 
 pub const EVENT: Key = Key {

@@ -1,5 +1,6 @@
 //! What a person may want to know of a run that was made: lines of their own, after the run.
 
+use crate::start::write_second_ram;
 use elf::{Image, Segment, load};
 use platform::board::Layout;
 use platform::exception::FIRST_INTERRUPT;
@@ -12,7 +13,7 @@ use std::io::Write;
 /// The number of the BKPT of a semihosting call in Thumb code (Arm, "Semihosting for AArch32 and AArch64").
 const SEMIHOSTING: u8 = 0xAB;
 
-/// Writes a line for each of these: the run ended at a semihosting call, the stack pointer at the start isn't in RAM,
+/// Writes a line for each of these: the run ended at a semihosting call, the stack pointer at the start isn't in a RAM,
 /// and the script pends an interrupt whose vector isn't in the image.
 pub fn write_notes<W: Write>(
     out: &mut W,
@@ -45,7 +46,7 @@ fn write_semihosting<W: Write>(out: &mut W, stop: Stop) -> io::Result<()> {
     }
 }
 
-/// Writes where the stack pointer is at the start (B1.5.5), if that is neither in RAM nor at its end.
+/// Writes where the stack pointer is at the start (B1.5.5), if that is neither in a RAM nor at its end.
 fn write_stack_pointer<W: Write>(
     out: &mut W,
     image: &Image<'_>,
@@ -53,14 +54,24 @@ fn write_stack_pointer<W: Write>(
 ) -> io::Result<()> {
     let (base, size) = (layout.flash_base, layout.ram_size);
     let pointer = word_of(image, base).unwrap_or(u32::MAX);
-    if pointer.wrapping_sub(RAM_BASE) <= size {
+    if pointer.wrapping_sub(RAM_BASE) <= size || is_in_second(pointer, layout) {
         return Ok(());
     }
-    writeln!(
+    write!(
         out,
         "marm: note: SP is {pointer:08X} at the start (the word at {base:08X}), and the board has {size} bytes of RAM \
          at {RAM_BASE:08X}"
-    )
+    )?;
+    write_second_ram(out, layout)?;
+    writeln!(out)
+}
+
+/// Returns whether an address is in the second RAM, where the board has one, or at its end.
+fn is_in_second(address: u32, layout: &Layout) -> bool {
+    match layout.second_ram {
+        Some(second) => address.wrapping_sub(second.base) <= second.size,
+        None => false,
+    }
 }
 
 /// Writes the first interrupt that the script pends and whose vector isn't in the image, if there is one.

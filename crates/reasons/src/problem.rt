@@ -1,12 +1,21 @@
 //! What is wrong with a key, in the words of a message.
 
-use crate::keys::{EVENT, Key};
+use crate::keys::Key;
 use crate::text::write_key;
 use messages::Quoted;
 use platform::map::RAM_BASE;
 use std::io;
 use std::io::Write;
 use toml::Value;
+
+/// A second RAM ends here, or before.
+const SECOND_END: u32 = 0x4000_0000;
+
+/// Or it begins here, or after.
+const UPPER_BASE: u32 = 0x6000_0000;
+
+/// And ends here, or before.
+const UPPER_END: u32 = 0xA000_0000;
 
 /// What is wrong in a table of a board.
 #[derive(Clone, Copy)]
@@ -21,8 +30,8 @@ pub enum Problem<'a> {
     Integer(Key, &'a Value),
     /// The line of an event, None where it's missing, isn't one of the board's, and how many it has.
     Line(Option<&'a Value>, u64),
-    /// There are this many events, which is too many.
-    Events(usize),
+    /// A list of tables has this many, which is too many.
+    Count(Key, usize),
     /// A key isn't known, and which are.
     Unknown(&'a str, &'static str),
     /// A key of the board is in an event.
@@ -31,6 +40,26 @@ pub enum Problem<'a> {
     Order(u64, u64),
     /// Flash at this base, with this size, ends too high.
     FlashEnd(u64, u64),
+    /// A second RAM at this base, with this size, has bytes where there can't be any, or bytes of flash or RAM.
+    RamSpan(u64, u64),
+}
+
+/// A part of a board.
+#[derive(Clone, Copy)]
+pub enum Part {
+    /// The board itself, or a list of tables.
+    Board,
+    /// The table of the second RAM.
+    SecondRam,
+    /// The event with this number, from 1.
+    Event(usize),
+}
+
+/// A problem of a part of a board.
+#[derive(Clone, Copy)]
+pub struct PartProblem<'a> {
+    pub part: Part,
+    pub problem: Problem<'a>,
 }
 
 /// Writes a problem.
@@ -44,8 +73,8 @@ pub fn write_problem<W: Write>(out: &mut W, problem: &Problem<'_>) -> io::Result
         Problem::Kind(key, value) => write_kind(out, key, value),
         Problem::Integer(key, value) => write_integer(out, key, value),
         Problem::Line(value, lines) => write_line(out, value, lines),
-        Problem::Events(count) => {
-            let (name, takes) = (EVENT.name, EVENT.takes);
+        Problem::Count(key, count) => {
+            let (name, takes) = (key.name, key.takes);
             writeln!(out, "{name} has {count} tables: it takes {takes}")
         }
         Problem::Unknown(name, known) => {
@@ -64,7 +93,17 @@ pub fn write_problem<W: Write>(out: &mut W, problem: &Problem<'_>) -> io::Result
             out,
             "flash_base is {base} and flash_size {size}: their sum is at most {RAM_BASE}"
         ),
+        Problem::RamSpan(base, size) => write_span(out, base, size),
     }
+}
+
+/// Writes where a second RAM can be.
+fn write_span<W: Write>(out: &mut W, base: u64, size: u64) -> io::Result<()> {
+    writeln!(
+        out,
+        "base is {base} and size {size}: the second RAM is below {SECOND_END}, or from {UPPER_BASE} on and below \
+         {UPPER_END}, and has no byte of flash or RAM"
+    )
 }
 
 /// Writes a value that its key doesn't take.

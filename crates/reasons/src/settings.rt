@@ -13,10 +13,11 @@ use crate::events::{EventProblem, event_with, events_problem};
 use crate::keys::{
     BOARD_KEY_NAMES, FLASH_BASE, FLASH_SIZE, Key, LINES, PRIORITY_BITS, RAM_SIZE, REGIONS,
 };
-use crate::problem::{Problem, write_problem};
+use crate::problem::{Part, PartProblem, Problem, write_problem};
+use crate::second_ram::{of_board, second_ram_problem};
 use board::keys::{BOARD_KEYS, is_known};
 use board::ranges::is_flash;
-use board::{DEFAULT_REGIONS, find, number};
+use board::{DEFAULT_REGIONS, find, layout_of, number};
 use platform::error::BoardError;
 use platform::exception::MOST_INTERRUPTS;
 use std::alloc::Global;
@@ -53,33 +54,56 @@ fn write_document_reason<W: Write>(
     document: &Table,
     error: BoardError,
 ) -> io::Result<()> {
-    match document_problem(document) {
-        Some(EventProblem { number: 0, problem }) => {
+    let Some(PartProblem { part, problem }) = document_problem(document) else {
+        return writeln!(out, "{error}");
+    };
+    match part {
+        Part::Board => {
             write_problem(out, &problem)?;
             write_misplaced(out, document, &problem)
         }
-        Some(EventProblem { number, problem }) => {
+        Part::SecondRam => {
+            write!(out, "ram: ")?;
+            write_problem(out, &problem)
+        }
+        Part::Event(number) => {
             write!(out, "event {number}: ")?;
             write_problem(out, &problem)
         }
-        None => writeln!(out, "{error}"),
     }
 }
 
 /// Returns the first problem of a document, if it isn't a board.
-#[tactic(auto, unfolding(board::specs::Texts::board_in))]
-fn document_problem(document: &Table) -> Option<EventProblem<'_>>
+#[tactic(auto, using(crate::proofs::SecondRam::document_lemmas), unfolding(board::specs::Texts::board_in))]
+fn document_problem(document: &Table) -> Option<PartProblem<'_>>
     ensures { Finds (option_map (λ p. p.problem) result) (board_in (table_view document.now)) }
 {
-    let lines = match check_numbers(document) {
-        Ok(lines) => lines,
-        Err(problem) => return Some(EventProblem { number: 0, problem }),
-    };
-    if let Some(name) = unknown(document, &BOARD_KEYS) {
-        let problem = Problem::Unknown(name, BOARD_KEY_NAMES);
-        return Some(EventProblem { number: 0, problem });
+    if let Err(problem) = check_numbers(document) {
+        return Some(of_board(problem));
     }
-    events_problem(document, lines)
+    if let Some(name) = unknown(document, &BOARD_KEYS) {
+        return Some(of_board(Problem::Unknown(name, BOARD_KEY_NAMES)));
+    }
+    let Ok(layout) = layout_of(document) else {
+        return None;
+    };
+    if let Some(problem) = second_ram_problem(document, &layout) {
+        return Some(problem);
+    }
+    let found = events_problem(document, u64::from(layout.interrupts))?;
+    Some(of_event(found))
+}
+
+/// Returns a problem of an event, or of the list of events, as one of a part of the board.
+fn of_event(found: EventProblem<'_>) -> PartProblem<'_>
+    ensures { result.problem ≡ found.entry.problem }
+{
+    let EventProblem { number, problem } = found;
+    let part = match number {
+        0 => Part::Board,
+        _ => Part::Event(number),
+    };
+    PartProblem { part, problem }
 }
 
 /// Writes, after a missing key of the board, where it may be: in an event, or misspelled, or in a table
@@ -95,11 +119,12 @@ fn write_misplaced<W: Write>(
         | Problem::Kind(_, _)
         | Problem::Integer(_, _)
         | Problem::Line(_, _)
-        | Problem::Events(_)
+        | Problem::Count(_, _)
         | Problem::Unknown(_, _)
         | Problem::Misplaced(_)
         | Problem::Order(_, _)
-        | Problem::FlashEnd(_, _) => return Ok(()),
+        | Problem::FlashEnd(_, _)
+        | Problem::RamSpan(_, _) => return Ok(()),
     };
     if let Some(number) = event_with(document, missing) {
         return writeln!(

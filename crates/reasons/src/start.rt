@@ -5,7 +5,7 @@ ghost use Rattle.elf.specs.Segment.{segment_of};
 ghost use Rattle.reasons.specs.Segments.{IsFirstOf, IsUnplaced, Picks, header_at, segment_if};
 ghost use Rattle.platform.specs.Boards.{numbers_of};
 ghost use Rattle.platform.specs.Images.{is_placed};
-ghost use Rattle.platform.specs.Boards.{blank};
+ghost use Rattle.platform.specs.Boards.{blank, blank_second};
 
 use crate::header::{HeaderTable, NumberedSegment, segment_at, whole_table};
 use elf::{PROGRAM_HEADER_SIZE, Segment};
@@ -34,20 +34,24 @@ pub fn write_start_reason<W: Write>(
 
 /// Writes how much memory a machine takes.
 fn write_need<W: Write>(out: &mut W, layout: &Layout, error: StartError) -> io::Result<()> {
-    let bytes = u64::from(layout.flash_size) + u64::from(layout.ram_size);
+    let second = match layout.second_ram {
+        Some(second) => second.size,
+        None => 0,
+    };
+    let bytes = u64::from(layout.flash_size) + u64::from(layout.ram_size) + u64::from(second);
     writeln!(
         out,
         "{error}: flash and RAM take {bytes} bytes, and events and decoded instructions some more"
     )
 }
 
-/// Returns the first segment that is neither wholly in flash nor wholly in RAM.
+/// Returns the first segment that is neither wholly in flash nor wholly in a RAM.
 fn outside<'a>(file: &'a [u8], layout: &Layout) -> Option<NumberedSegment<'a>> {
     let table = whole_table(file)?;
     first_unplaced(file, table, layout)
 }
 
-/// Returns the first segment of a table that is neither wholly in flash nor wholly in RAM.
+/// Returns the first segment of a table that is neither wholly in flash nor wholly in a RAM.
 fn first_unplaced<'a>(
     file: &'a [u8],
     table: HeaderTable,
@@ -68,7 +72,7 @@ fn first_unplaced<'a>(
 }
 
 /// Returns the segment of the program header at a position of the table, where it is neither wholly in flash nor
-/// wholly in RAM.
+/// wholly in a RAM.
 fn unplaced_at<'a>(
     file: &'a [u8],
     table: HeaderTable,
@@ -93,7 +97,7 @@ fn unplaced_at<'a>(
     }
 }
 
-/// Returns whether a segment is wholly in flash or wholly in RAM.
+/// Returns whether a segment is wholly in flash or wholly in one of the RAMs.
 fn is_placed(segment: &Segment<'_>, layout: &Layout) -> bool
     ensures { result ≡ is_placed (blank (numbers_of layout.now)) (segment_of segment.now) }
 {
@@ -104,6 +108,22 @@ fn is_placed(segment: &Segment<'_>, layout: &Layout) -> bool
         segment.address,
         length,
     ) || is_within(RAM_BASE, layout.ram_size as usize, segment.address, length)
+        || is_placed_second(segment, layout)
+}
+
+/// Returns whether a segment is wholly in the second RAM, where the board has one.
+fn is_placed_second(segment: &Segment<'_>, layout: &Layout) -> bool
+    ensures { result ≡ is_placed (blank_second (numbers_of layout.now).second_ram) (segment_of segment.now) }
+{
+    match layout.second_ram {
+        Some(second) => is_within(
+            second.base,
+            second.size as usize,
+            segment.address,
+            segment.bytes.len(),
+        ),
+        None => false,
+    }
 }
 
 /// Writes the addresses of a segment and of the memory.
@@ -118,9 +138,22 @@ fn write_outside<W: Write>(
         numbered.segment.bytes.len(),
     );
     let (base, flash, ram) = (layout.flash_base, layout.flash_size, layout.ram_size);
-    writeln!(
+    write!(
         out,
         "program header {index} has {size} bytes at {address:08X} (p_paddr), and the board has \
          {flash} bytes of flash at {base:08X} and {ram} bytes of RAM at {RAM_BASE:08X}"
-    )
+    )?;
+    write_second_ram(out, layout)?;
+    writeln!(out)
+}
+
+/// Writes the addresses of the second RAM, where the board has one.
+pub fn write_second_ram<W: Write>(out: &mut W, layout: &Layout) -> io::Result<()> {
+    match layout.second_ram {
+        Some(second) => {
+            let (base, size) = (second.base, second.size);
+            write!(out, ", and {size} bytes at {base:08X}")
+        }
+        None => Ok(()),
+    }
 }

@@ -4,7 +4,7 @@ use Rattle.std.specs.Prelude.{◌≡◌, ℕ, ◌%◌, ◌^◌, ◌<◌, true, i
 use Rattle.instruction_set.specs.Registers.{Registers}
 use Rattle.platform.specs.Priorities.{candidate}
 use Rattle.reference.specs.State.{State}
-use Rattle.platform.specs.SystemInvariant.{FlashEndsBelowRam, SystemInvariant}
+use Rattle.platform.specs.SystemInvariant.{IsLaidOut, SystemInvariant}
 
 -- a word that is a multiple of 4
 pub record IsStackPointer (v : ℕ) : Type 0 where
@@ -33,5 +33,5 @@ pub record Invariant (s : State) : Type 0 where
   pub registers : HasRegisters s.registers
   -- in the entry phase there is a candidate, unless the machine has stopped
   pub entry : s.stop ≡ None → is_some s.entry ≡ true → is_some (candidate s.bus.system.nvic) ≡ true
-  pub memory : FlashEndsBelowRam s.bus.memory
+  pub memory : IsLaidOut s.bus.memory
   pub system : SystemInvariant s.bus.system

@@ -19,7 +19,7 @@ use Rattle.reference.specs.declared.place.Place.{Place}
 use Rattle.reference.specs.declared.place.Place.TheVariants.{Reg, Special, Word}
 use Rattle.reference.specs.Accesses.{carried_out}
 use Rattle.platform.specs.Map.{is_in_ppb}
-use Rattle.platform.specs.Memory.{Memory, is_in_flash, is_in_ram, overwritten, bytes_of}
+use Rattle.platform.specs.Memory.{Memory, is_in_memory, overwritten, bytes_of}
 use Rattle.platform.specs.Outcomes.{Outcome}
 use Rattle.platform.specs.SpecialRegisters.{with_special, with_mask}
 use Rattle.platform.specs.System.{System, with_pended}
@@ -35,7 +35,7 @@ is_word_aligned (Word address value) = address % 4 == 0
 abbrev pub is_there : Memory → Place → Bool
 is_there m (Reg number value) = nat_lt number 16
 is_there m (Special number value) = is_some (special_of number)
-is_there m (Word address value) = (is_in_flash m address 4 || is_in_ram m address 4) || is_in_ppb address
+is_there m (Word address value) = is_in_memory m address 4 || is_in_ppb address
 
 -- MSR by privileged code in Thread mode
 abbrev pub with_special_placed : State → SpecialRegister → ℕ → State
@@ -79,7 +79,7 @@ place s p =
     else if is_some s.stop || is_some s.entry || is_handler s.registers then Err Stopped
     else taken s p
 
--- R0 to R12, LR, and words of flash and RAM: what neither the mode nor an exception depends on
+-- R0 to R12, LR, and words of memory: what neither the mode nor an exception depends on
 abbrev pub is_plain : Place → Bool
 is_plain (Reg number value) = nat_lt number 13 || number == 14
 is_plain (Special number value) = false

@@ -1,4 +1,4 @@
--- The state in which a machine starts (ARM DDI 0403, TakeReset()). What flash and RAM hold where no segment goes, and
+-- The state in which a machine starts (ARM DDI 0403, TakeReset()). What memory holds where no segment goes, and
 -- the registers that TakeReset() leaves UNKNOWN, are the profile's.
 use Rattle.std.specs.Prelude.{false, if◌then◌else◌, List, None, Result, Ok, Err}
 use Rattle.instruction_set.specs.Registers.{reset_registers}
@@ -11,10 +11,11 @@ use Rattle.platform.specs.Memory.{Memory, vector}
 use Rattle.reference.specs.State.{State}
 use Rattle.platform.specs.System.{reset_system}
 
--- the first entry is the main stack pointer, the second is the address of the first instruction
+-- the vector table is where flash begins: its first entry is the main stack pointer, its second is the address of the
+-- first instruction
 abbrev pub reset : Numbers → Memory → List ScriptedEvent → State
 reset board m script = record {
-  registers = reset_registers (vector m 0) (vector m 1);
+  registers = reset_registers (vector m board.flash_base 0) (vector m board.flash_base 1);
   bus = record {
     memory = m;
     system = reset_system board.flash_base board.interrupts board.priority_bits board.regions script;

@@ -1,8 +1,8 @@
 //! What the part "Who may touch what" shows: the rows of its table, and the bytes that worlds share.
 
-ghost use Rattle.std.specs.Prelude.{◌≡◌, ◌≤◌, ◌<◌, ◌^◌, ◌/◌, length};
+ghost use Rattle.std.specs.Prelude.{◌≡◌, ◌≤◌, ◌<◌, length};
 
-use access_map::{Interval, Place, Rights, Span, WorldSteps, Worlds, shared};
+use access_map::{Interval, Place, Rights, Span, WorldSteps, Worlds, places, shared};
 use platform::board::Layout;
 use std::alloc::{AllocError, Global};
 
@@ -55,14 +55,14 @@ impl AccessTable {
         };
         let rows = worlds.rows();
         let columns = columns_of(rows);
-        table.add_place(columns, board, Place::Flash)?;
-        table.add_place(columns, board, Place::Ram)?;
-        table.add_place(columns, board, Place::Window)?;
+        'places: for place in places(board) {
+            table.add_place(columns, board, *place)?;
+        }
         table.add_shares(alloc, rows, board)?;
         Ok(table)
     }
 
-    /// Returns the rows, from the lowest address of each place on: of flash, of RAM and of the window.
+    /// Returns the rows, from the lowest address of each place on, place by place in the order of their addresses.
     pub fn rows(&self) -> &[AccessRow] {
         &self.rows
     }
@@ -89,7 +89,9 @@ impl AccessTable {
         board: &Layout,
         place: Place,
     ) -> Result<(), AllocError> {
-        let span = place.span(board);
+        let Some(span) = place.span(board) else {
+            return Ok(());
+        };
         let mut current = AccessRow::at(columns, place, span);
         'rows: while current.last < span.last {
             let rest = Span {
@@ -188,7 +190,6 @@ impl AccessRow {
     /// Returns the row that begins where a span does, and ends with it or before.
     fn at(columns: &[WorldSteps], place: Place, within: Span) -> Self
         requires some { within.first ≤ within.last }
-        requires near { within.last / 2 ^ 29 ≡ within.first / 2 ^ 29 }
         requires below { within.last < 0xE000_0000 }
         ensures first { result.first ≡ within.first }
         ensures some { result.first ≤ result.last }
@@ -247,10 +248,10 @@ const NO_RIGHTS: Rights = Rights {
     execute: false,
 };
 
-/// Returns whether a place is RAM.
+/// Returns whether a place is RAM or the second RAM.
 fn is_ram(place: Place) -> bool {
     match place {
-        Place::Ram => true,
+        Place::Ram | Place::SecondRam => true,
         Place::Flash | Place::Window => false,
     }
 }

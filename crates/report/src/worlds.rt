@@ -46,6 +46,7 @@ fn place_word(place: Place) -> &'static str {
     match place {
         Place::Flash => "flash",
         Place::Ram => "RAM",
+        Place::SecondRam => "second RAM",
         Place::Window => "window",
     }
 }

@@ -1,9 +1,10 @@
-//! Flash, RAM and the device window (profile): the part of the address space that answers with bytes.
+//! Memory and the device window (profile): the part of the address space that answers with bytes.
 #![tactic(auto)]
 
 mod memory;
+mod second_ram;
 
 pub use instruction_set::size::Size;
-pub use memory::{Space, is_within};
+pub use memory::{LentBlock, Space, is_within};
 pub use platform::access::{Kind, Performed, Request, Rule};
 pub use platform::board::Layout;

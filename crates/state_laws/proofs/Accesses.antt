@@ -7,17 +7,17 @@ use Rattle.platform.specs.declared.access.Rule.{Rule}
 use Rattle.platform.specs.declared.event.Event.{Event}
 use Rattle.reference.specs.declared.failure.Failure.{Failure}
 use Rattle.reference.specs.Accesses.{ListResult, carried_out, decision, perform, value_of, followed, perform_all}
-use Rattle.platform.specs.SystemInvariant.{FlashEndsBelowRam}
+use Rattle.platform.specs.SystemInvariant.{IsLaidOut}
 use Rattle.platform.specs.Kinds.{is_probe}
 use Rattle.platform.specs.Map.{is_in_ppb}
 use Rattle.platform.specs.Outcomes.{Outcome}
 use Rattle.reference.specs.State.{Bus}
-use Rattle.state_laws.proofs.Memories.{space_apart}
+use Rattle.state_laws.proofs.Memories.{space_laid_out}
 use Rattle.state_laws.proofs.Systems.{IsWhole, parts_kept}
 
 -- what holds of the System Control Space, and of memory
 abbrev pub IsWholeBus : ℕ → ℕ → Bus → Type 0
-IsWholeBus interrupts bits b = IsWhole interrupts bits b.system × FlashEndsBelowRam b.memory
+IsWholeBus interrupts bits b = IsWhole interrupts bits b.system × IsLaidOut b.memory
 
 -- what holds of the bus after an access
 abbrev LeavesWhole : ℕ → ℕ → Outcome Bus → Type 0
@@ -30,7 +30,7 @@ carried_whole interrupts bits x b rule q h =
     cond_both (is_probe q.access.kind) _ _ (LeavesWhole interrupts bits) (λ e. h)
     (λ e. cond_both (is_in_ppb q.access.address) _ _ (LeavesWhole interrupts bits)
     (λ f. (access_kept (parts_kept interrupts bits) x b.system rule q h.0, h.1))
-    (λ f. (h.0, space_apart b.memory b.system.time.ticks rule q h.1)))
+    (λ f. (h.0, space_laid_out b.memory b.system.time.ticks rule q h.1)))
 
 pub perform_whole : (interrupts bits x : ℕ) (b : Bus) (q : Request) → IsWholeBus interrupts bits b →
     LeavesWhole interrupts bits (perform x b q)

@@ -51,7 +51,8 @@ use Rattle.state_laws.specs.StateLaw.{IfGiven, TickKeeps, AccessKeeps, Instructi
 use Rattle.state_laws.proofs.Accesses.{IsWholeBus, carried_whole, perform_whole, served_whole}
 use Rattle.state_laws.proofs.Effects.{register_kept, result_kept}
 use Rattle.state_laws.proofs.Entries.{none}
-use Rattle.state_laws.proofs.Memories.{overwritten_apart, start_apart}
+use Rattle.space.proofs.Blocks.{overwritten_laid_out}
+use Rattle.state_laws.proofs.Memories.{start_laid_out}
 use Rattle.state_laws.proofs.Registers.{writes_kept, special_kept, reset_has}
 use Rattle.state_laws.proofs.Sets.{top_bits_of_board, board_of, board_at_reset}
 use Rattle.state_laws.proofs.Steps.{HasWhole, step_good}
@@ -142,7 +143,7 @@ taken_placed interrupts bits s (Word address value) h =
     (λ e. record {
       registers = h.registers;
       entry = h.entry;
-      system = (h.system.0, overwritten_apart s.bus.memory address (bytes_of 4 value) h.system.1);
+      system = (h.system.0, overwritten_laid_out s.bus.memory address (bytes_of 4 value) h.system.1);
     })
 
 no_entry : (stop : Bool) (entry : Option ℕ) (handler : Bool) → (stop || is_some entry || handler) ≡ false → entry ≡ None
@@ -198,7 +199,7 @@ start_gives board image h =
     (λ e. record {
       registers = reset_has _ _;
       entry = λ stop entry. absurd (let w : ⊥ = cc in w);
-      memory = start_apart board.numbers image h.flash;
+      memory = start_laid_out board.numbers image h.flash h.ram h.second_ram;
       system =
           sound (min board.numbers.interrupts MOST_INTERRUPTS) board.numbers.priority_bits
           (reset_system board.numbers.flash_base board.numbers.interrupts board.numbers.priority_bits
@@ -311,7 +312,7 @@ plain_taken s (Word address value) e h =
     (λ f. record {
       registers = h.registers;
       entry = h.entry;
-      memory = overwritten_apart s.bus.memory address (bytes_of 4 value) h.memory;
+      memory = overwritten_laid_out s.bus.memory address (bytes_of 4 value) h.memory;
       system = h.system;
     })
 

@@ -41,7 +41,7 @@ pub fn place_keeps_the_invariant()
     ensures { (s : State) (p : Place) → Invariant s → IfGiven Invariant (place s p) }
 {}
 
-/// A value that is put into a register or a word keeps it too where R0 to R12, LR and words of flash and RAM are taken
+/// A value that is put into a register or a word keeps it too where R0 to R12, LR and words of memory are taken
 /// in Handler mode and in the entry phase.
 pub fn alter_keeps_the_invariant()
     ensures { (s : State) (p : Place) → Invariant s → IfGiven Invariant (altered s p) }

@@ -1,6 +1,6 @@
 -- The lines of accesses, one after another.
-use Rattle.std.proofs.Common.{◌≡◌, ◌⊎◌, inl, inr, ℕ, ◌+◌, false, List, [], ◌∷◌, ◌++◌, Option, Some, None}
-use Rattle.std.proofs.Common.{refl, sym, ◌∙◌, ap, subst, append_assoc}
+use Rattle.std.proofs.Common.{◌≡◌, ◌⊎◌, inl, inr, ℕ, Bool, true, false, not, List, [], ◌∷◌, ◌++◌, Option, Some, None}
+use Rattle.std.proofs.Common.{refl, sym, ◌∙◌, ap, append_assoc}
 use Rattle.std.proofs.lemmas.List.Elements.{All-nil, All-cons, All-append}
 use Rattle.std.proofs.lemmas.List.Folds.{list_any-append}
 use Rattle.std.proofs.lemmas.Bool.{or_parts}
@@ -12,9 +12,9 @@ use Rattle.platform.specs.declared.event.EventKind.TheVariants.{Accessed}
 use Rattle.reference.specs.declared.failure.Failure.{Failure}
 use Rattle.reference.specs.declared.failure.Failure.TheVariants.{Refused, Usage, Stop}
 use Rattle.platform.specs.Events.{is_refused}
-use Rattle.platform.specs.Map.{ram_base}
 use Rattle.platform.specs.Memory.{Memory}
-use Rattle.step_laws.specs.AccessLaw.{NoneRefused, covers, are_covering, OnlyCovered, OnlyCoveredFrom}
+use Rattle.step_laws.specs.AccessLaw.{NoneRefused, covers, are_covering, OnlyCovered}
+use Rattle.space.proofs.Blocks.{agree_self, agree_then, agree_where}
 
 -- ---- refusals
 
@@ -71,32 +71,26 @@ pub uncovered : (xs ys : List Event) (address : ℕ) → are_covering (xs ++ ys)
 uncovered xs ys address e =
     or_parts _ _ (sym (list_any-append (λ (event : Event). covers event.what address) xs ys) ∙ e)
 
--- one after another
-append_from : (base : ℕ) (old between new : List ℕ) (xs ys : List Event) → OnlyCoveredFrom base old between xs →
-    OnlyCoveredFrom base between new ys → OnlyCoveredFrom base old new (xs ++ ys)
-append_from base old between new xs ys first rest = record {
-  size = rest.size ∙ first.size;
-  bytes = λ k e.
-      let apart = uncovered xs ys (base + k) e in rest.bytes k apart.1 ∙ first.bytes k apart.0;
-}
+pub is_false : (b : Bool) → not b ≡ true → b ≡ false
+is_false true e = absurd cc
+is_false false e = refl
 
+pub is_not : (b : Bool) → b ≡ false → not b ≡ true
+is_not b e = rw e refl
+
+-- one after another
 pub covered-append : (old between new : Memory) (xs ys : List Event) → OnlyCovered old between xs →
     OnlyCovered between new ys → OnlyCovered old new (xs ++ ys)
-covered-append old between new xs ys first rest = record {
-  flash_base = rest.flash_base ∙ first.flash_base;
-  flash =
-      append_from old.flash_base old.flash between.flash new.flash xs ys first.flash
-      (subst (λ base. OnlyCoveredFrom base between.flash new.flash ys) first.flash_base rest.flash);
-  ram = append_from ram_base old.ram between.ram new.ram xs ys first.ram rest.ram;
-}
+covered-append old between new xs ys first rest =
+    let apart : (x : ℕ) → not (are_covering (xs ++ ys) x) ≡ true →
+    (are_covering xs x ≡ false) × (are_covering ys x ≡ false) =
+    λ x e. uncovered xs ys x (is_false (are_covering (xs ++ ys) x) e) in
+    agree_then _ old between new (agree_where _ _ (λ x e. is_not _ (apart x e).0) old between first)
+    (agree_where _ _ (λ x e. is_not _ (apart x e).1) between new rest)
 
 -- memory that stays
 pub covered-same : (m : Memory) (events : List Event) → OnlyCovered m m events
-covered-same m events = record {
-  flash_base = refl;
-  flash = record { size = refl; bytes = λ k e. refl };
-  ram = record { size = refl; bytes = λ k e. refl };
-}
+covered-same m events = agree_self _ m
 
 -- more lines, while memory stays
 pub covered-more : (old new : Memory) (xs ys : List Event) → OnlyCovered old new xs → OnlyCovered old new (xs ++ ys)

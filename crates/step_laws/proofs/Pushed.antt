@@ -8,7 +8,7 @@ use Rattle.platform.specs.declared.access.Rule.{Rule}
 use Rattle.reference.specs.Accesses.{carried_out, decision, perform, value_of}
 use Rattle.reference.specs.LoadStore.{request}
 use Rattle.platform.specs.Map.{is_in_ppb, is_in_window}
-use Rattle.platform.specs.Memory.{Memory, is_in_ram, number_at, bytes_of, overwritten}
+use Rattle.platform.specs.Memory.{Memory, is_writable_at, number_at, bytes_of, overwritten}
 use Rattle.platform.specs.Outcomes.{Outcome, bus_error, within}
 use Rattle.platform.specs.Space.{number_read, space_access}
 use Rattle.reference.specs.State.{Bus}
@@ -19,9 +19,9 @@ use Rattle.platform.specs.System.{system_access}
 abbrev pub push_of : Bool → ℕ → ℕ → Request
 push_of privileged a v = request Push privileged Word a v
 
--- a word was written to RAM
+-- a word was written to memory
 pub record IsPushed (old : Memory) (a v : ℕ) (new : Memory) : Type 0 where
-  pub there : is_in_ram old a 4 ≡ true
+  pub there : is_writable_at old a 4 ≡ true
   pub is : new ≡ overwritten old a (bytes_of 4 v)
 
 -- where a push was carried out, the word was written
@@ -39,7 +39,7 @@ unfolding carried_out system_access space_access
 carried_push exception b privileged a v rule =
     cond_both (is_in_ppb a) _ _ (IfPushed privileged a v b) (λ e x done. absurd cc)
     (λ beside. cond_both (is_in_window a) _ _ (IfWritten privileged a v b.memory) (λ e x done. absurd cc)
-    (λ away. cond_both (is_in_ram b.memory a 4) _ _ (IfWritten privileged a v b.memory)
+    (λ away. cond_both (is_writable_at b.memory a 4) _ _ (IfWritten privileged a v b.memory)
     (λ there x done. record { there = there; is = refl }) (λ e x done. absurd cc)))
 
 pub push_done : (exception : ℕ) (b : Bus) (privileged : Bool) (a v : ℕ) →

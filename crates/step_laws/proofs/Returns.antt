@@ -23,7 +23,7 @@ use Rattle.reference.specs.Faults.{escalated, faulted, failed}
 use Rattle.platform.specs.Memory.{Memory}
 use Rattle.reference.specs.State.{State, Stepped, with_bus, with_system}
 use Rattle.reference.specs.Invariant.{HasRegisters, Invariant}
-use Rattle.platform.specs.SystemInvariant.{FlashEndsBelowRam}
+use Rattle.platform.specs.SystemInvariant.{IsLaidOut}
 use Rattle.step_laws.specs.FrameLaw.{AreBack, KeepsFrame, IsFree, IsStacked, HasFrameOf, ReturnGivesBack}
 use Rattle.step_laws.proofs.Frames.{gives_back, pushed_sp}
 use Rattle.step_laws.proofs.Stacks.{HoldsWords, AreWords, words_pushed, words_popped, frame_stays}
@@ -114,7 +114,7 @@ frame_words r is =
       (is.general 1, (is.general 2, (is.general 3, (is.general 12, (is.lr, (is.pc.word, (last, tt))))))),
     )
 
-pops_back : (t : State) (e : ℕ) (r : Registers) → HasRegisters r → FlashEndsBelowRam t.bus.memory →
+pops_back : (t : State) (e : ℕ) (r : Registers) → HasRegisters r → IsLaidOut t.bus.memory →
     HoldsWords t.bus.memory (frame_pointer t.registers e) (frame r) → (pops_of t e).failure ≡ None →
     (pops_of t e).values ≡ frame r
 unfolding pops frame
@@ -133,7 +133,7 @@ entered : (s : State) → IsStacked s → (begin_entry s).state ≡ with_bus (en
 unfolding begin_entry
 entered s pushed = rw pushed refl
 
-holds_frame : (s : State) → FlashEndsBelowRam s.bus.memory → IsStacked s →
+holds_frame : (s : State) → IsLaidOut s.bus.memory → IsStacked s →
     HoldsWords (pushes_of s).bus.memory (frame_base (sp s.registers)) (frame s.registers)
 unfolding pushes
 holds_frame s apart pushed =

@@ -2,20 +2,19 @@
 use Rattle.std.proofs.Common.{◌≡◌, inl, ℕ, ◌+◌, ◌*◌, ◌%◌, ◌^◌, ◌<◌, ◌≤◌, Bool, List, [], ◌∷◌, length, None, Result, Ok}
 use Rattle.std.proofs.Common.{Err, refl, sym, ◌∙◌, ap, subst, arith}
 use Rattle.std.specs.Prelude.{⊤}
-use Rattle.std.proofs.lemmas.Bool.Decides.{nat_tests}
 use Rattle.instruction_set.specs.Words.{word_sum}
 use Rattle.platform.specs.declared.access.Kind.TheVariants.{Push, Pop}
 use Rattle.platform.specs.declared.event.Event.{Event}
 use Rattle.reference.specs.declared.failure.Failure.{Failure}
 use Rattle.reference.specs.Accesses.{ListResult, perform, followed, perform_all}
 use Rattle.reference.specs.ExceptionEntry.{words_from}
-use Rattle.platform.specs.Map.{ram_base}
 use Rattle.platform.specs.Memory.{Memory, byte_at, bytes_of}
 use Rattle.reference.specs.State.{Bus}
-use Rattle.platform.specs.SystemInvariant.{FlashEndsBelowRam}
+use Rattle.platform.specs.SystemInvariant.{IsLaidOut}
 use Rattle.step_laws.specs.FrameLaw.{KeepsFrame}
-use Rattle.space.proofs.Blocks.{overwritten_keeps}
-use Rattle.step_laws.proofs.Stored.{IsWord, stays_apart, word_written, word_read}
+use Rattle.space.proofs.Blocks.{overwritten_keeps, overwritten_laid_out}
+use Rattle.space.proofs.Places.{ends_low, in_place, writable_is_there}
+use Rattle.step_laws.proofs.Stored.{IsWord, word_written, word_read}
 use Rattle.step_laws.proofs.Pushed.{IsPushed, push_of, push_done, pop_of, pop_done}
 
 -- an access that was carried out, and the others after it
@@ -42,34 +41,27 @@ HoldsWords m a (v ∷ vs) = IsWord m a v × HoldsWords m (word_sum a 4) vs
 abbrev pub pushed : ℕ → ℕ → Bool → Bus → ℕ → List ℕ → ListResult
 pushed exception tick privileged b a vs = perform_all exception tick b (words_from Push privileged a vs)
 
--- the first push goes to RAM
-starts_in_ram : (exception tick : ℕ) (privileged : Bool) (b : Bus) (a v : ℕ) (vs : List ℕ) →
-    (pushed exception tick privileged b a (v ∷ vs)).failure ≡ None → ram_base ≤ a
-unfolding perform_all
-starts_in_ram exception tick privileged b a v vs none =
-    let on = went_on _ _ _ _ none in
-    let there = (push_done exception b privileged a v on.first on.is).there in
-    grind (arith, nat_tests, there)
+-- no memory is above 0xA0000000
+ends_below : (m : Memory) (a v : ℕ) (next : Memory) → IsLaidOut m → IsPushed m a v next → a + 4 ≤ 0xA000_0000
+ends_below m a v next laid one =
+    ends_low a 4 (in_place m a 4 laid (writable_is_there m a 4 one.there) (omega arith))
 
 -- what pushes leave
 pub record AreThere (old : Memory) (a : ℕ) (vs : List ℕ) (new : Memory) : Type 0 where
-  pub apart : FlashEndsBelowRam new
+  pub apart : IsLaidOut new
   pub words : HoldsWords new a vs
   pub below : (x : ℕ) → x < a → byte_at new x ≡ byte_at old x
 
 -- the others leave what is below the next word
-others_keep : (exception tick : ℕ) (privileged : Bool) (b : Bus) (a : ℕ) (vs : List ℕ) → a % 4 ≡ 0 → a < 2 ^ 32 →
-    (pushed exception tick privileged b (word_sum a 4) vs).failure ≡ None →
+others_keep : (exception tick : ℕ) (privileged : Bool) (b : Bus) (a : ℕ) (vs : List ℕ) → a + 4 ≤ 0xA000_0000 →
     AreThere b.memory (word_sum a 4) vs (pushed exception tick privileged b (word_sum a 4) vs).bus.memory →
     (x : ℕ) → x < a + 4 →
     byte_at (pushed exception tick privileged b (word_sum a 4) vs).bus.memory x ≡ byte_at b.memory x
 unfolding perform_all
-others_keep exception tick privileged b a [] aligned low none rest x below = refl
-others_keep exception tick privileged b a (w ∷ ws) aligned low none rest x below =
-    let high = starts_in_ram exception tick privileged b (word_sum a 4) w ws none in
-    rest.below x (omega (arith, high))
+others_keep exception tick privileged b a [] low rest x below = refl
+others_keep exception tick privileged b a (w ∷ ws) low rest x below = rest.below x (omega (arith, low))
 
-one_pushed : (old next new : Memory) (a v : ℕ) (vs : List ℕ) → FlashEndsBelowRam old → IsPushed old a v next →
+one_pushed : (old next new : Memory) (a v : ℕ) (vs : List ℕ) → IsLaidOut old → IsPushed old a v next →
     ((x : ℕ) → x < a + 4 → byte_at new x ≡ byte_at next x) → AreThere next (word_sum a 4) vs new →
     AreThere old a (v ∷ vs) new
 one_pushed old next new a v vs apart pushed kept rest = record {
@@ -77,15 +69,15 @@ one_pushed old next new a v vs apart pushed kept rest = record {
   words =
       let first : IsWord new a v =
       λ k below. kept (a + k) (omega arith) ∙ ap (λ (m : Memory). byte_at m (a + k)) pushed.is
-      ∙ word_written old a v apart pushed.there k below in
+      ∙ word_written old a v apart (writable_is_there old a 4 pushed.there) k below in
       (first, rest.words);
   below =
       λ x under. kept x (omega arith) ∙ ap (λ (m : Memory). byte_at m x) pushed.is
-      ∙ overwritten_keeps old a x (bytes_of 4 v) pushed.there (inl under);
+      ∙ overwritten_keeps old a x (bytes_of 4 v) (inl under);
 }
 
 pub words_pushed : (exception tick : ℕ) (privileged : Bool) (b : Bus) (a : ℕ) (vs : List ℕ) →
-    FlashEndsBelowRam b.memory →
+    IsLaidOut b.memory →
     a % 4 ≡ 0 → a < 2 ^ 32 →
     (pushed exception tick privileged b a vs).failure ≡ None →
     AreThere b.memory a vs (pushed exception tick privileged b a vs).bus.memory
@@ -96,10 +88,10 @@ words_pushed exception tick privileged b a (v ∷ vs) apart aligned low none =
     let on = went_on _ _ _ _ none in
     let one = push_done exception b privileged a v on.first on.is in
     let next = (perform exception b (push_of privileged a v)).after in
-    let apart_next : FlashEndsBelowRam next.memory = rw one.is (stays_apart b.memory a v apart one.there) in
+    let apart_next : IsLaidOut next.memory = rw one.is (overwritten_laid_out b.memory a (bytes_of 4 v) apart) in
     let rest =
     words_pushed exception tick privileged next (word_sum a 4) vs apart_next (omega arith) (omega arith) on.none in
-    let kept = others_keep exception tick privileged next a vs aligned low on.none rest in
+    let kept = others_keep exception tick privileged next a vs (ends_below b.memory a v next.memory apart one) rest in
     rw on.bus (one_pushed b.memory next.memory _ a v vs apart one kept rest)
 
 -- ---- pops
@@ -118,7 +110,7 @@ both : {x v : ℕ} {xs vs : List ℕ} → x ≡ v → xs ≡ vs → x ∷ xs ≡
 both first rest = cc
 
 pub words_popped : (exception tick : ℕ) (privileged : Bool) (b : Bus) (a : ℕ) (vs : List ℕ) →
-    FlashEndsBelowRam b.memory →
+    IsLaidOut b.memory →
     HoldsWords b.memory a vs → AreWords vs →
     (perform_all exception tick b (words_from Pop privileged a (zeros vs))).failure ≡ None →
     (perform_all exception tick b (words_from Pop privileged a (zeros vs))).values ≡ vs
@@ -128,7 +120,7 @@ words_popped exception tick privileged b a (v ∷ vs) apart holds small none =
     let on = went_on _ _ _ _ none in
     let one = pop_done exception b privileged a on.first on.is in
     let next = (perform exception b (pop_of privileged a)).after in
-    let apart_next : FlashEndsBelowRam next.memory = rw one.same apart in
+    let apart_next : IsLaidOut next.memory = rw one.same apart in
     let holds_next : HoldsWords next.memory (word_sum a 4) vs =
     subst (λ (m : Memory). HoldsWords m (word_sum a 4) vs) (sym one.same) holds.1 in
     let first = word_read b.memory a on.first v apart one.number holds.0 small.0 in

@@ -1,6 +1,6 @@
 -- What holds of the accesses of a step, whatever the state (ARM DDI 0403, MemA[], "Fault behavior").
 use Rattle.std.specs.Prelude.{◌≡◌, ◌⊎◌, ℕ, ◌+◌, nat_le, nat_lt, Bool, false, not, ◌&&◌, is_some, bit_and, List, [], ◌∷◌}
-use Rattle.std.specs.Prelude.{◌++◌, All, Some, length, slice_index}
+use Rattle.std.specs.Prelude.{◌++◌, All, Some}
 use Rattle.std.specs.List.{list_any}
 use Rattle.instruction_set.specs.Sizes.{bytes_in}
 use Rattle.platform.specs.declared.access.Access.{Access}
@@ -16,8 +16,7 @@ use Rattle.platform.specs.declared.fault_status.FaultEffect.{FaultEffect}
 use Rattle.platform.specs.Events.{is_access_with, is_refused}
 use Rattle.reference.specs.Faults.{fault_of}
 use Rattle.platform.specs.Kinds.{is_write}
-use Rattle.platform.specs.Map.{ram_base}
-use Rattle.platform.specs.Memory.{Memory}
+use Rattle.platform.specs.Memory.{Agree, Memory}
 
 -- ---- refused accesses
 
@@ -67,14 +66,7 @@ covers what address = is_access_with (λ a. writes a address) what
 abbrev pub are_covering : List Event → ℕ → Bool
 are_covering events address = list_any (λ event. covers event.what address) events
 
--- a block of memory from an address on keeps its length, and its bytes change only where these events cover them
-pub record OnlyCoveredFrom (base : ℕ) (old new : List ℕ) (events : List Event) : Type 0 where
-  pub size : length new ≡ length old
-  pub bytes : (k : ℕ) → are_covering events (base + k) ≡ false → slice_index new k ≡ slice_index old k
-
--- flash and RAM keep their addresses and sizes, and their bytes change only where a store or a push of these events
--- that was carried out covers them
-pub record OnlyCovered (old new : Memory) (events : List Event) : Type 0 where
-  pub flash_base : new.flash_base ≡ old.flash_base
-  pub flash : OnlyCoveredFrom old.flash_base old.flash new.flash events
-  pub ram : OnlyCoveredFrom ram_base old.ram new.ram events
+-- the blocks of memory stay where they are, and their bytes change only where a store or a push of these events that
+-- was carried out covers them
+abbrev pub OnlyCovered : Memory → Memory → List Event → Type 0
+OnlyCovered old new events = Agree (λ address. not (are_covering events address)) old new

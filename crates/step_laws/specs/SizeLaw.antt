@@ -1,4 +1,4 @@
--- Flash and RAM keep their places and sizes, so that a copy of a machine's state fits the machine for good.
+-- The blocks of memory keep their places and sizes, so that a copy of a machine's state fits the machine for good.
 use Rattle.std.specs.Prelude.{Result, Ok, Err}
 use Rattle.platform.specs.declared.error.PlaceError.{PlaceError}
 use Rattle.reference.specs.State.{State}

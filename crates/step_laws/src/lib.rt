@@ -18,7 +18,7 @@ ghost use Rattle.step_laws.specs.SignalLaw.{SignalIsEvent};
 ghost use Rattle.step_laws.specs.SizeLaw.{KeepsSizes};
 
 /// At most one access of a step is refused. It is the step's last access, and the next event is the
-/// line of its fault, which ends the step. Flash and RAM keep their addresses and sizes, and their bytes
+/// line of its fault, which ends the step. The blocks of memory keep their addresses and sizes, and their bytes
 /// change only where a store or a push of the step that was carried out covers them (ARM DDI 0403,
 /// MemA[] and "Fault behavior").
 pub fn accesses_of_a_step()
@@ -47,7 +47,7 @@ pub fn signals_are_events()
     ensures { (s : State) (what : Signal) → SignalIsEvent s what }
 {}
 
-/// Flash and RAM keep their places and sizes, in a step and where a value or a signal comes from outside.
+/// The blocks of memory keep their places and sizes, in a step and where a value or a signal comes from outside.
 pub fn sizes_stay()
     ensures step { (s : State) → HaveSameSizes s.bus.memory (step s).state.bus.memory }
     ensures alter { (s : State) (p : Place) → KeepsSizes s (altered s p) }

@@ -3,7 +3,7 @@
 --
 -- - `granted_in`: a grant at the address of a request is one at each of its bytes. So a granted read reads bytes that
 --   look the same, and a granted write writes bytes that may be stored (`IsOpen`).
--- - `space_alike`, `carried_alike`, `perform_alike` and `all_alike` go up by one layer each: flash and RAM, the bus,
+-- - `space_alike`, `carried_alike`, `perform_alike` and `all_alike` go up by one layer each: memory, the bus,
 --   one access with its decision, a list. Each says that the second result is the first with another memory.
 use Rattle.std.proofs.Common.{◌≡◌, ◌⊎◌, inl, inr, ℕ, ◌+◌, Bool, true, false, not, List, [], ◌∷◌}
 use Rattle.std.proofs.Common.{Result, Ok, Err, refl, sym, ap, subst, ◌∙◌}
@@ -21,17 +21,18 @@ use Rattle.reference.specs.Accesses.{ListResult, carried_out, decision, access_l
 use Rattle.reference.specs.Accesses.{perform_all}
 use Rattle.platform.specs.Kinds.{is_probe, is_write}
 use Rattle.platform.specs.Map.{is_in_ppb, is_in_window}
-use Rattle.platform.specs.Memory.{Memory, is_in_ram, bytes_of}
+use Rattle.platform.specs.Memory.{Agree, Memory, is_writable_at, bytes_of}
 use Rattle.platform.specs.Outcomes.{Outcome, within}
 use Rattle.platform.specs.Regions.{Mpu, IsSound}
 use Rattle.platform.specs.Space.{number_read, written_to, space_access}
 use Rattle.reference.specs.State.{Bus}
-use Rattle.task_laws.specs.Sight.{may, sees, Agree}
+use Rattle.task_laws.specs.Sight.{may, sees}
 use Rattle.task_laws.specs.TaskLaw.{IsOfTask, AreOfTask}
 use Rattle.task_laws.proofs.Blocks.{decided_alike, one_block}
-use Rattle.task_laws.proofs.Memories.{AllIn, both, number_alike, written_alike, rest_kept, agree_then}
+use Rattle.task_laws.proofs.Memories.{rest_kept}
 use Rattle.task_laws.proofs.Priorities.{Decides, system_decides}
-use Rattle.space.proofs.Blocks.{length-bytes_of}
+use Rattle.space.proofs.Blocks.{AllIn, agree_then, both, both_by, number_alike, writable_alike, written_alike}
+use Rattle.space.proofs.Bytes.{length-bytes_of}
 
 -- ---- what a granted access may read and write
 
@@ -117,7 +118,7 @@ module _ (m : Mpu) (z : Bool) (old : Memory) where
     pub rest : two ≡ outcome_with one two.after.memory
     pub alike : Alike one.after two.after.memory
 
-  -- ---- flash, RAM and the device window
+  -- ---- memory and the device window
 
   -- two outcomes of memory, as outcomes of the bus b: they differ only in memory
   abbrev SameSpace : Bus → Outcome Memory → Outcome Memory → Type 0
@@ -129,19 +130,20 @@ module _ (m : Mpu) (z : Bool) (old : Memory) where
       let bytes = bytes_of (bytes_in q.access.size) q.value in
       let long = length-bytes_of (bytes_in q.access.size) q.value in
       both (SameSpace b) (is_in_window q.access.address) _ _ _ _ (λ e. record { rest = refl; alike = alike })
-      (λ e. rw alike.looks.ram.size
-      (both (SameSpace b) (is_in_ram b.memory q.access.address (bytes_in q.access.size)) _ _ _ _
+      (λ e. both_by (SameSpace b) (is_writable_at b.memory q.access.address (bytes_in q.access.size))
+      (is_writable_at k q.access.address (bytes_in q.access.size)) _ _ _ _
+      (writable_alike (sees m z) b.memory k q.access.address (bytes_in q.access.size) alike.looks)
       (λ there. record {
         rest = refl;
         alike = record {
-          looks = written_alike (sees m z) b.memory k q.access.address bytes (rw long there) alike.looks;
+          looks = written_alike (sees m z) b.memory k q.access.address bytes alike.looks;
           kept =
               agree_then (denies m z) old b.memory _ alike.kept
-              (rest_kept (may m z Store) b.memory q.access.address bytes (rw long there) (rw long granted));
+              (rest_kept (may m z Store) b.memory q.access.address bytes (rw long granted));
           decides = alike.decides;
         };
       })
-      (λ f. record { rest = refl; alike = alike })))
+      (λ f. record { rest = refl; alike = alike }))
 
   space_alike : (b : Bus) (k : Memory) (ticks : ℕ) (rule : Rule) (q : Request) → Alike b k → IsOpen m z q →
       is_probe q.access.kind ≡ false →

@@ -5,7 +5,7 @@ use Rattle.std.proofs.lemmas.Bool.{and_from, and_parts}
 use Rattle.platform.specs.declared.access.Request.{Request}
 use Rattle.platform.specs.declared.event.Event.{Event}
 use Rattle.reference.specs.Invariant.{Invariant}
-use Rattle.platform.specs.Memory.{Memory}
+use Rattle.platform.specs.Memory.{Agree, Memory}
 use Rattle.platform.specs.Outcomes.{Outcome}
 use Rattle.platform.specs.Priorities.{is_below_zero}
 use Rattle.platform.specs.Regions.{Mpu}
@@ -16,13 +16,13 @@ use Rattle.state_laws.proofs.Ends.{step_keeps}
 use Rattle.task_laws.specs.declared.task.TaskEnd.{TaskEnd}
 use Rattle.task_laws.specs.declared.task.TaskEnd.TheVariants as task_end
 use Rattle.task_laws.specs.Foresight.{is_instruction_next}
-use Rattle.task_laws.specs.Sight.{sees, is_seen, Agree, AgreeBut, Same, KeepsDenied, with_memory}
+use Rattle.task_laws.specs.Sight.{sees, is_seen, AgreeBut, Same, KeepsDenied, with_memory}
 use Rattle.task_laws.specs.TaskLaw.{IsOfTask, performed_in, AccessAlike, AccessLaw, StepLaw, RunAlike, RunLaw}
 use Rattle.task_laws.specs.TaskLaw.{UnprivilegedRunLaw, EndsAlike}
 use Rattle.task_laws.specs.Tasks.{AreInstructions, Ends, runs_unprivileged}
 use Rattle.task_laws.proofs.Accesses.{Alike, perform_alike}
 use Rattle.task_laws.proofs.Instructions.{instruction_is, instruction_says}
-use Rattle.task_laws.proofs.Memories.{agree_self}
+use Rattle.space.proofs.Blocks.{agree_self, laid_out_alike}
 use Rattle.task_laws.proofs.Priorities.{Decides}
 use Rattle.task_laws.proofs.Steps.{Ready, SameStep, instruction_there, step_alike}
 use Rattle.task_laws.proofs.Tasks.{Parts, parts_of, has_parts, uses_kept}
@@ -129,7 +129,7 @@ starts_there s k looks b = record {
   invariant = record {
     registers = b.invariant.registers;
     entry = b.invariant.entry;
-    memory = rw (looks.flash_base, looks.flash.size) b.invariant.memory;
+    memory = laid_out_alike _ s.bus.memory k looks b.invariant.memory;
     system = b.invariant.system;
   };
   parts = record { thread = b.parts.thread; outside = b.parts.outside };

@@ -1,9 +1,8 @@
 -- What a task sees and what it may change, by the decision on its accesses, and when two states look the same to it.
-use Rattle.std.specs.Prelude.{◌≡◌, ℕ, ◌+◌, Bool, true, false, not, ◌||◌, List, length, slice_index}
+use Rattle.std.specs.Prelude.{◌≡◌, ℕ, Bool, false, not, ◌||◌}
 use Rattle.platform.specs.declared.access.Kind.{Kind}
 use Rattle.platform.specs.declared.access.Kind.TheVariants.{Fetch, Load, Store}
-use Rattle.platform.specs.Map.{ram_base}
-use Rattle.platform.specs.Memory.{Memory}
+use Rattle.platform.specs.Memory.{Agree, Memory}
 use Rattle.platform.specs.Priorities.{is_below_zero}
 use Rattle.platform.specs.Regions.{Mpu}
 use Rattle.platform.specs.Rules.{decision_of}
@@ -27,19 +26,6 @@ is_seen s a = sees s.bus.system.mpu (is_below_zero s.bus.system.nvic) a
 -- whether the decision denies unprivileged code a store at an address, in a state
 abbrev pub denies_store : State → ℕ → Bool
 denies_store s a = not (may s.bus.system.mpu (is_below_zero s.bus.system.nvic) Store a)
-
--- ---- memories that agree somewhere
-
--- two blocks of memory from an address on are equally long, and their bytes agree where a test holds
-pub record AgreeFrom (test : ℕ → Bool) (base : ℕ) (one two : List ℕ) : Type 0 where
-  pub size : length two ≡ length one
-  pub bytes : (k : ℕ) → test (base + k) ≡ true → slice_index two k ≡ slice_index one k
-
--- two memories have the same addresses, and their bytes agree where a test holds
-pub record Agree (test : ℕ → Bool) (one two : Memory) : Type 0 where
-  pub flash_base : two.flash_base ≡ one.flash_base
-  pub flash : AgreeFrom test one.flash_base one.flash two.flash
-  pub ram : AgreeFrom test ram_base one.ram two.ram
 
 -- ---- two states that look the same
 

@@ -22,6 +22,7 @@ mod reports;
 mod returns;
 mod run;
 mod scripts;
+mod second_ram;
 mod segments;
 mod selections;
 mod session_changes;

@@ -4,10 +4,10 @@
 
 ghost use Rattle.std.specs.Prelude.{ℕ};
 ghost use Rattle.access_map.specs.declared.world.World.{World};
-ghost use Rattle.platform.specs.Boards.{Numbers};
+ghost use Rattle.platform.specs.Boards.{Numbers, blank};
 ghost use Rattle.reference.specs.State.{State};
 ghost use Rattle.task_laws.specs.declared.task.TaskEnd.{TaskEnd as End};
-ghost use Rattle.world_laws.specs.WorldLaw.{ApartLaw, UnseenLaw, WorldEndsLaw, WorldRunLaw, WritesLaw};
+ghost use Rattle.world_laws.specs.WorldLaw.{ApartLaw, HasRamsOf, UnseenLaw, WorldEndsLaw, WorldRunLaw, WritesLaw};
 
 use task_laws::{runs_of_tasks_end_in_one_way, tasks_are_kept_apart};
 
@@ -18,6 +18,11 @@ pub fn worlds_write_what_they_may()
 {
     tasks_are_kept_apart();
 }
+
+/// The memory before a start has the RAMs of its board: each byte that a store may change is in one of them.
+pub fn boards_have_their_rams()
+    ensures { (board : Numbers) → HasRamsOf board (blank board) }
+{}
 
 /// Bytes of RAM that a world may write look the same to the code of a world that is apart from it, whatever they are.
 pub fn worlds_apart_see_no_writes()

@@ -35,6 +35,7 @@ const LARGEST_BOARD: Layout = Layout {
     flash_base: 0,
     flash_size: 0x10_0000,
     ram_size: 0x10_0000,
+    second_ram: None,
     priority_bits: 8,
     interrupts: 240,
     regions: RegionCount::Sixteen,

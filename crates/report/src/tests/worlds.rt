@@ -14,6 +14,7 @@ const BOARD: Layout = Layout {
     flash_base: 0,
     flash_size: 0x4000,
     ram_size: 0x2000,
+    second_ram: None,
     priority_bits: 4,
     interrupts: 0,
     regions: RegionCount::Eight,

@@ -169,6 +169,52 @@ const LINES: &str = "\
 5 | UnknownKey | a.b = 1
 5 | UnknownKey | [extra]
 5 | UnknownKey | events = []
+5 | Taken | ram = []
+5 | WrongKind | ram = 1
+5 | WrongKind | ram = true
+5 | WrongKind | [ram]
+5 | WrongKind | ram = {base = 0x1000_0000, size = 1024}
+5 | WrongKind | ram = [1]
+5 | WrongKind | ram = [{base = 0x1000_0000, size = 1024}, 1]
+5 | OutOfRange | ram = [{}, {}]
+5 | MissingKey | [[ram]]
+5 | MissingKey | ram = [{size = 1024}]
+5 | WrongKind | ram = [{base = \"0\", size = 1024}]
+5 | WrongKind | ram = [{base = 1024.0}]
+5 | OutOfRange | ram = [{base = -1024}]
+5 | OutOfRange | ram = [{base = 0x1000_0001}]
+5 | OutOfRange | ram = [{base = 0x1_0000_0000}]
+5 | MissingKey | ram = [{base = 0xFFFF_FC00}]
+5 | MissingKey | ram = [{base = 0x1000_0000, name = 1}]
+5 | WrongKind | ram = [{base = 0x1000_0000, size = \"1024\"}]
+5 | OutOfRange | ram = [{base = 0x1000_0000, size = 0}]
+5 | OutOfRange | ram = [{base = 0x1000_0000, size = -1024}]
+5 | OutOfRange | ram = [{base = 0x1000_0000, size = 1023}]
+5 | OutOfRange | ram = [{base = 0x1000_0000, size = 1536}]
+5 | OutOfRange | ram = [{base = 0x1000_0000, size = 0x100_0400}]
+5 | OutOfRange | ram = [{base = 0x1000_0000, size = 9223372036854774784}]
+5 | Taken | ram = [{base = 0x1000_0000, size = 1024}]
+5 | Taken | ram = [{base = 0x1000_0000, size = 0x100_0000}]
+5 | OutOfRange | ram = [{base = 0, size = 1024}]
+5 | OutOfRange | ram = [{base = 0xC00, size = 1024}]
+5 | Taken | ram = [{base = 0x1000, size = 1024}]
+5 | Taken | ram = [{base = 0x1FFF_FC00, size = 1024}]
+5 | OutOfRange | ram = [{base = 0x1FFF_FC00, size = 2048}]
+5 | OutOfRange | ram = [{base = 0x2000_0000, size = 1024}]
+5 | OutOfRange | ram = [{base = 0x2000_1C00, size = 1024}]
+5 | Taken | ram = [{base = 0x2000_2000, size = 1024}]
+5 | Taken | ram = [{base = 0x3FFF_FC00, size = 1024}]
+5 | OutOfRange | ram = [{base = 0x3FFF_FC00, size = 2048}]
+5 | OutOfRange | ram = [{base = 0x4000_0000, size = 1024}]
+5 | OutOfRange | ram = [{base = 0x5FFF_FC00, size = 1024}]
+5 | Taken | ram = [{base = 0x6000_0000, size = 1024}]
+5 | Taken | ram = [{base = 0x9F00_0000, size = 0x100_0000}]
+5 | OutOfRange | ram = [{base = 0x9F00_0400, size = 0x100_0000}]
+5 | OutOfRange | ram = [{base = 0xE000_0000, size = 1024}]
+5 | OutOfRange | ram = [{base = 0xFFFF_FC00, size = 1024}]
+5 | OutOfRange | ram = [{base = 0x4000_0000, size = 1024, name = 1}]
+5 | UnknownKey | ram = [{base = 0x1000_0000, size = 1024, name = 1}]
+5 | UnknownKey | ram = [{base = 0x1000_0000, size = 1024, Size = 1024}]
 5 | Taken | # nothing more
 5 | Taken | event = []
 5 | WrongKind | event = 1
@@ -216,6 +262,18 @@ flash_base = 0\r
 5 UnknownKey
 event = 1
 name = 1
+---
+5 UnknownKey
+ram = 1
+name = 1
+---
+5 MissingKey
+event = 1
+ram = [{}]
+---
+5 WrongKind
+event = 1
+ram = [{base = 0x1000_0000, size = 1024}]
 ---
 5 NotToml
 event = []
@@ -635,6 +693,35 @@ fn numbers_and_events_of_a_board(rt: HostRuntime) {
         is_board(rt.alloc(), WORKED, wanted, WORKED_EVENTS) == Some(true),
         "the worked text"
     );
+}
+
+/// The small board with a second RAM, and an event after it.
+const SECOND_RAM: &str = "
+flash_base = 0
+flash_size = 4096
+ram_size = 8192
+priority_bits = 4
+lines = 8
+[[event]]
+at = 1
+nmi = true
+[[ram]]
+base = 0x6000_0000
+size = 0x100_0000
+";
+
+#[test]
+fn the_second_ram_of_a_board(rt: HostRuntime) {
+    let second = read(rt.alloc(), SECOND_RAM)
+        .ok()
+        .and_then(|board| board.layout.second_ram);
+    assert!(rt;
+        matches!(second, Some(second) if second.base == 0x6000_0000 && second.size == 0x100_0000)
+    );
+    let none = read(rt.alloc(), WORKED)
+        .ok()
+        .and_then(|board| board.layout.second_ram);
+    assert!(rt; none.is_none());
 }
 
 /// Returns whether the small board of the reference is that of its text.

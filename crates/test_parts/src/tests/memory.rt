@@ -69,16 +69,12 @@ impl Rows for Places {
         let place = part(row, 0);
         let address = number_at(place, 1)?;
         let length = usize::from(byte_at(place, 2)?);
-        let is_there = if is_first(word(place, 0), "flash", "ram")? {
-            self.space.is_in_flash(address, length)
-        } else {
-            self.space.is_in_ram(address, length)
-        };
+        let is_there = self.space.is_in_memory(address, length);
         Some(is_first(part(row, 1), "in", "out") == Some(is_there))
     }
 }
 
-/// Flash or RAM, an address and how many bytes; whether they lie in it; what the row is.
+/// Flash or RAM, an address and how many bytes; whether they lie wholly in memory; what the row is.
 const PLACES: &str = "\
 flash 00000FFE 2 | in | the last halfword of flash
 flash 00000FFF 2 | out | half after flash
@@ -105,7 +101,7 @@ impl Rows for Bytes {
             let byte = self.space.byte(place);
             return Some(byte == byte_at(wanted, 0) && byte.is_none() == (wanted == "none"));
         }
-        Some(place < 256 && number_at(wanted, 0) == Some(self.space.vector(place)))
+        Some(place < 256 && number_at(wanted, 0) == Some(self.space.vector(0, place)))
     }
 }
 
@@ -120,7 +116,7 @@ byte 00001000 | none | after flash";
 #[test]
 fn bytes_that_a_debugger_puts(rt: HostRuntime) -> Result<(), Fail> {
     let mut space = blank(rt.alloc()).ok_or("memory")?;
-    assert!(rt; space.is_in_flash(4, 4));
+    assert!(rt; space.is_in_memory(4, 4));
     space.overwrite(4, &[1, 2, 3, 4]);
     check(BYTES, &mut Bytes { space })
 }

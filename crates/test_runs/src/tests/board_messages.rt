@@ -219,6 +219,83 @@ ends 3
 err marm: board 6 UnknownKey
 err   board.toml: event 1: event is no key here: the keys are at and nmi
 
+a second RAM that isn't a list
+with ram = 1
+ends 3
+err marm: board 3 WrongKind
+err   board.toml: ram is 1, an integer: it takes a list of one table at most, written as [[ram]]
+
+two of them
+with [[ram]]
+with [[ram]]
+ends 3
+err marm: board 4 OutOfRange
+err   board.toml: ram has 2 tables: it takes a list of one table at most, written as [[ram]]
+
+one that isn't a table
+with ram = [1024]
+ends 3
+err marm: board 3 WrongKind
+err   board.toml: ram is 1024, an integer: it takes a table, written as [[ram]]
+
+a second RAM without a base
+with [[ram]]
+with size = 1024
+ends 3
+err marm: board 2 MissingKey
+err   board.toml: ram: the key base is missing: it takes a multiple of 1024 from 0 to 4294966272
+
+with a base inside a block
+with [[ram]]
+with base = 0x1000_0001
+ends 3
+err marm: board 4 OutOfRange
+err   board.toml: ram: base is 268435457: it takes a multiple of 1024 from 0 to 4294966272
+
+with a size of another type
+with [[ram]]
+with base = 0x1000_0000
+with size = \"1024\"
+ends 3
+err marm: board 3 WrongKind
+err   board.toml: ram: size is \"1024\", a string: it takes a multiple of 1024 from 1024 to 16777216; an integer has \
+no point and no quotes
+
+with a size of half a block
+with [[ram]]
+with base = 0x1000_0000
+with size = 512
+ends 3
+err marm: board 4 OutOfRange
+err   board.toml: ram: size is 512: it takes a multiple of 1024 from 1024 to 16777216
+
+where the device window is
+with [[ram]]
+with base = 0x4000_0000
+with size = 1024
+ends 3
+err marm: board 4 OutOfRange
+err   board.toml: ram: base is 1073741824 and size 1024: the second RAM is below 1073741824, or from 1610612736 on and \
+below 2684354560, and has no byte of flash or RAM
+
+where flash is
+with [[ram]]
+with base = 0x0C00
+with size = 1024
+ends 3
+err marm: board 4 OutOfRange
+err   board.toml: ram: base is 3072 and size 1024: the second RAM is below 1073741824, or from 1610612736 on and \
+below 2684354560, and has no byte of flash or RAM
+
+with another key
+with [[ram]]
+with base = 0x1000_0000
+with size = 1024
+with name = 1
+ends 3
+err marm: board 6 UnknownKey
+err   board.toml: ram: name is no key here: the keys are base and size
+
 a number with a point
 board flash_base = 0
 board flash_size = 4096
@@ -292,14 +369,14 @@ with \"a\\u001B[31m\\u007F\\u009B \\\"\\\\é\" = 1
 ends 3
 err marm: board 6 UnknownKey
 err   board.toml: \"a\\u001B[31m\\u007F\\u009B \\\"\\\\é\" is no key here: the keys are flash_base, flash_size, \
-ram_size, priority_bits, lines, regions and event
+ram_size, priority_bits, lines, regions, ram and event
 
 a key with what a display hides: an override of direction, a separator, a soft hyphen, a mark of bytes
 with \"a\\u202Eb\\u2028c\\u00ADd\\uFEFFe\" = 1
 ends 3
 err marm: board 6 UnknownKey
 err   board.toml: \"a\\u202Eb\\u2028c\\u00ADd\\uFEFFe\" is no key here: the keys are flash_base, flash_size, ram_size, \
-priority_bits, lines, regions and event
+priority_bits, lines, regions, ram and event
 
 a string with an override of direction
 with [[event]]
@@ -314,7 +391,7 @@ an empty key
 with \"\" = 1
 ends 3
 err marm: board 6 UnknownKey
-err   board.toml: \"\" is no key here: the keys are flash_base, flash_size, ram_size, priority_bits, lines, regions \
+err   board.toml: \"\" is no key here: the keys are flash_base, flash_size, ram_size, priority_bits, lines, regions, ram \
 and event
 
 a string of two lines, with control characters

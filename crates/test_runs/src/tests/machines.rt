@@ -5,6 +5,7 @@ use machine::{
     Board, Decider, DueTicks, InterruptNumber, KeptCode, Layout, Levels, Machine, Place,
     PlaceError, RegionCount, SMALL_BOARD, ScriptedEvent, Signal,
 };
+use platform::board::SecondRam;
 use platform::exception::MOST_INTERRUPTS;
 use platform::mpu::MOST_REGIONS;
 use std::alloc::{AllocError, Global};
@@ -89,15 +90,33 @@ fn board_of(line: &str) -> Option<Layout> {
         flash_base: 0,
         flash_size: 4096,
         ram_size: 8192,
+        second_ram: None,
         priority_bits: 4,
         interrupts,
         regions,
     })
 }
 
-/// The small board, or that of the first line.
+/// The small board with a second RAM of 8 KiB at 0x10000000.
+const SECOND_RAM_BOARD: Layout = Layout {
+    flash_base: 0,
+    flash_size: 4096,
+    ram_size: 8192,
+    second_ram: Some(SecondRam {
+        base: 0x1000_0000,
+        size: 0x2000,
+    }),
+    priority_bits: 4,
+    interrupts: 8,
+    regions: RegionCount::Eight,
+};
+
+/// The small board, or that of a line `board` or `second`.
 fn layout(text: &str) -> Layout {
     'lines: for line in text.lines() {
+        if word(line, 0) == "second" {
+            return SECOND_RAM_BOARD;
+        }
         if word(line, 0) == "board" {
             return board_of(line).unwrap_or(SMALL_BOARD);
         }

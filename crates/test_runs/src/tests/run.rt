@@ -5,6 +5,7 @@
 //! |---|---|
 //! | `event TICK SIGNAL LINE` | the script has this event: `rise`, `fall`, `pulse`, or `nmi`, which has no line |
 //! | `board LINES REGIONS` | how many lines and regions the board has, where it isn't 8 and 8 |
+//! | `second ram` | the board has a second RAM too, of 8 KiB at 0x10000000 |
 //! | `vectors ADDRESS` | the word is placed at each entry of the vector table, from that of NMI to that of line 7 |
 //! | `word ADDRESS VALUE` | a word is placed |
 //! | `reg NUMBER VALUE`, `special NUMBER VALUE` | a register is placed, `special` as MSR numbers it |
@@ -105,6 +106,7 @@ impl<D: Decider, C: KeptCode, L: Levels, U: DueTicks> Run<D, C, L, U> {
             "refused" => self.refuses(rest),
             "event" => Some(event(line).is_some()),
             "board" => Some(byte_at(line, 1).is_some() && byte_at(line, 2).is_some()),
+            "second" => Some(rest == "ram"),
             "vectors" => Some(place_vectors(&mut self.machine, number_at(line, 1)?).is_ok()),
             "after" => holds(&self.machine, rest),
             _ => Some(self.machine.place(place(line)?).is_ok()),

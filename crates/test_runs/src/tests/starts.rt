@@ -13,6 +13,7 @@ const HIGH_FLASH: Layout = Layout {
     flash_base: 0x1_0000,
     flash_size: 1024,
     ram_size: 1024,
+    second_ram: None,
     priority_bits: 3,
     interrupts: 0,
     regions: RegionCount::Eight,

@@ -2,10 +2,6 @@ use Rattle.std.proofs.Common.{◌≡◌, arith}
 use Rattle.access_map.proofs.Making.{made_same, made_next, made_last}
 use Rattle.access_map.proofs.map.intervals_within.Goals as goal
 
-pub at-next-requires-clause-near : goal.at-next-requires-clause-near
-at-next-requires-clause-near c =
-    let f = c.each.invariant.made.from in let o = c.each.invariant.made.order in omega (arith, f, o)
-
 pub each-preserved-then-is_alike : goal.each-preserved-then-is_alike
 each-preserved-then-is_alike c = record {
   made = made_same _ _ _ _ c.each.current c.at-next.result c.each.invariant.made c.at-next.ensures.first

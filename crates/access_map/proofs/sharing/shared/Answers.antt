@@ -1,6 +1,6 @@
-use Rattle.std.proofs.Common.{arith}
 use Rattle.std.specs.Cmp.{booleans_Decides}
-use Rattle.access_map.proofs.Spans.{gathered_same, gathered_next, gathered_last}
+use Rattle.std.proofs.Common.{◌+◌, arith}
+use Rattle.access_map.proofs.Spans.{ends_before, gathered_same, gathered_next, gathered_last}
 use Rattle.access_map.proofs.sharing.shared.Goals as goal
 
 pub each-preserved-then-current-next : goal.each-preserved-then-current-next
@@ -23,5 +23,6 @@ each-preserved c = record {
 
 pub returns : goal.returns
 returns c =
-    rw c.in_ok-put-2.ensures (gathered_last _ _ _ _ _ _ c.each.current c.span-span.ensures.first
-    (let u = c.each.invariant.upto in let e = c.span-span.ensures.last in omega arith) c.each.invariant.gathered)
+    rw c.in_ok-put-2.ensures (gathered_last _ _ _ _ _ c.each.current
+    (ends_before c.args.board.now (c.each.current.last + 1) (let u = c.each.invariant.upto in omega arith))
+    c.each.invariant.gathered)

@@ -77,6 +77,17 @@ returns-in-Ok-Some-clause-slices g c =
     (has_pieces p points c.steps.left f c.steps-test.true (not_before _ _ before none)) made.tells)
     (ends_in p points c.steps.left f c.in-Ok-Some.reason made.slices.0) made.slices.1
 
+pub returns-in-Ok-Some-clause-same : goal.returns-in-Ok-Some-clause-same
+returns-in-Ok-Some-clause-same g c =
+    let made = rw c.in-Ok-Some.field-0-is at c.in-Ok-Some.ensures in
+    same_trans c.args.machine.now.state c.steps.machine.state c.make_step.new.machine.state c.steps.invariant.same
+    made.same
+
+pub returns-in-Err-clause-same : goal.returns-in-Err-clause-same
+returns-in-Err-clause-same g c =
+    same_trans c.args.machine.now.state c.steps.machine.state c.make_step.new.machine.state c.steps.invariant.same
+    c.in-Err.ensures.same
+
 pub returns-in-Err-clause-tells : goal.returns-in-Err-clause-tells
 returns-in-Err-clause-tells g c =
     let f : Flow = flow c.steps.progress c.steps.machine.state in

@@ -1,6 +1,6 @@
 use Rattle.std.proofs.Common.{◌≡◌, ◌==◌, ◌∙◌, length, refl, subst, sym, true}
 use Rattle.gdb.proofs.Slicing.{none_watched}
-use Rattle.gdb_past.proofs.Following.{same_step, same_sym, same_trans}
+use Rattle.gdb_past.proofs.Following.{same_refl, same_step, same_sym, same_trans}
 use Rattle.gdb_past.specs.Places.{AreOfOneMachine}
 use Rattle.machine.specs.Whole.{Whole}
 use Rattle.reference.specs.State.{State}
@@ -38,3 +38,6 @@ restore-requires g c =
 pub returns-in-None-clause-same : goal.returns-in-None-clause-same
 returns-in-None-clause-same g c =
     stepped c.args.machine.now.state c.args.machine.now c.step.new.self refl c.step.ensures.state
+
+pub returns-in-None-clause-fits : goal.returns-in-None-clause-fits
+returns-in-None-clause-fits g c = rw c.follow.ensures (same_refl c.step.new.self.state)

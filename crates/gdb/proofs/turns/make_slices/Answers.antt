@@ -103,6 +103,42 @@ returns-in-Err-send_packet-clause-takes g c =
     c.in-Ok.ensures.put c.in-Ok.ensures.kept)
     gdb c.in-Err-send_packet.ensures.put.0 c.in-Err-send_packet.ensures.put.1
 
+-- memories keep their sizes
+pub returns-in-Ok-Some-clause-same : goal.returns-in-Ok-Some-clause-same
+returns-in-Ok-Some-clause-same g c =
+    let made = rw c.in-Ok-Some.field-0-is at c.in-Ok-Some.ensures in
+    same_trans c.args.machine.now.state c.slices.machine.state c.run_slice.new.machine.state
+    c.slices.invariant.same made.same
+
+pub returns-in-Err-clause-same : goal.returns-in-Err-clause-same
+returns-in-Err-clause-same g c =
+    let made = c.in-Err.ensures in
+    same_trans c.args.machine.now.state c.slices.machine.state c.run_slice.new.machine.state
+    c.slices.invariant.same made.same
+
+pub returns-in-Err-flush-clause-same : goal.returns-in-Err-flush-clause-same
+returns-in-Err-flush-clause-same g c =
+    let made = rw c.in-Ok-None.field-0-is at c.in-Ok-None.ensures in
+    same_trans c.args.machine.now.state c.slices.machine.state c.run_slice.new.machine.state
+    c.slices.invariant.same made.same
+
+pub returns-in-Ok-send_packet-clause-same : goal.returns-in-Ok-send_packet-clause-same
+returns-in-Ok-send_packet-clause-same g c =
+    let made = rw c.in-Ok-None.field-0-is at c.in-Ok-None.ensures in
+    same_trans c.args.machine.now.state c.slices.machine.state c.run_slice.new.machine.state
+    c.slices.invariant.same made.same
+
+pub returns-in-Err-send_packet-clause-same : goal.returns-in-Err-send_packet-clause-same
+returns-in-Err-send_packet-clause-same g c =
+    let made = rw c.in-Ok-None.field-0-is at c.in-Ok-None.ensures in
+    same_trans c.args.machine.now.state c.slices.machine.state c.run_slice.new.machine.state
+    c.slices.invariant.same made.same
+
+pub returns-clause-same : goal.returns-clause-same
+returns-clause-same g c =
+    same_trans c.args.machine.now.state c.slices.machine.state c.last_slice.new.machine.state c.slices.invariant.same
+    c.last_slice.ensures.same
+
 -- it goes on
 pub slices-preserved : goal.slices-preserved
 slices-preserved g c =

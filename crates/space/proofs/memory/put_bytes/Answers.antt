@@ -1,6 +1,6 @@
 -- The part from `at` on is what was copied: its length is that of the bytes.
 use Rattle.std.proofs.Common.{arith}
-use Rattle.space.proofs.Blocks.{written_over}
+use Rattle.space.proofs.Bytes.{written_over}
 use Rattle.space.proofs.memory.put_bytes.Goals as goal
 
 pub returns : goal.returns
