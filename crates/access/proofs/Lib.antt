@@ -1,3 +1,4 @@
+pub mod Devices
 mod Accessed
 mod AtOnce
 pub mod Fetches

@@ -7,13 +7,15 @@ use Rattle.platform.specs.declared.access.Performed.{Performed}
 use Rattle.platform.specs.declared.access.Performed.TheVariants.{Done, Denied, Stop}
 use Rattle.platform.specs.declared.access.Request.{Request}
 use Rattle.platform.specs.declared.access.Rule.{Rule}
-use Rattle.reference.specs.Accesses.{carried_out, decided, decision, perform}
+use Rattle.reference.specs.Accesses.{carried_out, decided, decision, is_to_device, perform}
 use Rattle.platform.specs.Kinds.{is_probe, is_write}
 use Rattle.platform.specs.Map.{is_in_ppb, is_in_window}
 use Rattle.platform.specs.Memory.{Memory, is_writable_at}
 use Rattle.platform.specs.Outcomes.{LeavesUnlessDone, Outcome, within}
 use Rattle.platform.specs.Space.{written_to, written_to_window, space_access}
 use Rattle.reference.specs.State.{Bus}
+use Rattle.access.proofs.Devices.{device_there}
+use Rattle.scs.proofs.Devices.{device_leaves}
 use Rattle.scs.proofs.Refusals.{system_keeps}
 
 abbrev Keeps : {A : Type 0} → A → Outcome A → Type 0
@@ -51,8 +53,11 @@ carrying_keeps exception b rule q =
     cond_both (is_probe q.access.kind) _ _ (Keeps b) (λ f. tt)
     (λ f. cond_both (is_in_ppb q.access.address) _ _ (Keeps b)
     (λ g. within_keeps (λ system. record b { system = system }) b.system _ (system_keeps exception b.system rule q))
-    (λ g. within_keeps (λ memory. record b { memory = memory }) b.memory _
-    (space_keeps b.memory b.system.time.ticks rule q)))
+    (λ g. cond_both (is_to_device b q.access) _ _ (Keeps b)
+    (λ h. within_keeps (λ system. record b { system = system }) b.system _
+    (device_leaves b.system rule q (device_there b q.access h)))
+    (λ h. within_keeps (λ memory. record b { memory = memory }) b.memory _
+    (space_keeps b.memory b.system.time.ticks rule q))))
 
 decided_keeps : (exception : ℕ) (b : Bus) (q : Request) (d : Decision) → Keeps b (decided exception b q d)
 decided_keeps exception b q d =

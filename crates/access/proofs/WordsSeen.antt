@@ -1,16 +1,18 @@
 -- What the bus would return to a load of a word by privileged code.
 use Rattle.std.proofs.Common.{◌≡◌, ℕ, ◌/◌, ◌*◌, ◌^◌, ◌<◌, ◌==◌, Bool, true, false, Option, Some}
-use Rattle.std.proofs.Common.{None, refl, sym, ◌∙◌, ap, arith}
+use Rattle.std.proofs.Common.{None, if◌then◌else◌, not, ◌&&◌, refl, sym, ◌∙◌, ap, arith}
+use Rattle.devices.specs.Devices.{read_at}
+use Rattle.devices.specs.Laws.{have}
 use Rattle.instruction_set.specs.declared.size.Size.TheVariants.{Word}
 use Rattle.platform.specs.declared.access.Rule.TheVariants.{MpuOff}
 use Rattle.platform.specs.declared.system.SystemRegister.{SystemRegister}
 use Rattle.platform.specs.declared.system.SystemRegister.TheVariants as register
 use Rattle.access.specs.Seen.{value_read, word_load, word_of_window, word_outside, word_seen}
 use Rattle.platform.specs.Map.{is_in_ppb, is_in_window, tick_register}
-use Rattle.platform.specs.Memory.{Memory, number_at}
-use Rattle.platform.specs.Outcomes.{bus_error, done}
+use Rattle.platform.specs.Memory.{Memory, is_in_memory, number_at}
+use Rattle.platform.specs.Outcomes.{bus_error, done, within}
 use Rattle.platform.specs.Space.{number_read, read_from, space_access}
-use Rattle.platform.specs.System.{System, has_width, part_of, register_access, register_at, system_access, word_at}
+use Rattle.platform.specs.System.{System, device_access, has_width, part_of, register_access, register_at, system_access, word_at}
 use Rattle.reference.specs.Accesses.{carried_out}
 use Rattle.reference.specs.State.{Bus}
 
@@ -43,14 +45,27 @@ number_seen : (o : Option ℕ) → value_read (number_read MpuOff o) ≡ o
 number_seen None = refl
 number_seen (Some word) = refl
 
+-- the word that the window or memory has
+abbrev word_without_devices : Memory → ℕ → ℕ → Option ℕ
+word_without_devices m ticks a = if is_in_window a then word_of_window ticks a else number_at m a 4
+
 read_outside : (m : Memory) (ticks a : ℕ) (in_it tick : Bool) → is_in_window a ≡ in_it → (a == tick_register) ≡ tick
-    → value_read (read_from m ticks MpuOff (word_load a)) ≡ word_outside m ticks a
+    → value_read (read_from m ticks MpuOff (word_load a)) ≡ word_without_devices m ticks a
 read_outside m ticks a true true w t = rw (w, t) refl
 read_outside m ticks a true false w t = rw (w, t) refl
 read_outside m ticks a false tick w t = rw w (number_seen (number_at m a 4))
 
-pub seen_elsewhere : (x : ℕ) (b : Bus) (a : ℕ) → is_in_ppb a ≡ false
-    → word_outside b.memory b.system.time.ticks a ≡ word_seen x b a
-unfolding word_seen carried_out space_access
-seen_elsewhere x b a ppb =
-    rw ppb (sym (read_outside b.memory b.system.time.ticks a (is_in_window a) (a == tick_register) refl refl))
+pub seen_elsewhere : (x : ℕ) (b : Bus) (a : ℕ) → is_in_ppb a ≡ false → word_outside b a ≡ word_seen x b a
+unfolding word_seen carried_out space_access device_access
+seen_elsewhere x b a ppb = rw ppb (by (not (is_in_memory b.memory a 4) && have b.system.devices a))
+  where
+    by : (device : Bool)
+        → (if device then read_at b.system.devices b.system.time.ticks a Word
+        else word_without_devices b.memory b.system.time.ticks a)
+        ≡ value_read (if device
+        then within (λ system. record b { system = system }) (device_access b.system MpuOff (word_load a))
+        else within (λ memory. record b { memory = memory })
+        (space_access b.memory b.system.time.ticks MpuOff (word_load a))).performed
+    by true = sym (number_seen (read_at b.system.devices b.system.time.ticks a Word))
+    by false =
+        sym (read_outside b.memory b.system.time.ticks a (is_in_window a) (a == tick_register) refl refl)

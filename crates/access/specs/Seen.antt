@@ -1,6 +1,8 @@
 -- What a debugger sees of the address space: the words that loads by privileged code would return now, without an
 -- effect (profile).
-use Rattle.std.specs.Prelude.{ℕ, ◌%◌, ◌^◌, ◌==◌, if◌then◌else◌, true, Option, Some, None}
+use Rattle.std.specs.Prelude.{ℕ, ◌%◌, ◌^◌, ◌==◌, ◌&&◌, if◌then◌else◌, not, true, Option, Some, None}
+use Rattle.devices.specs.Devices.{read_at}
+use Rattle.devices.specs.Laws.{have}
 use Rattle.instruction_set.specs.declared.size.Size.TheVariants.{Word}
 use Rattle.platform.specs.declared.access.Kind.TheVariants.{Load}
 use Rattle.platform.specs.declared.access.Performed.{Performed}
@@ -8,7 +10,7 @@ use Rattle.platform.specs.declared.access.Performed.TheVariants.{Done, Denied, S
 use Rattle.platform.specs.declared.access.Request.{Request}
 use Rattle.platform.specs.declared.access.Rule.TheVariants.{MpuOff}
 use Rattle.platform.specs.Map.{is_in_window, tick_register}
-use Rattle.platform.specs.Memory.{Memory, number_at}
+use Rattle.platform.specs.Memory.{is_in_memory, number_at}
 use Rattle.reference.specs.Accesses.{carried_out}
 use Rattle.reference.specs.State.{Bus}
 
@@ -34,6 +36,10 @@ word_seen x b a = value_read (carried_out x b MpuOff (word_load a)).performed
 abbrev pub word_of_window : ℕ → ℕ → Option ℕ
 word_of_window ticks a = if a == tick_register then Some (ticks % 2 ^ 32) else None
 
--- the word of the window, or of memory
-abbrev pub word_outside : Memory → ℕ → ℕ → Option ℕ
-word_outside m ticks a = if is_in_window a then word_of_window ticks a else number_at m a 4
+-- the word of a device, of the window, or of memory
+abbrev pub word_outside : Bus → ℕ → Option ℕ
+word_outside b a =
+    if not (is_in_memory b.memory a 4) && have b.system.devices a
+    then read_at b.system.devices b.system.time.ticks a Word
+    else if is_in_window a then word_of_window b.system.time.ticks a
+    else number_at b.memory a 4

@@ -1,7 +1,9 @@
 //! The words of the address space, without the effect that a load may have.
 
-ghost use Rattle.std.specs.Prelude.{◌≡◌, ◌/◌, ◌*◌};
+ghost use Rattle.std.specs.Prelude.{◌≡◌, ◌/◌, ◌*◌, ◌&&◌, not};
 ghost use Rattle.access.specs.Seen.{word_of_window, word_outside, word_seen};
+ghost use Rattle.devices.specs.Laws.{have};
+ghost use Rattle.platform.specs.Memory.{is_in_memory};
 
 use crate::bus::Bus;
 use clock::DueTicks;
@@ -30,14 +32,24 @@ impl<D: Decider, C: KeptCode, L: Levels, U: DueTicks> Bus<D, C, L, U> {
         }
     }
 
-    /// Returns the word that memory or the device window has at an address.
+    /// Returns the word that memory, a device or the device window has at an address.
     fn look_outside(&self, address: u32) -> Option<u32>
-        ensures { result ≡ word_outside self.now.memory self.now.system.time.ticks address }
+        ensures { result ≡ word_outside self.now address }
     {
+        if self.is_in_device(address) {
+            return self.system.look_at_device(address, Size::Word);
+        }
         if is_in_window(address) {
             return self.look_at_window(address);
         }
         self.space().number(address, Size::Word)
+    }
+
+    /// Returns whether a device has the word at an address, and memory doesn't have it.
+    fn is_in_device(&self, address: u32) -> bool
+        ensures { result ≡ (not (is_in_memory self.now.memory address 4) && have self.now.system.devices address) }
+    {
+        !self.space().is_in_memory(address, 4) && self.system.has_device(address)
     }
 
     /// Returns the word that the device window has at an address: TICK alone can be read.

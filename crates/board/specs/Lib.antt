@@ -2,3 +2,4 @@
 pub use Rattle.platform.specs.Boards
 pub mod Texts
 pub mod Reading
+pub mod Devices

@@ -7,7 +7,11 @@ use Rattle.platform.specs.declared.error.BoardError.TheVariants.{OutOfMemory}
 
 -- a board, as the reference describes it
 abbrev pub described : Board → Described
-described board = record { numbers = numbers_of board.layout; script = board.events.items }
+described board = record {
+  numbers = numbers_of board.layout;
+  script = board.events.items;
+  devices = board.devices.items;
+}
 
 -- a result is the one that the definition reads, its value seen by a view
 abbrev pub Gives : {V W : Type 0} → (V → W) → Result V BoardError → Result W BoardError → Type 0

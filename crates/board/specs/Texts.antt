@@ -224,7 +224,7 @@ board_in document = do
   all ← with_second_ram numbers document
   items ← tables_at most_events (get_member (codes "event") document)
   script ← script_in all.interrupts first_tick items
-  Ok (record { numbers = all; script = script })
+  Ok (record { numbers = all; script = script; devices = [] })
 
 -- the board of what was parsed
 abbrev pub board_of_document : Option Members → Result Described BoardError

@@ -65,5 +65,10 @@ pub fn board_of_table(alloc: Global, document: &Table) -> Result<Board, BoardErr
     let layout = with_second_ram(layout, document)?;
     let values = tables(find(document, "event"), MOST_SCRIPT_EVENTS)?;
     let events = script_of(alloc, layout.interrupts, values)?;
-    Ok(Board { layout, events })
+    let devices = Vec::new(alloc);
+    Ok(Board {
+        layout,
+        events,
+        devices,
+    })
 }

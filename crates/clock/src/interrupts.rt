@@ -31,7 +31,7 @@ pub fn take_signal(high: &mut HighInterrupts, signal: Signal)
     match signal {
         Signal::Rise(interrupt) => high[interrupt.number() as usize] = true,
         Signal::Fall(interrupt) => high[interrupt.number() as usize] = false,
-        Signal::Pulse(_) | Signal::Nmi => {}
+        Signal::Pulse(_) | Signal::Nmi | Signal::Poke(_) => {}
     }
 }
 

@@ -2,11 +2,11 @@
 //! timer, SysTick"; the rest is this project's profile).
 #![tactic(auto)]
 
-ghost use Rattle.std.specs.Prelude.{◌≡◌, ◌↔◌, ℕ, ◌+◌, ◌^◌, ◌<◌, ◌≤◌, true, false, IfOk, IsTrue};
+ghost use Rattle.std.specs.Prelude.{◌≡◌, ◌↔◌, ℕ, ◌+◌, ◌^◌, ◌<◌, ◌≤◌, [], true, false, IfOk, IsTrue};
 ghost use Rattle.clock.specs.DueTicks.{IsRight, IsQuiet};
-ghost use Rattle.platform.specs.Time.{time_after_tick, counted, tick_pends, script_due};
+ghost use Rattle.platform.specs.Time.{time_after_tick, counted, events_at, tick_pends, script_due};
 ghost use Rattle.platform.specs.Time.{passed, is_high, start_time, csr, after_csr_read, with_csr};
-ghost use Rattle.platform.specs.Time.{pends, with_rvr, with_cvr_cleared, with_signal, IsSetOf};
+ghost use Rattle.platform.specs.Time.{pends, with_events, with_rvr, with_cvr_cleared, with_signal, IsSetOf};
 
 mod ahead;
 mod due_ticks;
@@ -18,10 +18,11 @@ mod timer;
 
 pub use ahead::Ahead;
 pub use due_ticks::{Counting, DueTicks};
-use interrupts::HighInterrupts;
+use interrupts::take_events;
+pub use interrupts::{HighInterrupts, is_high, take_signal};
 pub use platform::script::{InterruptNumber, ScriptedEvent, Signal};
 pub use script::Script;
-pub use sets::Due;
+pub use sets::{Due, put_signal};
 use sets::NOTHING;
 use std::alloc::{AllocError, Global};
 use std::marker::Model;
@@ -104,7 +105,7 @@ impl<U: DueTicks> Clock<U> {
         ensures due { IsSetOf result (pends what.now) }
         ensures right { IsRight self.old → IsRight self.new }
     {
-        interrupts::take_signal(&mut self.high, *what);
+        take_signal(&mut self.high, *what);
         sets::due_by(*what)
     }
 
@@ -121,7 +122,7 @@ impl<U: DueTicks> Clock<U> {
     pub fn high(&self, interrupt: u8) -> bool
         ensures { result ≡ is_high self.now.time interrupt }
     {
-        interrupts::is_high(&self.high, interrupt)
+        is_high(&self.high, interrupt)
     }
 
     /// Returns what the next tick would pend. The clock mustn't be at its end, as for `tick_due`.
@@ -139,15 +140,34 @@ impl<U: DueTicks> Clock<U> {
         }
     }
 
+    /// Returns the events that apply in the next tick.
+    pub fn events_next(&self) -> &[ScriptedEvent]
+        requires { self.now.time.ticks < 2 ^ 48 }
+        ensures { result.now ≡ events_at (self.now.time.ticks + 1) self.now.time.script }
+    {
+        let script = self.script.events();
+        let count = script::due_count(self.ticks + 1, script);
+        &script[..count]
+    }
+
+    /// Returns which interrupts will be high after the next tick.
+    pub fn high_next(&self) -> HighInterrupts
+        requires { self.now.time.ticks < 2 ^ 48 }
+        ensures { result
+            ≡ with_events self.now.time.high (events_at (self.now.time.ticks + 1) self.now.time.script) }
+    {
+        let mut high = self.high;
+        take_events(&mut high, self.events_next());
+        high
+    }
+
     /// Returns what the next tick pends, by the script and SysTick.
     #[tactic(auto, unfolding(platform::specs::Time::tick_pends))]
     fn due_next(&self) -> Due
         requires { self.now.time.ticks < 2 ^ 48 }
         ensures { IsSetOf result (tick_pends self.now.time) }
     {
-        let script = self.script.events();
-        let count = script::due_count(self.ticks + 1, script);
-        sets::due_of(&script[..count], &self.systick())
+        sets::due_of(self.events_next(), &self.systick())
     }
 
     /// Makes the next tick if the due tick that is kept says that nothing is due at it. Returns whether it did.
@@ -160,6 +180,8 @@ impl<U: DueTicks> Clock<U> {
         ensures passes { result ≡ true → self.new ≡ record self.old { time = passed self.old.time } }
         ensures time { result ≡ true → IsRight self.old → self.new.time ≡ time_after_tick self.old.time }
         ensures quiet { result ≡ true → IsRight self.old → (number : ℕ) → tick_pends self.old.time number ≡ false }
+        ensures silent { result ≡ true → IsRight self.old
+            → events_at (self.old.time.ticks + 1) self.old.time.script ≡ [] }
         ensures right { IsRight self.old → IsRight self.new }
     {
         if self.timer.is_quiet_after(self.ticks) {
@@ -181,7 +203,7 @@ impl<U: DueTicks> Clock<U> {
         let script = self.script.events();
         let count = script::due_count(self.ticks + 1, script);
         let due = sets::due_of(&script[..count], &systick);
-        interrupts::take_events(&mut self.high, &script[..count]);
+        take_events(&mut self.high, &script[..count]);
         self.script.skip(count);
         self.count_on();
         due

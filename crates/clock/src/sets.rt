@@ -27,12 +27,12 @@ fn put(due: &mut Due, number: u8)
 
 /// Puts the exception that a signal pends into a set, if there is one.
 #[inline]
-fn put_signal(due: &mut Due, signal: Signal)
+pub fn put_signal(due: &mut Due, signal: Signal)
     ensures { (n : ℕ) → n < 256 → is_in_words due.new n ≡ (pends signal n || is_in_words due.old n) }
 {
     match signal {
         Signal::Rise(interrupt) | Signal::Pulse(interrupt) => put(due, exception_of(interrupt)),
-        Signal::Fall(_) => {}
+        Signal::Fall(_) | Signal::Poke(_) => {}
         Signal::Nmi => put(due, NMI as u8),
     }
 }

@@ -2,15 +2,16 @@
 use Rattle.std.proofs.Common.{◌≡◌, ℕ, suc, ◌+◌, List, ◌++◌, Option, append_assoc, ◌∙◌, ap, arith}
 use Rattle.debugger_commands.specs.Texts.{byte_text, bytes_text}
 use Rattle.instruction_set.specs.Words.{word_sum}
-use Rattle.platform.specs.Memory.{Memory, byte_at}
+use Rattle.reference.specs.Shown.{byte_shown}
+use Rattle.reference.specs.State.{Bus}
 
 -- one byte more
-pub byte_more : (page now new : List ℕ) (m : Memory) (a n place : ℕ) (byte : Option ℕ) → now ≡ page ++ bytes_text m a n
-    → place ≡ word_sum a n → byte ≡ byte_at m place → new ≡ now ++ byte_text byte → new ≡ page ++ bytes_text m a (n + 1)
+pub byte_more : (page now new : List ℕ) (m : Bus) (a n place : ℕ) (byte : Option ℕ) → now ≡ page ++ bytes_text m a n
+    → place ≡ word_sum a n → byte ≡ byte_shown m place → new ≡ now ++ byte_text byte → new ≡ page ++ bytes_text m a (n + 1)
 unfolding bytes_text
 byte_more page now new m a n place byte so_far there shown more =
     let next : suc n ≡ n + 1 = omega arith in
-    more ∙ (ap (λ (b : Option ℕ). now ++ byte_text b) (shown ∙ ap (λ p. byte_at m p) there)
-    ∙ (ap (λ (xs : List ℕ). xs ++ byte_text (byte_at m (word_sum a n))) so_far
-    ∙ (append_assoc page (bytes_text m a n) (byte_text (byte_at m (word_sum a n)))
+    more ∙ (ap (λ (b : Option ℕ). now ++ byte_text b) (shown ∙ ap (λ p. byte_shown m p) there)
+    ∙ (ap (λ (xs : List ℕ). xs ++ byte_text (byte_shown m (word_sum a n))) so_far
+    ∙ (append_assoc page (bytes_text m a n) (byte_text (byte_shown m (word_sum a n)))
     ∙ ap (λ x. page ++ bytes_text m a x) next)))

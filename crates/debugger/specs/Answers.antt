@@ -129,7 +129,7 @@ next_text s = next_line (next_kind_of s) s.stop
 -- the text for a part of the machine
 abbrev pub part_text : State → Part → List ℕ
 part_text s part.Regs = registers_text (values_of s.registers s.bus.system.nvic.masks)
-part_text s (part.Memory a n) = memory_text s.bus.memory a (n + 1)
+part_text s (part.Memory a n) = memory_text s.bus a (n + 1)
 part_text s part.Regions = region_lines s.bus.system.mpu MOST_REGIONS
 part_text s (part.Explain a privileged kind) =
     decision_text (decision_of s.bus.system.mpu a kind privileged (is_below_zero s.bus.system.nvic))

@@ -3,9 +3,8 @@ use Rattle.std.specs.Prelude.{ℕ, Bool, true, if◌then◌else◌, List, All, m
 use Rattle.std.specs.Prelude.{None}
 use Rattle.debugger_commands.specs.declared.changes.Change.{Change}
 use Rattle.debugger_commands.specs.declared.changes.Change.TheVariants as change
-use Rattle.platform.specs.Memory.{Memory}
-use Rattle.reference.specs.State.{State}
-use Rattle.space.specs.Sizes.{HaveSameSizes}
+use Rattle.reference.specs.State.{Bus, State}
+use Rattle.step_laws.specs.SizeLaw.{AreOfOneBoard}
 
 -- a slot: the state that fills its room, and whether that was saved
 pub record Slot : Type 0 where
@@ -35,6 +34,6 @@ abbrev pub slots_after : State → List Slot → Option Change → List Slot
 slots_after s slots None = slots
 slots_after s slots (Some what) = slots_by s slots what
 
--- each slot has room for this memory
-abbrev pub HaveRoom : List Slot → Memory → Type 0
-HaveRoom slots m = All (λ slot. HaveSameSizes slot.state.bus.memory m) slots
+-- each slot has room for the state of a machine of this board
+abbrev pub HaveRoom : List Slot → Bus → Type 0
+HaveRoom slots b = All (λ slot. AreOfOneBoard slot.state.bus b) slots

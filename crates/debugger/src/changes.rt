@@ -19,7 +19,7 @@ pub fn change<D: Decider, C: KeptCode, L: Levels, U: DueTicks>(
     slots: &mut Slots<L, U>,
     what: Change,
 ) -> Reply
-    requires { HaveRoom slots.old machine.old.state.bus.memory }
+    requires { HaveRoom slots.old machine.old.state.bus }
     ensures text { result ≡ (change_piece machine.old.state (saved_in slots.old) what).text }
     ensures state { machine.new
         ≡ record machine.old { state = (change_piece machine.old.state (saved_in slots.old) what).state } }

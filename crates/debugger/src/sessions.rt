@@ -68,7 +68,7 @@ impl<L: Levels, U: DueTicks> Debugger<L, U> {
         what: Change,
         out: &mut W,
     ) -> Result<(), IoError>
-        requires { HaveRoom self.old.slots machine.old.state.bus.memory }
+        requires { HaveRoom self.old.slots machine.old.state.bus }
         ensures tells { Tells (change_piece machine.old.state (saved_in self.old.slots) what ∷ []) machine.old
             machine.new (W.writing out.old) (W.writing out.new) result }
         ensures kept { self.new ≡ record self.old {
@@ -104,7 +104,7 @@ impl<L: Levels, U: DueTicks> Debugger<L, U> {
         asked: Result<Command, LineError>,
         out: &mut W,
     ) -> Result<(), IoError>
-        requires { HaveRoom self.old.slots machine.old.state.bus.memory }
+        requires { HaveRoom self.old.slots machine.old.state.bus }
         ensures tells { Tells (answer_by machine.old.state self.old.settings (saved_in self.old.slots) asked
             (steps_of asked) (task_steps_of asked)) machine.old machine.new (W.writing out.old) (W.writing out.new)
             result }
@@ -141,7 +141,7 @@ impl<L: Levels, U: DueTicks> Debugger<L, U> {
         asked: Result<Command, LineError>,
         out: &mut W,
     ) -> Result<(), IoError>
-        requires { HaveRoom self.old.slots machine.old.state.bus.memory }
+        requires { HaveRoom self.old.slots machine.old.state.bus }
         ensures tells { Tells (answer machine.old.state self.old.settings (saved_in self.old.slots) asked) machine.old
             machine.new (W.writing out.old) (W.writing out.new) result }
         ensures kept { self.new ≡ record self.old {
@@ -165,11 +165,11 @@ impl<L: Levels, U: DueTicks> Debugger<L, U> {
         machine: &mut Machine<D, C, L, U>,
         out: &mut W,
     ) -> Result<(), IoError>
-        requires { HaveRoom self.old.slots machine.old.state.bus.memory }
+        requires { HaveRoom self.old.slots machine.old.state.bus }
         ensures tells { Tells (line_answered (kept_of self.old) machine.old.state) machine.old machine.new
             (W.writing out.old) (W.writing out.new) result }
         ensures kept { OnOk result (self.new ≡ held_after_line self.old machine.old.state) }
-        ensures room { OnOk result (HaveRoom self.new.slots machine.new.state.bus.memory) }
+        ensures room { OnOk result (HaveRoom self.new.slots machine.new.state.bus) }
     {
         let asked = read_line(self.settings.slots(), self.listener.line());
         self.listener.clear();
@@ -184,7 +184,7 @@ impl<L: Levels, U: DueTicks> Debugger<L, U> {
 impl<L: Levels, U: DueTicks> Protocol<L, U> for Debugger<L, U> {
     ghost conduct = { holding };
 
-    ghost ready = { λ d s. HaveRoom d.slots s.bus.memory };
+    ghost ready = { λ d s. HaveRoom d.slots s.bus };
 
     fn is_open(&self) -> bool {
         self.is_open
@@ -239,7 +239,7 @@ pub fn session<D: Decider, C: KeptCode, L: Levels, U: DueTicks, I: In, W: Out>(
     reader: &mut I,
     out: &mut W,
 ) -> Result<(), SessionError>
-    requires { HaveRoom slots machine.old.state.bus.memory }
+    requires { HaveRoom slots machine.old.state.bus }
     ensures talked { Sessions (session_of (numbers_of layout) (saved_in slots) machine.old.state) machine.old
         machine.new (I.reading reader.old) (I.reading reader.new) (W.writing out.old) (W.writing out.new) result }
     ensures sent { NothingWaits (W.writing out.new) result }

@@ -5,7 +5,7 @@ ghost use Rattle.std.specs.Prelude.{codes, replicate};
 ghost use Rattle.debugger.specs.Answers.{back_piece};
 ghost use Rattle.debugger.specs.Slots.{HaveRoom, saved_in, with_saved};
 ghost use Rattle.platform.specs.Text.{line_feed};
-ghost use Rattle.space.specs.Sizes.{HaveSameSizes};
+ghost use Rattle.step_laws.specs.SizeLaw.{AreOfOneBoard};
 
 use debugger_commands::{Reply, ok_text};
 use machine::{Decider, DueTicks, Kept, KeptCode, Levels, Machine};
@@ -30,7 +30,7 @@ impl<L: Levels, U: DueTicks> Model for Slot<L, U> {
 impl<L: Levels, U: DueTicks> Slot<L, U> {
     /// Saves the state of a machine.
     fn save<D: Decider, C: KeptCode>(&mut self, machine: &Machine<D, C, L, U>)
-        requires { HaveSameSizes self.old.state.bus.memory machine.now.state.bus.memory }
+        requires { AreOfOneBoard self.old.state.bus machine.now.state.bus }
         ensures { self.new ≡ record { state = machine.now.state; is_saved = true } }
     {
         machine.keep(&mut self.kept);
@@ -64,7 +64,7 @@ impl<L: Levels, U: DueTicks> Slots<L, U> {
         machine: &Machine<D, C, L, U>,
     ) -> Result<Self, AllocError>
         ensures saved { IfOk result (λ slots. saved_in slots ≡ replicate count None) }
-        ensures room { IfOk result (λ slots. HaveRoom slots machine.now.state.bus.memory) }
+        ensures room { IfOk result (λ slots. HaveRoom slots machine.now.state.bus) }
         ensures some { IfErr result (λ _. 0 < count) }
     {
         let mut slots = Vec::new(alloc);
@@ -88,7 +88,7 @@ impl<L: Levels, U: DueTicks> Slots<L, U> {
 
     /// Saves the state of a machine in a slot. A slot that isn't there keeps nothing.
     pub fn save<D: Decider, C: KeptCode>(&mut self, slot: u8, machine: &Machine<D, C, L, U>)
-        requires { HaveRoom self.old machine.now.state.bus.memory }
+        requires { HaveRoom self.old machine.now.state.bus }
         ensures { self.new ≡ with_saved self.old slot machine.now.state }
     {
         let slot = slot as usize;
@@ -115,7 +115,7 @@ impl<L: Levels, U: DueTicks> Slots<L, U> {
         slot: u8,
         machine: &mut Machine<D, C, L, U>,
     ) -> Reply
-        requires { HaveRoom self.now machine.old.state.bus.memory }
+        requires { HaveRoom self.now machine.old.state.bus }
         ensures text { result
             ≡ (back_piece machine.old.state (slice_index_or (saved_in self.now) slot None)).text }
         ensures state { machine.new ≡ record machine.old {

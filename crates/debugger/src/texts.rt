@@ -122,7 +122,7 @@ pub fn registers_text(values: &RegValues) -> Reply
     page
 }
 
-/// Appends the first bytes of memory from an address on.
+/// Appends the first bytes of memory and of devices from an address on.
 #[tactic(auto, unfolding(debugger_commands::specs::Texts::bytes_text))]
 fn put_bytes<D: Decider, C: KeptCode, L: Levels, U: DueTicks>(
     page: &mut Reply,
@@ -132,11 +132,11 @@ fn put_bytes<D: Decider, C: KeptCode, L: Levels, U: DueTicks>(
 )
     requires few { count ≤ 256 }
     requires room { length page.old ≤ 9 }
-    ensures text { page.new ≡ page.old ++ bytes_text machine.now.state.bus.memory address count }
+    ensures text { page.new ≡ page.old ++ bytes_text machine.now.state.bus address count }
     ensures short { length page.new ≤ 777 }
 {
     'offsets: for offset in 0..count {
-        put_byte(page, machine.byte(byte_address(address, offset)));
+        put_byte(page, machine.shown(byte_address(address, offset)));
     }
 }
 
@@ -147,7 +147,7 @@ pub fn memory_text<D: Decider, C: KeptCode, L: Levels, U: DueTicks>(
     count: u32,
 ) -> Reply
     requires { count ≤ 256 }
-    ensures { result ≡ memory_text machine.now.state.bus.memory address count }
+    ensures { result ≡ memory_text machine.now.state.bus address count }
 {
     let mut page = Reply::new();
     page.put_word(address);

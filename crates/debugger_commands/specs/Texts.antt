@@ -7,7 +7,8 @@ use Rattle.debugger_commands.specs.declared.help.TheConstants.{HELP}
 use Rattle.instruction_set.specs.Words.{word_sum}
 use Rattle.platform.specs.declared.access.Decision.{Decision}
 use Rattle.platform.specs.declared.stop.Stop.{Stop}
-use Rattle.platform.specs.Memory.{Memory, byte_at}
+use Rattle.reference.specs.Shown.{byte_shown}
+use Rattle.reference.specs.State.{Bus}
 use Rattle.platform.specs.Regions.{Mpu, shown}
 use Rattle.platform.specs.Text.{hex_byte, hex_word, line_feed, rule_text, stop_line}
 
@@ -36,12 +37,12 @@ byte_text None = codes " --"
 byte_text (Some byte) = codes " " ++ hex_byte byte
 
 -- the first n bytes from an address on, which wraps at 2^32
-unfoldable pub bytes_text : Memory → ℕ → ℕ → List ℕ
-bytes_text m a zero = []
-bytes_text m a (suc n) = bytes_text m a n ++ byte_text (byte_at m (word_sum a n))
+unfoldable pub bytes_text : Bus → ℕ → ℕ → List ℕ
+bytes_text b a zero = []
+bytes_text b a (suc n) = bytes_text b a n ++ byte_text (byte_shown b (word_sum a n))
 
-abbrev pub memory_text : Memory → ℕ → ℕ → List ℕ
-memory_text m a n = ((hex_word a ++ codes ":") ++ bytes_text m a n) ++ line_feed
+abbrev pub memory_text : Bus → ℕ → ℕ → List ℕ
+memory_text b a n = ((hex_word a ++ codes ":") ++ bytes_text b a n) ++ line_feed
 
 -- ---- regions: a line for each region that the board has
 

@@ -6,4 +6,3 @@ pub mod Pokes
 pub mod Lines
 pub mod Copies
 pub mod Laws
-pub mod Foreseen

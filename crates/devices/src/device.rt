@@ -29,10 +29,13 @@ pub struct Poke {
 /// An external interrupt that is high while a bit is 1 both in the device's first word and in another one.
 #[derive(Clone, Copy)]
 pub struct Line {
-    /// The number of the interrupt.
+    /// The number of the interrupt, at most 239.
     pub number: u8,
     /// The address of the other word, which enables bits of the first.
     pub enable: u32,
+
+    // There are at most 240 external interrupts.
+    pub ghost number_is_small: { number < 240 },
 }
 
 /// A device: words side by side that follow one rule.

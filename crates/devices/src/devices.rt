@@ -1,15 +1,17 @@
 //! The words of a board's devices (profile).
 
-ghost use Rattle.std.specs.Prelude.{◌≡◌, ◌<◌, ◌≤◌, ◌^◌, length, option_map, true, IfOk, IfSome};
+ghost use Rattle.std.specs.Prelude.{◌≡◌, ◌<◌, ◌≤◌, ◌^◌, ◌==◌, length, option_map, not, true, IfOk, IfSome};
 ghost use Rattle.instruction_set.specs.Sizes.{bytes_in};
 ghost use Rattle.devices.specs.Table.{has};
 ghost use Rattle.devices.specs.Copies.{HaveSameDevices};
 ghost use Rattle.devices.specs.Devices.{after_store_at, at_start, content_at, fresh, loaded, poked, poked_by};
 ghost use Rattle.devices.specs.Devices.{position_from, read_at, sent_at, value_at, with_content, word_at};
+ghost use Rattle.devices.specs.Laws.{have};
 ghost use Rattle.devices.specs.Pokes.{poked_all};
 
 use crate::device::{Device, MOST_DEVICES, Poke};
 use crate::part::{covered, in_place, part, sent};
+use crate::pokes::{NoPokes, Pokes};
 use crate::word::{content_after, content_of, stored_for, value_of};
 use instruction_set::size::Size;
 use std::alloc::{AllocError, Global};
@@ -42,12 +44,13 @@ pub struct Devices {
 impl Model for Devices {
     ghost use Rattle.std.specs.Prelude.{List, ◌≤◌, length};
     ghost use Rattle.devices.specs.Devices.{DeviceWords as State};
+    ghost use Rattle.devices.specs.Laws.{AreWhole};
 
     ghost Value = { List State };
 
     ghost view = { λ d. d.devices.items };
 
-    ghost invariant = { λ d. length d.devices.items ≤ 256 };
+    ghost invariant = { λ d. (length d.devices.items ≤ 256) × AreWhole d.devices.items };
 }
 
 /// What a store to a device sends.
@@ -60,6 +63,7 @@ pub struct Stored {
 impl Devices {
     /// Returns the devices of a board at the start. Fails where memory can't be allocated, and where there are more
     /// than 256.
+    #[tactic(auto, using(crate::proofs::Foreseen::made_whole))]
     pub fn new(alloc: Global, table: &[Device]) -> Result<Self, AllocError>
         ensures { IfOk result (λ devices. devices ≡ fresh table.now) }
     {
@@ -100,6 +104,26 @@ impl Devices {
         self.devices.as_slice()
     }
 
+    /// Returns whether there is a device.
+    #[inline]
+    pub fn are_any(&self) -> bool
+        ensures { result ≡ not (length self.now == 0) }
+    {
+        !self.devices.is_empty()
+    }
+
+    /// Returns whether a device has an address.
+    pub fn have(&self, address: u32) -> bool
+        ensures { result ≡ have self.now address }
+    {
+        'devices: for device in self.devices.as_slice() {
+            if device.device.has(address) {
+                return true;
+            }
+        }
+        false
+    }
+
     /// Returns the device that has an address, with what is stored in the word there.
     pub(crate) fn word(&self, address: u32) -> Option<(&Device, u32)>
         ensures { option_map (λ w. record { device = w.0.now; stored = w.1 }) result ≡ word_at self.now address }
@@ -113,13 +137,52 @@ impl Devices {
         None
     }
 
-    /// Returns the content of the word at an address, 0 where no device has it.
-    fn content(&self, ticks: u64, address: u32) -> u32
-        ensures { result ≡ content_at self.now ticks address }
+    /// Returns the device that has an address, with what is stored in the word there after pokes of that tick.
+    #[tactic(auto, using(crate::proofs::Foreseen::foreseen))]
+    fn word_after<P: Pokes>(
+        &self,
+        ticks: u64,
+        pokes: &P,
+        address: u32,
+    ) -> Option<(&Device, u32)>
+        ensures { option_map (λ w. record { device = w.0.now; stored = w.1 }) result
+            ≡ word_at (poked_all self.now ticks (P.pokes pokes.now)) address }
     {
-        match self.word(address) {
+        let _ = &self.devices;
+        let (device, stored) = self.word(address)?;
+        match pokes.last(address) {
+            Some(content) => Some((device, stored_for(device, ticks, content))),
+            None => Some((device, stored)),
+        }
+    }
+
+    /// Returns the content of the word at an address after pokes, 0 where no device has it.
+    fn content_after<P: Pokes>(&self, ticks: u64, pokes: &P, address: u32) -> u32
+        ensures { result ≡ content_at (poked_all self.now ticks (P.pokes pokes.now)) ticks address }
+    {
+        match self.word_after(ticks, pokes, address) {
             Some((device, stored)) => content_of(device, ticks, stored),
             None => 0,
+        }
+    }
+
+    /// Returns the value of the word at an address after this many ticks and pokes of the last of them, if a device has
+    /// it.
+    pub(crate) fn value_after<P: Pokes>(
+        &self,
+        ticks: u64,
+        pokes: &P,
+        address: u32,
+    ) -> Option<u32>
+        ensures { result ≡ value_at (poked_all self.now ticks (P.pokes pokes.now)) ticks address }
+    {
+        match self.word_after(ticks, pokes, address) {
+            Some((device, stored)) => {
+                let content = content_of(device, ticks, stored);
+                let followed = self.content_after(ticks, pokes, device.of.unwrap_or(address));
+                Some(value_of(device, content, followed))
+            }
+            None => None,
         }
     }
 
@@ -127,14 +190,7 @@ impl Devices {
     pub fn value(&self, ticks: u64, address: u32) -> Option<u32>
         ensures { result ≡ value_at self.now ticks address }
     {
-        match self.word(address) {
-            Some((device, stored)) => {
-                let content = content_of(device, ticks, stored);
-                let followed = self.content(ticks, device.of.unwrap_or(address));
-                Some(value_of(device, content, followed))
-            }
-            None => None,
-        }
+        self.value_after(ticks, &NoPokes, address)
     }
 
     /// Returns what a load of this size would read at an address, if a device has it.

@@ -5,18 +5,11 @@ ghost use Rattle.devices.specs.declared.device.Poke.{Poke as ThePoke};
 ghost use Rattle.instruction_set.specs.declared.size.Size.{Size as TheSize};
 ghost use Rattle.devices.specs.Copies.{HaveSameDevices};
 ghost use Rattle.devices.specs.Devices.{DeviceWords as State, after_store_at, loaded, poked};
-ghost use Rattle.devices.specs.Foreseen.{ForeseesLevels, ForeseesValue};
 ghost use Rattle.devices.specs.Laws.{LastPokeDecides};
 
 /// The content of a word after the pokes of a tick is known without making them.
 pub fn last_poke_decides()
     ensures { (ds : List State) (ticks : ℕ) (ps : List ThePoke) (a : ℕ) → LastPokeDecides ds ticks ps a }
-{}
-
-/// The values of words and the levels of lines after the pokes of a tick are known without making them.
-pub fn pokes_are_foreseen()
-    ensures value { (ds : List State) (ticks : ℕ) (ps : List ThePoke) (a : ℕ) → ForeseesValue ds ticks ps a }
-    ensures levels { (ds : List State) (ticks : ℕ) (ps : List ThePoke) → ForeseesLevels ds ticks ps }
 {}
 
 /// A poke, a load and a store leave the devices: they change words alone.

@@ -4,15 +4,18 @@
 mod device;
 mod devices;
 pub mod laws;
+mod level;
 mod lines;
 mod part;
+mod pokes;
 mod table;
 mod word;
 
 pub use device::{Device, Line, MOST_DEVICES, Poke, Stores};
 pub use devices::{Devices, Stored};
 pub use instruction_set::size::Size;
-pub use lines::Level;
+pub use level::Level;
+pub use pokes::{NoPokes, Pokes};
 pub use table::device_at;
 
 #[cfg(test)]

@@ -24,11 +24,16 @@ use regs::Regs;
 
 // ---- the family
 
-/// Appends the access of an exclusive.
+/// Appends the access of an exclusive. `devices` says whether the board describes devices.
 #[tactic(auto, unfolding(reference::specs::Exclusives::exclusive_requests))]
-pub fn wants(instruction: &Exclusive, regs: &Regs, requests: &mut Requests) -> Result<(), Failure>
+pub fn wants(
+    instruction: &Exclusive,
+    regs: &Regs,
+    devices: bool,
+    requests: &mut Requests,
+) -> Result<(), Failure>
     requires { requests.old.items ≡ [] }
-    ensures { planned requests.new result ≡ exclusive_requests instruction.now regs.now }
+    ensures { planned requests.new result ≡ exclusive_requests devices instruction.now regs.now }
 {
     match instruction {
         Exclusive::Load(operands) => {
@@ -38,9 +43,9 @@ pub fn wants(instruction: &Exclusive, regs: &Regs, requests: &mut Requests) -> R
                 size: operands.size,
                 privileged: regs.is_privileged(),
             };
-            ask(access, 0, requests)
+            ask(access, 0, devices, requests)
         }
-        Exclusive::Store(operands) => plan_store(operands, regs, requests),
+        Exclusive::Store(operands) => plan_store(operands, regs, devices, requests),
         Exclusive::Clear => Ok(()),
     }
 }
@@ -69,10 +74,11 @@ pub fn finish(
 fn plan_store(
     operands: &StoreExclusive,
     regs: &Regs,
+    devices: bool,
     requests: &mut Requests,
 ) -> Result<(), Failure>
     requires { requests.old.items ≡ [] }
-    ensures { planned requests.new result ≡ store_requests operands.now regs.now }
+    ensures { planned requests.new result ≡ store_requests devices operands.now regs.now }
 {
     let (kind, value) = if passes(operands, regs) {
         (Kind::Store, regs.get(operands.target))
@@ -85,7 +91,7 @@ fn plan_store(
         size: operands.size,
         privileged: regs.is_privileged(),
     };
-    ask(access, value, requests)
+    ask(access, value, devices, requests)
 }
 
 /// Marks the address of a load exclusive, and writes the value to its register.
@@ -126,17 +132,23 @@ fn passes(operands: &StoreExclusive, regs: &Regs) -> bool
     regs.is_marked(address, operands.size)
 }
 
-/// Appends the access of an exclusive, which is a fault where it is unaligned, and stops at a device.
+/// Appends the access of an exclusive, which is a fault where it is unaligned, and stops where an access can have a
+/// side effect.
 #[tactic(auto, unfolding(reference::specs::Exclusives::exclusive_access))]
-fn ask(access: Access, value: u32, requests: &mut Requests) -> Result<(), Failure>
+fn ask(
+    access: Access,
+    value: u32,
+    devices: bool,
+    requests: &mut Requests,
+) -> Result<(), Failure>
     requires { requests.old.items ≡ [] }
     ensures { planned requests.new result
-        ≡ exclusive_access access.kind access.privileged access.size access.address value }
+        ≡ exclusive_access devices access.kind access.privileged access.size access.address value }
 {
     if access.address % access.size.bytes() != 0 {
         return Err(Failure::Usage(UsageFault::Unaligned));
     }
-    if has_side_effects(access.address) {
+    if has_side_effects(devices, access.address) {
         return Err(Failure::Stop(Stop::OutOfProfile(LeftOut::ExclusiveDevice)));
     }
     requests.push(Request { access, value });

@@ -55,7 +55,7 @@ fn plan_family(
         Instruction::DataProcessing(i) => processing::wants(i, regs, traps, requests),
         Instruction::LoadStore(i) => load_store::wants(i, regs, traps, requests),
         Instruction::LoadStoreMultiple(i) => load_store_multiple::wants(i, regs, requests),
-        Instruction::Exclusive(i) => exclusives::wants(i, regs, requests),
+        Instruction::Exclusive(i) => exclusives::wants(i, regs, traps.devices, requests),
         Instruction::Branch(i) => branches::wants(i, regs, traps, requests),
         Instruction::System(i) => system::wants(i, requests),
     }

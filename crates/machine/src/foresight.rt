@@ -55,7 +55,7 @@ impl<D: Decider, C: KeptCode, L: Levels, U: DueTicks> Processor<D, C, L, U> {
         ensures { result ≡ candidate (ticked self.now).bus.system.nvic }
     {
         let system = &self.bus().system;
-        let due = system.clock().peek();
+        let due = system.peek();
         let primask = system.masks().primask;
         system.levels().candidate_after(&due, primask)
     }
@@ -68,7 +68,7 @@ impl<D: Decider, C: KeptCode, L: Levels, U: DueTicks> Processor<D, C, L, U> {
         ensures { result ≡ sleeps_on (ticked self.now) }
     {
         let system = &self.bus().system;
-        let due = system.clock().peek();
+        let due = system.peek();
         self.is_asleep() && system.levels().candidate_after(&due, false).is_none()
     }
 

@@ -1,7 +1,7 @@
 //! Copies of a core's state, to go back to.
 
 ghost use Rattle.std.specs.Prelude.{◌≡◌, IfOk};
-ghost use Rattle.space.specs.Sizes.{HaveSameSizes};
+ghost use Rattle.step_laws.specs.SizeLaw.{AreOfOneBoard};
 
 use access::{Decider, DueTicks, KeptCode, Levels, Space, SystemCopy};
 use exceptions::Core;
@@ -58,7 +58,7 @@ impl<L: Levels, U: DueTicks> Kept<L, U> {
 
     /// Becomes a copy of a core's state, where this is a copy of one of the same board.
     pub fn copy_from<D: Decider, C: KeptCode>(&mut self, core: &Core<D, C, L, U>)
-        requires { HaveSameSizes self.old.bus.memory core.now.bus.memory }
+        requires { AreOfOneBoard self.old.bus core.now.bus }
         ensures { self.new ≡ core.now }
     {
         self.regs = core.regs.copied();
@@ -71,7 +71,7 @@ impl<L: Levels, U: DueTicks> Kept<L, U> {
 
     /// Takes a core of the same board back to this state.
     pub fn copy_to<D: Decider, C: KeptCode>(&self, core: &mut Core<D, C, L, U>)
-        requires { HaveSameSizes core.old.bus.memory self.now.bus.memory }
+        requires { AreOfOneBoard core.old.bus self.now.bus }
         ensures { core.new ≡ self.now }
     {
         core.regs = self.regs.copied();

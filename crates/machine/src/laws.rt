@@ -10,7 +10,7 @@ pub use state_laws::{
 };
 pub use step_laws::{
     accesses_of_a_step, frame_gives_registers_back, return_gives_registers_back,
-    signals_are_events, sizes_stay,
+    signals_are_events, board_stays,
 };
 pub use task_laws::{
     access_of_a_task, runs_of_tasks_end_alike, runs_of_tasks_end_in_one_way, step_of_a_task,

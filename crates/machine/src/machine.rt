@@ -3,6 +3,7 @@
 ghost use Rattle.std.specs.Prelude.{◌≡◌, [], length, ◌↔◌, ◌≤◌, false, true, Ok, Err, IfOk, IfErr, OnOk};
 ghost use Rattle.board.specs.Reading.{described};
 ghost use Rattle.machine.specs.Runs.{Fails};
+ghost use Rattle.reference.specs.Shown.{byte_shown};
 ghost use Rattle.machine.specs.Selected.{SelectedFails};
 ghost use Rattle.machine.specs.Starts.{Starts, Places};
 ghost use Rattle.machine.specs.Tasks.{CountsErrors, TaskEnds, TaskFails};
@@ -14,7 +15,7 @@ ghost use Rattle.platform.specs.Rules.{decision_of};
 ghost use Rattle.reference.specs.Run.{after, ending_of, trace};
 ghost use Rattle.reference.specs.Start.{start};
 ghost use Rattle.platform.specs.Status.{read_status};
-ghost use Rattle.space.specs.Sizes.{HaveSameSizes};
+ghost use Rattle.step_laws.specs.SizeLaw.{AreOfOneBoard};
 ghost use Rattle.output.specs.Output.{Put, WritesAll};
 ghost use Rattle.reference.specs.Step.{step};
 ghost use Rattle.platform.specs.Events.{lines};
@@ -292,7 +293,7 @@ impl<D: Decider, C: KeptCode, L: Levels, U: DueTicks> Machine<D, C, L, U> {
 
     /// Copies the state. `kept` is a copy of an earlier state of this machine, or of a machine of the same board.
     pub fn keep(&self, kept: &mut Kept<L, U>)
-        requires { HaveSameSizes kept.old.bus.memory self.now.state.bus.memory }
+        requires { AreOfOneBoard kept.old.bus self.now.state.bus }
         ensures { kept.new ≡ self.now.state }
     {
         self.core.keep(kept);
@@ -301,7 +302,7 @@ impl<D: Decider, C: KeptCode, L: Levels, U: DueTicks> Machine<D, C, L, U> {
     /// Goes back to a state that was kept. Decoded instructions stay kept where the bytes of memory are the same. A
     /// machine whose writer failed stays broken.
     pub fn take_back(&mut self, kept: &Kept<L, U>)
-        requires { HaveSameSizes self.old.state.bus.memory kept.now.bus.memory }
+        requires { AreOfOneBoard self.old.state.bus kept.now.bus }
         ensures { self.new ≡ record self.old { state = kept.now } }
     {
         self.core.take_back(kept);
@@ -358,6 +359,14 @@ impl<D: Decider, C: KeptCode, L: Levels, U: DueTicks> Machine<D, C, L, U> {
         ensures { result ≡ is_in_memory self.now.state.bus.memory address length }
     {
         self.core.has_memory(address, length)
+    }
+
+    /// Returns the byte at an address that memory or the word of a device has, if one does. Nothing changes: no load
+    /// pokes.
+    pub fn shown(&self, address: u32) -> Option<u8>
+        ensures { result ≡ byte_shown self.now.state.bus address }
+    {
+        self.core.shown(address)
     }
 
     /// Returns the byte at an address as a debugger sees it: that of the word that a load by privileged code would

@@ -16,7 +16,7 @@ use instruction_set::system::SpecialRegister;
 use platform::access::{Access, Kind, Performed, Request, Rule};
 use platform::error::PlaceError;
 use platform::map::is_in_ppb;
-use platform::script::Signal;
+use platform::script::{Poke, Signal};
 use reference::place::Place;
 
 /// The number of the stack pointer.
@@ -56,7 +56,7 @@ impl<D: Decider, C: KeptCode, L: Levels, U: DueTicks> Processor<D, C, L, U> {
             return Err(PlaceError::NoSuchPlace);
         }
         if self.stop().is_some()
-            || (!is_plain(value) && (self.is_in_entry() || self.registers().is_handler()))
+            || (!self.is_plain(value) && (self.is_in_entry() || self.registers().is_handler()))
         {
             return Err(PlaceError::Stopped);
         }
@@ -68,7 +68,7 @@ impl<D: Decider, C: KeptCode, L: Levels, U: DueTicks> Processor<D, C, L, U> {
     pub fn signal(&mut self, what: &Signal) -> Result<(), PlaceError>
         ensures { PlacesAt (signalled self.old what.now) self.old self.new result }
     {
-        if !is_wired(self.bus().system.levels().interrupts(), what) {
+        if !self.is_wired(what) {
             return Err(PlaceError::NoSuchPlace);
         }
         if self.stop().is_some() {
@@ -80,20 +80,48 @@ impl<D: Decider, C: KeptCode, L: Levels, U: DueTicks> Processor<D, C, L, U> {
 
     /// Returns whether there is such a register or such a word.
     fn is_there(&self, value: Place) -> bool
-        ensures { result ≡ is_there self.now.bus.memory value }
+        ensures { result ≡ is_there self.now.bus value }
     {
         match value {
             Place::Reg(number, _) => number < 16,
             Place::Special(number, _) => SpecialRegister::of(number).is_some(),
             Place::Word(address, _) => {
-                self.bus().space().is_in_memory(address, 4) || is_in_ppb(address)
+                self.bus().space().is_in_memory(address, 4)
+                    || is_in_ppb(address)
+                    || self.bus().system.has_device(address)
             }
+        }
+    }
+
+    /// Returns whether neither the mode nor an exception depends on a place: R0 to R12, LR, or a word of memory.
+    fn is_plain(&self, value: Place) -> bool
+        ensures { result ≡ is_plain self.now.bus.memory value }
+    {
+        match value {
+            Place::Reg(number, _) => number < SP || number == LR,
+            Place::Special(_, _) => false,
+            Place::Word(address, _) => {
+                self.bus().space().is_in_memory(address, 4) && !is_in_ppb(address)
+            }
+        }
+    }
+
+    /// Returns whether the board has what a signal is for: an interrupt that no device drives, or the word of a device.
+    fn is_wired(&self, what: &Signal) -> bool
+        ensures { result ≡ is_wired self.now.bus.system what.now }
+    {
+        match what {
+            Signal::Rise(interrupt) | Signal::Fall(interrupt) | Signal::Pulse(interrupt) => {
+                self.bus().system.is_free(interrupt.number())
+            }
+            Signal::Nmi => true,
+            Signal::Poke(poke) => self.bus().system.has_device(poke.address),
         }
     }
 
     /// Puts a value into a register or a word that exists.
     fn take(&mut self, value: Place) -> Result<(), PlaceError>
-        requires { is_there self.old.bus.memory value ≡ true }
+        requires { is_there self.old.bus value ≡ true }
         ensures { PlacesAt (taken self.old value) self.old self.new result }
     {
         match value {
@@ -106,7 +134,11 @@ impl<D: Decider, C: KeptCode, L: Levels, U: DueTicks> Processor<D, C, L, U> {
                 if is_in_ppb(address) {
                     return self.take_register(address, value);
                 }
-                self.put_word(address, value);
+                if self.bus().space().is_in_memory(address, 4) {
+                    self.put_word(address, value);
+                } else {
+                    self.take_signal(&Signal::Poke(Poke { address, value }));
+                }
                 Ok(())
             }
         }
@@ -142,29 +174,6 @@ fn is_word_aligned(value: Place) -> bool
     match value {
         Place::Reg(_, _) | Place::Special(_, _) => true,
         Place::Word(address, _) => address % 4 == 0,
-    }
-}
-
-/// Returns whether neither the mode nor an exception depends on a place: R0 to R12, LR, or a word of memory.
-fn is_plain(value: Place) -> bool
-    ensures { result ≡ is_plain value }
-{
-    match value {
-        Place::Reg(number, _) => number < SP || number == LR,
-        Place::Special(_, _) => false,
-        Place::Word(address, _) => !is_in_ppb(address),
-    }
-}
-
-/// Returns whether a board with this many interrupts has the one of a signal.
-fn is_wired(interrupts: u8, what: &Signal) -> bool
-    ensures { result ≡ is_wired interrupts what.now }
-{
-    match what {
-        Signal::Rise(interrupt) | Signal::Fall(interrupt) | Signal::Pulse(interrupt) => {
-            interrupt.number() < interrupts
-        }
-        Signal::Nmi => true,
     }
 }
 

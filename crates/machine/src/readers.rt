@@ -1,13 +1,17 @@
 //! What a debugger reads of a machine.
 
 ghost use Rattle.std.specs.Prelude.{◌≡◌};
+ghost use Rattle.devices.specs.Devices.{read_at};
+ghost use Rattle.instruction_set.specs.declared.size.Size.TheVariants.{Byte};
 ghost use Rattle.platform.specs.Memory.{byte_at, is_in_memory};
+ghost use Rattle.reference.specs.Shown.{byte_shown};
 ghost use Rattle.platform.specs.Priorities.{is_below_zero, is_in};
 ghost use Rattle.platform.specs.Regions.{shown};
 ghost use Rattle.platform.specs.Status.{read_status};
 
 use crate::stepping::Processor;
 use access::{Decider, DueTicks, KeptCode, Levels, SysTick};
+use instruction_set::size::Size;
 use mpu::MpuRegs;
 use platform::system::StatusRegister;
 
@@ -90,6 +94,27 @@ impl<D: Decider, C: KeptCode, L: Levels, U: DueTicks> Processor<D, C, L, U> {
         ensures { result ≡ is_in_memory self.now.bus.memory address length }
     {
         self.bus().space().is_in_memory(address, length)
+    }
+
+    /// Returns the byte at an address that memory or the word of a device has, if one does. Nothing changes: no load
+    /// pokes.
+    pub fn shown(&self, address: u32) -> Option<u8>
+        ensures { result ≡ byte_shown self.now.bus address }
+    {
+        match self.byte(address) {
+            Some(byte) => Some(byte),
+            None => self.device_byte(address),
+        }
+    }
+
+    /// Returns the byte of a device's word at an address, if there is one.
+    fn device_byte(&self, address: u32) -> Option<u8>
+        ensures { result ≡ read_at self.now.bus.system.devices self.now.bus.system.time.ticks address Byte }
+    {
+        match self.bus().system.look_at_device(address, Size::Byte) {
+            Some(value) => Some(value as u8),
+            None => None,
+        }
     }
 
     /// The registers of the MPU.

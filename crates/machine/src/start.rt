@@ -13,6 +13,7 @@ ghost use Rattle.elf.specs.Segment.{segment_of};
 use crate::stepping::Processor;
 use access::{Bus, CodeMemory, Decider, DueTicks, KeptCode, Levels, Script, System};
 use board::Board;
+use devices::Devices;
 use elf::{Image, Segment};
 use platform::board::Layout;
 use platform::error::StartError;
@@ -40,6 +41,9 @@ pub fn start_core<D: Decider, C: KeptCode, L: Levels, U: DueTicks>(
     let Ok(script) = Script::new(alloc, board.events.as_slice()) else {
         return Err(StartError::NoMemory);
     };
+    let Ok(devices) = Devices::new(alloc, board.devices.as_slice()) else {
+        return Err(StartError::NoMemory);
+    };
     load_segments(&mut space, image.segments());
     let regs = Regs::reset(
         space.vector(board.layout.flash_base, 0),
@@ -51,6 +55,7 @@ pub fn start_core<D: Decider, C: KeptCode, L: Levels, U: DueTicks>(
         board.layout.priority_bits,
         board.layout.regions.number(),
         script,
+        devices,
     );
     let Ok(memory) = CodeMemory::new(alloc, space, image_bytes(image.segments())) else {
         return Err(StartError::NoMemory);

@@ -2,8 +2,10 @@ pub mod Best
 pub mod Least
 pub mod Boards
 pub mod Changes
+pub mod Tables
 pub mod Systems
 pub mod Due
+pub mod Adding
 pub mod BelowZero
 pub mod Unmasked
 pub mod Waiting

@@ -2,11 +2,12 @@
 -- the text of a board means is defined in the crate `board`, over the `toml` crate's meaning of a document.
 use Rattle.std.specs.Prelude.{ℕ, ◌+◌, ◌%◌, ◌<◌, ◌≤◌, Bool, ◌&&◌, ◌||◌, false, true, nat_le, ◌==◌}
 use Rattle.std.specs.Prelude.{List, [], ◌∷◌, replicate, Option, Some, None, option_map}
+use Rattle.devices.specs.declared.device.Device.{Device}
 use Rattle.platform.specs.declared.board.Layout.{Layout}
 use Rattle.platform.specs.declared.exception.TheConstants.{MOST_INTERRUPTS}
 use Rattle.platform.specs.declared.script.ScriptedEvent.{ScriptedEvent}
 use Rattle.platform.specs.declared.script.Signal.{Signal}
-use Rattle.platform.specs.declared.script.Signal.TheVariants.{Rise, Fall, Pulse, Nmi}
+use Rattle.platform.specs.declared.script.Signal.TheVariants.{Rise, Fall, Pulse, Nmi, Poke}
 use Rattle.platform.specs.declared.board.SecondRam.{SecondRam}
 use Rattle.platform.specs.Map.{are_apart, is_for_memory, ram_base}
 use Rattle.platform.specs.Memory.{Block, Memory}
@@ -28,9 +29,10 @@ pub record Numbers : Type 0 where
   pub interrupts : ℕ
   pub regions : ℕ
 
--- a board: its numbers, and its script in the order of the text
+-- a board: its numbers, its devices and its script, both in the order of the text
 pub record Described : Type 0 where
   pub numbers : Numbers
+  pub devices : List Device
   pub script : List ScriptedEvent
 
 abbrev pub span_of : SecondRam → RamSpan
@@ -126,6 +128,7 @@ IsOfBoard interrupts (Rise interrupt) = interrupt < interrupts
 IsOfBoard interrupts (Fall interrupt) = interrupt < interrupts
 IsOfBoard interrupts (Pulse interrupt) = interrupt < interrupts
 IsOfBoard interrupts Nmi = Unit {0}
+IsOfBoard interrupts (Poke p) = Unit {0}
 
 -- the events of a script that begins at the tick `before` or later: none is earlier than the event in front of it, none
 -- is later than the clock's last tick, and each is on an interrupt that the board has, or is NMI

@@ -1,16 +1,25 @@
--- The System Control Space (ARM DDI 0403, "System Control Space"): its state, what an access to it does, and what a
--- tick does to it. Each block of registers has a chapter of its own.
+-- The System Control Space (ARM DDI 0403, "System Control Space") and the board's devices (profile): their state, what
+-- an access to them does, and what a tick does to them. Each block of registers has a chapter of its own.
 use Rattle.std.specs.Prelude.{ℕ, zero, suc, ◌+◌, ◌-◌, ◌*◌, ◌/◌, ◌%◌, ◌^◌, Bool, true, false, not, ◌&&◌, ◌||◌, ◌==◌}
-use Rattle.std.specs.Prelude.{if◌then◌else◌, List, Option, Some, None, Result, Ok, Err}
+use Rattle.std.specs.Prelude.{if◌then◌else◌, List, [], ◌∷◌, ◌++◌, Option, Some, None, unwrap_or, Result, Ok, Err}
+use Rattle.devices.specs.declared.device.Device.{Device}
+use Rattle.devices.specs.declared.device.Poke.{Poke}
+use Rattle.devices.specs.declared.level.Level.{Level}
+use Rattle.devices.specs.Devices.{DeviceWords, after_store_at, fresh as fresh_devices, loaded, read_at, sent_at}
+use Rattle.devices.specs.Lines.{levels}
+use Rattle.devices.specs.Pokes.{poked_all}
 use Rattle.instruction_set.specs.declared.size.Size.{Size}
 use Rattle.instruction_set.specs.declared.size.Size.TheVariants.{Byte, Halfword, Word}
 use Rattle.instruction_set.specs.Sizes.{bytes_in, is_word}
+use Rattle.platform.specs.declared.access.Performed.{Performed}
 use Rattle.platform.specs.declared.access.Performed.TheVariants as performed
 use Rattle.platform.specs.declared.access.Request.{Request}
 use Rattle.platform.specs.declared.access.Rule.{Rule}
 use Rattle.platform.specs.declared.exception.TheConstants.{FIRST_INTERRUPT, EXCEPTIONS, NMI}
 use Rattle.platform.specs.declared.mpu.MpuStop.{MpuStop}
 use Rattle.platform.specs.declared.script.ScriptedEvent.{ScriptedEvent}
+use Rattle.platform.specs.declared.script.Signal.{Signal}
+use Rattle.platform.specs.declared.script.Signal.TheVariants as signal
 use Rattle.platform.specs.declared.stop.LeftOut.TheVariants.{RegisterWidth}
 use Rattle.platform.specs.declared.stop.Stop.{Stop}
 use Rattle.platform.specs.declared.stop.Stop.TheVariants.{OutOfProfile}
@@ -24,25 +33,18 @@ use Rattle.platform.specs.Kinds.{is_load, is_store}
 use Rattle.platform.specs.Outcomes.{Outcome, bus_error, done, unchanged}
 use Rattle.platform.specs.Priorities.{Nvic, is_interrupt, with_pending, with_active, with_faultmask, reset_nvic}
 use Rattle.platform.specs.Regions.{Mpu, mpu_register_at, read as read_mpu, write as write_mpu, stop_of, fresh}
+use Rattle.platform.specs.Space.{number_read}
 use Rattle.platform.specs.Status.{Status, status_at, has_parts, usersetmpend, read_status, write_status, reset_status}
 use Rattle.platform.specs.SysTickRegisters.{systick_at, read_systick, after_systick_read, write_systick}
-use Rattle.platform.specs.Time.{Time, SysTick, start_time, is_high, tick_pends, time_after_tick}
+use Rattle.platform.specs.Time.{Time, SysTick, start_time, events_at, is_high, pends, tick_pends, time_after_tick}
+use Rattle.platform.specs.Time.{with_signal}
 
 pub record System : Type 0 where
   pub mpu : Mpu
   pub nvic : Nvic
   pub status : Status
   pub time : Time
-
--- the state after a reset, by what the board has: where flash begins, the number of interrupts, the number of priority
--- bits, the number of regions, and the script
-abbrev pub reset_system : ℕ → ℕ → ℕ → ℕ → List ScriptedEvent → System
-reset_system flash_base interrupts bits regions script = record {
-  mpu = fresh regions;
-  nvic = reset_nvic interrupts bits;
-  status = reset_status flash_base;
-  time = start_time script;
-}
+  pub devices : List DeviceWords
 
 -- ---- the register at an address
 
@@ -188,9 +190,105 @@ with_pended_below n test (suc x) = with_pended_at (with_pended_below n test x) t
 unfoldable pub with_pended : Nvic → (ℕ → Bool) → Nvic
 with_pended n test = with_pended_below n test EXCEPTIONS
 
--- the state after a tick: time goes on, and what the tick pends becomes pending
+-- what a signal does to the exceptions and the interrupts
+abbrev pub on_interrupts : System → Signal → System
+on_interrupts s what = record s {
+  nvic = with_pended s.nvic (pends what);
+  time = record s.time { high = with_signal s.time.high what };
+}
+
+-- ---- the lines of devices
+
+-- whether the board describes devices
+abbrev pub are_any : List DeviceWords → Bool
+are_any [] = false
+are_any (d ∷ ds) = true
+
+abbrev pub with_devices : System → List DeviceWords → System
+with_devices s devices = record s { devices = devices }
+
+-- an interrupt goes high where the level of its line is high, and pends if it was low; it goes low where the level is
+-- low, and what pends stays
+abbrev pub with_level : System → Level → System
+with_level s l =
+    if not l.is_high then on_interrupts s (signal.Fall l.number)
+    else if is_high s.time l.number then s
+    else on_interrupts s (signal.Rise l.number)
+
+abbrev pub with_levels : System → List Level → System
+with_levels s [] = s
+with_levels s (l ∷ ls) = with_levels (with_level s l) ls
+
+-- the lines of all devices settle, in the order of the board
+unfoldable pub settled : System → System
+settled s = with_levels s (levels s.devices s.time.ticks)
+
+-- words that were poked, after which the lines settle once
+abbrev pub after_pokes : System → List Poke → System
+after_pokes s [] = s
+after_pokes s (p ∷ ps) = settled (with_devices s (poked_all s.devices s.time.ticks (p ∷ ps)))
+
+abbrev pub poke_of : Signal → List Poke
+poke_of (signal.Poke p) = p ∷ []
+poke_of (signal.Rise interrupt) = []
+poke_of (signal.Fall interrupt) = []
+poke_of (signal.Pulse interrupt) = []
+poke_of signal.Nmi = []
+
+-- the pokes of events, in file order
+abbrev pub pokes_of : List ScriptedEvent → List Poke
+pokes_of [] = []
+pokes_of (e ∷ events) = poke_of e.what ++ pokes_of events
+
+-- the state after a tick but for the devices: time goes on, and what the tick pends becomes pending
+abbrev pub time_passed : System → System
+time_passed s = record s { nvic = with_pended s.nvic (tick_pends s.time); time = time_after_tick s.time }
+
+-- the state after a tick: the pokes of its events come after time has gone on
 unfoldable pub after_tick : System → System
-after_tick s = record s { nvic = with_pended s.nvic (tick_pends s.time); time = time_after_tick s.time }
+after_tick s = after_pokes (time_passed s) (pokes_of (events_at (s.time.ticks + 1) s.time.script))
+
+-- what an event of the script does, without its tick
+unfoldable pub after_signal : System → Signal → System
+after_signal s what = after_pokes (on_interrupts s what) (poke_of what)
+
+-- ---- an access to a device
+
+-- a load reads the value, and then pokes what the device says
+abbrev pub loaded_from_device : System → Rule → Request → Outcome System
+loaded_from_device s rule q = record {
+  after = settled (with_devices s (loaded s.devices s.time.ticks q.access.address));
+  performed = number_read rule (read_at s.devices s.time.ticks q.access.address q.access.size);
+}
+
+abbrev pub sent_to : Rule → Option ℕ → Performed
+sent_to rule byte = performed.Done (record { rule = rule; value = 0; sent = byte })
+
+-- a store stores, and then pokes what the device says; a byte may go to the console
+abbrev pub stored_to_device : System → Rule → Request → Outcome System
+stored_to_device s rule q = record {
+  after = settled (with_devices s
+      (after_store_at s.devices s.time.ticks q.access.address q.access.size q.value));
+  performed = sent_to rule (unwrap_or (sent_at s.devices q.access.address q.value) None);
+}
+
+-- a load or a store that a rule granted, to a word of a device; then the lines settle
+unfoldable pub device_access : System → Rule → Request → Outcome System
+device_access s rule q =
+    if is_store q.access.kind then stored_to_device s rule q else loaded_from_device s rule q
+
+-- ---- a reset
+
+-- the state after a reset, by what the board has: where flash begins, the number of interrupts, the number of priority
+-- bits, the number of regions, the script, and the devices, whose lines settle
+abbrev pub reset_system : ℕ → ℕ → ℕ → ℕ → List ScriptedEvent → List Device → System
+reset_system flash_base interrupts bits regions script devices = settled (record {
+  mpu = fresh regions;
+  nvic = reset_nvic interrupts bits;
+  status = reset_status flash_base;
+  time = start_time script;
+  devices = fresh_devices devices;
+})
 
 -- ---- handlers
 

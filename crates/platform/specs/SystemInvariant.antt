@@ -1,6 +1,10 @@
 -- What holds of memory and the System Control Space at the start, after each step and after each value that `place`
 -- puts. It's proved in the crate `state_laws`, and `Invariant` of `reference` has it for the whole state.
 use Rattle.std.specs.Prelude.{◌≡◌, ℕ, ◌+◌, ◌^◌, ◌<◌, ◌≤◌, Bool, true, false, List, [], ◌∷◌, length, slice_index}
+use Rattle.std.specs.Prelude.{Option, Some, None}
+use Rattle.devices.specs.declared.device.Device.{Device}
+use Rattle.devices.specs.declared.device.Line.{Line}
+use Rattle.devices.specs.Devices.{DeviceWords}
 use Rattle.platform.specs.declared.exception.TheConstants.{EXCEPTIONS, MOST_INTERRUPTS}
 use Rattle.platform.specs.Boards.{Described, IsScript, IsScriptFrom, is_flash, is_interrupt_count, is_region_count}
 use Rattle.platform.specs.Boards.{is_second_ram_or_none, is_size}
@@ -63,6 +67,20 @@ abbrev pub IsLaidOut : Memory → Type 0
 IsLaidOut [] = Unit {0}
 IsLaidOut (b ∷ m) = (is_for_memory b.base (length b.bytes) ≡ true) × IsApartFrom b m × IsLaidOut m
 
+-- the lines of devices are interrupts of the board
+abbrev pub HasLineOfBoard : ℕ → Option Line → Type 0
+HasLineOfBoard interrupts None = Unit {0}
+HasLineOfBoard interrupts (Some line) = line.number < interrupts
+
+abbrev pub HaveLinesOfBoard : ℕ → List Device → Type 0
+HaveLinesOfBoard interrupts [] = Unit {0}
+HaveLinesOfBoard interrupts (d ∷ ds) = HasLineOfBoard interrupts d.line × HaveLinesOfBoard interrupts ds
+
+-- the devices, without what is stored in their words
+abbrev pub table_of : List DeviceWords → List Device
+table_of [] = []
+table_of (d ∷ ds) = d.device ∷ table_of ds
+
 -- ---- together
 
 -- what holds of the System Control Space
@@ -74,11 +92,12 @@ pub record SystemInvariant (s : System) : Type 0 where
   pub script : IsAhead s.nvic.interrupts s.time
   -- the MPU's registers are as `IsSound` says
   pub regions : IsSound s.mpu
+  pub devices : HaveLinesOfBoard s.nvic.interrupts (table_of s.devices)
 
 -- ---- the board that it needs
 
 -- a board whose flash, RAMs, number of interrupts and number of regions are in range, and whose script is sorted and
--- names only interrupts that the board has
+-- names only interrupts that the board has, as its devices do
 pub record IsBoard (board : Described) : Type 0 where
   pub flash : is_flash board.numbers.flash_base board.numbers.flash_size ≡ true
   pub ram : is_size board.numbers.ram_size ≡ true
@@ -86,3 +105,4 @@ pub record IsBoard (board : Described) : Type 0 where
   pub interrupts : is_interrupt_count board.numbers.interrupts ≡ true
   pub regions : is_region_count board.numbers.regions ≡ true
   pub script : IsScript board.numbers.interrupts board.script
+  pub devices : HaveLinesOfBoard board.numbers.interrupts board.devices

@@ -9,7 +9,7 @@ use Rattle.instruction_set.specs.Words.{is_bit}
 use Rattle.platform.specs.declared.exception.TheConstants.{NMI, SYS_TICK, FIRST_INTERRUPT, MOST_INTERRUPTS}
 use Rattle.platform.specs.declared.script.ScriptedEvent.{ScriptedEvent}
 use Rattle.platform.specs.declared.script.Signal.{Signal}
-use Rattle.platform.specs.declared.script.Signal.TheVariants.{Rise, Fall, Pulse, Nmi}
+use Rattle.platform.specs.declared.script.Signal.TheVariants.{Rise, Fall, Pulse, Nmi, Poke}
 use Rattle.platform.specs.Priorities.{is_in_words}
 
 pub record SysTick : Type 0 where
@@ -97,6 +97,7 @@ with_signal high (Rise interrupt) = slice_set high interrupt true
 with_signal high (Fall interrupt) = slice_set high interrupt false
 with_signal high (Pulse interrupt) = high
 with_signal high Nmi = high
+with_signal high (Poke p) = high
 
 -- the interrupts after events, one after another
 abbrev pub with_events : List Bool → List ScriptedEvent → List Bool
@@ -109,6 +110,7 @@ pends (Rise interrupt) n = n == interrupt_exception interrupt
 pends (Fall interrupt) n = false
 pends (Pulse interrupt) n = n == interrupt_exception interrupt
 pends Nmi n = n == NMI
+pends (Poke p) n = false
 
 -- whether an interrupt is high
 abbrev pub is_high : Time → ℕ → Bool

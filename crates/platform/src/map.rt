@@ -2,7 +2,7 @@
 //! the device window are is this project's choice).
 
 ghost use Rattle.std.specs.Prelude.{◌≡◌};
-ghost use Rattle.platform.specs.Map.{has_side_effects, is_in_ppb, is_in_window};
+ghost use Rattle.platform.specs.Map.{has_side_effects, is_in_ppb, is_in_window, is_never_executed};
 
 /// Where RAM begins. Flash ends here, or before.
 pub const RAM_BASE: u32 = 0x2000_0000;
@@ -23,11 +23,20 @@ pub fn is_in_ppb(address: u32) -> bool
     address >> 20 == 0xE00
 }
 
-/// Returns whether an access to an address can have a side effect: in the device window and in the
-/// Private Peripheral Bus.
+/// Returns whether the default memory map never executes an address: in the regions Peripheral and Device, and in the
+/// System region.
 #[inline]
-pub fn has_side_effects(address: u32) -> bool
-    ensures { result ≡ has_side_effects address }
+fn is_never_executed(address: u32) -> bool
+    ensures { result ≡ is_never_executed address }
 {
-    is_in_window(address) || is_in_ppb(address)
+    address >> 29 == 2 || address >> 29 >= 5
+}
+
+/// Returns whether an access to an address can have a side effect: in the device window and in the Private Peripheral
+/// Bus and, on a board that describes devices, wherever the default memory map never executes.
+#[inline]
+pub fn has_side_effects(devices: bool, address: u32) -> bool
+    ensures { result ≡ has_side_effects devices address }
+{
+    is_in_window(address) || is_in_ppb(address) || devices && is_never_executed(address)
 }

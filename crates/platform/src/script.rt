@@ -3,6 +3,7 @@
 ghost use Rattle.std.specs.Prelude.{◌≡◌, ◌<◌};
 
 use crate::exception::MOST_INTERRUPTS;
+pub use devices::Poke;
 use std::marker::Model;
 
 /// The number of an external interrupt, from 0 to 239: IRQ of the manual, whose exception is
@@ -62,4 +63,6 @@ pub enum Signal {
     Pulse(InterruptNumber),
     /// NMI becomes pending.
     Nmi,
+    /// A word of a device gets a content.
+    Poke(Poke),
 }

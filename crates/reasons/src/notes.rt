@@ -111,7 +111,7 @@ fn missing_vector(
 ) -> Option<MissingVector> {
     let line = match event.what {
         Signal::Rise(line) | Signal::Pulse(line) => line.number(),
-        Signal::Fall(_) | Signal::Nmi => return None,
+        Signal::Fall(_) | Signal::Nmi | Signal::Poke(_) => return None,
     };
     let number = u32::from(FIRST_INTERRUPT) + u32::from(line);
     let address = layout.flash_base.wrapping_add(4 * number);

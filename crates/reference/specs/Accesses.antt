@@ -1,7 +1,10 @@
 -- One access, and a list of them (ARM DDI 0403, MemA[]; what the bus takes is the profile's). The rule decides first,
 -- then the bus carries it out or refuses it. An unaligned access of MemU[] is a list of byte accesses, which
 -- `transfer` of LoadStore makes.
-use Rattle.std.specs.Prelude.{ℕ, if◌then◌else◌, List, [], ◌∷◌, ◌++◌, Option, Some, None, Result, Ok, Err}
+use Rattle.std.specs.Prelude.{ℕ, Bool, not, ◌&&◌, ◌||◌, if◌then◌else◌, List, [], ◌∷◌, ◌++◌, Option, Some, None, Result, Ok, Err}
+use Rattle.devices.specs.Laws.{have}
+use Rattle.instruction_set.specs.Sizes.{bytes_in}
+use Rattle.platform.specs.declared.access.Access.{Access}
 use Rattle.platform.specs.declared.access.Cause.{Cause}
 use Rattle.platform.specs.declared.access.Cause.TheVariants as cause
 use Rattle.platform.specs.declared.access.Decision.{Decision}
@@ -13,16 +16,23 @@ use Rattle.platform.specs.declared.event.Event.{Event}
 use Rattle.platform.specs.declared.event.EventKind.TheVariants.{Accessed, ConsoleByte}
 use Rattle.reference.specs.declared.failure.Failure.{Failure}
 use Rattle.reference.specs.declared.failure.Failure.TheVariants as failure
-use Rattle.platform.specs.Kinds.{is_probe}
+use Rattle.platform.specs.Kinds.{is_load, is_probe, is_store}
 use Rattle.platform.specs.Map.{is_in_ppb}
+use Rattle.platform.specs.Memory.{is_in_memory}
 use Rattle.platform.specs.Outcomes.{Outcome, done, unchanged, within}
 use Rattle.platform.specs.Priorities.{is_below_zero}
 use Rattle.platform.specs.Rules.{decision_of}
 use Rattle.platform.specs.Space.{space_access}
 use Rattle.reference.specs.State.{Bus}
-use Rattle.platform.specs.System.{system_access}
+use Rattle.platform.specs.System.{device_access, system_access}
 
 -- ---- the bus
+
+-- whether a load or a store is to a word of a device, and not to memory
+abbrev pub is_to_device : Bus → Access → Bool
+is_to_device b a =
+    (is_load a.kind || is_store a.kind) && (not (is_in_memory b.memory a.address (bytes_in a.size))
+    && have b.system.devices a.address)
 
 -- a request that a rule granted, carried out by the bus while IPSR is `exception`; a probe doesn't reach the bus
 unfoldable pub carried_out : ℕ → Bus → Rule → Request → Outcome Bus
@@ -30,6 +40,8 @@ carried_out exception b rule q =
     if is_probe q.access.kind then unchanged b (done rule 0)
     else if is_in_ppb q.access.address
     then within (λ system. record b { system = system }) (system_access exception b.system rule q)
+    else if is_to_device b q.access
+    then within (λ system. record b { system = system }) (device_access b.system rule q)
     else within (λ memory. record b { memory = memory }) (space_access b.memory b.system.time.ticks rule q)
 
 -- ---- one access

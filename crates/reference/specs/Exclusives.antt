@@ -27,12 +27,12 @@ use Rattle.reference.specs.ProgramCounter.{Finished, moves_on}
 abbrev pub exclusive_address : ℕ → ℕ → Registers → ℕ
 exclusive_address base offset r = word_sum (register r base) offset
 
--- an unaligned access is UsageFault UNALIGNED whatever CCR says; an aligned one to the device window or the Private
--- Peripheral Bus stops (profile)
-unfoldable pub exclusive_access : Kind → Bool → Size → ℕ → ℕ → Result (List Request) Failure
-exclusive_access kind privileged size address value =
+-- an unaligned access is UsageFault UNALIGNED whatever CCR says; an aligned one to where an access can have a side
+-- effect stops (profile)
+unfoldable pub exclusive_access : Bool → Kind → Bool → Size → ℕ → ℕ → Result (List Request) Failure
+exclusive_access devices kind privileged size address value =
     if not (is_aligned size address) then Err (Usage Unaligned)
-    else if has_side_effects address then Err (Stop (OutOfProfile ExclusiveDevice))
+    else if has_side_effects devices address then Err (Stop (OutOfProfile ExclusiveDevice))
     else Ok (request kind privileged size address value ∷ [])
 
 -- whether a store exclusive passes
@@ -40,21 +40,21 @@ abbrev pub passes : StoreExclusive → Registers → Bool
 passes o r = is_marked r (exclusive_address o.base o.offset r) o.size
 
 -- a store that passes stores R[t]; one that fails makes a probe: decided as a store, it writes nothing
-abbrev pub store_requests : StoreExclusive → Registers → Result (List Request) Failure
-store_requests o r =
+abbrev pub store_requests : Bool → StoreExclusive → Registers → Result (List Request) Failure
+store_requests devices o r =
     if passes o r
-    then exclusive_access kind.Store (is_privileged r) o.size (exclusive_address o.base o.offset r)
+    then exclusive_access devices kind.Store (is_privileged r) o.size (exclusive_address o.base o.offset r)
     (register r o.target)
-    else exclusive_access kind.Probe (is_privileged r) o.size (exclusive_address o.base o.offset r) 0
+    else exclusive_access devices kind.Probe (is_privileged r) o.size (exclusive_address o.base o.offset r) 0
 
 -- ---- the family
 
--- the access of an exclusive
-unfoldable pub exclusive_requests : Exclusive → Registers → Result (List Request) Failure
-exclusive_requests (Load o) r =
-    exclusive_access kind.Load (is_privileged r) o.size (exclusive_address o.base o.offset r) 0
-exclusive_requests (Store o) r = store_requests o r
-exclusive_requests Clear r = Ok []
+-- the access of an exclusive; `devices`: whether the board describes devices
+unfoldable pub exclusive_requests : Bool → Exclusive → Registers → Result (List Request) Failure
+exclusive_requests devices (Load o) r =
+    exclusive_access devices kind.Load (is_privileged r) o.size (exclusive_address o.base o.offset r) 0
+exclusive_requests devices (Store o) r = store_requests devices o r
+exclusive_requests devices Clear r = Ok []
 
 -- the status that a store writes to R[d]: 0 where it passed, and 1 where it failed
 abbrev pub store_status : Bool → ℕ

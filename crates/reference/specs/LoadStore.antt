@@ -85,18 +85,19 @@ byte_requests kind privileged address [] = []
 byte_requests kind privileged address (byte ∷ bytes) =
     request kind privileged Byte address byte ∷ byte_requests kind privileged (word_sum address 1) bytes
 
--- whether one of the accesses is to the device window or the Private Peripheral Bus
-abbrev pub meets_device : List Request → Bool
-meets_device requests = list_any (λ q. has_side_effects q.access.address) requests
+-- whether one of the accesses is to where an access can have a side effect
+abbrev pub meets_device : Bool → List Request → Bool
+meets_device devices requests = list_any (λ q. has_side_effects devices q.access.address) requests
 
 -- the byte accesses that an unaligned access makes, or its stop before the first, where one is to a device
 -- (profile)
-abbrev pub unaligned : List Request → Result (List Request) Failure
-unaligned requests = if meets_device requests then Err (Stop (OutOfProfile UnalignedDevice)) else Ok requests
+abbrev pub unaligned : Bool → List Request → Result (List Request) Failure
+unaligned devices requests =
+    if meets_device devices requests then Err (Stop (OutOfProfile UnalignedDevice)) else Ok requests
 
 -- an unaligned access is UsageFault UNALIGNED where CCR.UNALIGN_TRP is set, and otherwise made byte by byte
 abbrev pub unless_trapped : Traps → List Request → Result (List Request) Failure
-unless_trapped traps requests = if traps.unaligned then Err (Usage Unaligned) else unaligned requests
+unless_trapped traps requests = if traps.unaligned then Err (Usage Unaligned) else unaligned traps.devices requests
 
 -- the list of accesses of a load or a store: MemU[]
 unfoldable pub transfer : Traps → Kind → Bool → Size → ℕ → ℕ → Result (List Request) Failure

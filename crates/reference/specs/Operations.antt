@@ -68,7 +68,7 @@ unfoldable pub requests_of : Traps → Instruction → Registers → Result (Lis
 requests_of traps (DataProcessing i) r = data_processing_requests traps i r
 requests_of traps (LoadStore i) r = load_store_requests traps i r
 requests_of traps (LoadStoreMultiple i) r = load_store_multiple_requests i r
-requests_of traps (Exclusive i) r = exclusive_requests i r
+requests_of traps (Exclusive i) r = exclusive_requests traps.devices i r
 requests_of traps (Branch i) r = branch_requests traps i r
 requests_of traps (System i) r = system_requests i
 

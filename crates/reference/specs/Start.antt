@@ -1,6 +1,7 @@
 -- The state in which a machine starts (ARM DDI 0403, TakeReset()). What memory holds where no segment goes, and
 -- the registers that TakeReset() leaves UNKNOWN, are the profile's.
 use Rattle.std.specs.Prelude.{false, if◌then◌else◌, List, None, Result, Ok, Err}
+use Rattle.devices.specs.declared.device.Device.{Device}
 use Rattle.instruction_set.specs.Registers.{reset_registers}
 use Rattle.platform.specs.declared.error.StartError.{StartError}
 use Rattle.platform.specs.declared.error.StartError.TheVariants.{SegmentOutsideMemory}
@@ -13,12 +14,12 @@ use Rattle.platform.specs.System.{reset_system}
 
 -- the vector table is where flash begins: its first entry is the main stack pointer, its second is the address of the
 -- first instruction
-abbrev pub reset : Numbers → Memory → List ScriptedEvent → State
-reset board m script = record {
+abbrev pub reset : Numbers → Memory → List ScriptedEvent → List Device → State
+reset board m script devices = record {
   registers = reset_registers (vector m board.flash_base 0) (vector m board.flash_base 1);
   bus = record {
     memory = m;
-    system = reset_system board.flash_base board.interrupts board.priority_bits board.regions script;
+    system = reset_system board.flash_base board.interrupts board.priority_bits board.regions script devices;
   };
   asleep = false;
   entry = None;
@@ -29,5 +30,5 @@ reset board m script = record {
 unfoldable pub start : Described → List Segment → Result State StartError
 start board image =
     if are_placed (blank board.numbers) image
-    then Ok (reset board.numbers (image_loaded (blank board.numbers) image) board.script)
+    then Ok (reset board.numbers (image_loaded (blank board.numbers) image) board.script board.devices)
     else Err SegmentOutsideMemory

@@ -32,11 +32,13 @@ pub enum UsageFault {
     DivideByZero,
 }
 
-/// What CCR traps.
+/// What CCR traps, and whether the board describes devices.
 #[derive(Clone, Copy)]
 pub struct Traps {
     /// CCR.UNALIGN_TRP.
     pub unaligned: bool,
     /// CCR.DIV_0_TRP.
     pub divide_by_zero: bool,
+    /// Whether an unaligned or exclusive access stops wherever the default memory map never executes (profile).
+    pub devices: bool,
 }

@@ -1,3 +1,4 @@
+pub mod Devices
 mod Places
 mod Refused
 pub mod Refusals

@@ -2,17 +2,19 @@
 
 use crate::status::Status;
 use clock::{Clock, DueTicks};
+use devices::Devices;
 use mpu::MpuRegs;
 use nvic::Levels;
 use std::marker::Model;
 
-/// A copy of the system registers, the exceptions and time. A contract sees it as the reference's `System`.
+/// A copy of the system registers, the exceptions, time and devices. A contract sees it as the reference's `System`.
 #[derive(Drop)]
 pub struct SystemCopy<L: Levels, U: DueTicks> {
     pub(crate) mpu: MpuRegs,
     pub(crate) levels: L,
     pub(crate) status: Status,
     pub(crate) clock: Clock<U>,
+    pub(crate) devices: Devices,
 }
 
 impl<L: Levels, U: DueTicks> Model for SystemCopy<L, U> {
@@ -20,5 +22,11 @@ impl<L: Levels, U: DueTicks> Model for SystemCopy<L, U> {
 
     ghost Value = { SystemState };
 
-    ghost view = { λ s. record { mpu = s.mpu; nvic = L.content s.levels; status = s.status; time = s.clock.time } };
+    ghost view = { λ s. record {
+      mpu = s.mpu;
+      nvic = L.content s.levels;
+      status = s.status;
+      time = s.clock.time;
+      devices = s.devices;
+    } };
 }

@@ -3,14 +3,17 @@
 
 ghost use Rattle.std.specs.Prelude.{◌≡◌, ◌⊎◌, ℕ, Bool, List};
 ghost use Rattle.clock.specs.Laws.{IsSortedFrom};
+ghost use Rattle.devices.specs.declared.device.Device.{Device as TheDevice};
 ghost use Rattle.instruction_set.specs.declared.system.ChangeProcessorState.{ChangeProcessorState};
 ghost use Rattle.instruction_set.specs.declared.system.SpecialRegister.{SpecialRegister};
 ghost use Rattle.platform.specs.declared.access.Request.{Request};
 ghost use Rattle.platform.specs.declared.access.Rule.{Rule};
 ghost use Rattle.platform.specs.declared.script.ScriptedEvent.{ScriptedEvent as TheEvent};
+ghost use Rattle.platform.specs.declared.script.Signal.{Signal as TheSignal};
 ghost use Rattle.platform.specs.Outcomes.{LeavesUnlessDone};
 ghost use Rattle.platform.specs.SpecialRegisters.{write_mask, change_state};
-ghost use Rattle.platform.specs.System.{System, system_access, after_tick, deactivated, reset_system, with_nvic};
+ghost use Rattle.platform.specs.System.{System, after_signal, after_tick, deactivated, device_access, reset_system};
+ghost use Rattle.platform.specs.System.{system_access, with_nvic};
 ghost use Rattle.scs.specs.Laws.{IsSound};
 
 /// An access that is a bus error or stops changes nothing in the system.
@@ -20,13 +23,15 @@ pub fn refused_access_changes_nothing()
         → LeavesUnlessDone (system_access x s rule q).performed s (system_access x s rule q).after }
 {}
 
-/// The system is sound after a reset, and stays so in each access, tick, MSR, CPS and return from an
-/// exception.
+/// The system is sound after a reset, and stays so in each access, signal, tick, MSR, CPS and return from an exception.
 pub fn system_stays_sound()
-    ensures reset { (flash_base interrupts bits regions : ℕ) (script : List TheEvent) → (regions ≡ 8) ⊎ (regions ≡ 16)
-        → IsSortedFrom 1 script → IsSound (reset_system flash_base interrupts bits regions script) }
+    ensures reset { (flash_base interrupts bits regions : ℕ) (script : List TheEvent) (table : List TheDevice)
+        → (regions ≡ 8) ⊎ (regions ≡ 16)
+        → IsSortedFrom 1 script → IsSound (reset_system flash_base interrupts bits regions script table) }
     ensures access { (x : ℕ) (s : System) (rule : Rule) (q : Request) → IsSound s
         → IsSound (system_access x s rule q).after }
+    ensures device { (s : System) (rule : Rule) (q : Request) → IsSound s → IsSound (device_access s rule q).after }
+    ensures signal { (s : System) (what : TheSignal) → IsSound s → IsSound (after_signal s what) }
     ensures tick { (s : System) → IsSound s → IsSound (after_tick s) }
     ensures msr { (privileged : Bool) (s : System) (special : SpecialRegister) (value : ℕ) → IsSound s
         → IsSound (with_nvic s (write_mask privileged s.nvic special value)) }

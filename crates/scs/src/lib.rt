@@ -1,5 +1,5 @@
-//! The System Control Space (ARM DDI 0403, "System Control Space"): the system registers, and what
-//! a tick does to them.
+//! The System Control Space (ARM DDI 0403, "System Control Space") and the board's devices: the system registers, the
+//! words of devices, and what a tick does to them.
 #![tactic(auto)]
 
 mod addresses;
@@ -10,6 +10,7 @@ mod handlers;
 mod interrupts;
 pub mod laws;
 mod seeing;
+mod settling;
 mod special;
 mod status;
 mod system;

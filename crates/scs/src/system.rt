@@ -1,15 +1,17 @@
 //! The state of the System Control Space, accesses to it, and ticks.
 
-ghost use Rattle.std.specs.Prelude.{◌≡◌, ◌+◌, ◌^◌, ◌<◌, ◌≤◌, ◌⊎◌, ◌&&◌, ℕ, true, false, not, IfOk, IfSome};
+ghost use Rattle.std.specs.Prelude.{◌≡◌, ◌+◌, ◌^◌, ◌<◌, ◌≤◌, ◌⊎◌, ◌&&◌, ℕ, List, true, false, not, IfOk, IfSome};
 ghost use Rattle.clock.specs.DueTicks.{IsRight};
+ghost use Rattle.devices.specs.declared.device.Device.{Device as TheDevice};
+ghost use Rattle.devices.specs.Copies.{HaveSameDevices};
+ghost use Rattle.devices.specs.Devices.{fresh};
 ghost use Rattle.instruction_set.specs.Registers.{is_privileged};
 ghost use Rattle.instruction_set.specs.Sizes.{bytes_in};
 ghost use Rattle.mpu.specs.Spans.{GrantsSpan};
 ghost use Rattle.platform.specs.Outcomes.{IsOf, LeavesUnlessDone};
 ghost use Rattle.platform.specs.System.{reset_system, after_tick, deactivated, after_read, register_written};
-ghost use Rattle.platform.specs.System.{register_access, system_access, with_nvic, with_pended, mpu_written};
+ghost use Rattle.platform.specs.System.{register_access, system_access, with_nvic, mpu_written};
 ghost use Rattle.platform.specs.System as spec;
-ghost use Rattle.platform.specs.Time.{pends, with_signal};
 ghost use Rattle.platform.specs.Interrupts as nvic;
 ghost use Rattle.platform.specs.Regions as mpu;
 ghost use Rattle.platform.specs.Regions.{is_on, shown};
@@ -24,10 +26,12 @@ use crate::addresses::{first_byte, has_width, in_place, part_of, register_at};
 use crate::control::{read_control, write_control};
 use crate::copies::SystemCopy;
 use crate::interrupts::{read_interrupts, read_priorities, write_interrupts, write_priorities};
+use crate::settling::poke_by;
 use crate::special;
 use crate::status::Status;
 use crate::systick::{read_systick, write_systick};
-use clock::{Clock, DueTicks, Script, Signal};
+use clock::{Clock, DueTicks, Script};
+use devices::Devices;
 use instruction_set::system::{ChangeProcessorState, SpecialRegister};
 use mpu::{Decider, GrantedSpan, MpuRegister, MpuRegs, stop_of, uses_regions};
 use nvic::{Levels, Masks};
@@ -42,14 +46,15 @@ use std::marker::Model;
 /// The address of STIR.
 const STIR: u32 = 0xE000_EF00;
 
-/// The MPU with what decides by it, the exceptions, the status registers, and time.
+/// The MPU with what decides by it, the exceptions, the status registers, time, and the board's devices.
 #[derive(Drop)]
 pub struct System<D: Decider, L: Levels, U: DueTicks> {
     mpu: MpuRegs,
     decider: D,
-    levels: L,
+    pub(crate) levels: L,
     status: Status,
-    clock: Clock<U>,
+    pub(crate) clock: Clock<U>,
+    pub(crate) devices: Devices,
 }
 
 impl<D: Decider, L: Levels, U: DueTicks> Model for System<D, L, U> {
@@ -58,33 +63,45 @@ impl<D: Decider, L: Levels, U: DueTicks> Model for System<D, L, U> {
 
     ghost Value = { SystemState };
 
-    ghost view = { λ s. record { mpu = s.mpu; nvic = L.content s.levels; status = s.status; time = s.clock.time } };
+    ghost view = { λ s. record {
+      mpu = s.mpu;
+      nvic = L.content s.levels;
+      status = s.status;
+      time = s.clock.time;
+      devices = s.devices;
+    } };
 
     ghost invariant = { λ s. D.decides_for s.decider s.mpu × IsRight s.clock };
 }
 
 impl<D: Decider, L: Levels, U: DueTicks> System<D, L, U> {
     /// Returns the system after a reset: with flash at `flash_base`, `interrupts` external interrupts, of which
-    /// the first 240 count, `priority_bits` bits of a priority, 8 or 16 regions, and a script.
+    /// the first 240 count, `priority_bits` bits of a priority, 8 or 16 regions, a script, and devices at the start.
+    #[tactic(auto, unfolding(platform::specs::System::settled))]
     pub fn reset(
         flash_base: u32,
         interrupts: u8,
         priority_bits: u8,
         regions: u8,
         script: Script,
+        devices: Devices,
     ) -> Self
         requires { (regions ≡ 8) ⊎ (regions ≡ 16) }
-        ensures { result ≡ reset_system flash_base interrupts priority_bits regions script }
+        ensures { (table : List TheDevice) → devices ≡ fresh table
+            → result ≡ reset_system flash_base interrupts priority_bits regions script table }
     {
         let mpu = MpuRegs::new(regions);
         let decider = D::fresh(&mpu);
-        System {
+        let mut system = System {
             mpu,
             decider,
             levels: L::fresh(interrupts, priority_bits),
             status: Status::reset(flash_base),
             clock: Clock::new(script),
-        }
+            devices,
+        };
+        system.settle();
+        system
     }
 
     /// Returns a copy, without what decides by the registers of the MPU, or fails where memory can't be allocated.
@@ -92,26 +109,31 @@ impl<D: Decider, L: Levels, U: DueTicks> System<D, L, U> {
         ensures { IfOk result (λ copy. copy ≡ self.now) }
     {
         let clock = self.clock.copied(alloc)?;
+        let devices = self.devices.copied(alloc)?;
         Ok(SystemCopy {
             mpu: self.mpu,
             levels: self.levels.copied(),
             status: self.status.copied(),
             clock,
+            devices,
         })
     }
 
-    /// Copies the state.
+    /// Copies the state to a copy that has the same devices.
     pub fn keep(&self, copy: &mut SystemCopy<L, U>)
+        requires { HaveSameDevices copy.old.devices self.now.devices }
         ensures { copy.new ≡ self.now }
     {
         copy.mpu = self.mpu;
         copy.levels = self.levels.copied();
         copy.status = self.status.copied();
         copy.clock.copy_from(&self.clock);
+        copy.devices.copy_from(&self.devices);
     }
 
-    /// Takes the state of a copy.
+    /// Takes the state of a copy that has the same devices.
     pub fn take_back(&mut self, copy: &SystemCopy<L, U>)
+        requires { HaveSameDevices self.old.devices copy.now.devices }
         ensures { self.new ≡ copy.now }
     {
         self.mpu = copy.mpu;
@@ -119,18 +141,7 @@ impl<D: Decider, L: Levels, U: DueTicks> System<D, L, U> {
         self.levels = copy.levels.copied();
         self.status = copy.status.copied();
         self.clock.copy_from(&copy.clock);
-    }
-
-    /// Does what an event of the script does, without a tick.
-    #[tactic(auto, using(nvic::proofs::Due::due_is_pended))]
-    pub fn signal(&mut self, what: &Signal)
-        ensures { self.new ≡ record self.old {
-          nvic = with_pended self.old.nvic (pends what.now);
-          time = record self.old.time { high = with_signal self.old.time.high what.now };
-        } }
-    {
-        let due = self.clock.signal(what);
-        self.levels.pend_due(&due);
+        self.devices.copy_from(&copy.devices);
     }
 
     /// Makes the next tick: time goes on, and what the tick pends becomes pending. On most ticks
@@ -157,16 +168,22 @@ impl<D: Decider, L: Levels, U: DueTicks> System<D, L, U> {
         self.clock.tick_quietly()
     }
 
-    /// Makes the next tick, and makes pending what is due at it.
+    /// Makes the next tick, makes pending what is due at it, and then pokes words of devices, after which their lines
+    /// settle.
     #[cold]
     #[inline(never)]
-    #[tactic(auto, using(nvic::proofs::Due::due_is_pended), unfolding(platform::specs::System::after_tick))]
+    #[tactic(auto, using(nvic::proofs::Due::due_is_pended, crate::proofs::Devices::tick_lemmas))]
     fn tick_and_pend(&mut self)
         requires { self.old.time.ticks < 2 ^ 48 }
         ensures { self.new ≡ after_tick self.old }
     {
+        let ticks = self.clock.now() + 1;
+        let poked = poke_by(&mut self.devices, ticks, self.clock.events_next());
         let due = self.clock.tick_due();
         self.levels.pend_due(&due);
+        if poked {
+            self.settle();
+        }
     }
 
     /// Returns the number of ticks that have gone by, at most 2^48.

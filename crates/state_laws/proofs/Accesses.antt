@@ -1,12 +1,13 @@
 -- An access, and a list of them, keep what holds of the System Control Space and of memory.
 use Rattle.std.proofs.Common.{ℕ, List, [], ◌∷◌, Result, Ok, Err}
 use Rattle.std.proofs.lemmas.Bool.{cond_both}
-use Rattle.nvic.proofs.Systems.{access_kept}
+use Rattle.nvic.proofs.Systems.{access_kept, device_kept}
 use Rattle.platform.specs.declared.access.Request.{Request}
 use Rattle.platform.specs.declared.access.Rule.{Rule}
 use Rattle.platform.specs.declared.event.Event.{Event}
 use Rattle.reference.specs.declared.failure.Failure.{Failure}
-use Rattle.reference.specs.Accesses.{ListResult, carried_out, decision, perform, value_of, followed, perform_all}
+use Rattle.reference.specs.Accesses.{ListResult, carried_out, decision, followed, is_to_device, perform, perform_all}
+use Rattle.reference.specs.Accesses.{value_of}
 use Rattle.platform.specs.SystemInvariant.{IsLaidOut}
 use Rattle.platform.specs.Kinds.{is_probe}
 use Rattle.platform.specs.Map.{is_in_ppb}
@@ -30,7 +31,9 @@ carried_whole interrupts bits x b rule q h =
     cond_both (is_probe q.access.kind) _ _ (LeavesWhole interrupts bits) (λ e. h)
     (λ e. cond_both (is_in_ppb q.access.address) _ _ (LeavesWhole interrupts bits)
     (λ f. (access_kept (parts_kept interrupts bits) x b.system rule q h.0, h.1))
-    (λ f. (h.0, space_laid_out b.memory b.system.time.ticks rule q h.1)))
+    (λ f. cond_both (is_to_device b q.access) _ _ (LeavesWhole interrupts bits)
+    (λ g. (device_kept (parts_kept interrupts bits) b.system rule q h.0, h.1))
+    (λ g. (h.0, space_laid_out b.memory b.system.time.ticks rule q h.1))))
 
 pub perform_whole : (interrupts bits x : ℕ) (b : Bus) (q : Request) → IsWholeBus interrupts bits b →
     LeavesWhole interrupts bits (perform x b q)

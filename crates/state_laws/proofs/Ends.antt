@@ -7,16 +7,16 @@
 -- - The last three lemmas are the same for parts of a step: a tick, an access, an instruction.
 use Rattle.std.proofs.Common.{◌≡◌, ◌⊎◌, inl, inr, ℕ, ◌≤◌, min, Bool, true, false, not, ◌||◌, ◌==◌, is_some, List}
 use Rattle.std.proofs.Common.{Option, Some, None, Result, Ok, Err, refl, sym, subst, arith}
-use Rattle.std.proofs.lemmas.Bool.{cond_both, both_ways, not-true}
-use Rattle.nvic.proofs.Changes.{pended_kept}
+use Rattle.std.proofs.lemmas.Bool.{and_parts, cond_both, both_ways, not-true}
+use Rattle.devices.specs.Devices.{fresh}
+use Rattle.nvic.proofs.Tables.{table_fresh}
 use Rattle.platform.specs.declared.error.PlaceError.TheVariants.{Stopped}
 use Rattle.platform.specs.declared.script.Signal.{Signal}
-use Rattle.platform.specs.Time.{Time, pends, with_signal}
+use Rattle.platform.specs.declared.script.Signal.TheVariants.{Poke}
 use Rattle.reference.specs.State.{with_system}
-use Rattle.state_laws.proofs.Candidates.{pended_calls}
-use Rattle.state_laws.proofs.Ticks.{IsTimely, signal_length}
-use Rattle.state_laws.proofs.Sets.{HasBoard, board_kept}
-use Rattle.reference.specs.Places.{after_signal, altered, is_plain, is_wired, signalled}
+use Rattle.state_laws.proofs.Candidates.{Calls, pended_calls}
+use Rattle.step_laws.proofs.Settling.{signal_nvic}
+use Rattle.reference.specs.Places.{altered, is_plain, is_wired, signalled}
 use Rattle.std.proofs.Common.{◌&&◌, ◌∙◌, if◌then◌else◌}
 use Rattle.std.proofs.lemmas.Bool.Decides.{nat_tests}
 use Rattle.instruction_set.specs.declared.instruction.CodedInstruction.{CodedInstruction}
@@ -24,7 +24,7 @@ use Rattle.instruction_set.specs.declared.system.SpecialRegister.{SpecialRegiste
 use Rattle.instruction_set.specs.Registers.{Registers, is_handler}
 use Rattle.instruction_set.specs.RowOperands.{special_of}
 use Rattle.mpu.proofs.Writes.{sound_at_reset}
-use Rattle.nvic.proofs.Systems.{placed_kept}
+use Rattle.nvic.proofs.Systems.{placed_kept, settled_kept, signal_kept}
 use Rattle.platform.specs.declared.access.Performed.{Performed}
 use Rattle.platform.specs.declared.access.Performed.TheVariants as performed
 use Rattle.platform.specs.declared.access.Request.{Request}
@@ -37,16 +37,16 @@ use Rattle.reference.specs.Accesses.{carried_out, perform_all}
 use Rattle.platform.specs.Boards.{Described, is_interrupt_count, is_region_count, IsScriptFrom}
 use Rattle.platform.specs.Images.{Segment}
 use Rattle.reference.specs.Invariant.{HasRegisters, Invariant}
-use Rattle.platform.specs.SystemInvariant.{IsBoard, SystemInvariant}
+use Rattle.platform.specs.SystemInvariant.{HaveLinesOfBoard, IsBoard, SystemInvariant, table_of}
 use Rattle.platform.specs.Map.{is_in_ppb}
-use Rattle.platform.specs.Memory.{bytes_of}
+use Rattle.platform.specs.Memory.{bytes_of, is_in_memory}
 use Rattle.reference.specs.Places.{is_word_aligned, is_there, special_taken, register_taken, store_of, taken, place}
 use Rattle.platform.specs.Images.{are_placed}
 use Rattle.reference.specs.Start.{start}
 use Rattle.platform.specs.Boards.{blank}
 use Rattle.reference.specs.State.{Bus, State, ticked}
 use Rattle.reference.specs.Step.{step}
-use Rattle.platform.specs.System.{System, reset_system}
+use Rattle.platform.specs.System.{System, after_signal, reset_system}
 use Rattle.state_laws.specs.StateLaw.{IfGiven, TickKeeps, AccessKeeps, InstructionKeeps}
 use Rattle.state_laws.proofs.Accesses.{IsWholeBus, carried_whole, perform_whole, served_whole}
 use Rattle.state_laws.proofs.Effects.{register_kept, result_kept}
@@ -69,6 +69,7 @@ sound interrupts bits s h = record {
   sets = h.nvic.board.sets;
   script = rw h.nvic.same_interrupts h.time.ahead;
   regions = h.mpu;
+  devices = rw h.nvic.same_interrupts h.devices;
 }
 
 whole : (s : System) → SystemInvariant s → IsWhole s.nvic.interrupts s.nvic.priority_bits s
@@ -76,6 +77,7 @@ whole s h = record {
   nvic = board_of s.nvic h.priorities h.sets;
   time = record { clock = h.clock; timer = h.timer; ahead = h.script };
   mpu = h.regions;
+  devices = h.devices;
 }
 
 whole_state : (s : State) → Invariant s → HasWhole s.bus.system.nvic.interrupts s.bus.system.nvic.priority_bits s
@@ -126,6 +128,10 @@ register_placed interrupts bits s after (performed.Done access) r out h =
 register_placed interrupts bits s after (performed.Denied rule cause) r out h = tt
 register_placed interrupts bits s after (performed.Stop why) r out h = tt
 
+-- the poke of a word that is placed
+abbrev poke_at : ℕ → ℕ → Signal
+poke_at address value = Poke (record { address = address; value = value })
+
 taken_placed : (interrupts bits : ℕ) (s : State) (p : Place) → IsGood interrupts bits s
     → IsPlaced interrupts bits (taken s p)
 taken_placed interrupts bits s (Reg number value) h =
@@ -140,11 +146,17 @@ taken_placed interrupts bits s (Word address value) h =
     cond_both (is_in_ppb address) _ _ (IsPlaced interrupts bits)
     (λ e. register_placed interrupts bits s o.after o.performed h.registers h.entry
     (carried_whole interrupts bits s.registers.exception s.bus PrivatePeripheralBus (store_of address value) h.system))
-    (λ e. record {
+    (λ e. cond_both (not (is_in_memory s.bus.memory address 4)) _ _ (IsPlaced interrupts bits)
+    (λ f. record {
+      registers = h.registers;
+      entry = h.entry;
+      system = (signal_kept (parts_kept interrupts bits) s.bus.system (poke_at address value) h.system.0, h.system.1);
+    })
+    (λ f. record {
       registers = h.registers;
       entry = h.entry;
       system = (h.system.0, overwritten_laid_out s.bus.memory address (bytes_of 4 value) h.system.1);
-    })
+    }))
 
 no_entry : (stop : Bool) (entry : Option ℕ) (handler : Bool) → (stop || is_some entry || handler) ≡ false → entry ≡ None
 no_entry stop None handler e = refl
@@ -156,7 +168,7 @@ placed : (interrupts bits : ℕ) (s : State) (p : Place) → HasRegisters s.regi
 unfolding place
 placed interrupts bits s p r h =
     cond_both (not (is_word_aligned p)) _ _ (IsPlaced interrupts bits) (λ e. tt)
-    (λ e. cond_both (not (is_there s.bus.memory p)) _ _ (IsPlaced interrupts bits) (λ f. tt)
+    (λ e. cond_both (not (is_there s.bus p)) _ _ (IsPlaced interrupts bits) (λ f. tt)
     (λ f. cond_both (is_some s.stop || is_some s.entry || is_handler s.registers) _ _ (IsPlaced interrupts bits)
     (λ g. tt)
     (λ g. taken_placed interrupts bits s p (record {
@@ -204,8 +216,8 @@ start_gives board image h =
           sound (min board.numbers.interrupts MOST_INTERRUPTS) board.numbers.priority_bits
           (reset_system board.numbers.flash_base board.numbers.interrupts board.numbers.priority_bits
           board.numbers.regions
-          board.script)
-          (record {
+          board.script board.devices)
+          (settled_kept (parts_kept (min board.numbers.interrupts MOST_INTERRUPTS) board.numbers.priority_bits) _ (record {
             nvic = board_at_reset board.numbers.interrupts board.numbers.priority_bits;
             time =
                 timely_at_start (min board.numbers.interrupts MOST_INTERRUPTS) board.script
@@ -213,7 +225,11 @@ start_gives board image h =
                 (sym (all_interrupts board.numbers.interrupts h.interrupts))
                 h.script);
             mpu = sound_at_reset board.numbers.regions (regions_known board.numbers.regions h.regions);
-          });
+            devices =
+                subst (λ interrupts. HaveLinesOfBoard interrupts (table_of (fresh board.devices)))
+                (sym (all_interrupts board.numbers.interrupts h.interrupts))
+                (rw (table_fresh board.devices) h.devices);
+          }));
     })
     (λ e. tt)
 
@@ -246,40 +262,22 @@ instruction_keeps s i requests out h =
 
 -- ---- what comes from outside
 
-signal_timely : (interrupts : ℕ) (t : Time) (what : Signal) → IsTimely interrupts t
-    → IsTimely interrupts (record t { high = with_signal t.high what })
-signal_timely interrupts t what h = record {
-  clock = h.clock;
-  timer = h.timer;
-  ahead = record { script = h.ahead.script; high = signal_length t.high what ∙ h.ahead.high };
-}
-
-signal_whole : (interrupts bits : ℕ) (s : System) (what : Signal) → IsWhole interrupts bits s
-    → IsWhole interrupts bits (after_signal s what)
-signal_whole interrupts bits s what h = record {
-  nvic =
-      pended_kept (HasBoard interrupts bits) (pends what)
-      (λ m x e p. (board_kept interrupts bits).pending m x true p) s.nvic h.nvic;
-  time = signal_timely interrupts s.time what h.time;
-  mpu = h.mpu;
-}
-
 -- a signal only makes exceptions pending, so an entry phase keeps its candidate
 signal_taken : (s : State) (what : Signal) → Invariant s → Invariant (with_system s (after_signal s.bus.system what))
 signal_taken s what h = record {
   registers = h.registers;
-  entry = λ stop entry. pended_calls s.bus.system.nvic (pends what) (h.entry stop entry);
+  entry = λ stop entry. signal_nvic Calls pended_calls s.bus.system what (h.entry stop entry);
   memory = h.memory;
   system =
       sound s.bus.system.nvic.interrupts s.bus.system.nvic.priority_bits (after_signal s.bus.system what)
-      (signal_whole s.bus.system.nvic.interrupts s.bus.system.nvic.priority_bits s.bus.system what
+      (signal_kept (parts_kept s.bus.system.nvic.interrupts s.bus.system.nvic.priority_bits) s.bus.system what
       (whole s.bus.system h.system));
 }
 
 pub signal_keeps : (s : State) (what : Signal) → Invariant s → IfGiven Invariant (signalled s what)
 unfolding signalled
 signal_keeps s what h =
-    cond_both (not (is_wired s.bus.system.nvic.interrupts what)) _ _ (IfGiven Invariant) (λ e. tt)
+    cond_both (not (is_wired s.bus.system what)) _ _ (IfGiven Invariant) (λ e. tt)
     (λ e. cond_both (is_some s.stop) _ _ (IfGiven Invariant) (λ f. tt) (λ f. signal_taken s what h))
 
 given : (interrupts bits : ℕ) (r : Result State PlaceError) → IsPlaced interrupts bits r → IfGiven Invariant r
@@ -298,7 +296,7 @@ outside_entry true (Some x) handler e = absurd (let w : ⊥ = cc in w)
 outside_entry false (Some x) handler e = absurd (let w : ⊥ = cc in w)
 
 -- a core register or a word of memory leaves the exceptions as they are
-plain_taken : (s : State) (p : Place) → is_plain p ≡ true → Invariant s → IfGiven Invariant (taken s p)
+plain_taken : (s : State) (p : Place) → is_plain s.bus.memory p ≡ true → Invariant s → IfGiven Invariant (taken s p)
 plain_taken s (Reg number value) e h = record {
   registers = register_kept writes_kept s.registers number value h.registers;
   entry = h.entry;
@@ -308,21 +306,27 @@ plain_taken s (Reg number value) e h = record {
 plain_taken s (Special number value) e h = absurd (let w : ⊥ = cc in w)
 plain_taken s (Word address value) e h =
     cond_both (is_in_ppb address) _ _ (IfGiven Invariant)
-    (λ f. absurd (both_ways (is_in_ppb address) (not-true (is_in_ppb address) e) f))
-    (λ f. record {
+    (λ f. absurd (both_ways (is_in_ppb address) (not-true (is_in_ppb address) parts.1) f))
+    (λ f. cond_both (not (is_in_memory s.bus.memory address 4)) _ _ (IfGiven Invariant)
+    (λ g. absurd (both_ways (is_in_memory s.bus.memory address 4) (not-true (is_in_memory s.bus.memory address 4) g)
+    parts.0))
+    (λ g. record {
       registers = h.registers;
       entry = h.entry;
       memory = overwritten_laid_out s.bus.memory address (bytes_of 4 value) h.memory;
       system = h.system;
-    })
+    }))
+  where
+    parts : (is_in_memory s.bus.memory address 4 ≡ true) × (not (is_in_ppb address) ≡ true)
+    parts = and_parts (is_in_memory s.bus.memory address 4) (not (is_in_ppb address)) e
 
 pub alter_keeps : (s : State) (p : Place) → Invariant s → IfGiven Invariant (altered s p)
 unfolding altered
 alter_keeps s p h =
     cond_both (not (is_word_aligned p)) _ _ (IfGiven Invariant) (λ e. tt)
-    (λ e. cond_both (not (is_there s.bus.memory p)) _ _ (IfGiven Invariant) (λ f. tt) (λ f. split (is_plain p) refl))
+    (λ e. cond_both (not (is_there s.bus p)) _ _ (IfGiven Invariant) (λ f. tt) (λ f. split (is_plain s.bus.memory p) refl))
   where
-    split : (b : Bool) → is_plain p ≡ b
+    split : (b : Bool) → is_plain s.bus.memory p ≡ b
         → IfGiven Invariant (if is_some s.stop || (not b && (is_some s.entry || is_handler s.registers)) then Err Stopped
         else taken s p)
     split true q =

@@ -13,7 +13,7 @@ use Rattle.reference.specs.declared.failure.UsageFault.{UsageFault}
 use Rattle.reference.specs.declared.failure.UsageFault.TheVariants.{UndefinedInstruction, InvalidState, InvalidReturn}
 use Rattle.reference.specs.declared.failure.UsageFault.TheVariants.{NoCoprocessor, Unaligned, DivideByZero}
 use Rattle.platform.specs.declared.fault_status.FaultEffect.{FaultEffect}
-use Rattle.reference.specs.Accesses.{carried_out, decision, perform}
+use Rattle.reference.specs.Accesses.{is_to_device, carried_out, decision, perform}
 use Rattle.reference.specs.Faults.{access_fault, usage_fault_of}
 use Rattle.platform.specs.Kinds.{is_load, is_probe, is_store}
 use Rattle.platform.specs.Map.{is_in_ppb}
@@ -83,7 +83,8 @@ unfolding carried_out
 carried_leaves x b rule q apart =
     cond_both (is_probe q.access.kind) _ _ (LeavesSystem b.system) (λ e. refl)
     (λ e. cond_both (is_in_ppb q.access.address) _ _ (LeavesSystem b.system)
-    (λ f. system_leaves x b.system rule q apart) (λ f. refl))
+    (λ f. system_leaves x b.system rule q apart)
+    (λ f. cond_both (is_to_device b q.access) _ _ (LeavesSystem b.system) (λ g. absurd cc (rw apart at g)) (λ g. refl)))
 
 pub perform_leaves : (x : ℕ) (b : Bus) (q : Request) → IsApart q → LeavesSystem b.system (perform x b q)
 unfolding perform

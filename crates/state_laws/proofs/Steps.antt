@@ -22,7 +22,7 @@ use Rattle.platform.specs.declared.stop.Stop.{Stop}
 use Rattle.platform.specs.Priorities.{Nvic, candidate, is_fixed}
 use Rattle.platform.specs.Status.{Status}
 use Rattle.platform.specs.System.{System, after_tick}
-use Rattle.platform.specs.Time.{last_tick, tick_pends}
+use Rattle.platform.specs.Time.{last_tick}
 use Rattle.reference.specs.declared.failure.Failure.{Failure}
 use Rattle.reference.specs.declared.failure.Failure.TheVariants as failure
 use Rattle.reference.specs.ExceptionEntry.{vector_refused}
@@ -34,6 +34,7 @@ use Rattle.reference.specs.Step.{step}
 use Rattle.step_laws.proofs.StepRules.{FitsEntry, StepRules, after_access, step_keeps}
 use Rattle.state_laws.proofs.Accesses.{IsWholeBus, perform_whole}
 use Rattle.state_laws.proofs.Candidates.{Calls, Follows, escalation_follows, pended_calls, pending_calls}
+use Rattle.step_laws.proofs.Settling.{tick_nvic}
 use Rattle.state_laws.proofs.Effects.{moves_on_kept, register_kept, result_kept, sp_kept}
 use Rattle.state_laws.proofs.Entries.{IsCalled, IsFault, access_is, none, perform_leaves, some_none, usage_is}
 use Rattle.state_laws.proofs.Frames.{IsBelow, candidate_small, handler_kept, popped_kept}
@@ -58,8 +59,7 @@ is_early : (ticks : ℕ) → nat_le last_tick ticks ≡ false → ticks < last_t
 is_early ticks e = grind (arith, nat_tests, e)
 
 tick_calls : (s : System) → Calls s.nvic → Calls (after_tick s).nvic
-unfolding after_tick
-tick_calls s c = pended_calls s.nvic (tick_pends s.time) c
+tick_calls s c = tick_nvic Calls pended_calls s c
 
 module _ (interrupts bits : ℕ) where
   -- what holds of a state, and of what a step makes of one

@@ -8,7 +8,7 @@ use Rattle.clock.specs.Laws.{IsSortedFrom}
 use Rattle.platform.specs.declared.exception.TheConstants.{MOST_INTERRUPTS}
 use Rattle.platform.specs.declared.script.ScriptedEvent.{ScriptedEvent}
 use Rattle.platform.specs.declared.script.Signal.{Signal}
-use Rattle.platform.specs.declared.script.Signal.TheVariants.{Rise, Fall, Pulse, Nmi}
+use Rattle.platform.specs.declared.script.Signal.TheVariants.{Rise, Fall, Pulse, Nmi, Poke}
 use Rattle.platform.specs.Boards.{IsScriptFrom}
 use Rattle.platform.specs.SystemInvariant.{IsWithinClock, HasTimerBits, IsAhead}
 use Rattle.platform.specs.Time.{Time, SysTick, last_tick, with_signal, with_events, events_at, due_count}
@@ -43,11 +43,20 @@ left interrupts tick script s =
 
 -- ---- the levels
 
-pub signal_length : (high : List Bool) (what : Signal) → length (with_signal high what) ≡ length high
+signal_length : (high : List Bool) (what : Signal) → length (with_signal high what) ≡ length high
 signal_length high (Rise line) = length-set high line true
 signal_length high (Fall line) = length-set high line false
 signal_length high (Pulse line) = refl
 signal_length high Nmi = refl
+signal_length high (Poke p) = refl
+
+pub signal_timely : (interrupts : ℕ) (t : Time) (what : Signal) → IsTimely interrupts t
+    → IsTimely interrupts (record t { high = with_signal t.high what })
+signal_timely interrupts t what h = record {
+  clock = h.clock;
+  timer = h.timer;
+  ahead = record { script = h.ahead.script; high = signal_length t.high what ∙ h.ahead.high };
+}
 
 events_length : (high : List Bool) (events : List ScriptedEvent) → length (with_events high events) ≡ length high
 events_length high [] = refl

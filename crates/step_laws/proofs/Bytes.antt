@@ -10,13 +10,13 @@ use Rattle.platform.specs.declared.access.Performed.{Performed}
 use Rattle.platform.specs.declared.access.Performed.TheVariants.{Denied}
 use Rattle.platform.specs.declared.access.Request.{Request}
 use Rattle.platform.specs.declared.access.Rule.{Rule}
-use Rattle.reference.specs.Accesses.{access_lines, carried_out, decision, perform}
+use Rattle.reference.specs.Accesses.{is_to_device, access_lines, carried_out, decision, perform}
 use Rattle.platform.specs.Kinds.{is_probe, is_write}
 use Rattle.platform.specs.Map.{is_in_ppb, is_in_window}
 use Rattle.platform.specs.Memory.{Memory, is_writable_at, bytes_of, overwritten}
 use Rattle.platform.specs.Outcomes.{Outcome, bus_error, done, unchanged, within}
 use Rattle.platform.specs.Space.{read_from, space_access, written_to, written_to_window}
-use Rattle.platform.specs.System.{system_access}
+use Rattle.platform.specs.System.{device_access, system_access}
 use Rattle.reference.specs.State.{Bus, State}
 use Rattle.reference.specs.Step.{step}
 use Rattle.step_laws.specs.AccessLaw.{are_covering, OnlyCovered}
@@ -84,7 +84,9 @@ carried_writes exception tick b q rule =
     cond_both (is_probe q.access.kind) _ _ (BusWrites tick q b) (λ e. left tick q b.memory (done rule 0))
     (λ asked. cond_both (is_in_ppb q.access.address) _ _ (BusWrites tick q b)
     (λ e. left tick q b.memory (system_access exception b.system rule q).performed)
-    (λ e. space_writes tick b.system.time.ticks q b.memory rule))
+    (λ beside. cond_both (is_to_device b q.access) _ _ (BusWrites tick q b)
+    (λ e. left tick q b.memory (device_access b.system rule q).performed)
+    (λ e. space_writes tick b.system.time.ticks q b.memory rule)))
 
 -- one access
 pub perform_writes : (exception tick : ℕ) (b : Bus) (q : Request) → BusWrites tick q b (perform exception b q)

@@ -1,4 +1,7 @@
 pub mod StepRules
+pub mod Settling
+pub mod Devices
+pub mod Reaching
 pub mod BusRules
 mod Lines
 mod Bytes

@@ -19,11 +19,12 @@ use Rattle.platform.specs.Kinds.{is_load, is_probe, is_store, is_write}
 use Rattle.platform.specs.Map.{is_in_ppb}
 use Rattle.platform.specs.Outcomes.{Outcome, within}
 use Rattle.platform.specs.Regions.{Mpu}
-use Rattle.platform.specs.System.{System, after_read, after_tick, has_access, has_width, register_access, register_at}
+use Rattle.platform.specs.System.{System, after_read, has_access, has_width, register_access, register_at}
 use Rattle.platform.specs.System.{register_written, system_access, write_performed}
-use Rattle.reference.specs.Accesses.{access_lines, carried_out, decision, perform}
+use Rattle.reference.specs.Accesses.{is_to_device, access_lines, carried_out, decision, perform}
 use Rattle.reference.specs.State.{Bus}
 use Rattle.step_laws.specs.RegionLaw.{RegionsStay, some_writes_system, writes_system}
+use Rattle.step_laws.proofs.Settling.{device_mpu, tick_mpu}
 use Rattle.step_laws.proofs.BusRules.{BusRules, bus_keeps}
 
 -- ---- events one after another
@@ -88,7 +89,9 @@ unfolding carried_out
 carried_stays exception tick b rule q =
     cond_both (is_probe q.access.kind) _ _ (BusStays tick q b.system.mpu) (λ e none. refl)
     (λ e. cond_both (is_in_ppb q.access.address) _ _ (BusStays tick q b.system.mpu)
-    (λ there. system_stays tick exception b.system rule q there) (λ away none. refl))
+    (λ there. system_stays tick exception b.system rule q there)
+    (λ away. cond_both (is_to_device b q.access) _ _ (BusStays tick q b.system.mpu)
+    (λ f none. device_mpu b.system rule q) (λ f none. refl)))
 
 access_stays : (exception tick : ℕ) (b : Bus) (q : Request)
     → BusStays tick q b.system.mpu (perform exception b q)
@@ -98,10 +101,6 @@ access_stays exception tick b q =
     (λ e. carried_stays exception tick b (decision b q).rule q) (λ e none. refl)
 
 -- ---- the step
-
-tick_stays : (s : System) → (after_tick s).mpu ≡ s.mpu
-unfolding after_tick
-tick_stays s = refl
 
 region_rules : (old : Mpu) → BusRules (λ b events. some_writes_system events ≡ false → b.system.mpu ≡ old)
 region_rules old = record {
@@ -113,4 +112,4 @@ region_rules old = record {
 }
 
 pub regions_stay : RegionsStay
-regions_stay s = bus_keeps (region_rules s.bus.system.mpu) s (λ none. refl) (λ none. tick_stays s.bus.system)
+regions_stay s = bus_keeps (region_rules s.bus.system.mpu) s (λ none. refl) (λ none. tick_mpu s.bus.system)

@@ -1,5 +1,5 @@
 -- A signal between two steps does what an event of the script does that is the first of the next tick.
-use Rattle.std.proofs.Common.{◌≡◌, ℕ, zero, suc, ◌+◌, ◌∷◌, Bool, true, false, ◌||◌, if◌then◌else◌, List, [], nat_le}
+use Rattle.std.proofs.Common.{◌≡◌, ℕ, zero, suc, ◌+◌, ◌∷◌, ◌++◌, Bool, true, false, ◌||◌, if◌then◌else◌, List, [], nat_le}
 use Rattle.std.proofs.Common.{set, take, drop, Option, refl, sym, ◌∙◌, ap, arith}
 use Rattle.std.proofs.lemmas.Bool.{le-leb}
 use Rattle.std.proofs.lemmas.List.{set-set}
@@ -7,7 +7,8 @@ use Rattle.platform.specs.declared.exception.TheConstants.{EXCEPTIONS}
 use Rattle.platform.specs.declared.script.ScriptedEvent.{ScriptedEvent}
 use Rattle.platform.specs.declared.script.Signal.{Signal}
 use Rattle.platform.specs.Priorities.{Nvic, candidate, is_exception, with_pending}
-use Rattle.platform.specs.System.{System, after_tick, with_pended_at, with_pended_below, with_pended}
+use Rattle.platform.specs.System.{System, after_pokes, after_signal, after_tick, on_interrupts, poke_of, pokes_of}
+use Rattle.platform.specs.System.{time_passed, with_pended_at, with_pended_below, with_pended}
 use Rattle.platform.specs.Time.{Time, last_tick, counted, due_count, events_at, events_after, pends, tick_pends}
 use Rattle.platform.specs.Time.{time_after_tick}
 use Rattle.platform.specs.Time.{timer_pends, with_events, with_signal}
@@ -15,7 +16,7 @@ use Rattle.std.specs.List.{list_any}
 use Rattle.reference.specs.State.{State, ticked, with_system}
 use Rattle.reference.specs.Step.{phase, running, step, unless_stopped}
 use Rattle.platform.specs.declared.stop.Stop.{Stop}
-use Rattle.reference.specs.Places.{after_signal}
+use Rattle.devices.specs.declared.device.Poke.{Poke}
 use Rattle.step_laws.specs.SignalLaw.{SignalIsEvent, with_event_first}
 
 -- ---- exceptions that become pending, in any order
@@ -144,7 +145,7 @@ module _ (s : System) (what : Signal) where
       ∙ or_last_first (timer_pends s.time.systick x) (pends what x)
       (list_any (λ e. pends e.what x) (events_at tick s.time.script))
 
-  time_alike : time_after_tick scripted.time ≡ time_after_tick (after_signal s what).time
+  time_alike : time_after_tick scripted.time ≡ time_after_tick (on_interrupts s what).time
   unfolding time_after_tick
   time_alike =
       ap (λ (events : List ScriptedEvent). record {
@@ -169,32 +170,50 @@ module _ (s : System) (what : Signal) where
       same_below s.nvic (tick_pends scripted.time) (λ x. tick_pends s.time x || pends what x) pends_alike EXCEPTIONS
       ∙ both_below s.nvic (pends what) (tick_pends s.time) EXCEPTIONS
 
-  after_alike : (n : Nvic) → n ≡ with_pended (with_pended s.nvic (pends what)) (tick_pends s.time)
-      → record s { nvic = n; time = time_after_tick scripted.time } ≡ after_tick (after_signal s what)
-  unfolding after_tick tick_pends
-  after_alike n e =
+  passed_as : (n : Nvic) → n ≡ with_pended (with_pended s.nvic (pends what)) (tick_pends s.time)
+      → record s { nvic = n; time = time_after_tick scripted.time } ≡ time_passed (on_interrupts s what)
+  unfolding tick_pends
+  passed_as n e =
       ap (λ (m : Nvic). record s { nvic = m; time = time_after_tick scripted.time }) e
       ∙ ap (λ (t : Time). record s { nvic = with_pended (with_pended s.nvic (pends what)) (tick_pends s.time); time = t })
       time_alike
 
-  pub tick_alike : after_tick scripted ≡ after_tick (after_signal s what)
+  passed_alike : time_passed scripted ≡ time_passed (on_interrupts s what)
+  passed_alike = passed_as (with_pended s.nvic (tick_pends scripted.time)) nvic_alike
+
+  -- the event pokes nothing
+  pokes_alike : poke_of what ≡ [] → pokes_of (events_at tick (event ∷ s.time.script))
+      ≡ pokes_of (events_at tick s.time.script)
+  pokes_alike none =
+      ap pokes_of (applies_first tick event s.time.script refl)
+      ∙ ap (λ (ps : List Poke). ps ++ pokes_of (events_at tick s.time.script)) none
+
+  pub tick_alike : poke_of what ≡ [] → after_tick scripted ≡ after_tick (on_interrupts s what)
   unfolding after_tick
-  tick_alike = after_alike (with_pended s.nvic (tick_pends scripted.time)) nvic_alike
+  tick_alike none =
+      ap (λ (t : System). after_pokes t (pokes_of (events_at tick (event ∷ s.time.script)))) passed_alike
+      ∙ ap (after_pokes (time_passed (on_interrupts s what))) (pokes_alike none)
+
+  pub signal_as : poke_of what ≡ [] → on_interrupts s what ≡ after_signal s what
+  unfolding after_signal
+  signal_as none = ap (after_pokes (on_interrupts s what)) (sym none)
 
 abbrev with_signal_taken : State → Signal → State
-with_signal_taken s what = with_system s (after_signal s.bus.system what)
+with_signal_taken s what = with_system s (on_interrupts s.bus.system what)
 
-ticked_alike : (s : State) (what : Signal) → ticked (with_event_first s what) ≡ ticked (with_signal_taken s what)
-ticked_alike s what = ap (λ (system : System). with_system s system) (tick_alike s.bus.system what)
+ticked_alike : (s : State) (what : Signal) → poke_of what ≡ []
+    → ticked (with_event_first s what) ≡ ticked (with_signal_taken s what)
+ticked_alike s what none = ap (λ (system : System). with_system s system) (tick_alike s.bus.system what none)
 
-running_alike : (s : State) (what : Signal) → nat_le last_tick s.bus.system.time.ticks ≡ false
+running_alike : (s : State) (what : Signal) → poke_of what ≡ [] → nat_le last_tick s.bus.system.time.ticks ≡ false
     → running (with_event_first s what) ≡ running (with_signal_taken s what)
-running_alike s what early =
-    rw early (ap (λ (t : State). phase t s.entry (candidate t.bus.system.nvic)) (ticked_alike s what))
+running_alike s what none early =
+    rw early (ap (λ (t : State). phase t s.entry (candidate t.bus.system.nvic)) (ticked_alike s what none))
 
 pub signal_is_event : (s : State) (what : Signal) → SignalIsEvent s what
 unfolding step
-signal_is_event s what runs early =
+signal_is_event s what none runs early =
     ap (λ (stop : Option Stop). unless_stopped (with_event_first s what) stop) runs
-    ∙ running_alike s what early
+    ∙ running_alike s what none early
     ∙ sym (ap (λ (stop : Option Stop). unless_stopped (with_signal_taken s what) stop) runs)
+    ∙ ap (λ (t : System). step (with_system s t)) (signal_as s.bus.system what none)

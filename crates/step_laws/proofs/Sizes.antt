@@ -1,6 +1,7 @@
--- The blocks of memory keep their places and sizes, in a step and where something comes from outside.
-use Rattle.std.proofs.Common.{◌≡◌, ℕ, Bool, true, not, ◌&&◌, ◌||◌, is_some}
-use Rattle.std.proofs.Common.{Option, Some, None, refl}
+-- The blocks of memory keep their places and sizes, and the devices stay, in a step and where something comes from
+-- outside.
+use Rattle.std.proofs.Common.{◌≡◌, ℕ, Bool, true, false, not, ◌&&◌, ◌||◌, is_some}
+use Rattle.std.proofs.Common.{Option, Some, None, refl, sym, ◌∙◌}
 use Rattle.std.proofs.lemmas.Bool.{cond_both}
 use Rattle.instruction_set.specs.declared.system.SpecialRegister.{SpecialRegister}
 use Rattle.instruction_set.specs.Registers.{is_handler}
@@ -10,7 +11,7 @@ use Rattle.platform.specs.declared.access.Performed.TheVariants as performed
 use Rattle.platform.specs.declared.access.Rule.TheVariants.{PrivatePeripheralBus}
 use Rattle.platform.specs.declared.script.Signal.{Signal}
 use Rattle.platform.specs.Map.{is_in_ppb}
-use Rattle.platform.specs.Memory.{Agree, Memory, bytes_of}
+use Rattle.platform.specs.Memory.{Agree, Memory, bytes_of, is_in_memory}
 use Rattle.reference.specs.declared.place.Place.{Place}
 use Rattle.reference.specs.declared.place.Place.TheVariants.{Reg, Special, Word}
 use Rattle.reference.specs.Accesses.{carried_out}
@@ -21,7 +22,9 @@ use Rattle.reference.specs.Step.{step}
 use Rattle.space.proofs.Blocks.{agree_back, agree_self, agree_then, agree_where, overwritten_agrees}
 use Rattle.space.specs.Sizes.{HaveSameSizes}
 use Rattle.step_laws.proofs.Bytes.{step_covered}
-use Rattle.step_laws.specs.SizeLaw.{KeepsSizes}
+use Rattle.step_laws.proofs.Devices.{devices_refl, devices_sym, devices_trans, ppb_devices, signal_devices}
+use Rattle.step_laws.proofs.Devices.{step_devices}
+use Rattle.step_laws.specs.SizeLaw.{AreOfOneBoard, KeepsBoard}
 
 pub sizes_refl : (m : Memory) → HaveSameSizes m m
 sizes_refl m = agree_self _ m
@@ -36,15 +39,29 @@ sizes_trans m k l h i = agree_then _ m k l h i
 pub sizes_of : (test : ℕ → Bool) (m k : Memory) → Agree test m k → HaveSameSizes m k
 sizes_of test m k h = agree_where test _ (λ x e. absurd cc) m k h
 
-pub step_sizes : (s : State) → HaveSameSizes s.bus.memory (step s).state.bus.memory
-step_sizes s = sizes_of _ s.bus.memory (step s).state.bus.memory (step_covered s)
+-- ---- two buses of one board
+
+pub board_refl : (b : Bus) → AreOfOneBoard b b
+board_refl b = (sizes_refl b.memory, devices_refl b.system.devices)
+
+pub board_sym : (b c : Bus) → AreOfOneBoard b c → AreOfOneBoard c b
+board_sym b c h = (sizes_sym b.memory c.memory h.0, devices_sym b.system.devices c.system.devices h.1)
+
+pub board_trans : (b c d : Bus) → AreOfOneBoard b c → AreOfOneBoard c d → AreOfOneBoard b d
+board_trans b c d h i = (
+  sizes_trans b.memory c.memory d.memory h.0 i.0,
+  devices_trans b.system.devices c.system.devices d.system.devices h.1 i.1,
+)
+
+pub step_board : (s : State) → AreOfOneBoard s.bus (step s).state.bus
+step_board s = (sizes_of _ s.bus.memory (step s).state.bus.memory (step_covered s), step_devices s)
 
 -- ---- values that are put
 
-special_sizes : (s : State) (special : Option SpecialRegister) (value : ℕ)
-    → KeepsSizes s (special_taken s special value)
-special_sizes s None value = tt
-special_sizes s (Some special) value = sizes_refl s.bus.memory
+special_board : (s : State) (special : Option SpecialRegister) (value : ℕ)
+    → KeepsBoard s (special_taken s special value)
+special_board s None value = tt
+special_board s (Some special) value = board_refl s.bus
 
 -- the bus leaves memory in a store to the Private Peripheral Bus
 ppb_memory : (exception : ℕ) (b : Bus) (address value : ℕ) → is_in_ppb address ≡ true
@@ -52,35 +69,48 @@ ppb_memory : (exception : ℕ) (b : Bus) (address value : ℕ) → is_in_ppb add
 unfolding carried_out
 ppb_memory exception b address value e = rw e refl
 
-register_sizes : (s : State) (after : Bus) (p : Performed) → after.memory ≡ s.bus.memory
-    → KeepsSizes s (register_taken s after p)
-register_sizes s after (performed.Done access) e = rw e (sizes_refl s.bus.memory)
-register_sizes s after (performed.Denied rule cause) e = tt
-register_sizes s after (performed.Stop why) e = tt
+ppb_board : (exception : ℕ) (b : Bus) (address value : ℕ) → is_in_ppb address ≡ true
+    → AreOfOneBoard b (carried_out exception b PrivatePeripheralBus (store_of address value)).after
+ppb_board exception b address value e = (
+  rw (ppb_memory exception b address value e) (sizes_refl b.memory),
+  ppb_devices exception b PrivatePeripheralBus (store_of address value),
+)
 
-word_sizes : (s : State) (address value : ℕ) → KeepsSizes s (taken s (Word address value))
-word_sizes s address value =
-    cond_both (is_in_ppb address) _ _ (KeepsSizes s)
-    (λ e. register_sizes s _ _ (ppb_memory s.registers.exception s.bus address value e))
-    (λ e. sizes_of _ s.bus.memory _ (overwritten_agrees s.bus.memory address (bytes_of 4 value)))
+register_board : (s : State) (after : Bus) (p : Performed) → AreOfOneBoard s.bus after
+    → KeepsBoard s (register_taken s after p)
+register_board s after (performed.Done access) h = h
+register_board s after (performed.Denied rule cause) h = tt
+register_board s after (performed.Stop why) h = tt
 
-taken_sizes : (s : State) (p : Place) → KeepsSizes s (taken s p)
-taken_sizes s (Reg number value) = sizes_refl s.bus.memory
-taken_sizes s (Special number value) = special_sizes s (special_of number) value
-taken_sizes s (Word address value) = word_sizes s address value
+word_board : (s : State) (address value : ℕ) → KeepsBoard s (taken s (Word address value))
+word_board s address value =
+    cond_both (is_in_ppb address) _ _ (KeepsBoard s)
+    (λ e. register_board s _ _ (ppb_board s.registers.exception s.bus address value e))
+    (λ e. cond_both (not (is_in_memory s.bus.memory address 4)) _ _ (KeepsBoard s)
+    (λ f. (sizes_refl s.bus.memory, signal_devices s.bus.system _))
+    (λ f. (
+      sizes_of _ s.bus.memory _ (overwritten_agrees s.bus.memory address (bytes_of 4 value)),
+      devices_refl s.bus.system.devices,
+    )))
 
-pub alter_sizes : (s : State) (p : Place) → KeepsSizes s (altered s p)
+taken_board : (s : State) (p : Place) → KeepsBoard s (taken s p)
+taken_board s (Reg number value) = board_refl s.bus
+taken_board s (Special number value) = special_board s (special_of number) value
+taken_board s (Word address value) = word_board s address value
+
+pub alter_board : (s : State) (p : Place) → KeepsBoard s (altered s p)
 unfolding altered
-alter_sizes s p =
-    cond_both (not (is_word_aligned p)) _ _ (KeepsSizes s) (λ e. tt)
-    (λ e. cond_both (not (is_there s.bus.memory p)) _ _ (KeepsSizes s) (λ f. tt)
-    (λ f. cond_both (is_some s.stop || (not (is_plain p) && (is_some s.entry || is_handler s.registers))) _ _
-    (KeepsSizes s) (λ g. tt) (λ g. taken_sizes s p)))
+alter_board s p =
+    cond_both (not (is_word_aligned p)) _ _ (KeepsBoard s) (λ e. tt)
+    (λ e. cond_both (not (is_there s.bus p)) _ _ (KeepsBoard s) (λ f. tt)
+    (λ f. cond_both (is_some s.stop || (not (is_plain s.bus.memory p) && (is_some s.entry || is_handler s.registers))) _ _
+    (KeepsBoard s) (λ g. tt) (λ g. taken_board s p)))
 
 -- ---- signals
 
-pub signal_sizes : (s : State) (what : Signal) → KeepsSizes s (signalled s what)
+pub signal_board : (s : State) (what : Signal) → KeepsBoard s (signalled s what)
 unfolding signalled
-signal_sizes s what =
-    cond_both (not (is_wired s.bus.system.nvic.interrupts what)) _ _ (KeepsSizes s) (λ e. tt)
-    (λ e. cond_both (is_some s.stop) _ _ (KeepsSizes s) (λ f. tt) (λ f. sizes_refl s.bus.memory))
+signal_board s what =
+    cond_both (not (is_wired s.bus.system what)) _ _ (KeepsBoard s) (λ e. tt)
+    (λ e. cond_both (is_some s.stop) _ _ (KeepsBoard s) (λ f. tt)
+    (λ f. (sizes_refl s.bus.memory, signal_devices s.bus.system what)))

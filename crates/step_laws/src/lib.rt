@@ -2,7 +2,7 @@
 //! nothing.
 #![tactic(auto)]
 
-ghost use Rattle.std.specs.Prelude.{List};
+ghost use Rattle.std.specs.Prelude.{ℕ, List};
 ghost use Rattle.instruction_set.specs.Registers.{Registers};
 ghost use Rattle.platform.specs.declared.event.Event.{Event};
 ghost use Rattle.platform.specs.declared.script.Signal.{Signal};
@@ -11,11 +11,11 @@ ghost use Rattle.reference.specs.Places.{altered, signalled};
 ghost use Rattle.reference.specs.State.{State};
 ghost use Rattle.reference.specs.Step.{step};
 ghost use Rattle.step_laws.specs.AccessLaw.{OneRefusal, OnlyCovered};
-ghost use Rattle.space.specs.Sizes.{HaveSameSizes};
+ghost use Rattle.step_laws.specs.DeviceLaw.{WordStays};
 ghost use Rattle.step_laws.specs.FrameLaw.{FrameGivesBack, ReturnGivesBack};
 ghost use Rattle.step_laws.specs.RegionLaw.{RegionsStay};
 ghost use Rattle.step_laws.specs.SignalLaw.{SignalIsEvent};
-ghost use Rattle.step_laws.specs.SizeLaw.{KeepsSizes};
+ghost use Rattle.step_laws.specs.SizeLaw.{AreOfOneBoard, KeepsBoard};
 
 /// At most one access of a step is refused. It is the step's last access, and the next event is the
 /// line of its fault, which ends the step. The blocks of memory keep their addresses and sizes, and their bytes
@@ -42,16 +42,24 @@ pub fn return_gives_registers_back()
     ensures { (s u : State) (before : List Event) → ReturnGivesBack s u before }
 {}
 
-/// A signal between two steps does what an event of the script, the first one of the next tick, does.
+/// A signal of an interrupt or of NMI between two steps does what an event of the script, the first one of the next
+/// tick, does.
 pub fn signals_are_events()
     ensures { (s : State) (what : Signal) → SignalIsEvent s what }
 {}
 
-/// The blocks of memory keep their places and sizes, in a step and where a value or a signal comes from outside.
-pub fn sizes_stay()
-    ensures step { (s : State) → HaveSameSizes s.bus.memory (step s).state.bus.memory }
-    ensures alter { (s : State) (p : Place) → KeepsSizes s (altered s p) }
-    ensures signal { (s : State) (what : Signal) → KeepsSizes s (signalled s what) }
+/// The blocks of memory keep their places and sizes, and the devices stay, in a step and where a value or a signal comes
+/// from outside.
+pub fn board_stays()
+    ensures step { (s : State) → AreOfOneBoard s.bus (step s).state.bus }
+    ensures alter { (s : State) (p : Place) → KeepsBoard s (altered s p) }
+    ensures signal { (s : State) (what : Signal) → KeepsBoard s (signalled s what) }
+{}
+
+/// A step leaves what is stored in a word of a device, where no poke of its tick names the word, and no load or store of
+/// the step that was carried out stores to the word or is in a device that pokes it.
+pub fn words_of_devices_change_by_accesses_and_pokes()
+    ensures { (s : State) (a : ℕ) → WordStays s a }
 {}
 
 /// A step leaves the registers of the MPU as they are, unless one of its events is a write to the Private Peripheral

@@ -5,10 +5,12 @@
 --   look the same, and a granted write writes bytes that may be stored (`IsOpen`).
 -- - `space_alike`, `carried_alike`, `perform_alike` and `all_alike` go up by one layer each: memory, the bus,
 --   one access with its decision, a list. Each says that the second result is the first with another memory.
-use Rattle.std.proofs.Common.{◌≡◌, ◌⊎◌, inl, inr, ℕ, ◌+◌, Bool, true, false, not, List, [], ◌∷◌}
+use Rattle.std.proofs.Common.{◌≡◌, ◌⊎◌, inl, inr, ℕ, ◌+◌, Bool, true, false, not, ◌&&◌, ◌||◌, List, [], ◌∷◌}
 use Rattle.std.proofs.Common.{Result, Ok, Err, refl, sym, ap, subst, ◌∙◌}
 use Rattle.std.proofs.lemmas.Bool.{or_right}
+use Rattle.devices.specs.Laws.{have}
 use Rattle.instruction_set.specs.Sizes.{bytes_in}
+use Rattle.platform.specs.declared.access.Access.{Access}
 use Rattle.platform.specs.declared.access.Decision.{Decision}
 use Rattle.platform.specs.declared.access.Kind.{Kind}
 use Rattle.platform.specs.declared.access.Kind.TheVariants.{Fetch, Load, Store, Probe}
@@ -18,8 +20,8 @@ use Rattle.platform.specs.declared.access.Rule.{Rule}
 use Rattle.platform.specs.declared.event.Event.{Event}
 use Rattle.reference.specs.declared.failure.Failure.{Failure}
 use Rattle.reference.specs.Accesses.{ListResult, carried_out, decision, access_lines, perform, value_of, followed}
-use Rattle.reference.specs.Accesses.{perform_all}
-use Rattle.platform.specs.Kinds.{is_probe, is_write}
+use Rattle.reference.specs.Accesses.{is_to_device, perform_all}
+use Rattle.platform.specs.Kinds.{is_load, is_probe, is_store, is_write}
 use Rattle.platform.specs.Map.{is_in_ppb, is_in_window}
 use Rattle.platform.specs.Memory.{Agree, Memory, is_writable_at, bytes_of}
 use Rattle.platform.specs.Outcomes.{Outcome, within}
@@ -30,8 +32,9 @@ use Rattle.task_laws.specs.Sight.{may, sees}
 use Rattle.task_laws.specs.TaskLaw.{IsOfTask, AreOfTask}
 use Rattle.task_laws.proofs.Blocks.{decided_alike, one_block}
 use Rattle.task_laws.proofs.Memories.{rest_kept}
-use Rattle.task_laws.proofs.Priorities.{Decides, system_decides}
-use Rattle.space.proofs.Blocks.{AllIn, agree_then, both, both_by, number_alike, writable_alike, written_alike}
+use Rattle.task_laws.proofs.Priorities.{Decides, device_decides, system_decides}
+use Rattle.space.proofs.Blocks.{AllIn, agree_then, both, both_by, in_memory_alike, number_alike, writable_alike}
+use Rattle.space.proofs.Blocks.{written_alike}
 use Rattle.space.proofs.Bytes.{length-bytes_of}
 
 -- ---- what a granted access may read and write
@@ -163,6 +166,13 @@ module _ (m : Mpu) (z : Bool) (old : Memory) where
 
   -- ---- the bus, and one access
 
+  -- an access is to a device in both, or in neither: the same words are in memory
+  device_alike : (b : Bus) (k : Memory) (a : Access) → Agree (sees m z) b.memory k →
+      is_to_device (with_memory_of b k) a ≡ is_to_device b a
+  device_alike b k a looks =
+      ap (λ (there : Bool). (is_load a.kind || is_store a.kind) && (not there && have b.system.devices a.address))
+      (in_memory_alike (sees m z) b.memory k a.address (bytes_in a.size) looks)
+
   carried_alike : (x : ℕ) (b : Bus) (k : Memory) (rule : Rule) (q : Request) → IsOfTask q → Alike b k →
       IsOpen m z q → SameOutcome (carried_out x b rule q) (carried_out x (with_memory_of b k) rule q)
   unfolding carried_out
@@ -177,7 +187,17 @@ module _ (m : Mpu) (z : Bool) (old : Memory) where
           decides = system_decides m z x b.system rule q of.unprivileged alike.decides;
         };
       })
-      (λ f. space_alike b k b.system.time.ticks rule q alike opened e))
+      (λ f. both_by SameOutcome (is_to_device b q.access) (is_to_device (with_memory_of b k) q.access) _ _ _ _
+      (device_alike b k q.access alike.looks)
+      (λ g. record {
+        rest = refl;
+        alike = record {
+          looks = alike.looks;
+          kept = alike.kept;
+          decides = device_decides m z b.system rule q alike.decides;
+        };
+      })
+      (λ g. space_alike b k b.system.time.ticks rule q alike opened e)))
 
   -- an access of unprivileged code
   pub perform_alike : (x : ℕ) (b : Bus) (k : Memory) (q : Request) → IsSound m → IsOfTask q → Alike b k →

@@ -1,4 +1,5 @@
--- Neither a tick nor an access of unprivileged code changes what the decision depends on: they make exceptions pending.
+-- Neither a tick nor an access of unprivileged code, nor one to a device, changes what the decision depends on: they make
+-- exceptions pending.
 use Rattle.std.proofs.Common.{◌≡◌, ℕ, ◌+◌, ◌*◌, ◌/◌, ◌%◌, ◌^◌, Bool, true, false, not, ◌||◌, ◌==◌, ◌∙◌, refl}
 use Rattle.std.proofs.Common.{sym, ap, eqb-true}
 use Rattle.std.proofs.lemmas.Bool.{cond_both, and_parts}
@@ -22,7 +23,8 @@ use Rattle.platform.specs.Status.{status_at, usersetmpend}
 use Rattle.platform.specs.SysTickRegisters.{systick_at}
 use Rattle.platform.specs.System.{System, register_at, has_access, has_width, after_read}
 use Rattle.platform.specs.System.{register_written, register_access, system_access, with_pended, after_tick}
-use Rattle.platform.specs.Time.{tick_pends}
+use Rattle.platform.specs.System.{device_access}
+use Rattle.step_laws.proofs.Settling.{device_mpu, device_nvic, tick_mpu, tick_nvic}
 
 -- the decision on an access depends on the registers m of the MPU, and on z: whether the execution priority is below 0
 pub record Decides (m : Mpu) (z : Bool) (s : System) : Type 0 where
@@ -57,8 +59,18 @@ only_stir s q unprivileged access =
 module _ (m : Mpu) (z : Bool) where
   -- a tick
   pub tick_decides : (s : System) → Decides m z s → Decides m z (after_tick s)
-  unfolding after_tick
-  tick_decides s d = record { mpu = d.mpu; below_zero = pended_alike s.nvic (tick_pends s.time) ∙ d.below_zero }
+  tick_decides s d = record {
+    mpu = tick_mpu s ∙ d.mpu;
+    below_zero = tick_nvic (λ n. is_below_zero n ≡ z) (λ n test h. pended_alike n test ∙ h) s d.below_zero;
+  }
+
+  -- an access to a device
+  pub device_decides : (s : System) (rule : Rule) (q : Request) → Decides m z s →
+      Decides m z (device_access s rule q).after
+  device_decides s rule q d = record {
+    mpu = device_mpu s rule q ∙ d.mpu;
+    below_zero = device_nvic (λ n. is_below_zero n ≡ z) (λ n test h. pended_alike n test ∙ h) s rule q d.below_zero;
+  }
 
   -- m and z are what the decision depends on after an access
   abbrev LeavesDecided : Outcome System → Type 0

@@ -60,8 +60,9 @@ bytes_asked kind p address [] e k = tt
 bytes_asked kind p address (byte ∷ bytes) e k =
     (record { unprivileged = e; kind = k; aligned = omega arith }, bytes_asked kind p (word_sum address 1) bytes e k)
 
-unless_device : (requests : List Request) → AreOfTask requests → AskOfTask (unaligned requests)
-unless_device requests are = cond_both (meets_device requests) _ _ AskOfTask (λ h. tt) (λ h. are)
+unless_device : (devices : Bool) (requests : List Request) → AreOfTask requests
+    → AskOfTask (unaligned devices requests)
+unless_device devices requests are = cond_both (meets_device devices requests) _ _ AskOfTask (λ h. tt) (λ h. are)
 
 transfer_asked : (traps : Traps) (kind : Kind) (p : Bool) (size : Size) (address value : ℕ) → p ≡ false →
     IsTaskKind kind → AskOfTask (transfer traps kind p size address value)
@@ -70,7 +71,7 @@ transfer_asked traps kind p size address value e k =
     cond_both (is_aligned size address) _ _ AskOfTask
     (λ f. (record { unprivileged = e; kind = k; aligned = eqb-true (address % bytes_in size) 0 f }, tt))
     (λ f. cond_both traps.unaligned _ _ AskOfTask (λ g. tt)
-    (λ g. unless_device _ (bytes_asked kind p address (bytes_of (bytes_in size) value) e k)))
+    (λ g. unless_device traps.devices _ (bytes_asked kind p address (bytes_of (bytes_in size) value) e k)))
 
 load_asked : (traps : Traps) (form : LoadForm) (t : ℕ) (p : Bool) (address : ℕ) → p ≡ false →
     AskOfTask (load traps form t p address)
@@ -79,12 +80,12 @@ load_asked traps form t p address e =
     cond_both (t == 15 && not (is_aligned Word address)) _ _ AskOfTask (λ f. tt)
     (λ f. transfer_asked traps Load p form.size address 0 e loads)
 
-access_asked : (kind : Kind) (p : Bool) (size : Size) (address value : ℕ) → p ≡ false → IsTaskKind kind →
-    AskOfTask (exclusive_access kind p size address value)
+access_asked : (devices : Bool) (kind : Kind) (p : Bool) (size : Size) (address value : ℕ) → p ≡ false →
+    IsTaskKind kind → AskOfTask (exclusive_access devices kind p size address value)
 unfolding exclusive_access
-access_asked kind p size address value e k =
+access_asked devices kind p size address value e k =
     cond_both (not (is_aligned size address)) _ _ AskOfTask (λ f. tt)
-    (λ f. cond_both (has_side_effects address) _ _ AskOfTask (λ g. tt)
+    (λ f. cond_both (has_side_effects devices address) _ _ AskOfTask (λ g. tt)
     (λ g. (
       record {
         unprivileged = e;
@@ -135,14 +136,14 @@ module _ (r : Registers) (t : is_privileged r ≡ false) where
 
   -- ---- exclusives and branches
 
-  exclusive_asked : (i : Exclusive) → AskOfTask (exclusive_requests i r)
+  exclusive_asked : (devices : Bool) (i : Exclusive) → AskOfTask (exclusive_requests devices i r)
   unfolding exclusive_requests
-  exclusive_asked (exclusive.Load o) = access_asked Load _ o.size _ 0 t loads
-  exclusive_asked (exclusive.Store o) =
+  exclusive_asked devices (exclusive.Load o) = access_asked devices Load _ o.size _ 0 t loads
+  exclusive_asked devices (exclusive.Store o) =
       cond_both (passes o r) _ _ AskOfTask
-      (λ e. access_asked Store _ o.size _ _ t stores)
-      (λ e. access_asked Probe _ o.size _ 0 t probes)
-  exclusive_asked exclusive.Clear = tt
+      (λ e. access_asked devices Store _ o.size _ _ t stores)
+      (λ e. access_asked devices Probe _ o.size _ 0 t probes)
+  exclusive_asked devices exclusive.Clear = tt
 
   branch_asked : (traps : Traps) (i : Branch) → AskOfTask (branch_requests traps i r)
   unfolding branch_requests
@@ -181,7 +182,7 @@ module _ (r : Registers) (t : is_privileged r ≡ false) where
       cond_both (traps.divide_by_zero && divides_by_zero i r) _ _ AskOfTask (λ e. tt) (λ e. tt)
   requests_asked traps (family.LoadStore i) = load_store_asked traps i
   requests_asked traps (family.LoadStoreMultiple i) = multiple_asked i
-  requests_asked traps (family.Exclusive i) = exclusive_asked i
+  requests_asked traps (family.Exclusive i) = exclusive_asked traps.devices i
   requests_asked traps (family.Branch i) = branch_asked traps i
   requests_asked traps (family.System i) = system_asked i
 

@@ -55,6 +55,7 @@ fn step(regs: &mut Regs, memory: &mut Memory) -> Result<Ending, Failure> {
     let traps = Traps {
         unaligned: false,
         divide_by_zero: false,
+        devices: false,
     };
     wants(&coded, regs, traps, &mut requests)?;
     let mut values: ArrayVec<u32, 16> = ArrayVec::new();

@@ -73,6 +73,7 @@ impl Filled {
         let board = Board {
             layout: LARGEST_BOARD,
             events: Vec::new(rt.alloc()),
+            devices: Vec::new(rt.alloc()),
         };
         let mut machine = Fast::new(rt.alloc(), &load(&IMAGE)?, &board)?;
         let survey = Survey::new(rt.alloc(), &LARGEST_BOARD)?;

@@ -62,6 +62,7 @@ fn write_to(rt: &HostRuntime, room: &mut Room, symbols: &Symbols<'_>) -> Result<
     let board = Board {
         layout: SMALL_BOARD,
         events: Vec::new(alloc),
+        devices: Vec::new(alloc),
     };
     let image = load(&IMAGE)?;
     let mut machine = Fast::new(alloc, &image, &board)?;

@@ -653,6 +653,7 @@ fn word_of(signal: Signal) -> &'static str {
         Signal::Fall(_) => "fall",
         Signal::Pulse(_) => "pulse",
         Signal::Nmi => "nmi",
+        Signal::Poke(_) => "poke",
     }
 }
 
@@ -660,7 +661,7 @@ fn word_of(signal: Signal) -> &'static str {
 fn line_of(signal: Signal) -> Option<u8> {
     match signal {
         Signal::Rise(line) | Signal::Fall(line) | Signal::Pulse(line) => Some(line.number()),
-        Signal::Nmi => None,
+        Signal::Nmi | Signal::Poke(_) => None,
     }
 }
 

@@ -5,6 +5,7 @@ use super::intervals::{agree_at, edges};
 use super::memory::blank;
 use super::settings::write_pairs;
 use access::{Bus, CodeMemory, Counting, Performed, PlainLevels, Script, System};
+use devices::Devices;
 use decode::Reread;
 use instruction_set::size::Size;
 use mpu::{Decider, MpuRegs, Search};
@@ -42,7 +43,14 @@ fn agree<D: Decider>(decider: &D, registers: &MpuRegs) -> bool {
 /// Returns whether a bus takes stores of these values to these addresses, and its decider follows each.
 fn follows<D: Decider>(alloc: Global, stores: &str) -> Option<bool> {
     let memory = CodeMemory::new(alloc, blank(alloc)?, 0x800).ok()?;
-    let system = System::reset(0, 8, 4, 8, Script::new(alloc, &[]).ok()?);
+    let system = System::reset(
+        0,
+        8,
+        4,
+        8,
+        Script::new(alloc, &[]).ok()?,
+        Devices::new(alloc, &[]).ok()?,
+    );
     let mut bus: Bus<D, Reread, PlainLevels, Counting> = Bus::new(memory, system);
     let mut registers = MpuRegs::new(8);
     let mut agrees = true;

@@ -1,6 +1,7 @@
 //! MRS, MSR and CPS (ARM DDI 0403, the operation of each), on a board with 4 priority bits.
 
 use clock::{Counting, Script};
+use devices::Devices;
 use instruction_set::system::{ChangeProcessorState, SpecialRegister};
 use mpu::Search;
 use nvic::PlainLevels;
@@ -151,7 +152,14 @@ cpsie i | | ignored";
 
 #[test]
 fn special_registers_in_thread_mode(rt: HostRuntime) -> Result<(), Fail> {
-    let system = System::reset(0, 8, 4, 8, Script::new(rt.alloc(), &[])?);
+    let system = System::reset(
+        0,
+        8,
+        4,
+        8,
+        Script::new(rt.alloc(), &[])?,
+        Devices::new(rt.alloc(), &[])?,
+    );
     let regs = Regs::reset(0x2000_1000, 0x0000_0101);
     let mut specials = Specials { regs, system };
     check(THREAD, &mut specials)?;
@@ -182,7 +190,14 @@ mrs control | 00000000 | nPRIV is written";
 
 #[test]
 fn special_registers_in_a_handler(rt: HostRuntime) -> Result<(), Fail> {
-    let system = System::reset(0, 8, 4, 8, Script::new(rt.alloc(), &[])?);
+    let system = System::reset(
+        0,
+        8,
+        4,
+        8,
+        Script::new(rt.alloc(), &[])?,
+        Devices::new(rt.alloc(), &[])?,
+    );
     let mut regs = Regs::reset(0x2000_1000, 0x0000_0101);
     regs.enter_handler(16, 0xFFFF_FFF9, 0x0000_0201);
     check(HANDLER, &mut Specials { regs, system })

@@ -3,6 +3,7 @@
 
 use super::words::request;
 use clock::{Counting, Script};
+use devices::Devices;
 use instruction_set::size::Size;
 use mpu::Search;
 use nvic::PlainLevels;
@@ -17,8 +18,8 @@ use test_tables::{Rows, byte_at, check, halfword_at, number, number_at, part, wo
 type PlainSystem = System<Search, PlainLevels, Counting>;
 
 /// The system after a reset, with a script.
-fn reset(script: Script) -> PlainSystem {
-    System::reset(0x0000_0400, 8, 4, 8, script)
+fn reset(script: Script, devices: Devices) -> PlainSystem {
+    System::reset(0x0000_0400, 8, 4, 8, script, devices)
 }
 
 /// An access of a size by privileged or unprivileged code.
@@ -184,7 +185,7 @@ E0042000 00000000 | any | 0 00000000 | a word far from all registers";
 
 #[test]
 fn each_register(rt: HostRuntime) -> Result<(), Fail> {
-    let system = reset(Script::new(rt.alloc(), &[])?);
+    let system = reset(Script::new(rt.alloc(), &[])?, Devices::new(rt.alloc(), &[])?);
     check(REGISTERS, &mut Registers { system })
 }
 
@@ -200,7 +201,7 @@ E000ED9C 00000007 | word | 0 FFFFFFE7 FFFFFFF7 | MPU_RBAR of the last region";
 
 #[test]
 fn each_register_without_stops(rt: HostRuntime) -> Result<(), Fail> {
-    let system = reset(Script::new(rt.alloc(), &[])?);
+    let system = reset(Script::new(rt.alloc(), &[])?, Devices::new(rt.alloc(), &[])?);
     check(WITHOUT_STOPS, &mut Registers { system })
 }
 
@@ -306,7 +307,7 @@ L byte E000ED0C 00000000 u | bus | privilege is asked first";
 
 #[test]
 fn exceptions_are_controlled(rt: HostRuntime) -> Result<(), Fail> {
-    let system = reset(Script::new(rt.alloc(), &[])?);
+    let system = reset(Script::new(rt.alloc(), &[])?, Devices::new(rt.alloc(), &[])?);
     check(EXCEPTIONS, &mut Steps { system })
 }
 
@@ -361,7 +362,7 @@ L word E000ED08 00000000 p | 00000180 | keeps bits 31:7";
 
 #[test]
 fn handlers_and_faults(rt: HostRuntime) -> Result<(), Fail> {
-    let system = reset(Script::new(rt.alloc(), &[])?);
+    let system = reset(Script::new(rt.alloc(), &[])?, Devices::new(rt.alloc(), &[])?);
     check(HANDLERS, &mut Steps { system })
 }
 
@@ -412,7 +413,10 @@ fn ticks_pend_what_they_bring(rt: HostRuntime) -> Result<(), Fail> {
     script.push(event(4, Signal::Rise(second)))?;
     script.push(event(5, Signal::Fall(second)))?;
     script.push(event(5, Signal::Nmi))?;
-    let system = reset(Script::new(rt.alloc(), script.as_slice())?);
+    let system = reset(
+        Script::new(rt.alloc(), script.as_slice())?,
+        Devices::new(rt.alloc(), &[])?,
+    );
     check(TICKS, &mut Steps { system })
 }
 
@@ -426,7 +430,7 @@ L word E000ED9C 00000000 p | 20000007 | and has its base";
 
 #[test]
 fn a_region_that_is_not_there(rt: HostRuntime) -> Result<(), Fail> {
-    let system = reset(Script::new(rt.alloc(), &[])?);
+    let system = reset(Script::new(rt.alloc(), &[])?, Devices::new(rt.alloc(), &[])?);
     check(REGIONS, &mut Steps { system })
 }
 
@@ -470,7 +474,14 @@ E000EDA8 00000000 | word | 0 00000013 00000013 | MPU_RASR_A1 of region 8";
 
 #[test]
 fn each_register_of_the_full_sizes(rt: HostRuntime) -> Result<(), Fail> {
-    let system = System::reset(0, 240, 8, 16, Script::new(rt.alloc(), &[])?);
+    let system = System::reset(
+        0,
+        240,
+        8,
+        16,
+        Script::new(rt.alloc(), &[])?,
+        Devices::new(rt.alloc(), &[])?,
+    );
     check(FULL_SIZES, &mut Registers { system })
 }
 
@@ -489,6 +500,7 @@ impl Rows for Types {
             4,
             8,
             Script::new(self.alloc, &[]).ok()?,
+            Devices::new(self.alloc, &[]).ok()?,
         );
         Some(loaded(&mut system, 0xE000_E004)? == number_at(part(row, 1), 0)?)
     }
@@ -514,7 +526,7 @@ fn ictr_counts_the_words_of_lines(rt: HostRuntime) -> Result<(), Fail> {
 #[test]
 fn sixteen_regions_and_240_lines(rt: HostRuntime) -> Result<(), Fail> {
     let script = Script::new(rt.alloc(), &[])?;
-    let mut system: PlainSystem = System::reset(0, 240, 8, 16, script);
+    let mut system: PlainSystem = System::reset(0, 240, 8, 16, script, Devices::new(rt.alloc(), &[])?);
     assert!(rt; loaded(&mut system, 0xE000_E004) == Some(7));
     assert!(rt; loaded(&mut system, 0xE000_ED90) == Some(0x1000));
     let last = access_of(Kind::Store, Size::Word, 0xE000_E11C, 0xFFFF_FFFF, true);

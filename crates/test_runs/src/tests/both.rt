@@ -76,6 +76,7 @@ fn board_of(alloc: Global, numbers: &mut Numbers) -> Result<Board, AllocError> {
     Ok(Board {
         layout: SMALL_BOARD,
         events,
+        devices: Vec::new(alloc),
     })
 }
 

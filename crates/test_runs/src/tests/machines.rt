@@ -130,6 +130,7 @@ pub(super) fn small_board(alloc: Global, text: &str) -> Result<Board, AllocError
     Ok(Board {
         layout: layout(text),
         events,
+        devices: Vec::new(alloc),
     })
 }
 

@@ -46,6 +46,7 @@ fn high_machine(alloc: Global) -> Option<Slow> {
     let board = Board {
         layout: HIGH_FLASH,
         events: Vec::new(alloc),
+        devices: Vec::new(alloc),
     };
     Slow::new(alloc, &image, &board).ok()
 }

@@ -30,6 +30,7 @@ fn a_run_is_counted(rt: HostRuntime) -> Result<(), Fail> {
     let board = Board {
         layout: SMALL_BOARD,
         events: Vec::new(rt.alloc()),
+        devices: Vec::new(rt.alloc()),
     };
     let image = load(&IMAGE)?;
     let mut machine = Fast::new(rt.alloc(), &image, &board)?;

@@ -21,6 +21,6 @@ returns-in-Ok-clause-kept g c =
 
 pub returns-in-Ok-clause-room : goal.returns-in-Ok-clause-room
 returns-in-Ok-clause-room g c =
-    let room : HaveRoom c.self.inside.slots c.args.machine.now.state.bus.memory = rw (← c.self.view_is) at c.requires in
+    let room : HaveRoom c.self.inside.slots c.args.machine.now.state.bus = rw (← c.self.view_is) at c.requires in
     room_after c.self.inside.settings c.args.machine.now.state _ c.self.inside.slots _ c.read_line-asked.result room
     (ap (λ (h : Held). h.slots) c.answer.ensures.kept) (ap (λ (m : Whole). m.state) c.in-Ok.ensures.tells.stands)
