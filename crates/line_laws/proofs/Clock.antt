@@ -1,15 +1,13 @@
 -- Time passes: the level of a line stays, since the words that it depends on don't count.
-use Rattle.std.proofs.Common.{◌≡◌, ℕ, Bool, true, false, not, ◌&&◌, ◌++◌, if◌then◌else◌, List, [], ◌∷◌, Option, Some}
+use Rattle.std.proofs.Common.{◌≡◌, ℕ, Bool, true, false, if◌then◌else◌, List, [], ◌∷◌, Option, Some}
 use Rattle.std.proofs.Common.{None, refl}
-use Rattle.std.specs.Prelude.{bit_and, slice_index, unwrap_or}
+use Rattle.std.specs.Prelude.{slice_index, unwrap_or}
 use Rattle.std.proofs.lemmas.Bool.{and_parts, not-true}
 use Rattle.devices.specs.declared.device.Device.{Device}
 use Rattle.devices.specs.declared.device.Line.{Line}
-use Rattle.devices.specs.declared.level.Level.{Level}
 use Rattle.devices.specs.Devices.{DeviceWords, Word, content_at, content_in, value_at, value_in, word_at}
-use Rattle.devices.specs.Lines.{is_high, level_of, level_on, levels, levels_by}
+use Rattle.devices.specs.Lines.{level_of, level_on, levels, levels_by}
 use Rattle.devices.specs.Table.{device_at, has, place}
-use Rattle.devices.specs.Words.{content_of, value_of}
 use Rattle.platform.specs.SystemInvariant.{table_of}
 use Rattle.wiring.specs.Wiring.{HasSteadyLine, HaveSteadyLines, followed_by, has_steady_value, is_steady}
 

@@ -1,10 +1,10 @@
 -- A start settles the lines; a value that is placed and a signal keep them so.
-use Rattle.std.proofs.Common.{◌≡◌, ℕ, Bool, true, false, not, ◌&&◌, ◌||◌, is_some, List, [], ◌∷◌, Option, Some, None}
-use Rattle.std.proofs.Common.{Result, Ok, Err, ap2, nat_lt, refl, sym, ◌∙◌}
+use Rattle.std.proofs.Common.{◌≡◌, ℕ, true, false, not, ◌&&◌, ◌||◌, is_some, List, [], ◌∷◌, Option, Some, None}
+use Rattle.std.proofs.Common.{nat_lt, refl, ◌∙◌}
 use Rattle.std.proofs.lemmas.Bool.{and_parts, cond_both, not-false, not-true}
 use Rattle.std.proofs.lemmas.List.{length-replicate}
 use Rattle.devices.specs.Devices.{DeviceWords, value_at}
-use Rattle.devices.specs.Lines.{drives, is_line_of}
+use Rattle.devices.specs.Lines.{drives}
 use Rattle.instruction_set.specs.declared.system.SpecialRegister.{SpecialRegister}
 use Rattle.instruction_set.specs.Registers.{is_handler}
 use Rattle.instruction_set.specs.RowOperands.{special_of}
@@ -17,7 +17,6 @@ use Rattle.nvic.proofs.Tables.{table_fresh}
 use Rattle.platform.specs.declared.access.Performed.{Performed}
 use Rattle.platform.specs.declared.access.Performed.TheVariants as performed
 use Rattle.platform.specs.declared.access.Rule.TheVariants.{PrivatePeripheralBus}
-use Rattle.platform.specs.declared.error.PlaceError.{PlaceError}
 use Rattle.platform.specs.declared.exception.TheConstants.{MOST_INTERRUPTS}
 use Rattle.platform.specs.declared.script.Signal.{Signal}
 use Rattle.platform.specs.declared.script.Signal.TheVariants.{Rise, Fall, Pulse, Nmi, Poke}
@@ -25,7 +24,7 @@ use Rattle.platform.specs.Boards.{Described, blank}
 use Rattle.platform.specs.Images.{Segment, are_placed}
 use Rattle.platform.specs.Map.{is_in_ppb}
 use Rattle.platform.specs.Memory.{is_in_memory}
-use Rattle.platform.specs.System.{System, after_signal, on_interrupts, poke_of, reset_system}
+use Rattle.platform.specs.System.{System, after_signal, on_interrupts, poke_of}
 use Rattle.platform.specs.SystemInvariant.{table_of}
 use Rattle.reference.specs.declared.place.Place.{Place}
 use Rattle.reference.specs.declared.place.Place.TheVariants.{Reg, Special, Word}

@@ -1,5 +1,5 @@
 -- What settles has settled lines; so have the devices after pokes, and after each access.
-use Rattle.std.proofs.Common.{◌≡◌, ℕ, ◌+◌, Bool, true, false, List, [], ◌∷◌, length, refl, subst, sym, ◌∙◌}
+use Rattle.std.proofs.Common.{◌≡◌, ℕ, Bool, List, [], ◌∷◌, length, refl, ap, ◌∙◌}
 use Rattle.std.proofs.lemmas.Bool.{cond_both}
 use Rattle.devices.specs.declared.device.Poke.{Poke}
 use Rattle.devices.specs.declared.level.Level.{Level}
@@ -12,6 +12,7 @@ use Rattle.line_laws.specs.LineLaw.{AreAt, HasSettledLines}
 use Rattle.nvic.proofs.Tables.{table_loaded, table_poked_all, table_stored}
 use Rattle.platform.specs.declared.access.Request.{Request}
 use Rattle.platform.specs.declared.access.Rule.{Rule}
+use Rattle.platform.specs.declared.script.ScriptedEvent.{ScriptedEvent}
 use Rattle.platform.specs.Kinds.{is_probe, is_store}
 use Rattle.platform.specs.Map.{is_in_ppb}
 use Rattle.platform.specs.Outcomes.{Outcome}
@@ -81,43 +82,31 @@ at_same : (t u : Time) (ls : List Level) → u.high ≡ t.high → AreAt t ls �
 at_same t u [] same h = tt
 at_same t u (l ∷ ls) same h = (rw same h.0, at_same t u ls same h.1)
 
--- the rest of the System Control Space and SysTick have no part in it
-alike_holds : (s t : System) → t.devices ≡ s.devices → t.time.ticks ≡ s.time.ticks → t.time.high ≡ s.time.high
-    → t.time.script ≡ s.time.script → Holds s → Holds t
-alike_holds s t devices ticks high script h = record {
-  wired = rw (devices, script) h.wired;
-  inputs = rw high h.inputs;
-  lines = rw (devices, ticks) (at_same s.time t.time (levels s.devices s.time.ticks) high h.lines);
-}
+-- what it is said of
+abbrev wires : System → List DeviceWords × (ℕ × (List Bool × List ScriptedEvent))
+wires s = (s.devices, (s.time.ticks, (s.time.high, s.time.script)))
+
+alike_holds : (s t : System) → wires t ≡ wires s → Holds s → Holds t
+alike_holds s t same h =
+    let devices : t.devices ≡ s.devices = ap (λ w. w.0) same in
+    let ticks : t.time.ticks ≡ s.time.ticks = ap (λ w. w.1.0) same in
+    let high : t.time.high ≡ s.time.high = ap (λ w. w.1.1.0) same in
+    let script : t.time.script ≡ s.time.script = ap (λ w. w.1.1.1) same in
+    record {
+      wired = rw (devices, script) h.wired;
+      inputs = rw high h.inputs;
+      lines = rw (devices, ticks) (at_same s.time t.time (levels s.devices s.time.ticks) high h.lines);
+    }
 
 system_holds : (x : ℕ) (s : System) (rule : Rule) (q : Request) → Holds s → LeavesHolding (system_access x s rule q)
 system_holds x s rule q h =
     alike_holds s (system_access x s rule q).after
-    (system_part (λ t. t.devices) (record {
+    (system_part wires (record {
       systick = λ t timer. refl;
       nvic = λ t n. refl;
       status = λ t st. refl;
       mpu = λ t m. refl;
-    }) x s rule q)
-    (system_part (λ t. t.time.ticks) (record {
-      systick = λ t timer. refl;
-      nvic = λ t n. refl;
-      status = λ t st. refl;
-      mpu = λ t m. refl;
-    }) x s rule q)
-    (system_part (λ t. t.time.high) (record {
-      systick = λ t timer. refl;
-      nvic = λ t n. refl;
-      status = λ t st. refl;
-      mpu = λ t m. refl;
-    }) x s rule q)
-    (system_part (λ t. t.time.script) (record {
-      systick = λ t timer. refl;
-      nvic = λ t n. refl;
-      status = λ t st. refl;
-      mpu = λ t m. refl;
-    }) x s rule q)
-    h
+    }) x s rule q) h
 
 abbrev BusHolds : Outcome Bus → Type 0
 BusHolds o = Holds o.after.system

@@ -1,18 +1,17 @@
 -- A step keeps what holds of the devices and their lines.
-use Rattle.std.proofs.Common.{◌≡◌, ℕ, ◌+◌, Bool, List, [], ◌∷◌, length, refl, ◌∙◌}
+use Rattle.std.proofs.Common.{◌≡◌, ◌+◌, Bool, List, [], ◌∷◌, length, refl, ◌∙◌}
 use Rattle.devices.specs.Devices.{value_at}
 use Rattle.line_laws.proofs.Clock.{levels_stay}
 use Rattle.line_laws.proofs.Events.{at_alike, events_leave, first_leave, others_leave}
 use Rattle.line_laws.proofs.Levels.{signal_length}
 use Rattle.line_laws.proofs.Settled.{Holds, nvic_holds, perform_holds, pokes_hold}
 use Rattle.line_laws.specs.LineLaw.{IsSettled}
-use Rattle.platform.specs.declared.event.Event.{Event}
 use Rattle.platform.specs.declared.script.ScriptedEvent.{ScriptedEvent}
 use Rattle.platform.specs.System.{System, after_tick, pokes_of, time_passed}
 use Rattle.platform.specs.SystemInvariant.{table_of}
 use Rattle.platform.specs.Time.{due_count, events_at, time_after_tick, with_events, with_signal}
 use Rattle.reference.specs.Invariant.{Invariant}
-use Rattle.reference.specs.State.{Bus, State}
+use Rattle.reference.specs.State.{State}
 use Rattle.reference.specs.Step.{step}
 use Rattle.step_laws.proofs.BusRules.{BusRules, bus_keeps}
 

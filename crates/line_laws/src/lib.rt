@@ -19,10 +19,8 @@ ghost use Rattle.wiring.specs.Wiring.{AreWired};
 /// Where the devices of a board and its script go together, the lines of devices have settled in the state in which a
 /// machine starts.
 pub fn start_settles_the_lines()
-    ensures {
-        (board : Described) (image : List Segment) → AreWired board.devices board.script
-        → IfGiven IsSettled (start board image)
-    }
+    ensures { (board : Described) (image : List Segment) → AreWired board.devices board.script
+        → IfGiven IsSettled (start board image) }
 {}
 
 /// A step keeps them settled.
