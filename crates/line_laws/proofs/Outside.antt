@@ -95,8 +95,9 @@ taken_settled : (s : State) (p : Place) → Holds s.bus.system → IfGiven IsSet
 taken_settled s (Reg number value) h = settled_of _ h
 taken_settled s (Special number value) h = special_settled s (special_of number) value h
 taken_settled s (Word address value) h =
+    let o = carried_out s.registers.exception s.bus PrivatePeripheralBus (store_of address value) in
     cond_both (is_in_ppb address) _ _ (IfGiven IsSettled)
-    (λ e. register_settled s _ (carried_out s.registers.exception s.bus PrivatePeripheralBus (store_of address value)).performed
+    (λ e. register_settled s _ o.performed
     (carried_holds s.registers.exception s.bus PrivatePeripheralBus (store_of address value) h))
     (λ e. cond_both (not (is_in_memory s.bus.memory address 4)) _ _ (IfGiven IsSettled)
     (λ f. settled_of _
@@ -116,8 +117,8 @@ unfolding altered
 alter_settled s p i h =
     cond_both (not (is_word_aligned p)) _ _ (IfGiven IsSettled) (λ e. tt)
     (λ e. cond_both (not (is_there s.bus p)) _ _ (IfGiven IsSettled) (λ f. tt)
-    (λ f. cond_both (is_some s.stop || (not (is_plain s.bus.memory p) && (is_some s.entry || is_handler s.registers))) _ _
-    (IfGiven IsSettled) (λ g. tt) (λ g. taken_settled s p (held s i h))))
+    (λ f. cond_both (is_some s.stop || (not (is_plain s.bus.memory p) && (is_some s.entry || is_handler s.registers)))
+    _ _ (IfGiven IsSettled) (λ g. tt) (λ g. taken_settled s p (held s i h))))
 
 -- ---- a start
 
@@ -126,5 +127,6 @@ pub start_settled : (board : Described) (image : List Segment) → AreWired boar
 unfolding start
 start_settled board image wired =
     cond_both (are_placed (blank board.numbers) image) _ _ (IfGiven IsSettled)
-    (λ e. settled_of _ (settled_holds _ (rw (table_fresh board.devices) wired) (length-replicate MOST_INTERRUPTS false)))
+    (λ e. settled_of _
+    (settled_holds _ (rw (table_fresh board.devices) wired) (length-replicate MOST_INTERRUPTS false)))
     (λ e. tt)

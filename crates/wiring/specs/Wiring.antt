@@ -69,8 +69,8 @@ LeavesDriven ds (e ∷ events) = (is_on_driven ds e.what ≡ false) × LeavesDri
 
 -- ---- together
 
--- no two devices drive the same interrupt, the level of no line depends on the clock, and no event of the script comes on
--- an interrupt that a device drives
+-- no two devices drive the same interrupt, the level of no line depends on the clock, and no event of the script comes
+-- on an interrupt that a device drives
 pub record AreWired (ds : List Device) (events : List ScriptedEvent) : Type 0 where
   pub apart : DriveApart ds
   pub steady : HaveSteadyLines ds ds
