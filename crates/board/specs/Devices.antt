@@ -15,7 +15,7 @@ use Rattle.platform.specs.declared.error.BoardError.{BoardError}
 use Rattle.platform.specs.declared.error.BoardError.TheVariants.{OutOfRange, UnknownKey}
 use Rattle.platform.specs.Boards.{Numbers, RamSpan}
 use Rattle.platform.specs.Map.{are_apart, ram_base}
-use Rattle.board.specs.declared.device_effects.Effects.{Effects}
+use Rattle.board.specs.declared.device_parts.Effects.{Effects}
 use Rattle.board.specs.Values.{◌>>=◌, has_only, number, number_or, of_kind, where_ok}
 
 -- ---- single values
@@ -200,17 +200,22 @@ is_device_line interrupts devices span counts interrupt =
     nat_lt interrupt interrupts
     && (not (is_driven devices interrupt) && (not counts && not (is_in_device devices span.base)))
 
+-- a line of its parts; the test is one that its number has passed
+unfoldable pub line_of : ℕ → ℕ → Result (Option Line) BoardError
+line_of interrupt enable =
+    checked (nat_lt interrupt 240) (λ small. Some (record {
+      number = interrupt;
+      enable = enable;
+      number_is_small = ltb-true interrupt 240 small;
+    }))
+
 -- a line and the word that enables it, none that counts
 unfoldable pub line_in : ℕ → List Device → Span → Bool → Members → Option Data → Result (Option Line) BoardError
 line_in interrupts devices span counts table None = Ok None
 line_in interrupts devices span counts table (Some value) = do
   interrupt ← where_ok (is_device_line interrupts devices span counts) (number (Some value))
   enable ← where_ok (is_followed devices span) (number (get_member (codes "enable") table))
-  checked (nat_lt interrupt 240) (λ small. Some (record {
-    number = interrupt;
-    enable = enable;
-    number_is_small = ltb-true interrupt 240 small;
-  }))
+  line_of interrupt enable
 
 -- ---- one table, and all
 

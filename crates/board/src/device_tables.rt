@@ -6,9 +6,10 @@ ghost use Rattle.platform.specs.Boards.{numbers_of};
 ghost use Rattle.board.specs.Devices.{device_in, device_of, devices_in, goes_with, has_device_keys, listed_device};
 ghost use Rattle.board.specs.Reading.{Gives, span_read, values_read};
 
-use crate::device_effects::{Effects, effects_in, line_in};
-use crate::device_span::{Span, span_in};
-use crate::device_values::{Values, values_in};
+use crate::device_effects::{effects_in, line_in};
+use crate::device_parts::{Effects, Span, Values};
+use crate::device_span::span_in;
+use crate::device_values::values_in;
 use crate::found::Found;
 use crate::keys::{DEVICE_KEYS, has_only};
 use crate::values::find;
@@ -19,7 +20,7 @@ use toml::{Table, Value};
 
 // The devices of a list of tables, on a board with this layout.
 pub fn devices_of(layout: &Layout, values: &[Value]) -> Result<Found, BoardError>
-    requires { length values.now ≤ MOST_DEVICES }
+    requires { length values.now ≤ 256 }
     ensures { Gives (λ found. found) result (devices_in (numbers_of layout.now) 0 [] (items_view values.now)) }
 {
     let mut found = Found::new();
@@ -93,7 +94,8 @@ pub fn goes_with(other: &str, key: &str, table: &Table) -> bool
 // The device of its parts.
 #[tactic(auto, unfolding(crate::specs::Devices::device_of))]
 fn device_of(span: &Span, values: &Values, effects: &Effects, line: Option<Line>) -> Device
-    ensures { device_of (span_read span.now) (values_read values.now) effects.now line ≡ Ok result }
+    ensures parts { device_of (span_read span.now) (values_read values.now) effects.now line ≡ Ok result }
+    ensures size { result.size ≡ span.now.size }
 {
     Device {
         base: span.base,

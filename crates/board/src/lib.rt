@@ -12,6 +12,7 @@ ghost use Rattle.board.specs.Reading.{Answers, described};
 
 mod board;
 mod device_effects;
+mod device_parts;
 pub mod device_ranges;
 mod device_span;
 mod device_tables;
