@@ -10,9 +10,9 @@ use Rattle.platform.specs.declared.error.BoardError.{BoardError}
 use Rattle.platform.specs.Boards.{Numbers}
 use Rattle.platform.specs.SystemInvariant.{HasLineOfBoard, HaveLinesOfBoard}
 use Rattle.board.specs.declared.device_parts.Effects.{Effects}
-use Rattle.board.specs.Devices.{Span, Values, checked, device_in, device_of, devices_in, effects_in, is_device_line}
-use Rattle.board.specs.Devices.{is_followed, known_keys, line_in, line_of, listed_device, span_in, values_in}
-use Rattle.board.specs.Values.{◌>>=◌, number, of_kind, where_ok}
+use Rattle.board.specs.Devices.{Span, Values, checked, device_in, device_of, devices_at, devices_in, effects_in, is_device_line}
+use Rattle.board.specs.Devices.{is_followed, known_keys, line_in, line_of, listed_device, most_devices, span_in, values_in}
+use Rattle.board.specs.Values.{◌>>=◌, number, of_kind, tables_at, where_ok}
 use Rattle.board.proofs.Ordered.{both, in_range}
 
 -- what is made where a test holds
@@ -89,7 +89,7 @@ one_more : (interrupts : ℕ) (devices : List Device) (device : Device) → Have
 one_more interrupts [] device before here = (here, tt)
 one_more interrupts (d ∷ ds) device before here = (before.0, one_more interrupts ds device before.1 here)
 
-pub lines_are : (numbers : Numbers) (before : ℕ) (devices : List Device) (items : Items) (all : List Device)
+lines_are : (numbers : Numbers) (before : ℕ) (devices : List Device) (items : Items) (all : List Device)
     → devices_in numbers before devices items ≡ Ok all → HaveLinesOfBoard numbers.interrupts devices
     → HaveLinesOfBoard numbers.interrupts all
 unfolding devices_in
@@ -100,3 +100,10 @@ lines_are numbers before devices (item value others) all taken are =
     let (device, at_device) = both (listed_device numbers before devices value) _ all taken in
     lines_are numbers (before + device.size) (devices ++ device ∷ []) others all at_device.1
     (one_more numbers.interrupts devices device are (listed_is numbers before devices value device at_device.0))
+
+pub lines_at : (numbers : Numbers) (document : Members) (all : List Device) → devices_at numbers document ≡ Ok all
+    → HaveLinesOfBoard numbers.interrupts all
+unfolding devices_at
+lines_at numbers document all taken =
+    let (tables, at_tables) = both (tables_at most_devices (get_member (codes "device") document)) _ all taken in
+    lines_are numbers 0 [] tables all at_tables.1 tt

@@ -16,14 +16,20 @@ use devices::{Device, Line, Poke};
 use platform::error::BoardError;
 use toml::{Table, Value};
 
-// What a load from a table's device and a store to it do, after the devices before it.
+/// Returns what a load from a table's device and a store to it do, after the devices before it, or the first refusal.
 #[tactic(auto, unfolding(crate::specs::Devices::effects_in))]
 pub fn effects_in(devices: &[Device], span: &Span, table: &Table) -> Result<Effects, BoardError>
     ensures { result ≡ effects_in devices.now (span_read span.now) (table_view table.now) }
 {
     let console = flag(find(table, "console"))?;
     let load_poke = poke_where(devices, span, "load_value", table, find(table, "load_poke"))?;
-    let store_poke = poke_where(devices, span, "store_value", table, find(table, "store_poke"))?;
+    let store_poke = poke_where(
+        devices,
+        span,
+        "store_value",
+        table,
+        find(table, "store_poke"),
+    )?;
     Ok(Effects {
         console,
         load_poke,
@@ -77,7 +83,7 @@ pub fn is_device_line(
         && !is_in_device(devices, u64::from(span.base))
 }
 
-// The line of a table's device, and the word that enables it.
+/// Returns the line of a table's device, or the first refusal.
 #[tactic(auto, unfolding(crate::specs::Devices::line_in))]
 pub fn line_in(
     interrupts: u8,

@@ -20,7 +20,7 @@ use toml::Table;
 /// How many bytes a device has where the text doesn't say it.
 pub const DEFAULT_DEVICE_BYTES: u64 = 4;
 
-// Where a device of a table is, where the devices before it have `before` bytes.
+/// Returns where a table's device is, after devices that have `before` bytes, or the first refusal.
 #[tactic(auto, unfolding(crate::specs::Devices::span_in))]
 pub fn span_in(layout: &Layout, before: u64, table: &Table) -> Result<Span, BoardError>
     requires { before ≤ 0x10_0000 }

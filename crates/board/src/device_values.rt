@@ -21,7 +21,7 @@ pub const DEFAULT_PLACES: u64 = 1;
 /// Bits can follow others that are fewer places lower.
 pub const PLACES: u64 = 32;
 
-// What the words of a table's device read as, after the devices before it.
+/// Returns what the words of a table's device read as, after the devices before it, or the first refusal.
 #[tactic(auto, unfolding(crate::specs::Devices::values_in))]
 pub fn values_in(devices: &[Device], span: &Span, table: &Table) -> Result<Values, BoardError>
     ensures { Gives values_read result (values_in devices.now (span_read span.now) (table_view table.now)) }
@@ -125,7 +125,7 @@ fn followed_at(
     Ok(Some(address as u32))
 }
 
-// The boolean at a key that may be missing: then it is false.
+/// Returns the boolean at a key that may be missing, which then is false.
 pub fn flag(value: Option<&Value>) -> Result<bool, BoardError>
     ensures { result ≡ flag (option_map (λ v. view v.now) value.entry) }
 {
