@@ -1,5 +1,5 @@
-//! The reader of board files: the numbers of a board, its second RAM, and the script of what happens on its
-//! interrupts, in TOML. README.md says what is proved.
+//! The reader of board files: the numbers of a board, its second RAM, its devices, and the script of what happens on its
+//! interrupts and to its devices, in TOML. README.md says what is proved.
 #![tactic(auto)]
 
 ghost use Rattle.std.specs.Prelude.{◌≡◌, ◌⊎◌, Err, IfOk};
@@ -11,7 +11,13 @@ ghost use Rattle.board.specs.Texts.{board_in, board_of};
 ghost use Rattle.board.specs.Reading.{Answers, described};
 
 mod board;
+mod device_effects;
+pub mod device_ranges;
+mod device_span;
+mod device_tables;
+mod device_values;
 mod events;
+mod found;
 pub mod keys;
 mod layout;
 pub mod ranges;
@@ -19,8 +25,11 @@ mod second_ram;
 mod values;
 
 pub use board::Board;
+use device_tables::devices_of;
+pub use devices::{Device, Line, MOST_DEVICES, Poke, Stores};
 pub use events::{MOST_SCRIPT_EVENTS, change, nmi};
 use events::{script_of, tables};
+use found::copied;
 use keys::{BOARD_KEYS, has_only};
 pub use layout::{DEFAULT_REGIONS, layout_of, region_count};
 pub use platform::board::{Layout, SecondRam};
@@ -63,9 +72,14 @@ pub fn board_of_table(alloc: Global, document: &Table) -> Result<Board, BoardErr
         return Err(BoardError::UnknownKey);
     }
     let layout = with_second_ram(layout, document)?;
+    let values = tables(find(document, "device"), MOST_DEVICES)?;
+    let found = devices_of(&layout, values)?;
+    let devices = found.devices();
     let values = tables(find(document, "event"), MOST_SCRIPT_EVENTS)?;
-    let events = script_of(alloc, layout.interrupts, values)?;
-    let devices = Vec::new(alloc);
+    let events = script_of(alloc, layout.interrupts, devices, values)?;
+    let Ok(devices) = copied(alloc, devices) else {
+        return Err(BoardError::OutOfMemory);
+    };
     Ok(Board {
         layout,
         events,

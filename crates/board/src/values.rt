@@ -4,7 +4,7 @@ ghost use Rattle.std.specs.Prelude.{◌≡◌, ◌<◌, ◌^◌, option_map, IfO
 ghost use Rattle.toml.specs.Data.{get_member};
 ghost use Rattle.toml.specs.View.{table_view, view};
 ghost use Rattle.board.specs.Reading.{Gives};
-ghost use Rattle.board.specs.Texts.{number, number_or, whole, word};
+ghost use Rattle.board.specs.Values.{number, number_or, whole, word};
 
 use platform::error::BoardError;
 use toml::{Table, Value};
