@@ -1,5 +1,5 @@
-/* STM32F103: the clock goes from 8 MHz inside to 72 MHz from a crystal, each step with a limit on how long it waits, and
-   then USART1 sends a text by polling. Registers and bits are those of ST's RM0008. */
+/* STM32F103: the clock goes from 8 MHz inside to 72 MHz from a crystal, with a limit on how long each step waits; then
+   USART1 sends a text by polling. Registers and bits are those of ST's RM0008. */
 
 #include "registers.h"
 
