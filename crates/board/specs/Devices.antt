@@ -15,8 +15,8 @@ use Rattle.platform.specs.declared.error.BoardError.{BoardError}
 use Rattle.platform.specs.declared.error.BoardError.TheVariants.{OutOfRange, UnknownKey}
 use Rattle.platform.specs.Boards.{Numbers, RamSpan}
 use Rattle.platform.specs.Map.{are_apart, ram_base}
-use Rattle.board.specs.declared.device_effects.Effects.{Effects}
-use Rattle.board.specs.Values.{◌>>=◌, has_only, number, number_or, of_kind, where_ok}
+use Rattle.board.specs.declared.device_parts.Effects.{Effects}
+use Rattle.board.specs.Values.{◌>>=◌, has_only, number, number_or, of_kind, tables_at, where_ok}
 
 -- ---- single values
 
@@ -82,12 +82,16 @@ most_device_bytes = 0x10_0000
 abbrev pub is_device_base : ℕ → Bool
 is_device_base base = (base % 4 == 0) && nat_le base 0xFFFF_FFFC
 
--- and have this many bytes, where the devices before it have `before`
+-- and have this many bytes
+abbrev pub is_device_bytes : ℕ → Bool
+is_device_bytes size = (size % 4 == 0) && (nat_le 4 size && nat_le size 65536)
+
+-- likewise on a board with these numbers, where the devices before it have `before` bytes
 abbrev pub is_device_size : Numbers → ℕ → ℕ → ℕ → Bool
 is_device_size numbers before base size =
-    (size % 4 == 0)
-    && (nat_le 4 size && (nat_le size 65536 && (nat_le (base + size) (2 ^ 32)
-    && (is_outside numbers base size && nat_le (before + size) most_device_bytes))))
+    is_device_bytes size
+    && (nat_le (base + size) (2 ^ 32)
+    && (is_outside numbers base size && nat_le (before + size) most_device_bytes))
 
 pub record Span : Type 0 where
   pub base : ℕ
@@ -200,17 +204,22 @@ is_device_line interrupts devices span counts interrupt =
     nat_lt interrupt interrupts
     && (not (is_driven devices interrupt) && (not counts && not (is_in_device devices span.base)))
 
+-- a line of its parts; the test is one that its number has passed
+unfoldable pub line_of : ℕ → ℕ → Result (Option Line) BoardError
+line_of interrupt enable =
+    checked (nat_lt interrupt 240) (λ small. Some (record {
+      number = interrupt;
+      enable = enable;
+      number_is_small = ltb-true interrupt 240 small;
+    }))
+
 -- a line and the word that enables it, none that counts
 unfoldable pub line_in : ℕ → List Device → Span → Bool → Members → Option Data → Result (Option Line) BoardError
 line_in interrupts devices span counts table None = Ok None
 line_in interrupts devices span counts table (Some value) = do
   interrupt ← where_ok (is_device_line interrupts devices span counts) (number (Some value))
   enable ← where_ok (is_followed devices span) (number (get_member (codes "enable") table))
-  checked (nat_lt interrupt 240) (λ small. Some (record {
-    number = interrupt;
-    enable = enable;
-    number_is_small = ltb-true interrupt 240 small;
-  }))
+  line_of interrupt enable
 
 -- ---- one table, and all
 
@@ -292,3 +301,9 @@ devices_in numbers before devices (item value others) = do
 -- a board has at most this many devices
 abbrev pub most_devices : ℕ
 most_devices = 256
+
+-- the devices of a document
+unfoldable pub devices_at : Numbers → Members → Result (List Device) BoardError
+devices_at numbers document = do
+  tables ← tables_at most_devices (get_member (codes "device") document)
+  devices_in numbers 0 [] tables

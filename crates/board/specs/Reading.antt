@@ -2,8 +2,8 @@
 use Rattle.std.specs.Prelude.{◌≡◌, ◌⊎◌, Result, Ok, Err, IsOk}
 use Rattle.platform.specs.Boards.{Described, numbers_of}
 use Rattle.board.specs.declared.board.Board.{Board}
-use Rattle.board.specs.declared.device_span.Span.{Span as TheSpan}
-use Rattle.board.specs.declared.device_values.Values.{Values as TheValues}
+use Rattle.board.specs.declared.device_parts.Span.{Span as TheSpan}
+use Rattle.board.specs.declared.device_parts.Values.{Values as TheValues}
 use Rattle.board.specs.Devices.{Span, Values}
 use Rattle.platform.specs.declared.error.BoardError.{BoardError}
 use Rattle.platform.specs.declared.error.BoardError.TheVariants.{OutOfMemory}

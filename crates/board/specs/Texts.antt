@@ -14,7 +14,7 @@ use Rattle.platform.specs.Boards.{Numbers, Described, RamSpan, is_whole_blocks, 
 use Rattle.platform.specs.Boards.{is_interrupt_count, is_second_ram}
 use Rattle.platform.specs.Boards.{is_region_count, default_regions, is_tick, first_tick, most_events}
 use Rattle.board.specs.Values.{◌>>=◌, number, number_or, of_kind, only, tables_at, where_ok, word}
-use Rattle.board.specs.Devices.{devices_in, has_32_bits, is_device_word, is_driven, most_devices}
+use Rattle.board.specs.Devices.{devices_at, has_32_bits, is_device_word, is_driven}
 
 abbrev pub board_keys : List (List ℕ)
 board_keys =
@@ -170,8 +170,7 @@ board_in document = do
   numbers ← numbers_in document
   known ← only board_keys document
   all ← with_second_ram numbers document
-  tables ← tables_at most_devices (get_member (codes "device") document)
-  devices ← devices_in all 0 [] tables
+  devices ← devices_at all document
   events ← tables_at most_events (get_member (codes "event") document)
   script ← script_in all.interrupts devices first_tick events
   Ok (record { numbers = all; script = script; devices = devices })

@@ -1,36 +1,35 @@
 //! What a load from a device and a store to it do, and its line.
 
-ghost use Rattle.std.specs.Prelude.{◌≡◌, ◌≤◌, option_map};
+ghost use Rattle.std.specs.Prelude.{◌≡◌, ◌<◌, ◌≤◌, option_map, Ok, Some};
+ghost use Rattle.std.specs.Bool.{OnTrue};
 ghost use Rattle.toml.specs.View.{table_view, view};
 ghost use Rattle.platform.specs.declared.exception.TheConstants.{MOST_INTERRUPTS};
-ghost use Rattle.board.specs.Devices.{effects_in, is_device_line, is_named, line_in, poke_where};
+ghost use Rattle.board.specs.Devices.{effects_in, is_device_line, is_named, line_in, line_of, poke_where};
 ghost use Rattle.board.specs.Reading.{span_read};
 
+use crate::device_parts::{Effects, Span};
 use crate::device_ranges::has_32_bits;
-use crate::device_span::{Span, is_driven, is_followed, is_in_device, is_named};
+use crate::device_span::{is_driven, is_followed, is_in_device, is_named};
 use crate::device_values::flag;
 use crate::values::{find, number};
 use devices::{Device, Line, Poke};
 use platform::error::BoardError;
-use platform::exception::MOST_INTERRUPTS;
 use toml::{Table, Value};
 
-/// What a load from a device and a store to it do.
-#[derive(Clone, Copy)]
-pub struct Effects {
-    pub console: bool,
-    pub load_poke: Option<Poke>,
-    pub store_poke: Option<Poke>,
-}
-
-// What a load from a table's device and a store to it do, after the devices before it.
+/// Returns what a load from a table's device and a store to it do, after the devices before it, or the first refusal.
 #[tactic(auto, unfolding(crate::specs::Devices::effects_in))]
 pub fn effects_in(devices: &[Device], span: &Span, table: &Table) -> Result<Effects, BoardError>
     ensures { result ≡ effects_in devices.now (span_read span.now) (table_view table.now) }
 {
     let console = flag(find(table, "console"))?;
     let load_poke = poke_where(devices, span, "load_value", table, find(table, "load_poke"))?;
-    let store_poke = poke_where(devices, span, "store_value", table, find(table, "store_poke"))?;
+    let store_poke = poke_where(
+        devices,
+        span,
+        "store_value",
+        table,
+        find(table, "store_poke"),
+    )?;
     Ok(Effects {
         console,
         load_poke,
@@ -84,7 +83,7 @@ pub fn is_device_line(
         && !is_in_device(devices, u64::from(span.base))
 }
 
-// The line of a table's device, and the word that enables it.
+/// Returns the line of a table's device, or the first refusal.
 #[tactic(auto, unfolding(crate::specs::Devices::line_in))]
 pub fn line_in(
     interrupts: u8,
@@ -109,8 +108,13 @@ pub fn line_in(
     if !is_followed(devices, span, enable) {
         return Err(BoardError::OutOfRange);
     }
-    Ok(Some(Line {
-        number: interrupt as u8,
-        enable: enable as u32,
-    }))
+    Ok(Some(line_of(interrupt as u8, enable as u32)))
+}
+
+// The line of its parts.
+fn line_of(number: u8, enable: u32) -> Line
+    requires { number < MOST_INTERRUPTS }
+    ensures { line_of number enable ≡ Ok (Some result) }
+{
+    Line { number, enable }
 }

@@ -4,7 +4,8 @@
 ghost use Rattle.std.specs.Prelude.{◌≡◌, ◌<◌, ◌≤◌, ◌+◌, ◌%◌, ◌^◌, ◌==◌, bit_and, option_map};
 ghost use Rattle.std.specs.Bool.{OnTrue};
 ghost use Rattle.platform.specs.Boards.{numbers_of, span_of};
-ghost use Rattle.board.specs.Devices.{has_32_bits, is_beside, is_device_base, is_device_size, is_outside};
+ghost use Rattle.board.specs.Devices.{has_32_bits, is_beside, is_device_base, is_device_bytes, is_device_size};
+ghost use Rattle.board.specs.Devices.{is_outside};
 
 use crate::ranges::are_apart;
 use platform::board::{Layout, SecondRam};
@@ -20,13 +21,13 @@ pub const MOST_BYTES_OF_DEVICES: u64 = 0x10_0000;
 pub const LAST_WORD: u64 = 0xFFFF_FFFC;
 
 /// The address space has this many bytes.
-const SPACE: u64 = 1 << 32;
+pub const SPACE: u64 = 1 << 32;
 
 /// The Private Peripheral Bus begins here.
-const PPB_BASE: u64 = 0xE000_0000;
+pub const PPB_BASE: u64 = 0xE000_0000;
 
 /// And has this many bytes.
-const PPB_SIZE: u64 = 0x10_0000;
+pub const PPB_SIZE: u64 = 0x10_0000;
 
 /// Returns whether a number has 32 bits at most.
 pub fn has_32_bits(number: u64) -> bool
@@ -77,16 +78,16 @@ pub fn is_outside(layout: &Layout, base: u64, size: u64) -> bool
         && are_apart(PPB_BASE, PPB_SIZE, base, size)
 }
 
-/// Returns whether a device can have this many bytes, if no other thing of the board is in its way.
-pub fn is_whole_words(size: u64) -> bool
+/// Returns whether a device can have this many bytes.
+pub fn is_device_bytes(size: u64) -> bool
+    ensures test { result ≡ is_device_bytes size }
     ensures whole { OnTrue result (size % 4 ≡ 0) }
-    ensures least { OnTrue result (4 ≤ size) }
     ensures most { OnTrue result (size ≤ 65536) }
 {
     size % 4 == 0 && 4 <= size && size <= MOST_DEVICE_BYTES
 }
 
-/// Returns whether a device at a base can have this many bytes, where the devices before it have `before`.
+/// Returns whether a device can have this many bytes from a base on, where the devices before it have `before`.
 pub fn is_device_size(layout: &Layout, before: u64, base: u64, size: u64) -> bool
     requires before { before ≤ 0x10_0000 }
     requires base { base < 2 ^ 63 }
@@ -97,9 +98,7 @@ pub fn is_device_size(layout: &Layout, before: u64, base: u64, size: u64) -> boo
     ensures within { OnTrue result (base + size ≤ 2 ^ 32) }
     ensures few { OnTrue result (before + size ≤ 0x10_0000) }
 {
-    size % 4 == 0
-        && 4 <= size
-        && size <= MOST_DEVICE_BYTES
+    is_device_bytes(size)
         && base + size <= SPACE
         && is_outside(layout, base, size)
         && before + size <= MOST_BYTES_OF_DEVICES

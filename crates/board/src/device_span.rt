@@ -9,6 +9,7 @@ ghost use Rattle.board.specs.Devices.{counts_in, is_device_word, is_driven, is_f
 ghost use Rattle.board.specs.Devices.{is_own, span_in};
 ghost use Rattle.board.specs.Reading.{Gives, span_read};
 
+use crate::device_parts::Span;
 use crate::device_ranges::{has_32_bits, is_device_base, is_device_size};
 use crate::values::{find, number, number_or};
 use devices::{Device, Line, device_at};
@@ -19,18 +20,7 @@ use toml::Table;
 /// How many bytes a device has where the text doesn't say it.
 pub const DEFAULT_DEVICE_BYTES: u64 = 4;
 
-/// Where a device begins, and how many bytes it has.
-#[derive(Clone, Copy)]
-pub struct Span {
-    pub base: u32,
-    pub size: u32,
-
-    pub ghost base_is_whole: { base % 4 ≡ 0 },
-    pub ghost size_is_whole: { size % 4 ≡ 0 },
-    pub ghost within: { base + size ≤ 2 ^ 32 },
-}
-
-// Where a device of a table is, where the devices before it have `before` bytes.
+/// Returns where a table's device is, after devices that have `before` bytes, or the first refusal.
 #[tactic(auto, unfolding(crate::specs::Devices::span_in))]
 pub fn span_in(layout: &Layout, before: u64, table: &Table) -> Result<Span, BoardError>
     requires { before ≤ 0x10_0000 }
@@ -60,6 +50,7 @@ pub fn is_own(span: &Span, address: u64) -> bool
 }
 
 // The first of some devices that has an address.
+#[tactic(auto, using(crate::proofs::Devices::none_past))]
 fn device_with(devices: &[Device], address: u64) -> Option<&Device>
     ensures { option_map (λ d. d.now) result ≡ device_at devices.now address }
 {
@@ -70,11 +61,15 @@ fn device_with(devices: &[Device], address: u64) -> Option<&Device>
 }
 
 /// Returns whether one of some devices has an address.
+#[tactic(auto, using(crate::proofs::Devices::none_past))]
 pub fn is_in_device(devices: &[Device], address: u64) -> bool
     ensures test { result ≡ is_in_device devices.now address }
     ensures small { OnTrue result (address < 2 ^ 32) }
 {
-    device_with(devices, address).is_some()
+    if !has_32_bits(address) {
+        return false;
+    }
+    device_at(devices, address as u32).is_some()
 }
 
 /// Returns whether an address is that of a word of one of some devices.

@@ -3,23 +3,35 @@
 ghost use Rattle.std.specs.Prelude.{◌≡◌, ◌≤◌, ◌+◌, [], length, IfOk, Ok};
 ghost use Rattle.toml.specs.View.{items_view, table_view, view};
 ghost use Rattle.platform.specs.Boards.{numbers_of};
-ghost use Rattle.board.specs.Devices.{device_in, device_of, devices_in, goes_with, has_device_keys, listed_device};
+ghost use Rattle.board.specs.Devices.{device_in, device_of, devices_at, devices_in, goes_with, has_device_keys};
+ghost use Rattle.board.specs.Devices.{listed_device};
 ghost use Rattle.board.specs.Reading.{Gives, span_read, values_read};
 
-use crate::device_effects::{Effects, effects_in, line_in};
-use crate::device_span::{Span, span_in};
-use crate::device_values::{Values, values_in};
+use crate::device_effects::{effects_in, line_in};
+use crate::device_parts::{Effects, Span, Values};
+use crate::device_span::span_in;
+use crate::device_values::values_in;
+use crate::events::tables;
 use crate::found::Found;
 use crate::keys::{DEVICE_KEYS, has_only};
 use crate::values::find;
-use devices::{Device, Line};
+use devices::{Device, Line, MOST_DEVICES};
 use platform::board::Layout;
 use platform::error::BoardError;
 use toml::{Table, Value};
 
-// The devices of a list of tables, on a board with this layout.
-pub fn devices_of(layout: &Layout, values: &[Value]) -> Result<Found, BoardError>
-    requires { length values.now ≤ MOST_DEVICES }
+/// Returns the devices of a document, on a board with this layout, or the first refusal among them.
+#[tactic(auto, unfolding(crate::specs::Devices::devices_at))]
+pub fn devices_at(layout: &Layout, document: &Table) -> Result<Found, BoardError>
+    ensures { Gives (λ found. found) result (devices_at (numbers_of layout.now) (table_view document.now)) }
+{
+    let values = tables(find(document, "device"), MOST_DEVICES)?;
+    devices_of(layout, values)
+}
+
+// The devices of a list of tables.
+fn devices_of(layout: &Layout, values: &[Value]) -> Result<Found, BoardError>
+    requires { length values.now ≤ 256 }
     ensures { Gives (λ found. found) result (devices_in (numbers_of layout.now) 0 [] (items_view values.now)) }
 {
     let mut found = Found::new();
@@ -32,9 +44,9 @@ pub fn devices_of(layout: &Layout, values: &[Value]) -> Result<Found, BoardError
     Ok(found)
 }
 
-// A device of a list of tables.
+/// Returns the device of a list of tables that a value describes, after the devices before it, which have `before` bytes.
 #[tactic(auto, unfolding(crate::specs::Devices::listed_device))]
-fn listed_device(
+pub fn listed_device(
     layout: &Layout,
     before: u64,
     devices: &[Device],
@@ -66,7 +78,14 @@ fn device_in(
     let values = values_in(devices, &span, table)?;
     let effects = effects_in(devices, &span, table)?;
     let value = find(table, "line");
-    let line = line_in(layout.interrupts, devices, &span, values.counts, table, value)?;
+    let line = line_in(
+        layout.interrupts,
+        devices,
+        &span,
+        values.counts,
+        table,
+        value,
+    )?;
     if !has_device_keys(table) {
         return Err(BoardError::UnknownKey);
     }
@@ -93,7 +112,8 @@ pub fn goes_with(other: &str, key: &str, table: &Table) -> bool
 // The device of its parts.
 #[tactic(auto, unfolding(crate::specs::Devices::device_of))]
 fn device_of(span: &Span, values: &Values, effects: &Effects, line: Option<Line>) -> Device
-    ensures { device_of (span_read span.now) (values_read values.now) effects.now line ≡ Ok result }
+    ensures parts { device_of (span_read span.now) (values_read values.now) effects.now line ≡ Ok result }
+    ensures size { result.size ≡ span.now.size }
 {
     Device {
         base: span.base,

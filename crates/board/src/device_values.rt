@@ -7,8 +7,9 @@ ghost use Rattle.board.specs.Devices.{address_where, bits_at, flag, is_followed,
 ghost use Rattle.board.specs.Reading.{Gives, span_read, values_read};
 ghost use Rattle.board.specs.Values.{number_or, where_ok};
 
+use crate::device_parts::{Span, Values};
 use crate::device_ranges::{has_32_bits, share_no_bit};
-use crate::device_span::{Span, is_followed};
+use crate::device_span::is_followed;
 use crate::values::{find, number, number_or};
 use devices::{Device, Stores};
 use platform::error::BoardError;
@@ -20,22 +21,7 @@ pub const DEFAULT_PLACES: u64 = 1;
 /// Bits can follow others that are fewer places lower.
 pub const PLACES: u64 = 32;
 
-/// What the words of a device read as.
-#[derive(Clone, Copy)]
-pub struct Values {
-    pub start: u32,
-    pub ones: u32,
-    pub zeros: u32,
-    pub stores: Stores,
-    pub follows: u32,
-    pub by: u8,
-    pub of: Option<u32>,
-    pub counts: bool,
-
-    pub ghost near: { by < 32 },
-}
-
-// What the words of a table's device read as, after the devices before it.
+/// Returns what the words of a table's device read as, after the devices before it, or the first refusal.
 #[tactic(auto, unfolding(crate::specs::Devices::values_in))]
 pub fn values_in(devices: &[Device], span: &Span, table: &Table) -> Result<Values, BoardError>
     ensures { Gives values_read result (values_in devices.now (span_read span.now) (table_view table.now)) }
@@ -139,7 +125,7 @@ fn followed_at(
     Ok(Some(address as u32))
 }
 
-// The boolean at a key that may be missing: then it is false.
+/// Returns the boolean at a key that may be missing, which then is false.
 pub fn flag(value: Option<&Value>) -> Result<bool, BoardError>
     ensures { result ≡ flag (option_map (λ v. view v.now) value.entry) }
 {

@@ -123,11 +123,7 @@ fn timely_event(
 
 // One event.
 #[tactic(auto, unfolding(crate::specs::Texts::event_in))]
-fn event_of(
-    interrupts: u8,
-    devices: &[Device],
-    event: &Table,
-) -> Result<ScriptedEvent, BoardError>
+fn event_of(interrupts: u8, devices: &[Device], event: &Table) -> Result<ScriptedEvent, BoardError>
     requires { interrupts ≤ MOST_INTERRUPTS }
     ensures { result ≡ event_in interrupts devices.now (table_view event.now) }
 {
@@ -205,11 +201,7 @@ pub fn is_free_line(interrupts: u8, devices: &[Device], interrupt: u64) -> bool
 
 // The signal of an event that names an interrupt of the board.
 #[tactic(auto, unfolding(crate::specs::Texts::interrupt_signal))]
-fn interrupt_signal(
-    interrupts: u8,
-    devices: &[Device],
-    event: &Table,
-) -> Result<Signal, BoardError>
+fn interrupt_signal(interrupts: u8, devices: &[Device], event: &Table) -> Result<Signal, BoardError>
     requires { interrupts ≤ MOST_INTERRUPTS }
     ensures { result ≡ interrupt_signal interrupts devices.now (table_view event.now) }
 {

@@ -12,6 +12,7 @@ ghost use Rattle.board.specs.Reading.{Answers, described};
 
 mod board;
 mod device_effects;
+mod device_parts;
 pub mod device_ranges;
 mod device_span;
 mod device_tables;
@@ -25,18 +26,22 @@ mod second_ram;
 mod values;
 
 pub use board::Board;
-use device_tables::devices_of;
+pub use device_effects::{effects_in, is_device_line, line_in};
+pub use device_parts::{Effects, Span, Values};
+pub use device_span::{is_device_word, is_driven, is_followed, is_in_device, is_named, span_in};
+pub use device_tables::{devices_at, goes_with, has_device_keys, listed_device};
+pub use device_values::{flag, stores_named, values_in};
 pub use devices::{Device, Line, MOST_DEVICES, Poke, Stores};
-pub use events::{MOST_SCRIPT_EVENTS, change, nmi};
+pub use events::{MOST_SCRIPT_EVENTS, change, is_free_line, nmi};
 use events::{script_of, tables};
+pub use found::Found;
 use found::copied;
 use keys::{BOARD_KEYS, has_only};
 pub use layout::{DEFAULT_REGIONS, layout_of, region_count};
 pub use platform::board::{Layout, SecondRam};
 pub use platform::error::BoardError;
 pub use platform::script::{InterruptNumber, ScriptedEvent, Signal};
-pub use second_ram::MOST_SECOND_RAMS;
-use second_ram::with_second_ram;
+pub use second_ram::{MOST_SECOND_RAMS, with_second_ram};
 use std::alloc::Global;
 use toml::Table;
 pub use values::{find, number, word};
@@ -72,8 +77,7 @@ pub fn board_of_table(alloc: Global, document: &Table) -> Result<Board, BoardErr
         return Err(BoardError::UnknownKey);
     }
     let layout = with_second_ram(layout, document)?;
-    let values = tables(find(document, "device"), MOST_DEVICES)?;
-    let found = devices_of(&layout, values)?;
+    let found = devices_at(&layout, document)?;
     let devices = found.devices();
     let values = tables(find(document, "event"), MOST_SCRIPT_EVENTS)?;
     let events = script_of(alloc, layout.interrupts, devices, values)?;

@@ -30,7 +30,9 @@ pub fn number(value: Option<&Value>) -> Result<u64, BoardError>
 
 // The whole number of a key that may be missing, which then is the default.
 pub fn number_or(value: Option<&Value>, default: u64) -> Result<u64, BoardError>
-    ensures { result ≡ number_or default (option_map (λ v. view v.now) value.entry) }
+    requires { default < 2 ^ 63 }
+    ensures number { result ≡ number_or default (option_map (λ v. view v.now) value.entry) }
+    ensures small { IfOk result (λ n. n < 2 ^ 63) }
 {
     match value {
         None => Ok(default),
