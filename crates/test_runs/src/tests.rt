@@ -4,6 +4,8 @@ mod board_messages;
 mod both;
 mod cut;
 mod cuts;
+mod device_lines;
+mod devices;
 mod elf_files;
 mod exclusives;
 mod fault_registers;
