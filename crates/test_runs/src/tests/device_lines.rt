@@ -222,7 +222,7 @@ device {base = 0x4001_3808, size = 8}
 device {base = 0x4001_3800, ones = 0xC0, stores = \"ignored\", line = 5, enable = 0x4001_380C}
 device {base = 0x4001_3804, stores = \"ignored\", console = true, load_poke = 0x4001_3800, load_value = 0}
 event 2 poke 40013800 20
-vectors 201
+word 54 201
 word E000E100 20
 word 4001380C 20
 word 100 E7FE
@@ -255,7 +255,7 @@ reg F 100
 in signal rise 5
 in signal rise 4
 in next
-out error 4
+out refused 2 NoSuchPlace
 out ok
 out Instruction";
 

@@ -6,7 +6,7 @@ use std::test::*;
 
 /// LDR R1, [R0] is 6801, LDR R2, [R0, #8] is 6882, STR R1, [R0] is 6001, STRB R1, [R0, #1] is 7041, STRH R1, [R0, #2]
 /// is 8041, LDRH R2, [R0, #2] is 8842, LDRB R3, [R0, #1] is 7843, ORRS R1, R2 is 4311, BX R0 is 4700, NOP is BF00,
-/// LDREX R1, [R0] is E850 1F00.
+/// LDREX R1, [R0] is E850 1F00, STREX R2, R1, [R0] is E840 1200.
 const WORDS: &str = "\
 bits follow the bits below them
 device {base = 0x4002_1000, start = 0x83, follows = 0x0202_0002}
@@ -328,6 +328,42 @@ steps 1
 trace 1 K 08080FE0 4 p bus off
 trace 1 ! 3 00001000 40000000
 trace stop steps
+
+a device gives no vector
+device {base = 0x6000_0000, size = 0x400, start = 0x201}
+event 1 pulse 0
+special 8 20001000
+word E000E100 1
+word E000ED08 60000000
+reg F 100
+steps 3
+trace 1 K 20000FE0 4 p ok off
+trace 1 K 20000FE4 4 p ok off
+trace 1 K 20000FE8 4 p ok off
+trace 1 K 20000FEC 4 p ok off
+trace 1 K 20000FF0 4 p ok off
+trace 1 K 20000FF4 4 p ok off
+trace 1 K 20000FF8 4 p ok off
+trace 1 K 20000FFC 4 p ok off
+trace 2 V 60000040 4 p bus vec
+trace 2 ! 3 00000000 00000002
+trace 3 V 6000000C 4 p bus vec
+trace 3 ! 0 00000000 00000002
+trace stop lockup
+
+a store exclusive that fails changes nothing where it probes
+device {base = 0x0808_0000, store_poke = 0x0808_0000, store_value = 8}
+word 100 1200E840
+reg 0 8080000
+reg 1 7
+reg F 100
+steps 1
+trace 1 F 00000100 2 p ok off
+trace 1 F 00000102 2 p ok off
+trace 1 P 08080000 4 p ok off
+trace stop steps
+after reg 2 1
+after shown 8080000 0
 
 an unaligned load of a device stops
 device {base = 0x4002_1000, start = 0x83, follows = 0x0202_0002}
