@@ -1,3 +1,5 @@
+pub mod Devices
 pub mod Scripts
 pub mod Ordered
+pub mod Lines
 pub mod Taken

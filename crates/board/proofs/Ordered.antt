@@ -4,25 +4,28 @@ use Rattle.std.proofs.Common.{◌≡◌, ℕ, ◌<◌, ◌≤◌, Bool, true, fa
 use Rattle.std.proofs.Common.{if◌then◌else◌, nat_lt, codes, refl, subst, arith}
 use Rattle.std.proofs.lemmas.Bool.Decides.{nat_tests}
 use Rattle.toml.specs.Data.{Data, Items, no_items, item, Members, get_member, as_bool, as_table}
+use Rattle.devices.specs.declared.device.Device.{Device}
+use Rattle.devices.specs.declared.device.Poke.{Poke as ThePoke}
 use Rattle.platform.specs.declared.error.BoardError.{BoardError}
 use Rattle.platform.specs.declared.error.BoardError.TheVariants.{OutOfRange, EventsOutOfOrder}
 use Rattle.platform.specs.declared.script.ScriptedEvent.{ScriptedEvent}
 use Rattle.platform.specs.declared.script.Signal.{Signal}
-use Rattle.platform.specs.declared.script.Signal.TheVariants.{Rise, Fall, Pulse, Nmi}
+use Rattle.platform.specs.declared.script.Signal.TheVariants.{Rise, Fall, Pulse, Nmi, Poke}
 use Rattle.platform.specs.Boards.{IsOfBoard, IsScriptFrom, is_tick}
 use Rattle.platform.specs.Time.{last_tick}
-use Rattle.board.specs.Texts.{◌>>=◌, change, event_in, in_front, interrupt_keys, interrupt_signal, nmi, nmi_keys}
-use Rattle.board.specs.Texts.{nmi_signal}
-use Rattle.board.specs.Texts.{number, of_kind, only, script_in, signal_in, timely_event, where_ok, word}
+use Rattle.board.specs.Devices.{has_32_bits, is_device_word}
+use Rattle.board.specs.Texts.{change, device_signal, event_in, in_front, interrupt_keys, interrupt_signal, is_free_line}
+use Rattle.board.specs.Texts.{nmi, nmi_keys, nmi_signal, poke_keys, poke_signal, script_in, signal_in, timely_event}
+use Rattle.board.specs.Values.{◌>>=◌, number, of_kind, only, where_ok, word}
 
 -- both steps were taken
-both : {A B : Type 0} (read : Result A BoardError) (next : A → Result B BoardError) (given : B) →
+pub both : {A B : Type 0} (read : Result A BoardError) (next : A → Result B BoardError) (given : B) →
     (read >>= next) ≡ Ok given → (value : A) × ((read ≡ Ok value) × (next value ≡ Ok given))
 both (Ok value) next given taken = (value, (refl, taken))
 both (Err error) next given taken = cc
 
 -- a number that was taken is in its range
-in_range : (ok : ℕ → Bool) (read : Result ℕ BoardError) (n : ℕ) → where_ok ok read ≡ Ok n → ok n ≡ true
+pub in_range : (ok : ℕ → Bool) (read : Result ℕ BoardError) (n : ℕ) → where_ok ok read ≡ Ok n → ok n ≡ true
 in_range ok (Err error) n taken = cc
 in_range ok (Ok m) n taken =
     let only_if : (b : Bool) → (if b then Ok m else Err OutOfRange) ≡ Ok n → (b ≡ true) × (m ≡ n) =
@@ -46,21 +49,38 @@ change_if interrupts interrupt false false true signal below taken =
     let same : Pulse interrupt ≡ signal = cc in subst (IsOfBoard interrupts) same below
 change_if interrupts interrupt false false false signal below taken = cc
 
-interrupt_is : (interrupts : ℕ) (event : Members) (signal : Signal) → interrupt_signal interrupts event ≡ Ok signal
-    → IsOfBoard interrupts signal
+free_is : (interrupts : ℕ) (devices : List Device) (interrupt : ℕ)
+    → is_free_line interrupts devices interrupt ≡ true → interrupt < interrupts
+free_is interrupts devices interrupt is = grind (arith, nat_tests)
+
+interrupt_is : (interrupts : ℕ) (devices : List Device) (event : Members) (signal : Signal)
+    → interrupt_signal interrupts devices event ≡ Ok signal → IsOfBoard interrupts signal
 unfolding interrupt_signal
-interrupt_is interrupts event signal taken =
+interrupt_is interrupts devices event signal taken =
     let (interrupt, at_interrupt) = both
-    (where_ok (λ n. nat_lt n interrupts) (number (get_member (codes "line") event))) _ signal
+    (where_ok (is_free_line interrupts devices) (number (get_member (codes "line") event))) _ signal
     taken in
     let (name, at_name) = both (word (get_member (codes "what") event)) _ signal at_interrupt.1 in
     let (change, at_change) = both (change interrupt name) _ signal at_name.1 in
     let (known, at_known) = both (only interrupt_keys event) _ signal at_change.1 in
     let same : change ≡ signal = cc in
-    let passed : nat_lt interrupt interrupts ≡ true =
-    in_range (λ n. nat_lt n interrupts) (number (get_member (codes "line") event)) interrupt at_interrupt.0 in
-    let below : interrupt < interrupts = grind (arith, nat_tests) in
+    let passed : is_free_line interrupts devices interrupt ≡ true =
+    in_range (is_free_line interrupts devices) (number (get_member (codes "line") event)) interrupt at_interrupt.0 in
+    let below : interrupt < interrupts = free_is interrupts devices interrupt passed in
     subst (IsOfBoard interrupts) same (change_if interrupts interrupt _ _ _ change below at_change.0)
+
+-- a poke is on no interrupt
+poke_is : (interrupts : ℕ) (devices : List Device) (value : Data) (event : Members) (signal : Signal)
+    → poke_signal devices value event ≡ Ok signal → IsOfBoard interrupts signal
+unfolding poke_signal
+poke_is interrupts devices value event signal taken =
+    let (address, at_address) = both (where_ok (is_device_word devices) (number (Some value))) _ signal taken in
+    let (content, at_content) = both (where_ok has_32_bits (number (get_member (codes "value") event))) _ signal
+    at_address.1 in
+    let (known, at_known) = both (only poke_keys event) _ signal at_content.1 in
+    let poke : ThePoke = record { address = address; value = content } in
+    let same : Poke poke ≡ signal = cc in
+    subst (IsOfBoard interrupts) same tt
 
 nmi_is : (interrupts : ℕ) (value : Option Bool) (signal : Signal) → nmi value ≡ Ok signal → IsOfBoard interrupts signal
 nmi_is interrupts None signal taken = cc
@@ -76,26 +96,33 @@ nmi_signal_is interrupts value event signal taken =
     let same : what ≡ signal = cc in
     subst (IsOfBoard interrupts) same (nmi_is interrupts (as_bool value) what at_what.0)
 
-signal_is : (interrupts : ℕ) (event : Members) (value : Option Data) (signal : Signal) →
-    signal_in interrupts event value ≡ Ok signal → IsOfBoard interrupts signal
-signal_is interrupts event None signal taken = interrupt_is interrupts event signal taken
-signal_is interrupts event (Some value) signal taken = nmi_signal_is interrupts value event signal taken
+device_signal_is : (interrupts : ℕ) (devices : List Device) (event : Members) (value : Option Data) (signal : Signal)
+    → device_signal interrupts devices event value ≡ Ok signal → IsOfBoard interrupts signal
+device_signal_is interrupts devices event None signal taken = interrupt_is interrupts devices event signal taken
+device_signal_is interrupts devices event (Some value) signal taken =
+    poke_is interrupts devices value event signal taken
+
+signal_is : (interrupts : ℕ) (devices : List Device) (event : Members) (value : Option Data) (signal : Signal)
+    → signal_in interrupts devices event value ≡ Ok signal → IsOfBoard interrupts signal
+signal_is interrupts devices event None signal taken =
+    device_signal_is interrupts devices event (get_member (codes "poke") event) signal taken
+signal_is interrupts devices event (Some value) signal taken = nmi_signal_is interrupts value event signal taken
 
 -- an event that was read applies in a tick of the clock, on an interrupt of the board
 abbrev IsRead : ℕ → ScriptedEvent → Type 0
 IsRead interrupts event = (event.at ≤ last_tick) × IsOfBoard interrupts event.what
 
-event_is : (interrupts : ℕ) (fields : Members) (event : ScriptedEvent) → event_in interrupts fields ≡ Ok event
+event_is : (interrupts : ℕ) (devices : List Device) (fields : Members) (event : ScriptedEvent) → event_in interrupts devices fields ≡ Ok event
     → IsRead interrupts event
 unfolding event_in
-event_is interrupts fields event taken =
+event_is interrupts devices fields event taken =
     let (at, at_tick) = both (where_ok is_tick (number (get_member (codes "at") fields))) _ event taken in
-    let (what, at_what) = both (signal_in interrupts fields (get_member (codes "nmi") fields)) _ event at_tick.1 in
+    let (what, at_what) = both (signal_in interrupts devices fields (get_member (codes "nmi") fields)) _ event at_tick.1 in
     let given : ScriptedEvent = record { at = at; what = what } in
     let same : given ≡ event = cc in
     let passed : is_tick at ≡ true = in_range is_tick (number (get_member (codes "at") fields)) at at_tick.0 in
     let last : at ≤ last_tick = grind (arith, nat_tests) in
-    subst (IsRead interrupts) same (last, signal_is interrupts fields (get_member (codes "nmi") fields) what at_what.0)
+    subst (IsRead interrupts) same (last, signal_is interrupts devices fields (get_member (codes "nmi") fields) what at_what.0)
 
 -- and it is no earlier than the tick of the one before
 timely_if : (late : Bool) (read event : ScriptedEvent) →
@@ -103,30 +130,30 @@ timely_if : (late : Bool) (read event : ScriptedEvent) →
 timely_if true read event taken = cc
 timely_if false read event taken = (refl, cc)
 
-timely_is : (interrupts before : ℕ) (value : Data) (event : ScriptedEvent) →
-    timely_event interrupts before value ≡ Ok event → (before ≤ event.at) × IsRead interrupts event
+timely_is : (interrupts : ℕ) (devices : List Device) (before : ℕ) (value : Data) (event : ScriptedEvent) →
+    timely_event interrupts devices before value ≡ Ok event → (before ≤ event.at) × IsRead interrupts event
 unfolding timely_event
-timely_is interrupts before value event taken =
+timely_is interrupts devices before value event taken =
     let (fields, at_fields) = both (of_kind (as_table value)) _ event taken in
-    let (read, at_read) = both (event_in interrupts fields) _ event at_fields.1 in
+    let (read, at_read) = both (event_in interrupts devices fields) _ event at_fields.1 in
     let (late, same) = timely_if (nat_lt read.at before) read event at_read.1 in
     let after : before ≤ read.at = grind (arith, nat_tests) in
     subst (λ event. (before ≤ event.at) × IsRead interrupts event) same
-    (after, event_is interrupts fields read at_read.0)
+    (after, event_is interrupts devices fields read at_read.0)
 
 front : (event : ScriptedEvent) (read : Result (List ScriptedEvent) BoardError) (events : List ScriptedEvent) →
     in_front event read ≡ Ok events → (others : List ScriptedEvent) × ((read ≡ Ok others) × (event ∷ others ≡ events))
 front event (Ok others) events taken = (others, (refl, cc))
 front event (Err error) events taken = cc
 
-pub script_is : (interrupts before : ℕ) (items : Items) (events : List ScriptedEvent) →
-    script_in interrupts before items ≡ Ok events → IsScriptFrom interrupts before events
+pub script_is : (interrupts : ℕ) (devices : List Device) (before : ℕ) (items : Items) (events : List ScriptedEvent) →
+    script_in interrupts devices before items ≡ Ok events → IsScriptFrom interrupts before events
 unfolding script_in
-script_is interrupts before no_items events taken =
+script_is interrupts devices before no_items events taken =
     let same : [] ≡ events = cc in subst (IsScriptFrom interrupts before) same tt
-script_is interrupts before (item value values) events taken =
-    let (event, at_event) = both (timely_event interrupts before value) _ events taken in
-    let (others, at_others) = front event (script_in interrupts event.at values) events at_event.1 in
-    let is : (before ≤ event.at) × IsRead interrupts event = timely_is interrupts before value event at_event.0 in
+script_is interrupts devices before (item value values) events taken =
+    let (event, at_event) = both (timely_event interrupts devices before value) _ events taken in
+    let (others, at_others) = front event (script_in interrupts devices event.at values) events at_event.1 in
+    let is : (before ≤ event.at) × IsRead interrupts event = timely_is interrupts devices before value event at_event.0 in
     subst (IsScriptFrom interrupts before) at_others.1
-    (is.0, is.1.0, is.1.1, script_is interrupts event.at values others at_others.0)
+    (is.0, is.1.0, is.1.1, script_is interrupts devices event.at values others at_others.0)

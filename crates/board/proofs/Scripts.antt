@@ -8,7 +8,9 @@ use Rattle.toml.specs.View.{view, items_view}
 use Rattle.toml.specs.declared.value.Value.{Value}
 use Rattle.platform.specs.declared.error.BoardError.{BoardError}
 use Rattle.platform.specs.declared.script.ScriptedEvent.{ScriptedEvent}
-use Rattle.board.specs.Texts.{◌>>=◌, count, in_front, script_in, timely_event}
+use Rattle.devices.specs.declared.device.Device.{Device}
+use Rattle.board.specs.Texts.{in_front, script_in, timely_event}
+use Rattle.board.specs.Values.{◌>>=◌, count}
 
 -- the events that are read, or the first refusal
 abbrev Read : Type 0
@@ -25,51 +27,51 @@ after-in_front done event (Ok rest) = ap Ok (sym (append_assoc done (event ∷ [
 after-in_front done event (Err error) = refl
 
 -- the value at an index, and those after it
-script_in-next : (interrupts before : ℕ) (values : List Value) (index : ℕ) (value : Value) → index < length values →
+script_in-next : (interrupts : ℕ) (devices : List Device) (before : ℕ) (values : List Value) (index : ℕ) (value : Value) → index < length values →
     value ≡ get_or values index value →
-    script_in interrupts before (items_view (drop index values))
-    ≡ (timely_event interrupts before (view value)
-    >>= (λ event. in_front event (script_in interrupts event.at (items_view (drop (index + 1) values)))))
+    script_in interrupts devices before (items_view (drop index values))
+    ≡ (timely_event interrupts devices before (view value)
+    >>= (λ event. in_front event (script_in interrupts devices event.at (items_view (drop (index + 1) values)))))
 unfolding script_in
-script_in-next interrupts before values index value below is = rw (items_view-drop values index value below, ← is)
+script_in-next interrupts devices before values index value below is = rw (items_view-drop values index value below, ← is)
 
 -- an event that is refused
-pub refused : (interrupts before : ℕ) (values : List Value) (index : ℕ) (value : Value)
+pub refused : (interrupts : ℕ) (devices : List Device) (before : ℕ) (values : List Value) (index : ℕ) (value : Value)
     (done : List ScriptedEvent) (all : Read) (error : BoardError) →
-    index < length values → value ≡ get_or values index value → timely_event interrupts before (view value) ≡ Err error
+    index < length values → value ≡ get_or values index value → timely_event interrupts devices before (view value) ≡ Err error
     →
-    after done (script_in interrupts before (items_view (drop index values))) ≡ all → all ≡ Err error
-refused interrupts before values index value done all error below is outside whole =
+    after done (script_in interrupts devices before (items_view (drop index values))) ≡ all → all ≡ Err error
+refused interrupts devices before values index value done all error below is outside whole =
     sym whole
-    ∙ ap (after done) (script_in-next interrupts before values index value below is)
+    ∙ ap (after done) (script_in-next interrupts devices before values index value below is)
     ∙ ap (λ (read : Result ScriptedEvent BoardError).
     after done (read >>=
-    (λ event. in_front event (script_in interrupts event.at (items_view (drop (index + 1) values))))))
+    (λ event. in_front event (script_in interrupts devices event.at (items_view (drop (index + 1) values))))))
     outside
 
 -- an event that is taken
-pub taken : (interrupts before : ℕ) (values : List Value) (index : ℕ) (value : Value)
+pub taken : (interrupts : ℕ) (devices : List Device) (before : ℕ) (values : List Value) (index : ℕ) (value : Value)
     (done : List ScriptedEvent) (all : Read) (event : ScriptedEvent) →
-    index < length values → value ≡ get_or values index value → timely_event interrupts before (view value) ≡ Ok event →
-    after done (script_in interrupts before (items_view (drop index values))) ≡ all →
-    after (done ++ event ∷ []) (script_in interrupts event.at (items_view (drop (index + 1) values))) ≡ all
-taken interrupts before values index value done all event below is inside whole =
-    sym (after-in_front done event (script_in interrupts event.at (items_view (drop (index + 1) values))))
+    index < length values → value ≡ get_or values index value → timely_event interrupts devices before (view value) ≡ Ok event →
+    after done (script_in interrupts devices before (items_view (drop index values))) ≡ all →
+    after (done ++ event ∷ []) (script_in interrupts devices event.at (items_view (drop (index + 1) values))) ≡ all
+taken interrupts devices before values index value done all event below is inside whole =
+    sym (after-in_front done event (script_in interrupts devices event.at (items_view (drop (index + 1) values))))
     ∙ ap (λ (read : Result ScriptedEvent BoardError).
     after done (read >>=
-    (λ event. in_front event (script_in interrupts event.at (items_view (drop (index + 1) values))))))
+    (λ event. in_front event (script_in interrupts devices event.at (items_view (drop (index + 1) values))))))
     (sym inside)
-    ∙ ap (after done) (sym (script_in-next interrupts before values index value below is))
+    ∙ ap (after done) (sym (script_in-next interrupts devices before values index value below is))
     ∙ whole
 
 -- no value is left
-pub finished : (interrupts before : ℕ) (values : List Value) (index : ℕ) (done : List ScriptedEvent) (all : Read) →
-    length values ≤ index → after done (script_in interrupts before (items_view (drop index values))) ≡ all → all
+pub finished : (interrupts : ℕ) (devices : List Device) (before : ℕ) (values : List Value) (index : ℕ) (done : List ScriptedEvent) (all : Read) →
+    length values ≤ index → after done (script_in interrupts devices before (items_view (drop index values))) ≡ all → all
     ≡ Ok done
 unfolding script_in
-finished interrupts before values index done all past whole =
+finished interrupts devices before values index done all past whole =
     let nothing : drop index values ≡ [] = drop_of_length-le values past in
-    sym whole ∙ ap (λ (left : List Value). after done (script_in interrupts before (items_view left))) nothing
+    sym whole ∙ ap (λ (left : List Value). after done (script_in interrupts devices before (items_view left))) nothing
     ∙ ap Ok (append-nil done)
 
 -- the count of the items is the length of the list

@@ -1,6 +1,6 @@
 -- A board that was read has the numbers and the script that a start needs.
 use Rattle.std.proofs.Common.{◌≡◌, ℕ, ◌+◌, ◌%◌, ◌≤◌, Bool, true, ◌&&◌, Option, Some, None, option_map}
-use Rattle.std.proofs.Common.{List, [], unwrap_or, refl, arith}
+use Rattle.std.proofs.Common.{unwrap_or, refl, arith}
 use Rattle.std.proofs.lemmas.Bool.Decides.{nat_tests}
 use Rattle.board.proofs.Ordered.{script_is}
 use Rattle.board.specs.declared.board.Board.{Board}
@@ -11,7 +11,6 @@ use Rattle.platform.specs.declared.mpu.RegionCount.TheVariants.{Eight, Sixteen}
 use Rattle.platform.specs.declared.board.SecondRam.{SecondRam}
 use Rattle.platform.specs.Boards.{IsScript, Numbers, is_apart, is_flash, is_interrupt_count, is_region_count}
 use Rattle.platform.specs.Boards.{is_second_ram_or_none, is_second_size, is_size, is_whole_blocks, numbers_of, span_of}
-use Rattle.devices.specs.declared.device.Device.{Device}
 use Rattle.platform.specs.SystemInvariant.{HaveLinesOfBoard, IsBoard}
 use Rattle.platform.specs.Map.{is_for_memory, ram_base}
 use Rattle.platform.specs.Regions.{region_number}
@@ -48,13 +47,9 @@ second_fits numbers (Some s) apart =
     (is_apart numbers (span_of s)) (base_fits s.base s.base_is_whole)
     (second_size_fits s.size s.size_is_whole s.is_there s.is_small) s.is_for_memory apart
 
--- no device drives an interrupt that the board lacks
-none_drive : (interrupts : ℕ) (ds : List Device) → ds ≡ [] → HaveLinesOfBoard interrupts ds
-none_drive interrupts ds none = rw none tt
-
-pub is_board : (board : Board) → IsScript board.layout.interrupts board.events.items → board.devices.items ≡ []
-    → IsBoard (described board)
-is_board board script none = record {
+pub is_board : (board : Board) → IsScript board.layout.interrupts board.events.items
+    → HaveLinesOfBoard board.layout.interrupts board.devices.items → IsBoard (described board)
+is_board board script lines = record {
   flash =
       flash_fits board.layout.flash_base board.layout.flash_size board.layout.flash_is_whole board.layout.flash_is_there
       board.layout.flash_is_small board.layout.apart;
@@ -64,7 +59,7 @@ is_board board script none = record {
   interrupts = few_lines board.layout.interrupts board.layout.interrupts_are_few;
   regions = known_regions board.layout.regions;
   script = script;
-  devices = none_drive board.layout.interrupts board.devices.items none;
+  devices = lines;
 }
 
 pub ruleset board_lemmas = (script_is, is_board)

@@ -1,5 +1,5 @@
 -- What a table of a device means (profile): its keys one after another, each tested where it is read, so that the first
--- refusal is the result. Not part of `board_in` yet.
+-- refusal is the result.
 use Rattle.std.specs.Prelude.{◌≡◌, ℕ, ◌+◌, ◌%◌, ◌^◌, ◌<◌, ◌≤◌, Bool, true, false, ◌&&◌, ◌||◌, ◌==◌, not, nat_le, nat_lt}
 use Rattle.std.specs.Prelude.{bit_and, if◌then◌else◌, is_some, List, [], ◌∷◌, ◌++◌, codes, bytes_eq, Option, Some, None}
 use Rattle.std.specs.Prelude.{Result, Ok, Err, refl}
@@ -12,20 +12,21 @@ use Rattle.devices.specs.declared.device.Stores.{Stores}
 use Rattle.devices.specs.declared.device.Stores.TheVariants.{Kept, Ignored, OnesClear, ZerosClear}
 use Rattle.devices.specs.Table.{device_at}
 use Rattle.platform.specs.declared.error.BoardError.{BoardError}
-use Rattle.platform.specs.declared.error.BoardError.TheVariants.{OutOfRange}
+use Rattle.platform.specs.declared.error.BoardError.TheVariants.{OutOfRange, UnknownKey}
 use Rattle.platform.specs.Boards.{Numbers, RamSpan}
 use Rattle.platform.specs.Map.{are_apart, ram_base}
-use Rattle.board.specs.Texts.{◌>>=◌, number, number_or, of_kind, only, where_ok}
+use Rattle.board.specs.declared.device_parts.Effects.{Effects}
+use Rattle.board.specs.Values.{◌>>=◌, has_only, number, number_or, of_kind, tables_at, where_ok}
 
 -- ---- single values
 
 -- a number of 32 bits
-abbrev pub is_word : ℕ → Bool
-is_word n = nat_lt n (2 ^ 32)
+abbrev pub has_32_bits : ℕ → Bool
+has_32_bits n = nat_lt n (2 ^ 32)
 
--- the word at a key that may be missing: then it is 0
-abbrev pub word_at_key : List ℕ → Members → Result ℕ BoardError
-word_at_key key table = where_ok is_word (number_or 0 (get_member key table))
+-- the 32 bits at a key that may be missing: then they are 0
+abbrev pub bits_at : List ℕ → Members → Result ℕ BoardError
+bits_at key table = where_ok has_32_bits (number_or 0 (get_member key table))
 
 -- the boolean at a key that may be missing: then it is false
 abbrev pub flag : Option Data → Result Bool BoardError
@@ -81,12 +82,16 @@ most_device_bytes = 0x10_0000
 abbrev pub is_device_base : ℕ → Bool
 is_device_base base = (base % 4 == 0) && nat_le base 0xFFFF_FFFC
 
--- and have this many bytes, where the devices before it have `before`
+-- and have this many bytes
+abbrev pub is_device_bytes : ℕ → Bool
+is_device_bytes size = (size % 4 == 0) && (nat_le 4 size && nat_le size 65536)
+
+-- likewise on a board with these numbers, where the devices before it have `before` bytes
 abbrev pub is_device_size : Numbers → ℕ → ℕ → ℕ → Bool
 is_device_size numbers before base size =
-    (size % 4 == 0)
-    && (nat_le 4 size && (nat_le size 65536 && (nat_le (base + size) (2 ^ 32)
-    && (is_outside numbers base size && nat_le (before + size) most_device_bytes))))
+    is_device_bytes size
+    && (nat_le (base + size) (2 ^ 32)
+    && (is_outside numbers base size && nat_le (before + size) most_device_bytes))
 
 pub record Span : Type 0 where
   pub base : ℕ
@@ -103,12 +108,16 @@ span_in numbers before table = do
 abbrev pub is_own : Span → ℕ → Bool
 is_own span a = nat_le span.base a && nat_lt a (span.base + span.size)
 
--- whether a device before has the address
-abbrev pub is_before : List Device → ℕ → Bool
-is_before devices a = is_some (device_at devices a)
+-- whether one of some devices has the address
+abbrev pub is_in_device : List Device → ℕ → Bool
+is_in_device devices a = is_some (device_at devices a)
+
+-- the address of a word of one of some devices
+abbrev pub is_device_word : List Device → ℕ → Bool
+is_device_word devices a = (a % 4 == 0) && is_in_device devices a
 
 abbrev pub is_named : List Device → Span → ℕ → Bool
-is_named devices span a = (a % 4 == 0) && (is_before devices a || is_own span a)
+is_named devices span a = (a % 4 == 0) && (is_in_device devices a || is_own span a)
 
 -- whether a device, if there is one, counts
 abbrev pub counts_in : Option Device → Bool
@@ -140,11 +149,11 @@ address_where ok (Some value) = do
 
 unfoldable pub values_in : List Device → Span → Members → Result Values BoardError
 values_in devices span table = do
-  start ← word_at_key (codes "start") table
-  ones ← word_at_key (codes "ones") table
-  zeros ← where_ok (λ n. bit_and n ones == 0) (word_at_key (codes "zeros") table)
+  start ← bits_at (codes "start") table
+  ones ← bits_at (codes "ones") table
+  zeros ← where_ok (λ n. bit_and n ones == 0) (bits_at (codes "zeros") table)
   stores ← stores_at (get_member (codes "stores") table)
-  follows ← word_at_key (codes "follows") table
+  follows ← bits_at (codes "follows") table
   by ← where_ok (λ n. nat_lt n 32) (number_or 1 (get_member (codes "by") table))
   of ← address_where (is_followed devices span) (get_member (codes "of") table)
   counts ← flag (get_member (codes "counts") table)
@@ -161,17 +170,12 @@ values_in devices span table = do
 
 -- ---- what a load and a store do
 
-pub record Effects : Type 0 where
-  pub console : Bool
-  pub load_poke : Option Poke
-  pub store_poke : Option Poke
-
 -- the poke whose address is at one key, where there is one, and its value at another
 abbrev pub poke_where : (ℕ → Bool) → List ℕ → Members → Option Data → Result (Option Poke) BoardError
 poke_where ok key table None = Ok None
 poke_where ok key table (Some value) = do
   address ← where_ok ok (number (Some value))
-  content ← where_ok is_word (number (get_member key table))
+  content ← where_ok has_32_bits (number (get_member key table))
   Ok (Some (record { address = address; value = content }))
 
 unfoldable pub effects_in : List Device → Span → Members → Result Effects BoardError
@@ -198,7 +202,16 @@ is_driven (d ∷ ds) interrupt = is_line_of d.line interrupt || is_driven ds int
 abbrev pub is_device_line : ℕ → List Device → Span → Bool → ℕ → Bool
 is_device_line interrupts devices span counts interrupt =
     nat_lt interrupt interrupts
-    && (not (is_driven devices interrupt) && (not counts && not (is_before devices span.base)))
+    && (not (is_driven devices interrupt) && (not counts && not (is_in_device devices span.base)))
+
+-- a line of its parts; the test is one that its number has passed
+unfoldable pub line_of : ℕ → ℕ → Result (Option Line) BoardError
+line_of interrupt enable =
+    checked (nat_lt interrupt 240) (λ small. Some (record {
+      number = interrupt;
+      enable = enable;
+      number_is_small = ltb-true interrupt 240 small;
+    }))
 
 -- a line and the word that enables it, none that counts
 unfoldable pub line_in : ℕ → List Device → Span → Bool → Members → Option Data → Result (Option Line) BoardError
@@ -206,26 +219,33 @@ line_in interrupts devices span counts table None = Ok None
 line_in interrupts devices span counts table (Some value) = do
   interrupt ← where_ok (is_device_line interrupts devices span counts) (number (Some value))
   enable ← where_ok (is_followed devices span) (number (get_member (codes "enable") table))
-  checked (nat_lt interrupt 240) (λ small. Some (record {
-    number = interrupt;
-    enable = enable;
-    number_is_small = ltb-true interrupt 240 small;
-  }))
+  line_of interrupt enable
 
 -- ---- one table, and all
 
--- a key that goes with another one that the table has
-abbrev pub with_key : List ℕ → Option Data → List (List ℕ)
-with_key key None = []
-with_key key (Some value) = key ∷ []
-
-abbrev pub device_keys : Members → List (List ℕ)
-device_keys table =
+abbrev pub device_keys : List (List ℕ)
+device_keys =
     codes "base" ∷ codes "size" ∷ codes "start" ∷ codes "ones" ∷ codes "zeros" ∷ codes "stores" ∷ codes "follows"
-    ∷ codes "by" ∷ codes "of" ∷ codes "counts" ∷ codes "console" ∷ codes "load_poke" ∷ codes "store_poke"
-    ∷ codes "line" ∷ with_key (codes "load_value") (get_member (codes "load_poke") table)
-    ++ with_key (codes "store_value") (get_member (codes "store_poke") table)
-    ++ with_key (codes "enable") (get_member (codes "line") table)
+    ∷ codes "by" ∷ codes "of" ∷ codes "counts" ∷ codes "console" ∷ codes "load_poke" ∷ codes "load_value"
+    ∷ codes "store_poke" ∷ codes "store_value" ∷ codes "line" ∷ codes "enable" ∷ []
+
+abbrev pub has_key : List ℕ → Members → Bool
+has_key key table = is_some (get_member key table)
+
+-- a table has a key only beside another one
+abbrev pub goes_with : List ℕ → List ℕ → Members → Bool
+goes_with other key table = has_key other table || not (has_key key table)
+
+-- each key of a table is one of a device, and the table has the one that it goes with
+abbrev pub has_device_keys : Members → Bool
+has_device_keys table =
+    has_only device_keys table
+    && (goes_with (codes "load_poke") (codes "load_value") table
+    && (goes_with (codes "store_poke") (codes "store_value") table
+    && goes_with (codes "line") (codes "enable") table))
+
+abbrev pub known_keys : Members → Result Members BoardError
+known_keys table = if has_device_keys table then Ok table else Err UnknownKey
 
 -- a device of these parts; the tests are those that its parts have passed
 unfoldable pub device_of : Span → Values → Effects → Option Line → Result Device BoardError
@@ -262,17 +282,28 @@ device_in numbers before devices table = do
   values ← values_in devices span table
   effects ← effects_in devices span table
   line ← line_in numbers.interrupts devices span values.counts table (get_member (codes "line") table)
-  known ← only (device_keys table) table
+  known ← known_keys table
   device_of span values effects line
 
--- the devices of a list of tables, after those before it
+-- a device of a list of tables
+unfoldable pub listed_device : Numbers → ℕ → List Device → Data → Result Device BoardError
+listed_device numbers before devices value = do
+  table ← of_kind (as_table value)
+  device_in numbers before devices table
+
+-- the devices of a list of tables, after those before it, which have `before` bytes
 unfoldable pub devices_in : Numbers → ℕ → List Device → Items → Result (List Device) BoardError
 devices_in numbers before devices no_items = Ok devices
 devices_in numbers before devices (item value others) = do
-  table ← of_kind (as_table value)
-  device ← device_in numbers before devices table
+  device ← listed_device numbers before devices value
   devices_in numbers (before + device.size) (devices ++ device ∷ []) others
 
 -- a board has at most this many devices
 abbrev pub most_devices : ℕ
 most_devices = 256
+
+-- the devices of a document
+unfoldable pub devices_at : Numbers → Members → Result (List Device) BoardError
+devices_at numbers document = do
+  tables ← tables_at most_devices (get_member (codes "device") document)
+  devices_in numbers 0 [] tables

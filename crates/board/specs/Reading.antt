@@ -2,6 +2,9 @@
 use Rattle.std.specs.Prelude.{◌≡◌, ◌⊎◌, Result, Ok, Err, IsOk}
 use Rattle.platform.specs.Boards.{Described, numbers_of}
 use Rattle.board.specs.declared.board.Board.{Board}
+use Rattle.board.specs.declared.device_parts.Span.{Span as TheSpan}
+use Rattle.board.specs.declared.device_parts.Values.{Values as TheValues}
+use Rattle.board.specs.Devices.{Span, Values}
 use Rattle.platform.specs.declared.error.BoardError.{BoardError}
 use Rattle.platform.specs.declared.error.BoardError.TheVariants.{OutOfMemory}
 
@@ -11,6 +14,22 @@ described board = record {
   numbers = numbers_of board.layout;
   script = board.events.items;
   devices = board.devices.items;
+}
+
+-- where a device is, and what its words read as, as the definitions have them
+abbrev pub span_read : TheSpan → Span
+span_read span = record { base = span.base; size = span.size }
+
+abbrev pub values_read : TheValues → Values
+values_read values = record {
+  start = values.start;
+  ones = values.ones;
+  zeros = values.zeros;
+  stores = values.stores;
+  follows = values.follows;
+  by = values.by;
+  of = values.of;
+  counts = values.counts;
 }
 
 -- a result is the one that the definition reads, its value seen by a view

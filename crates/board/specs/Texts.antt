@@ -1,76 +1,34 @@
 -- What the text of a board means (profile), over the `toml` crate's meaning of a document (TOML 1.1). A check is made
 -- only where those before it passed, so the first refusal is the result.
-use Rattle.std.specs.Prelude.{ℕ, suc, ℤ, pos, negsuc, Bool, true, false, ◌&&◌, not, nat_le, nat_lt, if◌then◌else◌, List, []}
-use Rattle.std.specs.Prelude.{◌∷◌, codes, bytes_eq, Option, Some, None, Result, Ok, Err}
-use Rattle.std.specs.List.{list_any}
-use Rattle.toml.specs.Data.{Data, Items, no_items, item, Members, no_members, member, get_member, as_integer, as_str}
-use Rattle.toml.specs.Data.{as_bool, as_array, as_table}
+use Rattle.std.specs.Prelude.{ℕ, Bool, true, false, ◌&&◌, not, nat_le, nat_lt, if◌then◌else◌, List, [], ◌∷◌, codes}
+use Rattle.std.specs.Prelude.{bytes_eq, Option, Some, None, Result, Ok, Err}
+use Rattle.toml.specs.Data.{Data, Items, no_items, item, Members, get_member, as_bool, as_table}
 use Rattle.toml.specs.Parse.{parse_document}
+use Rattle.devices.specs.declared.device.Device.{Device}
 use Rattle.platform.specs.declared.error.BoardError.{BoardError}
-use Rattle.platform.specs.declared.error.BoardError.TheVariants.{NotToml, MissingKey, WrongKind, OutOfRange}
-use Rattle.platform.specs.declared.error.BoardError.TheVariants.{EventsOutOfOrder, UnknownKey}
+use Rattle.platform.specs.declared.error.BoardError.TheVariants.{NotToml, WrongKind, OutOfRange, EventsOutOfOrder}
 use Rattle.platform.specs.declared.script.ScriptedEvent.{ScriptedEvent}
 use Rattle.platform.specs.declared.script.Signal.{Signal}
-use Rattle.platform.specs.declared.script.Signal.TheVariants.{Rise, Fall, Pulse, Nmi}
+use Rattle.platform.specs.declared.script.Signal.TheVariants.{Rise, Fall, Pulse, Nmi, Poke}
 use Rattle.platform.specs.Boards.{Numbers, Described, RamSpan, is_whole_blocks, is_size, is_flash, is_priority_bits}
 use Rattle.platform.specs.Boards.{is_interrupt_count, is_second_ram}
 use Rattle.platform.specs.Boards.{is_region_count, default_regions, is_tick, first_tick, most_events}
-
--- one check, and then another with its result
-infixl 10 ◌>>=◌
-abbrev pub ◌>>=◌ : {A B : Type 0} → Result A BoardError → (A → Result B BoardError) → Result B BoardError
-(Ok given) >>= next = next given
-(Err error) >>= next = Err error
-
--- a value of the kind that its key takes
-abbrev pub of_kind : {A : Type 0} → Option A → Result A BoardError
-of_kind None = Err WrongKind
-of_kind (Some value) = Ok value
-
--- an integer that isn't negative: a whole number (`is_whole_blocks` in `Boards` is about whole blocks)
-abbrev pub whole : Option ℤ → Result ℕ BoardError
-whole None = Err WrongKind
-whole (Some (pos n)) = Ok n
-whole (Some (negsuc n)) = Err OutOfRange
-
--- the value at a key is a whole number
-abbrev pub number : Option Data → Result ℕ BoardError
-number None = Err MissingKey
-number (Some value) = whole (as_integer value)
-
--- likewise for a key that may be missing
-abbrev pub number_or : ℕ → Option Data → Result ℕ BoardError
-number_or default None = Ok default
-number_or default (Some value) = whole (as_integer value)
-
--- the value at a key is a word
-abbrev pub word : Option Data → Result (List ℕ) BoardError
-word None = Err MissingKey
-word (Some value) = of_kind (as_str value)
-
--- a number in its range
-abbrev pub where_ok : (ℕ → Bool) → Result ℕ BoardError → Result ℕ BoardError
-where_ok ok (Ok n) = if ok n then Ok n else Err OutOfRange
-where_ok ok (Err error) = Err error
-
--- each key is one of those that are known
-abbrev pub has_only : List (List ℕ) → Members → Bool
-has_only known no_members = true
-has_only known (member key value others) = list_any (bytes_eq key) known && has_only known others
-
-abbrev pub only : List (List ℕ) → Members → Result Members BoardError
-only known fields = if has_only known fields then Ok fields else Err UnknownKey
+use Rattle.board.specs.Values.{◌>>=◌, number, number_or, of_kind, only, tables_at, where_ok, word}
+use Rattle.board.specs.Devices.{devices_at, has_32_bits, is_device_word, is_driven}
 
 abbrev pub board_keys : List (List ℕ)
 board_keys =
     codes "flash_base" ∷ codes "flash_size" ∷ codes "ram_size" ∷ codes "priority_bits" ∷ codes "lines" ∷ codes "regions"
-    ∷ codes "ram" ∷ codes "event" ∷ []
+    ∷ codes "ram" ∷ codes "device" ∷ codes "event" ∷ []
 
 abbrev pub second_ram_keys : List (List ℕ)
 second_ram_keys = codes "base" ∷ codes "size" ∷ []
 
 abbrev pub interrupt_keys : List (List ℕ)
 interrupt_keys = codes "at" ∷ codes "line" ∷ codes "what" ∷ []
+
+abbrev pub poke_keys : List (List ℕ)
+poke_keys = codes "at" ∷ codes "poke" ∷ codes "value" ∷ []
 
 abbrev pub nmi_keys : List (List ℕ)
 nmi_keys = codes "at" ∷ codes "nmi" ∷ []
@@ -108,14 +66,26 @@ nmi None = Err WrongKind
 nmi (Some false) = Err OutOfRange
 nmi (Some true) = Ok Nmi
 
+-- an interrupt of the board that no device drives
+abbrev pub is_free_line : ℕ → List Device → ℕ → Bool
+is_free_line interrupts devices interrupt = nat_lt interrupt interrupts && not (is_driven devices interrupt)
+
 -- the signal of an event that names an interrupt of the board
-unfoldable pub interrupt_signal : ℕ → Members → Result Signal BoardError
-interrupt_signal interrupts event = do
-  interrupt ← where_ok (λ n. nat_lt n interrupts) (number (get_member (codes "line") event))
+unfoldable pub interrupt_signal : ℕ → List Device → Members → Result Signal BoardError
+interrupt_signal interrupts devices event = do
+  interrupt ← where_ok (is_free_line interrupts devices) (number (get_member (codes "line") event))
   name ← word (get_member (codes "what") event)
   signal ← change interrupt name
   known ← only interrupt_keys event
   Ok signal
+
+-- the signal of an event with `poke`, the address of a word of a device
+unfoldable pub poke_signal : List Device → Data → Members → Result Signal BoardError
+poke_signal devices value event = do
+  address ← where_ok (is_device_word devices) (number (Some value))
+  content ← where_ok has_32_bits (number (get_member (codes "value") event))
+  known ← only poke_keys event
+  Ok (Poke (record { address = address; value = content }))
 
 -- the signal of an event with `nmi`
 unfoldable pub nmi_signal : Data → Members → Result Signal BoardError
@@ -124,16 +94,22 @@ nmi_signal value event = do
   known ← only nmi_keys event
   Ok signal
 
--- the signal of an event, by whether it has `nmi`
-abbrev pub signal_in : ℕ → Members → Option Data → Result Signal BoardError
-signal_in interrupts event None = interrupt_signal interrupts event
-signal_in interrupts event (Some value) = nmi_signal value event
+-- the signal of an event without `nmi`, by whether it has `poke`
+abbrev pub device_signal : ℕ → List Device → Members → Option Data → Result Signal BoardError
+device_signal interrupts devices event None = interrupt_signal interrupts devices event
+device_signal interrupts devices event (Some value) = poke_signal devices value event
 
--- one event, on a board with that number of interrupts
-unfoldable pub event_in : ℕ → Members → Result ScriptedEvent BoardError
-event_in interrupts event = do
+-- the signal of an event, by whether it has `nmi`
+abbrev pub signal_in : ℕ → List Device → Members → Option Data → Result Signal BoardError
+signal_in interrupts devices event None =
+    device_signal interrupts devices event (get_member (codes "poke") event)
+signal_in interrupts devices event (Some value) = nmi_signal value event
+
+-- one event, on a board with that number of interrupts and these devices
+unfoldable pub event_in : ℕ → List Device → Members → Result ScriptedEvent BoardError
+event_in interrupts devices event = do
   at ← where_ok is_tick (number (get_member (codes "at") event))
-  what ← signal_in interrupts event (get_member (codes "nmi") event)
+  what ← signal_in interrupts devices event (get_member (codes "nmi") event)
   Ok (record { at = at; what = what })
 
 -- one event more, in front of those after it
@@ -142,46 +118,18 @@ in_front event (Ok events) = Ok (event ∷ events)
 in_front event (Err error) = Err error
 
 -- an event that is no earlier than a tick
-unfoldable pub timely_event : ℕ → ℕ → Data → Result ScriptedEvent BoardError
-timely_event interrupts before value = do
+unfoldable pub timely_event : ℕ → List Device → ℕ → Data → Result ScriptedEvent BoardError
+timely_event interrupts devices before value = do
   fields ← of_kind (as_table value)
-  event ← event_in interrupts fields
+  event ← event_in interrupts devices fields
   if nat_lt event.at before then Err EventsOutOfOrder else Ok event
 
 -- the events of a list, the first of them no earlier than a tick
-unfoldable pub script_in : ℕ → ℕ → Items → Result (List ScriptedEvent) BoardError
-script_in interrupts before no_items = Ok []
-script_in interrupts before (item value others) = do
-  event ← timely_event interrupts before value
-  in_front event (script_in interrupts event.at others)
-
--- how many items a list has
-abbrev pub count : Items → ℕ
-count no_items = 0
-count (item value others) = suc (count others)
-
--- the value is a table
-abbrev pub is_table : Option Members → Bool
-is_table None = false
-is_table (Some fields) = true
-
--- each item is a table
-abbrev pub are_tables : Items → Bool
-are_tables no_items = true
-are_tables (item value others) = is_table (as_table value) && are_tables others
-
--- a list of tables, not more than `most`
-abbrev pub tables : ℕ → Option Items → Result Items BoardError
-tables most None = Err WrongKind
-tables most (Some items) =
-    if not (are_tables items) then Err WrongKind
-    else if nat_lt most (count items) then Err OutOfRange
-    else Ok items
-
--- the tables at a key, which may be missing: then there are none
-abbrev pub tables_at : ℕ → Option Data → Result Items BoardError
-tables_at most None = Ok no_items
-tables_at most (Some value) = tables most (as_array value)
+unfoldable pub script_in : ℕ → List Device → ℕ → Items → Result (List ScriptedEvent) BoardError
+script_in interrupts devices before no_items = Ok []
+script_in interrupts devices before (item value others) = do
+  event ← timely_event interrupts devices before value
+  in_front event (script_in interrupts devices event.at others)
 
 -- a board has one table of a second RAM at most
 abbrev pub most_second_rams : ℕ
@@ -222,9 +170,10 @@ board_in document = do
   numbers ← numbers_in document
   known ← only board_keys document
   all ← with_second_ram numbers document
-  items ← tables_at most_events (get_member (codes "event") document)
-  script ← script_in all.interrupts first_tick items
-  Ok (record { numbers = all; script = script; devices = [] })
+  devices ← devices_at all document
+  events ← tables_at most_events (get_member (codes "event") document)
+  script ← script_in all.interrupts devices first_tick events
+  Ok (record { numbers = all; script = script; devices = devices })
 
 -- the board of what was parsed
 abbrev pub board_of_document : Option Members → Result Described BoardError

@@ -1,16 +1,21 @@
 //! The script of a board: its events, in the order of the text.
 
 ghost use Rattle.std.specs.Prelude.{◌≡◌, ◌≤◌, ◌<◌, ◌++◌, ◌∷◌, [], true, false, option_map, IfOk, IsOk, length};
+ghost use Rattle.std.specs.Bool.{OnTrue};
 ghost use Rattle.toml.specs.Data.{get_member, as_table};
 ghost use Rattle.toml.specs.View.{table_view, view, items_view};
 ghost use Rattle.platform.specs.Boards.{IsScript, IsScriptFrom};
 ghost use Rattle.board.specs.Reading.{Answers, Gives};
-ghost use Rattle.board.specs.Texts.{are_tables, change, event_in, is_table, interrupt_signal, nmi, nmi_signal};
-ghost use Rattle.board.specs.Texts.{script_in, signal_in, tables_at, timely_event};
+ghost use Rattle.board.specs.Texts.{change, device_signal, event_in, interrupt_signal, is_free_line, nmi, nmi_signal};
+ghost use Rattle.board.specs.Texts.{poke_signal, script_in, signal_in, timely_event};
+ghost use Rattle.board.specs.Values.{are_tables, is_table, tables_at};
 
-use crate::keys::{INTERRUPT_KEYS, NMI_KEYS, has_only};
+use crate::device_ranges::has_32_bits;
+use crate::device_span::{is_device_word, is_driven};
+use crate::keys::{INTERRUPT_KEYS, NMI_KEYS, POKE_KEYS, has_only};
 use crate::ranges::{FIRST_TICK, is_tick};
 use crate::values::{find, number, word};
+use devices::{Device, Poke};
 use platform::error::BoardError;
 use platform::exception::MOST_INTERRUPTS;
 use platform::script::{InterruptNumber, ScriptedEvent, Signal};
@@ -23,8 +28,9 @@ pub const MOST_SCRIPT_EVENTS: usize = 65_536;
 // The tables at a key, which may be missing: a list of tables, at most `most`.
 #[tactic(auto, using(crate::proofs::Scripts::count_is))]
 pub fn tables(value: Option<&Value>, most: usize) -> Result<&[Value], BoardError>
-    ensures { Gives (λ values. items_view values.now) result
+    ensures read { Gives (λ values. items_view values.now) result
         (tables_at most (option_map (λ v. view v.now) value.entry)) }
+    ensures few { IfOk result (λ values. length values.now ≤ most) }
 {
     let Some(value) = value else {
         return Ok(&[]);
@@ -53,21 +59,23 @@ fn are_tables(values: &[Value]) -> bool
     true
 }
 
-// The events of a list of tables, on a board of `interrupts` interrupts. A refusal comes before out of
-// memory: where an event has no room, those after it are still checked.
+// The events of a list of tables, on a board of `interrupts` interrupts with these devices. A refusal comes before out
+// of memory: where an event has no room, those after it are still checked.
 pub fn script_of(
     alloc: Global,
     interrupts: u8,
+    devices: &[Device],
     values: &[Value],
 ) -> Result<Vec<ScriptedEvent>, BoardError>
     requires { interrupts ≤ MOST_INTERRUPTS }
-    ensures { Answers (λ events. events.items) result (script_in interrupts FIRST_TICK (items_view values.now)) }
+    ensures { Answers (λ events. events.items) result
+        (script_in interrupts devices.now FIRST_TICK (items_view values.now)) }
 {
     let mut events = Vec::new(alloc);
     let mut is_complete = true;
     let mut before = FIRST_TICK;
     'values: for value in values {
-        let ScriptedEvent { at, what } = timely_event(interrupts, before, value)?;
+        let ScriptedEvent { at, what } = timely_event(interrupts, devices, before, value)?;
         before = at;
         is_complete = gather(&mut events, is_complete, ScriptedEvent { at, what });
     }
@@ -94,14 +102,19 @@ fn gather(events: &mut Vec<ScriptedEvent>, is_complete: bool, event: ScriptedEve
 
 // An event that is no earlier than a tick.
 #[tactic(auto, unfolding(crate::specs::Texts::timely_event))]
-fn timely_event(interrupts: u8, before: u64, value: &Value) -> Result<ScriptedEvent, BoardError>
+fn timely_event(
+    interrupts: u8,
+    devices: &[Device],
+    before: u64,
+    value: &Value,
+) -> Result<ScriptedEvent, BoardError>
     requires { interrupts ≤ MOST_INTERRUPTS }
-    ensures { result ≡ timely_event interrupts before (view value.now) }
+    ensures { result ≡ timely_event interrupts devices.now before (view value.now) }
 {
     let Some(fields) = value.as_table() else {
         return Err(BoardError::WrongKind);
     };
-    let event = event_of(interrupts, fields)?;
+    let event = event_of(interrupts, devices, fields)?;
     if event.at < before {
         return Err(BoardError::EventsOutOfOrder);
     }
@@ -110,37 +123,90 @@ fn timely_event(interrupts: u8, before: u64, value: &Value) -> Result<ScriptedEv
 
 // One event.
 #[tactic(auto, unfolding(crate::specs::Texts::event_in))]
-fn event_of(interrupts: u8, event: &Table) -> Result<ScriptedEvent, BoardError>
+fn event_of(interrupts: u8, devices: &[Device], event: &Table) -> Result<ScriptedEvent, BoardError>
     requires { interrupts ≤ MOST_INTERRUPTS }
-    ensures { result ≡ event_in interrupts (table_view event.now) }
+    ensures { result ≡ event_in interrupts devices.now (table_view event.now) }
 {
     let at = number(find(event, "at"))?;
     if !is_tick(at) {
         return Err(BoardError::OutOfRange);
     }
-    let what = signal_of(interrupts, event, find(event, "nmi"))?;
+    let what = signal_of(interrupts, devices, event, find(event, "nmi"))?;
     Ok(ScriptedEvent { at, what })
 }
 
 // The signal of an event, by whether it has `nmi`.
-fn signal_of(interrupts: u8, event: &Table, value: Option<&Value>) -> Result<Signal, BoardError>
+fn signal_of(
+    interrupts: u8,
+    devices: &[Device],
+    event: &Table,
+    value: Option<&Value>,
+) -> Result<Signal, BoardError>
     requires { interrupts ≤ MOST_INTERRUPTS }
-    ensures { result ≡ signal_in interrupts (table_view event.now) (option_map (λ v. view v.now) value.entry) }
+    ensures { result ≡ signal_in interrupts devices.now (table_view event.now)
+        (option_map (λ v. view v.now) value.entry) }
 {
     match value {
-        None => interrupt_signal(interrupts, event),
+        None => device_signal(interrupts, devices, event, find(event, "poke")),
         Some(value) => nmi_signal(value, event),
     }
 }
 
+// The signal of an event without `nmi`, by whether it has `poke`.
+fn device_signal(
+    interrupts: u8,
+    devices: &[Device],
+    event: &Table,
+    value: Option<&Value>,
+) -> Result<Signal, BoardError>
+    requires { interrupts ≤ MOST_INTERRUPTS }
+    ensures { result ≡ device_signal interrupts devices.now (table_view event.now)
+        (option_map (λ v. view v.now) value.entry) }
+{
+    match value {
+        None => interrupt_signal(interrupts, devices, event),
+        Some(value) => poke_signal(devices, value, event),
+    }
+}
+
+// The signal of an event that pokes a word of a device.
+#[tactic(auto, unfolding(crate::specs::Texts::poke_signal))]
+fn poke_signal(devices: &[Device], value: &Value, event: &Table) -> Result<Signal, BoardError>
+    ensures { result ≡ poke_signal devices.now (view value.now) (table_view event.now) }
+{
+    let address = number(Some(value))?;
+    if !is_device_word(devices, address) {
+        return Err(BoardError::OutOfRange);
+    }
+    let content = number(find(event, "value"))?;
+    if !has_32_bits(content) {
+        return Err(BoardError::OutOfRange);
+    }
+    if !has_only(&POKE_KEYS, event) {
+        return Err(BoardError::UnknownKey);
+    }
+    Ok(Signal::Poke(Poke {
+        address: address as u32,
+        value: content as u32,
+    }))
+}
+
+/// Returns whether an interrupt is one of the board, which has `interrupts`, and no device drives it.
+pub fn is_free_line(interrupts: u8, devices: &[Device], interrupt: u64) -> bool
+    ensures test { result ≡ is_free_line interrupts devices.now interrupt }
+    ensures few { OnTrue result (interrupt < interrupts) }
+{
+    interrupt < u64::from(interrupts) && !is_driven(devices, interrupt)
+}
+
 // The signal of an event that names an interrupt of the board.
 #[tactic(auto, unfolding(crate::specs::Texts::interrupt_signal))]
-fn interrupt_signal(interrupts: u8, event: &Table) -> Result<Signal, BoardError>
+fn interrupt_signal(interrupts: u8, devices: &[Device], event: &Table) -> Result<Signal, BoardError>
     requires { interrupts ≤ MOST_INTERRUPTS }
-    ensures { result ≡ interrupt_signal interrupts (table_view event.now) }
+    ensures { result ≡ interrupt_signal interrupts devices.now (table_view event.now) }
 {
     let interrupt = number(find(event, "line"))?;
-    if interrupt >= u64::from(interrupts) {
+    if !is_free_line(interrupts, devices, interrupt) {
         return Err(BoardError::OutOfRange);
     }
     let name = word(find(event, "what"))?;

@@ -3,12 +3,12 @@
 ghost use Rattle.std.specs.Prelude.{◌≡◌, map, bytes_eq};
 ghost use Rattle.std.specs.List.{list_any};
 ghost use Rattle.toml.specs.View.{table_view};
-ghost use Rattle.board.specs.Texts.{has_only};
+ghost use Rattle.board.specs.Values.{has_only};
 
 use toml::Table;
 
 /// The keys of a board.
-pub const BOARD_KEYS: [&str; 8] = [
+pub const BOARD_KEYS: [&str; 9] = [
     "flash_base",
     "flash_size",
     "ram_size",
@@ -16,14 +16,39 @@ pub const BOARD_KEYS: [&str; 8] = [
     "lines",
     "regions",
     "ram",
+    "device",
     "event",
 ];
 
 /// The keys of a second RAM.
 pub const SECOND_RAM_KEYS: [&str; 2] = ["base", "size"];
 
+/// The keys of a device.
+pub const DEVICE_KEYS: [&str; 17] = [
+    "base",
+    "size",
+    "start",
+    "ones",
+    "zeros",
+    "stores",
+    "follows",
+    "by",
+    "of",
+    "counts",
+    "console",
+    "load_poke",
+    "load_value",
+    "store_poke",
+    "store_value",
+    "line",
+    "enable",
+];
+
 /// The keys of an event on an interrupt.
 pub const INTERRUPT_KEYS: [&str; 3] = ["at", "line", "what"];
+
+/// The keys of an event that pokes a word of a device.
+pub const POKE_KEYS: [&str; 3] = ["at", "poke", "value"];
 
 /// The keys of an event of NMI.
 pub const NMI_KEYS: [&str; 2] = ["at", "nmi"];

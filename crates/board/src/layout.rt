@@ -5,7 +5,8 @@ ghost use Rattle.toml.specs.View.{table_view};
 ghost use Rattle.platform.specs.Boards.{is_region_count, numbers_of};
 ghost use Rattle.platform.specs.Regions.{region_number};
 ghost use Rattle.board.specs.Reading.{Gives};
-ghost use Rattle.board.specs.Texts.{numbers_in, where_ok};
+ghost use Rattle.board.specs.Texts.{numbers_in};
+ghost use Rattle.board.specs.Values.{where_ok};
 
 use crate::ranges::{is_flash, is_interrupt_count, is_priority_bits, is_size, is_whole_blocks};
 use crate::values::{find, number, number_or};

@@ -1,5 +1,5 @@
-//! The reader of board files: the numbers of a board, its second RAM, and the script of what happens on its
-//! interrupts, in TOML. README.md says what is proved.
+//! The reader of board files: the numbers of a board, its second RAM, its devices, and the script of what happens on its
+//! interrupts and to its devices, in TOML. README.md says what is proved.
 #![tactic(auto)]
 
 ghost use Rattle.std.specs.Prelude.{◌≡◌, ◌⊎◌, Err, IfOk};
@@ -11,7 +11,14 @@ ghost use Rattle.board.specs.Texts.{board_in, board_of};
 ghost use Rattle.board.specs.Reading.{Answers, described};
 
 mod board;
+mod device_effects;
+mod device_parts;
+pub mod device_ranges;
+mod device_span;
+mod device_tables;
+mod device_values;
 mod events;
+mod found;
 pub mod keys;
 mod layout;
 pub mod ranges;
@@ -19,15 +26,22 @@ mod second_ram;
 mod values;
 
 pub use board::Board;
-pub use events::{MOST_SCRIPT_EVENTS, change, nmi};
+pub use device_effects::{effects_in, is_device_line, line_in};
+pub use device_parts::{Effects, Span, Values};
+pub use device_span::{is_device_word, is_driven, is_followed, is_in_device, is_named, span_in};
+pub use device_tables::{devices_at, goes_with, has_device_keys, listed_device};
+pub use device_values::{flag, stores_named, values_in};
+pub use devices::{Device, Line, MOST_DEVICES, Poke, Stores};
+pub use events::{MOST_SCRIPT_EVENTS, change, is_free_line, nmi};
 use events::{script_of, tables};
+pub use found::Found;
+use found::copied;
 use keys::{BOARD_KEYS, has_only};
 pub use layout::{DEFAULT_REGIONS, layout_of, region_count};
 pub use platform::board::{Layout, SecondRam};
 pub use platform::error::BoardError;
 pub use platform::script::{InterruptNumber, ScriptedEvent, Signal};
-pub use second_ram::MOST_SECOND_RAMS;
-use second_ram::with_second_ram;
+pub use second_ram::{MOST_SECOND_RAMS, with_second_ram};
 use std::alloc::Global;
 use toml::Table;
 pub use values::{find, number, word};
@@ -63,9 +77,13 @@ pub fn board_of_table(alloc: Global, document: &Table) -> Result<Board, BoardErr
         return Err(BoardError::UnknownKey);
     }
     let layout = with_second_ram(layout, document)?;
+    let found = devices_at(&layout, document)?;
+    let devices = found.devices();
     let values = tables(find(document, "event"), MOST_SCRIPT_EVENTS)?;
-    let events = script_of(alloc, layout.interrupts, values)?;
-    let devices = Vec::new(alloc);
+    let events = script_of(alloc, layout.interrupts, devices, values)?;
+    let Ok(devices) = copied(alloc, devices) else {
+        return Err(BoardError::OutOfMemory);
+    };
     Ok(Board {
         layout,
         events,

@@ -17,7 +17,7 @@ use toml::{Table, Value};
 /// The most tables of a second RAM that a board can have.
 pub const MOST_SECOND_RAMS: usize = 1;
 
-// The layout with the second RAM of a document, if it has one.
+/// Returns the layout with the second RAM of a document, if it has one, or the first refusal.
 #[tactic(auto, unfolding(crate::specs::Texts::with_second_ram))]
 pub fn with_second_ram(layout: Layout, document: &Table) -> Result<Layout, BoardError>
     ensures { Gives numbers_of result (with_second_ram (numbers_of layout) (table_view document.now)) }

@@ -4,7 +4,7 @@ ghost use Rattle.std.specs.Prelude.{◌≡◌, ◌<◌, ◌^◌, option_map, IfO
 ghost use Rattle.toml.specs.Data.{get_member};
 ghost use Rattle.toml.specs.View.{table_view, view};
 ghost use Rattle.board.specs.Reading.{Gives};
-ghost use Rattle.board.specs.Texts.{number, number_or, whole, word};
+ghost use Rattle.board.specs.Values.{number, number_or, whole, word};
 
 use platform::error::BoardError;
 use toml::{Table, Value};
@@ -30,7 +30,9 @@ pub fn number(value: Option<&Value>) -> Result<u64, BoardError>
 
 // The whole number of a key that may be missing, which then is the default.
 pub fn number_or(value: Option<&Value>, default: u64) -> Result<u64, BoardError>
-    ensures { result ≡ number_or default (option_map (λ v. view v.now) value.entry) }
+    requires { default < 2 ^ 63 }
+    ensures number { result ≡ number_or default (option_map (λ v. view v.now) value.entry) }
+    ensures small { IfOk result (λ n. n < 2 ^ 63) }
 {
     match value {
         None => Ok(default),

@@ -1,5 +1,7 @@
 mod accesses;
 mod boards;
+mod device_tables;
+mod devices;
 mod images;
 mod intervals;
 mod levels;

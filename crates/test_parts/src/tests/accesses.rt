@@ -3,8 +3,8 @@
 use super::memory::blank;
 use super::words::{request, rule_word};
 use access::{Bus, Cause, CodeMemory, Counting, Performed, PlainLevels, Script, Search, System};
-use devices::Devices;
 use decode::Reread;
+use devices::Devices;
 use std::test::*;
 use test_tables::{Rows, check, part, word};
 
@@ -56,13 +56,13 @@ fn each_access_is_decided_in_the_state_before_it(rt: HostRuntime) -> Result<(), 
     let bus = Bus::new(
         memory,
         System::reset(
-        0,
-        8,
-        4,
-        8,
-        Script::new(rt.alloc(), &[])?,
-        Devices::new(rt.alloc(), &[])?,
-    ),
+            0,
+            8,
+            4,
+            8,
+            Script::new(rt.alloc(), &[])?,
+            Devices::new(rt.alloc(), &[])?,
+        ),
     );
     let mut accesses = Accesses { bus };
     check(ACCESSES, &mut accesses)?;

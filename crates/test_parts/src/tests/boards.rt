@@ -16,7 +16,7 @@ priority_bits = 4
 lines = 8";
 
 /// Appends to a text. A growth that is refused is tried again, once.
-fn push(text: &mut String, more: &str) -> Option<()> {
+pub fn push(text: &mut String, more: &str) -> Option<()> {
     match text.push_str(more) {
         Ok(()) => Some(()),
         Err(_) => text.push_str(more).ok(),
@@ -24,13 +24,13 @@ fn push(text: &mut String, more: &str) -> Option<()> {
 }
 
 /// Appends a line to a text.
-fn push_line(text: &mut String, line: &str) -> Option<()> {
+pub fn push_line(text: &mut String, line: &str) -> Option<()> {
     push(text, line)?;
     push(text, "\n")
 }
 
 /// The small board with another line at a place, or after its five lines, and then this.
-fn text_of(alloc: Global, place: u32, line: &str, rest: &str) -> Option<String> {
+pub fn text_of(alloc: Global, place: u32, line: &str, rest: &str) -> Option<String> {
     let mut text = String::new(alloc);
     'lines: for (index, small) in SMALL.lines().enumerate() {
         let line = if index == place as usize { line } else { small };
@@ -44,7 +44,7 @@ fn text_of(alloc: Global, place: u32, line: &str, rest: &str) -> Option<String> 
 }
 
 /// The board of a text. A growth that is refused is tried again, once.
-fn read(alloc: Global, text: &str) -> Result<Board, BoardError> {
+pub fn read(alloc: Global, text: &str) -> Result<Board, BoardError> {
     match read_board(alloc, text) {
         Err(BoardError::OutOfMemory) => read_board(alloc, text),
         answer => answer,
@@ -65,7 +65,7 @@ fn name(number: u8) -> &'static str {
 }
 
 /// What a text is: `Taken`, or the name of its refusal.
-fn answer(alloc: Global, text: &str) -> &'static str {
+pub fn answer(alloc: Global, text: &str) -> &'static str {
     match read(alloc, text) {
         Ok(_) => "Taken",
         Err(error) => name(error as u8),
@@ -73,7 +73,7 @@ fn answer(alloc: Global, text: &str) -> &'static str {
 }
 
 /// What is between two rows of several lines.
-const BETWEEN: &str = "\n---\n";
+pub const BETWEEN: &str = "\n---\n";
 
 /// The small board with another line.
 #[derive(Drop)]

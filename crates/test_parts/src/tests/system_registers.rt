@@ -185,7 +185,10 @@ E0042000 00000000 | any | 0 00000000 | a word far from all registers";
 
 #[test]
 fn each_register(rt: HostRuntime) -> Result<(), Fail> {
-    let system = reset(Script::new(rt.alloc(), &[])?, Devices::new(rt.alloc(), &[])?);
+    let system = reset(
+        Script::new(rt.alloc(), &[])?,
+        Devices::new(rt.alloc(), &[])?,
+    );
     check(REGISTERS, &mut Registers { system })
 }
 
@@ -201,7 +204,10 @@ E000ED9C 00000007 | word | 0 FFFFFFE7 FFFFFFF7 | MPU_RBAR of the last region";
 
 #[test]
 fn each_register_without_stops(rt: HostRuntime) -> Result<(), Fail> {
-    let system = reset(Script::new(rt.alloc(), &[])?, Devices::new(rt.alloc(), &[])?);
+    let system = reset(
+        Script::new(rt.alloc(), &[])?,
+        Devices::new(rt.alloc(), &[])?,
+    );
     check(WITHOUT_STOPS, &mut Registers { system })
 }
 
@@ -307,7 +313,10 @@ L byte E000ED0C 00000000 u | bus | privilege is asked first";
 
 #[test]
 fn exceptions_are_controlled(rt: HostRuntime) -> Result<(), Fail> {
-    let system = reset(Script::new(rt.alloc(), &[])?, Devices::new(rt.alloc(), &[])?);
+    let system = reset(
+        Script::new(rt.alloc(), &[])?,
+        Devices::new(rt.alloc(), &[])?,
+    );
     check(EXCEPTIONS, &mut Steps { system })
 }
 
@@ -362,7 +371,10 @@ L word E000ED08 00000000 p | 00000180 | keeps bits 31:7";
 
 #[test]
 fn handlers_and_faults(rt: HostRuntime) -> Result<(), Fail> {
-    let system = reset(Script::new(rt.alloc(), &[])?, Devices::new(rt.alloc(), &[])?);
+    let system = reset(
+        Script::new(rt.alloc(), &[])?,
+        Devices::new(rt.alloc(), &[])?,
+    );
     check(HANDLERS, &mut Steps { system })
 }
 
@@ -430,7 +442,10 @@ L word E000ED9C 00000000 p | 20000007 | and has its base";
 
 #[test]
 fn a_region_that_is_not_there(rt: HostRuntime) -> Result<(), Fail> {
-    let system = reset(Script::new(rt.alloc(), &[])?, Devices::new(rt.alloc(), &[])?);
+    let system = reset(
+        Script::new(rt.alloc(), &[])?,
+        Devices::new(rt.alloc(), &[])?,
+    );
     check(REGIONS, &mut Steps { system })
 }
 
@@ -526,7 +541,14 @@ fn ictr_counts_the_words_of_lines(rt: HostRuntime) -> Result<(), Fail> {
 #[test]
 fn sixteen_regions_and_240_lines(rt: HostRuntime) -> Result<(), Fail> {
     let script = Script::new(rt.alloc(), &[])?;
-    let mut system: PlainSystem = System::reset(0, 240, 8, 16, script, Devices::new(rt.alloc(), &[])?);
+    let mut system: PlainSystem = System::reset(
+        0,
+        240,
+        8,
+        16,
+        script,
+        Devices::new(rt.alloc(), &[])?,
+    );
     assert!(rt; loaded(&mut system, 0xE000_E004) == Some(7));
     assert!(rt; loaded(&mut system, 0xE000_ED90) == Some(0x1000));
     let last = access_of(Kind::Store, Size::Word, 0xE000_E11C, 0xFFFF_FFFF, true);

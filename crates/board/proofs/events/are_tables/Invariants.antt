@@ -1,6 +1,6 @@
 use Rattle.std.proofs.Common.{◌≡◌, drop}
 use Rattle.toml.specs.View.{items_view}
-use Rattle.board.specs.Texts.{are_tables}
+use Rattle.board.specs.Values.{are_tables}
 use Rattle.board.proofs.events.are_tables.Given as goal
 
 -- all values are tables just where those that are left are

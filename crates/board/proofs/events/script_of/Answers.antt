@@ -8,14 +8,14 @@ pub returns-in_err-at : goal.returns-in_err-at
 returns-in_err-at c =
     let p = err_from_is_err_and c.from_residual.result c.from_residual.ensures.1 in
     rw (p.1, p.2)
-    (inl ((refused _ _ _ _ _ _ _ _ c.values-test.true c.value-item.is (sym c.timely_event.ensures ∙ c.in_err-at.was)
+    (inl ((refused _ _ _ _ _ _ _ _ _ c.values-test.true c.value-item.is (sym c.timely_event.ensures ∙ c.in_err-at.was)
     c.values.invariant.whole)))
 
 -- an event is put after those that were read
 pub values-preserved : goal.values-preserved
 values-preserved c = record {
   done = c.values.invariant.done ++ c.in_ok-at.field-0 ∷ [];
-  whole = taken _ _ _ _ _ _ _ _ c.values-test.true c.value-item.is (sym c.timely_event.ensures ∙ c.in_ok-at.was)
+  whole = taken _ _ _ _ _ _ _ _ _ c.values-test.true c.value-item.is (sym c.timely_event.ensures ∙ c.in_ok-at.was)
       c.values.invariant.whole;
   gathered = λ whole. (c.gather-is_complete.ensures whole).1
       ∙ ap (λ events. events ++ c.in_ok-at.field-0 ∷ [])
@@ -24,9 +24,9 @@ values-preserved c = record {
 
 pub returns-then-not-is_complete : goal.returns-then-not-is_complete
 returns-then-not-is_complete c =
-    inr (refl, rw (finished _ _ _ _ _ _ c.values-test.false c.values.invariant.whole) refl)
+    inr (refl, rw (finished _ _ _ _ _ _ _ c.values-test.false c.values.invariant.whole) refl)
 
 pub returns : goal.returns
 returns c =
-    finished _ _ _ _ _ _ c.values-test.false c.values.invariant.whole
+    finished _ _ _ _ _ _ _ c.values-test.false c.values.invariant.whole
     ∙ ap Ok (sym (c.values.invariant.gathered c.if-not-is_complete.false))

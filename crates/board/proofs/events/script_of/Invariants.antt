@@ -9,7 +9,7 @@ use Rattle.board.proofs.events.script_of.Given as goal
 abbrev pub invariant-values : goal.invariant-values
 invariant-values l = record {
   done : List ScriptedEvent;
-  whole : after done (script_in l.interrupts l.before (items_view (drop l.value-index l.values)))
-      ≡ script_in l.interrupts 1 (items_view l.values);
+  whole : after done (script_in l.interrupts l.devices l.before (items_view (drop l.value-index l.values)))
+      ≡ script_in l.interrupts l.devices 1 (items_view l.values);
   gathered : l.is_complete ≡ true → l.events.items ≡ done;
 }
