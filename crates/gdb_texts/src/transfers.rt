@@ -158,10 +158,10 @@ fn put_block<const ROOM: usize>(page: &mut ArrayVec<u8, ROOM>, before: &[u8], st
 
 /// Appends blocks of RAM.
 fn put_rams<const ROOM: usize>(page: &mut ArrayVec<u8, ROOM>, stretches: &[Stretch])
-    requires few { length stretches.now ≤ 261 }
-    requires room { array_vec_len page.old + 16_704 ≤ ROOM }
+    requires few { length stretches.now ≤ 262 }
+    requires room { array_vec_len page.old + 16_768 ≤ ROOM }
     ensures text { page.new.items ≡ page.old.items ++ rams_text stretches.now }
-    ensures len { array_vec_len page.new ≤ array_vec_len page.old + 16_704 }
+    ensures len { array_vec_len page.new ≤ array_vec_len page.old + 16_768 }
 {
     'stretches: for stretch in stretches {
         put_ram(page, *stretch);
@@ -190,7 +190,7 @@ pub fn put_memory_map<const ROOM: usize>(
     devices: &[Device],
 )
     requires few { length devices.now ≤ 256 }
-    requires room { array_vec_len page.old + 17_344 ≤ ROOM }
+    requires room { array_vec_len page.old + 17_408 ≤ ROOM }
     ensures { page.new.items ≡ page.old.items ++ memory_map (numbers_of layout.now) devices.now }
 {
     put_text(page, MAP_HEAD.as_bytes());
