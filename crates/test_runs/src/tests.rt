@@ -4,6 +4,7 @@ mod board_messages;
 mod both;
 mod cut;
 mod cuts;
+mod device_messages;
 mod elf_files;
 mod exclusives;
 mod fault_registers;
