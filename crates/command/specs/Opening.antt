@@ -13,7 +13,7 @@ use Rattle.platform.specs.declared.error.BoardError.TheVariants.{NotToml, OutOfM
 use Rattle.platform.specs.declared.error.LoadError.{LoadError}
 use Rattle.platform.specs.declared.error.StartError.{StartError}
 use Rattle.platform.specs.declared.error.StartError.TheVariants.{NoMemory}
-use Rattle.platform.specs.Boards.{Described, Numbers, numbers_of}
+use Rattle.platform.specs.Boards.{Described, numbers_of}
 use Rattle.platform.specs.Images.{Segment}
 use Rattle.reference.specs.Start.{start}
 use Rattle.reference.specs.State.{State}
@@ -31,17 +31,20 @@ Reads read (Err error) = (read ≡ Err error) ⊎ (error ≡ OutOfMemory)
 abbrev pub whole_of : State → Whole
 whole_of s = record { state = s; broken = false }
 
--- the machine of a start state with the numbers of its board, or out of memory for it; or the refusal of the start
-abbrev pub Starts : Numbers → Result State StartError → Result Opened Error → Type 0
-Starts numbers (Ok s) (Ok opened) = (opened.machine ≡ whole_of s) × (numbers_of opened.layout ≡ numbers)
-Starts numbers (Ok s) (Err error) = error ≡ Start NoMemory
-Starts numbers (Err refusal) (Ok opened) = ⊥
-Starts numbers (Err refusal) (Err error) = error ≡ Start refusal
+-- the machine of a start state with the numbers and the devices of its board, or out of memory for it; or the refusal
+-- of the start
+abbrev pub Starts : Described → Result State StartError → Result Opened Error → Type 0
+Starts board (Ok s) (Ok opened) =
+    (opened.machine ≡ whole_of s) × (numbers_of opened.layout ≡ board.numbers)
+    × (opened.devices.items ≡ board.devices)
+Starts board (Ok s) (Err error) = error ≡ Start NoMemory
+Starts board (Err refusal) (Ok opened) = ⊥
+Starts board (Err refusal) (Err error) = error ≡ Start refusal
 
 -- an image or a board that is refused is refused as the definition refuses it, the image first; out of memory for
 -- the board may take the place of every later refusal
 abbrev pub Opens : Result (List Segment) LoadError → Result Described BoardError → Result Opened Error → Type 0
 Opens (Ok image) (Ok board) result =
-    Starts board.numbers (start board image) result ⊎ (result ≡ Err (Board OutOfMemory))
+    Starts board (start board image) result ⊎ (result ≡ Err (Board OutOfMemory))
 Opens (Ok image) (Err refusal) result = (result ≡ Err (Board refusal)) ⊎ (result ≡ Err (Board OutOfMemory))
 Opens (Err refusal) board result = result ≡ Err (Load refusal)

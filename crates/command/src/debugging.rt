@@ -55,6 +55,7 @@ fn hold_session<I: In, O: Out>(
     let Opened {
         mut machine,
         layout,
+        ..
     } = opened;
     let Ok(slots) = Slots::new(alloc, slots, &machine) else {
         return Err(Error::Start(StartError::NoMemory));

@@ -60,8 +60,9 @@ fn hold_gdb_session<I: In, O: Out>(
     let Opened {
         mut machine,
         layout,
+        devices,
     } = opened;
-    let Ok(server) = Server::new(alloc, steps, layout, &machine) else {
+    let Ok(server) = Server::new(alloc, steps, layout, devices, &machine) else {
         return Err(Error::Start(StartError::NoMemory));
     };
     match serve_machine(server, &mut machine, layout, steps, input, out) {
@@ -80,8 +81,9 @@ fn serve_machine<D: Decider, C: KeptCode, L: Levels, U: DueTicks, I: In, O: Out>
     input: &mut I,
     out: &mut O,
 ) -> Result<(), SessionError>
-    requires { server ≡ first steps (numbers_of layout) machine.old.state }
-    ensures talked { Sessions (gdb_session (numbers_of layout) steps machine.old.state) machine.old machine.new
+    requires { server ≡ first steps (numbers_of layout) server.session.devices machine.old.state }
+    ensures talked { Sessions (gdb_session (numbers_of layout) server.session.devices steps machine.old.state)
+        machine.old machine.new
         (I.reading input.old) (I.reading input.new) (O.writing out.old) (O.writing out.new) result }
     ensures sent { NothingWaits (O.writing out.new) result }
 {

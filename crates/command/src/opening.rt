@@ -5,6 +5,7 @@ ghost use Rattle.platform.specs.Images.{image_of};
 
 use crate::error::Error;
 use board::{Board, BoardError, read_board};
+use devices::Device;
 use elf::load;
 use machine::{Fast, Layout};
 use std::alloc::Global;
@@ -17,6 +18,8 @@ pub struct Opened {
     pub machine: Fast,
     /// The sizes and numbers of the board.
     pub layout: Layout,
+    /// The devices of the board.
+    pub devices: Vec<Device>,
 }
 
 /// Reads an image and a board, and makes their machine. The image is refused first, then the board, then the
@@ -30,6 +33,7 @@ pub fn open(alloc: Global, image: &[u8], board: &[u8]) -> Result<Opened, Error>
     Ok(Opened {
         machine,
         layout: board.layout,
+        devices: board.devices,
     })
 }
 

@@ -1,12 +1,16 @@
--- Steps keep the sizes of memory.
+-- Steps keep the sizes of memory and the devices.
 use Rattle.std.proofs.Common.{◌≡◌, ◌∙◌, ℕ, zero, suc, false, List, [], ◌∷◌, ap, drop, refl, slice_index_or, sym}
-use Rattle.gdb_past.specs.Places.{AreOfOneMachine, Extent, extents}
+use Rattle.devices.specs.declared.device.Device.{Device}
+use Rattle.devices.specs.Copies.{HaveSameDevices}
+use Rattle.devices.specs.Devices.{DeviceWords}
+use Rattle.gdb_past.specs.Places.{AreOfOneMachine, Board, Extent, devices_in, extents}
 use Rattle.platform.specs.Memory.{Memory}
 use Rattle.reference.specs.Run.{after}
-use Rattle.reference.specs.State.{State}
+use Rattle.reference.specs.State.{Bus, State}
 use Rattle.reference.specs.Step.{step}
 use Rattle.space.specs.Sizes.{HaveSameSizes}
-use Rattle.step_laws.proofs.Sizes.{step_sizes}
+use Rattle.step_laws.proofs.Sizes.{step_board}
+use Rattle.step_laws.specs.SizeLaw.{AreOfOneBoard}
 
 -- memories that have the same sizes have the same extents, and the other way round
 pub extents_alike : (m k : Memory) → HaveSameSizes m k → extents m ≡ extents k
@@ -31,6 +35,39 @@ sizes_alike (b ∷ m) (c ∷ k) e =
 sizes_alike [] (c ∷ k) e = absurd cc
 sizes_alike (b ∷ m) [] e = absurd cc
 
+pub heads_alike : (d e : Device) (ds es : List Device) → d ∷ ds ≡ e ∷ es → d ≡ e
+heads_alike d e ds es h = ap (λ (xs : List Device). slice_index_or xs 0 d) h
+
+pub devices_alike : (ds es : List DeviceWords) → HaveSameDevices ds es → devices_in ds ≡ devices_in es
+devices_alike [] [] h = refl
+devices_alike (d ∷ ds) (e ∷ es) h = rw (h.0, devices_alike ds es h.1) refl
+devices_alike [] (e ∷ es) h = absurd h
+devices_alike (d ∷ ds) [] h = absurd h
+
+pub same_devices : (ds es : List DeviceWords) → devices_in ds ≡ devices_in es → HaveSameDevices ds es
+same_devices [] [] h = tt
+same_devices (d ∷ ds) (e ∷ es) h = (
+  heads_alike d.device e.device (devices_in ds) (devices_in es) h,
+  same_devices ds es (ap (λ (xs : List Device). drop 1 xs) h),
+)
+same_devices [] (e ∷ es) h = absurd cc
+same_devices (d ∷ ds) [] h = absurd cc
+
+-- buses of one board are those of the same machine, and the other way round
+pub board_alike : (s u : State) → AreOfOneBoard s.bus u.bus → AreOfOneMachine s u
+board_alike s u h =
+    rw (
+      extents_alike s.bus.memory u.bus.memory h.0,
+      devices_alike s.bus.system.devices u.bus.system.devices h.1,
+    )
+    refl
+
+pub same_board : (s u : State) → AreOfOneMachine s u → AreOfOneBoard s.bus u.bus
+same_board s u h = (
+  sizes_alike s.bus.memory u.bus.memory (ap (λ (b : Board). b.extents) h),
+  same_devices s.bus.system.devices u.bus.system.devices (ap (λ (b : Board). b.devices) h),
+)
+
 pub same_refl : (s : State) → AreOfOneMachine s s
 same_refl s = refl
 
@@ -41,7 +78,7 @@ pub same_trans : (s u v : State) → AreOfOneMachine s u → AreOfOneMachine u v
 same_trans s u v h i = h ∙ i
 
 pub same_step : (s : State) → AreOfOneMachine s (step s).state
-same_step s = extents_alike s.bus.memory (step s).state.bus.memory (step_sizes s)
+same_step s = board_alike s (step s).state (step_board s)
 
 pub same_after : (n : ℕ) (s : State) → AreOfOneMachine s (after n s)
 unfolding after

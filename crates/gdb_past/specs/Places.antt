@@ -1,6 +1,8 @@
 -- What is kept of a machine's past (profile).
 use Rattle.reference.specs.State.{State}
 use Rattle.std.specs.Prelude.{◌≡◌, ℕ, Bool, List, [], ◌∷◌, length}
+use Rattle.devices.specs.declared.device.Device.{Device}
+use Rattle.devices.specs.Devices.{DeviceWords}
 use Rattle.platform.specs.Memory.{Memory}
 
 pub record Past : Type 0 where
@@ -22,6 +24,18 @@ extents [] = []
 extents (b ∷ m) =
     record { base = b.base; size = length b.bytes; is_writable = b.is_writable } ∷ extents m
 
--- two states of the same machine: their memories have blocks of the same sizes at the same places
+abbrev pub devices_in : List DeviceWords → List Device
+devices_in [] = []
+devices_in (d ∷ ds) = d.device ∷ devices_in ds
+
+-- what stays of a machine: the blocks of its memory, and its devices
+pub record Board : Type 0 where
+  pub extents : List Extent
+  pub devices : List Device
+
+abbrev pub board_of : State → Board
+board_of s = record { extents = extents s.bus.memory; devices = devices_in s.bus.system.devices }
+
+-- two states of the same machine
 abbrev pub AreOfOneMachine : State → State → Type 0
-AreOfOneMachine s u = extents s.bus.memory ≡ extents u.bus.memory
+AreOfOneMachine s u = board_of s ≡ board_of u

@@ -1,16 +1,16 @@
--- What is written keeps the sizes of memory.
+-- What is written keeps the sizes of memory and the devices.
 use Rattle.std.proofs.Common.{◌≡◌, ◌+◌, ◌*◌, ◌/◌, ◌%◌, ◌^◌, ◌==◌, ◌||◌, ◌&&◌, ℕ, zero, suc, Bool, true, false, not}
 use Rattle.std.proofs.Common.{List, [], ◌∷◌, length, is_some, refl, Option, Some, None, Result, Ok, Err}
 use Rattle.std.proofs.lemmas.Bool.{cond_both}
 use Rattle.gdb.specs.Targets.{altered_if, place_of, register_written}
-use Rattle.gdb_past.proofs.Following.{extents_alike, same_refl, same_trans}
+use Rattle.gdb_past.proofs.Following.{board_alike, same_refl, same_trans}
 use Rattle.gdb_past.specs.Places.{AreOfOneMachine}
 use Rattle.gdb_server.specs.Commands.{placed_by}
 use Rattle.gdb_server.specs.Replies.{bytes_in}
 use Rattle.gdb_server.specs.declared.purposes.MachineChange.{MachineChange}
 use Rattle.gdb_server.specs.declared.purposes.MachineChange.TheVariants as change
 use Rattle.gdb_server.specs.Writes.{Written, after_place, are_there, block_written, done, later_unless, memory_written}
-use Rattle.gdb_server.specs.Writes.{one_register, refused, register_after, registers_from, unless_refused, with_byte}
+use Rattle.gdb_server.specs.Writes.{is_of_device, one_register, refused, register_after, registers_from, unless_refused, with_byte}
 use Rattle.gdb_server.specs.Writes.{with_bytes, word_beside, word_of, word_written, written}
 use Rattle.gdb_texts.specs.declared.monitor.Monitor.{Monitor}
 use Rattle.gdb_texts.specs.declared.monitor.Monitor.TheVariants as monitor
@@ -23,20 +23,20 @@ use Rattle.reference.specs.declared.place.Place.{Place}
 use Rattle.reference.specs.declared.place.Place.TheVariants.{Word}
 use Rattle.reference.specs.Places.{altered}
 use Rattle.reference.specs.State.{State}
-use Rattle.step_laws.proofs.Sizes.{alter_sizes}
-use Rattle.step_laws.specs.SizeLaw.{KeepsSizes}
+use Rattle.step_laws.proofs.Sizes.{alter_board}
+use Rattle.step_laws.specs.SizeLaw.{KeepsBoard}
 
 -- the state after a write is one of the same machine
 abbrev Stays : State → Written → Type 0
 Stays s w = AreOfOneMachine s w.state
 
-placed_stays : (s : State) (r : Result State PlaceError) → KeepsSizes s r → Stays s (after_place s r)
-placed_stays s (Ok after) h = extents_alike s.bus.memory after.bus.memory h
+placed_stays : (s : State) (r : Result State PlaceError) → KeepsBoard s r → Stays s (after_place s r)
+placed_stays s (Ok after) h = board_alike s after h
 placed_stays s (Err why) h = same_refl s
 
-altered_keeps : (s : State) (place : Option Place) → KeepsSizes s (altered_if s place)
+altered_keeps : (s : State) (place : Option Place) → KeepsBoard s (altered_if s place)
 altered_keeps s None = tt
-altered_keeps s (Some place) = alter_sizes s place
+altered_keeps s (Some place) = alter_board s place
 
 pub put_stays : (s : State) (place : Option Place) → Stays s (after_place s (altered_if s place))
 put_stays s place = placed_stays s (altered_if s place) (altered_keeps s place)
@@ -62,7 +62,7 @@ registers_stay s digits index (suc left) =
 byte_stays : (s : State) (a byte : ℕ) → AreOfOneMachine s (with_byte s a byte)
 byte_stays s a byte =
     let place : Place = Word (a / 4 * 4) (word_beside s.bus.memory a byte) in
-    placed_stays s (altered s place) (alter_sizes s place)
+    placed_stays s (altered s place) (alter_board s place)
 
 bytes_stay : (s : State) (a : ℕ) (bytes : List ℕ) → AreOfOneMachine s (with_bytes s a bytes)
 unfolding with_bytes
@@ -78,9 +78,9 @@ block_stays s a bytes =
 
 word_stays : (s : State) (a : ℕ) (bytes : List ℕ) → Stays s (word_written s a bytes)
 word_stays s a bytes =
-    cond_both (not (is_in_ppb a)) (refused s NoSuchPlace) _ (Stays s) (λ e. same_refl s)
+    cond_both (not (is_in_ppb a || is_of_device s.bus a)) (refused s NoSuchPlace) _ (Stays s) (λ e. same_refl s)
     (λ e. cond_both (not (a % 4 == 0) || not (length bytes == 4)) (refused s NotAligned) _ (Stays s) (λ f. same_refl s)
-    (λ f. placed_stays s (altered s (Word a (word_of bytes))) (alter_sizes s (Word a (word_of bytes)))))
+    (λ f. placed_stays s (altered s (Word a (word_of bytes))) (alter_board s (Word a (word_of bytes)))))
 
 memory_stays : (s : State) (a : ℕ) (bytes : List ℕ) → Stays s (memory_written s a bytes)
 memory_stays s a bytes =

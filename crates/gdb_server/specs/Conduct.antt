@@ -2,6 +2,7 @@
 -- Remote Serial Protocol).
 use Rattle.std.specs.Prelude.{ℕ, ◌-◌, Bool, true, false, ◌||◌, if◌then◌else◌, List, [], ◌∷◌, ◌++◌, length, drop, codes}
 use Rattle.std.specs.Prelude.{bytes_eq, nat_le, ◌&&◌, Option, Some, None, Result, Ok, Err}
+use Rattle.devices.specs.declared.device.Device.{Device}
 use Rattle.gdb.specs.declared.turns.Run.{Run}
 use Rattle.gdb.specs.declared.turns.Turn.{Turn}
 use Rattle.gdb.specs.declared.turns.Turn.TheVariants.{Asks, Ends}
@@ -85,7 +86,7 @@ first_turn how = record { how = how; made = 0; last = None; is_interrupted = fal
 
 -- the machine is in its first state, and the reply is that to `?`
 abbrev pub begun : Session → Answered
-begun k = replied k k.past.start (data_read k.signal k.board k.past.start reading.StopReason)
+begun k = replied k k.past.start (data_read k.signal k.board k.devices k.past.start reading.StopReason)
 
 -- ---- a packet at rest
 
@@ -94,7 +95,7 @@ abbrev pub answered : Session → State → Purpose → List ℕ → Answered
 answered k s purpose.Nothing tail = silent k
 answered k s (purpose.Say what) tail = replied k s (Ok (constant_text what))
 answered k s (purpose.Refuse error) tail = replied k s (Err error)
-answered k s (purpose.Read what) tail = replied k s (data_read k.signal k.board s what)
+answered k s (purpose.Read what) tail = replied k s (data_read k.signal k.board k.devices s what)
 answered k s (purpose.Write change) tail = wrote k (written s change tail)
 answered k s (purpose.Set change) tail = replied (session_after k change tail) s (set_data k change)
 answered k s purpose.Kill tail = silent (left k)
@@ -178,8 +179,8 @@ pub record Server : Type 0 where
   pub session : Session
 
 -- before the first byte, with the machine in its first state
-abbrev pub first : ℕ → Numbers → State → Server
-first limit board s = record { framing = at_start; session = opened limit board s }
+abbrev pub first : ℕ → Numbers → List Device → State → Server
+first limit board devices s = record { framing = at_start; session = opened limit board devices s }
 
 abbrev pub byte_heard : Server → State → ℕ → Answered
 byte_heard server s byte = heard server.session s (event_of server.framing byte) (after server.framing byte).content

@@ -2,6 +2,7 @@
 -- Packets").
 use Rattle.std.specs.Prelude.{ℕ, ◌/◌, min, nat_lt, Bool, true, false, not, ◌==◌, if◌then◌else◌, List, [], ◌++◌, length}
 use Rattle.std.specs.Prelude.{codes, slice_index, Option, Some, None, Result, Ok, Err}
+use Rattle.devices.specs.declared.device.Device.{Device}
 use Rattle.gdb.specs.MemoryReads.{memory_read}
 use Rattle.gdb.specs.Targets.{target_values}
 use Rattle.gdb_server.specs.declared.purposes.Constant.{Constant}
@@ -88,13 +89,13 @@ activity_of s = activity_unless_stopped s s.stop
 
 -- ---- all of these
 
--- what a packet reads, after the last signal of a session on a board
-abbrev pub data_read : Signal → Numbers → State → Reading → Result (List ℕ) ErrorCode
-data_read signal board s reading.StopReason = Ok (signal_reply signal (target_values s))
-data_read signal board s reading.Registers = Ok (registers_text (target_values s))
-data_read signal board s (reading.Register n) = register_data s n
-data_read signal board s (reading.Memory a n) = memory_data s a n
-data_read signal board s (reading.Description at n) = piece_data description at n
-data_read signal board s (reading.MemoryMap at n) = piece_data (memory_map board) at n
-data_read signal board s (reading.Region a) = Ok (region_at board a)
-data_read signal board s reading.Thread = Ok (thread_reply (activity_of s) s.asleep)
+-- what a packet reads, after the last signal of a session on a board with these devices
+abbrev pub data_read : Signal → Numbers → List Device → State → Reading → Result (List ℕ) ErrorCode
+data_read signal board devices s reading.StopReason = Ok (signal_reply signal (target_values s))
+data_read signal board devices s reading.Registers = Ok (registers_text (target_values s))
+data_read signal board devices s (reading.Register n) = register_data s n
+data_read signal board devices s (reading.Memory a n) = memory_data s a n
+data_read signal board devices s (reading.Description at n) = piece_data description at n
+data_read signal board devices s (reading.MemoryMap at n) = piece_data (memory_map board devices) at n
+data_read signal board devices s (reading.Region a) = Ok (region_at board devices a)
+data_read signal board devices s reading.Thread = Ok (thread_reply (activity_of s) s.asleep)

@@ -1,5 +1,6 @@
 -- What a session keeps between two packets, and the replies that it writes.
 use Rattle.std.specs.Prelude.{ℕ, Bool, true, false, List, [], codes, Option, Some, None, Result, Ok, Err}
+use Rattle.devices.specs.declared.device.Device.{Device}
 use Rattle.gdb.specs.declared.slices.Points.{Points}
 use Rattle.gdb.specs.declared.turns.Run.{Run}
 use Rattle.gdb_past.specs.Places.{Past, past_from}
@@ -45,6 +46,8 @@ pub record Session : Type 0 where
   -- the tick to which runs go at most
   pub limit : ℕ
   pub board : Numbers
+  -- the devices of the board
+  pub devices : List Device
   -- the states to which it can go back
   pub past : Past
 
@@ -56,8 +59,8 @@ abbrev pub no_points : Points
 no_points = record { breakpoints = []; watchpoints = [] }
 
 -- before the first packet, with the machine in its first state
-abbrev pub opened : ℕ → Numbers → State → Session
-opened limit board s = record {
+abbrev pub opened : ℕ → Numbers → List Device → State → Session
+opened limit board devices s = record {
   points = no_points;
   settings = first_settings;
   signal = Trap;
@@ -70,6 +73,7 @@ opened limit board s = record {
   is_extended = false;
   limit = limit;
   board = board;
+  devices = devices;
   past = past_from s;
 }
 

@@ -14,7 +14,8 @@ use Rattle.platform.specs.declared.error.PlaceError.{PlaceError}
 use Rattle.platform.specs.declared.error.PlaceError.TheVariants.{NotAligned, NoSuchPlace, Stopped}
 use Rattle.reference.specs.declared.place.Place.TheVariants.{Word}
 use Rattle.reference.specs.Places.{altered}
-use Rattle.reference.specs.State.{State}
+use Rattle.reference.specs.Shown.{byte_shown}
+use Rattle.reference.specs.State.{Bus, State}
 
 -- the state after a write, and why it was refused, if it was
 pub record Written : Type 0 where
@@ -97,7 +98,11 @@ are_there m a n = nat_le (a + n) (2 ^ 32) && is_in_memory m a n
 abbrev pub block_written : State → ℕ → List ℕ → Written
 block_written s a bytes = if is_some s.stop then refused s Stopped else done (with_bytes s a bytes)
 
--- ---- M and X elsewhere: a word of the Private Peripheral Bus
+-- ---- M and X elsewhere: a word of the Private Peripheral Bus or of a device
+
+-- whether a device has the address: a byte is there that isn't one of memory
+abbrev pub is_of_device : Bus → ℕ → Bool
+is_of_device b a = not (is_some (byte_at b.memory a)) && is_some (byte_shown b a)
 
 abbrev pub word_of : List ℕ → ℕ
 word_of bytes =
@@ -106,7 +111,7 @@ word_of bytes =
 
 abbrev pub word_written : State → ℕ → List ℕ → Written
 word_written s a bytes =
-    if not (is_in_ppb a) then refused s NoSuchPlace
+    if not (is_in_ppb a || is_of_device s.bus a) then refused s NoSuchPlace
     else if not (a % 4 == 0) || not (length bytes == 4) then refused s NotAligned
     else after_place s (altered s (Word a (word_of bytes)))
 

@@ -9,15 +9,16 @@ ghost use Rattle.gdb_texts.specs.Regions.{region_at};
 ghost use Rattle.gdb_texts.specs.Registers.{registers_text, word_digits};
 ghost use Rattle.gdb_texts.specs.Stops.{signal_reply};
 ghost use Rattle.gdb_texts.specs.Threads.{thread_reply};
-ghost use Rattle.gdb_texts.specs.Transfers.{memory_map, piece_text};
+ghost use Rattle.gdb_texts.specs.Transfers.{piece_text};
 ghost use Rattle.platform.specs.Boards.{numbers_of};
 
 use crate::purposes::Constant;
 use arrayvec::ArrayVec;
+use devices::Device;
 use gdb::{put_memory, register_values};
 use gdb_texts::{
-    Activity, Signal, put_first_bytes, put_memory_map, put_piece, put_region_info, put_registers,
-    put_signal_reply, put_text, put_thread, put_word,
+    Activity, Signal, put_first_bytes, put_piece, put_region_info, put_registers, put_signal_reply,
+    put_text, put_thread, put_word,
 };
 use machine::{Decider, DueTicks, KeptCode, Layout, Levels, Machine};
 use std::marker::Model;
@@ -132,21 +133,13 @@ impl Data {
         data
     }
 
-    /// Returns the map of the memory of a board.
-    pub fn of_memory_map(board: &Layout) -> Self
-        ensures { result ≡ memory_map (numbers_of board.now) }
+    /// Returns the region of an address on a board with these devices.
+    pub fn of_region(board: &Layout, devices: &[Device], address: u32) -> Self
+        requires { length devices.now ≤ 256 }
+        ensures { result ≡ region_at (numbers_of board.now) devices.now address }
     {
         let mut data = Data::new();
-        put_memory_map(&mut data.bytes, board);
-        data
-    }
-
-    /// Returns the region of an address on a board.
-    pub fn of_region(board: &Layout, address: u32) -> Self
-        ensures { result ≡ region_at (numbers_of board.now) address }
-    {
-        let mut data = Data::new();
-        put_region_info(&mut data.bytes, board, address);
+        put_region_info(&mut data.bytes, board, devices, address);
         data
     }
 

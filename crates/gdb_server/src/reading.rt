@@ -1,6 +1,6 @@
 //! The answers that read the machine, or its board.
 
-ghost use Rattle.std.specs.Prelude.{◌≡◌};
+ghost use Rattle.std.specs.Prelude.{◌≡◌, ◌≤◌, length};
 ghost use Rattle.gdb_server.specs.Replies.{activity_of, data_read, is_entering, memory_data, piece_data};
 ghost use Rattle.gdb_server.specs.Replies.{register_data};
 ghost use Rattle.gdb_texts.specs.Transfers.{memory_map};
@@ -8,8 +8,10 @@ ghost use Rattle.platform.specs.Boards.{numbers_of};
 
 use crate::content::Data;
 use crate::purposes::Reading;
+use arrayvec::ArrayVec;
+use devices::Device;
 use gdb::register_values;
-use gdb_texts::{Activity, ErrorCode, REGISTERS, Signal, description};
+use gdb_texts::{Activity, ErrorCode, REGISTERS, Signal, description, put_memory_map};
 use machine::{Decider, DueTicks, KeptCode, Layout, Levels, Machine, StepKind};
 
 /// Returns whether the next step takes a vector: an exception is being entered.
@@ -84,22 +86,29 @@ fn piece_data(text: &[u8], offset: u32, count: u32) -> Result<Data, ErrorCode>
     }
 }
 
+/// The most bytes of the map of the memory.
+const MOST_MAP: usize = 17_408;
+
 /// Returns a piece of the map of the memory.
-fn map_piece(board: &Layout, offset: u32, count: u32) -> Result<Data, ErrorCode>
-    ensures { result ≡ piece_data (memory_map (numbers_of board.now)) offset count }
+fn map_piece(board: &Layout, devices: &[Device], offset: u32, count: u32) -> Result<Data, ErrorCode>
+    requires { length devices.now ≤ 256 }
+    ensures { result ≡ piece_data (memory_map (numbers_of board.now) devices.now) offset count }
 {
-    let map = Data::of_memory_map(board);
+    let mut map: ArrayVec<u8, MOST_MAP> = ArrayVec::new();
+    put_memory_map(&mut map, board, devices);
     piece_data(map.as_slice(), offset, count)
 }
 
-/// Returns what a packet reads, after the last signal of a session on a board.
+/// Returns what a packet reads, after the last signal of a session on a board with these devices.
 pub fn read<D: Decider, C: KeptCode, L: Levels, U: DueTicks>(
     signal: Signal,
     board: &Layout,
+    devices: &[Device],
     machine: &Machine<D, C, L, U>,
     reading: Reading,
 ) -> Result<Data, ErrorCode>
-    ensures { result ≡ data_read signal (numbers_of board.now) machine.now.state reading }
+    requires { length devices.now ≤ 256 }
+    ensures { result ≡ data_read signal (numbers_of board.now) devices.now machine.now.state reading }
 {
     match reading {
         Reading::StopReason => Ok(Data::of_signal(signal, machine)),
@@ -107,8 +116,8 @@ pub fn read<D: Decider, C: KeptCode, L: Levels, U: DueTicks>(
         Reading::Register(number) => register_data(machine, number),
         Reading::Memory(address, count) => memory_data(machine, address, count),
         Reading::Description(offset, count) => piece_data(description(), offset, count),
-        Reading::MemoryMap(offset, count) => map_piece(board, offset, count),
-        Reading::Region(address) => Ok(Data::of_region(board, address)),
+        Reading::MemoryMap(offset, count) => map_piece(board, devices, offset, count),
+        Reading::Region(address) => Ok(Data::of_region(board, devices, address)),
         Reading::Thread => { Ok(Data::of_thread(activity_of(machine), machine.execution().asleep)) }
     }
 }

@@ -6,6 +6,7 @@ ghost use Rattle.platform.specs.Boards.{numbers_of};
 ghost use Rattle.serving.specs.Pieces.{Tells};
 
 use crate::session::Session;
+use devices::Device;
 use gdb_packets::Framer;
 use machine::{Decider, DueTicks, IoError, KeptCode, Layout, Levels, Machine, Out};
 use serving::Protocol;
@@ -28,19 +29,21 @@ impl<L: Levels, U: DueTicks> Model for Server<L, U> {
 }
 
 impl<L: Levels, U: DueTicks> Server<L, U> {
-    /// Returns a server of a machine before its first byte, or fails where memory can't be allocated. Runs go to the
-    /// tick `limit` at most.
+    /// Returns a server of a machine of a board with these devices before its first byte. Runs go to the tick `limit`
+    /// at most. Fails where memory can't be allocated, and where there are more than 256 devices.
     pub fn new<D: Decider, C: KeptCode>(
         alloc: Global,
         limit: u64,
         board: Layout,
+        devices: Vec<Device>,
         machine: &Machine<D, C, L, U>,
     ) -> Result<Self, AllocError>
-        ensures { IfOk result (λ server. server ≡ first limit (numbers_of board) machine.now.state) }
+        ensures { IfOk result (λ server.
+            server ≡ first limit (numbers_of board) devices.items machine.now.state) }
     {
         Ok(Server {
             framer: Framer::new(),
-            session: Session::new(alloc, limit, board, machine)?,
+            session: Session::new(alloc, limit, board, devices, machine)?,
         })
     }
 }

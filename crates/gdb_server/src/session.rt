@@ -24,6 +24,7 @@ use crate::purposes::{MachineChange, Purpose, Reading, SessionChange, purpose_of
 use crate::reading::read;
 use crate::writes::write;
 use debugger_commands::LineError;
+use devices::{Device, MOST_DEVICES};
 use gdb::{Points, Run, SentPacket, Terms, Turn, go_on, send_packet};
 use gdb_packets::{Event, Packet, Request, read_packet};
 use gdb_past::{Past, Position};
@@ -57,12 +58,15 @@ pub struct Session<L: Levels, U: DueTicks> {
     /// The tick to which runs go at most.
     limit: u64,
     board: Layout,
+    /// The devices of the board.
+    devices: Vec<Device>,
     past: Past<L, U>,
     /// Room for a state to go back to, which contracts don't see.
     position: Position<L, U>,
 }
 
 impl<L: Levels, U: DueTicks> Model for Session<L, U> {
+    ghost use Rattle.std.specs.Prelude.{◌≤◌, length};
     ghost use Rattle.gdb_past.specs.Places.{AreOfOneMachine};
     ghost use Rattle.gdb_server.specs.Sessions.{Session as SessionView};
     ghost use Rattle.platform.specs.Boards.{numbers_of};
@@ -82,10 +86,11 @@ impl<L: Levels, U: DueTicks> Model for Session<L, U> {
       is_extended = k.is_extended;
       limit = k.limit;
       board = numbers_of k.board;
+      devices = k.devices.items;
       past = k.past;
     } };
 
-    ghost invariant = { λ k. AreOfOneMachine k.past.start k.position };
+    ghost invariant = { λ k. AreOfOneMachine k.past.start k.position × (length k.devices.items ≤ 256) };
 }
 
 /// Returns the data of a reply that is one word.
@@ -151,16 +156,21 @@ fn is_file_reply(request: Request) -> bool
 }
 
 impl<L: Levels, U: DueTicks> Session<L, U> {
-    /// Returns a session of a machine before its first packet, whose runs go to the tick `limit` at most; or fails
-    /// where memory can't be allocated.
+    /// Returns a session of a machine before its first packet, whose runs go to the tick `limit` at most. Fails where
+    /// memory can't be allocated, and where there are more than 256 devices.
     pub fn new<D: Decider, C: KeptCode>(
         alloc: Global,
         limit: u64,
         board: Layout,
+        devices: Vec<Device>,
         machine: &Machine<D, C, L, U>,
     ) -> Result<Self, AllocError>
-        ensures { IfOk result (λ session. session ≡ opened limit (numbers_of board) machine.now.state) }
+        ensures { IfOk result (λ session.
+            session ≡ opened limit (numbers_of board) devices.items machine.now.state) }
     {
+        if devices.len() > MOST_DEVICES {
+            return Err(AllocError);
+        }
         Ok(Session {
             points: Points {
                 breakpoints: Breakpoints::new(),
@@ -181,6 +191,7 @@ impl<L: Levels, U: DueTicks> Session<L, U> {
             is_extended: false,
             limit,
             board,
+            devices,
             past: Past::new(alloc, machine)?,
             position: Position::new(alloc, machine)?,
         })
@@ -227,9 +238,15 @@ impl<L: Levels, U: DueTicks> Session<L, U> {
         machine: &Machine<D, C, L, U>,
         what: Reading,
     ) -> Result<Data, ErrorCode>
-        ensures { result ≡ data_read self.now.signal self.now.board machine.now.state what }
+        ensures { result ≡ data_read self.now.signal self.now.board self.now.devices machine.now.state what }
     {
-        read(self.signal, &self.board, machine, what)
+        read(
+            self.signal,
+            &self.board,
+            self.devices.as_slice(),
+            machine,
+            what,
+        )
     }
 
     /// Ends the session, unless it is an extended one.

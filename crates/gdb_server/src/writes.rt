@@ -3,6 +3,7 @@
 ghost use Rattle.std.specs.Prelude.{◌≡◌, ◌+◌, ◌<◌, ◌≤◌, ◌^◌, is_some, length, slice_index};
 ghost use Rattle.gdb.specs.Targets.{altered_if};
 ghost use Rattle.gdb_server.specs.Writes.{Writes, after_place, are_there, block_written, byte_beside, byte_there};
+ghost use Rattle.gdb_server.specs.Writes.{is_of_device};
 ghost use Rattle.gdb_server.specs.Writes.{memory_written, register_after, registers_written, with_byte};
 ghost use Rattle.gdb_server.specs.Writes.{with_bytes, word_beside, word_of, word_written, written};
 ghost use Rattle.platform.specs.Memory.{byte_at};
@@ -182,7 +183,17 @@ fn word_of(bytes: &[u8]) -> u32
         + byte_of(bytes, 3) * 0x100_0000
 }
 
-/// Writes bytes that aren't in flash or RAM: a word of the Private Peripheral Bus.
+/// Returns whether a device has an address.
+fn is_of_device<D: Decider, C: KeptCode, L: Levels, U: DueTicks>(
+    machine: &Machine<D, C, L, U>,
+    address: u32,
+) -> bool
+    ensures { result ≡ is_of_device machine.now.state.bus address }
+{
+    machine.byte(address).is_none() && machine.shown(address).is_some()
+}
+
+/// Writes bytes that aren't in flash or RAM: a word of the Private Peripheral Bus or of a device.
 fn put_word<D: Decider, C: KeptCode, L: Levels, U: DueTicks>(
     machine: &mut Machine<D, C, L, U>,
     address: u32,
@@ -190,7 +201,7 @@ fn put_word<D: Decider, C: KeptCode, L: Levels, U: DueTicks>(
 ) -> Option<PlaceError>
     ensures { Writes (word_written machine.old.state address bytes.now) machine.old machine.new result }
 {
-    if !is_in_ppb(address) {
+    if !(is_in_ppb(address) || is_of_device(machine, address)) {
         return Some(PlaceError::NoSuchPlace);
     }
     if address % 4 != 0 || bytes.len() != 4 {

@@ -2,10 +2,11 @@
 -- Format").
 use Rattle.std.specs.Prelude.{ℕ, min, nat_lt, nat_le, ◌==◌, if◌then◌else◌, List, [], ◌∷◌, ◌++◌, length, take, drop}
 use Rattle.std.specs.Prelude.{codes}
+use Rattle.devices.specs.declared.device.Device.{Device}
 use Rattle.platform.specs.Boards.{Numbers}
 use Rattle.gdb_texts.specs.Replies.{error_text}
 use Rattle.gdb_texts.specs.Stops.{number_digits}
-use Rattle.gdb_texts.specs.Stretches.{joined, rams_of, size_of}
+use Rattle.gdb_texts.specs.Stretches.{rams_of, size_of}
 use Rattle.gdb_texts.specs.declared.stretch.Stretch.{Stretch}
 use Rattle.gdb_texts.specs.declared.replies.ErrorCode.TheVariants.{Malformed}
 use Rattle.gdb_texts.specs.declared.transfers.TheConstants.{DESCRIPTION, MAP_HEAD, MAP_TAIL}
@@ -30,7 +31,7 @@ piece_text text offset count =
 unfoldable pub description : List ℕ
 description = DESCRIPTION.now
 
--- ---- the memory map: flash, and as RAM the RAMs, the device window and the Private Peripheral Bus
+-- ---- the memory map: flash, and as RAM the RAMs, devices, the device window and the Private Peripheral Bus
 
 -- digits without zeros in front
 unfoldable pub without_zeros : List ℕ → List ℕ
@@ -63,8 +64,7 @@ abbrev pub rams_text : List Stretch → List ℕ
 rams_text [] = []
 rams_text (s ∷ others) = ram_text s ++ rams_text others
 
--- stretches that touch are one block
-unfoldable pub memory_map : Numbers → List ℕ
-memory_map board =
-    ((MAP_HEAD.now ++ block_text rom board.flash_base board.flash_size) ++ rams_text (joined (rams_of board)))
+unfoldable pub memory_map : Numbers → List Device → List ℕ
+memory_map board devices =
+    ((MAP_HEAD.now ++ block_text rom board.flash_base board.flash_size) ++ rams_text (rams_of board devices))
     ++ MAP_TAIL.now

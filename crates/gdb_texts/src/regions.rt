@@ -6,13 +6,14 @@ ghost use Rattle.gdb_texts.specs.Regions.{gap_text, region_at, region_text};
 ghost use Rattle.platform.specs.Boards.{numbers_of};
 
 use crate::bytes::put_text;
-use crate::stretches::all_of;
+use crate::stretches::{all_of, distance};
 use crate::transfers::put_hex_number;
 use arrayvec::ArrayVec;
+use devices::Device;
 use platform::board::Layout;
 
-/// The gap after the Private Peripheral Bus: its first address, and its size.
-const LAST_GAP: (u32, u32) = (0xE010_0000, 0x1FF0_0000);
+/// The first address beyond the address space.
+const END: u64 = 0x1_0000_0000;
 
 /// Appends a region: its start, its size, and the text of what may be done there.
 #[tactic(auto, using(crate::proofs::Appending::six_parts))]
@@ -35,11 +36,11 @@ fn put_region<const ROOM: usize>(
 }
 
 /// Appends a gap, by its first address and the first one after it.
-fn put_gap<const ROOM: usize>(page: &mut ArrayVec<u8, ROOM>, start: u32, end: u32)
+fn put_gap<const ROOM: usize>(page: &mut ArrayVec<u8, ROOM>, start: u32, end: u64)
     requires room { array_vec_len page.old + 64 ≤ ROOM }
     ensures { page.new.items ≡ page.old.items ++ gap_text start end }
 {
-    put_region(page, start, end.saturating_sub(start), b"");
+    put_region(page, start, distance(start, end), b"");
 }
 
 /// Appends the region of an address: memory, registers, or the gap between two of them.
@@ -47,19 +48,21 @@ fn put_gap<const ROOM: usize>(page: &mut ArrayVec<u8, ROOM>, start: u32, end: u3
 pub fn put_region_info<const ROOM: usize>(
     page: &mut ArrayVec<u8, ROOM>,
     layout: &Layout,
+    devices: &[Device],
     address: u32,
 )
+    requires few { length devices.now ≤ 256 }
     requires room { array_vec_len page.old + 64 ≤ ROOM }
-    ensures { page.new.items ≡ page.old.items ++ region_at (numbers_of layout.now) address }
+    ensures { page.new.items ≡ page.old.items ++ region_at (numbers_of layout.now) devices.now address }
 {
-    let all = all_of(layout);
+    let all = all_of(layout, devices);
     let stretches = all.as_slice();
     let mut from = 0;
     'stretches: for stretch in stretches {
         if address < stretch.base {
-            return put_gap(page, from, stretch.base);
+            return put_gap(page, from, u64::from(stretch.base));
         }
-        if address < stretch.end {
+        if u64::from(address) < stretch.end {
             return put_region(
                 page,
                 stretch.base,
@@ -67,7 +70,7 @@ pub fn put_region_info<const ROOM: usize>(
                 stretch.kind.permissions(),
             );
         }
-        from = stretch.end;
+        from = stretch.end as u32;
     }
-    put_region(page, LAST_GAP.0, LAST_GAP.1, b"");
+    put_gap(page, from, END);
 }

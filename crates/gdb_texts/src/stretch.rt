@@ -7,7 +7,7 @@ pub enum MemoryKind {
     Flash,
     /// RAM: it is read, written and executed.
     Ram,
-    /// The device window, or the Private Peripheral Bus: it is read and written.
+    /// Devices, the device window or the Private Peripheral Bus: they are read and written.
     Registers,
 }
 
@@ -17,7 +17,7 @@ pub struct Stretch {
     /// The first address.
     pub base: u32,
     /// The first address after them.
-    pub end: u32,
+    pub end: u64,
     pub kind: MemoryKind,
 }
 

@@ -1,11 +1,9 @@
 //! Texts that GDB reads in pieces: the description of the registers, and the map of the memory.
 
-ghost use Rattle.std.specs.Prelude.{◌≡◌, ◌+◌, ◌<◌, ◌≤◌, ◌++◌, ◌∷◌, List, length, take};
+ghost use Rattle.std.specs.Prelude.{◌≡◌, ◌+◌, ◌<◌, ◌≤◌, ◌++◌, length, take};
 ghost use Rattle.arrayvec.specs.ArrayVec.{array_vec_len};
 ghost use Rattle.gdb_texts.specs.Transfers.{block_text, description, hex_number, memory_map, piece_of, piece_text};
 ghost use Rattle.gdb_texts.specs.Transfers.{ram_text, rams_text, without_zeros};
-ghost use Rattle.gdb_texts.specs.declared.stretch.Stretch.{Stretch as TheStretch};
-ghost use Rattle.gdb_texts.specs.Stretches.{joined, joined_after, joined_onto};
 ghost use Rattle.platform.specs.Boards.{numbers_of};
 
 use crate::bytes::put_text;
@@ -14,6 +12,7 @@ use crate::stops::put_number;
 use crate::stretch::Stretch;
 use crate::stretches::rams_of;
 use arrayvec::ArrayVec;
+use devices::Device;
 use platform::board::Layout;
 
 /// The most bytes of a piece.
@@ -157,44 +156,15 @@ fn put_block<const ROOM: usize>(page: &mut ArrayVec<u8, ROOM>, before: &[u8], st
     put_text(page, b"\"/>\n");
 }
 
-/// Appends blocks of RAM, by stretches in the order of their addresses: those that touch are one block.
+/// Appends blocks of RAM.
 fn put_rams<const ROOM: usize>(page: &mut ArrayVec<u8, ROOM>, stretches: &[Stretch])
-    requires few { length stretches.now ≤ 5 }
-    requires room { array_vec_len page.old + 384 ≤ ROOM }
-    ensures text { page.new.items ≡ page.old.items ++ rams_text (joined stretches.now) }
-    ensures len { array_vec_len page.new ≤ array_vec_len page.old + 384 }
+    requires few { length stretches.now ≤ 262 }
+    requires room { array_vec_len page.old + 16_768 ≤ ROOM }
+    ensures text { page.new.items ≡ page.old.items ++ rams_text stretches.now }
+    ensures len { array_vec_len page.new ≤ array_vec_len page.old + 16_768 }
 {
-    let mut block = None;
     'stretches: for stretch in stretches {
-        block = Some(put_apart(page, block, *stretch));
-    }
-    if let Some(block) = block {
-        put_ram(page, block);
-    }
-}
-
-/// Returns a block with a stretch that begins at its end. Otherwise appends the block, if there is one, and returns the
-/// stretch.
-fn put_apart<const ROOM: usize>(
-    page: &mut ArrayVec<u8, ROOM>,
-    block: Option<Stretch>,
-    stretch: Stretch,
-) -> Stretch
-    requires { array_vec_len page.old + 64 ≤ ROOM }
-    ensures text { (others : List TheStretch) → page.new.items ++ rams_text (joined_onto result others)
-        ≡ page.old.items ++ rams_text (joined_after block (stretch ∷ others)) }
-    ensures len { array_vec_len page.new ≤ array_vec_len page.old + 64 }
-{
-    match block {
-        Some(mut block) if block.end == stretch.base => {
-            block.end = stretch.end;
-            block
-        }
-        Some(block) => {
-            put_ram(page, block);
-            stretch
-        }
-        None => stretch,
+        put_ram(page, *stretch);
     }
 }
 
@@ -214,9 +184,14 @@ fn put_ram<const ROOM: usize>(page: &mut ArrayVec<u8, ROOM>, block: Stretch)
 
 /// Appends the map of the memory of a board.
 #[tactic(auto, unfolding(crate::specs::Transfers::memory_map))]
-pub fn put_memory_map<const ROOM: usize>(page: &mut ArrayVec<u8, ROOM>, layout: &Layout)
-    requires { array_vec_len page.old + 1024 ≤ ROOM }
-    ensures { page.new.items ≡ page.old.items ++ memory_map (numbers_of layout.now) }
+pub fn put_memory_map<const ROOM: usize>(
+    page: &mut ArrayVec<u8, ROOM>,
+    layout: &Layout,
+    devices: &[Device],
+)
+    requires few { length devices.now ≤ 256 }
+    requires room { array_vec_len page.old + 17_408 ≤ ROOM }
+    ensures { page.new.items ≡ page.old.items ++ memory_map (numbers_of layout.now) devices.now }
 {
     put_text(page, MAP_HEAD.as_bytes());
     put_block(
@@ -225,6 +200,6 @@ pub fn put_memory_map<const ROOM: usize>(page: &mut ArrayVec<u8, ROOM>, layout: 
         layout.flash_base,
         layout.flash_size,
     );
-    put_rams(page, rams_of(layout).as_slice());
+    put_rams(page, rams_of(layout, devices).as_slice());
     put_text(page, MAP_TAIL.as_bytes());
 }

@@ -1,5 +1,5 @@
 -- What a debugger sees of the address space, byte by byte (profile).
-use Rattle.std.specs.Prelude.{ℕ, ◌+◌, ◌-◌, ◌*◌, ◌/◌, ◌%◌, ◌^◌, Option, option_map}
+use Rattle.std.specs.Prelude.{ℕ, ◌*◌, ◌/◌, ◌%◌, ◌^◌, Option, option_map}
 use Rattle.access.specs.Seen.{word_seen}
 use Rattle.reference.specs.State.{State}
 

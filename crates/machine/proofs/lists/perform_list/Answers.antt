@@ -1,13 +1,8 @@
-use Rattle.std.proofs.Common.{◌≡◌, ◌∙◌, ◌+◌, ◌<◌, ◌≤◌, ℕ, true, ap, arith, refl, sym, length}
-use Rattle.exceptions.proofs.Serving.{added_to, bus_changed, emitted_all, emitted_on, lines_emitted, own_bus}
+use Rattle.std.proofs.Common.{◌≡◌, ◌∙◌, ap, arith, refl, sym}
+use Rattle.exceptions.proofs.Serving.{bus_changed, emitted_all, emitted_on, lines_emitted, own_bus}
 use Rattle.exceptions.proofs.Serving.{still_before, value_read}
-use Rattle.exceptions.specs.LineBounds.{lines_of}
 use Rattle.exec.proofs.Listed.{first_asked}
-use Rattle.instruction_set.specs.Registers.{is_privileged}
-use Rattle.instruction_set.specs.Words.{is_bit}
 use Rattle.machine.proofs.WordLists.{grants_then, one_word, request_is, room_here, room_on, word_failed, words_done}
-use Rattle.reference.specs.Accesses.{perform_all}
-use Rattle.reference.specs.LoadStoreMultiple.{word_request}
 use Rattle.reference.specs.State.{Bus, State, with_bus}
 use Rattle.machine.proofs.lists.perform_list.Goals as goal
 

@@ -1,6 +1,6 @@
-use Rattle.gdb_past.proofs.Following.{sizes_alike}
+use Rattle.gdb_past.proofs.Following.{same_board}
 use Rattle.gdb_past.proofs.past.Past.restart.Goals as goal
 
 pub take_back-requires : goal.take_back-requires
 take_back-requires g c =
-    sizes_alike c.args.machine.now.state.bus.memory c.self.inside.start.bus.memory (rw (← c.self.view_is) at c.requires)
+    same_board c.args.machine.now.state c.self.inside.start (rw (← c.self.view_is) at c.requires)

@@ -14,23 +14,27 @@ returns-in-Err-clause-tells g c = rw (← c.self.view_is) c.in-Err.ensures.tells
 pub go_on-requires : goal.go_on-requires
 go_on-requires g c =
     same_trans c.self.inside.position c.self.inside.past.start c.args.machine.now.state
-    (same_sym c.self.inside.past.start c.self.inside.position c.self.invariant)
+    (same_sym c.self.inside.past.start c.self.inside.position c.self.invariant.0)
     (rw (← c.self.view_is) at c.requires)
 
 pub invariant_of-self : goal.invariant_of-self
 invariant_of-self g c =
     let start = c.self.inside.past.start in
-    let made = c.in-Ok.ensures in
-    same_trans start c.go_on.new.machine.state c.go_on.new.position
-    (same_trans start c.args.machine.now.state c.go_on.new.machine.state (rw (← c.self.view_is) at c.requires)
-    made.same)
-    (same_sym c.go_on.new.position c.go_on.new.machine.state made.fits)
+    let made = c.in-Ok.ensures in (
+      same_trans start c.go_on.new.machine.state c.go_on.new.position
+          (same_trans start c.args.machine.now.state c.go_on.new.machine.state (rw (← c.self.view_is) at c.requires)
+          made.same)
+          (same_sym c.go_on.new.position c.go_on.new.machine.state made.fits),
+      c.self.invariant.1,
+    )
 
 pub invariant_of-self-in-Err : goal.invariant_of-self-in-Err
 invariant_of-self-in-Err g c =
     let start = c.self.inside.past.start in
-    let made = c.in-Err.ensures in
-    same_trans start c.go_on.new.machine.state c.go_on.new.position
-    (same_trans start c.args.machine.now.state c.go_on.new.machine.state (rw (← c.self.view_is) at c.requires)
-    made.same)
-    (same_sym c.go_on.new.position c.go_on.new.machine.state made.fits)
+    let made = c.in-Err.ensures in (
+      same_trans start c.go_on.new.machine.state c.go_on.new.position
+          (same_trans start c.args.machine.now.state c.go_on.new.machine.state (rw (← c.self.view_is) at c.requires)
+          made.same)
+          (same_sym c.go_on.new.position c.go_on.new.machine.state made.fits),
+      c.self.invariant.1,
+    )

@@ -1,0 +1,7 @@
+mod Levels
+mod Clock
+mod Events
+mod Parts
+mod Settled
+mod Steps
+mod Outside
