@@ -5,6 +5,7 @@ mod both;
 mod cut;
 mod cuts;
 mod device_lines;
+mod device_messages;
 mod devices;
 mod elf_files;
 mod exclusives;
