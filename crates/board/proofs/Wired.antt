@@ -1,6 +1,6 @@
 -- The devices that were read are wired as a machine needs it. First for one device more after those before it; then
 -- what the table of a device says of it; then the script.
-use Rattle.std.proofs.Common.{◌≡◌, ◌∙◌, ℕ, ◌+◌, ◌%◌, ◌^◌, ◌<◌, ◌≤◌, ◌==◌, Bool, true, false, ◌&&◌, ◌||◌, not, nat_le}
+use Rattle.std.proofs.Common.{◌≡◌, ◌∙◌, ℕ, ◌+◌, ◌%◌, ◌^◌, ◌<◌, ◌≤◌, ◌==◌, bit_and, Bool, true, false, ◌&&◌, ◌||◌, not, nat_le}
 use Rattle.std.proofs.Common.{nat_lt, if◌then◌else◌, List, [], ◌∷◌, ◌++◌, codes, Option, Some, None, IfSome, is_some}
 use Rattle.std.proofs.Common.{unwrap_or, Result, Ok, Err, refl, sym, ap, subst, arith}
 use Rattle.std.proofs.lemmas.Bool.{eqb-true, leb-true, ltb-true}
@@ -32,11 +32,11 @@ use Rattle.board.proofs.Ordered.{both, front, in_range, timely_if}
 
 -- ---- one device more: which device has an address
 
-or_else : Option Device → Option Device → Option Device
+abbrev or_else : Option Device → Option Device → Option Device
 or_else None other = other
 or_else (Some d) other = Some d
 
-own : Device → ℕ → Option Device
+abbrev own : Device → ℕ → Option Device
 own d a = if has d a then Some d else None
 
 at_more : (ds : List Device) (d : Device) (a : ℕ) → device_at (ds ++ d ∷ []) a ≡ or_else (device_at ds a) (own d a)
@@ -55,6 +55,10 @@ found_before ds d a steady = at_more ds d a ∙ lead (device_at ds a) steady
     lead : (o : Option Device) → is_steady o ≡ true → or_else o (own d a) ≡ o
     lead None is = absurd cc
     lead (Some e) is = refl
+
+off : (b : Bool) → not b ≡ true → b ≡ false
+off true is = absurd cc
+off false is = refl
 
 both_true : (b c : Bool) → (b && c) ≡ true → (b ≡ true) × (c ≡ true)
 both_true true c is = (refl, is)
@@ -135,11 +139,7 @@ follow_more ds d before added a steady = lead (device_at ds a) refl
     new false is = absurd (cc (sym steady ∙ ap is_steady is))
     new true is =
         let counting : not d.counts ≡ true = sym (ap is_steady is) ∙ steady in
-        value_of (ds ++ d ∷ []) a (Some d) is counting (followed (ticks d.counts counting) d.of added.of)
-
-    ticks : (b : Bool) → not b ≡ true → b ≡ false
-    ticks true is = absurd cc
-    ticks false is = refl
+        value_of (ds ++ d ∷ []) a (Some d) is counting (followed (off d.counts counting) d.of added.of)
 
     lead : (found : Option Device) → device_at ds a ≡ found → has_steady_value (ds ++ d ∷ []) a ≡ true
     lead None is = new (has d a) (at_more ds d a ∙ ap (λ (o : Option Device). or_else o (own d a)) is)
@@ -154,11 +154,13 @@ follow_more ds d before added a steady = lead (device_at ds a) refl
 driven_more : (ds : List Device) (d : Device) (n : ℕ) → is_driven ds n ≡ false → is_line_of d.line n ≡ false
     → is_driven (ds ++ d ∷ []) n ≡ false
 driven_more [] d n none other = rw other refl
-driven_more (e ∷ es) d n none other = lead (is_line_of e.line n) none
+driven_more (e ∷ es) d n none other =
+    lead (is_line_of e.line n) none (λ (none : is_driven es n ≡ false). driven_more es d n none other)
   where
-    lead : (b : Bool) → (b || is_driven es n) ≡ false → (b || is_driven (es ++ d ∷ []) n) ≡ false
-    lead true is = absurd cc
-    lead false is = driven_more es d n is other
+    lead : (b : Bool) → (b || is_driven es n) ≡ false
+        → (is_driven es n ≡ false → is_driven (es ++ d ∷ []) n ≡ false) → (b || is_driven (es ++ d ∷ []) n) ≡ false
+    lead true is after = absurd cc
+    lead false is after = after is
 
 neither : (b c : Bool) → (b || c) ≡ false → (b ≡ false) × (c ≡ false)
 neither true c is = absurd cc
@@ -287,10 +289,12 @@ unfolding values_in
 values_are devices span table values taken =
     let (start, at_start) = both (bits_at (codes "start") table) _ values taken in
     let (ones, at_ones) = both (bits_at (codes "ones") table) _ values at_start.1 in
-    let (zeros, at_zeros) = both _ _ values at_ones.1 in
+    let zeros_read = where_ok (λ n. bit_and n ones == 0) (bits_at (codes "zeros") table) in
+    let (zeros, at_zeros) = both zeros_read _ values at_ones.1 in
     let (stores, at_stores) = both (stores_at (get_member (codes "stores") table)) _ values at_zeros.1 in
     let (follows, at_follows) = both (bits_at (codes "follows") table) _ values at_stores.1 in
-    let (by, at_by) = both _ _ values at_follows.1 in
+    let by_read = where_ok (λ n. nat_lt n 32) (number_or 1 (get_member (codes "by") table)) in
+    let (by, at_by) = both by_read _ values at_follows.1 in
     let read = address_where (is_followed devices span) (get_member (codes "of") table) in
     let (of, at_of) = both read _ values at_by.1 in
     let (counts, at_counts) = both (flag (get_member (codes "counts") table)) _ values at_of.1 in
@@ -301,10 +305,6 @@ values_are devices span table values taken =
     of_read : Result Values BoardError → Option ℕ
     of_read (Ok values) = values.of
     of_read (Err error) = None
-
-off : (b : Bool) → not b ≡ true → b ≡ false
-off true is = absurd cc
-off false is = refl
 
 line_parts : (interrupts : ℕ) (devices : List Device) (p : Parts) (n enable : ℕ) (line : Line)
     → is_device_line interrupts devices (span_at p) p.counts n ≡ true
