@@ -133,17 +133,28 @@ fn layout(text: &str) -> Layout {
     SMALL_BOARD
 }
 
+/// The tables of the devices of these lines, each with a comma after it.
+fn device_tables(text: &str) -> Option<Text> {
+    let mut tables = Text::new();
+    'lines: for line in text.lines() {
+        if let Some(table) = line.strip_prefix("device ") {
+            push_line(&mut tables, table)?;
+            push_line(&mut tables, ",")?;
+        }
+    }
+    Some(tables)
+}
+
 /// The devices of these lines, which have their tables as a board's file has them.
 fn devices(alloc: Global, text: &str) -> Option<Vec<Device>> {
+    let tables = device_tables(text)?;
+    if tables.is_empty() {
+        return Some(Vec::new(alloc));
+    }
     let mut file = Text::new();
     file.try_extend_from_slice(SMALL.as_bytes()).ok()?;
     push_line(&mut file, "device = [")?;
-    'lines: for line in text.lines() {
-        if let Some(table) = line.strip_prefix("device ") {
-            push_line(&mut file, table)?;
-            push_line(&mut file, ",")?;
-        }
-    }
+    file.try_extend_from_slice(tables.as_slice()).ok()?;
     push_line(&mut file, "]")?;
     let board = read_board(alloc, str::from_utf8(file.as_slice()).ok()?).ok()?;
     Some(board.devices)
