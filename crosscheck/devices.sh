@@ -1,6 +1,6 @@
 #!/usr/bin/env bash
 # Runs images of Debian's packages, unchanged, on the boards of their chips in examples/boards, where the packages are
-# installed: AltOS (altos) of 22 flight computers with an STM32L151, each of which has to boot and take its SysTicks;
+# installed: AltOS (altos) for 22 products with an STM32L151, each of which has to boot and take its SysTicks;
 # and MicroPython for the micro:bit (firmware-microbit-micropython), to which three lines are typed: its console has to
 # be what QEMU's board microbit printed, and what QEMU prints now where qemu-system-arm is installed.
 # It needs arm-none-eabi-objcopy, arm-none-eabi-ld and python3, and the proved program, or another in MARM.
@@ -32,12 +32,12 @@ says() {
     fi
 }
 
-# A flight computer has to take 23 or 24 SysTicks in a million steps, and no fault.
+# A product has to take 23 or 24 SysTicks in a million steps, and no fault.
 altos=/usr/share/altos
-computers=(easymega-v{1,2}.0 teleballoon-v2.0 telebt-v{3,4}.0 telefireeight-v{1,2}.0 telefireone-v1.0 telefiretwo-v0.1
-    telelco-v{0.2,0.3,2.0} telelcotwo-v0.1 telemega-v{0.1,1.0,2.0,3.0,4.0,5.0,6.0} telemetrum-v{2,3}.0)
+products=(easymega-v{1,2}.0 easytimer-v1 teleballoon-v2.0 telebt-v3.0 telefireeight-v{1,2}.0 telefireone-v1.0
+    telefiretwo-v0.1 telelco-v{0.2,0.3,2.0} telelcotwo-v0.1 telemega-v{0.1,1.0,2.0,3.0,4.0,5.0,6.0} telemetrum-v{2,3}.0)
 if [ -d "$altos" ]; then
-    for name in "${computers[@]}"; do
+    for name in "${products[@]}"; do
         elf_of "$(echo "$altos/$name"-*.ihx)" 0x08001000
         "$marm" run --trace exceptions --steps 1000000 --board "$boards/stm32l151.toml" "$work/image.elf" >"$work/trace"
         ticks=$(grep -c ' X 15$' "$work/trace" || :)
