@@ -40,6 +40,6 @@ after_devices document numbers devices found h =
 
 -- a refusal is one whatever would be read
 pub refused_all : {A B : Type 0} → (found : Option Problem) (error : BoardError)
-    → Finds found (Err {A = A} error) → Finds found (Err {A = B} error)
+    → Finds {A = A} found (Err error) → Finds {A = B} found (Err error)
 refused_all None error h = h
 refused_all (Some problem) error h = cc
