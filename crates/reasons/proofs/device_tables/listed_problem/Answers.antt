@@ -1,4 +1,4 @@
-use Rattle.std.proofs.Common.{◌+◌, ◌≤◌, IsOk, refl, arith}
+use Rattle.std.proofs.Common.{◌+◌, ◌≤◌, refl, sym, arith}
 use Rattle.board.proofs.Devices.{refused, taken, finished, one_longer}
 use Rattle.reasons.proofs.device_tables.listed_problem.Goals as goal
 
@@ -12,7 +12,7 @@ returns-in-Err c =
 pub values-preserved : goal.values-preserved
 values-preserved c = record {
   whole = taken _ _ _ _ _ _ _ _ _ _ _ c.values-test.true c.index-values-index.is c.devices-in-values.ensures.value
-      c.in-Ok.ensures.read c.from-before.ensures c.push.ensures c.values.invariant.whole;
+      (sym c.in-Ok.ensures.read) c.from-before.ensures c.push.ensures c.values.invariant.whole;
   count = one_longer _ _ _ _ c.push.ensures c.values.invariant.count;
   few =
       let more : c.values.before + c.in-Ok.device.size ≤ 0x10_0000 = c.in-Ok.ensures.few in
