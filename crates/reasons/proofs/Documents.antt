@@ -37,9 +37,3 @@ pub after_devices : (document : Members) (numbers : Numbers) (devices : List Dev
     >>= (λ (script : List ScriptedEvent). Ok (record { numbers = numbers; script = script; devices = devices }))))
 after_devices document numbers devices found h =
     of_items numbers devices (tables_at most_events (get_member (codes "event") document)) found h
-
--- a refusal is one whatever would be read
-pub refused_all : {A B : Type 0} → (found : Option Problem) (error : BoardError)
-    → Finds found (Err {A = A} error) → Finds found (Err {A = B} error)
-refused_all None error h = h
-refused_all (Some problem) error h = cc

@@ -29,7 +29,7 @@ use board::{
 use toml::{Table, Value};
 
 /// Returns the first problem of the devices of a document, on a board with this layout.
-#[tactic(auto, using(board::proofs::Scripts::count_is), unfolding(board::specs::Devices::devices_at))]
+#[tactic(auto, using(board::proofs::Scripts::count_is), unfolding(board::specs::Devices::devices_at, board::specs::Devices::devices_in))]
 pub fn devices_problem<'a>(document: &'a Table, layout: &Layout) -> Option<PartProblem<'a>>
     ensures { Finds (option_map (λ p. p.problem) result)
         (devices_at (numbers_of layout.now) (table_view document.now)) }
@@ -90,7 +90,7 @@ fn check_device<'a>(
 }
 
 /// Checks the table of a device, part by part.
-#[tactic(auto, using(crate::proofs::Devices::is_made), unfolding(board::specs::Devices::device_in))]
+#[tactic(auto, unfolding(board::specs::Devices::device_in))]
 fn check_table<'a>(
     layout: &Layout,
     before: u64,

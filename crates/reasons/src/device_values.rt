@@ -15,7 +15,7 @@ use crate::keys::Key;
 use crate::problem::{DeviceFault, Problem};
 use crate::settings::check_number_or;
 use board::device_ranges::share_no_bit;
-use board::{DEFAULT_PLACES, Device, Span, find, is_followed, stores_named};
+use board::{DEFAULT_PLACES, Device, Span, Stores, find, is_followed, stores_named};
 use toml::Table;
 
 /// Checks what the words of a table's device read as, after the devices before it.
@@ -46,48 +46,52 @@ fn check_bits<'a>(table: &'a Table, key: Key) -> Result<u32, Problem<'a>>
     Ok(bits as u32)
 }
 
-/// Checks that no bit reads both 1 and 0.
-fn check_zeros(table: &Table, ones: u32) -> Result<(), Problem<'_>>
-    ensures { Passes result
+/// Returns the bits that read 0, none of which reads 1, or what is wrong with them.
+fn check_zeros(table: &Table, ones: u32) -> Result<u32, Problem<'_>>
+    ensures { Explained result
         (where_ok (λ n. bit_and n ones == 0) (bits_at (codes "zeros") (table_view table.now))) }
 {
     let zeros = check_bits(table, ZEROS)?;
     if !share_no_bit(zeros, ones) {
         return Err(Problem::Device(DeviceFault::Bits(ones, zeros)));
     }
-    Ok(())
+    Ok(zeros)
 }
 
-/// Checks what a store does.
+/// Returns what a store does, or what is wrong with its name.
 #[tactic(auto, using(crate::proofs::Numbers::no_stores))]
-fn check_stores(table: &Table) -> Result<(), Problem<'_>>
-    ensures { Passes result (stores_at (get_member (codes "stores") (table_view table.now))) }
+fn check_stores(table: &Table) -> Result<Stores, Problem<'_>>
+    ensures { Explained result (stores_at (get_member (codes "stores") (table_view table.now))) }
 {
     let Some(value) = find(table, STORES.name) else {
-        return Ok(());
+        return Ok(Stores::Kept);
     };
     match value.as_str() {
         Some(name) => match stores_named(name) {
-            Ok(_) => Ok(()),
+            Ok(stores) => Ok(stores),
             Err(_) => Err(Problem::Value(STORES, value)),
         },
         None => Err(Problem::Kind(STORES, value)),
     }
 }
 
-/// Checks the word that bits follow.
-fn check_followed<'a>(devices: &[Device], span: &Span, table: &'a Table) -> Result<(), Problem<'a>>
-    ensures { Passes result (address_where (is_followed devices.now (span_read span.now))
+/// Returns the address of the word that bits follow, if it is there, or what is wrong with it.
+fn check_followed<'a>(
+    devices: &[Device],
+    span: &Span,
+    table: &'a Table,
+) -> Result<Option<u32>, Problem<'a>>
+    ensures { Explained result (address_where (is_followed devices.now (span_read span.now))
         (get_member (codes "of") (table_view table.now))) }
 {
     let Some(value) = find(table, OF.name) else {
-        return Ok(());
+        return Ok(None);
     };
     let address = check_address(value, OF)?;
     if !is_followed(devices, span, address) {
         return Err(Problem::Value(OF, value));
     }
-    Ok(())
+    Ok(Some(address as u32))
 }
 
 /// Checks a boolean that may be missing.
