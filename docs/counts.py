@@ -114,12 +114,14 @@ AUDIT_PARTS = {
     "priorities": "Priorities Time",
     "exceptions": "Faults Frames ExceptionEntry ExceptionReturn",
     "system": "Status Interrupts Handlers Control SysTickRegisters System SpecialRegisters",
+    "devices": "devices/Table devices/Words devices/Parts devices/Devices devices/Pokes devices/Lines",
     "instructions": "Results Products Fields DataProcessing LoadStore LoadStoreMultiple Exclusives Branches "
     "SystemInstructions",
     "patterns": "Patterns Rows RowOperands Decoding",
     "rows": "Short* Long*",
     "text": "Text Events",
-    "files": "Images Boards Start board/Texts board/Reading command/Statuses command/Opening machine/Starts",
+    "files": "Images Boards Start board/Values board/Texts board/Devices board/Reading command/Statuses command/Opening "
+    "machine/Starts",
     "options": "trace/Selection command/Sending command/Running debugger/StateText debugger_commands/Texts",
 }
 
@@ -135,7 +137,7 @@ AUDIT_ITEMS = {
 
 def audit_lines(part):
     if part == "types":
-        types = lines_of(*(f"crates/{crate}/src/*.rt" for crate in DEFINITIONS))
+        types = lines_of("crates/devices/src/device.rt", *(f"crates/{crate}/src/*.rt" for crate in DEFINITIONS))
         return types + sum(lines_of_item(*item) for item in AUDIT_ITEMS.items())
     return lines_of(*(spec(name) for name in AUDIT_PARTS[part].split()))
 

@@ -16,7 +16,7 @@ use Rattle.board.specs.Values.{◌>>=◌, number, of_kind, tables_at, where_ok}
 use Rattle.board.proofs.Ordered.{both, in_range}
 
 -- what is made where a test holds
-made : {A : Type 0} → (b : Bool) (make : b ≡ true → A) (a : A) → checked b make ≡ Ok a
+pub made : {A : Type 0} → (b : Bool) (make : b ≡ true → A) (a : A) → checked b make ≡ Ok a
     → (holds : b ≡ true) × (make holds ≡ a)
 made true make a is = (refl, cc)
 made false make a is = absurd cc
@@ -42,7 +42,7 @@ line_is interrupts devices span counts table (Some value) line taken =
     subst (HasLineOfBoard interrupts) same (below interrupts devices span counts interrupt passed)
 
 -- a test that was passed
-passed : {A P : Type 0} → (b : Bool) (make : b ≡ true → P) (next : P → Result A BoardError) (a : A)
+pub passed : {A P : Type 0} → (b : Bool) (make : b ≡ true → P) (next : P → Result A BoardError) (a : A)
     → (checked b make >>= next) ≡ Ok a → (p : P) × (next p ≡ Ok a)
 passed true make next a is = (make refl, is)
 passed false make next a is = absurd cc

@@ -125,7 +125,7 @@ event_is interrupts devices fields event taken =
     subst (IsRead interrupts) same (last, signal_is interrupts devices fields (get_member (codes "nmi") fields) what at_what.0)
 
 -- and it is no earlier than the tick of the one before
-timely_if : (late : Bool) (read event : ScriptedEvent) →
+pub timely_if : (late : Bool) (read event : ScriptedEvent) →
     (if late then Err EventsOutOfOrder else Ok read) ≡ Ok event → (late ≡ false) × (read ≡ event)
 timely_if true read event taken = cc
 timely_if false read event taken = (refl, cc)
@@ -141,7 +141,7 @@ timely_is interrupts devices before value event taken =
     subst (λ event. (before ≤ event.at) × IsRead interrupts event) same
     (after, event_is interrupts devices fields read at_read.0)
 
-front : (event : ScriptedEvent) (read : Result (List ScriptedEvent) BoardError) (events : List ScriptedEvent) →
+pub front : (event : ScriptedEvent) (read : Result (List ScriptedEvent) BoardError) (events : List ScriptedEvent) →
     in_front event read ≡ Ok events → (others : List ScriptedEvent) × ((read ≡ Ok others) × (event ∷ others ≡ events))
 front event (Ok others) events taken = (others, (refl, cc))
 front event (Err error) events taken = cc

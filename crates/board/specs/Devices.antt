@@ -11,6 +11,7 @@ use Rattle.devices.specs.declared.device.Poke.{Poke}
 use Rattle.devices.specs.declared.device.Stores.{Stores}
 use Rattle.devices.specs.declared.device.Stores.TheVariants.{Kept, Ignored, OnesClear, ZerosClear}
 use Rattle.devices.specs.Table.{device_at}
+use Rattle.wiring.specs.Wiring.{is_driven}
 use Rattle.platform.specs.declared.error.BoardError.{BoardError}
 use Rattle.platform.specs.declared.error.BoardError.TheVariants.{OutOfRange, UnknownKey}
 use Rattle.platform.specs.Boards.{Numbers, RamSpan}
@@ -188,15 +189,6 @@ effects_in devices span table = do
   Ok (record { console = console; load_poke = load_poke; store_poke = store_poke })
 
 -- ---- its line
-
-abbrev pub is_line_of : Option Line → ℕ → Bool
-is_line_of None interrupt = false
-is_line_of (Some line) interrupt = line.number == interrupt
-
--- whether a device before drives the interrupt
-abbrev pub is_driven : List Device → ℕ → Bool
-is_driven [] interrupt = false
-is_driven (d ∷ ds) interrupt = is_line_of d.line interrupt || is_driven ds interrupt
 
 -- an interrupt of the board that no device before drives, for a device whose first word is its own and doesn't count
 abbrev pub is_device_line : ℕ → List Device → Span → Bool → ℕ → Bool

@@ -3,9 +3,11 @@
 ghost use Rattle.std.specs.Prelude.{◌≡◌, ◌<◌, ◌≤◌, ◌+◌, ◌%◌, ◌^◌, option_map, IfOk};
 ghost use Rattle.std.specs.Bool.{OnTrue};
 ghost use Rattle.toml.specs.View.{table_view};
+ghost use Rattle.devices.specs.Lines.{is_line_of};
 ghost use Rattle.devices.specs.Table.{device_at};
 ghost use Rattle.platform.specs.Boards.{numbers_of};
-ghost use Rattle.board.specs.Devices.{counts_in, is_device_word, is_driven, is_followed, is_in_device, is_line_of, is_named};
+ghost use Rattle.wiring.specs.Wiring.{is_driven};
+ghost use Rattle.board.specs.Devices.{counts_in, is_device_word, is_followed, is_in_device, is_named};
 ghost use Rattle.board.specs.Devices.{is_own, span_in};
 ghost use Rattle.board.specs.Reading.{Gives, span_read};
 

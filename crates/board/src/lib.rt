@@ -7,6 +7,7 @@ ghost use Rattle.toml.specs.View.{table_view};
 ghost use Rattle.platform.specs.Boards.{IsScript};
 ghost use Rattle.platform.specs.SystemInvariant.{IsBoard};
 ghost use Rattle.platform.specs.declared.error.BoardError.TheVariants.{OutOfMemory as Wanting};
+ghost use Rattle.wiring.specs.Wiring.{AreWired};
 ghost use Rattle.board.specs.Texts.{board_in, board_of};
 ghost use Rattle.board.specs.Reading.{Answers, described};
 
@@ -57,6 +58,7 @@ pub fn read_board(alloc: Global, text: &str) -> Result<Board, BoardError>
     ensures answer { Answers described result (board_of text.now) ⊎ (result ≡ Err Wanting) }
     ensures script { IfOk result (λ board. IsScript board.layout.interrupts board.events.items) }
     ensures board { IfOk result (λ board. IsBoard (described board)) }
+    ensures wired { IfOk result (λ board. AreWired board.devices.items board.events.items) }
 {
     let document = match toml::table_from_str(alloc, text) {
         Ok(document) => document,
@@ -73,6 +75,7 @@ pub fn board_of_table(alloc: Global, document: &Table) -> Result<Board, BoardErr
     ensures answer { Answers described result (board_in (table_view document.now)) }
     ensures script { IfOk result (λ board. IsScript board.layout.interrupts board.events.items) }
     ensures board { IfOk result (λ board. IsBoard (described board)) }
+    ensures wired { IfOk result (λ board. AreWired board.devices.items board.events.items) }
 {
     let layout = layout_of(document)?;
     if !has_only(&BOARD_KEYS, document) {

@@ -6,6 +6,7 @@ ghost use Rattle.toml.specs.View.{table_view};
 ghost use Rattle.board.specs.Devices.{effects_in, is_device_line, is_named, line_in, poke_where};
 ghost use Rattle.board.specs.Reading.{span_read};
 ghost use Rattle.board.specs.Values.{number, where_ok};
+ghost use Rattle.reasons.specs.declared.keys.Takes.TheVariants.{Bits};
 ghost use Rattle.reasons.specs.Problems.{Explained, Passes};
 
 use crate::device_keys::{CONSOLE, ENABLE, LOAD_POKE, LOAD_VALUE, STORE_POKE, STORE_VALUE};

@@ -6,6 +6,7 @@ ghost use Rattle.toml.specs.View.{table_view};
 ghost use Rattle.board.specs.Devices.{address_where, bits_at, flag, is_followed, stores_at, values_in};
 ghost use Rattle.board.specs.Reading.{span_read};
 ghost use Rattle.board.specs.Values.{where_ok};
+ghost use Rattle.reasons.specs.declared.keys.Takes.TheVariants.{Bits};
 ghost use Rattle.reasons.specs.Problems.{Explained, Passes};
 
 use crate::device_keys::{BY, COUNTS, FOLLOWS, OF, ONES, START, STORES, ZEROS};
