@@ -1,5 +1,5 @@
 -- How a session that failed ended.
-use Rattle.std.proofs.Common.{Err, inl, inr, refl}
+use Rattle.std.proofs.Common.{◌≡◌, Err, inl, inr, refl, subst}
 use Rattle.command.specs.declared.error.Error.TheVariants.{Io}
 use Rattle.command.specs.Sessions.{Talks}
 use Rattle.machine.specs.Whole.{Whole}
@@ -14,3 +14,12 @@ pub failed_talk : (t : Course) (first last : Whole) (before after : Reading) (ou
     → Talks t first last before after out out' (Err Io)
 failed_talk t first last before after out out' Read sessions waits = (refl, inl (sessions, waits))
 failed_talk t first last before after out out' Write sessions waits = (refl, inr sessions)
+
+-- the same where what was learnt is of an equal value on which the course depends
+pub failed_talk_of : {A : Type 0} (t : A → Course) (a b : A) → a ≡ b
+    → (first last : Whole) (before after : Reading) (out out' : Writing) (error : SessionError)
+    → Sessions (t a) first last before after out out' (Err error) → NothingWaits out' (Err error)
+    → Talks (t b) first last before after out out' (Err Io)
+failed_talk_of t a b e first last before after out out' error sessions waits =
+    subst (λ x. Talks (t x) first last before after out out' (Err Io)) e
+    (failed_talk (t a) first last before after out out' error sessions waits)

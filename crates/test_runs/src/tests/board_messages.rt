@@ -391,8 +391,8 @@ an empty key
 with \"\" = 1
 ends 3
 err marm: board 6 UnknownKey
-err   board.toml: \"\" is no key here: the keys are flash_base, flash_size, ram_size, priority_bits, lines, regions, ram \
-and event
+err   board.toml: \"\" is no key here: the keys are flash_base, flash_size, ram_size, priority_bits, lines, regions, \
+ram, device and event
 
 a string of two lines, with control characters
 with [[event]]
