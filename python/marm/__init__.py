@@ -11,7 +11,7 @@ It needs Python 3.9 or later and the program `marm` (on PATH, in the environment
 docs/SCRIPTING.md is the page for a user. The package isn't proved: what it says are lines of the program, which is."""
 
 from .batches import Batch, Later
-from .boards import Board, BoardEvent, Ram
+from .boards import Board, BoardEvent, Device, Ram
 from .conditions import ENTRY, FAULT, REFUSED, Accesses, At, Condition, Reads, Until, Watch, Writes
 from .errors import (
     CommandError, Dead, Hung, MarmError, NoProgram, NoSlot, NotMemory, NotReached, PlaceRefused, ProtocolError,
@@ -28,9 +28,9 @@ from .worlds import Interval, Shared, Tasks, World, tasks
 
 __all__ = [
     "ENTRY", "FAULT", "REFUSED", "Access", "Accesses", "At", "Batch", "Board", "BoardEvent", "CommandError",
-    "Condition", "Console", "Dead", "Decision", "Entry", "Event", "Fault", "Hung", "Interval", "Later", "Machine",
-    "MarmError", "NoProgram", "NoSlot", "NotMemory", "NotReached", "PlaceRefused", "ProtocolError", "Ram", "Ran",
-    "Reads", "Region", "Registers", "Result", "Return", "Saved", "Shared", "Span", "StartError", "State", "Stop",
+    "Condition", "Console", "Dead", "Decision", "Device", "Entry", "Event", "Fault", "Hung", "Interval", "Later",
+    "Machine", "MarmError", "NoProgram", "NoSlot", "NotMemory", "NotReached", "PlaceRefused", "ProtocolError", "Ram",
+    "Ran", "Reads", "Region", "Registers", "Result", "Return", "Saved", "Shared", "Span", "StartError", "State", "Stop",
     "Tasks", "Until", "Watch", "World", "Writes", "build_image", "parse_event", "sweep", "symbols_of", "tasks",
     "windows",
 ]

@@ -143,6 +143,26 @@ class Boards(unittest.TestCase):
             with self.assertRaises(ValueError):
                 marm.Board.load(file.name)
 
+    def test_devices(self) -> None:
+        uart = marm.Device(0x4000_3800, ones=0xC0, stores="ignored", counts=True, line=1, enable=0x4000_380C)
+        board = marm.Board(1024, 2048, lines=2, devices=(uart, marm.Device(0x4000_4000, 64)))
+        board = board.with_poke(3, 0x4000_3800, 32)
+        self.assertEqual(
+            board.toml(),
+            "flash_base = 0\nflash_size = 1024\nram_size = 2048\npriority_bits = 4\nlines = 2\nregions = 8\n"
+            "\n[[device]]\nbase = 1073756160\nones = 192\nstores = \"ignored\"\ncounts = true\nline = 1\n"
+            "enable = 1073756172\n\n[[device]]\nbase = 1073758208\nsize = 64\n"
+            "\n[[event]]\nat = 3\npoke = 1073756160\nvalue = 32\n")
+        self.assertEqual(boards.parse_plain(board.toml())["device"][1], {"base": 0x4000_4000, "size": 64})
+        with tempfile.NamedTemporaryFile("w", suffix=".toml") as file:
+            file.write(board.toml())
+            file.flush()
+            self.assertEqual(marm.Board.load(file.name), board)
+            file.write("[[event]]\nat = 4\npoke = 0x4000_4000\n")
+            file.flush()
+            with self.assertRaises(ValueError):
+                marm.Board.load(file.name)
+
     def test_events_of_one_tick_keep_their_order(self) -> None:
         board = marm.Board(1, 1).with_event(5, 1).with_event(5, 0).with_event(2, 3)
         self.assertEqual([event.line for event in board.events], [3, 1, 0])
