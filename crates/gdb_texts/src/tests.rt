@@ -336,13 +336,14 @@ const REGIONS: [(u32, &str); 7] = [
 
 #[test]
 fn memory_is_described(rt: HostRuntime) -> Result<(), Fail> {
+    let no_devices: [Device; 0] = [];
     for (address, text) in REGIONS {
         let mut page: ArrayVec<u8, 400> = ArrayVec::new();
-        put_region_info(&mut page, &SMALL_BOARD, &[], address);
+        put_region_info(&mut page, &SMALL_BOARD, &no_devices, address);
         assert!(rt; page.as_slice() == text.as_bytes(), "{text}");
     }
     let mut map: ArrayVec<u8, 17_408> = ArrayVec::new();
-    put_memory_map(&mut map, &SMALL_BOARD, &[]);
+    put_memory_map(&mut map, &SMALL_BOARD, &no_devices);
     let rom = "<memory type=\"rom\" start=\"0x0\" length=\"0x1000\"/>\n";
     assert!(rt; map.len() == 390);
     assert!(rt; map.as_slice()[157..].starts_with(rom.as_bytes()));
