@@ -114,7 +114,7 @@ fn answer<D: Decider, C: KeptCode, L: Levels, U: DueTicks, J: Ledger, K: Ledger>
     answers: Vec<u8>,
     blank: Blank,
 ) -> Option<Vec<u8>>
-    requires room { HaveRoom slots machine.old.state.bus.memory }
+    requires room { HaveRoom slots machine.old.state.bus }
     requires name { blank.name ≡ K.name }
     requires parts { blank.parts ≡ K.parts }
     requires some { blank.parts ≡ 1 }
