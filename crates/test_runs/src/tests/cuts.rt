@@ -326,7 +326,7 @@ fn hold<D: Decider, C: KeptCode, L: Levels, U: DueTicks>(
     slots: Slots<L, U>,
     way: Way,
 ) -> Held
-    requires { HaveRoom slots machine.old.state.bus.memory }
+    requires { HaveRoom slots machine.old.state.bus }
 {
     hold_over::<D, C, L, U, Brand, Brand>(machine, slots, way, Blank::new(1), Blank::new(1))
 }
@@ -338,7 +338,7 @@ fn hold_over<D: Decider, C: KeptCode, L: Levels, U: DueTicks, J: Ledger, K: Ledg
     first: Blank,
     second: Blank,
 ) -> Held
-    requires room { HaveRoom slots machine.old.state.bus.memory }
+    requires room { HaveRoom slots machine.old.state.bus }
     requires first_name { first.name ≡ J.name }
     requires first_parts { first.parts ≡ J.parts }
     requires first_some { first.parts ≡ 1 }
@@ -379,7 +379,7 @@ fn gather<D: Decider, C: KeptCode, L: Levels, U: DueTicks, I: In + Drop, K: Ledg
     mut input: I,
     mut out: Paged<machine::Cut<Over<Calls, K>>>,
 ) -> Held
-    requires { HaveRoom slots machine.old.state.bus.memory }
+    requires { HaveRoom slots machine.old.state.bus }
 {
     let ended = session(machine, SMALL_BOARD, slots, &mut input, &mut out);
     Held {

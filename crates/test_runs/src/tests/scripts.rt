@@ -540,7 +540,7 @@ fn hold<D: Decider, C: KeptCode, L: Levels, U: DueTicks>(
     slots: Slots<L, U>,
     input: &[u8],
 ) -> Option<Cut>
-    requires { HaveRoom slots machine.old.state.bus.memory }
+    requires { HaveRoom slots machine.old.state.bus }
 {
     hold_over::<D, C, L, U, Brand, Brand>(
         machine,
@@ -560,7 +560,7 @@ fn hold_over<D: Decider, C: KeptCode, L: Levels, U: DueTicks, J: Ledger, K: Ledg
     first: Blank,
     second: Blank,
 ) -> Option<Cut>
-    requires room { HaveRoom slots machine.old.state.bus.memory }
+    requires room { HaveRoom slots machine.old.state.bus }
     requires first_name { first.name ≡ J.name }
     requires first_parts { first.parts ≡ J.parts }
     requires first_some { first.parts ≡ 1 }
