@@ -107,8 +107,19 @@ impl Progress {
         )
     }
 
+    /// Makes a step, and keeps its events.
+    pub fn repeat<D: Decider, C: KeptCode, L: Levels, U: DueTicks>(
+        &mut self,
+        machine: &mut Machine<D, C, L, U>,
+    )
+        ensures kept { self.new ≡ record self.old { events = (step machine.old.state).events } }
+        ensures state { machine.new ≡ record machine.old { state = (step machine.old.state).state } }
+    {
+        let _ = machine.step(&mut self.events);
+    }
+
     /// Forgets the events of the last step.
-    fn forget(&mut self)
+    pub fn forget(&mut self)
         ensures { self.new ≡ record self.old { events = [] } }
     {
         self.events.clear();

@@ -182,7 +182,7 @@ pub fn has_entry(events: &[Event]) -> bool
 }
 
 /// Returns why a run ends after a step with these events, by the settings.
-fn reason_of_events(settings: &Settings, events: &[Event]) -> Option<StopReason>
+pub fn reason_of_events(settings: &Settings, events: &[Event]) -> Option<StopReason>
     ensures { result ≡ reason_of_events settings.now events.now }
 {
     let cause = first_cause(events);
@@ -256,7 +256,7 @@ fn tests_breakpoints(how: Resume, made: u64) -> bool
 }
 
 /// Returns the reason of a breakpoint before the next step, if one is there.
-fn reason_at_breakpoint<D: Decider, C: KeptCode, L: Levels, U: DueTicks>(
+pub fn reason_at_breakpoint<D: Decider, C: KeptCode, L: Levels, U: DueTicks>(
     points: &Breakpoints,
     machine: &Machine<D, C, L, U>,
 ) -> Option<StopReason>

@@ -23,10 +23,10 @@ use machine::{Decider, DueTicks, KeptCode, Levels, Machine};
 use output::{IoError, Out};
 
 /// The most steps before GDB is asked, and before the text of another client is sent.
-const STEPS_AT_ONCE: u64 = 1_000_000;
+pub const STEPS_AT_ONCE: u64 = 1_000_000;
 
 /// The question whether GDB's console is a terminal: GDB answers it at once, and says whether its user has interrupted.
-const QUESTION: &[u8] = b"Fisatty,0";
+pub const QUESTION: &[u8] = b"Fisatty,0";
 
 /// The last packet that was sent: what `-` asks for again.
 pub type SentPacket = ArrayVec<u8, 8200>;
@@ -92,7 +92,7 @@ fn send_stop_reply<D: Decider, C: KeptCode, L: Levels, U: DueTicks, W: Out>(
 }
 
 /// Ends a run: puts the lines that say why, and sends all text, and then the stop reply.
-fn end_run<D: Decider, C: KeptCode, L: Levels, U: DueTicks, W: Out>(
+pub fn end_run<D: Decider, C: KeptCode, L: Levels, U: DueTicks, W: Out>(
     reason: StopReason,
     plan: &Plan,
     watchpoints: &Watchpoints,

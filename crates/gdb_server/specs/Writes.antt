@@ -1,5 +1,5 @@
 -- The packets that write to the machine (GDB manual, "Packets", G, M, P and X).
-use Rattle.std.specs.Prelude.{◌≡◌, ℕ, zero, suc, ◌+◌, ◌-◌, ◌*◌, ◌/◌, ◌%◌, ◌^◌, nat_lt, nat_le, Bool, false, not, ◌&&◌}
+use Rattle.std.specs.Prelude.{◌≡◌, ℕ, zero, suc, ◌+◌, ◌-◌, ◌*◌, ◌/◌, ◌%◌, ◌^◌, nat_lt, nat_le, Bool, true, false, not, ◌&&◌}
 use Rattle.std.specs.Prelude.{◌||◌, ◌==◌, if◌then◌else◌, is_some, List, [], ◌∷◌, length, slice_index, unwrap_or}
 use Rattle.std.specs.Prelude.{Option, Some, None, Result, Ok, Err}
 use Rattle.gdb.specs.Targets.{register_written}
@@ -123,6 +123,13 @@ memory_written s a bytes =
     else word_written s a bytes
 
 -- ---- all of these
+
+-- whether a packet writes something: M and X may have no bytes
+abbrev pub writes : MachineChange → List ℕ → Bool
+writes (change.Register n) tail = true
+writes change.Registers tail = true
+writes (change.Digits a) tail = not (length tail == 0)
+writes (change.Bytes a) tail = not (length tail == 0)
 
 -- what a packet writes, by what follows its fields
 abbrev pub written : State → MachineChange → List ℕ → Written

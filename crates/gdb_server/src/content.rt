@@ -28,7 +28,8 @@ pub const MOST_DATA: usize = 4096;
 
 /// The features of the server.
 const FEATURES: &str = "\
-PacketSize=1000;QStartNoAckMode+;qXfer:features:read+;qXfer:memory-map:read+;vContSupported+;swbreak+;hwbreak+";
+PacketSize=1000;QStartNoAckMode+;qXfer:features:read+;qXfer:memory-map:read+;vContSupported+;\
+ReverseStep+;ReverseContinue+;swbreak+;hwbreak+";
 
 /// The data of a reply.
 #[derive(Drop)]

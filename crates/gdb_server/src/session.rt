@@ -4,16 +4,16 @@ ghost use Rattle.std.specs.Prelude.{◌≡◌, ◌≤◌, IfOk, OnOk, Some, byte
 ghost use Rattle.gdb_packets.specs.Replies.{packet_of};
 ghost use Rattle.gdb_past.specs.Places.{AreOfOneMachine};
 ghost use Rattle.gdb_packets.specs.Seen.{seen_packet};
-ghost use Rattle.gdb_server.specs.Commands.{command_of, settings_with};
-ghost use Rattle.gdb_server.specs.Conduct.{acknowledgement, answered, begun, commanded, first_turn, heard, interrupted};
-ghost use Rattle.gdb_server.specs.Conduct.{interrupted_by, is_interrupt, long_heard, packet_heard, replied};
-ghost use Rattle.gdb_server.specs.Conduct.{reply_heard, resumed, sent_again, told, too_long, whole_heard, with_turn};
-ghost use Rattle.gdb_server.specs.Conduct.{wrote};
+ghost use Rattle.gdb_server.specs.Commands.{command_of, placed_by, settings_with};
+ghost use Rattle.gdb_server.specs.Conduct.{acknowledgement, answered, begun, commanded, first_turn, gone_on, heard};
+ghost use Rattle.gdb_server.specs.Conduct.{interrupted, is_interrupt, long_heard, packet_heard, past_after, past_by};
+ghost use Rattle.gdb_server.specs.Conduct.{replied, reply_heard, restarted, resumed, searched, sent_again, told};
+ghost use Rattle.gdb_server.specs.Conduct.{too_long, whole_heard, with_return, with_turn, wrote};
 ghost use Rattle.gdb_server.specs.Purposes.{is_file_reply};
 ghost use Rattle.gdb_server.specs.Replies.{data_read};
 ghost use Rattle.gdb_server.specs.Sessions.{data_of_reply, data_of_write, left, opened, reply_packet, session_after};
 ghost use Rattle.gdb_server.specs.Sessions.{set_data, with_reply};
-ghost use Rattle.gdb_server.specs.Writes.{written};
+ghost use Rattle.gdb_server.specs.Writes.{Writes, writes, written};
 ghost use Rattle.output.specs.Output.{Put};
 ghost use Rattle.platform.specs.Boards.{numbers_of};
 ghost use Rattle.serving.specs.Pieces.{Tells};
@@ -22,10 +22,13 @@ use crate::commands::{place_by, read_command, settings_with, tell_command};
 use crate::content::{Data, constant_text, features};
 use crate::purposes::{MachineChange, Purpose, Reading, SessionChange, purpose_of};
 use crate::reading::read;
-use crate::writes::write;
+use crate::waiting::{Waiting, interrupted_if};
+use crate::writes::{write, writes};
 use debugger_commands::LineError;
 use devices::{Device, MOST_DEVICES};
-use gdb::{Points, Run, SentPacket, Terms, Turn, go_on, send_packet};
+use gdb::{
+    Points, Return, Run, Search, SentPacket, Terms, Turn, first_search, go_back, go_on, send_packet,
+};
 use gdb_packets::{Event, Packet, Request, read_packet};
 use gdb_past::{Past, Position};
 use gdb_texts::{
@@ -48,8 +51,8 @@ pub struct Session<L: Levels, U: DueTicks> {
     acknowledges: bool,
     /// The last packet that was sent.
     sent: SentPacket,
-    /// The run that GDB has been asked about.
-    running: Option<Run>,
+    /// What GDB has been asked about.
+    running: Option<Waiting>,
     /// Why the last packet was refused that was.
     refused: Option<ErrorCode>,
     is_open: bool,
@@ -127,15 +130,6 @@ fn is_interrupt(tail: &[u8]) -> bool
     tail.len() >= 2 && is_same(&tail[tail.len() - 2..], b",C")
 }
 
-/// Returns a run, interrupted if the reply to its question says so.
-fn interrupted_by(tail: &[u8], run: Run) -> Run
-    ensures { result ≡ interrupted_by tail.now run }
-{
-    let mut replied = run;
-    replied.is_interrupted = run.is_interrupted || is_interrupt(tail);
-    replied
-}
-
 /// Returns a run before its first step.
 fn first_turn(how: Resume) -> Run
     ensures { result ≡ first_turn how }
@@ -211,8 +205,8 @@ impl<L: Levels, U: DueTicks> Session<L, U> {
         self.refused
     }
 
-    /// Returns the run that waits for the reply to its question, if one does.
-    fn waiting(&self) -> Option<Run>
+    /// Returns what waits for the reply to its question, if something does.
+    fn waiting(&self) -> Option<Waiting>
         ensures { result ≡ self.now.running }
     {
         self.running
@@ -257,9 +251,10 @@ impl<L: Levels, U: DueTicks> Session<L, U> {
     }
 
     /// Takes the machine back to its first state.
-    fn restart<D: Decider, C: KeptCode>(&self, machine: &mut Machine<D, C, L, U>)
-        requires { AreOfOneMachine self.now.past.start machine.old.state }
-        ensures { machine.new ≡ record machine.old { state = self.now.past.start } }
+    fn restart<D: Decider, C: KeptCode>(&mut self, machine: &mut Machine<D, C, L, U>)
+        requires { AreOfOneMachine self.old.past.start machine.old.state }
+        ensures machine { machine.new ≡ record machine.old { state = self.old.past.start } }
+        ensures kept { self.new ≡ restarted self.old }
     {
         self.past.restart(machine);
     }
@@ -359,6 +354,23 @@ impl<L: Levels, U: DueTicks> Session<L, U> {
         }
     }
 
+    /// Marks the machine's state after a write, unless it was refused or wrote nothing.
+    fn mark_after<D: Decider, C: KeptCode>(
+        &mut self,
+        something: bool,
+        machine: &Machine<D, C, L, U>,
+        refused: Option<PlaceError>,
+    )
+        requires { AreOfOneMachine self.old.past.start machine.now.state }
+        ensures { self.new ≡ record self.old {
+          past = past_after self.old.past something machine.now.state refused;
+        } }
+    {
+        if something && refused.is_none() {
+            self.past.mark(machine);
+        }
+    }
+
     /// Writes to the machine, and answers.
     fn write<D: Decider, C: KeptCode, W: Out>(
         &mut self,
@@ -368,12 +380,14 @@ impl<L: Levels, U: DueTicks> Session<L, U> {
         out: &mut W,
     ) -> Result<(), IoError>
         requires { AreOfOneMachine self.old.past.start machine.old.state }
-        ensures tells { Tells (wrote self.old (written machine.old.state change tail.now)).pieces machine.old
-            machine.new (W.writing out.old) (W.writing out.new) result }
-        ensures kept { self.new ≡ (wrote self.old (written machine.old.state change tail.now)).session }
+        ensures tells { Tells (wrote self.old (writes change tail.now) (written machine.old.state change tail.now)).pieces
+            machine.old machine.new (W.writing out.old) (W.writing out.new) result }
+        ensures kept { self.new
+            ≡ (wrote self.old (writes change tail.now) (written machine.old.state change tail.now)).session }
         ensures same { AreOfOneMachine machine.old.state machine.new.state }
     {
         let refused = write(machine, change, tail);
+        self.mark_after(writes(change, tail), machine, refused);
         self.put_reply(data_of_write(refused), out)
     }
 
@@ -389,11 +403,34 @@ impl<L: Levels, U: DueTicks> Session<L, U> {
             (W.writing out.old) (W.writing out.new) result }
         ensures kept { OnOk result (self.new ≡ (told self.old machine.now.state refused asked).session) }
     {
-        match tell_command(machine, self.last_refusal(), refused, asked, out) {
+        match tell_command(
+            machine,
+            &self.past,
+            self.last_refusal(),
+            refused,
+            asked,
+            out,
+        ) {
             Ok(()) => {}
             Err(error) => return Err(error),
         }
         self.put_reply(data_of_reply(Reply::Done), out)
+    }
+
+    /// Puts the value of a command into its place, where the command has one, or begins anew. Returns why the value was
+    /// refused, if it was.
+    fn place_by<D: Decider, C: KeptCode>(
+        &mut self,
+        machine: &mut Machine<D, C, L, U>,
+        asked: Result<Monitor, LineError>,
+    ) -> Option<PlaceError>
+        requires { AreOfOneMachine self.old.past.start machine.old.state }
+        ensures writes { Writes (placed_by self.old.past.start machine.old.state asked) machine.old machine.new result }
+        ensures kept { self.new ≡ record self.old {
+          past = past_by self.old.past (placed_by self.old.past.start machine.old.state asked) asked;
+        } }
+    {
+        place_by(machine, &mut self.past, asked)
     }
 
     /// Carries out a command of `monitor`, and answers.
@@ -411,7 +448,7 @@ impl<L: Levels, U: DueTicks> Session<L, U> {
         ensures same { AreOfOneMachine machine.old.state machine.new.state }
     {
         let asked = read_command(digits);
-        let refused = place_by(machine, &self.past, asked);
+        let refused = self.place_by(machine, asked);
         self.change_settings(asked);
         self.tell(machine, refused, asked, out)
     }
@@ -421,7 +458,7 @@ impl<L: Levels, U: DueTicks> Session<L, U> {
         ensures { self.new ≡ with_turn self.old turn }
     {
         match turn {
-            Turn::Asks(run) => self.running = Some(run),
+            Turn::Asks(run) => self.running = Some(Waiting::Running(run)),
             Turn::Ends(signal) => {
                 self.running = None;
                 self.signal = signal;
@@ -461,6 +498,74 @@ impl<L: Levels, U: DueTicks> Session<L, U> {
                 Ok(())
             }
             Err(error) => Err(error),
+        }
+    }
+
+    /// Keeps how a turn of a search ended.
+    fn keep_return(&mut self, end: Return)
+        ensures { self.new ≡ with_return self.old end }
+    {
+        match end {
+            Return::Asks(search) => self.running = Some(Waiting::Searching(search)),
+            Return::Ends(signal) => {
+                self.running = None;
+                self.signal = signal;
+            }
+        }
+    }
+
+    /// Makes the next turn of a search.
+    fn search<D: Decider, C: KeptCode, W: Out>(
+        &mut self,
+        machine: &mut Machine<D, C, L, U>,
+        search: Search,
+        out: &mut W,
+    ) -> Result<(), IoError>
+        requires { AreOfOneMachine self.old.past.start machine.old.state }
+        ensures tells { Tells (searched self.old machine.old.state search).pieces machine.old machine.new
+            (W.writing out.old) (W.writing out.new) result }
+        ensures kept { OnOk result (self.new ≡ (searched self.old machine.old.state search).session) }
+        ensures same { AreOfOneMachine machine.old.state machine.new.state }
+    {
+        let terms = Terms {
+            points: &self.points,
+            settings: self.settings,
+            features: self.features,
+            limit: self.limit,
+        };
+        match go_back(
+            search,
+            &terms,
+            &mut self.past,
+            &mut self.position,
+            &mut self.sent,
+            machine,
+            out,
+        ) {
+            Ok(end) => {
+                self.keep_return(end);
+                Ok(())
+            }
+            Err(error) => Err(error),
+        }
+    }
+
+    /// Makes the next turn of what waited.
+    fn go_on<D: Decider, C: KeptCode, W: Out>(
+        &mut self,
+        machine: &mut Machine<D, C, L, U>,
+        waiting: Waiting,
+        out: &mut W,
+    ) -> Result<(), IoError>
+        requires { AreOfOneMachine self.old.past.start machine.old.state }
+        ensures tells { Tells (gone_on self.old machine.old.state waiting).pieces machine.old machine.new
+            (W.writing out.old) (W.writing out.new) result }
+        ensures kept { OnOk result (self.new ≡ (gone_on self.old machine.old.state waiting).session) }
+        ensures same { AreOfOneMachine machine.old.state machine.new.state }
+    {
+        match waiting {
+            Waiting::Running(run) => self.resume(machine, run, out),
+            Waiting::Searching(search) => self.search(machine, search, out),
         }
     }
 
@@ -513,6 +618,7 @@ impl<L: Levels, U: DueTicks> Session<L, U> {
                 Ok(())
             }
             Purpose::Resume(how) => self.resume(machine, first_turn(how), out),
+            Purpose::Back(way) => self.search(machine, first_search(way, machine.ticks()), out),
             Purpose::Run => self.begin(machine, out),
             Purpose::Restart => {
                 self.restart(machine);
@@ -522,23 +628,24 @@ impl<L: Levels, U: DueTicks> Session<L, U> {
         }
     }
 
-    /// Takes a packet while a run waits for the reply to a question: any other packet is skipped.
+    /// Takes a packet while something waits for the reply to a question: any other packet is skipped.
     fn take_reply<D: Decider, C: KeptCode, W: Out>(
         &mut self,
         machine: &mut Machine<D, C, L, U>,
-        run: Run,
+        waiting: Waiting,
         packet: Packet<'_>,
         out: &mut W,
     ) -> Result<(), IoError>
         requires { AreOfOneMachine self.old.past.start machine.old.state }
-        ensures tells { Tells (reply_heard self.old machine.old.state run (seen_packet packet.entry)).pieces machine.old
+        ensures tells { Tells (reply_heard self.old machine.old.state waiting (seen_packet packet.entry)).pieces machine.old
             machine.new (W.writing out.old) (W.writing out.new) result }
         ensures kept { OnOk result
-            (self.new ≡ (reply_heard self.old machine.old.state run (seen_packet packet.entry)).session) }
+            (self.new ≡ (reply_heard self.old machine.old.state waiting (seen_packet packet.entry)).session) }
         ensures same { AreOfOneMachine machine.old.state machine.new.state }
     {
         if is_file_reply(packet.request) {
-            self.resume(machine, interrupted_by(packet.tail, run), out)
+            let waiting = interrupted_if(is_interrupt(packet.tail), waiting);
+            self.go_on(machine, waiting, out)
         } else {
             Ok(())
         }
@@ -559,7 +666,7 @@ impl<L: Levels, U: DueTicks> Session<L, U> {
         ensures same { AreOfOneMachine machine.old.state machine.new.state }
     {
         match self.waiting() {
-            Some(run) => self.take_reply(machine, run, packet, out),
+            Some(waiting) => self.take_reply(machine, waiting, packet, out),
             None => {
                 let purpose = purpose_of(packet.request, packet.tail);
                 self.answer(machine, purpose, packet.tail, out)
@@ -602,21 +709,17 @@ impl<L: Levels, U: DueTicks> Session<L, U> {
         }
     }
 
-    /// Interrupts a run that waits. At rest nothing changes.
+    /// Interrupts what waits. At rest nothing changes.
     fn interrupt(&mut self)
         ensures { self.new ≡ interrupted self.old }
     {
         match self.running {
-            Some(run) => {
-                let mut run = run;
-                run.is_interrupted = true;
-                self.running = Some(run);
-            }
+            Some(waiting) => self.running = Some(interrupted_if(true, waiting)),
             None => {}
         }
     }
 
-    /// Refuses a packet of too many bytes. While a run waits it is skipped.
+    /// Refuses a packet of too many bytes. While something waits it is skipped.
     fn refuse_long<D: Decider, C: KeptCode, W: Out>(
         &mut self,
         machine: &Machine<D, C, L, U>,

@@ -5,7 +5,7 @@ ghost use Rattle.gdb.specs.Targets.{altered_if};
 ghost use Rattle.gdb_server.specs.Writes.{Writes, after_place, are_there, block_written, byte_beside, byte_there};
 ghost use Rattle.gdb_server.specs.Writes.{is_of_device};
 ghost use Rattle.gdb_server.specs.Writes.{memory_written, register_after, registers_written, with_byte};
-ghost use Rattle.gdb_server.specs.Writes.{with_bytes, word_beside, word_of, word_written, written};
+ghost use Rattle.gdb_server.specs.Writes.{with_bytes, word_beside, word_of, word_written, writes, written};
 ghost use Rattle.platform.specs.Memory.{byte_at};
 
 use crate::content::Data;
@@ -226,6 +226,16 @@ fn put_memory<D: Decider, C: KeptCode, L: Levels, U: DueTicks>(
         put_block(machine, address, bytes)
     } else {
         put_word(machine, address, bytes)
+    }
+}
+
+/// Returns whether a packet writes something.
+pub fn writes(change: MachineChange, tail: &[u8]) -> bool
+    ensures { result ≡ writes change tail.now }
+{
+    match change {
+        MachineChange::Register(_) | MachineChange::Registers => true,
+        MachineChange::Digits(_) | MachineChange::Bytes(_) => !tail.is_empty(),
     }
 }
 
